@@ -1,0 +1,133 @@
+-- The laws.
+use Rattle.std.proofs.Common.{◌≡◌, ◌∙◌, ℕ, ◌<◌, ◌≤◌, Bool, true, false, ltb, List, [], ◌∷◌, ◌++◌, length, ⊎_elim, ap, refl, sym, arith, Ok, Err}
+use Rattle.std.specs.List.{list_any}
+use Rattle.std.proofs.lemmas.Bool.{and_parts, cases_Bool, cases_lt, not-true, ltb-true, eq-eqb, and_from, or_cases, false≢true}
+use Rattle.std.proofs.lemmas.Bool.Decides.{nat_tests}
+use Rattle.std.proofs.lemmas.List.Sums.{fold-append}
+use Rattle.nr_model.specs.declared.rows.Row.{Row}
+use Rattle.nr_model.specs.declared.batches.Delta.{Delta}
+use Rattle.nr_model.specs.declared.batches.ApplyFault.TheVariants as fault
+use Rattle.nr_model.specs.Rows.{row_eq, row_lt, is_ascending, count_of, is_short, with_all, without_all, in_order}
+use Rattle.nr_model.specs.Batches.{applied, positive_rows, negative_rows}
+use Rattle.nr_model.specs.Maps.{PartialMap, reply_to, next}
+use Rattle.nr_model.specs.Histories.{Entry, after, IsLegal}
+use Rattle.nr_model.specs.Laws.{OrderKeepsRows, CountsDecide, OrderedStay, BatchMovesRows, BatchLacksRow, LegalGoesOn, LegalBegins}
+use Rattle.nr_model.proofs.RowLemmas.{one, row_eq-refl, row_eq-true, row_ge-trans, count_of-append, count_of-cons, length-with_all, count_of-with_all, ascending-with_all, ascending-without_all, ascending-cons, count_of-without_all, enough_from, short_from}
+use Rattle.nr_model.proofs.BatchLemmas.{is_short-with_all, applied_no_row, applied_ok, applied_too_many}
+
+pub order_keeps_rows_lem : OrderKeepsRows
+order_keeps_rows_lem rows =
+    (ascending-with_all [] rows refl, omega (arith, length-with_all [] rows), λ r. omega (arith, count_of-with_all [] rows r))
+
+row_lt-irrefl : (r : Row) → row_lt r r ≡ false
+row_lt-irrefl r = grind (arith, nat_tests)
+
+row_antisym : (r s : Row) → row_lt r s ≡ false → row_lt s r ≡ false → r ≡ s
+row_antisym r s h k =
+    let first : r.a ≡ s.a = grind (arith, nat_tests) in
+    let second : r.b ≡ s.b = grind (arith, nat_tests) in
+    row_eq-true r s (and_from _ _ (eq-eqb r.a s.a first) (eq-eqb r.b s.b second))
+
+-- the first row of an ascending list is not above any other
+rest_least : (xs : List Row) (x r : Row) → is_ascending (x ∷ xs) ≡ true → 0 < count_of xs r → row_lt r x ≡ false
+rest_least [] x r h k = absurd (omega arith)
+rest_least (y ∷ ys) x r h k =
+    let parts = and_parts _ _ h in
+    ⊎_elim
+    (λ e. ap (λ z. row_lt z x) (sym (row_eq-true y r e)) ∙ not-true _ parts.0)
+    (λ e. row_ge-trans x y r (not-true _ parts.0) (rest_least ys y r parts.1 (omega (arith, k, count_of-cons y ys r, ap (λ b. one b) e))))
+    (cases_Bool (row_eq y r))
+
+first_least : (xs : List Row) (x r : Row) → is_ascending (x ∷ xs) ≡ true → 0 < count_of (x ∷ xs) r → row_lt r x ≡ false
+first_least xs x r h k =
+    ⊎_elim
+    (λ e. ap (λ z. row_lt z x) (sym (row_eq-true x r e)) ∙ row_lt-irrefl x)
+    (λ e. rest_least xs x r h (omega (arith, k, count_of-cons x xs r, ap (λ b. one b) e)))
+    (cases_Bool (row_eq x r))
+
+pub counts_decide_lem : CountsDecide
+counts_decide_lem [] [] h k same = refl
+counts_decide_lem [] (y ∷ ys) h k same = absurd (omega (arith, same y, count_of-cons y ys y, ap (λ b. one b) (row_eq-refl y)))
+counts_decide_lem (x ∷ xs) [] h k same = absurd (omega (arith, same x, count_of-cons x xs x, ap (λ b. one b) (row_eq-refl x)))
+counts_decide_lem (x ∷ xs) (y ∷ ys) h k same =
+    let x_there : 0 < count_of (y ∷ ys) x = omega (arith, same x, count_of-cons x xs x, ap (λ b. one b) (row_eq-refl x)) in
+    let y_there : 0 < count_of (x ∷ xs) y = omega (arith, same y, count_of-cons y ys y, ap (λ b. one b) (row_eq-refl y)) in
+    let heads : x ≡ y = row_antisym x y (first_least ys y x k x_there) (first_least xs x y h y_there) in
+    let tails : xs ≡ ys = counts_decide_lem xs ys (and_parts _ _ (sym (ascending-cons x xs) ∙ h)).1 (and_parts _ _ (sym (ascending-cons y ys) ∙ k)).1
+    (λ r. omega (arith, same r, count_of-cons x xs r, count_of-cons y ys r, ap (λ z. one (row_eq z r)) heads)) in
+    ap (λ z. z ∷ xs) heads ∙ ap (λ l. y ∷ l) tails
+
+pub ordered_stay_lem : OrderedStay
+ordered_stay_lem rows h =
+    let kept = order_keeps_rows_lem rows in counts_decide_lem (in_order rows) rows kept.0 h kept.2
+
+-- what a batch that is applied leaves
+pub applied_left : (bound : ℕ) (rows left : List Row) (batch : List Delta) → applied bound rows batch ≡ Ok left → (is_short (with_all rows (positive_rows batch)) (negative_rows batch) ≡ false) × (length left ≤ bound) × (left ≡ without_all (with_all rows (positive_rows batch)) (negative_rows batch))
+applied_left bound rows left batch h =
+    let rest : List Row = without_all (with_all rows (positive_rows batch)) (negative_rows batch) in
+    ⊎_elim
+    (λ e. let k = applied_no_row bound rows batch e in cc)
+    (λ e. ⊎_elim
+    (λ more. let k = applied_too_many bound rows batch e more in cc)
+    (λ fits. let k = applied_ok bound rows batch e fits in let same : left ≡ rest = cc in (e, rw same fits, same))
+    (cases_lt bound (length rest)))
+    (cases_Bool (is_short (with_all rows (positive_rows batch)) (negative_rows batch)))
+
+pub batch_moves_rows_lem : BatchMovesRows
+batch_moves_rows_lem bound rows left batch h e =
+    let more : List Row = positive_rows batch in
+    let less : List Row = negative_rows batch in
+    let parts = applied_left bound rows left batch e in (
+      (rw parts.2 (ascending-without_all (with_all rows more) less (ascending-with_all rows more h)), parts.1),
+      λ r. omega (
+        arith,
+        ap (λ l. count_of l r) parts.2,
+        count_of-with_all rows more r,
+        count_of-without_all (with_all rows more) less (enough_from (with_all rows more) less parts.0) r,
+      ),
+    )
+
+any_row : (p : Row → Bool) (xs : List Row) → list_any p xs ≡ true → (r : Row) × (p r ≡ true)
+any_row p [] h = absurd (false≢true h)
+any_row p (x ∷ xs) h = ⊎_elim (λ e. (x, e)) (λ e. any_row p xs e) (or_cases (p x) (list_any p xs) h)
+
+lacks : (bound : ℕ) (rows : List Row) (batch : List Delta) → applied bound rows batch ≡ Err fault.NoRow → is_short (rows ++ positive_rows batch) (negative_rows batch) ≡ true
+unfolding applied
+lacks bound rows batch h =
+    let more : List Row = positive_rows batch in
+    let less : List Row = negative_rows batch in
+    ⊎_elim
+    (λ e. e)
+    (λ e. let s : is_short (with_all rows more) less ≡ false = sym (is_short-with_all rows more less) ∙ e in
+    ⊎_elim
+    (λ big. let k = applied_too_many bound rows batch s big in cc)
+    (λ fits. let k = applied_ok bound rows batch s fits in cc)
+    (cases_lt bound (length (without_all (with_all rows more) less))))
+    (cases_Bool (is_short (rows ++ more) less))
+
+pub batch_lacks_row_lem : BatchLacksRow
+unfolding applied
+batch_lacks_row_lem bound rows batch =
+    let more : List Row = positive_rows batch in
+    let less : List Row = negative_rows batch in (
+      λ h. let found : (r : Row) × (ltb (count_of (rows ++ more) r) (count_of less r) ≡ true) = any_row _ less (lacks bound rows batch h) in
+          (found.0, omega (arith, count_of-append rows more found.0, ltb-true _ _ found.1)),
+      λ found. let s : is_short (rows ++ more) less ≡ true = short_from (rows ++ more) less found.0 (omega (arith, found.1, count_of-append rows more found.0)) in
+          rw s refl,
+    )
+
+legal_push : (history : List Entry) (map : PartialMap) (e : Entry) → IsLegal map history × (e.reply ≡ reply_to (after map history) e.call) → IsLegal map (history ++ e ∷ [])
+legal_push [] map e h = (h.1, tt)
+legal_push (x ∷ history) map e h = (h.0.0, legal_push history (next map x.call) e (h.0.1, h.1))
+
+legal_pop : (history : List Entry) (map : PartialMap) (e : Entry) → IsLegal map (history ++ e ∷ []) → IsLegal map history × (e.reply ≡ reply_to (after map history) e.call)
+legal_pop [] map e h = (tt, h.0)
+legal_pop (x ∷ history) map e h = let rest = legal_pop history (next map x.call) e h.1 in ((h.0, rest.0), rest.1)
+
+pub legal_goes_on_lem : LegalGoesOn
+legal_goes_on_lem map history e =
+    (fold-append (λ m x. next m x.call) map history (e ∷ []), (legal_push history map e, legal_pop history map e))
+
+pub legal_begins_lem : LegalBegins
+legal_begins_lem map [] later h = tt
+legal_begins_lem map (e ∷ history) later h = (h.0, legal_begins_lem (next map e.call) history later h.1)

@@ -1,0 +1,74 @@
+-- The laws that functions of the module `laws` show.
+use Rattle.std.specs.Prelude.{ℕ, ◌≡◌, ◌+◌, ◌<◌, ◌↔◌, List, [], ◌∷◌, ◌++◌, length, IsTrue, Ok, Err}
+use Rattle.nr_model.specs.declared.rows.Row.{Row}
+use Rattle.nr_model.specs.declared.batches.Delta.{Delta}
+use Rattle.nr_model.specs.declared.batches.ApplyFault.TheVariants as fault
+use Rattle.nr_model.specs.Rows.{is_ascending, in_order, count_of, IsRowSet}
+use Rattle.nr_model.specs.Batches.{applied, positive_rows, negative_rows}
+use Rattle.nr_model.specs.declared.states.KeyState.{KeyState}
+use Rattle.nr_model.specs.declared.states.KeyState.TheVariants.{Hole, Asked, Rows}
+use Rattle.nr_model.specs.Maps.{PartialMap, opening, state_of, reply_to, next}
+use Rattle.nr_model.specs.Histories.{Entry, after, IsLegal, sends, fills}
+
+-- a list in order has the same rows as before, ascending
+abbrev pub OrderKeepsRows : Type 0
+OrderKeepsRows =
+    (rows : List Row) →
+    IsTrue (is_ascending (in_order rows))
+    × (length (in_order rows) ≡ length rows)
+    × ((r : Row) → count_of (in_order rows) r ≡ count_of rows r)
+
+-- ascending lists with the same rows, each as often, are equal
+abbrev pub CountsDecide : Type 0
+CountsDecide =
+    (rows others : List Row) →
+    IsTrue (is_ascending rows) →
+    IsTrue (is_ascending others) →
+    ((r : Row) → count_of rows r ≡ count_of others r) →
+    rows ≡ others
+
+-- ascending rows are in order already
+abbrev pub OrderedStay : Type 0
+OrderedStay = (rows : List Row) → IsTrue (is_ascending rows) → in_order rows ≡ rows
+
+-- a batch that is applied adds its positive rows and takes its negative ones away
+abbrev pub BatchMovesRows : Type 0
+BatchMovesRows =
+    (bound : ℕ) (rows left : List Row) (batch : List Delta) →
+    IsTrue (is_ascending rows) →
+    applied bound rows batch ≡ Ok left →
+    IsRowSet bound left
+    × ((r : Row) → count_of left r + count_of (negative_rows batch) r ≡ count_of rows r + count_of (positive_rows batch) r)
+
+-- a batch lacks a row exactly where it takes some row away more often than it can
+abbrev pub BatchLacksRow : Type 0
+BatchLacksRow =
+    (bound : ℕ) (rows : List Row) (batch : List Delta) →
+    (applied bound rows batch ≡ Err fault.NoRow)
+    ↔ ((r : Row) × (count_of rows r + count_of (positive_rows batch) r < count_of (negative_rows batch) r))
+
+-- a history goes on legally exactly with the map's reply
+abbrev pub LegalGoesOn : Type 0
+LegalGoesOn =
+    (map : PartialMap) (history : List Entry) (e : Entry) →
+    (after map (history ++ e ∷ []) ≡ next (after map history) e.call)
+    × ((IsLegal map history × (e.reply ≡ reply_to (after map history) e.call)) ↔ IsLegal map (history ++ e ∷ []))
+
+-- a beginning of a legal history is legal
+abbrev pub LegalBegins : Type 0
+LegalBegins =
+    (map : PartialMap) (history later : List Entry) → IsLegal map (history ++ later) → IsLegal map history
+
+-- 1 where the key is asked
+abbrev pub pending : KeyState → ℕ
+pending Hole = 0
+pending Asked = 1
+pending (Rows rows) = 0
+
+-- each request that was sent was filled once, but the one that is pending
+abbrev pub SendsAreFilled : Type 0
+SendsAreFilled =
+    (keys bound key : ℕ) (history : List Entry) →
+    IsLegal (opening keys bound) history →
+    key < keys →
+    sends history key ≡ fills history key + pending (state_of (after (opening keys bound) history) key)

@@ -1,0 +1,20 @@
+//! The reader map as a sequential model: rows, row sets, signed batches, and the partial map that
+//! one caller uses. Every other crate says what it does by the definitions that stand here.
+#![tactic(auto)]
+
+mod batches;
+mod calls;
+mod cells;
+pub mod laws;
+mod pile;
+mod rows;
+mod seq_map;
+mod states;
+#[cfg(test)]
+mod tests;
+
+pub use batches::{ApplyFault, Batch, BatchFault, Delta, MAX_DELTAS};
+pub use calls::{Call, Reply};
+pub use rows::{MAX_ROWS, Row, RowSet, TooMany};
+pub use seq_map::{MAX_KEYS, OpenFault, SeqMap};
+pub use states::KeyState;

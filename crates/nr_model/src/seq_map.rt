@@ -1,0 +1,90 @@
+//! The partial map that one caller uses.
+ghost use Rattle.std.specs.Prelude.{◌≡◌, ◌≤◌, ◌<◌, ◌↔◌, ◌⊎◌, ℕ, length, IfOk, Err};
+ghost use Rattle.nr_model.specs.Maps.{opening, state_of, reply_to, next, key_of, key_count};
+
+use crate::calls::{Call, Reply};
+use crate::rows::MAX_ROWS;
+use crate::states::KeyState;
+use std::alloc::Global;
+use std::marker::Model;
+use thiserror::Error;
+
+/// The largest number of keys of a map.
+pub const MAX_KEYS: u32 = 65_536;
+
+/// Why a map cannot be opened.
+#[derive(Clone, Copy, Debug, PartialEq, Eq, Error)]
+pub enum OpenFault {
+    #[error("a size is out of its limits")]
+    BadSize,
+    #[error("out of memory")]
+    Memory,
+}
+
+/// A map from key numbers to states, each a hole, asked for or filled, without threads.
+#[derive(Drop)]
+pub struct SeqMap {
+    states: Vec<KeyState>,
+}
+
+impl Model for SeqMap {
+    ghost use Rattle.nr_model.specs.Maps.{PartialMap};
+
+    ghost Value = { PartialMap };
+
+    ghost use Rattle.std.specs.Prelude.{◌≤◌, ◌<◌, length};
+    ghost use Rattle.nr_model.specs.declared.rows.TheConstants.{MAX_ROWS};
+    ghost use Rattle.nr_model.specs.declared.seq_map.TheConstants.{MAX_KEYS};
+
+    ghost view = { λ map. record { bound = MAX_ROWS; states = map.states.items } };
+
+    ghost invariant = { λ map. (0 < length map.states.items) × (length map.states.items ≤ MAX_KEYS) };
+}
+
+impl SeqMap {
+    /// A map of so many keys, each a hole. Refused unless there are 1 to 65,536, and then where
+    /// there is no memory.
+    pub fn open(alloc: Global, keys: u32) -> Result<SeqMap, OpenFault>
+        ensures bad_size { (result ≡ Err OpenFault.BadSize) ↔ ((keys ≡ 0) ⊎ (MAX_KEYS < keys)) }
+        ensures ok { IfOk result (λ map. map ≡ opening keys MAX_ROWS) }
+    {
+        if keys == 0 || keys > MAX_KEYS {
+            return Err(OpenFault::BadSize);
+        }
+        let states = vec![in alloc; KeyState::Hole; keys as usize].map_err(|_| OpenFault::Memory)?;
+        Ok(SeqMap { states })
+    }
+
+    /// How many keys the map has. They are numbered from 0.
+    pub fn keys(&self) -> u32
+        ensures value { result ≡ key_count self.now }
+        ensures positive { 0 < result }
+        ensures bounded { result ≤ MAX_KEYS }
+    {
+        self.states.len() as u32
+    }
+
+    /// The state of a key below `keys()`.
+    pub fn state(&self, key: u32) -> KeyState
+        requires { key < key_count self.now }
+        ensures { result ≡ state_of self.now key }
+    {
+        self.states[key as usize]
+    }
+
+    /// Carries out a call at a key below `keys()`, and answers it. Takes no memory, and changes no
+    /// other key.
+    pub fn call(&mut self, call: &Call) -> Reply
+        requires { key_of call.now < key_count self.old }
+        ensures reply { result ≡ reply_to self.old call.now }
+        ensures new { self.new ≡ next self.old call.now }
+    {
+        match call {
+            Call::Find(key) => self.states[*key as usize].find(),
+            Call::Ask(key) => self.states[*key as usize].ask(),
+            Call::Fill(key, rows) => self.states[*key as usize].fill(rows),
+            Call::Update(key, batch) => self.states[*key as usize].update(batch),
+            Call::Evict(key) => self.states[*key as usize].evict(),
+        }
+    }
+}
