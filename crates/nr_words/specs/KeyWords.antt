@@ -1,0 +1,44 @@
+-- What a key's word says: whether the key is asked, whether it is filled, which slot it names, and how many readers have arrived, modulo 2^40.
+use Rattle.std.specs.Prelude.{ℕ, ◌+◌, ◌*◌, ◌/◌, ◌%◌, ◌^◌, ◌==◌, Bool, if◌then◌else◌, bit_or, Option, Some, None}
+use Rattle.nr_words.specs.declared.key_words.KeyParts.{KeyParts}
+use Rattle.nr_words.specs.declared.key_words.TheConstants.{ARRIVE}
+
+-- the bit of a flag
+abbrev pub bit_of : Bool → ℕ
+bit_of flag = (if flag then 1 else 0)
+
+-- the word that packs those parts
+abbrev pub key_word : KeyParts → ℕ
+key_word parts = bit_of parts.ask + 2 * bit_of parts.filled + 4 * parts.slot + 2 ^ 24 * parts.arrivals
+
+-- the parts of a word
+abbrev pub has_ask : ℕ → Bool
+has_ask word = word % 2 == 1
+
+abbrev pub is_filled : ℕ → Bool
+is_filled word = word / 2 % 2 == 1
+
+abbrev pub slot_of : ℕ → ℕ
+slot_of word = word / 4 % 2 ^ 22
+
+abbrev pub arrivals_of : ℕ → ℕ
+arrivals_of word = word / 2 ^ 24
+
+abbrev pub parts_of : ℕ → KeyParts
+parts_of word = record { ask = has_ask word; filled = is_filled word; slot = slot_of word; arrivals = arrivals_of word }
+
+-- the slot that a word names, if it is filled
+abbrev pub name_of : ℕ → Option ℕ
+name_of word = (if is_filled word then Some (slot_of word) else None)
+
+-- the word after one more reader has arrived
+abbrev pub with_arrival : ℕ → ℕ
+with_arrival word = (word + ARRIVE) % 2 ^ 64
+
+-- the word after the key was asked for
+abbrev pub with_ask : ℕ → ℕ
+with_ask word = bit_or word 1
+
+-- the arrivals at a slot and its departures agree, as far as a key's word counts
+abbrev pub same_count : ℕ → ℕ → Bool
+same_count arrivals departures = arrivals % 2 ^ 40 == departures % 2 ^ 40

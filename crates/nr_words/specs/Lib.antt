@@ -1,0 +1,4 @@
+pub mod KeyWords
+pub mod SetWords
+pub mod Places
+pub mod Laws
