@@ -1,15 +1,12 @@
 -- What a key's word says: whether the key is asked, whether it is filled, which slot it names, and how many readers have arrived, modulo 2^40.
 use Rattle.std.specs.Prelude.{ℕ, ◌+◌, ◌*◌, ◌/◌, ◌%◌, ◌^◌, ◌==◌, Bool, if◌then◌else◌, bit_or, Option, Some, None}
+use Rattle.std.specs.Int.{from_bool}
 use Rattle.nr_words.specs.declared.key_words.KeyParts.{KeyParts}
 use Rattle.nr_words.specs.declared.key_words.TheConstants.{ARRIVE}
 
--- the bit of a flag
-abbrev pub bit_of : Bool → ℕ
-bit_of flag = (if flag then 1 else 0)
-
 -- the word that packs those parts
 abbrev pub key_word : KeyParts → ℕ
-key_word parts = bit_of parts.ask + 2 * bit_of parts.filled + 4 * parts.slot + 2 ^ 24 * parts.arrivals
+key_word parts = from_bool parts.ask + 2 * from_bool parts.filled + 4 * parts.slot + 2 ^ 24 * parts.arrivals
 
 -- the parts of a word
 abbrev pub has_ask : ℕ → Bool
