@@ -1,0 +1,3 @@
+pub mod KeyWordLemmas
+pub mod SetWordLemmas
+pub mod PlaceLemmas

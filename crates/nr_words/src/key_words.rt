@@ -1,0 +1,67 @@
+//! A key's word: bit 0 says that the key is asked, bit 1 that it is filled, bits 2 to 23 are the
+//! slot that it names, and bits 24 to 63 count the readers that arrived, modulo 2^40.
+ghost use Rattle.std.specs.Prelude.{◌≡◌, ◌<◌, ◌^◌};
+ghost use Rattle.nr_words.specs.KeyWords.{key_word, parts_of, same_count};
+
+/// What one more arrival adds to a key's word.
+pub const ARRIVE: u64 = 1 << ARRIVALS_SHIFT;
+
+const ASK: u64 = 1;
+
+const FILLED: u64 = 2;
+
+const SLOT_SHIFT: u32 = 2;
+
+const SLOT_MASK: u64 = (1 << 22) - 1;
+
+const ARRIVALS_SHIFT: u32 = 24;
+
+/// The bits of a count that a key's word has room for.
+const COUNT_MASK: u64 = (1 << 40) - 1;
+
+/// What a key's word packs. The slot says nothing of a key that isn't filled, and `ask` says
+/// nothing of one that is.
+#[derive(Clone, Copy, Debug, PartialEq, Eq)]
+pub struct KeyParts {
+    pub ask: bool,
+    pub filled: bool,
+    pub slot: u32,
+    pub arrivals: u64,
+}
+
+/// The word that packs those parts: a slot below 2^22, and arrivals below 2^40.
+pub fn key_word(parts: KeyParts) -> u64
+    requires slot { parts.slot < 2 ^ 22 }
+    requires arrivals { parts.arrivals < 2 ^ 40 }
+    ensures word { result ≡ key_word parts }
+    ensures comes_back { parts_of result ≡ parts }
+{
+    (parts.arrivals << ARRIVALS_SHIFT)
+        | (u64::from(parts.slot) << SLOT_SHIFT)
+        | (u64::from(parts.filled) << 1)
+        | u64::from(parts.ask)
+}
+
+/// The parts of any word.
+pub fn parts(word: u64) -> KeyParts
+    ensures parts { result ≡ parts_of word }
+    ensures comes_back { key_word result ≡ word }
+
+    ensures slot { result.slot < 2 ^ 22 }
+    ensures arrivals { result.arrivals < 2 ^ 40 }
+{
+    KeyParts {
+        ask: word & ASK != 0,
+        filled: word & FILLED != 0,
+        slot: ((word >> SLOT_SHIFT) & SLOT_MASK) as u32,
+        arrivals: word >> ARRIVALS_SHIFT,
+    }
+}
+
+/// Whether the arrivals at a slot and its departures are equal modulo 2^40, so far as a key's
+/// word counts them.
+pub fn same_count(arrivals: u64, departures: u64) -> bool
+    ensures { result ≡ same_count arrivals departures }
+{
+    arrivals & COUNT_MASK == departures & COUNT_MASK
+}

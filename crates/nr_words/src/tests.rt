@@ -1,0 +1,103 @@
+ghost use Rattle.std.specs.Prelude.{◌<◌, ◌^◌};
+
+use super::{ARRIVE, CONTENT_WORDS, KeyParts, Layout, decode, encode, key_word, parts, same_count};
+use nr_model::{Row, RowSet};
+use std::process::Abort;
+use std::test::Fail;
+
+fn row(a: u64, b: u64) -> Row {
+    Row { a, b }
+}
+
+/// The parts pack into the word, and the word gives them back.
+fn assert_packs(rt: &impl Abort, ask: bool, filled: bool, slot: u32, arrivals: u64, word: u64)
+    requires slot { slot < 2 ^ 22 }
+    requires arrivals { arrivals < 2 ^ 40 }
+{
+    let given = KeyParts {
+        ask,
+        filled,
+        slot,
+        arrivals,
+    };
+    assert_eq!(rt; key_word(given), word);
+    assert_eq!(rt; parts(word), given);
+}
+
+#[test]
+fn key_words_pack_their_parts(rt: HostRuntime) {
+    assert_packs(&rt, false, false, 0, 0, 0);
+    assert_packs(&rt, true, false, 0, 0, 1);
+    assert_packs(&rt, false, true, 5, 3, 50331670);
+    assert_packs(&rt, false, true, 5, 3, 0x0000_0000_0300_0016);
+    assert_packs(&rt, true, true, 2, 1, 16777227);
+    assert_packs(&rt, true, true, 2, 1, 0x0000_0000_0100_000b);
+    assert_packs(&rt, false, true, 131071, 0, 524286);
+    assert_packs(&rt, false, true, 131071, 0, 0x0000_0000_0007_fffe);
+    assert_packs(&rt, false, true, 0, 1099511627775, 18446744073692774402);
+    assert_packs(&rt, false, true, 0, 1099511627775, 0xffff_ffff_ff00_0002);
+}
+
+#[test]
+fn an_arrival_wraps_the_count_alone(rt: HostRuntime) {
+    assert_eq!(rt; ARRIVE, 16777216);
+    assert_eq!(rt; 18446744073692774402u64.wrapping_add(ARRIVE), 2);
+    assert_packs(&rt, false, true, 0, 0, 2);
+}
+
+#[test]
+fn counts_wrap(rt: HostRuntime) {
+    assert!(rt; same_count(0, 1099511627776));
+    assert!(rt; !same_count(0, 1099511627775));
+}
+
+#[test]
+fn sets_lie_in_words(rt: HostRuntime) -> Result<(), Fail> {
+    let set = RowSet::of(&[row(7, 1), row(3, 9)]).map_err(|_| "too many rows")?;
+    let mut words = [u64::MAX; CONTENT_WORDS];
+    encode(&set, &mut words);
+    let mut expected = [0; CONTENT_WORDS];
+    expected[0] = 2;
+    expected[1] = 3;
+    expected[2] = 9;
+    expected[3] = 7;
+    expected[4] = 1;
+    assert_eq!(rt; words, expected);
+    let back = decode(&words).ok_or("no set")?;
+    assert_eq!(rt; back.len(), 2);
+    assert_eq!(rt; back.get(0), Some(row(3, 9)));
+    assert_eq!(rt; back.get(1), Some(row(7, 1)));
+    encode(&RowSet::new(), &mut words);
+    assert_eq!(rt; words, [0; CONTENT_WORDS]);
+    assert_eq!(rt; decode(&words).ok_or("no set")?.len(), 0);
+    Ok(())
+}
+
+#[test]
+fn words_that_spell_no_set(rt: HostRuntime) {
+    let mut words = [0; CONTENT_WORDS];
+    words[0] = 16;
+    assert!(rt; decode(&words).is_none());
+    words[0] = 2;
+    words[1] = 7;
+    words[2] = 1;
+    words[3] = 3;
+    words[4] = 9;
+    assert!(rt; decode(&words).is_none());
+}
+
+#[test]
+fn layouts_place_each_word(rt: HostRuntime) {
+    let layout = Layout { keys: 2, slots: 3 };
+    assert_eq!(rt; layout.key(0), 0);
+    assert_eq!(rt; layout.key(1), 1);
+    assert_eq!(rt; layout.departures(1), 34);
+    assert_eq!(rt; layout.content(1, 0), 35);
+    assert_eq!(rt; layout.content(2, 30), 97);
+    assert_eq!(rt; layout.total(), 98);
+    let largest = Layout {
+        keys: 65536,
+        slots: 131072,
+    };
+    assert_eq!(rt; largest.total(), 4259840);
+}
