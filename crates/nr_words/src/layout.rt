@@ -47,7 +47,7 @@ impl Layout {
         ensures place { result ≡ place_of CONTENT_WORDS self (Content slot index) }
         ensures within { result < total_of CONTENT_WORDS self }
     {
-        self.block(slot) + 1 + u64::from(index)
+        self.departures(slot) + 1 + u64::from(index)
     }
 
     /// Where the block of a slot begins, or of the slot that would be next.
