@@ -44,6 +44,17 @@ fn sets_are_in_order_and_keep_doubles(rt: HostRuntime) -> Result<(), Fail> {
 }
 
 #[test]
+fn rows_are_pushed_in_order(rt: HostRuntime) -> Result<(), Fail> {
+    let mut set = set_of(&[row(9, 9)])?;
+    set.clear();
+    assert_eq!(rt; set.len(), 0);
+    set.push(row(3, 9));
+    assert_eq!(rt; set.len(), 1);
+    assert_eq!(rt; set.get(0), Some(row(3, 9)));
+    Ok(())
+}
+
+#[test]
 fn sets_and_batches_have_their_limits(rt: HostRuntime) -> Result<(), Fail> {
     assert_eq!(rt; set_of(&[row(1, 1); 15])?.len(), 15);
     assert_eq!(rt; RowSet::of(&[row(1, 1); 16]).err(), Some(TooMany));
