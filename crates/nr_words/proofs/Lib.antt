@@ -1,3 +1,5 @@
 pub mod KeyWordLemmas
 pub mod SetWordLemmas
+pub mod WordLoops
+pub mod OrderLemmas
 pub mod PlaceLemmas

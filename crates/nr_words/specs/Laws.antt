@@ -3,7 +3,7 @@ use Rattle.std.specs.Prelude.{◌≡◌, ℕ, ◌+◌, ◌*◌, ◌%◌, ◌^◌
 use Rattle.nr_model.specs.declared.rows.Row.{Row}
 use Rattle.nr_model.specs.Rows.{IsRowSet}
 use Rattle.nr_words.specs.declared.layout.Layout.{Layout}
-use Rattle.nr_words.specs.KeyWords.{parts_of, arrivals_of, with_arrival, with_ask}
+use Rattle.nr_words.specs.KeyWords.{parts_of, arrivals_of, name_of, with_arrival, with_ask}
 use Rattle.nr_words.specs.SetWords.{Spells, row_count, decode}
 use Rattle.nr_words.specs.Places.{Word, HasWord, place_of, total_of}
 
@@ -14,6 +14,10 @@ ArrivalCountsOne = (word : ℕ) → parts_of (with_arrival word) ≡ record (par
 -- to ask changes the flag alone
 abbrev pub AskSetsFlag : Type 0
 AskSetsFlag = (word : ℕ) → parts_of (with_ask word) ≡ record (parts_of word) { ask = true }
+
+-- neither an arrival nor a request changes what the word names
+abbrev pub ReadersKeepNames : Type 0
+ReadersKeepNames = (word : ℕ) → (name_of (with_arrival word) ≡ name_of word) × (name_of (with_ask word) ≡ name_of word)
 
 -- words decode to a row set exactly where they begin with what encode makes of it
 abbrev pub DecodeUndoesEncode : Type 0

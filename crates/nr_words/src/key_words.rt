@@ -6,9 +6,7 @@ ghost use Rattle.nr_words.specs.KeyWords.{key_word, parts_of, same_count};
 /// What one more arrival adds to a key's word.
 pub const ARRIVE: u64 = 1 << ARRIVALS_SHIFT;
 
-const ASK: u64 = 1;
-
-const FILLED: u64 = 2;
+const FILLED_SHIFT: u32 = 1;
 
 const SLOT_SHIFT: u32 = 2;
 
@@ -38,7 +36,7 @@ pub fn key_word(parts: KeyParts) -> u64
 {
     (parts.arrivals << ARRIVALS_SHIFT)
         | (u64::from(parts.slot) << SLOT_SHIFT)
-        | (u64::from(parts.filled) << 1)
+        | (u64::from(parts.filled) << FILLED_SHIFT)
         | u64::from(parts.ask)
 }
 
@@ -51,15 +49,15 @@ pub fn parts(word: u64) -> KeyParts
     ensures arrivals { result.arrivals < 2 ^ 40 }
 {
     KeyParts {
-        ask: word & ASK != 0,
-        filled: word & FILLED != 0,
+        ask: word & 1 == 1,
+        filled: (word >> FILLED_SHIFT) & 1 == 1,
         slot: ((word >> SLOT_SHIFT) & SLOT_MASK) as u32,
         arrivals: word >> ARRIVALS_SHIFT,
     }
 }
 
-/// Whether the arrivals at a slot and its departures are equal modulo 2^40, so far as a key's
-/// word counts them.
+/// Whether the arrivals at a slot and its departures agree as far as a key's word counts, which
+/// is modulo 2^40.
 pub fn same_count(arrivals: u64, departures: u64) -> bool
     ensures { result ≡ same_count arrivals departures }
 {

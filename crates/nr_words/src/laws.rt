@@ -1,5 +1,5 @@
 //! Laws over the definitions alone. Nothing runs here: each function's contract is the law.
-ghost use Rattle.nr_words.specs.Laws.{ArrivalCountsOne, AskSetsFlag, DecodeUndoesEncode, DecodeReadsWhatCounts, PlacesDiffer, PlacesAreBelowTotal};
+ghost use Rattle.nr_words.specs.Laws.{ArrivalCountsOne, AskSetsFlag, ReadersKeepNames, DecodeUndoesEncode, DecodeReadsWhatCounts, PlacesDiffer, PlacesAreBelowTotal};
 
 /// An arrival changes the arrivals alone, by one modulo 2^40.
 pub fn arrival_counts_one()
@@ -9,6 +9,11 @@ pub fn arrival_counts_one()
 /// To ask changes the flag alone.
 pub fn ask_sets_flag()
     ensures { AskSetsFlag }
+{}
+
+/// Neither an arrival nor a request changes what the word names.
+pub fn readers_keep_names()
+    ensures { ReadersKeepNames }
 {}
 
 /// Words decode to a row set exactly where they begin with what encode makes of it.

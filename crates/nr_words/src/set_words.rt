@@ -9,7 +9,7 @@ use nr_model::{MAX_ROWS, Row, RowSet};
 
 /// The content words of a slot: the number of rows, and two words for each row that a set has
 /// room for.
-pub const CONTENT_WORDS: usize = 31;
+pub const CONTENT_WORDS: usize = 2 * MAX_ROWS + 1;
 
 /// Writes the words of the set, and 0 into those behind them.
 pub fn encode(set: &RowSet, words: &mut [u64; CONTENT_WORDS])
@@ -43,7 +43,7 @@ pub fn decode(words: &[u64; CONTENT_WORDS]) -> Option<RowSet>
     RowSet::of(rows).ok()
 }
 
-/// The rows in the first pairs of words behind word 0, so many, and blank rows behind them.
+/// The rows in the first `count` pairs of words behind word 0, and rows of zeros behind them.
 fn read_rows(words: &[u64; CONTENT_WORDS], count: usize) -> [Row; MAX_ROWS]
     requires { count ≤ MAX_ROWS }
     ensures { take count result ≡ rows_in (take (2 * count) (drop 1 words.now)) }
@@ -62,10 +62,5 @@ fn read_rows(words: &[u64; CONTENT_WORDS], count: usize) -> [Row; MAX_ROWS]
 fn is_ascending(rows: &[Row]) -> bool
     ensures { result ≡ is_ascending rows.now }
 {
-    for i in 1..rows.len() {
-        if rows[i] < rows[i - 1] {
-            return false;
-        }
-    }
-    true
+    rows.is_sorted()
 }

@@ -4,7 +4,8 @@ use Rattle.nr_model.specs.declared.rows.Row.{Row}
 use Rattle.nr_model.specs.Padded.{padded}
 use Rattle.nr_words.specs.declared.set_words.TheConstants.{CONTENT_WORDS}
 use Rattle.nr_words.specs.SetWords.{row_words, decode}
-use Rattle.nr_words.proofs.SetWordLemmas.{written_more, decode-encode}
+use Rattle.nr_words.proofs.SetWordLemmas.{decode-encode}
+use Rattle.nr_words.proofs.WordLoops.{written_more}
 use Rattle.nr_words.proofs.set_words.encode.Goals as goal
 
 pub loop-i-preserved : goal.loop-i-preserved

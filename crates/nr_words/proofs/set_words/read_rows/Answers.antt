@@ -1,6 +1,6 @@
 use Rattle.std.proofs.Common.{◌∙◌, arith}
 use Rattle.std.proofs.lemmas.List.{length-set}
-use Rattle.nr_words.proofs.SetWordLemmas.{read_more}
+use Rattle.nr_words.proofs.WordLoops.{read_more}
 use Rattle.nr_words.proofs.set_words.read_rows.Goals as goal
 
 pub loop-i-preserved : goal.loop-i-preserved
