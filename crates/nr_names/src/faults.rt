@@ -1,0 +1,16 @@
+use thiserror::Error;
+
+/// Why a call on names was refused. Where several would do, the earliest here is given.
+#[derive(Clone, Copy, Debug, PartialEq, Eq, Error)]
+pub enum NameFault {
+    #[error("the name is empty")]
+    Empty,
+    #[error("the name is too long")]
+    TooLong,
+    #[error("all numbers are taken")]
+    Full,
+    #[error("out of memory")]
+    Memory,
+    #[error("no name has this number")]
+    NoName,
+}

@@ -1,0 +1,13 @@
+//! Names and their numbers: a name that is interned gets the next number, from 0, and keeps it.
+#![tactic(auto)]
+
+mod faults;
+mod shared;
+mod table;
+
+pub use faults::NameFault;
+pub use shared::Names;
+pub use table::NameTable;
+
+#[cfg(test)]
+mod tests;

@@ -1,0 +1,53 @@
+ghost use Rattle.std.specs.Prelude.{◌≡◌, ◌≢◌, ◌≤◌, ◌<◌, ◌↔◌, ◌⊎◌, [], length, string_bytes, IfOk, IfErr, OnOk, OnErr};
+ghost use Rattle.nr_names.specs.Naming.{IsName};
+ghost use Rattle.nr_names.specs.declared.table.TheConstants.{LONGEST_NAME, MAX_KEYS};
+
+use crate::faults::NameFault;
+use crate::table::NameTable;
+use std::alloc::Global;
+use std::sync::{Mutex, Wait};
+
+/// A table of names that threads share. Each call is the table's, made under a lock.
+#[derive(Drop)]
+pub struct Names {
+    table: Mutex<NameTable>,
+}
+
+impl Names {
+    /// Opens a table for as many names as there are keys, from 1 to 65,536, with none interned.
+    ///
+    /// Refused with `Memory` as the table is.
+    pub fn open(alloc: Global, keys: u32) -> Result<Names, NameFault>
+        requires some { 0 < keys }
+        requires within { keys ≤ MAX_KEYS }
+        ensures refusal { IfErr result (λ fault. fault ≡ NameFault.Memory) }
+    {
+        Ok(Names {
+            table: Mutex::new(NameTable::open(alloc, keys)?),
+        })
+    }
+
+    /// The number of a name, as the table gives it.
+    ///
+    /// What names are known is for the lock to tell, so no clause says whether the name was new.
+    pub fn intern(&self, rt: &impl Wait, name: &str) -> Result<u32, NameFault>
+        ensures number { IfOk result (λ number. number < MAX_KEYS) }
+
+        ensures empty { (result ≡ Err NameFault.Empty) ↔ (length name.now ≡ 0) }
+        ensures too_long { (result ≡ Err NameFault.TooLong) ↔ (LONGEST_NAME < length name.now) }
+        ensures never_unnamed { result ≢ Err NameFault.NoName }
+    {
+        self.table.lock(rt).intern(name)
+    }
+
+    /// Sets the text to the name that has the number, as the table does.
+    pub fn name(&self, rt: &impl Wait, number: u32, text: &mut String) -> Result<(), NameFault>
+        ensures number { OnOk result (number < MAX_KEYS) }
+        ensures text { OnOk result (IsName LONGEST_NAME (string_bytes text.new)) }
+        ensures kept { OnErr result (string_bytes text.new ≡ string_bytes text.old) }
+
+        ensures refusal { IfErr result (λ fault. (fault ≡ NameFault.NoName) ⊎ (fault ≡ NameFault.Memory)) }
+    {
+        self.table.lock(rt).name(number, text)
+    }
+}
