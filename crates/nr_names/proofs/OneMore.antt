@@ -1,16 +1,15 @@
 -- What one more name does to the numbers of all names.
-use Rattle.std.proofs.Common.{◌≡◌, ◌≤◌, ◌<◌, ◌+◌, ℕ, Bool, true, false, cond, not, List, [], ◌∷◌, ◌++◌, map, length, get_or, String, Option, Some, None, sym, refl, ap, ◌∙◌, subst, inl, inr, arith}
+use Rattle.std.proofs.Common.{◌≡◌, ◌<◌, ℕ, Bool, true, false, cond, not, List, [], ◌∷◌, ◌++◌, map, length, get_or, String, Option, Some, None, sym, refl, ap, ◌∙◌, subst, inl, inr, arith}
 use Rattle.std.proofs.Math.ListN.{get_or-append}
 use Rattle.std.proofs.lemmas.Bool.Decides.{nat_tests}
-use Rattle.std.proofs.lemmas.Grind.{common_steps}
 use Rattle.std.proofs.lemmas.List.{length_push, get_or_push, map-append}
 use Rattle.std.proofs.lemmas.List.Elements.{All-push}
 use Rattle.std.proofs.lemmas.List.Folds.{position_or_len_push}
 use Rattle.std.proofs.lemmas.List.Quantifiers.{position-Some}
 use Rattle.std.proofs.lemmas.List.Sums.{prefix_len-le-length}
 use Rattle.std.proofs.lemmas.Option.{slice_get_within, slice_get_cases, slice_get-get_or, get_or_from_slice_get}
-use Rattle.std.specs.Prelude.{IsTrue, slice_get, nat_lt, ◌==◌}
-use Rattle.std.specs.List.{position, position_or_len}
+use Rattle.std.specs.Prelude.{IsTrue, slice_get}
+use Rattle.std.specs.List.{position}
 use Rattle.std.specs.Str.{bytes_eq}
 use Rattle.std.specs.Cmp.Lexicographic.{bytes_decides, nat_list_eq_equiv}
 use Rattle.std.proofs.lemmas.Slice.Eq.{bytes_eq-Decides}
@@ -22,23 +21,23 @@ use Rattle.nr_names.specs.Naming.{Naming, number_of, adds, IsName, IsOneToOne, I
 
 module _ {X : Type 0} (passes : X → Bool) (xs : List X) (y : X) where
   -- a place that is found stays
-  pub position_push_found : (place : ℕ) → position passes xs ≡ Some place → position passes (xs ++ y ∷ []) ≡ Some place
+  position_push_found : (place : ℕ) → position passes xs ≡ Some place → position passes (xs ++ y ∷ []) ≡ Some place
   position_push_found place found =
       grind (arith, nat_tests, position_or_len_push passes xs y, length_push xs y)
 
   -- where none was found, the new element may be the first
-  pub position_push_new : position passes xs ≡ None → position passes (xs ++ y ∷ []) ≡ cond (passes y) (Some (length xs)) None
+  position_push_new : position passes xs ≡ None → position passes (xs ++ y ∷ []) ≡ cond (passes y) (Some (length xs)) None
   position_push_new new =
       grind (arith, nat_tests, position_or_len_push passes xs y, length_push xs y, prefix_len-le-length (λ x. not (passes x)) xs)
 
 -- a name that has a number stands there
-pub stands_at_number : (names : List (List ℕ)) (name : List ℕ) (number : ℕ) → number_of names name ≡ Some number → slice_get names number ≡ Some name
+stands_at_number : (names : List (List ℕ)) (name : List ℕ) (number : ℕ) → number_of names name ≡ Some number → slice_get names number ≡ Some name
 stands_at_number names name number found =
     let at = position-Some (bytes_eq name) names number [] found in
     slice_get-get_or names number [] at.0 ∙ ap Some (sym ((bytes_eq-Decides name (get_or names number [])).0 at.1))
 
 -- the new name gets the next number, and each other name keeps its own
-pub number_of_push : (names : List (List ℕ)) (name other : List ℕ) → number_of names name ≡ None → number_of (names ++ name ∷ []) other ≡ cond (bytes_eq name other) (Some (length names)) (number_of names other)
+number_of_push : (names : List (List ℕ)) (name other : List ℕ) → number_of names name ≡ None → number_of (names ++ name ∷ []) other ≡ cond (bytes_eq name other) (Some (length names)) (number_of names other)
 number_of_push names name other new = by_test (bytes_eq name other) refl
   where
     by_test : (same : Bool) → bytes_eq name other ≡ same → number_of (names ++ name ∷ []) other ≡ cond same (Some (length names)) (number_of names other)
@@ -53,15 +52,15 @@ number_of_push names name other new = by_test (bytes_eq name other) refl
             rw (position_push_new (bytes_eq other) names name unknown, nat_list_eq_equiv.symm other name, differs) refl
 
 -- the new name has the next number
-pub number_of_new : (names : List (List ℕ)) (name : List ℕ) → number_of names name ≡ None → number_of (names ++ name ∷ []) name ≡ Some (length names)
+number_of_new : (names : List (List ℕ)) (name : List ℕ) → number_of names name ≡ None → number_of (names ++ name ∷ []) name ≡ Some (length names)
 number_of_new names name new = rw (number_of_push names name name new, nat_list_eq_equiv.refl name) refl
 
 -- a known name keeps its number
-pub number_of_known : (names : List (List ℕ)) (name other : List ℕ) (number : ℕ) → number_of names name ≡ None → number_of names other ≡ Some number → number_of (names ++ name ∷ []) other ≡ Some number
+number_of_known : (names : List (List ℕ)) (name other : List ℕ) (number : ℕ) → number_of names name ≡ None → number_of names other ≡ Some number → number_of (names ++ name ∷ []) other ≡ Some number
 number_of_known names name other number new known = position_push_found (bytes_eq other) names name number known
 
 -- names stay one to one
-pub IsOneToOne-push : (names : List (List ℕ)) (name : List ℕ) → IsOneToOne names → number_of names name ≡ None → IsOneToOne (names ++ name ∷ [])
+IsOneToOne-push : (names : List (List ℕ)) (name : List ℕ) → IsOneToOne names → number_of names name ≡ None → IsOneToOne (names ++ name ∷ [])
 IsOneToOne-push names name one_to_one new = λ other number. (stands_at_number (names ++ name ∷ []) other number, numbered other number)
   where
     numbered : (other : List ℕ) (number : ℕ) → slice_get (names ++ name ∷ []) number ≡ Some other → number_of (names ++ name ∷ []) other ≡ Some number
@@ -91,7 +90,7 @@ IsNew-from_adds longest naming name added = record {
 }
 
 -- the facts of a table stay when a name is added
-pub IsSound-push : {longest limit : ℕ} (naming : Naming) (name : List ℕ) → IsSound longest limit naming → IsNew longest naming name → IsSound longest limit (record naming { names = naming.names ++ name ∷ [] })
+IsSound-push : {longest limit : ℕ} (naming : Naming) (name : List ℕ) → IsSound longest limit naming → IsNew longest naming name → IsSound longest limit (record naming { names = naming.names ++ name ∷ [] })
 IsSound-push {longest} naming name sound new = record {
   within = sound.within;
   fits = omega (arith, new.room, length_push naming.names name);

@@ -20,12 +20,14 @@ number_of names name = position (bytes_eq name) names
 -- a known name has its number, and a new one gets the next, unless all are taken
 abbrev pub number_for : Naming → Option ℕ → Result ℕ NameFault
 number_for naming (Some number) = Ok number
-number_for naming None = (if nat_lt (length naming.names) naming.keys then Ok (length naming.names) else Err fault.Full)
+number_for naming None = if nat_lt (length naming.names) naming.keys then Ok (length naming.names) else Err fault.Full
 
 -- the reply to a name of at most so many bytes, where no memory is refused
 abbrev pub intern_reply : ℕ → Naming → List ℕ → Result ℕ NameFault
 intern_reply longest naming name =
-    (if length name == 0 then Err fault.Empty else (if nat_lt longest (length name) then Err fault.TooLong else number_for naming (number_of naming.names name)))
+    if length name == 0 then Err fault.Empty
+    else if nat_lt longest (length name) then Err fault.TooLong
+    else number_for naming (number_of naming.names name)
 
 -- the name is new, and gets a number
 abbrev pub adds : ℕ → Naming → List ℕ → Bool
@@ -33,7 +35,7 @@ adds longest naming name = is_none (number_of naming.names name) && is_ok (inter
 
 -- the names after it was interned
 abbrev pub next_names : ℕ → Naming → List ℕ → List (List ℕ)
-next_names longest naming name = (if adds longest naming name then naming.names ++ name ∷ [] else naming.names)
+next_names longest naming name = if adds longest naming name then naming.names ++ name ∷ [] else naming.names
 
 abbrev pub next : ℕ → Naming → List ℕ → Naming
 next longest naming name = record naming { names = next_names longest naming name }

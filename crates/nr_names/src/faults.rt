@@ -1,6 +1,6 @@
 use thiserror::Error;
 
-/// Why a call on names was refused. Where several would do, the earliest here is given.
+/// Why a call on names was refused.
 #[derive(Clone, Copy, Debug, PartialEq, Eq, Error)]
 pub enum NameFault {
     #[error("the name is empty")]

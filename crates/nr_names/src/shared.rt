@@ -1,4 +1,4 @@
-ghost use Rattle.std.specs.Prelude.{◌≡◌, ◌≢◌, ◌≤◌, ◌<◌, ◌↔◌, ◌⊎◌, [], length, string_bytes, IfOk, IfErr, OnOk, OnErr};
+ghost use Rattle.std.specs.Prelude.{◌≡◌, ◌≢◌, ◌≤◌, ◌<◌, ◌↔◌, ◌⊎◌, length, string_bytes, IfOk, IfErr, OnOk, OnErr};
 ghost use Rattle.nr_names.specs.Naming.{IsName};
 ghost use Rattle.nr_names.specs.declared.table.TheConstants.{LONGEST_NAME, MAX_KEYS};
 
@@ -7,7 +7,8 @@ use crate::table::NameTable;
 use std::alloc::Global;
 use std::sync::{Mutex, Wait};
 
-/// A table of names that threads share. Each call is the table's, made under a lock.
+/// A table of names that threads share. Each call is the table's, made under a lock, so names and
+/// numbers are one to one each time that the lock is got.
 #[derive(Drop)]
 pub struct Names {
     table: Mutex<NameTable>,
@@ -16,7 +17,7 @@ pub struct Names {
 impl Names {
     /// Opens a table for as many names as there are keys, from 1 to 65,536, with none interned.
     ///
-    /// Refused with `Memory` as the table is.
+    /// Refused with `Memory` where the room for the names' places can't be had.
     pub fn open(alloc: Global, keys: u32) -> Result<Names, NameFault>
         requires some { 0 < keys }
         requires within { keys ≤ MAX_KEYS }
@@ -27,25 +28,25 @@ impl Names {
         })
     }
 
-    /// The number of a name, as the table gives it.
+    /// The number of a name, as the table gives or refuses it.
     ///
-    /// What names are known is for the lock to tell, so no clause says whether the name was new.
+    /// Which names are known is settled under the lock, so no clause says whether this one was.
     pub fn intern(&self, rt: &impl Wait, name: &str) -> Result<u32, NameFault>
         ensures number { IfOk result (λ number. number < MAX_KEYS) }
 
         ensures empty { (result ≡ Err NameFault.Empty) ↔ (length name.now ≡ 0) }
         ensures too_long { (result ≡ Err NameFault.TooLong) ↔ (LONGEST_NAME < length name.now) }
-        ensures never_unnamed { result ≢ Err NameFault.NoName }
+        ensures never_no_name { result ≢ Err NameFault.NoName }
     {
         self.table.lock(rt).intern(name)
     }
 
-    /// Sets the text to the name that has the number, as the table does.
+    /// Sets the text to the name that has the number, or refuses, as the table does.
     pub fn name(&self, rt: &impl Wait, number: u32, text: &mut String) -> Result<(), NameFault>
-        ensures number { OnOk result (number < MAX_KEYS) }
         ensures text { OnOk result (IsName LONGEST_NAME (string_bytes text.new)) }
         ensures kept { OnErr result (string_bytes text.new ≡ string_bytes text.old) }
 
+        ensures no_name { MAX_KEYS ≤ number → result ≡ Err NameFault.NoName }
         ensures refusal { IfErr result (λ fault. (fault ≡ NameFault.NoName) ⊎ (fault ≡ NameFault.Memory)) }
     {
         self.table.lock(rt).name(number, text)

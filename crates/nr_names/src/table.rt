@@ -1,4 +1,4 @@
-ghost use Rattle.std.specs.Prelude.{◌≡◌, ◌≢◌, ◌≤◌, ◌<◌, ◌↔◌, ◌⊎◌, ℕ, length, string_bytes, slice_get, IsTrue, IfOk, IfErr, OnOk, OnErr};
+ghost use Rattle.std.specs.Prelude.{◌≡◌, ◌≢◌, ◌≤◌, ◌<◌, ◌↔◌, ◌⊎◌, length, string_bytes, slice_get, IsTrue, IfOk, IfErr, OnOk, OnErr};
 ghost use Rattle.nr_names.specs.Naming.{no_names, number_of, intern_reply, adds, next, IsSound};
 
 use crate::faults::NameFault;
@@ -55,9 +55,9 @@ impl NameTable {
 
     /// The number of a name: the one that it has, or else the next one, from 0, which it keeps.
     ///
-    /// A name of no bytes is refused with `Empty` and one of over 255 with `TooLong`. A new name
-    /// is refused with `Full` where all numbers are taken, and with `Memory` where a copy of it
-    /// can't be kept. A name that is known takes no memory.
+    /// A name of no bytes is refused with `Empty`, and one of over 255 with `TooLong`. A name that
+    /// is known takes no memory. A new one is refused with `Full` where all numbers are taken, and
+    /// then with `Memory` where it can't be kept. A refusal leaves the table as it was.
     pub fn intern(&mut self, name: &str) -> Result<u32, NameFault>
         ensures reply { result ≢ Err NameFault.Memory → result ≡ intern_reply LONGEST_NAME self.old name.now }
         ensures memory { result ≡ Err NameFault.Memory → IsTrue (adds LONGEST_NAME self.old name.now) }
@@ -84,7 +84,8 @@ impl NameTable {
         Ok(next)
     }
 
-    // Adds a new name, with the next number. All memory is had before the table is changed.
+    // Adds a new name, with the next number. The map's insertion is the last step that may fail, and
+    // changes nothing where it does: the list has had its room since the table was opened.
     fn add(&mut self, name: &str, number: u32) -> Result<(), AllocError>
         requires adds { IsTrue (adds LONGEST_NAME self.old name.now) }
         requires next { number ≡ length self.old.names }
@@ -101,8 +102,8 @@ impl NameTable {
 
     /// Sets the text to the name that has the number.
     ///
-    /// Refused with `NoName` where no name has it, and with `Memory` where the text can't grow
-    /// to hold the name. The text is then as it was.
+    /// Refused with `NoName` where no name has it, and then with `Memory` where the text can't
+    /// grow to hold the name. A refusal leaves the text as it was.
     pub fn name(&self, number: u32, text: &mut String) -> Result<(), NameFault>
         ensures text { OnOk result (slice_get self.now.names number ≡ Some (string_bytes text.new)) }
         ensures kept { OnErr result (string_bytes text.new ≡ string_bytes text.old) }

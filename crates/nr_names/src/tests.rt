@@ -3,7 +3,9 @@
 use super::{NameFault, NameTable, Names};
 use std::alloc::Global;
 use std::process::Abort;
+use std::sync::Wait;
 use std::test::Fail;
+use std::thread::join;
 
 fn opened(alloc: Global) -> Result<NameTable, NameFault> {
     match NameTable::open(alloc, 2) {
@@ -65,6 +67,13 @@ fn names_have_at_most_255_bytes(rt: HostRuntime) -> Result<(), Fail> {
     Ok(())
 }
 
+fn interned_shared(rt: &impl Wait, names: &Names, name: &str) -> Result<u32, NameFault> {
+    match names.intern(rt, name) {
+        Err(NameFault::Memory) => names.intern(rt, name),
+        reply => reply,
+    }
+}
+
 #[test]
 fn a_shared_table_gives_numbers(rt: HostRuntime) -> Result<(), Fail> {
     let names = match Names::open(rt.alloc(), 2) {
@@ -72,17 +81,21 @@ fn a_shared_table_gives_numbers(rt: HostRuntime) -> Result<(), Fail> {
         opened => opened?,
     };
     let mut text = String::new(rt.alloc());
-    if names.intern(&rt, "a") == Err(NameFault::Memory) {
-        assert_eq!(rt; names.name(&rt, 0, &mut text), Err(NameFault::NoName));
-        assert_eq!(rt; names.intern(&rt, "a"), Ok(0));
-    }
-    assert_eq!(rt; names.intern(&rt, "a"), Ok(0));
+    let (here, there) = join(
+        &rt,
+        || interned_shared(&rt, &names, "a"),
+        || interned_shared(&rt, &names, "a"),
+    );
+    assert_eq!(rt; here, Ok(0));
+    assert_eq!(rt; there, Ok(0));
+    assert_eq!(rt; interned_shared(&rt, &names, "b"), Ok(1));
+    assert_eq!(rt; names.intern(&rt, "c"), Err(NameFault::Full));
     if names.name(&rt, 0, &mut text) == Err(NameFault::Memory) {
         assert_eq!(rt; text.as_str(), "");
         assert_eq!(rt; names.name(&rt, 0, &mut text), Ok(()));
     }
     assert_eq!(rt; text.as_str(), "a");
-    assert_eq!(rt; names.name(&rt, 1, &mut text), Err(NameFault::NoName));
+    assert_eq!(rt; names.name(&rt, 2, &mut text), Err(NameFault::NoName));
     assert_eq!(rt; names.intern(&rt, ""), Err(NameFault::Empty));
     Ok(())
 }
