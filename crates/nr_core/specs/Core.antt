@@ -1,0 +1,158 @@
+-- What stands between any two steps: the words, the callers' roles and the history agree. It is said of any list of callers, so that it serves schedules and running callers alike.
+use Rattle.std.specs.Prelude.{◌≡◌, ℕ, suc, ◌+◌, ◌*◌, ◌%◌, ◌^◌, ◌==◌, ◌<◌, ◌≤◌, List, [], ◌∷◌, length, take, slice_index, Bool, false}
+use mathlib.Core.Option.{some}
+use lib.ListN.{get_elem?}
+use Rattle.nr_model.specs.declared.rows.Row.{Row}
+use Rattle.nr_model.specs.declared.calls.Reply.TheVariants as reply
+use Rattle.nr_model.specs.declared.states.KeyState.{KeyState}
+use Rattle.nr_model.specs.declared.states.KeyState.TheVariants as key
+use Rattle.nr_model.specs.Rows.{IsRowSet}
+use Rattle.nr_model.specs.Maps.{PartialMap, state_of, reply_at, state_after}
+use Rattle.nr_model.specs.Maps.{opening as opening_map}
+use Rattle.nr_model.specs.Histories.{Entry, IsLegal}
+use Rattle.nr_core.specs.declared.shape.Shape.{Shape}
+use Rattle.nr_core.specs.declared.calls.WriterCall.{WriterCall}
+use Rattle.nr_core.specs.declared.roles.Role.{Role}
+use Rattle.nr_core.specs.declared.roles.Role.TheVariants.{Writer, Reader, Note}
+use Rattle.nr_core.specs.declared.roles.Grip.{Grip}
+use Rattle.nr_core.specs.declared.roles.Grip.TheVariants.{Nothing, On}
+use Rattle.nr_core.specs.declared.roles.Desk.{Desk}
+use Rattle.nr_core.specs.declared.places.Retired.{Retired}
+use Rattle.nr_core.specs.declared.places.Place.{Place}
+use Rattle.nr_core.specs.declared.places.Place.TheVariants.{Idle, Reading, Leaving, Searching, Putting}
+use Rattle.nr_core.specs.Sums.{total, only}
+use Rattle.nr_words.specs.KeyWords.{arrivals_of}
+use Rattle.nr_words.specs.SetWords.{encode}
+use Rattle.nr_words.specs.Places.{total_of}
+use Rattle.nr_core.specs.Slots.{layout, departures, content, slot_room, name_number, named, unused, SlotSpells}
+use Rattle.nr_core.specs.States.{key_of}
+use Rattle.nr_core.specs.Story.{call_of, map_after}
+
+-- the sizes that the words have room for: a set fits a slot, a slot's number and the count of its holders their bits
+pub record IsShape (shape : Shape) : Type 0 where
+  pub bound : 2 * shape.bound < slot_room
+  pub slots : shape.slots ≤ 2 ^ 22
+  pub readers : shape.readers < 2 ^ 40
+
+-- whether the role is that caller's; 1 for a writer; 1 for a reader
+abbrev pub is_by : ℕ → Role → Bool
+is_by caller (Writer desk) = 0 == caller
+is_by caller (Reader reader grip) = reader == caller
+is_by caller Note = false
+
+abbrev pub is_writer : Role → ℕ
+is_writer (Writer desk) = 1
+is_writer (Reader reader grip) = 0
+is_writer Note = 0
+
+abbrev pub is_reader : Role → ℕ
+is_reader (Writer desk) = 0
+is_reader (Reader reader grip) = 1
+is_reader Note = 0
+
+-- 1 where the reader holds the slot
+abbrev pub grips : ℕ → Grip → ℕ
+grips slot Nothing = 0
+grips slot (On held rows sized) = only slot held
+
+abbrev pub holds : ℕ → Role → ℕ
+holds slot (Writer desk) = 0
+holds slot (Reader reader grip) = grips slot grip
+holds slot Note = 0
+
+-- how many callers hold the slot
+abbrev pub held : List Role → ℕ → ℕ
+held roles slot = total (holds slot) roles
+
+-- 1 where the writer's call has taken the slot; how often it is retired
+abbrev pub taken : ℕ → Place → ℕ
+taken slot Idle = 0
+taken slot (Reading call named got) = 0
+taken slot (Leaving at) = 0
+taken slot (Searching call rows poll) = 0
+taken slot (Putting call rows mine departed index) = only slot mine
+
+abbrev pub retirements : ℕ → List Retired → ℕ
+retirements slot retired = total (λ entry. only slot entry.slot) retired
+
+-- how often the slot is free, retired or taken
+abbrev pub keeps : ℕ → Role → ℕ
+keeps slot (Writer desk) = unused slot desk.fresh + retirements slot desk.retired + taken slot desk.place
+keeps slot (Reader reader grip) = 0
+keeps slot Note = 0
+
+-- a count of arrivals is the departures and the callers that hold the slot, as far as counts go
+abbrev pub Counts : Shape → List ℕ → (ℕ → ℕ) → ℕ → ℕ → Type 0
+Counts shape words holders slot arrivals = arrivals % 2 ^ 40 ≡ (slice_index words (departures shape slot) + holders slot) % 2 ^ 40
+
+module _ (shape : Shape) (words : List ℕ) (map : PartialMap) (holders : ℕ → ℕ) where
+  -- the call would be done now, and leave the set at its key
+  pub record Wants (call : WriterCall) (rows : List Row) : Type 0 where
+    pub near : key_of call < shape.keys
+    pub row_set : IsRowSet shape.bound rows
+    pub no_hole : state_of map (key_of call) ≡ key.Hole → ⊥
+    pub done : reply_at shape.bound (call_of call) (state_of map (key_of call)) ≡ reply.Done
+    pub leaves : state_after shape.bound (call_of call) (state_of map (key_of call)) ≡ key.Rows rows
+
+  -- the key's slot is being read, and these words are the first of its set
+  pub record Reads (at slot : ℕ) (got : List ℕ) : Type 0 where
+    pub near : at < shape.keys
+    pub names : name_number (slice_index words at) ≡ suc slot
+    pub rows : List Row
+    pub full : state_of map at ≡ key.Rows rows
+    pub part : got ≡ take (length got) (encode rows)
+    pub more : length got ≤ 2 * length rows
+
+  -- the taken slot is nobody's, and so many words of the set stand in it
+  pub record Puts (call : WriterCall) (rows : List Row) (slot departed index : ℕ) : Type 0 where
+    pub wants : Wants call rows
+    pub inside : slot < shape.slots
+    pub nobody : holders slot ≡ 0
+    pub counted : slice_index words (departures shape slot) ≡ departed
+    pub within : index ≤ length (encode rows)
+    pub put : (before : ℕ) → before < index → slice_index words (content shape slot before) ≡ slice_index (encode rows) before
+
+  abbrev pub AtPlace : ℕ → List Retired → Place → Type 0
+  AtPlace fresh retired Idle = Unit {0}
+  AtPlace fresh retired (Reading call slot got) = Reads (key_of call) slot got
+  AtPlace fresh retired (Leaving at) = (slot : ℕ) × Reads at slot []
+  AtPlace fresh retired (Searching call rows poll) = Wants call rows × (poll < length retired) × (shape.slots ≤ fresh)
+  AtPlace fresh retired (Putting call rows slot departed index) = Puts call rows slot departed index
+
+  -- what the writer knows: its place, and that free slots are untouched and retired ones counted
+  pub record AtDesk (desk : Desk) : Type 0 where
+    pub place : AtPlace desk.fresh desk.retired desk.place
+    pub room : desk.fresh ≤ shape.slots
+    pub free : (slot : ℕ) → desk.fresh ≤ slot → slot < shape.slots → (holders slot ≡ 0) × (slice_index words (departures shape slot) ≡ shape.first)
+    pub retired : (at : ℕ) (entry : Retired) → get_elem? desk.retired at ≡ some entry → (entry.slot < shape.slots) × Counts shape words holders entry.slot entry.arrivals
+
+  -- what a reader knows: the slot that it holds spells the set that it found
+  abbrev pub Grips : Grip → Type 0
+  Grips Nothing = Unit {0}
+  Grips (On slot rows sized) = (slot < shape.slots) × SlotSpells shape words slot rows
+
+  abbrev pub Knows : Role → Type 0
+  Knows (Writer desk) = AtDesk desk
+  Knows (Reader reader grip) = Grips grip
+  Knows Note = Unit {0}
+
+-- a key's word shows the key's state
+abbrev pub ShowsState : Shape → List ℕ → ℕ → KeyState → Type 0
+ShowsState shape words word key.Hole = (name_number word ≡ 0) × (word % 2 ≡ 0)
+ShowsState shape words word key.Asked = (name_number word ≡ 0) × (word % 2 ≡ 1)
+ShowsState shape words word (key.Rows rows) = (slot : ℕ) × (name_number word ≡ suc slot) × (slot < shape.slots) × SlotSpells shape words slot rows
+
+pub record Core (shape : Shape) (words : List ℕ) (roles : List Role) (log : List Entry) : Type 0 where
+  pub fits : IsShape shape
+  pub wide : length words ≡ total_of slot_room (layout shape)
+  pub legal : IsLegal (opening_map shape.keys shape.bound) log
+  -- the words show the map after the history
+  pub shows : (at : ℕ) → at < shape.keys → ShowsState shape words (slice_index words at) (state_of (map_after shape log) at)
+  -- each slot has exactly one place: named by a key, free, retired or taken
+  pub places : (slot : ℕ) → slot < shape.slots → named shape words slot + total (keeps slot) roles ≡ 1
+  -- a named slot's arrivals, in its key's word, are counted
+  pub counts : (at slot : ℕ) → at < shape.keys → name_number (slice_index words at) ≡ suc slot → Counts shape words (held roles) slot (arrivals_of (slice_index words at))
+  -- each caller knows what its role says
+  pub knows : (id : ℕ) (role : Role) → get_elem? roles id ≡ some role → Knows shape words (map_after shape log) (held roles) role
+  pub one : total is_writer roles ≤ 1
+  pub few : total is_reader roles ≤ shape.readers

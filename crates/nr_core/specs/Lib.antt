@@ -1,0 +1,13 @@
+pub mod Sums
+pub mod Slots
+pub mod States
+pub mod Refusals
+pub mod Operations
+pub mod Writer
+pub mod Machine
+pub mod Story
+pub mod Core
+pub mod Steps
+pub mod Accounts
+pub mod Laws
+pub mod Reach

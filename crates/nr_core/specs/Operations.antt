@@ -1,0 +1,50 @@
+-- The one operation on one word that each event is.
+use Rattle.std.specs.Prelude.{ℕ, ◌+◌, ◌*◌, ◌%◌, ◌^◌, nat_le, if◌then◌else◌, bit_or, List, length, slice_index}
+use Rattle.nr_core.specs.declared.shape.Shape.{Shape}
+use Rattle.nr_core.specs.declared.places.Place.{Place}
+use Rattle.nr_core.specs.declared.places.Place.TheVariants.{Idle, Reading, Leaving, Searching, Putting}
+use Rattle.nr_core.specs.declared.roles.Desk.{Desk}
+use Rattle.nr_words.specs.declared.key_words.TheConstants.{ARRIVE}
+use Rattle.nr_words.specs.SetWords.{encode}
+use Rattle.nr_core.specs.Slots.{departures, content, naming}
+use Rattle.nr_core.specs.States.{State, Event, Arrive, Read, Depart, Ask, Start, Go, hold_of, slot_in, retired_at, key_of}
+
+-- a load, an addition, a bitwise or, a store, a swap of a word at a place
+pub data Operation : Type 0 where
+  Load : (place : ℕ) → Operation
+  Add : (place amount : ℕ) → Operation
+  Or : (place bits : ℕ) → Operation
+  Store : (place word : ℕ) → Operation
+  Swap : (place word : ℕ) → Operation
+
+abbrev pub place_of : Operation → ℕ
+place_of (Load place) = place
+place_of (Add place amount) = place
+place_of (Or place bits) = place
+place_of (Store place word) = place
+place_of (Swap place word) = place
+
+-- what the operation makes of the word that it finds
+abbrev pub becomes : Operation → ℕ → ℕ
+becomes (Load place) found = found
+becomes (Add place amount) found = (found + amount) % 2 ^ 64
+becomes (Or place bits) found = bit_or found bits
+becomes (Store place word) found = word
+becomes (Swap place word) found = word
+
+-- the next operation of the writer's call at a place
+abbrev pub going : Shape → Desk → Place → Operation
+going shape desk Idle = Load 0
+going shape desk (Reading call slot got) = Load (content shape slot (length got))
+going shape desk (Leaving key) = Swap key 0
+going shape desk (Searching call rows poll) = Load (departures shape (retired_at desk poll).slot)
+going shape desk (Putting call rows slot departed index) =
+    (if nat_le index (2 * length rows) then Store (content shape slot index) (slice_index (encode rows) index) else Swap (key_of call) (naming slot departed))
+
+abbrev pub operation : State → Event → Operation
+operation state (Arrive reader key) = Add key ARRIVE
+operation state (Read reader index) = Load (content state.shape (slot_in (hold_of state reader)) index)
+operation state (Depart reader) = Add (departures state.shape (slot_in (hold_of state reader))) 1
+operation state (Ask reader key) = Or key 1
+operation state (Start call) = Load (key_of call)
+operation state Go = going state.shape state.desk state.desk.place

@@ -1,0 +1,59 @@
+-- The machine's state, where it opens, and the events that its callers attempt.
+use Rattle.std.specs.Prelude.{ℕ, suc, zero, ◌+◌, ◌-◌, ◌*◌, List, [], ◌∷◌, ◌++◌, replicate, slice_index, slice_index_or}
+use Rattle.nr_core.specs.declared.shape.Shape.{Shape}
+use Rattle.nr_core.specs.declared.calls.WriterCall.{WriterCall}
+use Rattle.nr_core.specs.declared.calls.WriterCall.TheVariants.{Find, Fill, Update, Evict}
+use Rattle.nr_core.specs.declared.places.Hold.{Hold}
+use Rattle.nr_core.specs.declared.places.Hold.TheVariants.{Nothing, On}
+use Rattle.nr_core.specs.declared.places.Place.TheVariants.{Idle}
+use Rattle.nr_core.specs.declared.places.Retired.{Retired}
+use Rattle.nr_core.specs.declared.roles.Desk.{Desk}
+use Rattle.nr_core.specs.Slots.{opening_words}
+
+-- the words in their layout, what the readers 1, 2, .. hold, and the writer's desk
+pub record State : Type 0 where
+  pub shape : Shape
+  pub words : List ℕ
+  pub holds : List Hold
+  pub desk : Desk
+
+-- the writer is in no call, and every slot is free
+abbrev pub opening_desk : Desk
+opening_desk = record { place = Idle; fresh = 0; retired = [] }
+
+abbrev pub opening : Shape → State
+opening shape = record { shape = shape; words = opening_words shape; holds = replicate shape.readers Nothing; desk = opening_desk }
+
+-- one attempt of one caller; readers are counted from 1
+pub data Event : Type 0 where
+  Arrive : (reader key : ℕ) → Event
+  Read : (reader index : ℕ) → Event
+  Depart : (reader : ℕ) → Event
+  Ask : (reader key : ℕ) → Event
+  Start : (call : WriterCall) → Event
+  Go : Event
+
+-- the word at a place; what a reader holds, and the slot of a hold
+abbrev pub word : State → ℕ → ℕ
+word state place = slice_index state.words place
+
+abbrev pub hold_of : State → ℕ → Hold
+hold_of state reader = slice_index_or state.holds (reader - 1) Nothing
+
+abbrev pub slot_in : Hold → ℕ
+slot_in Nothing = 0
+slot_in (On slot size) = slot
+
+-- the retired slot at a place of the list
+abbrev pub no_retired : Retired
+no_retired = record { slot = 0; arrivals = 0 }
+
+abbrev pub retired_at : Desk → ℕ → Retired
+retired_at desk place = slice_index_or desk.retired place no_retired
+
+-- the key of a call
+abbrev pub key_of : WriterCall → ℕ
+key_of (Find key) = key
+key_of (Fill key rows) = key
+key_of (Update key batch) = key
+key_of (Evict key) = key

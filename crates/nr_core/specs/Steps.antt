@@ -1,0 +1,76 @@
+-- The kinds of step, each of one form: whatever the core state is, the caller can make the operation, and this is what the step tells.
+use Rattle.std.specs.Prelude.{◌≡◌, ℕ, suc, ◌+◌, ◌*◌, ◌<◌, ◌≤◌, ◌⊎◌, ◌==◌, List, [], ◌∷◌, ◌++◌, length, slice_index, slice_set, cond, Bool, false, true, if◌then◌else◌, Option, Some, None}
+use mathlib.Core.Option.{some}
+use lib.ListN.{get_elem?}
+use Rattle.nr_model.specs.declared.rows.Row.{Row}
+use Rattle.nr_model.specs.declared.calls.Call.TheVariants as model
+use Rattle.nr_model.specs.declared.calls.Reply.{Reply}
+use Rattle.nr_model.specs.declared.calls.Reply.TheVariants as reply
+use Rattle.nr_model.specs.Rows.{IsRowSet}
+use Rattle.nr_model.specs.Histories.{Entry, entries_of}
+use Rattle.nr_core.specs.declared.shape.Shape.{Shape}
+use Rattle.nr_core.specs.declared.calls.WriterCall.{WriterCall}
+use Rattle.nr_core.specs.declared.roles.Role.{Role}
+use Rattle.nr_core.specs.declared.roles.Role.TheVariants.{Writer, Reader, Note}
+use Rattle.nr_core.specs.declared.roles.Grip.{Grip}
+use Rattle.nr_core.specs.declared.roles.Grip.TheVariants.{Nothing, On}
+use Rattle.nr_core.specs.declared.roles.Desk.{Desk}
+use Rattle.nr_words.specs.KeyWords.{is_filled, has_ask}
+use Rattle.nr_words.specs.SetWords.{encode}
+use Rattle.nr_core.specs.Slots.{name_number}
+use Rattle.nr_core.specs.Operations.{Operation, place_of, becomes}
+use Rattle.nr_core.specs.Writer.{looked, went}
+use Rattle.nr_core.specs.Story.{entry, call_of, ending, ending_at}
+use Rattle.nr_core.specs.Core.{is_by, is_writer, is_reader, Core}
+
+-- what a step tells, of the word that it found, the caller's role after it and the entries that it added
+abbrev pub Telling : Type 1
+Telling = ℕ → Role → List Entry → Type 0
+
+-- a step that the caller at `id` made: the core state after it
+pub record Stepped (shape : Shape) (words : List ℕ) (roles : List Role) (log : List Entry) (id : ℕ) (role : Role) (operation : Operation) (tells : Telling) : Type 0 where
+  pub after : Role
+  pub entries : List Entry
+  pub core : Core shape (slice_set words (place_of operation) (becomes operation (slice_index words (place_of operation)))) (slice_set roles id after) (log ++ entries)
+  -- it is the same caller, of the same kind, and the entries are its own
+  pub same : (caller : ℕ) → is_by caller after ≡ is_by caller role
+  pub writer : is_writer after ≡ is_writer role
+  pub reader : is_reader after ≡ is_reader role
+  pub own : (caller : ℕ) → entries_of entries caller ≡ cond (is_by caller role) entries []
+  pub told : tells (slice_index words (place_of operation)) after entries
+
+abbrev pub CanStep : Shape → ℕ → Role → Operation → Telling → Type 0
+CanStep shape id role operation tells =
+    (words : List ℕ) (roles : List Role) (log : List Entry) → Core shape words roles log → get_elem? roles id ≡ some role → Stepped shape words roles log id role operation tells
+
+-- an arrive finds the key's set, and holds its slot, or finds a hole
+abbrev pub Arrives : Shape → ℕ → ℕ → Telling
+Arrives shape reader at word after entries =
+    ((slot : ℕ) × (rows : List Row) × (name_number word ≡ suc slot) × (slot < shape.slots) × IsRowSet shape.bound rows × (after ≡ Reader reader (On slot rows false)) × (entries ≡ entry reader (model.Find at) (reply.Rows rows) ∷ []))
+    ⊎ ((name_number word ≡ 0) × (after ≡ Reader reader Nothing) × (entries ≡ entry reader (model.Find at) reply.Hole ∷ []))
+
+-- the reply that a key's word gives to a request
+abbrev pub ask_word : ℕ → Reply
+ask_word word = (if is_filled word then reply.Filled else (if has_ask word then reply.Waiting else reply.Send))
+
+abbrev pub Asks : ℕ → ℕ → Telling
+Asks reader at word after entries = (after ≡ Reader reader Nothing) × (entries ≡ entry reader (model.Ask at) (ask_word word) ∷ [])
+
+-- a read of a held slot gives the word that encoding its set has at the index; word 0 is its number of rows
+abbrev pub ReadsHeld : ℕ → ℕ → List Row → Bool → ℕ → Telling
+ReadsHeld reader slot rows sized index word after entries =
+    (word ≡ slice_index (encode rows) index) × (after ≡ Reader reader (On slot rows (if index == 0 then true else sized))) × (entries ≡ [])
+
+abbrev pub Departs : ℕ → Telling
+Departs reader word after entries = (after ≡ Reader reader Nothing) × (entries ≡ [])
+
+-- the writer's steps: the desk after, and an entry where the call ends with a reply
+abbrev pub Looks : Shape → Desk → WriterCall → Telling
+Looks shape desk call word after entries = (after ≡ Writer (looked shape desk call word).0) × (entries ≡ ending (call_of call) (looked shape desk call word).1)
+
+abbrev pub Goes : Shape → Desk → Telling
+Goes shape desk word after entries = (after ≡ Writer (went shape desk desk.place word).0) × (entries ≡ ending_at desk.place (went shape desk desk.place word).1)
+
+-- a load that only learns
+abbrev pub Learns : Role → Telling
+Learns role word after entries = (after ≡ role) × (entries ≡ [])

@@ -1,0 +1,90 @@
+//! What callers ask of the machine, and what it answers.
+ghost use Rattle.std.specs.Prelude.{◌≡◌};
+ghost use Rattle.nr_model.specs.declared.rows.TheConstants.{MAX_ROWS};
+ghost use Rattle.nr_core.specs.States.{key_of};
+ghost use Rattle.nr_core.specs.Laws.{IsGivenCall};
+
+use nr_model::{Batch, Reply, RowSet};
+
+/// A call of the writer.
+#[derive(Clone, Copy, Debug)]
+pub enum WriterCall {
+    Find(u32),
+    Fill(u32, RowSet),
+    Update(u32, Batch),
+    Evict(u32),
+}
+
+/// Why a step is refused. A refused step changes nothing.
+#[derive(Clone, Copy, Debug, PartialEq, Eq)]
+pub enum Refusal {
+    /// An arrive or a request of a reader that holds a slot.
+    Holding,
+    /// A read or a departure of a reader that holds none.
+    NotHolding,
+    /// A start while the writer is in a call.
+    Busy,
+    /// A step of the writer's call while it is in none.
+    NotBusy,
+    /// No such reader or key, or no word of the set at that index.
+    OutOfRange,
+}
+
+/// What an arrive found at its key.
+#[derive(Clone, Copy, Debug, PartialEq, Eq)]
+pub enum Arrived {
+    Held,
+    Hole,
+}
+
+/// The answer to a request.
+#[derive(Clone, Copy, Debug, PartialEq, Eq)]
+pub enum AskReply {
+    Send,
+    Waiting,
+    Filled,
+}
+
+/// No slot was to be had: so many keys are filled, and so many slots are retired.
+#[derive(Clone, Copy, Debug, PartialEq, Eq)]
+pub struct NoSlot {
+    pub live: u32,
+    pub held: u32,
+}
+
+/// How a call of the writer ends.
+#[derive(Clone, Copy, Debug)]
+pub enum WReply {
+    Reply(Reply),
+    NoSlot(NoSlot),
+}
+
+/// The writer's call goes on, or has ended.
+#[derive(Clone, Copy, Debug)]
+pub enum Step {
+    Going,
+    Ended(WReply),
+}
+
+impl WriterCall {
+    /// The key that the call is about.
+    pub fn key(&self) -> u32
+        ensures { result ≡ key_of self.now }
+    {
+        match self {
+            WriterCall::Find(key) => *key,
+            WriterCall::Fill(key, _) => *key,
+            WriterCall::Update(key, _) => *key,
+            WriterCall::Evict(key) => *key,
+        }
+    }
+
+    /// The set that a fill brings is a row set.
+    pub(crate) fn given(&self)
+        ensures { IsGivenCall MAX_ROWS self.now }
+    {
+        if let WriterCall::Fill(_, rows) = self {
+            let _ = rows.len();
+        }
+    }
+}

@@ -1,0 +1,40 @@
+//! The step machine of the reader map, without threads: what the running map does, one atomic
+//! operation on one word a step. Its laws speak of all orders in which the callers' steps can fall.
+//!
+//! A key's word says whether the key is asked or filled, which slot it names, and how many readers
+//! have arrived (`nr_words`). A slot is a departure word and the content words of one row set.
+//!
+//! A reader arrives with one addition to its key's word. It finds the slot that the word names and
+//! is counted there in the same operation (`gripped`), so it holds the slot: it reads the set word by
+//! word (`read_hold`) and departs with one addition to the slot's departure word. It never waits.
+//!
+//! The writer never changes a set in place. A call looks at its key (`looked`); where it needs a
+//! slot it takes the next free one, or polls the retired ones, oldest first (`settled`, `polled`).
+//! It puts the set's words into the slot that it took (`put_on`), and publishes with one swap of the
+//! key's word (`swapped`). An eviction swaps in 0. The swap gives back the old word, and with it the
+//! exact count of all that ever arrived at the slot that it named (`unnamed`); no reader can arrive
+//! there any more, and the slot is retired with that count.
+//!
+//! A retired slot is taken again where its departures equal its arrivals modulo 2^40 (`polled`):
+//! since a named or retired slot's arrivals are its departures and those that hold it (`Counts`), and
+//! there are fewer than 2^40 readers, nobody holds it then. The new name begins with the slot's
+//! departures as its arrivals (`naming`), so the count goes on, whatever it was, wrapped or not.
+//! Where each retired slot is held at its poll, the call ends with no slot (`IsJustified`).
+//!
+//! `Core` (in specs/) says what stands between any two steps, `CanStep` that a caller can make a step
+//! whatever the core state is; each kind of step has one lemma of that form. `EverySchedule` and
+//! `SlotBound` are the laws.
+#![tactic(auto)]
+
+mod calls;
+pub mod laws;
+mod places;
+mod roles;
+mod shape;
+mod words_read;
+
+pub use calls::{Arrived, AskReply, NoSlot, Refusal, Step, WReply, WriterCall};
+pub use places::{Hold, Place, Retired};
+pub use roles::{Desk, Grip, Role};
+pub use shape::Shape;
+pub use words_read::WordsRead;
