@@ -1,0 +1,12 @@
+pub mod Sums
+pub mod KeyWords
+pub mod Histories
+pub mod Frames
+pub mod OnKey
+pub mod Arrive
+pub mod Ask
+pub mod OffKeys
+pub mod Read
+pub mod Depart
+pub mod Learn
+pub mod DeskFrames

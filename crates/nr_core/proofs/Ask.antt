@@ -1,0 +1,62 @@
+-- A reader requests a key: the key is asked, unless it is filled.
+use Rattle.std.proofs.Common.{List, [], ap, arith, cond, eq-eqb, get_or, ne_eqb, refl, subst, sym, ℕ, ◌%◌, ◌++◌, ◌+◌, ◌-◌, ◌<◌, ◌∙◌, ◌∷◌, ◌≡◌}
+use Rattle.std.specs.Prelude.{bit_or}
+use mathlib.Core.Logic.{dite}
+use native.Mathlib.Decide.{ℕ_discrete}
+use Rattle.nr_model.specs.Histories.{after}
+use Rattle.nr_model.specs.Maps.{ask_reply, asked as asked_state, state_of}
+use Rattle.nr_model.specs.declared.calls.Reply.{Reply}
+use Rattle.nr_model.specs.declared.states.KeyState.{KeyState}
+use Rattle.nr_words.specs.KeyWords.{has_ask}
+use Rattle.nr_core.proofs.Histories.{legal-more, replies_so, state_other, state_same}
+use Rattle.nr_core.proofs.KeyWords.{name-asked, names_none, names_one, or_one}
+use Rattle.nr_core.proofs.OnKey.{on_key}
+use Rattle.nr_core.proofs.Sums.{total-set}
+use Rattle.nr_core.specs.Core.{ShowsState, holds}
+use Rattle.nr_core.specs.Operations.{Or}
+use Rattle.nr_core.specs.Slots.{name_number}
+use Rattle.nr_core.specs.Steps.{Asks, CanStep, ask_word}
+use Rattle.nr_core.specs.Story.{entry, map_after, told}
+use Rattle.nr_core.specs.declared.roles.Grip.TheVariants.{Nothing}
+use Rattle.nr_core.specs.declared.roles.Role.TheVariants.{Reader}
+use Rattle.nr_core.specs.declared.shape.Shape.{Shape}
+use Rattle.nr_model.specs.declared.states.KeyState.TheVariants as key
+use Rattle.nr_model.specs.declared.calls.Call.TheVariants as model
+use Rattle.nr_model.specs.declared.calls.Reply.TheVariants as reply
+
+asked_stays : (z : KeyState) → (z ≡ key.Hole → ⊥) → asked_state z ≡ z
+asked_stays key.Hole n = absurd (n refl)
+asked_stays key.Asked n = refl
+asked_stays (key.Rows rows) n = refl
+
+-- an asked word shows the asked state
+shows-asked : (shape : Shape) (words : List ℕ) (w x : ℕ) (state : KeyState) → name_number x ≡ name_number w → x % 2 ≡ 1 → ShowsState shape words w state → ShowsState shape words x (asked_state state)
+shows-asked shape words w x key.Hole n p t = (n ∙ t.0, p)
+shows-asked shape words w x key.Asked n p t = (n ∙ t.0, p)
+shows-asked shape words w x (key.Rows rows) n p t = (t.0, n ∙ t.1, t.2, t.3)
+
+-- the reply of a key's state is that of its word
+asked_word : (shape : Shape) (words : List ℕ) (w : ℕ) (state : KeyState) → ShowsState shape words w state → ask_reply state ≡ ask_word w
+asked_word shape words w key.Hole t = let p = t.1 in sym (ap (λ b. cond b reply.Filled (cond (has_ask w) reply.Waiting reply.Send)) (names_none w t.0) ∙ ap (λ b. cond b reply.Waiting reply.Send) (ne_eqb (w % 2) 1 (λ z. omega arith)))
+asked_word shape words w key.Asked t = sym (ap (λ b. cond b reply.Filled (cond (has_ask w) reply.Waiting reply.Send)) (names_none w t.0) ∙ ap (λ b. cond b reply.Waiting reply.Send) (eq-eqb (w % 2) 1 t.1))
+asked_word shape words w (key.Rows rows) t = sym (ap (λ b. cond b reply.Filled (cond (has_ask w) reply.Waiting reply.Send)) (names_one w t.0 t.1).0)
+
+pub asks : (shape : Shape) (id reader k : ℕ) → k < shape.keys → CanStep shape id (Reader reader Nothing) (Or k 1) (Asks reader k)
+asks shape id reader k near words roles log core there =
+    let w : ℕ = get_or words k 0 in let x : ℕ = bit_or w 1 in let map = map_after shape log in let state = state_of map k in let one = or_one w in
+    let name = name-asked w x one in let e = entry reader (model.Ask k) (ask_reply state) in
+    let same : state_of (map_after shape (log ++ e ∷ [])) k ≡ asked_state state = state_same shape log e near in let shown = core.shows k near in
+    let other = state_other shape log e in record {
+      after = Reader reader Nothing;
+      entries = e ∷ [];
+      core = on_key shape words roles log (e ∷ []) core id reader Nothing Nothing k x near there name (legal-more shape log e core.legal (sym (replies_so shape log (model.Ask k))))
+          other
+          (λ j n. dite (ℕ_discrete j k) (λ z. ap (state_of (map_after shape (log ++ e ∷ []))) z ∙ same ∙ asked_stays state (λ y. n (ap (state_of map) z ∙ y)) ∙ ap (state_of map) (sym z)) (λ ne. other j ne))
+          (subst (ShowsState shape words x) (sym same) (shows-asked shape words w x state name (omega arith) shown)) tt (λ s _. refl)
+          (λ s e'. let more = total-set (holds s) roles id (Reader reader Nothing) (Reader reader Nothing) there in omega (arith, core.counts k s near e'));
+      same = λ _. refl;
+      writer = refl;
+      reader = refl;
+      own = λ _. refl;
+      told = (refl, ap (λ (y : Reply). entry reader (model.Ask k) y ∷ []) (asked_word shape words w state shown));
+    }

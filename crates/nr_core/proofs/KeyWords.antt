@@ -1,0 +1,54 @@
+-- What a key's word names and asks: after an arrival, after a request, and where it is written anew.
+use Rattle.std.proofs.Common.{ap, arith, cond, eq-eqb, false, ne_eqb, suc, sym, true, ℕ, ◌%◌, ◌*◌, ◌+◌, ◌-◌, ◌/◌, ◌<◌, ◌^◌, ◌∙◌, ◌≡◌, ◌≢◌}
+use Rattle.std.proofs.lemmas.Nat.{or_mod, or_shr}
+use Rattle.std.specs.Int.Bits.{or_zero_r}
+use Rattle.std.specs.Prelude.{bit_or}
+use mathlib.Core.Logic.{dite}
+use native.Mathlib.Decide.{ℕ_discrete}
+use Rattle.nr_words.specs.KeyWords.{arrivals_of, is_filled, slot_of}
+use Rattle.nr_core.specs.Slots.{name_number, naming}
+
+-- an arrival leaves what the word names and asks, and counts one
+pub bumped : (w : ℕ) → ((w + 2 ^ 24) % 2 ^ 64 % 2 ^ 24 ≡ w % 2 ^ 24) × ((w + 2 ^ 24) % 2 ^ 64 % 4 ≡ w % 4)
+    × ((w + 2 ^ 24) % 2 ^ 64 / 2 ^ 24 % 2 ^ 40 ≡ (w / 2 ^ 24 + 1) % 2 ^ 40)
+bumped w = (omega arith, omega arith, omega arith)
+
+-- a request sets the lowest bit
+pub or_one : (n : ℕ) → bit_or n 1 ≡ 2 * (n / 2) + 1
+or_one n = let a : bit_or n 1 / 2 ≡ bit_or (n / 2) 0 = or_shr n 1 1 in let b : bit_or n 1 % 2 ≡ bit_or (n % 2) 1 = or_mod n 1 1 in let z : bit_or (n / 2) 0 ≡ n / 2 = or_zero_r (n / 2) in
+    let low : bit_or (n % 2) 1 ≡ 1 = dite (ℕ_discrete (n % 2) 0) (λ e. ap (λ (x : ℕ). bit_or x 1) e) (λ ne. let one : n % 2 ≡ 1 = omega arith in ap (λ (x : ℕ). bit_or x 1) one) in omega arith
+
+pub not_filled : (w : ℕ) → w / 2 % 2 ≢ 1 → is_filled w ≡ false
+not_filled w ne = ne_eqb (w / 2 % 2) 1 ne
+
+pub yes_filled : (w : ℕ) → w / 2 % 2 ≡ 1 → is_filled w ≡ true
+yes_filled w e = eq-eqb (w / 2 % 2) 1 e
+
+pub name_low : (w : ℕ) → w / 2 % 2 ≢ 1 → name_number w ≡ 0
+name_low w ne = ap (λ b. cond b (slot_of w + 1) 0) (not_filled w ne)
+
+pub name_high : (w : ℕ) → w / 2 % 2 ≡ 1 → name_number w ≡ slot_of w + 1
+name_high w e = ap (λ b. cond b (slot_of w + 1) 0) (yes_filled w e)
+
+-- a word names no slot exactly where it is not filled
+pub names_none : (w : ℕ) → name_number w ≡ 0 → is_filled w ≡ false
+names_none w e = dite (ℕ_discrete (w / 2 % 2) 1) (λ l. let n = name_high w l in absurd (omega arith)) (λ l. not_filled w l)
+
+pub names_one : (w s : ℕ) → name_number w ≡ suc s → (is_filled w ≡ true) × (slot_of w ≡ s)
+names_one w s e = dite (ℕ_discrete (w / 2 % 2) 1) (λ l. let n = name_high w l in (yes_filled w l, omega arith)) (λ l. let n = name_low w l in absurd (omega arith))
+
+-- words with the same slot and the same flag name the same
+pub same_name : (w x : ℕ) → x / 4 % 2 ^ 22 ≡ w / 4 % 2 ^ 22 → x / 2 % 2 ≡ w / 2 % 2 → name_number x ≡ name_number w
+same_name w x slot flag = dite (ℕ_discrete (w / 2 % 2) 1)
+    (λ l. let a = name_high w l in let b = name_high x (flag ∙ l) in omega arith)
+    (λ l. let a = name_low w l in let b = name_low x (λ z. l (sym flag ∙ z)) in omega arith)
+
+pub name-bumped : (w : ℕ) → name_number ((w + 2 ^ 24) % 2 ^ 64) ≡ name_number w
+name-bumped w = same_name w ((w + 2 ^ 24) % 2 ^ 64) (omega arith) (omega arith)
+
+pub name-asked : (w x : ℕ) → x ≡ 2 * (w / 2) + 1 → name_number x ≡ name_number w
+name-asked w x e = same_name w x (omega arith) (omega arith)
+
+-- the word that a publish writes
+pub naming_is : (t e : ℕ) → t < 2 ^ 22 → (name_number (naming t e) ≡ suc t) × (arrivals_of (naming t e) ≡ e % 2 ^ 40)
+naming_is t e l = let n = name_high (naming t e) (omega arith) in (omega arith, omega arith)

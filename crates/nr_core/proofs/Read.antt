@@ -1,0 +1,47 @@
+-- A reader reads a word of the slot that it holds.
+use Rattle.std.proofs.Common.{Bool, List, [], ap, arith, cond, get_or, length, nat_eq, refl, set, true, ℕ, ◌%◌, ◌+◌, ◌-◌, ◌<◌, ◌^◌, ◌∙◌, ◌≡◌, ◌≢◌}
+use lib.ListN.{get_elem?}
+use lib.Seq.{set-get_or}
+use mathlib.Core.Option.{some}
+use Rattle.nr_model.specs.Histories.{after}
+use Rattle.nr_model.specs.declared.rows.Row.{Row}
+use Rattle.nr_words.specs.SetWords.{encode}
+use Rattle.nr_core.proofs.Frames.{Left, desk_more, holding_more}
+use Rattle.nr_core.proofs.OffKeys.{none_of, off_keys}
+use Rattle.nr_core.proofs.Sums.{total-set}
+use Rattle.nr_core.specs.Core.{Knows, held, holds, is_by}
+use Rattle.nr_core.specs.Operations.{Load}
+use Rattle.nr_core.specs.Slots.{content, departures, name_number}
+use Rattle.nr_core.specs.Steps.{CanStep, ReadsHeld}
+use Rattle.nr_core.specs.Story.{map_after, told}
+use Rattle.nr_core.specs.declared.roles.Grip.TheVariants.{On}
+use Rattle.nr_core.specs.declared.roles.Role.{Role}
+use Rattle.nr_core.specs.declared.roles.Role.TheVariants.{Note, Reader, Writer}
+use Rattle.nr_core.specs.declared.shape.Shape.{Shape}
+
+pub reads : (shape : Shape) (id c s : ℕ) (m : List Row) (b : Bool) (i : ℕ) → i < length (encode m) → CanStep shape id (Reader c (On s m b)) (Load (content shape s i)) (ReadsHeld c s m b i)
+reads shape id c s m b i low words roles log core at = let b' : Bool = cond (nat_eq i 0) true b in let mine = core.knows id (Reader c (On s m b)) at in let r' = Reader c (On s m b') in let roles' = set roles id r' in let map = map_after shape log in let p = content shape s i in
+    let still : (t : ℕ) → held roles' t ≡ held roles t = λ t. let y = total-set (holds t) roles id (Reader c (On s m b)) r' at in omega arith in
+    let words' = set words p (get_or words p 0) in let same : words' ≡ words = set-get_or words p 0 in
+    let left : (t : ℕ) → Left shape words words' map map (held roles) (held roles') t = λ t. record {
+      contents = λ j _. ap (λ (l : List ℕ). get_or l (content shape t j) 0) same;
+      nobody = λ z. still t ∙ z;
+      deps = λ _. ap (λ (l : List ℕ). get_or l (departures shape t) 0) same;
+      sum = ap (λ (call : ℕ × ℕ). (call.0 + call.1) % 2 ^ 40) (λ j. (get_or (same j) (departures shape t) 0, still t j));
+    } in
+    let others : (j : ℕ) (u : Role) → j ≢ id → get_elem? roles j ≡ some u → Knows shape words map (held roles) u → Knows shape words' map (held roles') u = λ j u _ _. elim u as (λ v. Knows shape words map (held roles) v → Knows shape words' map (held roles') v) [
+      | Writer desk ↦ λ t. desk_more shape words words' map map (held roles) (held roles') (λ k l. ap (λ (l : List ℕ). name_number (get_or l k 0)) same) (λ _ _. refl) desk (λ y _ _. left y) t
+      | Reader call y ↦ λ t. holding_more shape words words' map map (held roles) (held roles') y (λ a j _ _ low. (left a).contents j low) t
+      | Note ↦ λ t. tt
+    ] in
+    record {
+      after = r';
+      entries = [];
+      core = off_keys shape words roles log core id (Reader c (On s m b)) r' p (get_or words p 0) (omega arith) at refl refl (λ _ _. refl) (λ t j _ low _. (left t).contents j low) (λ t _ _. (left t).sum) others
+          (holding_more shape words words' map map (held roles) (held roles') (On s m b') (λ a j _ _ low. (left a).contents j low) mine);
+      same = λ _. refl;
+      writer = refl;
+      reader = refl;
+      own = λ a. none_of (is_by a (Reader c (On s m b)));
+      told = (mine.1.1 i low, refl, refl);
+    }
