@@ -10,3 +10,16 @@ pub mod Read
 pub mod Depart
 pub mod Learn
 pub mod DeskFrames
+pub mod Choices
+pub mod Settle
+pub mod Look
+pub mod Swap
+pub mod Unpublish
+pub mod Publish
+pub mod Poll
+pub mod Put
+pub mod Sets
+pub mod WriterRead
+pub mod Guards
+pub mod Go
+pub mod Seat

@@ -1,0 +1,35 @@
+-- A fill or an update swaps the word that names its slot in for its key's word.
+use Rattle.std.proofs.Common.{List, [], ap, arith, get_or, length, set, subst, suc, sym, ℕ, ◌%◌, ◌*◌, ◌++◌, ◌+◌, ◌-◌, ◌<◌, ◌^◌, ◌∙◌, ◌∷◌, ◌≡◌}
+use lib.ListN.{get_elem?}
+use mathlib.Core.Option.{some}
+use Rattle.nr_model.specs.Histories.{Entry}
+use Rattle.nr_model.specs.declared.rows.Row.{Row}
+use Rattle.nr_words.specs.KeyWords.{arrivals_of}
+use Rattle.nr_core.proofs.Frames.{length-row_words}
+use Rattle.nr_core.proofs.KeyWords.{naming_is}
+use Rattle.nr_core.proofs.Settle.{key_same}
+use Rattle.nr_core.proofs.Swap.{only-suc, swap_step}
+use Rattle.nr_core.specs.Core.{AtPlace, Core, Puts, ShowsState, held, taken}
+use Rattle.nr_core.specs.Slots.{departures, naming}
+use Rattle.nr_core.specs.States.{key_of}
+use Rattle.nr_core.specs.Story.{call_of, entry, map_after}
+use Rattle.nr_core.specs.Sums.{only}
+use Rattle.nr_core.specs.Writer.{swapped}
+use Rattle.nr_core.specs.declared.calls.WriterCall.{WriterCall}
+use Rattle.nr_core.specs.declared.places.Place.TheVariants.{Putting}
+use Rattle.nr_core.specs.declared.roles.Desk.{Desk}
+use Rattle.nr_core.specs.declared.roles.Role.{Role}
+use Rattle.nr_core.specs.declared.roles.Role.TheVariants.{Writer}
+use Rattle.nr_core.specs.declared.shape.Shape.{Shape}
+use Rattle.nr_model.specs.declared.calls.Reply.TheVariants as reply
+
+pub publishes : (shape : Shape) (words : List ℕ) (roles : List Role) (log : List Entry) (core : Core shape words roles log) (id : ℕ) (desk : Desk) → get_elem? roles id ≡ some (Writer desk)
+    → (call : WriterCall) (rows : List Row) (s e i : ℕ) → desk.place ≡ Putting call rows s e i → 2 * length rows < i
+    → Core shape (set words (key_of call) (naming s e)) (set roles id (Writer (swapped desk (get_or words (key_of call) 0)))) (log ++ entry 0 (call_of call) reply.Done ∷ [])
+publishes shape words roles log core id desk is_there call rows s e i is_at past = let t = core.knows id (Writer desk) is_there in let map = map_after shape log in
+    let p : Puts shape words map (held roles) call rows s e i = subst (AtPlace shape words map (held roles) desk.fresh desk.retired) is_at t.place in let wants = p.wants in let fits = core.fits.slots in let inside = p.inside in let n = naming_is s e (omega arith) in
+    let flat-size = length-row_words rows in
+    swap_step shape words roles log core id desk is_there (key_of call) (naming s e) (call_of call) reply.Done wants.near (key_same call) wants.done
+    (subst (ShowsState shape words (naming s e)) (sym wants.leaves) (s, n.0, inside, (wants.row_set, λ j low. p.put j (omega arith))))
+    (λ u. ap (taken u) is_at ∙ sym (ap (only (suc u)) n.0 ∙ only-suc u s))
+    (λ u z. let same : s ≡ u = omega (arith, n.0) in subst (λ (v : ℕ). arrivals_of (naming s e) % 2 ^ 40 ≡ (get_or words (departures shape v) 0 + held roles v) % 2 ^ 40) same (omega (arith, n.1, p.counted, p.nobody)))

@@ -1,0 +1,60 @@
+-- The writer puts one word of its set into the slot that it took.
+use Rattle.std.proofs.Common.{List, [], ap, arith, get_or, get_or-set_other, get_or-set_same, length, refl, set, subst, sym, ℕ, ◌%◌, ◌*◌, ◌++◌, ◌+◌, ◌-◌, ◌<◌, ◌^◌, ◌∙◌, ◌≡◌, ◌≢◌, ◌≤◌}
+use lib.ListN.{get_elem?}
+use mathlib.Core.Logic.{dite}
+use mathlib.Core.Option.{some}
+use native.Mathlib.Decide.{ℕ_discrete}
+use Rattle.nr_model.specs.Histories.{Entry}
+use Rattle.nr_model.specs.declared.rows.Row.{Row}
+use Rattle.nr_words.specs.SetWords.{encode}
+use Rattle.nr_core.proofs.Frames.{Left, free_more, length-row_words, retired_more, unused-free}
+use Rattle.nr_core.proofs.OffKeys.{no_writer, off_keys}
+use Rattle.nr_core.proofs.Sums.{only-same, term_le, total-set}
+use Rattle.nr_core.specs.Core.{AtDesk, AtPlace, Core, Puts, held, holds, keeps, taken}
+use Rattle.nr_core.specs.Slots.{content, departures, named, unused}
+use Rattle.nr_core.specs.Story.{map_after}
+use Rattle.nr_core.specs.Sums.{only, total}
+use Rattle.nr_core.specs.Writer.{moved_to}
+use Rattle.nr_core.specs.declared.calls.WriterCall.{WriterCall}
+use Rattle.nr_core.specs.declared.places.Place.{Place}
+use Rattle.nr_core.specs.declared.places.Place.TheVariants.{Putting}
+use Rattle.nr_core.specs.declared.places.Retired.{Retired}
+use Rattle.nr_core.specs.declared.roles.Desk.{Desk}
+use Rattle.nr_core.specs.declared.roles.Role.{Role}
+use Rattle.nr_core.specs.declared.roles.Role.TheVariants.{Writer}
+use Rattle.nr_core.specs.declared.shape.Shape.{Shape}
+
+pub puts : (shape : Shape) (words : List ℕ) (roles : List Role) (log : List Entry) (core : Core shape words roles log) (id : ℕ) (desk : Desk) → get_elem? roles id ≡ some (Writer desk) → (call : WriterCall) (rows : List Row) (t e i : ℕ) → desk.place ≡ Putting call rows t e i → i ≤ 2 * length rows
+    → Core shape (set words (content shape t i) (get_or (encode rows) i 0)) (set roles id (Writer (moved_to desk (Putting call rows t e (i + 1))))) (log ++ [])
+puts shape words roles log core id desk is_there call rows t e i is_at low_enough =
+    let desk' = moved_to desk (Putting call rows t e (i + 1)) in let map = map_after shape log in
+    let mine = core.knows id (Writer desk) is_there in let p : Puts shape words map (held roles) call rows t e i = subst (AtPlace shape words map (held roles) desk.fresh desk.retired) is_at mine.place in
+    let near : t < shape.slots = p.inside in let nobody_there : held roles t ≡ 0 = p.nobody in let short = p.wants.row_set.1 in let wide = core.wide in let fits = core.fits.bound in let flat-size = length-row_words rows in let more : i < length (encode rows) = omega arith in
+    let w : ℕ = content shape t i in let x : ℕ = get_or (encode rows) i 0 in let words' = set words w x in let roles' = set roles id (Writer desk') in
+    let once = core.places t near in let part = term_le (keeps t) roles id (Writer desk) is_there in let one = only-same t in
+    let keeps_so : (u : ℕ) → keeps u (Writer desk) ≡ unused u desk.fresh + total (λ (x : Retired). only u x.slot) desk.retired + only u t = λ u. ap (λ (y : Place). unused u desk.fresh + total (λ (x : Retired). only u x.slot) desk.retired + taken u y) is_at in
+    let all_of_it = keeps_so t in
+    let cont : (s j : ℕ) → s ≢ t → j ≤ 2 * shape.bound → get_or words' (content shape s j) 0 ≡ get_or words (content shape s j) 0 = λ s j ne low. get_or-set_other words w (content shape s j) x 0 (λ z. ne (omega arith)) in
+    let dep : (s : ℕ) → get_or words' (departures shape s) 0 ≡ get_or words (departures shape s) 0 = λ s. get_or-set_other words w (departures shape s) x 0 (λ z. omega arith) in
+    let here : get_or words' w 0 ≡ x = get_or-set_same words w x 0 (omega arith) in
+    let still : (s : ℕ) → held roles' s ≡ held roles s = λ s. let t = total-set (holds s) roles id (Writer desk) (Writer desk') is_there in omega arith in
+    let sum : (s : ℕ) → (get_or words' (departures shape s) 0 + held roles' s) % 2 ^ 40 ≡ (get_or words (departures shape s) 0 + held roles s) % 2 ^ 40 = λ s. ap (λ (call : ℕ × ℕ). (call.0 + call.1) % 2 ^ 40) (λ i. (dep s i, still s i)) in
+    let left : (s : ℕ) → s ≢ t → Left shape words words' map map (held roles) (held roles') s = λ s ne. record { contents = λ j low. cont s j ne low; nobody = λ z. still s ∙ z; deps = λ _. dep s; sum = sum s } in
+    let own : AtDesk shape words' map (held roles') desk' = record {
+      place = record {
+        wants = record { near = p.wants.near; row_set = p.wants.row_set; no_hole = p.wants.no_hole; done = p.wants.done; leaves = p.wants.leaves };
+        inside = near;
+        nobody = still t ∙ nobody_there;
+        counted = dep t ∙ p.counted;
+        within = omega arith;
+        put = λ j l. dite (ℕ_discrete j i)
+            (λ z. subst (λ (y : ℕ). get_or words' (content shape t y) 0 ≡ get_or (encode rows) y 0) (sym z) here)
+            (λ ne. get_or-set_other words w (content shape t j) x 0 (λ z. ne (omega arith)) ∙ p.put j (omega arith));
+      };
+      room = mine.room;
+      free = free_more shape words words' map map (held roles) (held roles') desk.fresh (λ s near' from. left s (λ z. let u = unused-free t desk.fresh (omega arith) in omega arith)) mine.free;
+      retired = retired_more shape words words' map map (held roles) (held roles') desk.retired (λ s near' listed. left s (λ z. let l' : 0 < total (λ (x : Retired). only t x.slot) desk.retired = subst (λ (y : ℕ). 0 < total (λ (x : Retired). only y x.slot) desk.retired) z listed in omega arith)) mine.retired;
+    } in
+    off_keys shape words roles log core id (Writer desk) (Writer desk') w x (omega arith) is_there refl refl (λ s _. sym (keeps_so s))
+          (λ s j l low is-named. cont s j (λ z. let n : 0 < named shape words t = subst (λ (y : ℕ). 0 < named shape words y) z is-named in omega arith) low) (λ s _ _. sum s)
+          (no_writer shape words roles log core words' map (held roles') id desk is_there (λ s j taken-by l low. cont s j (λ z. let n : 0 < held roles t = subst (λ (y : ℕ). 0 < held roles y) z taken-by in omega arith) low)) own

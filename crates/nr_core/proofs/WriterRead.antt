@@ -1,0 +1,89 @@
+-- The writer reads a word of the slot that its key names; the last read decides its find or update.
+use Rattle.std.proofs.Common.{List, [], ap, arith, cond, get_or, length, nat_eq, refl, set, subst, suc, sym, take, ℕ, ◌*◌, ◌++◌, ◌+◌, ◌-◌, ◌<◌, ◌∙◌, ◌∷◌, ◌≡◌, ◌≢◌}
+use Rattle.std.proofs.lemmas.Bool.{eqb-false, eqb-true}
+use Rattle.std.proofs.lemmas.List.{length-append, take_all}
+use Rattle.std.specs.Prelude.{Err, Ok, Result}
+use lib.ListN.{get_elem?}
+use lib.Seq.{take-suc}
+use mathlib.Core.Option.{some}
+use Rattle.nr_model.proofs.LawLemmas.{batch_moves_rows_lem}
+use Rattle.nr_model.specs.Batches.{applied}
+use Rattle.nr_model.specs.Histories.{Entry}
+use Rattle.nr_model.specs.Maps.{applied_reply, reply_at, rows_or, state_after, state_of}
+use Rattle.nr_model.specs.Rows.{IsRowSet}
+use Rattle.nr_model.specs.declared.batches.ApplyFault.{ApplyFault}
+use Rattle.nr_model.specs.declared.rows.Row.{Row}
+use Rattle.nr_words.specs.SetWords.{encode}
+use Rattle.nr_core.proofs.Choices.{by_cases}
+use Rattle.nr_core.proofs.Frames.{length-row_words, not_hole}
+use Rattle.nr_core.proofs.Sets.{set_back}
+use Rattle.nr_core.proofs.Settle.{ends, goes_on, idle_desk, settles}
+use Rattle.nr_core.specs.Core.{AtDesk, AtPlace, Core, Reads, ShowsState, held, keeps, taken}
+use Rattle.nr_core.specs.Slots.{SlotSpells, content, name_number, set_of, unused}
+use Rattle.nr_core.specs.States.{key_of}
+use Rattle.nr_core.specs.Story.{call_of, ending, map_after}
+use Rattle.nr_core.specs.Sums.{only, total}
+use Rattle.nr_core.specs.Writer.{decided, moved_to, read_on, renewed}
+use Rattle.nr_core.specs.declared.calls.Step.{Step}
+use Rattle.nr_core.specs.declared.calls.Step.TheVariants.{Going}
+use Rattle.nr_core.specs.declared.calls.WriterCall.{WriterCall}
+use Rattle.nr_core.specs.declared.calls.WriterCall.TheVariants.{Evict, Fill, Find, Update}
+use Rattle.nr_core.specs.declared.places.Place.{Place}
+use Rattle.nr_core.specs.declared.places.Place.TheVariants.{Idle, Reading}
+use Rattle.nr_core.specs.declared.places.Retired.{Retired}
+use Rattle.nr_core.specs.declared.roles.Desk.{Desk}
+use Rattle.nr_core.specs.declared.roles.Role.{Role}
+use Rattle.nr_core.specs.declared.roles.Role.TheVariants.{Writer}
+use Rattle.nr_core.specs.declared.shape.Shape.{Shape}
+use Rattle.nr_model.specs.declared.states.KeyState.TheVariants as key
+use Rattle.nr_model.specs.declared.calls.Call.TheVariants as model
+use Rattle.nr_model.specs.declared.calls.Reply.TheVariants as reply
+
+decide_all : (shape : Shape) (words : List ℕ) (roles : List Role) (log : List Entry) (core : Core shape words roles log) (id : ℕ) (desk : Desk) (is_there : get_elem? roles id ≡ some (Writer desk)) (i : ℕ) (call : WriterCall) (rows : List Row) → key_of call < shape.keys → state_of (map_after shape log) (key_of call) ≡ key.Rows rows → IsRowSet shape.bound rows
+    → ((u : ℕ) → keeps u (Writer (moved_to desk Idle)) ≡ keeps u (Writer desk)) → AtDesk shape words (map_after shape log) (held roles) (moved_to desk Idle)
+    → Core shape (set words i (get_or words i 0)) (set roles id (Writer (decided shape desk call rows).0)) (log ++ ending (call_of call) (decided shape desk call rows).1)
+decide_all shape words roles log core id desk is_there i (Find k) rows near full row_set same idle = ends shape words roles log core id desk is_there i (moved_to desk Idle) (model.Find k) (reply.Rows rows) near (ap (reply_at shape.bound (model.Find k)) full) refl same idle
+decide_all shape words roles log core id desk is_there i (Fill k new) rows near full row_set same idle = goes_on shape words roles log core id desk is_there i (moved_to desk Idle) same idle
+decide_all shape words roles log core id desk is_there i (Evict k) rows near full row_set same idle = goes_on shape words roles log core id desk is_there i (moved_to desk Idle) same idle
+decide_all shape words roles log core id desk is_there i (Update k batch) rows near full row_set same idle = let call = Update k batch in let c = model.Update k batch in let z = state_of (map_after shape log) k in
+    let go : (a : Result (List Row) ApplyFault) → applied shape.bound rows batch ≡ a → Core shape (set words i (get_or words i 0)) (set roles id (Writer (renewed shape desk call a).0)) (log ++ ending c (renewed shape desk call a).1)
+    = λ a. elim a as (λ v. applied shape.bound rows batch ≡ v → Core shape (set words i (get_or words i 0)) (set roles id (Writer (renewed shape desk call v).0)) (log ++ ending c (renewed shape desk call v).1)) [
+      | Ok new ↦ λ is. settles shape words roles log core id desk is_there i call new same (record {
+        near = near;
+        row_set = (batch_moves_rows_lem shape.bound rows new batch row_set.0 is).0;
+        no_hole = not_hole z rows full;
+        done = ap (reply_at shape.bound c) full ∙ ap applied_reply is;
+        leaves = ap (state_after shape.bound c) full ∙ ap (λ (r : Result (List Row) ApplyFault). key.Rows (rows_or r rows)) is;
+      })
+      | Err f ↦ λ is. ends shape words roles log core id desk is_there i (moved_to desk Idle) c (applied_reply (Err f)) near (ap (reply_at shape.bound c) full ∙ ap applied_reply is)
+          (ap (state_after shape.bound c) full ∙ ap (λ (r : Result (List Row) ApplyFault). key.Rows (rows_or r rows)) is ∙ sym full) same idle
+    ] in go (applied shape.bound rows batch) refl
+
+pub reads_on : (shape : Shape) (words : List ℕ) (roles : List Role) (log : List Entry) (core : Core shape words roles log) (id : ℕ) (desk : Desk) → get_elem? roles id ≡ some (Writer desk) → (call : WriterCall) (s : ℕ) (got : List ℕ) → desk.place ≡ Reading call s got
+    → let i = content shape s (length got) in let o = read_on shape desk call s (got ++ get_or words i 0 ∷ []) in
+    Core shape (set words i (get_or words i 0)) (set roles id (Writer o.0)) (log ++ ending (call_of call) o.1)
+reads_on shape words roles log core id desk is_there call s got is_at = let t = core.knows id (Writer desk) is_there in let map = map_after shape log in
+    let i : ℕ = content shape s (length got) in let w : ℕ = get_or words i 0 in let k : ℕ = key_of call in
+    let p : Reads shape words map (held roles) k s got = subst (AtPlace shape words map (held roles) desk.fresh desk.retired) is_at t.place in let rows : List Row = p.rows in let flat-size = length-row_words rows in let more = p.more in
+    let sp : (u : ℕ) × (name_number (get_or words k 0) ≡ suc u) × (u < shape.slots) × SlotSpells shape words u rows = subst (ShowsState shape words (get_or words k 0)) p.full (core.shows k p.near) in
+    let row_set = sp.3.0 in let same_slot : sp.0 ≡ s = let a = sp.1 in let b = p.names in omega arith in
+    let word_is : w ≡ get_or (encode rows) (length got) 0 = subst (λ (u : ℕ). get_or words (content shape u (length got)) 0 ≡ get_or (encode rows) (length got) 0) same_slot (sp.3.1 (length got) (omega arith)) in
+    let got' : List ℕ = got ++ w ∷ [] in
+    let longer : length got' ≡ length got + 1 = length-append got (w ∷ []) in
+    let now_got : got' ≡ take (suc (length got)) (encode rows) = ap (λ (y : ℕ). got ++ y ∷ []) word_is ∙ ap (λ (l : List ℕ). l ++ get_or (encode rows) (length got) 0 ∷ []) p.part ∙ sym (take-suc (encode rows) (length got) 0 (omega arith)) in
+    let first : get_or got' 0 0 ≡ length rows = ap (λ (l : List ℕ). get_or l 0 0) now_got in
+    let keeps_so : (u : ℕ) → keeps u (Writer (moved_to desk Idle)) ≡ keeps u (Writer desk) = λ u. ap (λ (y : Place). unused u desk.fresh + total (λ (x : Retired). only u x.slot) desk.retired + taken u y) (sym is_at) in
+    let idle = idle_desk shape words map (held roles) desk t in
+    let Good : Desk × Step → Type 0 = λ o. Core shape (set words i w) (set roles id (Writer o.0)) (log ++ ending (call_of call) o.1) in
+    by_cases (λ v. Good (cond {A = Desk × Step} v (decided shape desk call (set_of shape.bound got')) (moved_to desk (Reading call s got'), Going))) (nat_eq (length got') (2 * get_or got' 0 0 + 1))
+    (λ yes. let whole : length got' ≡ 2 * get_or got' 0 0 + 1 = eqb-true (length got') (2 * get_or got' 0 0 + 1) yes in
+      let all_got : got' ≡ encode rows = now_got ∙ take_all (suc (length got)) (encode rows) (omega arith) in
+      let the_set : set_of shape.bound got' ≡ rows = ap (set_of shape.bound) all_got ∙ set_back shape.bound rows row_set in
+      subst (λ (l : List Row). Good (decided shape desk call l)) (sym the_set) (decide_all shape words roles log core id desk is_there i call rows p.near p.full row_set keeps_so idle))
+    (λ no. let unfinished : length got' ≢ 2 * get_or got' 0 0 + 1 = eqb-false (length got') (2 * get_or got' 0 0 + 1) no in
+      let same_len : suc (length got) ≡ length got' = omega arith in goes_on shape words roles log core id desk is_there i (moved_to desk (Reading call s got')) keeps_so (record {
+        place = record { near = p.near; names = p.names; rows = rows; full = p.full; part = now_got ∙ ap (λ (n : ℕ). take n (encode rows)) same_len; more = omega arith };
+        room = t.room;
+        free = t.free;
+        retired = t.retired;
+      }))

@@ -1,0 +1,4 @@
+use Rattle.nr_core.proofs.laws.slot_bound.Goals as goal
+
+pub returns : goal.returns
+returns c = ?
