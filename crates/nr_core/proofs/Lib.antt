@@ -23,3 +23,10 @@ pub mod WriterRead
 pub mod Guards
 pub mod Go
 pub mod Seat
+pub mod Shown
+pub mod CoreAfter
+pub mod StateRoles
+pub mod ReaderEvents
+pub mod WriterEvents
+pub mod Opening
+pub mod Events

@@ -1,3 +1,6 @@
+use Rattle.nr_core.proofs.Events.{inv_story}
+use Rattle.nr_core.proofs.Shown.{shown_is}
+use Rattle.nr_core.proofs.StateRoles.{state_sums}
 use Rattle.nr_core.proofs.Go.{goes}
 use Rattle.nr_core.proofs.Seat.{seats}
 use Rattle.nr_core.proofs.Arrive.{arrives}

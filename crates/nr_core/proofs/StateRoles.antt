@@ -1,0 +1,163 @@
+-- The roles of a state's callers: the writer first, then the readers, who know the set that they found beside what they hold.
+use Rattle.std.proofs.Common.{Bool, List, [], ap, append-nil, arith, cond, eq-eqb, get_or, get_or-set_other, get_or-set_same, length, length-set, ne_eqb, refl, set, subst, suc, sym, zero, ℕ, ⊎_elim, ◌++◌, ◌+◌, ◌-◌, ◌<◌, ◌∙◌, ◌∷◌, ◌≡◌, ◌≢◌, ◌⊎◌}
+use Rattle.std.specs.Prelude.{None, Some}
+use lib.ListN.{get_elem?}
+use mathlib.Core.Logic.{dite}
+use mathlib.Core.Option.{some, some-injective}
+use native.Mathlib.Decide.{ℕ_discrete}
+use Rattle.nr_model.specs.Histories.{Entry, entries_of}
+use Rattle.nr_model.specs.declared.calls.Call.{Call}
+use Rattle.nr_model.specs.declared.calls.Reply.{Reply}
+use Rattle.nr_model.specs.declared.rows.Row.{Row}
+use Rattle.nr_core.proofs.Histories.{of-append}
+use Rattle.nr_core.proofs.Sums.{at_set}
+use Rattle.nr_core.specs.Accounts.{on}
+use Rattle.nr_core.specs.Core.{Core, grips, held, holds, keeps}
+use Rattle.nr_core.specs.States.{State}
+use Rattle.nr_core.specs.Story.{call_of, ending, ending_at, entry}
+use Rattle.nr_core.specs.Sums.{total}
+use Rattle.nr_core.specs.declared.calls.Step.{Step}
+use Rattle.nr_core.specs.declared.calls.Step.TheVariants.{Ended, Going}
+use Rattle.nr_core.specs.declared.places.Hold.{Hold}
+use Rattle.nr_core.specs.declared.places.Place.{Place}
+use Rattle.nr_core.specs.declared.places.Place.TheVariants.{Idle, Leaving, Putting, Reading, Searching}
+use Rattle.nr_core.specs.declared.roles.Desk.{Desk}
+use Rattle.nr_core.specs.declared.roles.Grip.{Grip}
+use Rattle.nr_core.specs.declared.roles.Grip.TheVariants.{Nothing, On}
+use Rattle.nr_core.specs.declared.roles.Role.{Role}
+use Rattle.nr_core.specs.declared.roles.Role.TheVariants.{Note, Reader, Writer}
+use Rattle.nr_core.specs.declared.places.Hold.TheVariants as hold
+use Rattle.nr_model.specs.declared.calls.Call.TheVariants as model
+use Rattle.nr_model.specs.declared.calls.Reply.TheVariants as reply
+use Rattle.nr_core.specs.declared.calls.WReply.TheVariants as writer
+
+abbrev pub erased : Grip → Hold
+erased Nothing = hold.Nothing
+erased (On s rows b) = hold.On s (cond b (Some (length rows)) None)
+
+pub record Fit (n : ℕ) (roles : List Role) (holds : List Hold) (desk : Desk) : Type 0 where
+  pub size : length holds ≡ n
+  pub callers : length roles ≡ suc n
+  pub writer : get_elem? roles 0 ≡ some (Writer desk)
+  pub readers : (i : ℕ) → i < n → (x : Grip) × (get_elem? roles (suc i) ≡ some (Reader (suc i) x)) × (get_or holds i hold.Nothing ≡ erased x)
+
+at_other : {A : Type 0} (l : List A) (i j : ℕ) (a : A) → j ≢ i → get_elem? (set l i a) j ≡ get_elem? l j
+at_other [] i j a ne = refl
+at_other (x ∷ xs) zero zero a ne = absurd (ne refl)
+at_other (x ∷ xs) zero (suc j) a ne = refl
+at_other (x ∷ xs) (suc i) zero a ne = refl
+at_other (x ∷ xs) (suc i) (suc j) a ne = at_other xs i j a (λ e. ne (ap suc e))
+
+at_same : {A : Type 0} (l : List A) (i : ℕ) (a : A) → i < length l → get_elem? (set l i a) i ≡ some a
+at_same [] i a low = absurd (omega arith)
+at_same (x ∷ xs) zero a low = refl
+at_same (x ∷ xs) (suc i) a low = at_same xs i a (omega arith)
+
+pub fit_reader : (n : ℕ) (roles : List Role) (holds : List Hold) (desk : Desk) → Fit n roles holds desk → (i : ℕ) → i < n → (x : Grip) (y : Hold) → y ≡ erased x → Fit n (set roles (suc i) (Reader (suc i) x)) (set holds i y) desk
+fit_reader n roles holds desk f i near x y e = let size = f.size in let callers = f.callers in record {
+  size = length-set holds i y ∙ f.size;
+  callers = length-set roles (suc i) (Reader (suc i) x) ∙ f.callers;
+  writer = at_other roles (suc i) 0 (Reader (suc i) x) (λ z. omega arith) ∙ f.writer;
+  readers = λ j low. dite (ℕ_discrete j i)
+      (λ same. (x, subst (λ (m : ℕ). get_elem? (set roles (suc i) (Reader (suc i) x)) (suc m) ≡ some (Reader (suc m) x)) (sym same) (at_same roles (suc i) (Reader (suc i) x) (omega arith)),
+        ap (λ (m : ℕ). get_or (set holds i y) m hold.Nothing) same ∙ get_or-set_same holds i y hold.Nothing (omega arith) ∙ e))
+      (λ ne. let o = f.readers j low in (o.0, at_other roles (suc i) (suc j) (Reader (suc i) x) (λ z. ne (omega arith)) ∙ o.1, get_or-set_other holds i j y hold.Nothing ne ∙ o.2));
+}
+
+pub fit_writer : (n : ℕ) (roles : List Role) (holds : List Hold) (desk desk' : Desk) → Fit n roles holds desk → Fit n (set roles 0 (Writer desk')) holds desk'
+fit_writer n roles holds desk desk' f = let callers = f.callers in record {
+  size = f.size;
+  callers = length-set roles 0 (Writer desk') ∙ f.callers;
+  writer = at_same roles 0 (Writer desk') (omega arith);
+  readers = λ j low. let o = f.readers j low in (o.0, at_other roles 0 (suc j) (Writer desk') (λ z. omega arith) ∙ o.1, o.2);
+}
+
+-- the caller's last call is a find of this set
+abbrev pub Found : List Entry → ℕ → List Row → Type 0
+Found log c rows = (k : ℕ) × (before : List Entry) × (entries_of log c ≡ before ++ entry c (model.Find k) (reply.Rows rows) ∷ [])
+
+abbrev pub AllFound : List Role → List Entry → Type 0
+AllFound roles log = (j s : ℕ) (rows : List Row) (b : Bool) → get_elem? roles (suc j) ≡ some (Reader (suc j) (On s rows b)) → Found log (suc j) rows
+
+pub record Inv (state : State) (log : List Entry) : Type 0 where
+  pub roles : List Role
+  pub core : Core state.shape state.words roles log
+  pub fit : Fit state.shape.readers roles state.holds state.desk
+  pub found : AllFound roles log
+
+pub found_quiet : (log es : List Entry) (c : ℕ) (rows : List Row) → entries_of es c ≡ [] → Found log c rows → Found (log ++ es) c rows
+found_quiet log es c rows none f = (f.0, f.1, of-append c log es ∙ ap (λ (l : List Entry). entries_of log c ++ l) none ∙ append-nil (entries_of log c) ∙ f.2)
+
+abbrev grip_of : Role → Grip
+grip_of (Writer desk) = Nothing
+grip_of (Reader c x) = x
+grip_of Note = Nothing
+
+pub same_grip : (c c' : ℕ) (x x' : Grip) → Reader c x ≡ Reader c' x' → x ≡ x'
+same_grip c c' x x' e = ap grip_of e
+
+abbrev grip_number : Grip → ℕ
+grip_number Nothing = 0
+grip_number (On s rows b) = 1
+
+pub no_grip : (s : ℕ) (rows : List Row) (b : Bool) → Nothing ≡ On s rows b → ⊥
+no_grip s rows b e = let n : grip_number Nothing ≡ grip_number (On s rows b) = ap grip_number e in omega arith
+
+abbrev grip_rows : Grip → List Row
+grip_rows Nothing = []
+grip_rows (On s rows b) = rows
+
+pub same_rows : (s t : ℕ) (rows m : List Row) (b b' : Bool) → On s rows b ≡ On t m b' → rows ≡ m
+same_rows s t rows m b b' e = ap grip_rows e
+
+-- a role that changes at one place
+pub found_set : (roles : List Role) (log es : List Entry) (i : ℕ) (x : Grip) → AllFound roles log → ((j : ℕ) → j ≢ i → entries_of es (suc j) ≡ []) → ((s : ℕ) (rows : List Row) (b : Bool) → x ≡ On s rows b → Found (log ++ es) (suc i) rows)
+    → AllFound (set roles (suc i) (Reader (suc i) x)) (log ++ es)
+found_set roles log es i x all quiet own j s rows b e = ⊎_elim {A = (suc j ≡ suc i) × (Reader (suc i) x ≡ Reader (suc j) (On s rows b))} {B = (suc j ≢ suc i) × (get_elem? roles (suc j) ≡ some (Reader (suc j) (On s rows b)))}
+    (λ t. let is : i ≡ j = omega (arith, t.0) in subst (λ (n : ℕ). Found (log ++ es) (suc n) rows) is (own s rows b (same_grip (suc i) (suc j) x (On s rows b) t.1)))
+    (λ t. found_quiet log es (suc j) rows (quiet j (λ z. t.0 (ap suc z))) (all j s rows b t.1))
+    (at_set roles (suc i) (suc j) (Reader (suc i) x) (Reader (suc j) (On s rows b)) e)
+
+pub found_writer : (roles : List Role) (log es : List Entry) (desk : Desk) → AllFound roles log → ((j : ℕ) → entries_of es (suc j) ≡ []) → AllFound (set roles 0 (Writer desk)) (log ++ es)
+found_writer roles log es desk all quiet j s rows b e = found_quiet log es (suc j) rows (quiet j) (all j s rows b (sym (at_other roles 0 (suc j) (Writer desk) (λ z. omega arith)) ∙ e))
+
+pub one_other : (c n : ℕ) (call : Call) (y : Reply) → c ≢ n → entries_of (entry c call y ∷ []) n ≡ []
+one_other c n call y ne = ap (λ b. cond {A = List Entry} b (entry c call y ∷ []) []) (ne_eqb c n ne)
+
+pub one_same : (c n : ℕ) (call : Call) (y : Reply) → c ≡ n → entries_of (entry c call y ∷ []) n ≡ entry c call y ∷ []
+one_same c n call y e = ap (λ b. cond {A = List Entry} b (entry c call y ∷ []) []) (eq-eqb c n e)
+
+pub ending_other : (call : Call) (state : Step) (j : ℕ) → entries_of (ending call state) (suc j) ≡ []
+ending_other call Going j = refl
+ending_other call (Ended (writer.Reply y)) j = one_other 0 (suc j) call y (λ z. omega arith)
+ending_other call (Ended (writer.NoSlot n)) j = refl
+
+pub ending_at_other : (p : Place) (state : Step) (j : ℕ) → entries_of (ending_at p state) (suc j) ≡ []
+ending_at_other Idle s j = refl
+ending_at_other (Reading call t got) s j = ending_other (call_of call) s j
+ending_at_other (Leaving k) s j = ending_other (model.Evict k) s j
+ending_at_other (Searching call rows p) s j = ending_other (call_of call) s j
+ending_at_other (Putting call rows t departed i) s j = ending_other (call_of call) s j
+
+weights : (s : ℕ) (rest : List Role) (l : List Hold) (i : ℕ) → length rest ≡ length l → ((j : ℕ) → j < length l → (x : Grip) × (get_elem? rest j ≡ some (Reader (suc (i + j)) x)) × (get_or l j hold.Nothing ≡ erased x))
+    → (total (holds s) rest ≡ total (on s) l) × (total (keeps s) rest ≡ 0)
+weights s [] [] i size at_each = (refl, refl)
+weights s [] (y ∷ l) i size at_each = absurd (omega arith)
+weights s (u ∷ rest) [] i size at_each = absurd (omega arith)
+weights s (u ∷ rest) (y ∷ l) i size at_each = let o = at_each 0 (omega arith) in let role : u ≡ Reader (suc (i + 0)) o.0 = some-injective u (Reader (suc (i + 0)) o.0) o.1 in
+    let more = weights s rest l (suc i) (omega arith) (λ j low. let p = at_each (suc j) (omega arith) in (p.0, p.1 ∙ ap (λ (c : ℕ). some (Reader (suc c) p.0)) (omega arith), p.2)) in
+    (omega (arith, more.0, ap (holds s) role, ap (on s) o.2, same_weight o.0), omega (arith, more.1, ap (keeps s) role))
+    where
+      same_weight : (x : Grip) → grips s x ≡ on s (erased x)
+      same_weight Nothing = refl
+      same_weight (On t rows b) = refl
+
+pub state_sums : (state : State) (roles : List Role) → Fit state.shape.readers roles state.holds state.desk → (s : ℕ) → (held roles s ≡ total (on s) state.holds) × (total (keeps s) roles ≡ keeps s (Writer state.desk))
+state_sums state roles f s = go roles f.callers f.writer f.readers
+    where
+      go : (l : List Role) → length l ≡ suc state.shape.readers → get_elem? l 0 ≡ some (Writer state.desk) → ((i : ℕ) → i < state.shape.readers → (x : Grip) × (get_elem? l (suc i) ≡ some (Reader (suc i) x)) × (get_or state.holds i hold.Nothing ≡ erased x))
+          → (held l s ≡ total (on s) state.holds) × (total (keeps s) l ≡ keeps s (Writer state.desk))
+      go [] size w r = absurd (omega arith)
+      go (u ∷ rest) size w r = let size' = f.size in let role : u ≡ Writer state.desk = some-injective u (Writer state.desk) w in
+          let t = weights s rest state.holds 0 (omega arith) (λ j low. let o = r j (omega arith) in (o.0, o.1 ∙ ap (λ (c : ℕ). some (Reader (suc c) o.0)) (omega arith), o.2)) in
+          (omega (arith, t.0, ap (holds s) role), omega (arith, t.1, ap (keeps s) role))
