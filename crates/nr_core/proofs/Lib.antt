@@ -30,3 +30,7 @@ pub mod ReaderEvents
 pub mod WriterEvents
 pub mod Opening
 pub mod Events
+pub mod Bound
+pub mod Sweeps
+pub mod Stands
+pub mod Follows

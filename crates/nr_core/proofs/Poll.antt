@@ -1,5 +1,5 @@
 -- A poll of a retired slot: the slot is taken where nobody holds it, else the call polls the next, or ends with no slot.
-use Rattle.std.proofs.Common.{List, [], ap, arith, cond, drop, get_or, length, nat_eq, refl, set, subst, suc, sym, take, zero, ℕ, ◌%◌, ◌++◌, ◌+◌, ◌-◌, ◌<◌, ◌^◌, ◌∷◌, ◌≡◌, ◌≤◌}
+use Rattle.std.proofs.Common.{List, ap, arith, cond, drop, get_or, length, nat_eq, refl, set, subst, suc, sym, take, ℕ, ◌%◌, ◌++◌, ◌+◌, ◌-◌, ◌^◌, ◌≡◌, ◌≤◌}
 use Rattle.std.proofs.lemmas.Bool.{eqb-true, ltb-true}
 use Rattle.std.specs.Prelude.{nat_lt}
 use lib.ListN.{get_elem?}
@@ -8,7 +8,7 @@ use Rattle.nr_model.specs.Histories.{Entry}
 use Rattle.nr_model.specs.declared.rows.Row.{Row}
 use Rattle.nr_core.proofs.Choices.{by_cases}
 use Rattle.nr_core.proofs.Settle.{goes_on, idle_desk}
-use Rattle.nr_core.proofs.Sums.{at_remove, only-le, total-le, total-remove}
+use Rattle.nr_core.proofs.Sums.{at_remove, got_at, only-le, total-le, total-remove}
 use Rattle.nr_core.specs.Core.{AtPlace, Core, held, holds, is_reader, keeps, taken}
 use Rattle.nr_core.specs.Slots.{departures, unused}
 use Rattle.nr_core.specs.States.{no_retired, retired_at}
@@ -33,18 +33,13 @@ holds-le s (Reader r Nothing) = omega arith
 holds-le s (Reader r (On t m b)) = only-le s t
 holds-le s Note = omega arith
 
-there : (l : List Retired) (p : ℕ) (z : Retired) → p < length l → get_elem? l p ≡ some (get_or l p z)
-there [] p z low = absurd (omega arith)
-there (x ∷ xs) zero z low = refl
-there (x ∷ xs) (suc p) z low = there xs p z (omega arith)
-
 pub polls : (shape : Shape) (words : List ℕ) (roles : List Role) (log : List Entry) (core : Core shape words roles log) (id : ℕ) (desk : Desk) → get_elem? roles id ≡ some (Writer desk) → (call : WriterCall) (rows : List Row) (p : ℕ) → desk.place ≡ Searching call rows p
     → let i = departures shape (retired_at desk p).slot in
     Core shape (set words i (get_or words i 0)) (set roles id (Writer (polled shape desk call rows p (get_or words i 0)).0)) (log ++ ending (call_of call) (polled shape desk call rows p (get_or words i 0)).1)
 polls shape words roles log core id desk is_there call rows p is_at = let t = core.knows id (Writer desk) is_there in let map = map_after shape log in
     let z : Retired = retired_at desk p in let s : ℕ = z.slot in let i : ℕ = departures shape s in let w : ℕ = get_or words i 0 in
     let at_p : AtPlace shape words map (held roles) desk.fresh desk.retired (Searching call rows p) = subst (AtPlace shape words map (held roles) desk.fresh desk.retired) is_at t.place in
-    let here : get_elem? desk.retired p ≡ some z = there desk.retired p no_retired at_p.1 in let r = t.retired p z here in let count = r.1 in
+    let here : get_elem? desk.retired p ≡ some z = got_at desk.retired p no_retired at_p.1 in let r = t.retired p z here in let count = r.1 in
     let few = core.few in let fits = core.fits.readers in let at-most = total-le (holds s) is_reader (holds-le s) roles in
     let keeps_so : (u : ℕ) → keeps u (Writer desk) ≡ unused u desk.fresh + total (λ (x : Retired). only u x.slot) desk.retired + 0 = λ u. ap (λ (y : Place). unused u desk.fresh + total (λ (x : Retired). only u x.slot) desk.retired + taken u y) is_at in
     let Taken : Desk = record { place = Putting call rows s w 0; fresh = desk.fresh; retired = take p desk.retired ++ drop (suc p) desk.retired } in

@@ -1,5 +1,5 @@
 -- Sums over lists that change at one place, and over the numbers below one.
-use Rattle.std.proofs.Common.{List, [], ap, arith, cond, drop, eq-eqb, inl, inr, ne_eqb, refl, set, suc, sym, take, zero, ℕ, ⊎_elim, ◌++◌, ◌+◌, ◌-◌, ◌<◌, ◌∷◌, ◌≡◌, ◌≢◌, ◌≤◌, ◌⊎◌}
+use Rattle.std.proofs.Common.{List, [], ap, arith, cond, drop, eq-eqb, get_or, inl, inr, length, ne_eqb, refl, set, suc, sym, take, zero, ℕ, ⊎_elim, ◌++◌, ◌+◌, ◌-◌, ◌<◌, ◌∷◌, ◌≡◌, ◌≢◌, ◌≤◌, ◌⊎◌}
 use lib.ListN.{get_elem?}
 use mathlib.Core.Logic.{dite}
 use mathlib.Core.Option.{some, some-injective, some-ne-none}
@@ -107,3 +107,9 @@ module _ {A : Type 0} where
   pub some_term : (g : A → ℕ) (l : List A) → 0 < total g l → (j : ℕ) × (a : A) × (get_elem? l j ≡ some a) × (0 < g a)
   some_term g [] h = absurd (omega arith)
   some_term g (x ∷ xs) h = dite (ℕ_discrete (g x) 0) (λ z. let t = some_term g xs (omega arith) in (suc t.0, t.1, t.2, t.3)) (λ nz. (zero, x, refl, omega arith))
+
+  -- an element within a list is found there
+  pub got_at : (l : List A) (i : ℕ) (z : A) → i < length l → get_elem? l i ≡ some (get_or l i z)
+  got_at [] i z low = absurd (omega arith)
+  got_at (x ∷ xs) zero z low = refl
+  got_at (x ∷ xs) (suc i) z low = got_at xs i z (omega arith)

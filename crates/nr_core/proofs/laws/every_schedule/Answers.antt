@@ -1,3 +1,6 @@
+use Rattle.nr_core.proofs.Stands.{stands}
+use Rattle.nr_core.proofs.Follows.{follows}
+use Rattle.nr_core.proofs.Sweeps.{swept_event}
 use Rattle.nr_core.proofs.Events.{inv_story}
 use Rattle.nr_core.proofs.Shown.{shown_is}
 use Rattle.nr_core.proofs.StateRoles.{state_sums}

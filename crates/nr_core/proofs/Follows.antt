@@ -1,0 +1,82 @@
+-- What one event more does: one operation on one word, never a put into a held slot, and entries of its own caller.
+use Rattle.std.proofs.Common.{List, [], ap, append-nil, arith, cond, get_or, get_or-set_other, length, nat_eq, refl, subst, ℕ, ◌*◌, ◌++◌, ◌+◌, ◌-◌, ◌<◌, ◌∙◌, ◌≡◌, ◌≢◌, ◌≤◌}
+use Rattle.std.proofs.lemmas.Bool.{leb-true, ltb-true}
+use Rattle.std.specs.Prelude.{None, Option, Some, nat_le, ◌&&◌}
+use Rattle.nr_model.specs.Histories.{Entry, entries_of}
+use Rattle.nr_words.specs.SetWords.{encode}
+use Rattle.nr_core.proofs.Choices.{by_cases}
+use Rattle.nr_core.proofs.Go.{own_ending_at}
+use Rattle.nr_core.proofs.Guards.{both, guard}
+use Rattle.nr_core.proofs.Histories.{of-append}
+use Rattle.nr_core.proofs.OffKeys.{none_of}
+use Rattle.nr_core.proofs.Poll.{polls}
+use Rattle.nr_core.proofs.Settle.{own_ending}
+use Rattle.nr_core.proofs.Stands.{holder}
+use Rattle.nr_core.proofs.StateRoles.{Inv}
+use Rattle.nr_core.specs.Core.{AtDesk, AtPlace, held}
+use Rattle.nr_core.specs.Laws.{EndsWithout, Follows, IsJustified, caller_of}
+use Rattle.nr_core.specs.Machine.{found_by, moved, unless}
+use Rattle.nr_core.specs.Operations.{Load, Operation, Store, Swap, becomes, going, operation, place_of}
+use Rattle.nr_core.specs.Refusals.{has_key, has_reader, if_holding, refusal}
+use Rattle.nr_core.specs.Slots.{content, naming, slot_room}
+use Rattle.nr_core.specs.States.{Arrive, Ask, Depart, Event, Go, Read, Start, State, hold_of, key_of}
+use Rattle.nr_core.specs.Story.{Story, call_of, map_after, polls_after, told}
+use Rattle.nr_core.specs.Writer.{looked, went}
+use Rattle.nr_core.specs.declared.calls.NoSlot.{NoSlot}
+use Rattle.nr_core.specs.declared.calls.Refusal.{Refusal}
+use Rattle.nr_core.specs.declared.places.Place.{Place}
+use Rattle.nr_core.specs.declared.places.Place.TheVariants.{Idle, Leaving, Putting, Reading, Searching}
+use Rattle.nr_core.specs.declared.roles.Role.TheVariants.{Writer}
+use Rattle.nr_core.specs.declared.calls.Refusal.TheVariants as refuse
+
+told_by : (state : State) (event : Event) (c : ℕ) → entries_of (told state event) c ≡ cond (nat_eq (caller_of event) c) (told state event) []
+told_by state (Arrive r k) c = refl
+told_by state (Read r i) c = none_of (nat_eq r c)
+told_by state (Depart r) c = none_of (nat_eq r c)
+told_by state (Ask r k) c = refl
+told_by state (Start call) c = own_ending (call_of call) (looked state.shape state.desk call (found_by state (Start call))).1 c
+told_by state Go c = own_ending_at state.desk.place (went state.shape state.desk state.desk.place (found_by state Go)).1 c
+
+-- an operation on a content word of a held slot is a load
+held_untouched : (state : State) (log : List Entry) (event : Event) (inv : Inv state log) → refusal state event ≡ None → (s i : ℕ) → (0 < held inv.roles s) × (s < state.shape.slots) → i < slot_room → place_of (operation state event) ≡ content state.shape s i → operation state event ≡ Load (content state.shape s i)
+held_untouched state log (Arrive r k) inv ok s i held_so low here = let shape = state.shape in
+    let g = guard (has_reader shape r && has_key shape k) (if_holding (hold_of state r)) refuse.OutOfRange ok in let b = both (has_reader shape r) (has_key shape k) g.0 in let near : k < shape.keys = ltb-true k shape.keys b.1 in absurd (omega arith)
+held_untouched state log (Ask r k) inv ok s i held_so low here = let shape = state.shape in
+    let g = guard (has_reader shape r && has_key shape k) (if_holding (hold_of state r)) refuse.OutOfRange ok in let b = both (has_reader shape r) (has_key shape k) g.0 in let near : k < shape.keys = ltb-true k shape.keys b.1 in absurd (omega arith)
+held_untouched state log (Read r p) inv ok s i held_so low here = ap Load here
+held_untouched state log (Start call) inv ok s i held_so low here = ap Load here
+held_untouched state log (Depart r) inv ok s i held_so low here = absurd (omega arith)
+held_untouched state log Go inv ok s i held_so low here = go state.desk.place refl here
+    where
+      mine : AtDesk state.shape state.words (map_after state.shape log) (held inv.roles) state.desk
+      mine = inv.core.knows 0 (Writer state.desk) inv.fit.writer
+      at_place : (p : Place) → state.desk.place ≡ p → AtPlace state.shape state.words (map_after state.shape log) (held inv.roles) state.desk.fresh state.desk.retired p
+      at_place p is = subst (AtPlace state.shape state.words (map_after state.shape log) (held inv.roles) state.desk.fresh state.desk.retired) is mine.place
+      go : (p : Place) → state.desk.place ≡ p → place_of (going state.shape state.desk p) ≡ content state.shape s i → going state.shape state.desk p ≡ Load (content state.shape s i)
+      go Idle is e = ap Load e
+      go (Reading call t got) is e = ap Load e
+      go (Leaving k) is e = let near = (at_place (Leaving k) is).1.near in absurd (omega arith)
+      go (Searching call rows p) is e = ap Load e
+      go (Putting call rows t departed j) is e = let p = at_place (Putting call rows t departed j) is in let near = p.wants.near in let short = p.wants.row_set.1 in let fits = inv.core.fits.bound in let free = p.nobody in let some_there = held_so.0 in
+          by_cases (λ v. let o = cond {A = Operation} v (Store (content state.shape t j) (get_or (encode rows) j 0)) (Swap (key_of call) (naming t departed)) in place_of o ≡ content state.shape s i → o ≡ Load (content state.shape s i)) (nat_le j (2 * length rows))
+          (λ yes e. let l : j ≤ 2 * length rows = leb-true j (2 * length rows) yes in let same_slot : s ≡ t = omega arith in let zero_there : held inv.roles s ≡ 0 = ap (held inv.roles) same_slot ∙ free in absurd (omega arith))
+          (λ no e. absurd (omega arith)) e
+
+pub follows : (story : Story) (event : Event) → Inv story.state story.history → ((counts : NoSlot) → EndsWithout story.state event counts → IsJustified story event counts) → Follows story event
+follows story event inv justified = record {
+  one_word = λ place ne. one_of (refusal story.state event) place ne;
+  refused = λ why. stays (refusal story.state event) why;
+  untouched = λ ok r s i n low is low_i here. held_untouched story.state story.history event inv ok s i (holder story inv r s n low is) low_i here;
+  own = λ c. of-append c story.history (unless (refusal story.state event) [] (told story.state event)) ∙ ap (λ (l : List Entry). entries_of story.history c ++ l) (mine (refusal story.state event) c);
+  justified = justified;
+}
+    where
+      one_of : (o : Option Refusal) (place : ℕ) → place ≢ place_of (operation story.state event) → get_or (unless o story.state (moved story.state event)).words place 0 ≡ get_or story.state.words place 0
+      one_of None place ne = get_or-set_other story.state.words (place_of (operation story.state event)) place (becomes (operation story.state event) (found_by story.state event)) 0 ne
+      one_of (Some why) place ne = refl
+      stays : (o : Option Refusal) → o ≢ None → record { state = unless o story.state (moved story.state event); history = story.history ++ unless o [] (told story.state event); polls = unless o story.polls (polls_after story.state story.polls event) } ≡ story
+      stays None ne = absurd (ne refl)
+      stays (Some why) ne = ap (λ (l : List Entry). record story { history = l }) (append-nil story.history)
+      mine : (o : Option Refusal) (c : ℕ) → entries_of (unless o [] (told story.state event)) c ≡ cond (nat_eq (caller_of event) c) (unless o [] (told story.state event)) []
+      mine None c = told_by story.state event c
+      mine (Some why) c = none_of (nat_eq (caller_of event) c)

@@ -1,0 +1,120 @@
+-- What the core state of a story says in the words of the law: what stands between any two steps.
+use Rattle.std.proofs.Common.{Bool, List, [], ap, arith, cond, false, get_or, inl, inr, length, map, nat_eq, refl, subst, suc, sym, true, zero, ℕ, ⊎_elim, ◌%◌, ◌*◌, ◌+◌, ◌-◌, ◌<◌, ◌^◌, ◌∙◌, ◌∷◌, ◌≡◌, ◌≤◌, ◌⊎◌}
+use Rattle.std.proofs.lemmas.Bool.{eqb-true, leb-true, lt-leb}
+use Rattle.std.specs.Prelude.{None, Ok, Option, Some, nat_le}
+use lib.ListN.{get_elem?}
+use mathlib.Core.Logic.{dite}
+use mathlib.Core.Option.{some}
+use native.Mathlib.Decide.{dec_le}
+use Rattle.nr_model.proofs.HistoryLemmas.{sends_are_filled_lem}
+use Rattle.nr_model.specs.Maps.{PartialMap}
+use Rattle.nr_model.specs.declared.rows.Row.{Row}
+use Rattle.nr_words.specs.SetWords.{encode}
+use Rattle.nr_core.proofs.Frames.{length-row_words}
+use Rattle.nr_core.proofs.Guards.{guard}
+use Rattle.nr_core.proofs.Read.{reads}
+use Rattle.nr_core.proofs.Shown.{shown_is}
+use Rattle.nr_core.proofs.StateRoles.{Found, Inv, erased, state_sums}
+use Rattle.nr_core.proofs.Sums.{got_at, only-is, only-same, term_le}
+use Rattle.nr_core.specs.Core.{AtPlace, held, holds, taken}
+use Rattle.nr_core.specs.Laws.{HoldsFound, Stands, map_of}
+use Rattle.nr_core.specs.Machine.{answer, found_by, read_answer}
+use Rattle.nr_core.specs.Refusals.{has_reader, if_beyond, if_unreadable, refusal}
+use Rattle.nr_core.specs.Slots.{content, departures, unused}
+use Rattle.nr_core.specs.States.{Read, State, hold_of, no_retired, slot_in}
+use Rattle.nr_core.specs.Story.{Story}
+use Rattle.nr_core.specs.declared.calls.Refusal.{Refusal}
+use Rattle.nr_core.specs.declared.places.Hold.{Hold}
+use Rattle.nr_core.specs.declared.places.Place.{Place}
+use Rattle.nr_core.specs.declared.places.Place.TheVariants.{Idle, Leaving, Putting, Reading, Searching}
+use Rattle.nr_core.specs.declared.places.Retired.{Retired}
+use Rattle.nr_core.specs.declared.roles.Grip.{Grip}
+use Rattle.nr_core.specs.declared.roles.Grip.TheVariants.{Nothing, On}
+use Rattle.nr_core.specs.declared.roles.Role.TheVariants.{Reader, Writer}
+use Rattle.nr_core.specs.declared.shape.Shape.{Shape}
+use Rattle.nr_core.specs.declared.places.Hold.TheVariants as hold
+use Rattle.nr_core.specs.declared.calls.Refusal.TheVariants as refuse
+
+taken_nobody : (shape : Shape) (words : List ℕ) (map : PartialMap) (hold : ℕ → ℕ) (fresh : ℕ) (l : List Retired) (s : ℕ) (p : Place) → AtPlace shape words map hold fresh l p → 0 < taken s p → hold s ≡ 0
+taken_nobody shape words map hold fresh l s Idle t mine = absurd (omega arith)
+taken_nobody shape words map hold fresh l s (Reading call u got) t mine = absurd (omega arith)
+taken_nobody shape words map hold fresh l s (Leaving k) t mine = absurd (omega arith)
+taken_nobody shape words map hold fresh l s (Searching call rows p) t mine = absurd (omega arith)
+taken_nobody shape words map hold fresh l s (Putting call rows u departed i) t mine = ap hold (sym (only-is s u mine)) ∙ t.nobody
+
+abbrev hold_number : Hold → ℕ
+hold_number hold.Nothing = 0
+hold_number (hold.On s n) = suc s
+
+abbrev hold_rows : Hold → Option ℕ
+hold_rows hold.Nothing = None
+hold_rows (hold.On s n) = n
+
+beyond : (l : List Hold) (i : ℕ) → length l ≤ i → get_or l i hold.Nothing ≡ hold.Nothing
+beyond [] i out = refl
+beyond (x ∷ l) zero out = absurd (omega arith)
+beyond (x ∷ l) (suc i) out = beyond l i (omega arith)
+
+erased_is : (x : Grip) (s : ℕ) (n : Option ℕ) → erased x ≡ hold.On s n → (rows : List Row) × (b : Bool) × (x ≡ On s rows b) × ((n ≡ None) ⊎ (n ≡ Some (length rows)))
+erased_is Nothing s n e = let z : 0 ≡ suc s = ap hold_number e in absurd (omega arith)
+erased_is (On t rows b) s n e = let z : suc t ≡ suc s = ap hold_number e in let same : t ≡ s = omega arith in
+    (rows, b, ap (λ (u : ℕ). On u rows b) same, known b (sym (ap hold_rows e)))
+    where
+      known : (b : Bool) → n ≡ cond b (Some (length rows)) None → (n ≡ None) ⊎ (n ≡ Some (length rows))
+      known true e = inr e
+      known false e = inl e
+
+-- an index that is not beyond the set is within its words
+within_words : (index : ℕ) (size : Option ℕ) (rows : List Row) → (size ≡ None) ⊎ (size ≡ Some (length rows)) → if_beyond index size ≡ None → index < length (encode rows)
+within_words index size rows known ok = ⊎_elim {A = size ≡ None} {B = size ≡ Some (length rows)}
+    (λ unread. let g = guard (nat_eq index 0) None refuse.OutOfRange (ap (if_beyond index) (sym unread) ∙ ok) in let zero_is : index ≡ 0 = eqb-true index 0 g.0 in omega arith)
+    (λ read. let g = guard (nat_le index (2 * length rows)) None refuse.OutOfRange (ap (if_beyond index) (sym read) ∙ ok) in let low : index ≤ 2 * length rows = leb-true index (2 * length rows) g.0 in let size_of = length-row_words rows in omega arith)
+    known
+
+-- a read that is not refused gives the word of the set at the index
+reads_word : (state : State) (reader slot : ℕ) (size : Option ℕ) (rows : List Row) (index : ℕ) → hold_of state reader ≡ hold.On slot size → (size ≡ None) ⊎ (size ≡ Some (length rows))
+    → ((i : ℕ) → i < length (encode rows) → get_or state.words (content state.shape slot i) 0 ≡ get_or (encode rows) i 0)
+    → refusal state (Read reader index) ≡ None → read_answer state reader index ≡ Ok (get_or (encode rows) index 0)
+reads_word state reader slot size rows index holds_it known spelt ok =
+    let g = guard (has_reader state.shape reader) (if_unreadable index (hold_of state reader)) refuse.OutOfRange ok in
+    let low = within_words index size rows known (ap (if_unreadable index) (sym holds_it) ∙ g.1) in
+    ap (λ (o : Option Refusal). answer o (found_by state (Read reader index))) ok
+    ∙ ap (λ (y : Hold). Ok (get_or state.words (content state.shape (slot_in y) index) 0)) holds_it
+    ∙ ap (λ (w : ℕ). Ok w) (spelt index low)
+
+pub holding : (story : Story) → Inv story.state story.history → (r s : ℕ) (n : Option ℕ) → 0 < r → hold_of story.state r ≡ hold.On s n → HoldsFound story r s n
+holding story inv r s n low e = let state = story.state in let size = inv.fit.size in let i : ℕ = r - 1 in let number : suc i ≡ r = omega arith in
+    let within : i < state.shape.readers = dite (dec_le state.shape.readers i) (λ l. let z : 0 ≡ suc s = ap hold_number (sym (beyond state.holds i (omega arith)) ∙ e) in absurd (omega arith)) (λ l. omega arith) in
+    let o = inv.fit.readers i within in let x = erased_is o.0 s n (sym o.2 ∙ e) in let there_is : get_elem? inv.roles (suc i) ≡ some (Reader (suc i) (On s x.0 x.1)) = o.1 ∙ ap (λ (g : Grip). some (Reader (suc i) g)) x.2 in
+    let knows = inv.core.knows (suc i) (Reader (suc i) (On s x.0 x.1)) there_is in let found_it : Found story.history r x.0 = subst (λ (c : ℕ). Found story.history c x.0) number (inv.found i s x.0 x.1 there_is) in record {
+      at = found_it.0;
+      rows = x.0;
+      before = found_it.1;
+      found = found_it.2;
+      row_set = knows.1.0;
+      spelt = knows.1.1;
+      known = x.3;
+      reads = λ index ok. reads_word state r s n x.0 index e x.3 knows.1.1 ok;
+    }
+
+-- a reader that holds a slot is counted, and its slot is in range
+pub holder : (story : Story) (inv : Inv story.state story.history) → (r s : ℕ) (n : Option ℕ) → 0 < r → hold_of story.state r ≡ hold.On s n → (0 < held inv.roles s) × (s < story.state.shape.slots)
+holder story inv r s n low e = let state = story.state in let size = inv.fit.size in let i : ℕ = r - 1 in
+    let within : i < state.shape.readers = dite (dec_le state.shape.readers i) (λ l. let z : 0 ≡ suc s = ap hold_number (sym (beyond state.holds i (omega arith)) ∙ e) in absurd (omega arith)) (λ l. omega arith) in
+    let o = inv.fit.readers i within in let x = erased_is o.0 s n (sym o.2 ∙ e) in let there_is : get_elem? inv.roles (suc i) ≡ some (Reader (suc i) (On s x.0 x.1)) = o.1 ∙ ap (λ (g : Grip). some (Reader (suc i) g)) x.2 in
+    let part = term_le (holds s) inv.roles (suc i) (Reader (suc i) (On s x.0 x.1)) there_is in let one = only-same s in (omega arith, (inv.core.knows (suc i) (Reader (suc i) (On s x.0 x.1)) there_is).0)
+
+pub stands : (story : Story) → Inv story.state story.history → Stands story
+stands story inv = let state = story.state in let shape = state.shape in let core = inv.core in let roles = inv.roles in let sums = state_sums state roles inv.fit in let desk = core.knows 0 (Writer state.desk) inv.fit.writer in record {
+  legal = core.legal;
+  shows = shown_is state roles story.history core;
+  accounted = record {
+    placed = λ s near. omega (arith, core.places s near, (sums s).1);
+    named_count = λ k s near e. core.counts k s near e ∙ ap (λ (n : ℕ). (get_or state.words (departures shape s) 0 + n) % 2 ^ 40) (sums s).0;
+    retired_count = λ i low. let x = get_or state.desk.retired i no_retired in (desk.retired i x (got_at state.desk.retired i no_retired low)).1 ∙ ap (λ (n : ℕ). (get_or state.words (departures shape x.slot) 0 + n) % 2 ^ 40) (sums x.slot).0;
+    unheld = λ s near mine. sym (sums s).0 ∙ dite (dec_le state.desk.fresh s) (λ l. (desk.free s l near).0)
+        (λ l. let u : unused s state.desk.fresh ≡ 0 = ap (λ b. cond {A = ℕ} b 1 0) (lt-leb state.desk.fresh s (omega arith)) in taken_nobody shape state.words (map_of story) (held roles) state.desk.fresh state.desk.retired s state.desk.place desk.place (omega arith));
+  };
+  held = λ r s n low e. holding story inv r s n low e;
+  sent = λ k near. sends_are_filled_lem shape.keys shape.bound k story.history core.legal near;
+}
