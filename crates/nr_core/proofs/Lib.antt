@@ -34,3 +34,6 @@ pub mod Bound
 pub mod Sweeps
 pub mod Stands
 pub mod Follows
+pub mod Counting
+pub mod Runs
+pub mod Reach

@@ -1,5 +1,5 @@
 -- Sums over lists that change at one place, and over the numbers below one.
-use Rattle.std.proofs.Common.{List, [], ap, arith, cond, drop, eq-eqb, get_or, inl, inr, length, ne_eqb, refl, set, suc, sym, take, zero, ℕ, ⊎_elim, ◌++◌, ◌+◌, ◌-◌, ◌<◌, ◌∷◌, ◌≡◌, ◌≢◌, ◌≤◌, ◌⊎◌}
+use Rattle.std.proofs.Common.{List, [], ap, arith, cond, drop, eq-eqb, get_or, inl, inr, length, ne_eqb, refl, set, suc, sym, take, zero, ℕ, ⊎_elim, ◌++◌, ◌+◌, ◌-◌, ◌<◌, ◌∙◌, ◌∷◌, ◌≡◌, ◌≢◌, ◌≤◌, ◌⊎◌}
 use lib.ListN.{get_elem?}
 use mathlib.Core.Logic.{dite}
 use mathlib.Core.Option.{some, some-injective, some-ne-none}
@@ -63,6 +63,13 @@ only-le k x = dite (ℕ_discrete x k) (λ e. omega (arith, ap (only k) e, only-s
 -- a slot that is counted is that slot
 pub only-is : (k x : ℕ) → 0 < only k x → x ≡ k
 only-is k x h = dite (ℕ_discrete x k) (λ e. e) (λ ne. absurd (omega (arith, only-other k x ne)))
+
+pub only-suc : (s t : ℕ) → only (suc s) (suc t) ≡ only s t
+only-suc s t = dite (ℕ_discrete t s) (λ e. ap (λ b. cond {A = ℕ} b 1 0) (eq-eqb (suc t) (suc s) (ap suc e)) ∙ sym (ap (λ b. cond {A = ℕ} b 1 0) (eq-eqb t s e)))
+    (λ ne. only-other (suc s) (suc t) (λ e. ne (omega arith)) ∙ sym (only-other s t ne))
+
+pub only-zero : (s : ℕ) → only (suc s) 0 ≡ 0
+only-zero s = only-other (suc s) 0 (λ e. omega arith)
 
 pub below-same : (f g : ℕ → ℕ) (n : ℕ) → ((k : ℕ) → k < n → f k ≡ g k) → below f n ≡ below g n
 below-same f g zero h = refl

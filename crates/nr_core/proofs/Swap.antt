@@ -1,9 +1,7 @@
 -- Another word is swapped in for a key's word, and the slot that it named is retired.
-use Rattle.std.proofs.Common.{List, [], ap, append-nil, arith, cond, eq-eqb, get_or, get_or-set_other, inl, inr, set, subst, suc, sym, ℕ, ⊎_elim, ◌%◌, ◌++◌, ◌+◌, ◌-◌, ◌<◌, ◌^◌, ◌∙◌, ◌∷◌, ◌≡◌, ◌⊎◌}
+use Rattle.std.proofs.Common.{List, [], ap, append-nil, arith, cond, get_or, get_or-set_other, inl, inr, set, subst, suc, sym, ℕ, ⊎_elim, ◌%◌, ◌++◌, ◌+◌, ◌-◌, ◌<◌, ◌^◌, ◌∙◌, ◌∷◌, ◌≡◌, ◌⊎◌}
 use lib.ListN.{get_elem?}
-use mathlib.Core.Logic.{dite}
 use mathlib.Core.Option.{some}
-use native.Mathlib.Decide.{ℕ_discrete}
 use Rattle.nr_model.specs.Histories.{Entry}
 use Rattle.nr_model.specs.Maps.{key_of as call_key, reply_at, state_after, state_of}
 use Rattle.nr_model.specs.declared.calls.Call.{Call}
@@ -14,7 +12,7 @@ use Rattle.nr_core.proofs.DeskFrames.{rename}
 use Rattle.nr_core.proofs.Frames.{Left, free_more, retired_more}
 use Rattle.nr_core.proofs.Histories.{legal-more, replies_so, state_other, state_same}
 use Rattle.nr_core.proofs.OnKey.{in_range}
-use Rattle.nr_core.proofs.Sums.{at_snoc, only-other, total-append, total-set}
+use Rattle.nr_core.proofs.Sums.{at_snoc, only-suc, only-zero, total-append, total-set}
 use Rattle.nr_core.specs.Core.{AtDesk, Core, ShowsState, held, holds, taken}
 use Rattle.nr_core.specs.Slots.{content, departures, name_number}
 use Rattle.nr_core.specs.Story.{entry, map_after, shown}
@@ -25,13 +23,6 @@ use Rattle.nr_core.specs.declared.roles.Desk.{Desk}
 use Rattle.nr_core.specs.declared.roles.Role.{Role}
 use Rattle.nr_core.specs.declared.roles.Role.TheVariants.{Writer}
 use Rattle.nr_core.specs.declared.shape.Shape.{Shape}
-
-pub only-suc : (s t : ℕ) → only (suc s) (suc t) ≡ only s t
-only-suc s t = dite (ℕ_discrete t s) (λ e. ap (λ b. cond {A = ℕ} b 1 0) (eq-eqb (suc t) (suc s) (ap suc e)) ∙ sym (ap (λ b. cond {A = ℕ} b 1 0) (eq-eqb t s e)))
-    (λ ne. only-other (suc s) (suc t) (λ e. ne (omega arith)) ∙ sym (only-other s t ne))
-
-pub only-zero : (s : ℕ) → only (suc s) 0 ≡ 0
-only-zero s = only-other (suc s) 0 (λ e. omega arith)
 
 unnamed_sum : (s w : ℕ) → total (λ (x : Retired). only s x.slot) (unnamed w) ≡ only (suc s) (name_number w)
 unnamed_sum s w = by_cases (λ v. total (λ (x : Retired). only s x.slot) (cond v (record { slot = slot_of w; arrivals = arrivals_of w } ∷ []) []) ≡ only (suc s) (cond v (slot_of w + 1) 0)) (is_filled w)

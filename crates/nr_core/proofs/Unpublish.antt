@@ -5,7 +5,8 @@ use mathlib.Core.Option.{some}
 use Rattle.nr_model.specs.Histories.{Entry}
 use Rattle.nr_model.specs.Maps.{reply_at, state_after}
 use Rattle.nr_model.specs.declared.states.KeyState.{KeyState}
-use Rattle.nr_core.proofs.Swap.{only-zero, swap_step}
+use Rattle.nr_core.proofs.Sums.{only-zero}
+use Rattle.nr_core.proofs.Swap.{swap_step}
 use Rattle.nr_core.specs.Core.{AtPlace, Core, ShowsState, held, taken}
 use Rattle.nr_core.specs.Story.{entry, map_after}
 use Rattle.nr_core.specs.Writer.{swapped}

@@ -1,3 +1,5 @@
+use Rattle.nr_core.proofs.Reach.{has_room}
+use Rattle.nr_core.proofs.Counting.{slots_are}
 use Rattle.nr_core.proofs.Stands.{stands}
 use Rattle.nr_core.proofs.Follows.{follows}
 use Rattle.nr_core.proofs.Sweeps.{swept_event}

@@ -1,4 +1,5 @@
+use Rattle.nr_core.proofs.Runs.{run_more, story_state}
 use Rattle.nr_core.proofs.laws.run_goes_on.Goals as goal
 
 pub returns : goal.returns
-returns c = ?
+returns c = λ shape events event. (run_more shape events event, story_state shape events)

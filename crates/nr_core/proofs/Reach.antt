@@ -1,0 +1,126 @@
+-- What holds of a state that events lead to: the next event leads on, and the writer's next step has room.
+use Rattle.std.proofs.Common.{List, [], ap, arith, false, get_or, length, map, refl, subst, suc, sym, true, zero, ℕ, ◌*◌, ◌++◌, ◌+◌, ◌-◌, ◌<◌, ◌∙◌, ◌∷◌, ◌≡◌, ◌≤◌}
+use Rattle.std.proofs.Math.Logic.{∥∥₁_map}
+use Rattle.std.proofs.Props.{props}
+use Rattle.std.specs.Prelude.{None, Option, Some}
+use mathlib.Core.Logic.{dite, ∥∥₁_elim}
+use native.Mathlib.Decide.{dec_le}
+use Rattle.nr_model.specs.Histories.{Entry}
+use Rattle.nr_model.specs.Maps.{PartialMap}
+use Rattle.nr_core.proofs.Counting.{few_retired, fewer_retired, named_inside, names_it}
+use Rattle.nr_core.proofs.Events.{inv_story}
+use Rattle.nr_core.proofs.Runs.{run_more, story_state}
+use Rattle.nr_core.proofs.StateRoles.{Inv, erased}
+use Rattle.nr_core.proofs.Sums.{got_at, only-same}
+use Rattle.nr_core.specs.Core.{AtDesk, AtPlace, Grips, IsShape, ShowsState, held, holds, taken}
+use Rattle.nr_core.specs.Laws.{AllGiven, IsGiven}
+use Rattle.nr_core.specs.Machine.{moved, next, run, unless}
+use Rattle.nr_core.specs.Reach.{HasRoom, Reached, RoomAt, RoomOf}
+use Rattle.nr_core.specs.Refusals.{refusal}
+use Rattle.nr_core.specs.Slots.{name_number, named, slot_room}
+use Rattle.nr_core.specs.States.{Event, State, hold_of, key_of, no_retired, opening, retired_at}
+use Rattle.nr_core.specs.Story.{holders, map_after, story_of}
+use Rattle.nr_core.specs.declared.calls.Refusal.{Refusal}
+use Rattle.nr_core.specs.declared.places.Hold.{Hold}
+use Rattle.nr_core.specs.declared.places.Place.{Place}
+use Rattle.nr_core.specs.declared.places.Place.TheVariants.{Idle, Leaving, Putting, Reading, Searching}
+use Rattle.nr_core.specs.declared.roles.Grip.{Grip}
+use Rattle.nr_core.specs.declared.roles.Grip.TheVariants.{Nothing, On}
+use Rattle.nr_core.specs.declared.roles.Role.TheVariants.{Reader, Writer}
+use Rattle.nr_core.specs.declared.shape.Shape.{Shape}
+use Rattle.nr_core.specs.declared.places.Hold.TheVariants as hold
+use Rattle.nr_model.specs.declared.states.KeyState.TheVariants as key
+
+all_given : (bound : ℕ) (events : List Event) (event : Event) → AllGiven bound events → IsGiven bound event → AllGiven bound (events ++ event ∷ [])
+all_given bound [] event all one = (one, tt)
+all_given bound (first ∷ events) event all one = (all.0, all_given bound events event all.1 one)
+
+pub shape_kept : (state : State) (event : Event) → (next state event).shape ≡ state.shape
+shape_kept state event = go (refusal state event)
+    where
+      go : (o : Option Refusal) → (unless o state (moved state event)).shape ≡ state.shape
+      go None = refl
+      go (Some why) = refl
+
+-- no event leads to the opening
+pub reached_open : (shape : Shape) → IsShape shape → ∥ Reached (opening shape) ∥₁
+reached_open shape fits = ∣ record { events = []; shape = fits; given = tt; leads = refl } ∣₁
+
+reached_next : (state : State) (event : Event) → IsGiven state.shape.bound event → Reached state → Reached (next state event)
+reached_next state event given reached = let kept = shape_kept state event in record {
+  events = reached.events ++ event ∷ [];
+  shape = subst IsShape (sym kept) reached.shape;
+  given = subst (λ (shape : Shape). AllGiven shape.bound (reached.events ++ event ∷ [])) (sym kept) (all_given state.shape.bound reached.events event reached.given given);
+  leads = ap (λ s. next s event) reached.leads ∙ sym (run_more state.shape reached.events event) ∙ ap (λ shape. run shape (reached.events ++ event ∷ [])) (sym kept);
+}
+
+-- an event leads on
+pub leads_on : (state : State) (event : Event) → IsGiven state.shape.bound event → ∥ Reached state ∥₁ → ∥ Reached (next state event) ∥₁
+leads_on state event given reached = ∥∥₁_map reached (reached_next state event given)
+
+inv_of : (state : State) (reached : Reached state) → Inv state (story_of state.shape reached.events).history
+inv_of state reached = let t = inv_story state.shape reached.events reached.shape reached.given in
+    subst (λ s. Inv s (story_of state.shape reached.events).history) (story_state state.shape reached.events ∙ sym reached.leads) t.0
+
+-- THE ROOM OF THE NEXT STEP
+
+grip_room : (shape : Shape) (words : List ℕ) (map : PartialMap) (holders : ℕ → ℕ) → 2 * shape.bound < slot_room → (grip : Grip) → Grips shape words map holders grip → RoomOf shape (erased grip)
+grip_room shape words map holders fits Nothing t = tt
+grip_room shape words map holders fits (On slot rows true) t = let short = t.1.0.1 in (t.0, omega arith)
+grip_room shape words map holders fits (On slot rows false) t = t.0
+
+none_beyond : (l : List Hold) (i : ℕ) → length l ≤ i → get_or l i hold.Nothing ≡ hold.Nothing
+none_beyond [] i out = refl
+none_beyond (x ∷ l) zero out = absurd (omega arith)
+none_beyond (x ∷ l) (suc i) out = none_beyond l i (omega arith)
+
+hold_room : (state : State) (log : List Entry) → Inv state log → (reader : ℕ) → 0 < reader → RoomOf state.shape (hold_of state reader)
+hold_room state log inv reader low = let size = inv.fit.size in let i : ℕ = reader - 1 in dite (dec_le state.shape.readers i)
+    (λ out. subst (RoomOf state.shape) (sym (none_beyond state.holds i (omega arith))) tt)
+    (λ inside. let o = inv.fit.readers i (omega arith) in subst (RoomOf state.shape) (sym o.2) (grip_room state.shape state.words (map_after state.shape log) (held inv.roles) inv.core.fits.bound o.0 (inv.core.knows (suc i) (Reader (suc i) o.0) o.1)))
+
+place_room : (state : State) (log : List Entry) → Inv state log → (place : Place) → state.desk.place ≡ place → RoomAt state place
+place_room state log inv place is = go place is (subst (AtPlace state.shape state.words (map_after state.shape log) (held inv.roles) state.desk.fresh state.desk.retired) is desk.place)
+    where
+      desk : AtDesk state.shape state.words (map_after state.shape log) (held inv.roles) state.desk
+      desk = inv.core.knows 0 (Writer state.desk) inv.fit.writer
+      fewer : (slot : ℕ) → slot < state.shape.slots → 0 < named state.shape state.words slot + taken slot state.desk.place → length state.desk.retired < state.shape.slots
+      fewer = fewer_retired state.shape state.words inv.roles log inv.core 0 state.desk inv.fit.writer
+      inside : (k slot : ℕ) → k < state.shape.keys → name_number (get_or state.words k 0) ≡ suc slot → slot < state.shape.slots
+      inside = named_inside state.shape state.words inv.roles log inv.core
+      go : (p : Place) → state.desk.place ≡ p → AtPlace state.shape state.words (map_after state.shape log) (held inv.roles) state.desk.fresh state.desk.retired p → RoomAt state p
+      go Idle e t = tt
+      go (Reading call slot got) e t = let fits = inv.core.fits.bound in let more = t.more in let shown : ShowsState state.shape state.words (get_or state.words (key_of call) 0) (key.Rows t.rows) = subst (ShowsState state.shape state.words (get_or state.words (key_of call) 0)) t.full (inv.core.shows (key_of call) t.near) in
+          let short = shown.3.0.1 in (inside (key_of call) slot t.near t.names, omega arith)
+      go (Leaving k) e t = let named_so = names_it state.shape state.words inv.roles log inv.core k t.0 t.1.near t.1.names in (t.1.near, fewer t.0 (inside k t.0 t.1.near t.1.names) (omega arith))
+      go (Searching call rows poll) e t = (t.1, (desk.retired poll (retired_at state.desk poll) (got_at state.desk.retired poll no_retired t.1)).0)
+      go (Putting call rows slot departed index) e t = let mine : taken slot state.desk.place ≡ 1 = ap (taken slot) e ∙ only-same slot in (t.wants.near, fewer slot t.inside (omega arith), t.inside)
+
+room_of : (state : State) → Reached state → HasRoom state
+room_of state reached = let log = (story_of state.shape reached.events).history in let inv = inv_of state reached in record {
+  shape = reached.shape;
+  words = inv.core.wide;
+  holds = inv.fit.size;
+  held = hold_room state log inv;
+  few = few_retired state.shape state.words inv.roles log inv.core 0 state.desk inv.fit.writer;
+  place = place_room state log inv state.desk.place refl;
+}
+
+-- room is one fact
+hold_prop : (shape : Shape) (held : Hold) → IsProp (RoomOf shape held)
+hold_prop shape hold.Nothing = hlevel props
+hold_prop shape (hold.On slot None) = hlevel props
+hold_prop shape (hold.On slot (Some size)) = hlevel props
+
+place_prop : (state : State) (place : Place) → IsProp (RoomAt state place)
+place_prop state Idle = hlevel props
+place_prop state (Reading call slot got) = hlevel props
+place_prop state (Leaving k) = hlevel props
+place_prop state (Searching call rows poll) = hlevel props
+place_prop state (Putting call rows slot departed index) = hlevel props
+
+room_prop : (state : State) → IsProp (HasRoom state)
+room_prop state = hlevel (props, hold_prop, place_prop)
+
+pub has_room : (state : State) → ∥ Reached state ∥₁ → HasRoom state
+has_room state reached = ∥∥₁_elim reached (room_prop state) (room_of state)
