@@ -27,14 +27,16 @@
 #![tactic(auto)]
 
 mod calls;
+mod inner;
 pub mod laws;
 mod places;
 mod roles;
 mod shape;
+mod words;
 mod words_read;
 
 pub use calls::{Arrived, AskReply, NoSlot, Refusal, Step, WReply, WriterCall};
 pub use places::{Hold, Place, Retired};
 pub use roles::{Desk, Grip, Role};
-pub use shape::Shape;
+pub use shape::{MAX_READERS, MAX_SLOTS, Shape};
 pub use words_read::WordsRead;

@@ -1,5 +1,11 @@
 //! The sizes of a map.
 
+/// The largest number of slots of a map.
+pub const MAX_SLOTS: u32 = 131_072;
+
+/// The largest number of readers of a map.
+pub const MAX_READERS: u32 = 1_024;
+
 /// How many keys, slots and readers a map has, how many rows a key may have, and the count at
 /// which every slot starts.
 #[derive(Clone, Copy, Debug)]
