@@ -37,10 +37,10 @@ impl Model for Inner {
     ghost Value = { State };
 
     ghost view = { λ inner. record {
-        shape = record { keys = inner.layout.keys; slots = inner.layout.slots; readers = inner.readers; bound = MAX_ROWS; first = inner.first };
-        words = inner.words;
-        holds = inner.holds.items;
-        desk = record { place = inner.place; fresh = inner.fresh; retired = inner.retired.items };
+      shape = record { keys = inner.layout.keys; slots = inner.layout.slots; readers = inner.readers; bound = MAX_ROWS; first = inner.first };
+      words = inner.words;
+      holds = inner.holds.items;
+      desk = record { place = inner.place; fresh = inner.fresh; retired = inner.retired.items };
     } };
 
     ghost invariant = { λ inner. inner.layout.slots ≤ vec_capacity inner.retired };
@@ -48,9 +48,19 @@ impl Model for Inner {
 
 impl Inner {
     /// The state in which a map opens, with all the room that its steps need.
-    pub fn open(alloc: Global, layout: Layout, readers: u32, first: u64) -> Result<Inner, AllocError>
+    pub fn open(
+        alloc: Global,
+        layout: Layout,
+        readers: u32,
+        first: u64,
+    ) -> Result<Inner, AllocError>
         ensures { IfOk result (λ inner. inner ≡ opening (record {
-            keys = layout.keys; slots = layout.slots; readers = readers; bound = MAX_ROWS; first = first })) }
+          keys = layout.keys;
+          slots = layout.slots;
+          readers = readers;
+          bound = MAX_ROWS;
+          first = first;
+        })) }
     {
         let words = Words::open(alloc, layout, first)?;
         let holds = vec![in alloc; Hold::Nothing; readers as usize]?;

@@ -29,6 +29,7 @@
 mod calls;
 mod inner;
 pub mod laws;
+mod machine;
 mod places;
 mod roles;
 mod shape;
@@ -36,6 +37,8 @@ mod words;
 mod words_read;
 
 pub use calls::{Arrived, AskReply, NoSlot, Refusal, Step, WReply, WriterCall};
+pub use machine::Core;
+pub use nr_model::OpenFault;
 pub use places::{Hold, Place, Retired};
 pub use roles::{Desk, Grip, Role};
 pub use shape::{MAX_READERS, MAX_SLOTS, Shape};

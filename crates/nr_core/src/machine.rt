@@ -46,7 +46,12 @@ impl Core {
         ensures bad_size { (result ≡ Err OpenFault.BadSize)
             ↔ (IsBadSize MAX_KEYS keys ⊎ IsBadSize MAX_SLOTS slots ⊎ IsBadSize MAX_READERS readers) }
         ensures ok { IfOk result (λ core. core ≡ opening (record {
-            keys = keys; slots = slots; readers = readers; bound = MAX_ROWS; first = first_count })) }
+          keys = keys;
+          slots = slots;
+          readers = readers;
+          bound = MAX_ROWS;
+          first = first_count;
+        })) }
     {
         if is_bad_size(MAX_KEYS, keys)
             || is_bad_size(MAX_SLOTS, slots)
@@ -55,8 +60,9 @@ impl Core {
             return Err(OpenFault::BadSize);
         }
         let layout = Layout { keys, slots };
-        let inner =
-            Inner::open(alloc, layout, readers, first_count).map_err(|_| OpenFault::Memory)?;
+        let inner = Inner::open(alloc, layout, readers, first_count).map_err(
+            |_| OpenFault::Memory,
+        )?;
         Ok(Core { inner })
     }
 
@@ -104,7 +110,6 @@ impl Core {
         ensures answer { result ≡ start_answer self.old call.now }
         ensures new { self.new ≡ next self.old (Start call.now) }
     {
-        call.given();
         self.inner.start(call)
     }
 

@@ -6,6 +6,7 @@ ghost use Rattle.nr_core.specs.States.{Start, Go};
 ghost use Rattle.nr_core.specs.Machine.{next, moved, found_by, start_answer, go_answer};
 ghost use Rattle.nr_core.specs.Writer.{looked, decided, renewed, read_on, put_on, went, ended, moved_to};
 ghost use Rattle.nr_core.specs.Slots.{naming};
+ghost use Rattle.nr_core.specs.Laws.{IsGivenCall};
 ghost use Rattle.nr_core.specs.Reach.{HasRoom};
 
 use crate::calls::{Refusal, Step, WReply, WriterCall};
@@ -21,7 +22,9 @@ impl Inner {
         requires { HasRoom self.old }
         ensures answer { result ≡ start_answer self.old call.now }
         ensures new { self.new ≡ next self.old (Start call.now) }
+        ensures given { IsGivenCall self.old.shape.bound call.now }
     {
+        call.given();
         self.may_start(call)?;
         let word = self.words.load(self.layout.key(call.key()));
         Ok(self.look(*call, word))
@@ -144,20 +147,30 @@ impl Inner {
     {
         let mut words = [0; CONTENT_WORDS];
         encode(&rows, &mut words);
-        self.words.store(self.layout.content(slot, index), words[index as usize]);
+        self.words
+            .store(self.layout.content(slot, index), words[index as usize]);
         self.go_to(Place::Putting(call, rows, slot, departed, index + 1))
     }
 
     /// Swaps in a word that names the slot, with the slot's departures as its arrivals. The slot
     /// that the old word named is retired.
-    fn publish(&mut self, call: WriterCall, rows: RowSet, slot: u32, departed: u64, index: u32) -> Step
+    fn publish(
+        &mut self,
+        call: WriterCall,
+        rows: RowSet,
+        slot: u32,
+        departed: u64,
+        index: u32,
+    ) -> Step
         requires place { self.old.desk.place ≡ Putting call rows slot departed index }
         requires room { HasRoom self.old }
         requires all_put { 2 * length rows < index }
         ensures answer { result ≡ (put_on self.old.desk call rows slot departed index (found_by self.old Go)).1 }
         ensures new { self.new ≡ moved self.old Go }
     {
-        let word = self.words.swap(self.layout.key(call.key()), naming(slot, departed));
+        let word = self
+            .words
+            .swap(self.layout.key(call.key()), naming(slot, departed));
         self.retire(word);
         Step::Ended(WReply::Reply(Reply::Done))
     }
