@@ -59,18 +59,18 @@ arrives shape id reader k near words roles log core there =
       | key.Hole ↦ λ is shown. missing key.Hole refl is shown shown.0
       | key.Asked ↦ λ is shown. missing key.Asked refl is shown shown.0
       | key.Rows rows ↦ λ is shown. let s : ℕ = shown.0 in let named_so : name_number w ≡ suc s = shown.1 in let e = entry reader (model.Find k) (reply.Rows rows) in let role = Reader reader (On s rows false) in
-        let kept = find_keeps shape log reader k (reply.Rows rows) near in record {
-        after = role;
-        entries = e ∷ [];
-        core = on_key shape words roles log (e ∷ []) core id reader Nothing (On s rows false) k x near there name (legal-more shape log e core.legal (sym (replies_so shape log (model.Find k) ∙ ap find_reply is)))
-            (λ j _. kept j) (λ j _. kept j)
-            (subst (ShowsState shape words x) (sym (kept k ∙ is)) (shows_word shape words w x (key.Rows rows) name parity shown)) (shown.2, shown.3)
-            (λ t ne. only-other t s (λ z. ne (named_so ∙ ap suc z)))
-            (λ t e'. let one : s ≡ t = omega arith in let more = total-set (holds t) roles id (Reader reader Nothing) role there in let unit : only t s ≡ 1 = ap (only t) one ∙ only-same t in omega (arith, core.counts k t near e', b.2));
-        same = λ _. refl;
-        writer = refl;
-        reader = refl;
-        own = λ _. refl;
-        told = inl (s, rows, named_so, shown.2, shown.3.0, refl, refl);
-      }
+          let kept = find_keeps shape log reader k (reply.Rows rows) near in record {
+            after = role;
+            entries = e ∷ [];
+            core = on_key shape words roles log (e ∷ []) core id reader Nothing (On s rows false) k x near there name (legal-more shape log e core.legal (sym (replies_so shape log (model.Find k) ∙ ap find_reply is)))
+                (λ j _. kept j) (λ j _. kept j)
+                (subst (ShowsState shape words x) (sym (kept k ∙ is)) (shows_word shape words w x (key.Rows rows) name parity shown)) (shown.2, shown.3)
+                (λ t ne. only-other t s (λ z. ne (named_so ∙ ap suc z)))
+                (λ t e'. let one : s ≡ t = omega arith in let more = total-set (holds t) roles id (Reader reader Nothing) role there in let unit : only t s ≡ 1 = ap (only t) one ∙ only-same t in omega (arith, core.counts k t near e', b.2));
+            same = λ _. refl;
+            writer = refl;
+            reader = refl;
+            own = λ _. refl;
+            told = inl (s, rows, named_so, shown.2, shown.3.0, refl, refl);
+          }
     ] in go state refl (core.shows k near)

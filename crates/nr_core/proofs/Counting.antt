@@ -80,10 +80,10 @@ module _ (shape : Shape) (words : List ℕ) (roles : List Role) (log : List Entr
 
   retired_sum : below (λ s. retirements s desk.retired) shape.slots ≡ length desk.retired
   retired_sum = exchanged (λ s (x : Retired). only s x.slot) desk.retired shape.slots ∙ each_once desk.retired (λ i x e. ((core.knows id (Writer desk) there).retired i x e).0)
-      where
-        each_once : (l : List Retired) → ((i : ℕ) (x : Retired) → get_elem? l i ≡ some x → x.slot < shape.slots) → total (λ (x : Retired). below (λ s. only s x.slot) shape.slots) l ≡ length l
-        each_once [] inside = refl
-        each_once (x ∷ l) inside = omega (arith, (below-only x.slot shape.slots).0 (inside 0 x refl), each_once l (λ i y e. inside (suc i) y e))
+    where
+      each_once : (l : List Retired) → ((i : ℕ) (x : Retired) → get_elem? l i ≡ some x → x.slot < shape.slots) → total (λ (x : Retired). below (λ s. only s x.slot) shape.slots) l ≡ length l
+      each_once [] inside = refl
+      each_once (x ∷ l) inside = omega (arith, (below-only x.slot shape.slots).0 (inside 0 x refl), each_once l (λ i y e. inside (suc i) y e))
 
   -- the retired slots are no more than the slots
   pub few_retired : length desk.retired ≤ shape.slots
@@ -111,15 +111,17 @@ module _ (shape : Shape) (words : List ℕ) (roles : List Role) (log : List Entr
 
   one_name : (k : ℕ) → k < shape.keys → below (λ s. only (suc s) (name_number (get_or words k 0))) shape.slots ≡ cond (is_filled_key (state_of (map_after shape log) k)) 1 0
   one_name k near = go (state_of (map_after shape log) k) (core.shows k near)
-      where
-        w : ℕ
-        w = get_or words k 0
-        none : name_number w ≡ 0 → below (λ s. only (suc s) (name_number w)) shape.slots ≡ 0
-        none e = below-same (λ s. only (suc s) (name_number w)) (λ _. 0) shape.slots (λ s _. ap (only (suc s)) e ∙ only-zero s) ∙ below-zero shape.slots
-        go : (z : KeyState) → ShowsState shape words w z → below (λ s. only (suc s) (name_number w)) shape.slots ≡ cond (is_filled_key z) 1 0
-        go key.Hole t = none t.0
-        go key.Asked t = none t.0
-        go (key.Rows rows) t = below-same (λ s. only (suc s) (name_number w)) (λ s. only s t.0) shape.slots (λ s _. ap (only (suc s)) t.1 ∙ only-suc s t.0) ∙ (below-only t.0 shape.slots).0 t.2
+    where
+      w : ℕ
+      w = get_or words k 0
+
+      none : name_number w ≡ 0 → below (λ s. only (suc s) (name_number w)) shape.slots ≡ 0
+      none e = below-same (λ s. only (suc s) (name_number w)) (λ _. 0) shape.slots (λ s _. ap (only (suc s)) e ∙ only-zero s) ∙ below-zero shape.slots
+
+      go : (z : KeyState) → ShowsState shape words w z → below (λ s. only (suc s) (name_number w)) shape.slots ≡ cond (is_filled_key z) 1 0
+      go key.Hole t = none t.0
+      go key.Asked t = none t.0
+      go (key.Rows rows) t = below-same (λ s. only (suc s) (name_number w)) (λ s. only s t.0) shape.slots (λ s _. ap (only (suc s)) t.1 ∙ only-suc s t.0) ∙ (below-only t.0 shape.slots).0 t.2
 
   -- each filled key names one slot
   pub named_are_filled : below (named shape words) shape.slots ≡ filled_count (map_after shape log)
@@ -130,5 +132,11 @@ module _ (shape : Shape) (words : List ℕ) (roles : List Role) (log : List Entr
 
   -- once every slot was taken, the filled keys and the retired slots are all the slots, where the writer has taken none
   pub slots_are : (id : ℕ) (desk : Desk) → get_elem? roles id ≡ some (Writer desk) → shape.slots ≤ desk.fresh → ((s : ℕ) → taken s desk.place ≡ 0) → filled_count (map_after shape log) + length desk.retired ≡ shape.slots
-  slots_are id desk there full free = omega (arith, named_are_filled, retired_sum shape words roles log core id desk there, below-sum (named shape words) (λ s. retirements s desk.retired) shape.slots, below-one shape.slots,
-      below-same (λ s. named shape words s + retirements s desk.retired) (λ _. 1) shape.slots (λ s near. let gone : unused s desk.fresh ≡ 0 = ap (λ b. cond {A = ℕ} b 1 0) (lt-leb desk.fresh s (omega arith)) in omega (arith, retired_once shape words roles log core id desk there s near, free s)))
+  slots_are id desk there full free = omega (
+    arith,
+    named_are_filled,
+    retired_sum shape words roles log core id desk there,
+    below-sum (named shape words) (λ s. retirements s desk.retired) shape.slots,
+    below-one shape.slots,
+    below-same (λ s. named shape words s + retirements s desk.retired) (λ _. 1) shape.slots (λ s near. let gone : unused s desk.fresh ≡ 0 = ap (λ b. cond {A = ℕ} b 1 0) (lt-leb desk.fresh s (omega arith)) in omega (arith, retired_once shape words roles log core id desk there s near, free s)),
+  )

@@ -47,20 +47,22 @@ held_untouched state log (Read r p) inv ok s i held_so low here = ap Load here
 held_untouched state log (Start call) inv ok s i held_so low here = ap Load here
 held_untouched state log (Depart r) inv ok s i held_so low here = absurd (omega arith)
 held_untouched state log Go inv ok s i held_so low here = go state.desk.place refl here
-    where
-      mine : AtDesk state.shape state.words (map_after state.shape log) (held inv.roles) state.desk
-      mine = inv.core.knows 0 (Writer state.desk) inv.fit.writer
-      at_place : (p : Place) → state.desk.place ≡ p → AtPlace state.shape state.words (map_after state.shape log) (held inv.roles) state.desk.fresh state.desk.retired p
-      at_place p is = subst (AtPlace state.shape state.words (map_after state.shape log) (held inv.roles) state.desk.fresh state.desk.retired) is mine.place
-      go : (p : Place) → state.desk.place ≡ p → place_of (going state.shape state.desk p) ≡ content state.shape s i → going state.shape state.desk p ≡ Load (content state.shape s i)
-      go Idle is e = ap Load e
-      go (Reading call t got) is e = ap Load e
-      go (Leaving k) is e = let near = (at_place (Leaving k) is).1.near in absurd (omega arith)
-      go (Searching call rows p) is e = ap Load e
-      go (Putting call rows t departed j) is e = let p = at_place (Putting call rows t departed j) is in let near = p.wants.near in let short = p.wants.row_set.1 in let fits = inv.core.fits.bound in let free = p.nobody in let some_there = held_so.0 in
-          by_cases (λ v. let o = cond {A = Operation} v (Store (content state.shape t j) (get_or (encode rows) j 0)) (Swap (key_of call) (naming t departed)) in place_of o ≡ content state.shape s i → o ≡ Load (content state.shape s i)) (nat_le j (2 * length rows))
-          (λ yes e. let l : j ≤ 2 * length rows = leb-true j (2 * length rows) yes in let same_slot : s ≡ t = omega arith in let zero_there : held inv.roles s ≡ 0 = ap (held inv.roles) same_slot ∙ free in absurd (omega arith))
-          (λ no e. absurd (omega arith)) e
+  where
+    mine : AtDesk state.shape state.words (map_after state.shape log) (held inv.roles) state.desk
+    mine = inv.core.knows 0 (Writer state.desk) inv.fit.writer
+
+    at_place : (p : Place) → state.desk.place ≡ p → AtPlace state.shape state.words (map_after state.shape log) (held inv.roles) state.desk.fresh state.desk.retired p
+    at_place p is = subst (AtPlace state.shape state.words (map_after state.shape log) (held inv.roles) state.desk.fresh state.desk.retired) is mine.place
+
+    go : (p : Place) → state.desk.place ≡ p → place_of (going state.shape state.desk p) ≡ content state.shape s i → going state.shape state.desk p ≡ Load (content state.shape s i)
+    go Idle is e = ap Load e
+    go (Reading call t got) is e = ap Load e
+    go (Leaving k) is e = let near = (at_place (Leaving k) is).1.near in absurd (omega arith)
+    go (Searching call rows p) is e = ap Load e
+    go (Putting call rows t departed j) is e = let p = at_place (Putting call rows t departed j) is in let near = p.wants.near in let short = p.wants.row_set.1 in let fits = inv.core.fits.bound in let free = p.nobody in let some_there = held_so.0 in
+        by_cases (λ v. let o = cond {A = Operation} v (Store (content state.shape t j) (get_or (encode rows) j 0)) (Swap (key_of call) (naming t departed)) in place_of o ≡ content state.shape s i → o ≡ Load (content state.shape s i)) (nat_le j (2 * length rows))
+        (λ yes e. let l : j ≤ 2 * length rows = leb-true j (2 * length rows) yes in let same_slot : s ≡ t = omega arith in let zero_there : held inv.roles s ≡ 0 = ap (held inv.roles) same_slot ∙ free in absurd (omega arith))
+        (λ no e. absurd (omega arith)) e
 
 pub follows : (story : Story) (event : Event) → Inv story.state story.history → ((counts : NoSlot) → EndsWithout story.state event counts → IsJustified story event counts) → Follows story event
 follows story event inv justified = record {
@@ -70,13 +72,15 @@ follows story event inv justified = record {
   own = λ c. of-append c story.history (unless (refusal story.state event) [] (told story.state event)) ∙ ap (λ (l : List Entry). entries_of story.history c ++ l) (mine (refusal story.state event) c);
   justified = justified;
 }
-    where
-      one_of : (o : Option Refusal) (place : ℕ) → place ≢ place_of (operation story.state event) → get_or (unless o story.state (moved story.state event)).words place 0 ≡ get_or story.state.words place 0
-      one_of None place ne = get_or-set_other story.state.words (place_of (operation story.state event)) place (becomes (operation story.state event) (found_by story.state event)) 0 ne
-      one_of (Some why) place ne = refl
-      stays : (o : Option Refusal) → o ≢ None → record { state = unless o story.state (moved story.state event); history = story.history ++ unless o [] (told story.state event); polls = unless o story.polls (polls_after story.state story.polls event) } ≡ story
-      stays None ne = absurd (ne refl)
-      stays (Some why) ne = ap (λ (l : List Entry). record story { history = l }) (append-nil story.history)
-      mine : (o : Option Refusal) (c : ℕ) → entries_of (unless o [] (told story.state event)) c ≡ cond (nat_eq (caller_of event) c) (unless o [] (told story.state event)) []
-      mine None c = told_by story.state event c
-      mine (Some why) c = none_of (nat_eq (caller_of event) c)
+  where
+    one_of : (o : Option Refusal) (place : ℕ) → place ≢ place_of (operation story.state event) → get_or (unless o story.state (moved story.state event)).words place 0 ≡ get_or story.state.words place 0
+    one_of None place ne = get_or-set_other story.state.words (place_of (operation story.state event)) place (becomes (operation story.state event) (found_by story.state event)) 0 ne
+    one_of (Some why) place ne = refl
+
+    stays : (o : Option Refusal) → o ≢ None → record { state = unless o story.state (moved story.state event); history = story.history ++ unless o [] (told story.state event); polls = unless o story.polls (polls_after story.state story.polls event) } ≡ story
+    stays None ne = absurd (ne refl)
+    stays (Some why) ne = ap (λ (l : List Entry). record story { history = l }) (append-nil story.history)
+
+    mine : (o : Option Refusal) (c : ℕ) → entries_of (unless o [] (told story.state event)) c ≡ cond (nat_eq (caller_of event) c) (unless o [] (told story.state event)) []
+    mine None c = told_by story.state event c
+    mine (Some why) c = none_of (nat_eq (caller_of event) c)

@@ -44,8 +44,8 @@ goes_at shape words roles log core id desk there (Leaving k) is_at ok = unpublis
 goes_at shape words roles log core id desk there (Searching call rows poll) is_at ok = polls shape words roles log core id desk there call rows poll is_at
 goes_at shape words roles log core id desk there (Putting call rows slot departed index) is_at ok =
     by_cases (λ v. let operation = cond {A = Operation} v (Store (content shape slot index) (get_or (encode rows) index 0)) (Swap (key_of call) (naming slot departed)) in let found = get_or words (place_of operation) 0 in
-      let after = cond {A = Desk × Step} v (moved_to desk (Putting call rows slot departed (index + 1)), Going) (swapped desk found, ended reply.Done) in
-      Core shape (set words (place_of operation) (becomes operation found)) (set roles id (Writer after.0)) (log ++ ending (call_of call) after.1)) (nat_le index (2 * length rows))
+    let after = cond {A = Desk × Step} v (moved_to desk (Putting call rows slot departed (index + 1)), Going) (swapped desk found, ended reply.Done) in
+    Core shape (set words (place_of operation) (becomes operation found)) (set roles id (Writer after.0)) (log ++ ending (call_of call) after.1)) (nat_le index (2 * length rows))
     (λ yes. puts shape words roles log core id desk there call rows slot departed index is_at (leb-true index (2 * length rows) yes))
     (λ no. publishes shape words roles log core id desk there call rows slot departed index is_at (leb-false index (2 * length rows) no))
 

@@ -19,6 +19,7 @@ pub mod Publish
 pub mod Poll
 pub mod Put
 pub mod Sets
+pub mod ReadThrough
 pub mod WriterRead
 pub mod Guards
 pub mod Go
@@ -37,3 +38,6 @@ pub mod Follows
 pub mod Counting
 pub mod Runs
 pub mod Reach
+pub mod Without
+pub mod Justified
+pub mod Schedules

@@ -77,7 +77,7 @@ core_opens shape fits n few = let words = opening_words shape in let slot = shap
     let key_zero : (k : ℕ) → k < shape.keys → get_or words k 0 ≡ 0 = front shape.keys (repeated shape.slots slot) in
     let wide : length words ≡ total_of slot_room (layout shape) = omega (arith, length-append (replicate shape.keys 0) (repeated shape.slots slot), length-replicate {A = ℕ} shape.keys 0, length-repeated shape.slots slot refl) in
     let dep : (s : ℕ) → s < shape.slots → get_or words (departures shape s) 0 ≡ shape.first
-      = λ s near. past (replicate shape.keys 0) (repeated shape.slots slot) (departures shape s) (suc slot_room * s) (omega (arith, length-replicate {A = ℕ} shape.keys 0)) ∙ each_slot shape.slots s shape.first (replicate slot_room 0) (suc slot_room * s) refl near refl in
+    = λ s near. past (replicate shape.keys 0) (repeated shape.slots slot) (departures shape s) (suc slot_room * s) (omega (arith, length-replicate {A = ℕ} shape.keys 0)) ∙ each_slot shape.slots s shape.first (replicate slot_room 0) (suc slot_room * s) refl near refl in
     let nobody_holds : (s : ℕ) → held roles s ≡ 0 = λ s. omega (arith, no_weight (holds s) (λ c. refl) n 0) in
     let nameless : (k : ℕ) → k < shape.keys → name_number (get_or words k 0) ≡ 0 = λ k near. ap name_number (key_zero k near) in record {
       fits = fits;

@@ -47,14 +47,14 @@ polls shape words roles log core id desk is_there call rows p is_at = let t = co
     by_cases (λ v. Core shape (set words i w) (set roles id (Writer (cond {A = Desk × Step} v (Taken, Going) Rest).0)) (log ++ ending (call_of call) (cond {A = Desk × Step} v (Taken, Going) Rest).1))
     (nat_eq (w % 2 ^ 40) (z.arrivals % 2 ^ 40))
     (λ yes. let hit : w % 2 ^ 40 ≡ z.arrivals % 2 ^ 40 = eqb-true (w % 2 ^ 40) (z.arrivals % 2 ^ 40) yes in let nobody_there : held roles s ≡ 0 = omega arith in
-      goes_on shape words roles log core id desk is_there i Taken (λ u. let gone = total-remove (λ (y : Retired). only u y.slot) desk.retired p z here in let k = keeps_so u in omega arith)
-      (record {
-        place = record { wants = at_p.0; inside = r.0; nobody = nobody_there; counted = refl; within = omega arith; put = λ j l. absurd (omega arith) };
-        room = t.room;
-        free = t.free;
-        retired = λ j x e. let y = at_remove desk.retired p j x e in t.retired y.0 x y.1;
-      }))
+    goes_on shape words roles log core id desk is_there i Taken (λ u. let gone = total-remove (λ (y : Retired). only u y.slot) desk.retired p z here in let k = keeps_so u in omega arith)
+    (record {
+      place = record { wants = at_p.0; inside = r.0; nobody = nobody_there; counted = refl; within = omega arith; put = λ j l. absurd (omega arith) };
+      room = t.room;
+      free = t.free;
+      retired = λ j x e. let y = at_remove desk.retired p j x e in t.retired y.0 x y.1;
+    }))
     (λ no. by_cases (λ v. Core shape (set words i w) (set roles id (Writer (cond {A = Desk × Step} v (moved_to desk (Searching call rows (p + 1)), Going) (moved_to desk Idle, no_slot shape desk)).0)) (log ++ ending (call_of call) (cond {A = Desk × Step} v (moved_to desk (Searching call rows (p + 1)), Going) (moved_to desk Idle, no_slot shape desk)).1))
-      (nat_lt (p + 1) (length desk.retired))
-      (λ more. goes_on shape words roles log core id desk is_there i (moved_to desk (Searching call rows (p + 1))) (λ u. sym (keeps_so u)) (record { place = (at_p.0, ltb-true (p + 1) (length desk.retired) more, at_p.2); room = t.room; free = t.free; retired = t.retired }))
-      (λ none. goes_on shape words roles log core id desk is_there i (moved_to desk Idle) (λ u. sym (keeps_so u)) (idle_desk shape words map (held roles) desk t)))
+    (nat_lt (p + 1) (length desk.retired))
+    (λ more. goes_on shape words roles log core id desk is_there i (moved_to desk (Searching call rows (p + 1))) (λ u. sym (keeps_so u)) (record { place = (at_p.0, ltb-true (p + 1) (length desk.retired) more, at_p.2); room = t.room; free = t.free; retired = t.retired }))
+    (λ none. goes_on shape words roles log core id desk is_there i (moved_to desk Idle) (λ u. sym (keeps_so u)) (idle_desk shape words map (held roles) desk t)))

@@ -56,5 +56,5 @@ puts shape words roles log core id desk is_there call rows t e i is_at low_enoug
       retired = retired_more shape words words' map map (held roles) (held roles') desk.retired (λ s near' listed. left s (λ z. let l' : 0 < total (λ (x : Retired). only t x.slot) desk.retired = subst (λ (y : ℕ). 0 < total (λ (x : Retired). only y x.slot) desk.retired) z listed in omega arith)) mine.retired;
     } in
     off_keys shape words roles log core id (Writer desk) (Writer desk') w x (omega arith) is_there refl refl (λ s _. sym (keeps_so s))
-          (λ s j l low is-named. cont s j (λ z. let n : 0 < named shape words t = subst (λ (y : ℕ). 0 < named shape words y) z is-named in omega arith) low) (λ s _ _. sum s)
-          (no_writer shape words roles log core words' map (held roles') id desk is_there (λ s j taken-by l low. cont s j (λ z. let n : 0 < held roles t = subst (λ (y : ℕ). 0 < held roles y) z taken-by in omega arith) low)) own
+    (λ s j l low is-named. cont s j (λ z. let n : 0 < named shape words t = subst (λ (y : ℕ). 0 < named shape words y) z is-named in omega arith) low) (λ s _ _. sum s)
+    (no_writer shape words roles log core words' map (held roles') id desk is_there (λ s j taken-by l low. cont s j (λ z. let n : 0 < held roles t = subst (λ (y : ℕ). 0 < held roles y) z taken-by in omega arith) low)) own

@@ -37,10 +37,10 @@ all_given bound (first ∷ events) event all one = (all.0, all_given bound event
 
 pub shape_kept : (state : State) (event : Event) → (next state event).shape ≡ state.shape
 shape_kept state event = go (refusal state event)
-    where
-      go : (o : Option Refusal) → (unless o state (moved state event)).shape ≡ state.shape
-      go None = refl
-      go (Some why) = refl
+  where
+    go : (o : Option Refusal) → (unless o state (moved state event)).shape ≡ state.shape
+    go None = refl
+    go (Some why) = refl
 
 -- no event leads to the opening
 pub reached_open : (shape : Shape) → IsShape shape → ∥ Reached (opening shape) ∥₁
@@ -81,20 +81,23 @@ hold_room state log inv reader low = let size = inv.fit.size in let i : ℕ = re
 
 place_room : (state : State) (log : List Entry) → Inv state log → (place : Place) → state.desk.place ≡ place → RoomAt state place
 place_room state log inv place is = go place is (subst (AtPlace state.shape state.words (map_after state.shape log) (held inv.roles) state.desk.fresh state.desk.retired) is desk.place)
-    where
-      desk : AtDesk state.shape state.words (map_after state.shape log) (held inv.roles) state.desk
-      desk = inv.core.knows 0 (Writer state.desk) inv.fit.writer
-      fewer : (slot : ℕ) → slot < state.shape.slots → 0 < named state.shape state.words slot + taken slot state.desk.place → length state.desk.retired < state.shape.slots
-      fewer = fewer_retired state.shape state.words inv.roles log inv.core 0 state.desk inv.fit.writer
-      inside : (k slot : ℕ) → k < state.shape.keys → name_number (get_or state.words k 0) ≡ suc slot → slot < state.shape.slots
-      inside = named_inside state.shape state.words inv.roles log inv.core
-      go : (p : Place) → state.desk.place ≡ p → AtPlace state.shape state.words (map_after state.shape log) (held inv.roles) state.desk.fresh state.desk.retired p → RoomAt state p
-      go Idle e t = tt
-      go (Reading call slot got) e t = let fits = inv.core.fits.bound in let more = t.more in let shown : ShowsState state.shape state.words (get_or state.words (key_of call) 0) (key.Rows t.rows) = subst (ShowsState state.shape state.words (get_or state.words (key_of call) 0)) t.full (inv.core.shows (key_of call) t.near) in
-          let short = shown.3.0.1 in (inside (key_of call) slot t.near t.names, omega arith)
-      go (Leaving k) e t = let named_so = names_it state.shape state.words inv.roles log inv.core k t.0 t.1.near t.1.names in (t.1.near, fewer t.0 (inside k t.0 t.1.near t.1.names) (omega arith))
-      go (Searching call rows poll) e t = (t.1, (desk.retired poll (retired_at state.desk poll) (got_at state.desk.retired poll no_retired t.1)).0)
-      go (Putting call rows slot departed index) e t = let mine : taken slot state.desk.place ≡ 1 = ap (taken slot) e ∙ only-same slot in (t.wants.near, fewer slot t.inside (omega arith), t.inside)
+  where
+    desk : AtDesk state.shape state.words (map_after state.shape log) (held inv.roles) state.desk
+    desk = inv.core.knows 0 (Writer state.desk) inv.fit.writer
+
+    fewer : (slot : ℕ) → slot < state.shape.slots → 0 < named state.shape state.words slot + taken slot state.desk.place → length state.desk.retired < state.shape.slots
+    fewer = fewer_retired state.shape state.words inv.roles log inv.core 0 state.desk inv.fit.writer
+
+    inside : (k slot : ℕ) → k < state.shape.keys → name_number (get_or state.words k 0) ≡ suc slot → slot < state.shape.slots
+    inside = named_inside state.shape state.words inv.roles log inv.core
+
+    go : (p : Place) → state.desk.place ≡ p → AtPlace state.shape state.words (map_after state.shape log) (held inv.roles) state.desk.fresh state.desk.retired p → RoomAt state p
+    go Idle e t = tt
+    go (Reading call slot got) e t = let fits = inv.core.fits.bound in let more = t.more in let shown : ShowsState state.shape state.words (get_or state.words (key_of call) 0) (key.Rows t.rows) = subst (ShowsState state.shape state.words (get_or state.words (key_of call) 0)) t.full (inv.core.shows (key_of call) t.near) in
+        let short = shown.3.0.1 in (inside (key_of call) slot t.near t.names, omega arith)
+    go (Leaving k) e t = let named_so = names_it state.shape state.words inv.roles log inv.core k t.0 t.1.near t.1.names in (t.1.near, fewer t.0 (inside k t.0 t.1.near t.1.names) (omega arith))
+    go (Searching call rows poll) e t = (t.1, (desk.retired poll (retired_at state.desk poll) (got_at state.desk.retired poll no_retired t.1)).0)
+    go (Putting call rows slot departed index) e t = let mine : taken slot state.desk.place ≡ 1 = ap (taken slot) e ∙ only-same slot in (t.wants.near, fewer slot t.inside (omega arith), t.inside)
 
 room_of : (state : State) → Reached state → HasRoom state
 room_of state reached = let log = (story_of state.shape reached.events).history in let inv = inv_of state reached in record {

@@ -63,21 +63,21 @@ after_arrive state log r k inv ok = let shape = state.shape in let words = state
     let shown_so : find_reply (state_of (map_after shape log) k) ≡ find_reply (shown state k) = ap find_reply (sym (shown_is state roles log core k near)) in
     let finish : (x : Grip) (y : Reply) → t.after ≡ Reader (suc i) x → t.entries ≡ entry (suc i) (model.Find k) y ∷ [] → cond (is_filled w) (hold.On (slot_of w) None) hold.Nothing ≡ erased x → ((s : ℕ) (rows : List Row) (b : Bool) → x ≡ On s rows b → y ≡ reply.Rows rows) → Inv (moved state (Arrive r k)) (log ++ told state (Arrive r k))
     = λ x y role es held_so replied.
-      let c1 : Core shape words' (set roles (suc i) (Reader (suc i) x)) (log ++ entry (suc i) (model.Find k) y ∷ []) = subst (λ (p : Role × List Entry). Core shape words' (set roles (suc i) p.0) (log ++ p.1)) (λ j. (role j, es j)) t.core in
-      let reply_is : y ≡ find_reply (shown state k) = reply_of shape log (suc i) (model.Find k) y c1.legal ∙ shown_so in
-      record {
-        roles = set roles (suc i) (Reader (suc i) x);
-        core = subst (λ (p : ℕ × Reply). Core shape words' (set roles (suc i) (Reader (suc i) x)) (log ++ entry p.0 (model.Find k) p.1 ∷ [])) (λ j. (number j, reply_is j)) c1;
-        fit = fit_reader shape.readers roles state.holds state.desk f i low x (cond (is_filled w) (hold.On (slot_of w) None) hold.Nothing) held_so;
-        found = subst (λ (p : ℕ × Reply). AllFound (set roles (suc i) (Reader (suc i) x)) (log ++ entry p.0 (model.Find k) p.1 ∷ [])) (λ j. (number j, reply_is j))
-            (found_set roles log (entry (suc i) (model.Find k) y ∷ []) i x inv.found (λ j ne. one_other (suc i) (suc j) (model.Find k) y (λ z. ne (omega arith)))
-            (λ s rows b is. (k, entries_of log (suc i), of-append (suc i) log (entry (suc i) (model.Find k) y ∷ []) ∙ ap (λ (l : List Entry). entries_of log (suc i) ++ l) (one_same (suc i) (suc i) (model.Find k) y refl ∙ ap (λ (a : Reply). entry (suc i) (model.Find k) a ∷ []) (replied s rows b is)))));
-      } in
+    let c1 : Core shape words' (set roles (suc i) (Reader (suc i) x)) (log ++ entry (suc i) (model.Find k) y ∷ []) = subst (λ (p : Role × List Entry). Core shape words' (set roles (suc i) p.0) (log ++ p.1)) (λ j. (role j, es j)) t.core in
+    let reply_is : y ≡ find_reply (shown state k) = reply_of shape log (suc i) (model.Find k) y c1.legal ∙ shown_so in
+    record {
+      roles = set roles (suc i) (Reader (suc i) x);
+      core = subst (λ (p : ℕ × Reply). Core shape words' (set roles (suc i) (Reader (suc i) x)) (log ++ entry p.0 (model.Find k) p.1 ∷ [])) (λ j. (number j, reply_is j)) c1;
+      fit = fit_reader shape.readers roles state.holds state.desk f i low x (cond (is_filled w) (hold.On (slot_of w) None) hold.Nothing) held_so;
+      found = subst (λ (p : ℕ × Reply). AllFound (set roles (suc i) (Reader (suc i) x)) (log ++ entry p.0 (model.Find k) p.1 ∷ [])) (λ j. (number j, reply_is j))
+          (found_set roles log (entry (suc i) (model.Find k) y ∷ []) i x inv.found (λ j ne. one_other (suc i) (suc j) (model.Find k) y (λ z. ne (omega arith)))
+          (λ s rows b is. (k, entries_of log (suc i), of-append (suc i) log (entry (suc i) (model.Find k) y ∷ []) ∙ ap (λ (l : List Entry). entries_of log (suc i) ++ l) (one_same (suc i) (suc i) (model.Find k) y refl ∙ ap (λ (a : Reply). entry (suc i) (model.Find k) a ∷ []) (replied s rows b is)))));
+    } in
     ⊎_elim
     (λ (a : (s : ℕ) × (rows : List Row) × (name_number w ≡ suc s) × (s < shape.slots) × IsRowSet shape.bound rows × (t.after ≡ Reader (suc i) (On s rows false)) × (t.entries ≡ entry (suc i) (model.Find k) (reply.Rows rows) ∷ [])).
-      let n = names_one w a.0 a.2 in finish (On a.0 a.1 false) (reply.Rows a.1) a.5 a.6 (ap (λ v. cond v (hold.On (slot_of w) None) hold.Nothing) n.0 ∙ ap (λ (s : ℕ). hold.On s None) n.1) (λ s rows b is. ap reply.Rows (same_rows a.0 s a.1 rows false b is)))
+    let n = names_one w a.0 a.2 in finish (On a.0 a.1 false) (reply.Rows a.1) a.5 a.6 (ap (λ v. cond v (hold.On (slot_of w) None) hold.Nothing) n.0 ∙ ap (λ (s : ℕ). hold.On s None) n.1) (λ s rows b is. ap reply.Rows (same_rows a.0 s a.1 rows false b is)))
     (λ (a : (name_number w ≡ 0) × (t.after ≡ Reader (suc i) Nothing) × (t.entries ≡ entry (suc i) (model.Find k) reply.Hole ∷ [])).
-      finish Nothing reply.Hole a.1 a.2 (ap (λ v. cond v (hold.On (slot_of w) None) hold.Nothing) (names_none w a.0)) (λ s rows b is. absurd (no_grip s rows b is)))
+    finish Nothing reply.Hole a.1 a.2 (ap (λ v. cond v (hold.On (slot_of w) None) hold.Nothing) (names_none w a.0)) (λ s rows b is. absurd (no_grip s rows b is)))
     t.told
 
 pub after_ask : (state : State) (log : List Entry) (r k : ℕ) → Inv state log → refusal state (Ask r k) ≡ None → Inv (moved state (Ask r k)) (log ++ told state (Ask r k))
@@ -92,9 +92,13 @@ after_ask state log r k inv ok = let shape = state.shape in let words = state.wo
     let c0 : Core shape words' (set roles (suc i) (Reader (suc i) Nothing)) (log ++ entry (suc i) (model.Ask k) y ∷ []) = subst (λ (p : Role × List Entry). Core shape words' (set roles (suc i) p.0) (log ++ p.1)) (λ j. (t.told.0 j, t.told.1 j)) t.core in
     let c1 : Core shape words' roles (log ++ entry (suc i) (model.Ask k) y ∷ []) = subst (λ (l : List Role). Core shape words' l (log ++ entry (suc i) (model.Ask k) y ∷ [])) (set_again roles (suc i) (Reader (suc i) Nothing) there_is) c0 in
     let reply_is : y ≡ ask_reply (shown state k) = reply_of shape log (suc i) (model.Ask k) y c1.legal ∙ ap ask_reply (sym (shown_is state roles log core k near)) in
-    record { roles = roles; core = subst (λ (p : ℕ × Reply). Core shape words' roles (log ++ entry p.0 (model.Ask k) p.1 ∷ [])) (λ j. (number j, reply_is j)) c1; fit = f;
+    record {
+      roles = roles;
+      core = subst (λ (p : ℕ × Reply). Core shape words' roles (log ++ entry p.0 (model.Ask k) p.1 ∷ [])) (λ j. (number j, reply_is j)) c1;
+      fit = f;
       found = subst (λ (p : ℕ × Reply). AllFound roles (log ++ entry p.0 (model.Ask k) p.1 ∷ [])) (λ j. (number j, reply_is j)) (subst (λ (l : List Role). AllFound l (log ++ entry (suc i) (model.Ask k) y ∷ [])) (set_again roles (suc i) (Reader (suc i) Nothing) there_is)
-          (found_set roles log (entry (suc i) (model.Ask k) y ∷ []) i Nothing inv.found (λ j ne. one_other (suc i) (suc j) (model.Ask k) y (λ z. ne (omega arith))) (λ s rows b is. absurd (no_grip s rows b is)))) }
+          (found_set roles log (entry (suc i) (model.Ask k) y ∷ []) i Nothing inv.found (λ j ne. one_other (suc i) (suc j) (model.Ask k) y (λ z. ne (omega arith))) (λ s rows b is. absurd (no_grip s rows b is))));
+    }
 
 pub is_held : (x : Grip) → if_not_holding (erased x) ≡ None → (s : ℕ) × (rows : List Row) × (b : Bool) × (x ≡ On s rows b)
 is_held Nothing e = absurd (no_some (Some refuse.NotHolding) refuse.NotHolding refl e)
@@ -103,10 +107,10 @@ is_held (On s rows b) e = (s, rows, b, refl)
 pub readable : (i : ℕ) (x : Grip) → if_unreadable i (erased x) ≡ None → (s : ℕ) × (rows : List Row) × (b : Bool) × (x ≡ On s rows b) × (i < length (encode rows))
 readable i Nothing e = absurd (no_some (Some refuse.NotHolding) refuse.NotHolding refl e)
 readable i (On s rows b) e = (s, rows, b, refl, within b e)
-    where
-      within : (b : Bool) → if_beyond i (cond b (Some (length rows)) None) ≡ None → i < length (encode rows)
-      within true e = let g = guard (nat_le i (2 * length rows)) None refuse.OutOfRange e in let l : i ≤ 2 * length rows = leb-true i (2 * length rows) g.0 in let n = length-row_words rows in omega arith
-      within false e = let g = guard (nat_eq i 0) None refuse.OutOfRange e in let l : i ≡ 0 = eqb-true i 0 g.0 in omega arith
+  where
+    within : (b : Bool) → if_beyond i (cond b (Some (length rows)) None) ≡ None → i < length (encode rows)
+    within true e = let g = guard (nat_le i (2 * length rows)) None refuse.OutOfRange e in let l : i ≤ 2 * length rows = leb-true i (2 * length rows) g.0 in let n = length-row_words rows in omega arith
+    within false e = let g = guard (nat_eq i 0) None refuse.OutOfRange e in let l : i ≡ 0 = eqb-true i 0 g.0 in omega arith
 
 pub after_depart : (state : State) (log : List Entry) (r : ℕ) → Inv state log → refusal state (Depart r) ≡ None → Inv (moved state (Depart r)) (log ++ told state (Depart r))
 after_depart state log r inv ok = let shape = state.shape in let words = state.words in let roles = inv.roles in let core = inv.core in let f = inv.fit in
@@ -133,7 +137,7 @@ after_read state log r p inv ok = let shape = state.shape in let words = state.w
     let holds_it : get_or state.holds i hold.Nothing ≡ erased (On s m b) = o.2 ∙ ap erased x.3 in let b' : Bool = cond (nat_eq p 0) true b in
     let t = reads shape (suc i) (suc i) s m b p x.4 words roles log core there_is in let w : ℕ = get_or words (content shape s p) 0 in
     let known : hold.On s (cond (nat_eq p 0) (Some w) (cond b (Some (length m)) None)) ≡ erased (On s m b') = ap (hold.On s) (by_cases (λ v. (v ≡ true → p ≡ 0) → cond v (Some w) (cond b (Some (length m)) None) ≡ cond (cond v true b) (Some (length m)) None) (nat_eq p 0)
-        (λ _ zero_so. ap (λ (n : ℕ). Some n) (t.told.0 ∙ ap (λ (n : ℕ). get_or (encode m) n 0) (zero_so refl))) (λ _ _. refl) (eqb-true p 0)) in
+    (λ _ zero_so. ap (λ (n : ℕ). Some n) (t.told.0 ∙ ap (λ (n : ℕ). get_or (encode m) n 0) (zero_so refl))) (λ _ _. refl) (eqb-true p 0)) in
     let Result : Hold → Type 0 = λ y. Inv (record { shape = shape; words = set words (content shape (slot_in y) p) (get_or words (content shape (slot_in y) p) 0); holds = set state.holds i (read_hold p (get_or words (content shape (slot_in y) p) 0) y); desk = state.desk }) (log ++ []) in
     subst Result (sym holds_it) (record {
       roles = set roles (suc i) (Reader (suc i) (On s m b'));

@@ -39,8 +39,8 @@ unused-next : (s f : ℕ) → unused s (f + 1) + only s f ≡ unused s f
 unused-next s f = dite (dec_le (f + 1) s)
     (λ l. let a = unused-free s (f + 1) l in let b = unused-free s f (omega arith) in let c = only-other s f (λ e. omega arith) in omega arith)
     (λ l. let a : unused s (f + 1) ≡ 0 = ap (λ b. cond {A = ℕ} b 1 0) (lt-leb (f + 1) s (omega arith)) in dite (ℕ_discrete f s)
-      (λ e. let b = unused-free s f (omega arith) in let c : only s f ≡ 1 = ap (only s) e ∙ only-same s in omega arith)
-      (λ ne. let b : unused s f ≡ 0 = ap (λ b. cond {A = ℕ} b 1 0) (lt-leb f s (omega arith)) in let c = only-other s f ne in omega arith))
+    (λ e. let b = unused-free s f (omega arith) in let c : only s f ≡ 1 = ap (only s) e ∙ only-same s in omega arith)
+    (λ ne. let b : unused s f ≡ 0 = ap (λ b. cond {A = ℕ} b 1 0) (lt-leb f s (omega arith)) in let c = only-other s f ne in omega arith))
 
 pub key_same : (call : WriterCall) → call_key (call_of call) ≡ key_of call
 key_same (Find k) = refl

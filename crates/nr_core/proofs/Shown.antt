@@ -31,9 +31,9 @@ spelt_set shape words s rows fits wide near sp = let short = sp.0.1 in let size 
     let d2 : length (take slot_room (drop c words)) ≡ slot_room = length-take-le slot_room (drop c words) (omega arith) in
     set_of_begins shape.bound (content_words shape words s) rows sp.0 (begins_with (encode rows) (content_words shape words s) (omega arith)
     (λ i low. get_or-take slot_room (drop c words) i 0 (omega arith) ∙ get_or-drop c words i 0 ∙ ap (λ (n : ℕ). get_or words n 0) (place_is i) ∙ sp.1 i low))
-    where
-      place_is : (i : ℕ) → content shape s 0 + i ≡ content shape s i
-      place_is i = omega arith
+  where
+    place_is : (i : ℕ) → content shape s 0 + i ≡ content shape s i
+    place_is i = omega arith
 
 pub shown_is : (state : State) (roles : List Role) (log : List Entry) → Core state.shape state.words roles log → (k : ℕ) → k < state.shape.keys → shown state k ≡ state_of (map_after state.shape log) k
 shown_is state roles log core k near = let shape = state.shape in let words = state.words in let w = get_or words k 0 in let z = state_of (map_after shape log) k in

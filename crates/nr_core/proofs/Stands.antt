@@ -59,10 +59,10 @@ erased_is : (x : Grip) (s : ℕ) (n : Option ℕ) → erased x ≡ hold.On s n �
 erased_is Nothing s n e = let z : 0 ≡ suc s = ap hold_number e in absurd (omega arith)
 erased_is (On t rows b) s n e = let z : suc t ≡ suc s = ap hold_number e in let same : t ≡ s = omega arith in
     (rows, b, ap (λ (u : ℕ). On u rows b) same, known b (sym (ap hold_rows e)))
-    where
-      known : (b : Bool) → n ≡ cond b (Some (length rows)) None → (n ≡ None) ⊎ (n ≡ Some (length rows))
-      known true e = inr e
-      known false e = inl e
+  where
+    known : (b : Bool) → n ≡ cond b (Some (length rows)) None → (n ≡ None) ⊎ (n ≡ Some (length rows))
+    known true e = inr e
+    known false e = inl e
 
 -- an index that is not beyond the set is within its words
 within_words : (index : ℕ) (size : Option ℕ) (rows : List Row) → (size ≡ None) ⊎ (size ≡ Some (length rows)) → if_beyond index size ≡ None → index < length (encode rows)

@@ -59,8 +59,11 @@ fit_reader n roles holds desk f i near x y e = let size = f.size in let callers 
   callers = length-set roles (suc i) (Reader (suc i) x) ∙ f.callers;
   writer = at_other roles (suc i) 0 (Reader (suc i) x) (λ z. omega arith) ∙ f.writer;
   readers = λ j low. dite (ℕ_discrete j i)
-      (λ same. (x, subst (λ (m : ℕ). get_elem? (set roles (suc i) (Reader (suc i) x)) (suc m) ≡ some (Reader (suc m) x)) (sym same) (at_same roles (suc i) (Reader (suc i) x) (omega arith)),
-        ap (λ (m : ℕ). get_or (set holds i y) m hold.Nothing) same ∙ get_or-set_same holds i y hold.Nothing (omega arith) ∙ e))
+      (λ same. (
+        x,
+        subst (λ (m : ℕ). get_elem? (set roles (suc i) (Reader (suc i) x)) (suc m) ≡ some (Reader (suc m) x)) (sym same) (at_same roles (suc i) (Reader (suc i) x) (omega arith)),
+        ap (λ (m : ℕ). get_or (set holds i y) m hold.Nothing) same ∙ get_or-set_same holds i y hold.Nothing (omega arith) ∙ e,
+      ))
       (λ ne. let o = f.readers j low in (o.0, at_other roles (suc i) (suc j) (Reader (suc i) x) (λ z. ne (omega arith)) ∙ o.1, get_or-set_other holds i j y hold.Nothing ne ∙ o.2));
 }
 
@@ -147,17 +150,17 @@ weights s (u ∷ rest) [] i size at_each = absurd (omega arith)
 weights s (u ∷ rest) (y ∷ l) i size at_each = let o = at_each 0 (omega arith) in let role : u ≡ Reader (suc (i + 0)) o.0 = some-injective u (Reader (suc (i + 0)) o.0) o.1 in
     let more = weights s rest l (suc i) (omega arith) (λ j low. let p = at_each (suc j) (omega arith) in (p.0, p.1 ∙ ap (λ (c : ℕ). some (Reader (suc c) p.0)) (omega arith), p.2)) in
     (omega (arith, more.0, ap (holds s) role, ap (on s) o.2, same_weight o.0), omega (arith, more.1, ap (keeps s) role))
-    where
-      same_weight : (x : Grip) → grips s x ≡ on s (erased x)
-      same_weight Nothing = refl
-      same_weight (On t rows b) = refl
+  where
+    same_weight : (x : Grip) → grips s x ≡ on s (erased x)
+    same_weight Nothing = refl
+    same_weight (On t rows b) = refl
 
 pub state_sums : (state : State) (roles : List Role) → Fit state.shape.readers roles state.holds state.desk → (s : ℕ) → (held roles s ≡ total (on s) state.holds) × (total (keeps s) roles ≡ keeps s (Writer state.desk))
 state_sums state roles f s = go roles f.callers f.writer f.readers
-    where
-      go : (l : List Role) → length l ≡ suc state.shape.readers → get_elem? l 0 ≡ some (Writer state.desk) → ((i : ℕ) → i < state.shape.readers → (x : Grip) × (get_elem? l (suc i) ≡ some (Reader (suc i) x)) × (get_or state.holds i hold.Nothing ≡ erased x))
-          → (held l s ≡ total (on s) state.holds) × (total (keeps s) l ≡ keeps s (Writer state.desk))
-      go [] size w r = absurd (omega arith)
-      go (u ∷ rest) size w r = let size' = f.size in let role : u ≡ Writer state.desk = some-injective u (Writer state.desk) w in
-          let t = weights s rest state.holds 0 (omega arith) (λ j low. let o = r j (omega arith) in (o.0, o.1 ∙ ap (λ (c : ℕ). some (Reader (suc c) o.0)) (omega arith), o.2)) in
-          (omega (arith, t.0, ap (holds s) role), omega (arith, t.1, ap (keeps s) role))
+  where
+    go : (l : List Role) → length l ≡ suc state.shape.readers → get_elem? l 0 ≡ some (Writer state.desk) → ((i : ℕ) → i < state.shape.readers → (x : Grip) × (get_elem? l (suc i) ≡ some (Reader (suc i) x)) × (get_or state.holds i hold.Nothing ≡ erased x))
+        → (held l s ≡ total (on s) state.holds) × (total (keeps s) l ≡ keeps s (Writer state.desk))
+    go [] size w r = absurd (omega arith)
+    go (u ∷ rest) size w r = let size' = f.size in let role : u ≡ Writer state.desk = some-injective u (Writer state.desk) w in
+        let t = weights s rest state.holds 0 (omega arith) (λ j low. let o = r j (omega arith) in (o.0, o.1 ∙ ap (λ (c : ℕ). some (Reader (suc c) o.0)) (omega arith), o.2)) in
+        (omega (arith, t.0, ap (holds s) role), omega (arith, t.1, ap (keeps s) role))

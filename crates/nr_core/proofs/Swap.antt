@@ -28,9 +28,9 @@ unnamed_sum : (s w : ℕ) → total (λ (x : Retired). only s x.slot) (unnamed w
 unnamed_sum s w = by_cases (λ v. total (λ (x : Retired). only s x.slot) (cond v (record { slot = slot_of w; arrivals = arrivals_of w } ∷ []) []) ≡ only (suc s) (cond v (slot_of w + 1) 0)) (is_filled w)
     (λ _. omega (arith, only-suc s (slot_of w), ap (only (suc s)) (plus_one (slot_of w))))
     (λ _. omega (arith, only-zero s))
-    where
-      plus_one : (n : ℕ) → n + 1 ≡ suc n
-      plus_one n = omega arith
+  where
+    plus_one : (n : ℕ) → n + 1 ≡ suc n
+    plus_one n = omega arith
 
 unnamed_at : (l : List Retired) (w i : ℕ) (x : Retired) → get_elem? (l ++ unnamed w) i ≡ some x → (get_elem? l i ≡ some x) ⊎ ((name_number w ≡ suc x.slot) × (arrivals_of w ≡ x.arrivals))
 unnamed_at l w i x = by_cases (λ v. get_elem? (l ++ cond v (record { slot = slot_of w; arrivals = arrivals_of w } ∷ []) []) i ≡ some x → (get_elem? l i ≡ some x) ⊎ ((cond v (slot_of w + 1) 0 ≡ suc x.slot) × (arrivals_of w ≡ x.arrivals))) (is_filled w)
@@ -64,7 +64,7 @@ swap_step shape words roles log core id desk is_there k x c y near at_k replies 
           (unnamed_at desk.retired w i z at_i);
     } in
     rename shape words roles log (e ∷ []) core id desk desk' k x near is_there (legal-more shape log e core.legal (sym (replies_so shape log c ∙ ap (λ (j : ℕ). reply_at shape.bound c (state_of map j)) at_k ∙ replies)))
-        (λ j ne. state_other shape log e j (λ z. ne (z ∙ at_k)))
-        (subst (ShowsState shape words x) (sym same) shown)
-        (λ s l. let a = total-append (λ (z : Retired). only s z.slot) desk.retired (unnamed w) in let b = unnamed_sum s w in let c' = took s in omega arith)
-        counted own
+    (λ j ne. state_other shape log e j (λ z. ne (z ∙ at_k)))
+    (subst (ShowsState shape words x) (sym same) shown)
+    (λ s l. let a = total-append (λ (z : Retired). only s z.slot) desk.retired (unnamed w) in let b = unnamed_sum s w in let c' = took s in omega arith)
+    counted own

@@ -101,9 +101,9 @@ arrive_step : (state : State) (log : List Entry) → Inv state log → (r k : �
 arrive_step state log inv r k within near c u = let w = get_or state.words k 0 in let x = cond (is_filled w) (hold.On (slot_of w) None) hold.Nothing in
     dite (ℕ_discrete c (r - 1))
     (λ same. let is : get_or (set state.holds (r - 1) x) c hold.Nothing ≡ x = ap (λ (j : ℕ). get_or (set state.holds (r - 1) x) j hold.Nothing) same ∙ get_or-set_same state.holds (r - 1) x hold.Nothing within in
-      λ more. inr (by_cases (λ v. is_filled w ≡ v → 0 < on u (cond v (hold.On (slot_of w) None) hold.Nothing) → ret_of state u ≡ 0) (is_filled w)
-        (λ yes filled_so more'. let slot_is : slot_of w ≡ u = only-is u (slot_of w) more' in let two : w / 2 % 2 ≡ 1 = eqb-true (w / 2 % 2) 1 yes in let n = name_high w two in named_not_retired state log inv k u near (omega arith))
-        (λ no _ more'. absurd (omega arith)) refl (subst (λ (y : Hold). 0 < on u y) is more)))
+    λ more. inr (by_cases (λ v. is_filled w ≡ v → 0 < on u (cond v (hold.On (slot_of w) None) hold.Nothing) → ret_of state u ≡ 0) (is_filled w)
+    (λ yes filled_so more'. let slot_is : slot_of w ≡ u = only-is u (slot_of w) more' in let two : w / 2 % 2 ≡ 1 = eqb-true (w / 2 % 2) 1 yes in let n = name_high w two in named_not_retired state log inv k u near (omega arith))
+    (λ no _ more'. absurd (omega arith)) refl (subst (λ (y : Hold). 0 < on u y) is more)))
     (λ other. λ more. inl (subst (λ (y : Hold). 0 < on u y) (get_or-set_other state.holds (r - 1) c x hold.Nothing other) more))
 
 -- a reader holds one slot
@@ -121,8 +121,8 @@ poll_noted state log polls p c inv within near n here =
     let desk = inv.core.knows 0 (Writer state.desk) inv.fit.writer in let inside = (desk.retired p z at_p).0 in
     noted_poll (at_of state) (ret_of state) n.notes s c n.noted n.distinct here (omega arith)
     (λ i desk e. let w = n.which i s desk e in let low = w.1 in let x = get_or l i no_retired in let at_i : get_elem? l i ≡ some x = got_at l i no_retired (omega arith) in
-      let both_there = terms_le g l i p x z (λ call. omega arith) at_i at_p in let again : only s x.slot ≡ 1 = ap (only s) w.2 ∙ one in
-      absurd (omega (arith, inv.core.places s inside, (state_sums state inv.roles inv.fit s).1)))
+    let both_there = terms_le g l i p x z (λ call. omega arith) at_i at_p in let again : only s x.slot ≡ 1 = ap (only s) w.2 ∙ one in
+    absurd (omega (arith, inv.core.places s inside, (state_sums state inv.roles inv.fit s).1)))
     (λ u more. one_hold (get_or state.holds c hold.Nothing) u s more here)
 
 at_end : {A : Type 0} (l : List A) (a b : A) (j : ℕ) → get_elem? (l ++ a ∷ []) j ≡ some b → (get_elem? l j ≡ some b) ⊎ ((j ≡ length l) × (a ≡ b))
@@ -130,6 +130,13 @@ at_end [] a b zero e = inr (refl, some-injective a b e)
 at_end [] a b (suc j) e = absurd (some-ne-none b (sym e))
 at_end (x ∷ xs) a b zero e = inl e
 at_end (x ∷ xs) a b (suc j) e = ⊎_elim {A = get_elem? xs j ≡ some b} {B = (j ≡ length xs) × (a ≡ b)} (λ t. inl t) (λ t. inr (ap suc t.0, t.1)) (at_end xs a b j e)
+
+-- the slots that were polled are the first of the retired ones
+pub polled_slots : (state : State) (polls : List Poll) (p : ℕ) → p < length state.desk.retired → map (λ (x : Poll). x.slot) polls ≡ map (λ (x : Retired). x.slot) (take p state.desk.retired)
+    → map (λ (x : Poll). x.slot) (polls ++ poll_at state p ∷ []) ≡ map (λ (x : Retired). x.slot) (take (p + 1) state.desk.retired)
+polled_slots state polls p within slots = let plus_one : p + 1 ≡ suc p = omega arith in let s = (get_or state.desk.retired p no_retired).slot in
+    map-append (λ (x : Poll). x.slot) polls (poll_at state p ∷ []) ∙ ap (λ (l : List ℕ). l ++ s ∷ []) slots
+    ∙ sym (ap (λ (j : ℕ). map (λ (x : Retired). x.slot) (take j state.desk.retired)) plus_one ∙ ap (map (λ (x : Retired). x.slot)) (take-suc state.desk.retired p no_retired within) ∙ map-append (λ (x : Retired). x.slot) (take p state.desk.retired) (get_or state.desk.retired p no_retired ∷ []))
 
 -- a sweep goes on by a slot that was found held, and its polls are no more than the readers
 sweep_more : (state : State) (log : List Entry) (polls : List Poll) (p c : ℕ) → Inv state log → p < length state.desk.retired → c < state.shape.readers → Notes state polls p
@@ -140,31 +147,33 @@ sweep_more state log polls p c inv within near n here desk same =
     let notes' : List (ℕ × ℕ) = n.notes ++ (s, c) ∷ [] in let longer : length notes' ≡ length n.notes + 1 = length-append n.notes ((s, c) ∷ []) in
     let which' : (i u b : ℕ) → get_elem? notes' i ≡ some (u, b) → (b < state.shape.readers) × (i < p + 1) × ((get_or state.desk.retired i no_retired).slot ≡ u)
     = λ i u b e. ⊎_elim {A = get_elem? n.notes i ≡ some (u, b)} {B = (i ≡ length n.notes) × ((s, c) ≡ (u, b))}
-      (λ old. let w = n.which i u b old in (w.0, omega (arith, w.1), w.2))
-      (λ new. (subst (λ (x : ℕ × ℕ). x.1 < state.shape.readers) new.1 near, omega (arith, new.0), ap (λ (j : ℕ). (get_or state.desk.retired j no_retired).slot) (new.0 ∙ size) ∙ ap (λ (x : ℕ × ℕ). x.0) new.1))
-      (at_end n.notes (s, c) (u, b) i e) in
-    let plus_one : p + 1 ≡ suc p = omega arith in
-    (record {
-      notes = notes';
-      size = omega arith;
-      polled = omega (arith, length-append polls (poll_at state p ∷ []));
-      slots = map-append (λ (x : Poll). x.slot) polls (poll_at state p ∷ []) ∙ ap (λ (l : List ℕ). l ++ s ∷ []) n.slots ∙ sym (ap (λ (j : ℕ). map (λ (x : Retired). x.slot) (take j state.desk.retired)) plus_one ∙ ap (map (λ (x : Retired). x.slot)) (take-suc state.desk.retired p no_retired within) ∙ map-append (λ (x : Retired). x.slot) (take p state.desk.retired) (get_or state.desk.retired p no_retired ∷ []));
-      which = which';
-      noted = t.0;
-      distinct = t.1;
-    }, let few = few_notes notes' state.shape.readers t.1 (λ i u b e. (which' i u b e).0) in omega arith)
+    (λ old. let w = n.which i u b old in (w.0, omega (arith, w.1), w.2))
+    (λ new. (subst (λ (x : ℕ × ℕ). x.1 < state.shape.readers) new.1 near, omega (arith, new.0), ap (λ (j : ℕ). (get_or state.desk.retired j no_retired).slot) (new.0 ∙ size) ∙ ap (λ (x : ℕ × ℕ). x.0) new.1))
+    (at_end n.notes (s, c) (u, b) i e) in
+    let plus_one : p + 1 ≡ suc p = omega arith in (
+      record {
+        notes = notes';
+        size = omega arith;
+        polled = omega (arith, length-append polls (poll_at state p ∷ []));
+        slots = polled_slots state polls p within n.slots;
+        which = which';
+        noted = t.0;
+        distinct = t.1;
+      },
+      let few = few_notes notes' state.shape.readers t.1 (λ i u b e. (which' i u b e).0) in omega arith,
+    )
 
 -- EVERY EVENT KEEPS A SWEEP
 
 reader_swept : (state : State) (words : List ℕ) (hs : List Hold) (polls : List Poll) → ((c u : ℕ) → 0 < on u (get_or hs c hold.Nothing) → (0 < at_of state c u) ⊎ (ret_of state u ≡ 0)) → Swept state polls → Swept (record { shape = state.shape; words = words; holds = hs; desk = state.desk }) polls
 reader_swept state words hs polls step s = record { few = s.few; sweep = go state.desk.place s.sweep; held = s.held }
-    where
-      go : (p : Place) → AtSweep state polls p → AtSweep (record { shape = state.shape; words = words; holds = hs; desk = state.desk }) polls p
-      go Idle t = tt
-      go (Reading call u got) t = t
-      go (Leaving k) t = tt
-      go (Searching call rows p) t = keeps_notes state words hs polls p step t
-      go (Putting call rows u departed i) t = tt
+  where
+    go : (p : Place) → AtSweep state polls p → AtSweep (record { shape = state.shape; words = words; holds = hs; desk = state.desk }) polls p
+    go Idle t = tt
+    go (Reading call u got) t = t
+    go (Leaving k) t = tt
+    go (Searching call rows p) t = keeps_notes state words hs polls p step t
+    go (Putting call rows u departed i) t = tt
 
 other_reader : (state : State) (i : ℕ) (x : Hold) → i < length state.holds → ((u : ℕ) → 0 < on u x → 0 < at_of state i u) → (c u : ℕ) → 0 < on u (get_or (set state.holds i x) c hold.Nothing) → (0 < at_of state c u) ⊎ (ret_of state u ≡ 0)
 other_reader state i x within own c u = dite (ℕ_discrete c i)
@@ -218,10 +227,10 @@ got_or (y ∷ l) (suc j) x e = let t = got_or l j x e in (t.0, omega (arith, t.1
 some_holder : (s : ℕ) (l : List Hold) (r : ℕ) → 0 < total (on s) l → 0 < length (holders_from r s l)
 some_holder s [] r more = absurd (omega arith)
 some_holder s (x ∷ l) r more = by_cases (λ v. (on s x ≡ cond v 1 0) → 0 < length (cond v (r ∷ holders_from (r + 1) s l) (holders_from (r + 1) s l))) (is_on s x) (λ _ _. omega arith) (λ _ none. some_holder s l (r + 1) (omega arith)) (counts_as x)
-    where
-      counts_as : (x : Hold) → on s x ≡ cond (is_on s x) 1 0
-      counts_as hold.Nothing = refl
-      counts_as (hold.On t n) = refl
+  where
+    counts_as : (x : Hold) → on s x ≡ cond (is_on s x) 1 0
+    counts_as hold.Nothing = refl
+    counts_as (hold.On t n) = refl
 
 all_more : {A : Type 0} (P : A → Type 0) (l : List A) (a desk : A) → ((i : ℕ) → i < length l → P (get_or l i desk)) → P a → (i : ℕ) → i < length (l ++ a ∷ []) → P (get_or (l ++ a ∷ []) i desk)
 all_more P [] a desk all one zero low = one
@@ -235,7 +244,7 @@ has_holder x = 0 < length x.holders
 -- the writer's step after its look
 go_swept : (state : State) (log : List Entry) (polls : List Poll) → Inv state log → Swept state polls → (p : Place) → state.desk.place ≡ p → (w : ℕ) → w ≡ get_or state.words (place_of (going state.shape state.desk p)) 0 → (words : List ℕ)
     → let desk' = (went state.shape state.desk p w).0 in Swept (record { shape = state.shape; words = words; holds = state.holds; desk = desk' })
-    (elim p as (λ _. List Poll) [ | Idle ↦ polls | Reading call s got ↦ polls | Leaving k ↦ polls | Searching call rows i ↦ cond (nat_eq (w % 2 ^ 40) ((retired_at state.desk i).arrivals % 2 ^ 40)) polls (polls ++ poll_at state i ∷ []) | Putting call rows s e i ↦ polls ])
+    (elim p as (λ _. List Poll) [ Idle ↦ polls | Reading call s got ↦ polls | Leaving k ↦ polls | Searching call rows i ↦ cond (nat_eq (w % 2 ^ 40) ((retired_at state.desk i).arrivals % 2 ^ 40)) polls (polls ++ poll_at state i ∷ []) | Putting call rows s e i ↦ polls ])
 go_swept state log polls inv s Idle is w w_is words = record { few = s.few; sweep = subst (λ (p : Place). AtSweep (with_desk state.shape words state.holds state.desk) polls p) (sym is) tt; held = s.held }
 go_swept state log polls inv s (Reading call t got) is w w_is words = record { few = s.few; sweep = read_good state.shape words state.holds state.desk call t (got ++ w ∷ []) polls (subst (AtSweep state polls) is s.sweep); held = s.held }
 go_swept state log polls inv s (Leaving k) is w w_is words = record { few = s.few; sweep = tt; held = s.held }
@@ -250,16 +259,16 @@ go_swept state log polls inv sw (Searching call rows p) is w w_is words =
     by_cases (λ v. Swept (with_desk shape words state.holds (cond {A = Desk × Step} v (Taken, Going) Rest).0) (cond v polls (polls ++ poll_at state p ∷ []))) (nat_eq (w % 2 ^ 40) (z.arrivals % 2 ^ 40))
     (λ _. record { few = sw.few; sweep = tt; held = sw.held })
     (λ no. let miss : w % 2 ^ 40 ≢ z.arrivals % 2 ^ 40 = eqb-false (w % 2 ^ 40) (z.arrivals % 2 ^ 40) no in
-      let held_there : 0 < total (on s) state.holds = omega (arith, (state_sums state inv.roles inv.fit s).0) in
-      let who = some_term (on s) state.holds held_there in let got = got_or state.holds who.0 who.1 who.2 in let size = inv.fit.size in let low = got.1 in
-      let here : 0 < at_of state who.0 s = subst (λ (x : Hold). 0 < on s x) (sym got.0) who.3 in
-      let more = sweep_more state log polls p who.0 inv within (omega arith) n here desk refl in let few = more.1 in let polled = n.polled in
-      record {
-        few = omega (arith, length-append polls (poll_at state p ∷ []));
-        sweep = by_cases (λ v. Good shape words state.holds (polls ++ poll_at state p ∷ []) (cond {A = Desk × Step} v (moved_to desk (Searching call rows (p + 1)), Going) (moved_to desk Idle, no_slot shape desk))) (nat_lt (p + 1) (length desk.retired))
-            (λ _. let m = more.0 in record { notes = m.notes; size = m.size; polled = m.polled; slots = m.slots; which = m.which; noted = m.noted; distinct = m.distinct }) (λ _. tt);
-        held = all_more has_holder polls (poll_at state p) (record { slot = 0; holders = [] }) sw.held (some_holder s state.holds 1 held_there);
-      })
+    let held_there : 0 < total (on s) state.holds = omega (arith, (state_sums state inv.roles inv.fit s).0) in
+    let who = some_term (on s) state.holds held_there in let got = got_or state.holds who.0 who.1 who.2 in let size = inv.fit.size in let low = got.1 in
+    let here : 0 < at_of state who.0 s = subst (λ (x : Hold). 0 < on s x) (sym got.0) who.3 in
+    let more = sweep_more state log polls p who.0 inv within (omega arith) n here desk refl in let few = more.1 in let polled = n.polled in
+    record {
+      few = omega (arith, length-append polls (poll_at state p ∷ []));
+      sweep = by_cases (λ v. Good shape words state.holds (polls ++ poll_at state p ∷ []) (cond {A = Desk × Step} v (moved_to desk (Searching call rows (p + 1)), Going) (moved_to desk Idle, no_slot shape desk))) (nat_lt (p + 1) (length desk.retired))
+          (λ _. let m = more.0 in record { notes = m.notes; size = m.size; polled = m.polled; slots = m.slots; which = m.which; noted = m.noted; distinct = m.distinct }) (λ _. tt);
+      held = all_more has_holder polls (poll_at state p) (record { slot = 0; holders = [] }) sw.held (some_holder s state.holds 1 held_there);
+    })
 
 pub swept_event : (state : State) (log : List Entry) (polls : List Poll) (event : Event) → Inv state log → Swept state polls → refusal state event ≡ None → Swept (moved state event) (polls_after state polls event)
 swept_event state log polls (Arrive r k) inv s ok =

@@ -33,8 +33,8 @@ after_start state log call given inv ok = let shape = state.shape in let words =
 pub after_go : (state : State) (log : List Entry) → Inv state log → refusal state Go ≡ None → Inv (moved state Go) (log ++ told state Go)
 after_go state log inv ok = let shape = state.shape in let words = state.words in let roles = inv.roles in let f = inv.fit in let desk = state.desk in let o = went shape desk desk.place (get_or words (place_of (going shape desk desk.place)) 0) in
     let step = goes shape 0 desk ok words roles log inv.core f.writer in record {
-  roles = set roles 0 (Writer o.0);
-  core = core_after shape words roles log 0 (Writer desk) (going shape desk desk.place) (Goes shape desk) step (Writer o.0) (ending_at desk.place o.1) step.told.0 step.told.1;
-  fit = fit_writer shape.readers roles state.holds desk o.0 f;
-  found = found_writer roles log (ending_at desk.place o.1) o.0 inv.found (ending_at_other desk.place o.1);
-}
+      roles = set roles 0 (Writer o.0);
+      core = core_after shape words roles log 0 (Writer desk) (going shape desk desk.place) (Goes shape desk) step (Writer o.0) (ending_at desk.place o.1) step.told.0 step.told.1;
+      fit = fit_writer shape.readers roles state.holds desk o.0 f;
+      found = found_writer roles log (ending_at desk.place o.1) o.0 inv.found (ending_at_other desk.place o.1);
+    }

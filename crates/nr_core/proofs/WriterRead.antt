@@ -1,10 +1,8 @@
 -- The writer reads a word of the slot that its key names; the last read decides its find or update.
 use Rattle.std.proofs.Common.{List, [], ap, arith, cond, get_or, length, nat_eq, refl, set, subst, suc, sym, take, ℕ, ◌*◌, ◌++◌, ◌+◌, ◌-◌, ◌<◌, ◌∙◌, ◌∷◌, ◌≡◌, ◌≢◌}
 use Rattle.std.proofs.lemmas.Bool.{eqb-false, eqb-true}
-use Rattle.std.proofs.lemmas.List.{length-append, take_all}
 use Rattle.std.specs.Prelude.{Err, Ok, Result}
 use lib.ListN.{get_elem?}
-use lib.Seq.{take-suc}
 use mathlib.Core.Option.{some}
 use Rattle.nr_model.proofs.LawLemmas.{batch_moves_rows_lem}
 use Rattle.nr_model.specs.Batches.{applied}
@@ -16,10 +14,10 @@ use Rattle.nr_model.specs.declared.rows.Row.{Row}
 use Rattle.nr_words.specs.SetWords.{encode}
 use Rattle.nr_core.proofs.Choices.{by_cases}
 use Rattle.nr_core.proofs.Frames.{length-row_words, not_hole}
-use Rattle.nr_core.proofs.Sets.{set_back}
+use Rattle.nr_core.proofs.ReadThrough.{length-got_next, read_first, read_next, read_set, read_whole}
 use Rattle.nr_core.proofs.Settle.{ends, goes_on, idle_desk, settles}
-use Rattle.nr_core.specs.Core.{AtDesk, AtPlace, Core, Reads, ShowsState, held, keeps, taken}
-use Rattle.nr_core.specs.Slots.{SlotSpells, content, name_number, set_of, unused}
+use Rattle.nr_core.specs.Core.{AtDesk, AtPlace, Core, Reads, held, keeps, taken}
+use Rattle.nr_core.specs.Slots.{content, set_of, unused}
 use Rattle.nr_core.specs.States.{key_of}
 use Rattle.nr_core.specs.Story.{call_of, ending, map_after}
 use Rattle.nr_core.specs.Sums.{only, total}
@@ -63,27 +61,22 @@ pub reads_on : (shape : Shape) (words : List ℕ) (roles : List Role) (log : Lis
     → let i = content shape s (length got) in let o = read_on shape desk call s (got ++ get_or words i 0 ∷ []) in
     Core shape (set words i (get_or words i 0)) (set roles id (Writer o.0)) (log ++ ending (call_of call) o.1)
 reads_on shape words roles log core id desk is_there call s got is_at = let t = core.knows id (Writer desk) is_there in let map = map_after shape log in
-    let i : ℕ = content shape s (length got) in let w : ℕ = get_or words i 0 in let k : ℕ = key_of call in
-    let p : Reads shape words map (held roles) k s got = subst (AtPlace shape words map (held roles) desk.fresh desk.retired) is_at t.place in let rows : List Row = p.rows in let flat-size = length-row_words rows in let more = p.more in
-    let sp : (u : ℕ) × (name_number (get_or words k 0) ≡ suc u) × (u < shape.slots) × SlotSpells shape words u rows = subst (ShowsState shape words (get_or words k 0)) p.full (core.shows k p.near) in
-    let row_set = sp.3.0 in let same_slot : sp.0 ≡ s = let a = sp.1 in let b = p.names in omega arith in
-    let word_is : w ≡ get_or (encode rows) (length got) 0 = subst (λ (u : ℕ). get_or words (content shape u (length got)) 0 ≡ get_or (encode rows) (length got) 0) same_slot (sp.3.1 (length got) (omega arith)) in
+    let i : ℕ = content shape s (length got) in let w : ℕ = get_or words i 0 in
+    let p : Reads shape words map (held roles) (key_of call) s got = subst (AtPlace shape words map (held roles) desk.fresh desk.retired) is_at t.place in
     let got' : List ℕ = got ++ w ∷ [] in
-    let longer : length got' ≡ length got + 1 = length-append got (w ∷ []) in
-    let now_got : got' ≡ take (suc (length got)) (encode rows) = ap (λ (y : ℕ). got ++ y ∷ []) word_is ∙ ap (λ (l : List ℕ). l ++ get_or (encode rows) (length got) 0 ∷ []) p.part ∙ sym (take-suc (encode rows) (length got) 0 (omega arith)) in
-    let first : get_or got' 0 0 ≡ length rows = ap (λ (l : List ℕ). get_or l 0 0) now_got in
+    let longer : length got' ≡ suc (length got) = length-got_next shape words roles log core (key_of call) s got p in
+    let first : get_or got' 0 0 ≡ length p.rows = read_first shape words roles log core (key_of call) s got p in
     let keeps_so : (u : ℕ) → keeps u (Writer (moved_to desk Idle)) ≡ keeps u (Writer desk) = λ u. ap (λ (y : Place). unused u desk.fresh + total (λ (x : Retired). only u x.slot) desk.retired + taken u y) (sym is_at) in
-    let idle = idle_desk shape words map (held roles) desk t in
+    let idle = idle_desk shape words map (held roles) desk t in let size = length-row_words p.rows in
     let Good : Desk × Step → Type 0 = λ o. Core shape (set words i w) (set roles id (Writer o.0)) (log ++ ending (call_of call) o.1) in
     by_cases (λ v. Good (cond {A = Desk × Step} v (decided shape desk call (set_of shape.bound got')) (moved_to desk (Reading call s got'), Going))) (nat_eq (length got') (2 * get_or got' 0 0 + 1))
     (λ yes. let whole : length got' ≡ 2 * get_or got' 0 0 + 1 = eqb-true (length got') (2 * get_or got' 0 0 + 1) yes in
-      let all_got : got' ≡ encode rows = now_got ∙ take_all (suc (length got)) (encode rows) (omega arith) in
-      let the_set : set_of shape.bound got' ≡ rows = ap (set_of shape.bound) all_got ∙ set_back shape.bound rows row_set in
-      subst (λ (l : List Row). Good (decided shape desk call l)) (sym the_set) (decide_all shape words roles log core id desk is_there i call rows p.near p.full row_set keeps_so idle))
-    (λ no. let unfinished : length got' ≢ 2 * get_or got' 0 0 + 1 = eqb-false (length got') (2 * get_or got' 0 0 + 1) no in
-      let same_len : suc (length got) ≡ length got' = omega arith in goes_on shape words roles log core id desk is_there i (moved_to desk (Reading call s got')) keeps_so (record {
-        place = record { near = p.near; names = p.names; rows = rows; full = p.full; part = now_got ∙ ap (λ (n : ℕ). take n (encode rows)) same_len; more = omega arith };
-        room = t.room;
-        free = t.free;
-        retired = t.retired;
-      }))
+    subst (λ (l : List Row). Good (decided shape desk call l)) (sym (read_whole shape words roles log core (key_of call) s got p whole))
+    (decide_all shape words roles log core id desk is_there i call p.rows p.near p.full (read_set shape words roles log core (key_of call) s got p) keeps_so idle))
+    (λ no. let unfinished : length got' ≢ 2 * get_or got' 0 0 + 1 = eqb-false (length got') (2 * get_or got' 0 0 + 1) no in let more = p.more in
+    let same_len : suc (length got) ≡ length got' = omega arith in goes_on shape words roles log core id desk is_there i (moved_to desk (Reading call s got')) keeps_so (record {
+      place = record { near = p.near; names = p.names; rows = p.rows; full = p.full; part = read_next shape words roles log core (key_of call) s got p ∙ ap (λ (n : ℕ). take n (encode p.rows)) same_len; more = omega arith };
+      room = t.room;
+      free = t.free;
+      retired = t.retired;
+    }))

@@ -75,14 +75,14 @@ abbrev pub taking_retired : Desk → WriterCall → List Row → ℕ → ℕ →
 taking_retired desk call rows poll found = record { place = Putting call rows (retired_at desk poll).slot found 0; fresh = desk.fresh; retired = remove desk.retired poll }
 
 -- a poll that found its slot held
-abbrev pub missed : Shape → Desk → WriterCall → List Row → ℕ → Desk × Step
-missed shape desk call rows poll =
+abbrev pub polls_on : Shape → Desk → WriterCall → List Row → ℕ → Desk × Step
+polls_on shape desk call rows poll =
     (if nat_lt (poll + 1) (length desk.retired) then (moved_to desk (Searching call rows (poll + 1)), Going) else (moved_to desk Idle, no_slot shape desk))
 
 -- a poll of the retired slot at a place of the list: where its departures are its arrivals, no reader holds it
 abbrev pub polled : Shape → Desk → WriterCall → List Row → ℕ → ℕ → Desk × Step
 polled shape desk call rows poll found =
-    (if same_count found (retired_at desk poll).arrivals then (taking_retired desk call rows poll found, Going) else missed shape desk call rows poll)
+    (if same_count found (retired_at desk poll).arrivals then (taking_retired desk call rows poll found, Going) else polls_on shape desk call rows poll)
 
 -- the slot that a word named, with its arrivals
 abbrev pub unnamed : ℕ → List Retired
