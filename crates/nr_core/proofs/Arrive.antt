@@ -1,8 +1,8 @@
 -- A reader arrives: it finds the key's set and holds its slot, or finds a hole.
-use Rattle.std.proofs.Common.{List, [], ap, arith, false, get_or, inl, inr, refl, subst, suc, sym, ℕ, ◌%◌, ◌++◌, ◌+◌, ◌-◌, ◌<◌, ◌^◌, ◌∙◌, ◌∷◌, ◌≡◌}
+use Rattle.std.proofs.Common.{List, [], ap, arith, false, get_or, inl, inr, refl, subst, suc, sym, ℕ, ◌%◌, ◌++◌, ◌+◌, ◌<◌, ◌^◌, ◌∙◌, ◌∷◌, ◌≡◌}
 use mathlib.Core.Logic.{dite}
 use native.Mathlib.Decide.{ℕ_discrete}
-use Rattle.nr_model.specs.Histories.{Entry, after}
+use Rattle.nr_model.specs.Histories.{Entry}
 use Rattle.nr_model.specs.Maps.{find_reply, state_of}
 use Rattle.nr_model.specs.declared.calls.Reply.{Reply}
 use Rattle.nr_model.specs.declared.states.KeyState.{KeyState}
@@ -15,7 +15,7 @@ use Rattle.nr_core.specs.Core.{ShowsState, holds}
 use Rattle.nr_core.specs.Operations.{Add}
 use Rattle.nr_core.specs.Slots.{name_number}
 use Rattle.nr_core.specs.Steps.{Arrives, CanStep, Stepped}
-use Rattle.nr_core.specs.Story.{entry, map_after, shown, told}
+use Rattle.nr_core.specs.Story.{entry, map_after}
 use Rattle.nr_core.specs.Sums.{only}
 use Rattle.nr_core.specs.declared.roles.Grip.TheVariants.{Nothing, On}
 use Rattle.nr_core.specs.declared.roles.Role.TheVariants.{Reader}

@@ -1,22 +1,22 @@
 -- A reader requests a key: the key is asked, unless it is filled.
-use Rattle.std.proofs.Common.{List, [], ap, arith, cond, eq-eqb, get_or, ne_eqb, refl, subst, sym, ℕ, ◌%◌, ◌++◌, ◌+◌, ◌-◌, ◌<◌, ◌∙◌, ◌∷◌, ◌≡◌}
+use Rattle.std.proofs.Common.{List, [], ap, arith, cond, eq-eqb, get_or, ne_eqb, refl, subst, sym, ℕ, ◌%◌, ◌++◌, ◌<◌, ◌∙◌, ◌∷◌, ◌≡◌}
 use Rattle.std.specs.Prelude.{bit_or}
 use mathlib.Core.Logic.{dite}
 use native.Mathlib.Decide.{ℕ_discrete}
-use Rattle.nr_model.specs.Histories.{after}
 use Rattle.nr_model.specs.Maps.{ask_reply, asked as asked_state, state_of}
 use Rattle.nr_model.specs.declared.calls.Reply.{Reply}
 use Rattle.nr_model.specs.declared.states.KeyState.{KeyState}
+use Rattle.nr_words.proofs.KeyWordLemmas.{with_ask_is}
 use Rattle.nr_words.specs.KeyWords.{has_ask}
 use Rattle.nr_core.proofs.Histories.{legal-more, replies_so, state_other, state_same}
-use Rattle.nr_core.proofs.KeyWords.{name-asked, names_none, names_one, or_one}
+use Rattle.nr_core.proofs.KeyWords.{name-asked, names_none, names_one}
 use Rattle.nr_core.proofs.OnKey.{on_key}
 use Rattle.nr_core.proofs.Sums.{total-set}
 use Rattle.nr_core.specs.Core.{ShowsState, holds}
 use Rattle.nr_core.specs.Operations.{Or}
 use Rattle.nr_core.specs.Slots.{name_number}
 use Rattle.nr_core.specs.Steps.{Asks, CanStep, ask_word}
-use Rattle.nr_core.specs.Story.{entry, map_after, told}
+use Rattle.nr_core.specs.Story.{entry, map_after}
 use Rattle.nr_core.specs.declared.roles.Grip.TheVariants.{Nothing}
 use Rattle.nr_core.specs.declared.roles.Role.TheVariants.{Reader}
 use Rattle.nr_core.specs.declared.shape.Shape.{Shape}
@@ -43,7 +43,7 @@ asked_word shape words w (key.Rows rows) t = sym (ap (λ b. cond b reply.Filled 
 
 pub asks : (shape : Shape) (id reader k : ℕ) → k < shape.keys → CanStep shape id (Reader reader Nothing) (Or k 1) (Asks reader k)
 asks shape id reader k near words roles log core there =
-    let w : ℕ = get_or words k 0 in let x : ℕ = bit_or w 1 in let map = map_after shape log in let state = state_of map k in let one = or_one w in
+    let w : ℕ = get_or words k 0 in let x : ℕ = bit_or w 1 in let map = map_after shape log in let state = state_of map k in let one = with_ask_is w in
     let name = name-asked w x one in let e = entry reader (model.Ask k) (ask_reply state) in
     let same : state_of (map_after shape (log ++ e ∷ [])) k ≡ asked_state state = state_same shape log e near in let shown = core.shows k near in
     let other = state_other shape log e in record {

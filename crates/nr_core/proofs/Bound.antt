@@ -1,35 +1,12 @@
 -- How many different readers there can be in a list of notes.
-use Rattle.std.proofs.Common.{List, [], ap, arith, inl, inr, length, refl, subst, suc, sym, zero, ℕ, ⊎_elim, ◌++◌, ◌+◌, ◌-◌, ◌<◌, ◌∙◌, ◌∷◌, ◌≡◌, ◌≤◌, ◌⊎◌}
+use Rattle.std.proofs.Common.{List, [], ap, arith, inl, inr, length, refl, subst, suc, sym, ℕ, ⊎_elim, ◌++◌, ◌+◌, ◌-◌, ◌<◌, ◌∙◌, ◌∷◌, ◌≡◌, ◌≤◌, ◌⊎◌}
 use lib.ListN.{get_elem?}
 use mathlib.Core.Logic.{dite}
 use mathlib.Core.Option.{some}
 use native.Mathlib.Decide.{ℕ_discrete}
 use Rattle.nr_core.proofs.Seat.{notes}
-use Rattle.nr_core.proofs.Sums.{at_snoc, only-is, only-le, only-other, only-same, some_term, total-append}
+use Rattle.nr_core.proofs.Sums.{at_snoc, below-few, below-only, exchanged, only-is, only-le, only-other, some_term, total-append}
 use Rattle.nr_core.specs.Sums.{below, only, total}
-
-module _ {A : Type 0} where
-  pub exchanged : (f : ℕ → A → ℕ) (l : List A) (n : ℕ) → below (λ c. total (f c) l) n ≡ total (λ x. below (λ c. f c x) n) l
-  exchanged f l zero = sym (nil l)
-    where
-      nil : (l : List A) → total (λ (_ : A). 0) l ≡ 0
-      nil [] = refl
-      nil (x ∷ xs) = omega (arith, nil xs)
-  exchanged f l (suc n) = omega (arith, exchanged f l n, split l)
-    where
-      split : (l : List A) → total (λ x. below (λ c. f c x) n + f n x) l ≡ total (λ x. below (λ c. f c x) n) l + total (f n) l
-      split [] = refl
-      split (x ∷ xs) = omega (arith, split xs)
-
-below-bound : (f : ℕ → ℕ) (n : ℕ) → ((c : ℕ) → f c ≤ 1) → below f n ≤ n
-below-bound f zero h = omega arith
-below-bound f (suc n) h = omega (arith, h n, below-bound f n h)
-
-pub below-only : (x n : ℕ) → (x < n → below (λ c. only c x) n ≡ 1) × (n ≤ x → below (λ c. only c x) n ≡ 0)
-below-only x zero = ((λ h. absurd (omega arith)), λ _. refl)
-below-only x (suc n) = let before = below-only x n in dite (ℕ_discrete x n)
-    (λ e. let one : only n x ≡ 1 = ap (only n) e ∙ only-same n in ((λ h. omega (arith, before.1 (omega arith))), λ h. absurd (omega arith)))
-    (λ ne. let none = only-other n x ne in ((λ h. omega (arith, before.0 (omega arith))), λ h. omega (arith, before.1 (omega arith))))
 
 all-below : (l : List (ℕ × ℕ)) (n : ℕ) → ((i s c : ℕ) → get_elem? l i ≡ some (s, c) → c < n) → total (λ (x : ℕ × ℕ). below (λ c. only c x.1) n) l ≡ length l
 all-below [] n h = refl
@@ -37,7 +14,7 @@ all-below (x ∷ xs) n h = omega (arith, (below-only x.1 n).0 (h 0 x.0 x.1 refl)
 
 -- notes of different readers below n are at most n
 pub few_notes : (l : List (ℕ × ℕ)) (n : ℕ) → ((c : ℕ) → total (λ (x : ℕ × ℕ). only c x.1) l ≤ 1) → ((i s c : ℕ) → get_elem? l i ≡ some (s, c) → c < n) → length l ≤ n
-few_notes l n once inside = omega (arith, exchanged (λ c (x : ℕ × ℕ). only c x.1) l n, all-below l n inside, below-bound (λ c. total (λ (x : ℕ × ℕ). only c x.1) l) n once)
+few_notes l n once inside = omega (arith, exchanged (λ c (x : ℕ × ℕ). only c x.1) l n, all-below l n inside, below-few (λ c. total (λ (x : ℕ × ℕ). only c x.1) l) n (λ c _. once c))
 
 -- what the notes of a sweep keep: a noted reader holds the noted slot, or one that is not retired
 abbrev pub Noted : (ℕ → ℕ → ℕ) → (ℕ → ℕ) → List (ℕ × ℕ) → Type 0
@@ -50,7 +27,7 @@ Distinct notes = (c : ℕ) → total (λ (x : ℕ × ℕ). only c x.1) notes ≤
 pub noted_step : (at at' : ℕ → ℕ → ℕ) (ret : ℕ → ℕ) (notes : List (ℕ × ℕ)) → ((c u : ℕ) → 0 < at' c u → (0 < at c u) ⊎ (ret u ≡ 0)) → Noted at ret notes → Noted at' ret notes
 noted_step at at' ret notes step n i s c e u h = ⊎_elim (λ (t : 0 < at c u). n i s c e u t) (λ (t : ret u ≡ 0). inr t) (step c u h)
 
--- a poll_at that finds a retired slot held notes a reader that was not noted
+-- a poll that finds a retired slot held notes a reader that was not noted
 pub noted_poll : (at : ℕ → ℕ → ℕ) (ret : ℕ → ℕ) (notes : List (ℕ × ℕ)) (s c : ℕ) → Noted at ret notes → Distinct notes → 0 < at c s → 0 < ret s → ((i d : ℕ) → get_elem? notes i ≡ some (s, d) → ⊥)
     → ((u : ℕ) → 0 < at c u → u ≡ s) → Noted at ret (notes ++ (s, c) ∷ []) × Distinct (notes ++ (s, c) ∷ [])
 noted_poll at ret notes s c n d here retired new one = (

@@ -1,5 +1,5 @@
 -- The core state after a step, by the role and the entries that the step tells.
-use Rattle.std.proofs.Common.{List, get_or, set, subst, ℕ, ◌++◌, ◌+◌, ◌≡◌}
+use Rattle.std.proofs.Common.{List, get_or, set, subst, ℕ, ◌++◌, ◌≡◌}
 use Rattle.nr_model.specs.Histories.{Entry, after}
 use Rattle.nr_core.specs.Core.{Core}
 use Rattle.nr_core.specs.Operations.{Operation, becomes, operation, place_of}

@@ -1,5 +1,5 @@
 -- How many slots are where, of any core state: a retired slot stands once, the retired ones are no more than the slots, and once every slot was taken the filled keys and the retired slots are all of them.
-use Rattle.std.proofs.Common.{Bool, List, [], ap, arith, cond, get_or, length, refl, set, suc, sym, zero, ℕ, ◌+◌, ◌-◌, ◌<◌, ◌∙◌, ◌∷◌, ◌≡◌, ◌≤◌}
+use Rattle.std.proofs.Common.{Bool, List, [], ap, arith, cond, get_or, length, refl, set, suc, sym, ℕ, ◌+◌, ◌-◌, ◌<◌, ◌∙◌, ◌∷◌, ◌≡◌, ◌≤◌}
 use Rattle.std.proofs.lemmas.Bool.{lt-leb}
 use Rattle.std.specs.List.{count_by}
 use lib.ListN.{get_elem?}
@@ -10,10 +10,9 @@ use Rattle.nr_model.proofs.HistoryLemmas.{count_by-cons}
 use Rattle.nr_model.specs.Histories.{Entry}
 use Rattle.nr_model.specs.Maps.{filled_count, is_filled as is_filled_key, state_of}
 use Rattle.nr_model.specs.declared.states.KeyState.{KeyState}
-use Rattle.nr_core.proofs.Bound.{below-only, exchanged}
 use Rattle.nr_core.proofs.Histories.{length-now}
 use Rattle.nr_core.proofs.OnKey.{in_range}
-use Rattle.nr_core.proofs.Sums.{below-same, below-term, only-same, only-suc, only-zero, terms_le, total-set}
+use Rattle.nr_core.proofs.Sums.{below-exchanged, below-few, below-fewer, below-first, below-one, below-only, below-same, below-sum, below-term, below-zero, exchanged, only-same, only-suc, only-zero, terms_le, total-set}
 use Rattle.nr_core.specs.Core.{Core, ShowsState, is_writer, keeps, retirements, taken}
 use Rattle.nr_core.specs.Slots.{name_number, named, unused}
 use Rattle.nr_core.specs.Story.{map_after}
@@ -24,38 +23,6 @@ use Rattle.nr_core.specs.declared.roles.Role.{Role}
 use Rattle.nr_core.specs.declared.roles.Role.TheVariants.{Note, Reader, Writer}
 use Rattle.nr_core.specs.declared.shape.Shape.{Shape}
 use Rattle.nr_model.specs.declared.states.KeyState.TheVariants as key
-
--- SUMS BELOW A NUMBER
-
-below-first : (f : ℕ → ℕ) (n : ℕ) → below f (suc n) ≡ f 0 + below (λ k. f (suc k)) n
-below-first f zero = omega arith
-below-first f (suc n) = omega (arith, below-first f n)
-
-below-zero : (n : ℕ) → below (λ _. 0) n ≡ 0
-below-zero zero = refl
-below-zero (suc n) = omega (arith, below-zero n)
-
-below-sum : (f g : ℕ → ℕ) (n : ℕ) → below (λ k. f k + g k) n ≡ below f n + below g n
-below-sum f g zero = refl
-below-sum f g (suc n) = omega (arith, below-sum f g n)
-
-below-exchanged : (f : ℕ → ℕ → ℕ) (n m : ℕ) → below (λ s. below (f s) m) n ≡ below (λ k. below (λ s. f s k) n) m
-below-exchanged f n zero = below-zero n
-below-exchanged f n (suc m) = omega (arith, below-sum (λ s. below (f s) m) (λ s. f s m) n, below-exchanged f n m)
-
-below-one : (n : ℕ) → below (λ _. 1) n ≡ n
-below-one zero = refl
-below-one (suc n) = omega (arith, below-one n)
-
-below-few : (f : ℕ → ℕ) (n : ℕ) → ((s : ℕ) → s < n → f s ≤ 1) → below f n ≤ n
-below-few f zero few = omega arith
-below-few f (suc n) few = omega (arith, below-few f n (λ s l. few s (omega arith)), few n (omega arith))
-
-below-fewer : (f : ℕ → ℕ) (n t : ℕ) → ((s : ℕ) → s < n → f s ≤ 1) → t < n → f t ≡ 0 → below f n < n
-below-fewer f zero t few near none = absurd (omega arith)
-below-fewer f (suc n) t few near none = dite (ℕ_discrete t n)
-    (λ e. let last : f n ≡ 0 = ap f (sym e) ∙ none in omega (arith, below-few f n (λ s l. few s (omega arith))))
-    (λ ne. omega (arith, below-fewer f n t (λ s l. few s (omega arith)) (omega arith) none, few n (omega arith)))
 
 count_below : {A : Type 0} (p : A → Bool) (d : A) (l : List A) → count_by p l ≡ below (λ k. cond (p (get_or l k d)) 1 0) (length l)
 count_below p d [] = refl

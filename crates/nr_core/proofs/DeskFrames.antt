@@ -1,5 +1,5 @@
 -- The writer's steps that change no word, and those that swap a key's word: they keep all that stands.
-use Rattle.std.proofs.Common.{List, ap, arith, get_or, get_or-set_other, get_or-set_same, length-set, refl, set, subst, suc, sym, ℕ, ⊎_elim, ◌%◌, ◌++◌, ◌+◌, ◌-◌, ◌<◌, ◌^◌, ◌∙◌, ◌≡◌, ◌≢◌, ◌⊎◌}
+use Rattle.std.proofs.Common.{List, ap, arith, get_or, get_or-set_other, get_or-set_same, length-set, refl, set, subst, suc, sym, ℕ, ⊎_elim, ◌%◌, ◌++◌, ◌+◌, ◌<◌, ◌^◌, ◌∙◌, ◌≡◌, ◌≢◌}
 use lib.ListN.{get_elem?}
 use lib.Seq.{set-get_or}
 use mathlib.Core.Logic.{dite}
@@ -11,7 +11,6 @@ use Rattle.nr_words.specs.KeyWords.{arrivals_of}
 use Rattle.nr_core.proofs.Frames.{Left, desk_more, shows_more}
 use Rattle.nr_core.proofs.OffKeys.{no_writer}
 use Rattle.nr_core.proofs.Sums.{at_set, below-change, total-set}
-use Rattle.nr_core.specs.Accounts.{places}
 use Rattle.nr_core.specs.Core.{AtDesk, Core, Knows, ShowsState, held, holds, is_reader, is_writer, keeps}
 use Rattle.nr_core.specs.Slots.{content, departures, name_number}
 use Rattle.nr_core.specs.Story.{map_after, shown}

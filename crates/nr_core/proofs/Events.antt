@@ -1,5 +1,5 @@
 -- Every event keeps the core state of a story, and so does a list of events.
-use Rattle.std.proofs.Common.{List, [], append-nil, refl, subst, sym, ◌++◌, ◌+◌, ◌-◌, ◌∙◌, ◌∷◌, ◌≡◌}
+use Rattle.std.proofs.Common.{List, [], append-nil, refl, subst, sym, ◌++◌, ◌∙◌, ◌∷◌, ◌≡◌}
 use Rattle.std.specs.Prelude.{None, Option, Some, fold}
 use Rattle.nr_model.specs.Histories.{Entry}
 use Rattle.nr_core.proofs.Opening.{inv_open}

@@ -1,32 +1,39 @@
 -- What one event more does: one operation on one word, never a put into a held slot, and entries of its own caller.
-use Rattle.std.proofs.Common.{List, [], ap, append-nil, arith, cond, get_or, get_or-set_other, length, nat_eq, refl, subst, ℕ, ◌*◌, ◌++◌, ◌+◌, ◌-◌, ◌<◌, ◌∙◌, ◌≡◌, ◌≢◌, ◌≤◌}
-use Rattle.std.proofs.lemmas.Bool.{leb-true, ltb-true}
+use Rattle.std.proofs.Common.{List, [], ap, append-nil, arith, cond, get_or, length, nat_eq, refl, subst, ℕ, ◌*◌, ◌++◌, ◌<◌, ◌∙◌, ◌≡◌, ◌≢◌, ◌≤◌}
+use Rattle.std.proofs.lemmas.Bool.{eqb-true, leb-true, ltb-true}
 use Rattle.std.specs.Prelude.{None, Option, Some, nat_le, ◌&&◌}
 use Rattle.nr_model.specs.Histories.{Entry, entries_of}
+use Rattle.nr_model.specs.Rows.{IsRowSet}
+use Rattle.nr_model.specs.declared.rows.Row.{Row}
 use Rattle.nr_words.specs.SetWords.{encode}
 use Rattle.nr_core.proofs.Choices.{by_cases}
 use Rattle.nr_core.proofs.Go.{own_ending_at}
-use Rattle.nr_core.proofs.Guards.{both, guard}
+use Rattle.nr_core.proofs.Guards.{both, guard, no_some, reader_in}
 use Rattle.nr_core.proofs.Histories.{of-append}
 use Rattle.nr_core.proofs.OffKeys.{none_of}
-use Rattle.nr_core.proofs.Poll.{polls}
+use Rattle.nr_core.proofs.Reach.{hold_room, place_room}
 use Rattle.nr_core.proofs.Settle.{own_ending}
 use Rattle.nr_core.proofs.Stands.{holder}
 use Rattle.nr_core.proofs.StateRoles.{Inv}
-use Rattle.nr_core.specs.Core.{AtDesk, AtPlace, held}
+use Rattle.nr_core.specs.Core.{AtDesk, AtPlace, Puts, held}
 use Rattle.nr_core.specs.Laws.{EndsWithout, Follows, IsJustified, caller_of}
 use Rattle.nr_core.specs.Machine.{found_by, moved, unless}
-use Rattle.nr_core.specs.Operations.{Load, Operation, Store, Swap, becomes, going, operation, place_of}
-use Rattle.nr_core.specs.Refusals.{has_key, has_reader, if_holding, refusal}
+use Rattle.nr_core.specs.Operations.{Load, Operation, Store, Swap, going, operation, place_of}
+use Rattle.nr_core.specs.Reach.{RoomAt, RoomOf}
+use Rattle.nr_core.specs.Refusals.{has_key, has_reader, if_busy, if_holding, if_not_busy, if_not_holding, if_unreadable, refusal}
 use Rattle.nr_core.specs.Slots.{content, naming, slot_room}
-use Rattle.nr_core.specs.States.{Arrive, Ask, Depart, Event, Go, Read, Start, State, hold_of, key_of}
+use Rattle.nr_core.specs.States.{Arrive, Ask, Depart, Event, Go, Read, Start, State, hold_of, key_of, slot_in}
 use Rattle.nr_core.specs.Story.{Story, call_of, map_after, polls_after, told}
 use Rattle.nr_core.specs.Writer.{looked, went}
 use Rattle.nr_core.specs.declared.calls.NoSlot.{NoSlot}
 use Rattle.nr_core.specs.declared.calls.Refusal.{Refusal}
+use Rattle.nr_core.specs.declared.calls.WriterCall.{WriterCall}
+use Rattle.nr_core.specs.declared.places.Hold.{Hold}
 use Rattle.nr_core.specs.declared.places.Place.{Place}
 use Rattle.nr_core.specs.declared.places.Place.TheVariants.{Idle, Leaving, Putting, Reading, Searching}
 use Rattle.nr_core.specs.declared.roles.Role.TheVariants.{Writer}
+use Rattle.nr_core.specs.declared.shape.Shape.{Shape}
+use Rattle.nr_core.specs.declared.places.Hold.TheVariants as hold
 use Rattle.nr_core.specs.declared.calls.Refusal.TheVariants as refuse
 
 told_by : (state : State) (event : Event) (c : ℕ) → entries_of (told state event) c ≡ cond (nat_eq (caller_of event) c) (told state event) []
@@ -36,6 +43,23 @@ told_by state (Depart r) c = none_of (nat_eq r c)
 told_by state (Ask r k) c = refl
 told_by state (Start call) c = own_ending (call_of call) (looked state.shape state.desk call (found_by state (Start call))).1 c
 told_by state Go c = own_ending_at state.desk.place (went state.shape state.desk state.desk.place (found_by state Go)).1 c
+
+-- the set that is put is a row set
+taken_set : (state : State) (log : List Entry) → Inv state log → (call : WriterCall) (rows : List Row) (slot departed index : ℕ) → state.desk.place ≡ Putting call rows slot departed index → IsRowSet state.shape.bound rows
+taken_set state log inv call rows slot departed index is =
+    let p : Puts state.shape state.words (map_after state.shape log) (held inv.roles) call rows slot departed index
+    = subst (AtPlace state.shape state.words (map_after state.shape log) (held inv.roles) state.desk.fresh state.desk.retired) is (inv.core.knows 0 (Writer state.desk) inv.fit.writer).place in p.wants.row_set
+
+-- the word of a read that is not refused is a slot's, and so is that of a departure
+readable_room : (shape : Shape) (index : ℕ) (held : Hold) → if_unreadable index held ≡ None → RoomOf shape held → (slot_in held < shape.slots) × (index < slot_room)
+readable_room shape index hold.Nothing ok room = absurd (no_some (Some refuse.NotHolding) refuse.NotHolding refl ok)
+readable_room shape index (hold.On slot None) ok room = let g = guard (nat_eq index 0) None refuse.OutOfRange ok in let first : index ≡ 0 = eqb-true index 0 g.0 in (room, omega arith)
+readable_room shape index (hold.On slot (Some size)) ok room = let g = guard (nat_le index (2 * size)) None refuse.OutOfRange ok in let low : index ≤ 2 * size = leb-true index (2 * size) g.0 in let short = room.1 in (room.0, omega arith)
+
+departs_room : (shape : Shape) (held : Hold) → if_not_holding held ≡ None → RoomOf shape held → slot_in held < shape.slots
+departs_room shape hold.Nothing ok room = absurd (no_some (Some refuse.NotHolding) refuse.NotHolding refl ok)
+departs_room shape (hold.On slot None) ok room = room
+departs_room shape (hold.On slot (Some size)) ok room = room.0
 
 -- an operation on a content word of a held slot is a load
 held_untouched : (state : State) (log : List Entry) (event : Event) (inv : Inv state log) → refusal state event ≡ None → (s i : ℕ) → (0 < held inv.roles s) × (s < state.shape.slots) → i < slot_room → place_of (operation state event) ≡ content state.shape s i → operation state event ≡ Load (content state.shape s i)
@@ -64,19 +88,42 @@ held_untouched state log Go inv ok s i held_so low here = go state.desk.place re
         (λ yes e. let l : j ≤ 2 * length rows = leb-true j (2 * length rows) yes in let same_slot : s ≡ t = omega arith in let zero_there : held inv.roles s ≡ 0 = ap (held inv.roles) same_slot ∙ free in absurd (omega arith))
         (λ no e. absurd (omega arith)) e
 
+-- an operation is on one of the words
+inside_words : (state : State) (log : List Entry) (event : Event) → Inv state log → refusal state event ≡ None → place_of (operation state event) < length state.words
+inside_words state log (Arrive r k) inv ok = let wide = inv.core.wide in
+    let g = guard (has_reader state.shape r && has_key state.shape k) (if_holding (hold_of state r)) refuse.OutOfRange ok in let b = both (has_reader state.shape r) (has_key state.shape k) g.0 in let near : k < state.shape.keys = ltb-true k state.shape.keys b.1 in omega arith
+inside_words state log (Ask r k) inv ok = let wide = inv.core.wide in
+    let g = guard (has_reader state.shape r && has_key state.shape k) (if_holding (hold_of state r)) refuse.OutOfRange ok in let b = both (has_reader state.shape r) (has_key state.shape k) g.0 in let near : k < state.shape.keys = ltb-true k state.shape.keys b.1 in omega arith
+inside_words state log (Start call) inv ok = let wide = inv.core.wide in
+    let g = guard (has_key state.shape (key_of call)) (if_busy state.desk.place) refuse.OutOfRange ok in let near : key_of call < state.shape.keys = ltb-true (key_of call) state.shape.keys g.0 in omega arith
+inside_words state log (Read r index) inv ok = let wide = inv.core.wide in
+    let g = guard (has_reader state.shape r) (if_unreadable index (hold_of state r)) refuse.OutOfRange ok in let low = (reader_in state.shape r g.0).0 in
+    let t = readable_room state.shape index (hold_of state r) g.1 (hold_room state log inv r low) in let near = t.0 in let short = t.1 in omega arith
+inside_words state log (Depart r) inv ok = let wide = inv.core.wide in
+    let g = guard (has_reader state.shape r) (if_not_holding (hold_of state r)) refuse.OutOfRange ok in let low = (reader_in state.shape r g.0).0 in
+    let near = departs_room state.shape (hold_of state r) g.1 (hold_room state log inv r low) in omega arith
+inside_words state log Go inv ok = go state.desk.place refl (place_room state log inv state.desk.place refl)
+  where
+    go : (place : Place) → state.desk.place ≡ place → RoomAt state place → place_of (going state.shape state.desk place) < length state.words
+    go Idle is room = absurd (no_some (if_not_busy state.desk.place) refuse.NotBusy (ap if_not_busy is) ok)
+    go (Reading call slot got) is room = let wide = inv.core.wide in let near = room.0 in let short = room.1 in omega arith
+    go (Leaving k) is room = let wide = inv.core.wide in let near = room.0 in omega arith
+    go (Searching call rows poll) is room = let wide = inv.core.wide in let near = room.1 in omega arith
+    go (Putting call rows slot departed index) is room = let wide = inv.core.wide in let fits = inv.core.fits.bound in let near = room.0 in let inside = room.2 in
+        let short = (taken_set state log inv call rows slot departed index is).1 in
+        by_cases (λ v. place_of (cond {A = Operation} v (Store (content state.shape slot index) (get_or (encode rows) index 0)) (Swap (key_of call) (naming slot departed))) < length state.words) (nat_le index (2 * length rows))
+        (λ yes. let l : index ≤ 2 * length rows = leb-true index (2 * length rows) yes in omega arith)
+        (λ _. omega arith)
+
 pub follows : (story : Story) (event : Event) → Inv story.state story.history → ((counts : NoSlot) → EndsWithout story.state event counts → IsJustified story event counts) → Follows story event
 follows story event inv justified = record {
-  one_word = λ place ne. one_of (refusal story.state event) place ne;
+  one_operation = λ ok. (inside_words story.state story.history event inv ok, ap (λ (o : Option Refusal). (unless o story.state (moved story.state event)).words) ok);
   refused = λ why. stays (refusal story.state event) why;
   untouched = λ ok r s i n low is low_i here. held_untouched story.state story.history event inv ok s i (holder story inv r s n low is) low_i here;
   own = λ c. of-append c story.history (unless (refusal story.state event) [] (told story.state event)) ∙ ap (λ (l : List Entry). entries_of story.history c ++ l) (mine (refusal story.state event) c);
   justified = justified;
 }
   where
-    one_of : (o : Option Refusal) (place : ℕ) → place ≢ place_of (operation story.state event) → get_or (unless o story.state (moved story.state event)).words place 0 ≡ get_or story.state.words place 0
-    one_of None place ne = get_or-set_other story.state.words (place_of (operation story.state event)) place (becomes (operation story.state event) (found_by story.state event)) 0 ne
-    one_of (Some why) place ne = refl
-
     stays : (o : Option Refusal) → o ≢ None → record { state = unless o story.state (moved story.state event); history = story.history ++ unless o [] (told story.state event); polls = unless o story.polls (polls_after story.state story.polls event) } ≡ story
     stays None ne = absurd (ne refl)
     stays (Some why) ne = ap (λ (l : List Entry). record story { history = l }) (append-nil story.history)

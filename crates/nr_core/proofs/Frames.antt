@@ -1,11 +1,11 @@
 -- What a step leaves of what the callers know.
-use Rattle.std.proofs.Common.{List, [], ap, arith, cond, get_or, le-leb, length, refl, set, suc, sym, ℕ, ◌%◌, ◌*◌, ◌+◌, ◌-◌, ◌<◌, ◌^◌, ◌∙◌, ◌∷◌, ◌≡◌, ◌≤◌}
+use Rattle.std.proofs.Common.{List, [], ap, arith, cond, get_or, le-leb, set, suc, sym, ℕ, ◌%◌, ◌*◌, ◌+◌, ◌<◌, ◌^◌, ◌∙◌, ◌≡◌, ◌≤◌}
 use lib.ListN.{get_elem?}
 use mathlib.Core.Option.{some}
 use Rattle.nr_model.specs.Maps.{PartialMap, reply_at, state_after, state_of}
 use Rattle.nr_model.specs.declared.rows.Row.{Row}
 use Rattle.nr_model.specs.declared.states.KeyState.{KeyState}
-use Rattle.nr_words.specs.SetWords.{row_words}
+use Rattle.nr_words.proofs.SetWordLemmas.{length-row_words}
 use Rattle.nr_core.proofs.Sums.{only-same, term_le}
 use Rattle.nr_core.specs.Core.{AtDesk, AtPlace, Grips, Reads, ShowsState, Wants, grips, keeps, taken}
 use Rattle.nr_core.specs.Slots.{SlotSpells, content, departures, name_number, unused}
@@ -22,10 +22,6 @@ use Rattle.nr_core.specs.declared.roles.Grip.TheVariants.{Nothing, On}
 use Rattle.nr_core.specs.declared.roles.Role.TheVariants.{Writer}
 use Rattle.nr_core.specs.declared.shape.Shape.{Shape}
 use Rattle.nr_model.specs.declared.states.KeyState.TheVariants as key
-
-pub length-row_words : (rows : List Row) → length (row_words rows) ≡ 2 * length rows
-length-row_words [] = refl
-length-row_words (r ∷ rows) = omega (arith, length-row_words rows)
 
 pub unused-free : (s f : ℕ) → f ≤ s → unused s f ≡ 1
 unused-free s f l = ap (λ b. cond {A = ℕ} b 1 0) (le-leb f s l)

@@ -1,5 +1,5 @@
 -- The writer's next step from its place, whichever kind it is.
-use Rattle.std.proofs.Common.{List, [], cond, get_or, length, nat_eq, refl, set, ℕ, ◌*◌, ◌++◌, ◌+◌, ◌-◌, ◌≡◌}
+use Rattle.std.proofs.Common.{List, [], cond, get_or, length, nat_eq, refl, set, ℕ, ◌*◌, ◌++◌, ◌+◌, ◌≡◌}
 use Rattle.std.proofs.lemmas.Bool.{leb-false, leb-true}
 use Rattle.std.specs.Prelude.{None, Some, nat_le}
 use lib.ListN.{get_elem?}
@@ -21,7 +21,7 @@ use Rattle.nr_core.specs.Refusals.{if_not_busy}
 use Rattle.nr_core.specs.Slots.{content, naming}
 use Rattle.nr_core.specs.States.{key_of}
 use Rattle.nr_core.specs.Steps.{CanStep, Goes}
-use Rattle.nr_core.specs.Story.{call_of, ending, ending_at, told}
+use Rattle.nr_core.specs.Story.{call_of, ending, ending_at}
 use Rattle.nr_core.specs.Writer.{ended, moved_to, swapped, went}
 use Rattle.nr_core.specs.declared.calls.Step.{Step}
 use Rattle.nr_core.specs.declared.calls.Step.TheVariants.{Going}

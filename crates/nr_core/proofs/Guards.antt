@@ -1,5 +1,5 @@
 -- What the refusal of an event tells, where there is none.
-use Rattle.std.proofs.Common.{Bool, ap, arith, cond, refl, true, ℕ, ◌-◌, ◌<◌, ◌≡◌, ◌≤◌}
+use Rattle.std.proofs.Common.{Bool, ap, arith, cond, refl, true, ℕ, ◌<◌, ◌≡◌, ◌≤◌}
 use Rattle.std.proofs.lemmas.Bool.{leb-true, ltb-true}
 use Rattle.std.specs.Prelude.{None, Option, Some, nat_le, nat_lt, ◌&&◌}
 use Rattle.nr_core.proofs.Choices.{by_cases}

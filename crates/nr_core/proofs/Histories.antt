@@ -1,5 +1,5 @@
 -- Histories that grow at their end.
-use Rattle.std.proofs.Common.{List, [], ap, arith, length, length-set, nat_eq, refl, sym, ℕ, ◌++◌, ◌+◌, ◌-◌, ◌<◌, ◌∙◌, ◌∷◌, ◌≡◌, ◌≢◌}
+use Rattle.std.proofs.Common.{List, [], ap, arith, length, length-set, nat_eq, refl, sym, ℕ, ◌++◌, ◌<◌, ◌∙◌, ◌∷◌, ◌≡◌, ◌≢◌}
 use Rattle.std.proofs.lemmas.List.{length-replicate}
 use Rattle.std.proofs.lemmas.List.Elements.{filter-append}
 use Rattle.nr_model.proofs.HistoryLemmas.{state_of-next_other, state_of-next_same}

@@ -23,8 +23,8 @@ use Rattle.nr_core.specs.Operations.{going, place_of}
 use Rattle.nr_core.specs.Refusals.{has_key, if_busy, refusal}
 use Rattle.nr_core.specs.Slots.{content, departures, set_of}
 use Rattle.nr_core.specs.States.{Arrive, Ask, Depart, Event, Go, Read, Start, State, key_of, retired_at}
-use Rattle.nr_core.specs.Story.{Poll, Story, call_of, ending, entry, map_after, poll_at, polls_after, polls_at, tell, told}
-use Rattle.nr_core.specs.Writer.{decided, ended, looked, moved_to, polled, put_on, swapped, went}
+use Rattle.nr_core.specs.Story.{Poll, Story, call_of, ending, map_after, poll_at, polls_after, polls_at, tell, told}
+use Rattle.nr_core.specs.Writer.{decided, ended, looked, moved_to, put_on, swapped, went}
 use Rattle.nr_core.specs.declared.calls.NoSlot.{NoSlot}
 use Rattle.nr_core.specs.declared.calls.Refusal.{Refusal}
 use Rattle.nr_core.specs.declared.calls.Step.{Step}

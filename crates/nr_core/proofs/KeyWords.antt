@@ -1,8 +1,5 @@
 -- What a key's word names and asks: after an arrival, after a request, and where it is written anew.
-use Rattle.std.proofs.Common.{ap, arith, cond, eq-eqb, false, ne_eqb, suc, sym, true, ℕ, ◌%◌, ◌*◌, ◌+◌, ◌-◌, ◌/◌, ◌<◌, ◌^◌, ◌∙◌, ◌≡◌, ◌≢◌}
-use Rattle.std.proofs.lemmas.Nat.{or_mod, or_shr}
-use Rattle.std.specs.Int.Bits.{or_zero_r}
-use Rattle.std.specs.Prelude.{bit_or}
+use Rattle.std.proofs.Common.{ap, arith, cond, eq-eqb, false, ne_eqb, suc, sym, true, ℕ, ◌%◌, ◌*◌, ◌+◌, ◌/◌, ◌<◌, ◌^◌, ◌∙◌, ◌≡◌, ◌≢◌}
 use mathlib.Core.Logic.{dite}
 use native.Mathlib.Decide.{ℕ_discrete}
 use Rattle.nr_words.specs.KeyWords.{arrivals_of, is_filled, slot_of}
@@ -12,11 +9,6 @@ use Rattle.nr_core.specs.Slots.{name_number, naming}
 pub bumped : (w : ℕ) → ((w + 2 ^ 24) % 2 ^ 64 % 2 ^ 24 ≡ w % 2 ^ 24) × ((w + 2 ^ 24) % 2 ^ 64 % 4 ≡ w % 4)
     × ((w + 2 ^ 24) % 2 ^ 64 / 2 ^ 24 % 2 ^ 40 ≡ (w / 2 ^ 24 + 1) % 2 ^ 40)
 bumped w = (omega arith, omega arith, omega arith)
-
--- a request sets the lowest bit
-pub or_one : (n : ℕ) → bit_or n 1 ≡ 2 * (n / 2) + 1
-or_one n = let a : bit_or n 1 / 2 ≡ bit_or (n / 2) 0 = or_shr n 1 1 in let b : bit_or n 1 % 2 ≡ bit_or (n % 2) 1 = or_mod n 1 1 in let z : bit_or (n / 2) 0 ≡ n / 2 = or_zero_r (n / 2) in
-    let low : bit_or (n % 2) 1 ≡ 1 = dite (ℕ_discrete (n % 2) 0) (λ e. ap (λ (x : ℕ). bit_or x 1) e) (λ ne. let one : n % 2 ≡ 1 = omega arith in ap (λ (x : ℕ). bit_or x 1) one) in omega arith
 
 pub not_filled : (w : ℕ) → w / 2 % 2 ≢ 1 → is_filled w ≡ false
 not_filled w ne = ne_eqb (w / 2 % 2) 1 ne

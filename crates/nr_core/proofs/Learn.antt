@@ -1,15 +1,14 @@
 -- A load that only learns changes nothing, whoever makes it.
-use Rattle.std.proofs.Common.{List, [], append-nil, get_or, refl, set, subst, sym, ℕ, ◌++◌, ◌+◌, ◌-◌, ◌≡◌}
+use Rattle.std.proofs.Common.{List, [], append-nil, get_or, refl, set, subst, sym, ℕ, ◌++◌, ◌≡◌}
 use lib.ListN.{get_elem?}
 use lib.Seq.{set-get_or}
 use mathlib.Core.Option.{some}
-use Rattle.nr_model.specs.Histories.{Entry, after}
+use Rattle.nr_model.specs.Histories.{Entry}
 use Rattle.nr_core.proofs.OffKeys.{none_of}
 use Rattle.nr_core.proofs.Sums.{set_again}
 use Rattle.nr_core.specs.Core.{Core, is_by}
 use Rattle.nr_core.specs.Operations.{Load}
 use Rattle.nr_core.specs.Steps.{CanStep, Learns}
-use Rattle.nr_core.specs.Story.{told}
 use Rattle.nr_core.specs.declared.roles.Role.{Role}
 use Rattle.nr_core.specs.declared.shape.Shape.{Shape}
 

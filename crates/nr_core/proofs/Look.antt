@@ -1,8 +1,8 @@
 -- The look, the first step of each call of the writer: by the key's state the call ends, or goes on.
-use Rattle.std.proofs.Common.{List, [], ap, arith, cond, eq-eqb, get_or, ne_eqb, refl, set, subst, suc, sym, ℕ, ◌%◌, ◌++◌, ◌+◌, ◌-◌, ◌<◌, ◌∙◌, ◌≡◌}
+use Rattle.std.proofs.Common.{List, [], ap, arith, cond, eq-eqb, get_or, ne_eqb, refl, set, subst, suc, sym, ℕ, ◌%◌, ◌++◌, ◌+◌, ◌<◌, ◌∙◌, ◌≡◌}
 use lib.ListN.{get_elem?}
 use mathlib.Core.Option.{some}
-use Rattle.nr_model.specs.Histories.{Entry, after}
+use Rattle.nr_model.specs.Histories.{Entry}
 use Rattle.nr_model.specs.Maps.{reply_at, state_after, state_of}
 use Rattle.nr_model.specs.declared.calls.Reply.{Reply}
 use Rattle.nr_model.specs.declared.rows.Row.{Row}
@@ -17,7 +17,7 @@ use Rattle.nr_core.specs.Operations.{Load}
 use Rattle.nr_core.specs.Slots.{name_number, unused}
 use Rattle.nr_core.specs.States.{key_of}
 use Rattle.nr_core.specs.Steps.{CanStep, Looks}
-use Rattle.nr_core.specs.Story.{call_of, ending, map_after, told}
+use Rattle.nr_core.specs.Story.{call_of, ending, map_after}
 use Rattle.nr_core.specs.Sums.{only, total}
 use Rattle.nr_core.specs.Writer.{ended, looked, moved_to, settled}
 use Rattle.nr_core.specs.declared.calls.Step.{Step}

@@ -1,5 +1,5 @@
 -- A step on a word behind the keys' words, which leaves each slot in its place: it keeps all that stands.
-use Rattle.std.proofs.Common.{Bool, List, [], ap, append-nil, arith, cond, false, get_or, get_or-set_other, length-set, refl, set, subst, suc, sym, true, ℕ, ⊎_elim, ◌%◌, ◌*◌, ◌++◌, ◌+◌, ◌-◌, ◌<◌, ◌^◌, ◌∙◌, ◌≡◌, ◌≢◌, ◌≤◌, ◌⊎◌}
+use Rattle.std.proofs.Common.{Bool, List, [], ap, append-nil, arith, cond, false, get_or, get_or-set_other, length-set, refl, set, subst, suc, sym, true, ℕ, ⊎_elim, ◌%◌, ◌*◌, ◌++◌, ◌+◌, ◌<◌, ◌^◌, ◌∙◌, ◌≡◌, ◌≢◌, ◌≤◌}
 use lib.ListN.{get_elem?}
 use mathlib.Core.Option.{some}
 use Rattle.nr_model.specs.Histories.{Entry}
@@ -8,7 +8,6 @@ use Rattle.nr_words.specs.KeyWords.{arrivals_of}
 use Rattle.nr_core.proofs.Frames.{holding_more, shows_more}
 use Rattle.nr_core.proofs.OnKey.{in_range}
 use Rattle.nr_core.proofs.Sums.{at_set, below-same, below-term, only-same, term_le, terms_le, total-set}
-use Rattle.nr_core.specs.Accounts.{places}
 use Rattle.nr_core.specs.Core.{Core, Knows, ShowsState, held, holds, is_reader, is_writer, keeps}
 use Rattle.nr_core.specs.Slots.{content, departures, name_number, named}
 use Rattle.nr_core.specs.Story.{map_after}
@@ -49,7 +48,7 @@ pub no_writer : (shape : Shape) (words : List ℕ) (roles : List Role) (log : Li
     → (j : ℕ) (u : Role) → j ≢ id → get_elem? roles j ≡ some u → Knows shape words (map_after shape log) (held roles) u → Knows shape words' map' hold' u
 no_writer shape words roles log core words' map' hold' id desk at conts j u = let map = map_after shape log in elim u as (λ v. j ≢ id → get_elem? roles j ≡ some v → Knows shape words map (held roles) v → Knows shape words' map' hold' v) [
   | Writer desk' ↦ λ ne there t. absurd (omega (arith, terms_le is_writer roles id j (Writer desk) (Writer desk') ne at there, core.one))
-  | Reader r y ↦ λ ne there t. holding_more shape words words' map map' (held roles) hold' y (λ s i mine near low. let part = term_le (holds s) roles j (Reader r y) there in conts s i (omega arith) near low) t
+  | Reader other y ↦ λ ne there t. holding_more shape words words' map map' (held roles) hold' y (λ s i mine near low. let part = term_le (holds s) roles j (Reader other y) there in conts s i (omega arith) near low) t
   | Note ↦ λ ne there t. tt
 ]
 

@@ -1,5 +1,5 @@
 -- A reader's step on a key's word that leaves what the word names: it keeps all that stands.
-use Rattle.std.proofs.Common.{List, ap, arith, get_or, get_or-set_other, get_or-set_same, length-set, set, subst, suc, sym, ℕ, ⊎_elim, ◌%◌, ◌++◌, ◌+◌, ◌-◌, ◌<◌, ◌^◌, ◌∙◌, ◌≡◌, ◌≢◌, ◌≤◌, ◌⊎◌}
+use Rattle.std.proofs.Common.{List, ap, arith, get_or, get_or-set_other, get_or-set_same, length-set, set, subst, suc, sym, ℕ, ⊎_elim, ◌%◌, ◌++◌, ◌+◌, ◌<◌, ◌^◌, ◌∙◌, ◌≡◌, ◌≢◌, ◌≤◌}
 use lib.ListN.{get_elem?}
 use mathlib.Core.Logic.{dite}
 use mathlib.Core.Option.{some}
@@ -10,7 +10,6 @@ use Rattle.nr_model.specs.declared.states.KeyState.{KeyState}
 use Rattle.nr_words.specs.KeyWords.{arrivals_of}
 use Rattle.nr_core.proofs.Frames.{Left, desk_more, holding_more, shows_more}
 use Rattle.nr_core.proofs.Sums.{at_set, below-same, below-term, below-terms, only-same, term_le, total-set}
-use Rattle.nr_core.specs.Accounts.{places}
 use Rattle.nr_core.specs.Core.{Core, Grips, Knows, ShowsState, grips, held, holds, is_reader, is_writer, keeps}
 use Rattle.nr_core.specs.Slots.{content, departures, name_number, named}
 use Rattle.nr_core.specs.Story.{map_after, shown}
@@ -68,7 +67,7 @@ on_key shape words roles log es core id c before after k x near at same-name leg
     } in
     let others : (j : ℕ) (u : Role) → get_elem? roles j ≡ some u → Knows shape words map (held roles) u → Knows shape words' map' (held roles') u = λ j u. elim u as (λ v. get_elem? roles j ≡ some v → Knows shape words map (held roles) v → Knows shape words' map' (held roles') v) [
       | Writer desk ↦ λ there t. desk_more shape words words' map map' (held roles) (held roles') (λ y _. names y) stays desk (λ s l kept. left s l (kept_by s roles j (Writer desk) there kept)) t
-      | Reader r y ↦ λ there t. holding_more shape words words' map map' (held roles) (held roles') y (λ s i _ _ _. cont s i) t
+      | Reader other y ↦ λ there t. holding_more shape words words' map map' (held roles) (held roles') y (λ s i _ _ _. cont s i) t
       | Note ↦ λ there t. tt
     ] in
     record {

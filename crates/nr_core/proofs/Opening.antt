@@ -1,5 +1,5 @@
 -- At the opening all that stands between steps stands: every key is a hole, every slot is free.
-use Rattle.std.proofs.Common.{List, [], ap, arith, get_or, length, refl, replicate, subst, suc, sym, zero, ℕ, ◌*◌, ◌++◌, ◌+◌, ◌-◌, ◌<◌, ◌∙◌, ◌∷◌, ◌≡◌, ◌≤◌}
+use Rattle.std.proofs.Common.{List, [], ap, arith, get_or, length, refl, replicate, subst, suc, sym, zero, ℕ, ◌*◌, ◌++◌, ◌+◌, ◌<◌, ◌∙◌, ◌∷◌, ◌≡◌, ◌≤◌}
 use Rattle.std.proofs.lemmas.List.{get_or-replicate, length-append, length-replicate}
 use lib.ListN.{get_elem?}
 use mathlib.Core.Option.{some, some-injective, some-ne-none}
@@ -8,7 +8,6 @@ use Rattle.nr_words.specs.Places.{total_of}
 use Rattle.nr_core.proofs.Frames.{unused-free}
 use Rattle.nr_core.proofs.StateRoles.{Inv, no_grip, same_grip}
 use Rattle.nr_core.proofs.Sums.{only-other}
-use Rattle.nr_core.specs.Accounts.{places}
 use Rattle.nr_core.specs.Core.{Core, IsShape, Knows, ShowsState, held, holds, is_reader, is_writer, keeps}
 use Rattle.nr_core.specs.Slots.{departures, layout, name_number, opening_words, repeated, slot_room}
 use Rattle.nr_core.specs.States.{opening, opening_desk}

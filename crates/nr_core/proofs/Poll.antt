@@ -1,5 +1,5 @@
 -- A poll of a retired slot: the slot is taken where nobody holds it, else the call polls the next, or ends with no slot.
-use Rattle.std.proofs.Common.{List, ap, arith, cond, drop, get_or, length, nat_eq, refl, set, subst, suc, sym, take, ℕ, ◌%◌, ◌++◌, ◌+◌, ◌-◌, ◌^◌, ◌≡◌, ◌≤◌}
+use Rattle.std.proofs.Common.{List, ap, arith, cond, drop, get_or, length, nat_eq, refl, set, subst, suc, sym, take, ℕ, ◌%◌, ◌++◌, ◌+◌, ◌^◌, ◌≡◌, ◌≤◌}
 use Rattle.std.proofs.lemmas.Bool.{eqb-true, ltb-true}
 use Rattle.std.specs.Prelude.{nat_lt}
 use lib.ListN.{get_elem?}

@@ -1,11 +1,11 @@
 -- A fill or an update swaps the word that names its slot in for its key's word.
-use Rattle.std.proofs.Common.{List, [], ap, arith, get_or, length, set, subst, suc, sym, ℕ, ◌%◌, ◌*◌, ◌++◌, ◌+◌, ◌-◌, ◌<◌, ◌^◌, ◌∙◌, ◌∷◌, ◌≡◌}
+use Rattle.std.proofs.Common.{List, [], ap, arith, get_or, length, set, subst, suc, sym, ℕ, ◌%◌, ◌*◌, ◌++◌, ◌+◌, ◌<◌, ◌^◌, ◌∙◌, ◌∷◌, ◌≡◌}
 use lib.ListN.{get_elem?}
 use mathlib.Core.Option.{some}
 use Rattle.nr_model.specs.Histories.{Entry}
 use Rattle.nr_model.specs.declared.rows.Row.{Row}
+use Rattle.nr_words.proofs.SetWordLemmas.{length-row_words}
 use Rattle.nr_words.specs.KeyWords.{arrivals_of}
-use Rattle.nr_core.proofs.Frames.{length-row_words}
 use Rattle.nr_core.proofs.KeyWords.{naming_is}
 use Rattle.nr_core.proofs.Settle.{key_same}
 use Rattle.nr_core.proofs.Sums.{only-suc}

@@ -1,13 +1,14 @@
 -- The writer puts one word of its set into the slot that it took.
-use Rattle.std.proofs.Common.{List, [], ap, arith, get_or, get_or-set_other, get_or-set_same, length, refl, set, subst, sym, ℕ, ◌%◌, ◌*◌, ◌++◌, ◌+◌, ◌-◌, ◌<◌, ◌^◌, ◌∙◌, ◌≡◌, ◌≢◌, ◌≤◌}
+use Rattle.std.proofs.Common.{List, [], ap, arith, get_or, get_or-set_other, get_or-set_same, length, refl, set, subst, sym, ℕ, ◌%◌, ◌*◌, ◌++◌, ◌+◌, ◌<◌, ◌^◌, ◌∙◌, ◌≡◌, ◌≢◌, ◌≤◌}
 use lib.ListN.{get_elem?}
 use mathlib.Core.Logic.{dite}
 use mathlib.Core.Option.{some}
 use native.Mathlib.Decide.{ℕ_discrete}
 use Rattle.nr_model.specs.Histories.{Entry}
 use Rattle.nr_model.specs.declared.rows.Row.{Row}
+use Rattle.nr_words.proofs.SetWordLemmas.{length-row_words}
 use Rattle.nr_words.specs.SetWords.{encode}
-use Rattle.nr_core.proofs.Frames.{Left, free_more, length-row_words, retired_more, unused-free}
+use Rattle.nr_core.proofs.Frames.{Left, free_more, retired_more, unused-free}
 use Rattle.nr_core.proofs.OffKeys.{no_writer, off_keys}
 use Rattle.nr_core.proofs.Sums.{only-same, term_le, total-set}
 use Rattle.nr_core.specs.Core.{AtDesk, AtPlace, Core, Puts, held, holds, keeps, taken}
@@ -38,7 +39,7 @@ puts shape words roles log core id desk is_there call rows t e i is_at low_enoug
     let dep : (s : ℕ) → get_or words' (departures shape s) 0 ≡ get_or words (departures shape s) 0 = λ s. get_or-set_other words w (departures shape s) x 0 (λ z. omega arith) in
     let here : get_or words' w 0 ≡ x = get_or-set_same words w x 0 (omega arith) in
     let still : (s : ℕ) → held roles' s ≡ held roles s = λ s. let t = total-set (holds s) roles id (Writer desk) (Writer desk') is_there in omega arith in
-    let sum : (s : ℕ) → (get_or words' (departures shape s) 0 + held roles' s) % 2 ^ 40 ≡ (get_or words (departures shape s) 0 + held roles s) % 2 ^ 40 = λ s. ap (λ (call : ℕ × ℕ). (call.0 + call.1) % 2 ^ 40) (λ i. (dep s i, still s i)) in
+    let sum : (s : ℕ) → (get_or words' (departures shape s) 0 + held roles' s) % 2 ^ 40 ≡ (get_or words (departures shape s) 0 + held roles s) % 2 ^ 40 = λ s. ap (λ (pair : ℕ × ℕ). (pair.0 + pair.1) % 2 ^ 40) (λ i. (dep s i, still s i)) in
     let left : (s : ℕ) → s ≢ t → Left shape words words' map map (held roles) (held roles') s = λ s ne. record { contents = λ j low. cont s j ne low; nobody = λ z. still s ∙ z; deps = λ _. dep s; sum = sum s } in
     let own : AtDesk shape words' map (held roles') desk' = record {
       place = record {

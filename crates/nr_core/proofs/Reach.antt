@@ -12,7 +12,7 @@ use Rattle.nr_core.proofs.Events.{inv_story}
 use Rattle.nr_core.proofs.Runs.{run_more, story_state}
 use Rattle.nr_core.proofs.StateRoles.{Inv, erased}
 use Rattle.nr_core.proofs.Sums.{got_at, only-same}
-use Rattle.nr_core.specs.Core.{AtDesk, AtPlace, Grips, IsShape, ShowsState, held, holds, taken}
+use Rattle.nr_core.specs.Core.{AtDesk, AtPlace, Grips, IsShape, ShowsState, held, taken}
 use Rattle.nr_core.specs.Laws.{AllGiven, IsGiven}
 use Rattle.nr_core.specs.Machine.{moved, next, run, unless}
 use Rattle.nr_core.specs.Reach.{HasRoom, Reached, RoomAt, RoomOf}
@@ -69,17 +69,17 @@ grip_room shape words map holders fits Nothing t = tt
 grip_room shape words map holders fits (On slot rows true) t = let short = t.1.0.1 in (t.0, omega arith)
 grip_room shape words map holders fits (On slot rows false) t = t.0
 
-none_beyond : (l : List Hold) (i : ℕ) → length l ≤ i → get_or l i hold.Nothing ≡ hold.Nothing
+pub none_beyond : (l : List Hold) (i : ℕ) → length l ≤ i → get_or l i hold.Nothing ≡ hold.Nothing
 none_beyond [] i out = refl
 none_beyond (x ∷ l) zero out = absurd (omega arith)
 none_beyond (x ∷ l) (suc i) out = none_beyond l i (omega arith)
 
-hold_room : (state : State) (log : List Entry) → Inv state log → (reader : ℕ) → 0 < reader → RoomOf state.shape (hold_of state reader)
+pub hold_room : (state : State) (log : List Entry) → Inv state log → (reader : ℕ) → 0 < reader → RoomOf state.shape (hold_of state reader)
 hold_room state log inv reader low = let size = inv.fit.size in let i : ℕ = reader - 1 in dite (dec_le state.shape.readers i)
     (λ out. subst (RoomOf state.shape) (sym (none_beyond state.holds i (omega arith))) tt)
     (λ inside. let o = inv.fit.readers i (omega arith) in subst (RoomOf state.shape) (sym o.2) (grip_room state.shape state.words (map_after state.shape log) (held inv.roles) inv.core.fits.bound o.0 (inv.core.knows (suc i) (Reader (suc i) o.0) o.1)))
 
-place_room : (state : State) (log : List Entry) → Inv state log → (place : Place) → state.desk.place ≡ place → RoomAt state place
+pub place_room : (state : State) (log : List Entry) → Inv state log → (place : Place) → state.desk.place ≡ place → RoomAt state place
 place_room state log inv place is = go place is (subst (AtPlace state.shape state.words (map_after state.shape log) (held inv.roles) state.desk.fresh state.desk.retired) is desk.place)
   where
     desk : AtDesk state.shape state.words (map_after state.shape log) (held inv.roles) state.desk

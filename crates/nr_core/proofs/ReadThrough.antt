@@ -1,12 +1,11 @@
 -- What the writer reads of the slot that a key names is the key's set, word by word.
-use Rattle.std.proofs.Common.{List, [], ap, arith, get_or, length, subst, suc, sym, take, ℕ, ◌*◌, ◌++◌, ◌+◌, ◌-◌, ◌<◌, ◌∙◌, ◌∷◌, ◌≡◌}
+use Rattle.std.proofs.Common.{List, [], ap, arith, get_or, length, subst, suc, sym, take, ℕ, ◌*◌, ◌++◌, ◌+◌, ◌<◌, ◌∙◌, ◌∷◌, ◌≡◌}
 use Rattle.std.proofs.lemmas.List.{length-append, take_all}
 use lib.Seq.{take-suc}
 use Rattle.nr_model.specs.Histories.{Entry}
 use Rattle.nr_model.specs.Rows.{IsRowSet}
+use Rattle.nr_words.proofs.SetWordLemmas.{length-row_words}
 use Rattle.nr_words.specs.SetWords.{encode}
-use Rattle.nr_core.proofs.Frames.{length-row_words}
-use Rattle.nr_core.proofs.Read.{reads}
 use Rattle.nr_core.proofs.Sets.{set_back}
 use Rattle.nr_core.specs.Core.{Core, Reads, ShowsState, held}
 use Rattle.nr_core.specs.Slots.{SlotSpells, content, name_number, set_of}

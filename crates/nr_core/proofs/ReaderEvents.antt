@@ -1,5 +1,5 @@
 -- Each event of a reader keeps the core state of a state, its roles and what they found.
-use Rattle.std.proofs.Common.{Bool, List, [], ap, arith, cond, false, get_or, length, nat_eq, refl, set, subst, suc, sym, true, ℕ, ⊎_elim, ◌%◌, ◌*◌, ◌++◌, ◌+◌, ◌-◌, ◌<◌, ◌^◌, ◌∙◌, ◌∷◌, ◌≡◌, ◌≤◌, ◌⊎◌}
+use Rattle.std.proofs.Common.{Bool, List, [], ap, arith, cond, false, get_or, length, nat_eq, refl, set, subst, suc, sym, true, ℕ, ⊎_elim, ◌%◌, ◌*◌, ◌++◌, ◌+◌, ◌-◌, ◌<◌, ◌^◌, ◌∙◌, ◌∷◌, ◌≡◌, ◌≤◌}
 use Rattle.std.proofs.lemmas.Bool.{eqb-true, leb-true, ltb-true}
 use Rattle.std.specs.Prelude.{None, Some, bit_or, nat_le, ◌&&◌}
 use lib.ListN.{get_elem?}
@@ -11,6 +11,7 @@ use Rattle.nr_model.specs.Rows.{IsRowSet}
 use Rattle.nr_model.specs.declared.calls.Call.{Call}
 use Rattle.nr_model.specs.declared.calls.Reply.{Reply}
 use Rattle.nr_model.specs.declared.rows.Row.{Row}
+use Rattle.nr_words.proofs.SetWordLemmas.{length-row_words}
 use Rattle.nr_words.specs.KeyWords.{is_filled, slot_of}
 use Rattle.nr_words.specs.SetWords.{encode}
 use Rattle.nr_words.specs.declared.key_words.TheConstants.{ARRIVE}
@@ -18,7 +19,6 @@ use Rattle.nr_core.proofs.Arrive.{arrives}
 use Rattle.nr_core.proofs.Ask.{asks}
 use Rattle.nr_core.proofs.Choices.{by_cases}
 use Rattle.nr_core.proofs.Depart.{departs}
-use Rattle.nr_core.proofs.Frames.{length-row_words}
 use Rattle.nr_core.proofs.Guards.{both, guard, no_some, reader_in}
 use Rattle.nr_core.proofs.Histories.{of-append, replies_so}
 use Rattle.nr_core.proofs.KeyWords.{names_none, names_one}
@@ -26,7 +26,7 @@ use Rattle.nr_core.proofs.Read.{reads}
 use Rattle.nr_core.proofs.Shown.{shown_is}
 use Rattle.nr_core.proofs.StateRoles.{AllFound, Found, Inv, erased, fit_reader, found_quiet, found_set, no_grip, one_other, one_same, same_rows}
 use Rattle.nr_core.proofs.Sums.{set_again}
-use Rattle.nr_core.specs.Core.{Core, holds}
+use Rattle.nr_core.specs.Core.{Core}
 use Rattle.nr_core.specs.Machine.{moved, read_hold}
 use Rattle.nr_core.specs.Refusals.{has_key, has_reader, if_beyond, if_holding, if_not_holding, if_unreadable, refusal}
 use Rattle.nr_core.specs.Slots.{content, departures, name_number}

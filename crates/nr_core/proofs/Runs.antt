@@ -1,5 +1,5 @@
 -- A run goes on by one event, and the states that a story tells are the run's.
-use Rattle.std.proofs.Common.{List, [], refl, ◌++◌, ◌+◌, ◌-◌, ◌∷◌, ◌≡◌}
+use Rattle.std.proofs.Common.{List, [], refl, ◌++◌, ◌∷◌, ◌≡◌}
 use Rattle.std.proofs.lemmas.List.Sums.{fold-append}
 use Rattle.std.specs.Prelude.{fold}
 use Rattle.nr_core.specs.Machine.{next, run}

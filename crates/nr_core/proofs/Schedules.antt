@@ -1,5 +1,5 @@
 -- The laws over all lists of events: what stands between any two steps, and the bound on slots.
-use Rattle.std.proofs.Common.{List, [], ap, arith, length, refl, subst, sym, ◌+◌, ◌-◌, ◌∙◌, ◌∷◌, ◌≡◌, ◌≤◌}
+use Rattle.std.proofs.Common.{List, [], ap, arith, length, refl, subst, sym, ◌+◌, ◌∙◌, ◌∷◌, ◌≡◌, ◌≤◌}
 use Rattle.std.proofs.lemmas.List.{length-map}
 use Rattle.std.proofs.lemmas.List.Sums.{count_by-le-length}
 use Rattle.std.specs.Prelude.{None, Option, Some, fold}
@@ -15,7 +15,7 @@ use Rattle.nr_core.proofs.Settle.{ends}
 use Rattle.nr_core.proofs.Stands.{stands}
 use Rattle.nr_core.proofs.StateRoles.{Inv}
 use Rattle.nr_core.proofs.Sweeps.{Swept, swept_event}
-use Rattle.nr_core.specs.Core.{IsShape, held}
+use Rattle.nr_core.specs.Core.{IsShape}
 use Rattle.nr_core.specs.Laws.{AllGiven, EndsWithout, EverySchedule, IsGiven, SlotBound, map_of}
 use Rattle.nr_core.specs.Machine.{moved, unless}
 use Rattle.nr_core.specs.Refusals.{refusal}

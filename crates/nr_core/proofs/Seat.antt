@@ -1,12 +1,11 @@
 -- One more caller, who holds no slot: it knows nothing, and nothing changes for the others.
-use Rattle.std.proofs.Common.{List, [], ap, arith, get_or, refl, subst, sym, ℕ, ⊎_elim, ◌%◌, ◌++◌, ◌+◌, ◌-◌, ◌<◌, ◌^◌, ◌∙◌, ◌∷◌, ◌≡◌, ◌≤◌, ◌⊎◌}
+use Rattle.std.proofs.Common.{List, [], ap, arith, get_or, refl, subst, sym, ℕ, ⊎_elim, ◌%◌, ◌++◌, ◌+◌, ◌<◌, ◌^◌, ◌∙◌, ◌∷◌, ◌≡◌, ◌≤◌}
 use lib.ListN.{get_elem?}
 use mathlib.Core.Option.{some}
 use Rattle.nr_model.specs.Histories.{Entry}
 use Rattle.nr_core.proofs.Frames.{Left, desk_more, holding_more}
 use Rattle.nr_core.proofs.OffKeys.{no_writer}
 use Rattle.nr_core.proofs.Sums.{at_snoc, total-append}
-use Rattle.nr_core.specs.Accounts.{places}
 use Rattle.nr_core.specs.Core.{Core, Knows, held, holds, is_reader, is_writer, keeps}
 use Rattle.nr_core.specs.Slots.{departures}
 use Rattle.nr_core.specs.Story.{map_after}

@@ -5,10 +5,10 @@ use Rattle.nr_model.specs.Histories.{Entry}
 use Rattle.nr_model.specs.Maps.{state_of}
 use Rattle.nr_model.specs.declared.rows.Row.{Row}
 use Rattle.nr_model.specs.declared.states.KeyState.{KeyState}
+use Rattle.nr_words.proofs.SetWordLemmas.{length-row_words}
 use Rattle.nr_words.specs.KeyWords.{has_ask, is_filled, slot_of}
 use Rattle.nr_words.specs.Places.{total_of}
 use Rattle.nr_words.specs.SetWords.{encode}
-use Rattle.nr_core.proofs.Frames.{length-row_words}
 use Rattle.nr_core.proofs.KeyWords.{names_none, names_one}
 use Rattle.nr_core.proofs.Sets.{set_of_begins}
 use Rattle.nr_core.specs.Core.{Core, ShowsState}

@@ -1,5 +1,5 @@
 -- What the core state of a story says in the words of the law: what stands between any two steps.
-use Rattle.std.proofs.Common.{Bool, List, [], ap, arith, cond, false, get_or, inl, inr, length, map, nat_eq, refl, subst, suc, sym, true, zero, ℕ, ⊎_elim, ◌%◌, ◌*◌, ◌+◌, ◌-◌, ◌<◌, ◌^◌, ◌∙◌, ◌∷◌, ◌≡◌, ◌≤◌, ◌⊎◌}
+use Rattle.std.proofs.Common.{Bool, List, ap, arith, cond, false, get_or, inl, inr, length, map, nat_eq, subst, suc, sym, true, ℕ, ⊎_elim, ◌%◌, ◌*◌, ◌+◌, ◌-◌, ◌<◌, ◌^◌, ◌∙◌, ◌≡◌, ◌≤◌, ◌⊎◌}
 use Rattle.std.proofs.lemmas.Bool.{eqb-true, leb-true, lt-leb}
 use Rattle.std.specs.Prelude.{None, Ok, Option, Some, nat_le}
 use lib.ListN.{get_elem?}
@@ -9,10 +9,10 @@ use native.Mathlib.Decide.{dec_le}
 use Rattle.nr_model.proofs.HistoryLemmas.{sends_are_filled_lem}
 use Rattle.nr_model.specs.Maps.{PartialMap}
 use Rattle.nr_model.specs.declared.rows.Row.{Row}
+use Rattle.nr_words.proofs.SetWordLemmas.{length-row_words}
 use Rattle.nr_words.specs.SetWords.{encode}
-use Rattle.nr_core.proofs.Frames.{length-row_words}
 use Rattle.nr_core.proofs.Guards.{guard}
-use Rattle.nr_core.proofs.Read.{reads}
+use Rattle.nr_core.proofs.Reach.{none_beyond}
 use Rattle.nr_core.proofs.Shown.{shown_is}
 use Rattle.nr_core.proofs.StateRoles.{Found, Inv, erased, state_sums}
 use Rattle.nr_core.proofs.Sums.{got_at, only-is, only-same, term_le}
@@ -50,11 +50,6 @@ abbrev hold_rows : Hold → Option ℕ
 hold_rows hold.Nothing = None
 hold_rows (hold.On s n) = n
 
-beyond : (l : List Hold) (i : ℕ) → length l ≤ i → get_or l i hold.Nothing ≡ hold.Nothing
-beyond [] i out = refl
-beyond (x ∷ l) zero out = absurd (omega arith)
-beyond (x ∷ l) (suc i) out = beyond l i (omega arith)
-
 erased_is : (x : Grip) (s : ℕ) (n : Option ℕ) → erased x ≡ hold.On s n → (rows : List Row) × (b : Bool) × (x ≡ On s rows b) × ((n ≡ None) ⊎ (n ≡ Some (length rows)))
 erased_is Nothing s n e = let z : 0 ≡ suc s = ap hold_number e in absurd (omega arith)
 erased_is (On t rows b) s n e = let z : suc t ≡ suc s = ap hold_number e in let same : t ≡ s = omega arith in
@@ -84,7 +79,7 @@ reads_word state reader slot size rows index holds_it known spelt ok =
 
 pub holding : (story : Story) → Inv story.state story.history → (r s : ℕ) (n : Option ℕ) → 0 < r → hold_of story.state r ≡ hold.On s n → HoldsFound story r s n
 holding story inv r s n low e = let state = story.state in let size = inv.fit.size in let i : ℕ = r - 1 in let number : suc i ≡ r = omega arith in
-    let within : i < state.shape.readers = dite (dec_le state.shape.readers i) (λ l. let z : 0 ≡ suc s = ap hold_number (sym (beyond state.holds i (omega arith)) ∙ e) in absurd (omega arith)) (λ l. omega arith) in
+    let within : i < state.shape.readers = dite (dec_le state.shape.readers i) (λ l. let z : 0 ≡ suc s = ap hold_number (sym (none_beyond state.holds i (omega arith)) ∙ e) in absurd (omega arith)) (λ l. omega arith) in
     let o = inv.fit.readers i within in let x = erased_is o.0 s n (sym o.2 ∙ e) in let there_is : get_elem? inv.roles (suc i) ≡ some (Reader (suc i) (On s x.0 x.1)) = o.1 ∙ ap (λ (g : Grip). some (Reader (suc i) g)) x.2 in
     let knows = inv.core.knows (suc i) (Reader (suc i) (On s x.0 x.1)) there_is in let found_it : Found story.history r x.0 = subst (λ (c : ℕ). Found story.history c x.0) number (inv.found i s x.0 x.1 there_is) in record {
       at = found_it.0;
@@ -100,7 +95,7 @@ holding story inv r s n low e = let state = story.state in let size = inv.fit.si
 -- a reader that holds a slot is counted, and its slot is in range
 pub holder : (story : Story) (inv : Inv story.state story.history) → (r s : ℕ) (n : Option ℕ) → 0 < r → hold_of story.state r ≡ hold.On s n → (0 < held inv.roles s) × (s < story.state.shape.slots)
 holder story inv r s n low e = let state = story.state in let size = inv.fit.size in let i : ℕ = r - 1 in
-    let within : i < state.shape.readers = dite (dec_le state.shape.readers i) (λ l. let z : 0 ≡ suc s = ap hold_number (sym (beyond state.holds i (omega arith)) ∙ e) in absurd (omega arith)) (λ l. omega arith) in
+    let within : i < state.shape.readers = dite (dec_le state.shape.readers i) (λ l. let z : 0 ≡ suc s = ap hold_number (sym (none_beyond state.holds i (omega arith)) ∙ e) in absurd (omega arith)) (λ l. omega arith) in
     let o = inv.fit.readers i within in let x = erased_is o.0 s n (sym o.2 ∙ e) in let there_is : get_elem? inv.roles (suc i) ≡ some (Reader (suc i) (On s x.0 x.1)) = o.1 ∙ ap (λ (g : Grip). some (Reader (suc i) g)) x.2 in
     let part = term_le (holds s) inv.roles (suc i) (Reader (suc i) (On s x.0 x.1)) there_is in let one = only-same s in (omega arith, (inv.core.knows (suc i) (Reader (suc i) (On s x.0 x.1)) there_is).0)
 

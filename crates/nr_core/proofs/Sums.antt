@@ -120,3 +120,52 @@ module _ {A : Type 0} where
   got_at [] i z low = absurd (omega arith)
   got_at (x ∷ xs) zero z low = refl
   got_at (x ∷ xs) (suc i) z low = got_at xs i z (omega arith)
+
+module _ {A : Type 0} where
+  pub exchanged : (f : ℕ → A → ℕ) (l : List A) (n : ℕ) → below (λ c. total (f c) l) n ≡ total (λ x. below (λ c. f c x) n) l
+  exchanged f l zero = sym (nil l)
+    where
+      nil : (l : List A) → total (λ (_ : A). 0) l ≡ 0
+      nil [] = refl
+      nil (x ∷ xs) = omega (arith, nil xs)
+  exchanged f l (suc n) = omega (arith, exchanged f l n, split l)
+    where
+      split : (l : List A) → total (λ x. below (λ c. f c x) n + f n x) l ≡ total (λ x. below (λ c. f c x) n) l + total (f n) l
+      split [] = refl
+      split (x ∷ xs) = omega (arith, split xs)
+
+pub below-only : (x n : ℕ) → (x < n → below (λ c. only c x) n ≡ 1) × (n ≤ x → below (λ c. only c x) n ≡ 0)
+below-only x zero = ((λ h. absurd (omega arith)), λ _. refl)
+below-only x (suc n) = let before = below-only x n in dite (ℕ_discrete x n)
+    (λ e. let one : only n x ≡ 1 = ap (only n) e ∙ only-same n in ((λ h. omega (arith, before.1 (omega arith))), λ h. absurd (omega arith)))
+    (λ ne. let none = only-other n x ne in ((λ h. omega (arith, before.0 (omega arith))), λ h. omega (arith, before.1 (omega arith))))
+
+pub below-first : (f : ℕ → ℕ) (n : ℕ) → below f (suc n) ≡ f 0 + below (λ k. f (suc k)) n
+below-first f zero = omega arith
+below-first f (suc n) = omega (arith, below-first f n)
+
+pub below-zero : (n : ℕ) → below (λ _. 0) n ≡ 0
+below-zero zero = refl
+below-zero (suc n) = omega (arith, below-zero n)
+
+pub below-sum : (f g : ℕ → ℕ) (n : ℕ) → below (λ k. f k + g k) n ≡ below f n + below g n
+below-sum f g zero = refl
+below-sum f g (suc n) = omega (arith, below-sum f g n)
+
+pub below-exchanged : (f : ℕ → ℕ → ℕ) (n m : ℕ) → below (λ s. below (f s) m) n ≡ below (λ k. below (λ s. f s k) n) m
+below-exchanged f n zero = below-zero n
+below-exchanged f n (suc m) = omega (arith, below-sum (λ s. below (f s) m) (λ s. f s m) n, below-exchanged f n m)
+
+pub below-one : (n : ℕ) → below (λ _. 1) n ≡ n
+below-one zero = refl
+below-one (suc n) = omega (arith, below-one n)
+
+pub below-few : (f : ℕ → ℕ) (n : ℕ) → ((s : ℕ) → s < n → f s ≤ 1) → below f n ≤ n
+below-few f zero few = omega arith
+below-few f (suc n) few = omega (arith, below-few f n (λ s l. few s (omega arith)), few n (omega arith))
+
+pub below-fewer : (f : ℕ → ℕ) (n t : ℕ) → ((s : ℕ) → s < n → f s ≤ 1) → t < n → f t ≡ 0 → below f n < n
+below-fewer f zero t few near none = absurd (omega arith)
+below-fewer f (suc n) t few near none = dite (ℕ_discrete t n)
+    (λ e. let last : f n ≡ 0 = ap f (sym e) ∙ none in omega (arith, below-few f n (λ s l. few s (omega arith))))
+    (λ ne. omega (arith, below-fewer f n t (λ s l. few s (omega arith)) (omega arith) none, few n (omega arith)))

@@ -1,5 +1,5 @@
 -- Another word is swapped in for a key's word, and the slot that it named is retired.
-use Rattle.std.proofs.Common.{List, [], ap, append-nil, arith, cond, get_or, get_or-set_other, inl, inr, set, subst, suc, sym, ℕ, ⊎_elim, ◌%◌, ◌++◌, ◌+◌, ◌-◌, ◌<◌, ◌^◌, ◌∙◌, ◌∷◌, ◌≡◌, ◌⊎◌}
+use Rattle.std.proofs.Common.{List, [], ap, append-nil, arith, cond, get_or, get_or-set_other, inl, inr, set, subst, suc, sym, ℕ, ⊎_elim, ◌%◌, ◌++◌, ◌+◌, ◌<◌, ◌^◌, ◌∙◌, ◌∷◌, ◌≡◌, ◌⊎◌}
 use lib.ListN.{get_elem?}
 use mathlib.Core.Option.{some}
 use Rattle.nr_model.specs.Histories.{Entry}
@@ -49,7 +49,7 @@ swap_step shape words roles log core id desk is_there k x c y near at_k replies 
     let same : state_of map' k ≡ state_after shape.bound c (state_of map k) = subst (λ (j : ℕ). state_of map' j ≡ state_after shape.bound c (state_of map j)) at_k (state_same shape log e near') in
     let still : (s : ℕ) → held roles' s ≡ held roles s = λ s. let y = total-set (holds s) roles id (Writer desk) (Writer desk') is_there in omega arith in
     let dep : (s : ℕ) → get_or words' (departures shape s) 0 ≡ get_or words (departures shape s) 0 = λ s. get_or-set_other words k (departures shape s) x 0 (λ z. omega arith) in
-    let sum : (s : ℕ) → (get_or words' (departures shape s) 0 + held roles' s) % 2 ^ 40 ≡ (get_or words (departures shape s) 0 + held roles s) % 2 ^ 40 = λ s. ap (λ (call : ℕ × ℕ). (call.0 + call.1) % 2 ^ 40) (λ i. (dep s i, still s i)) in
+    let sum : (s : ℕ) → (get_or words' (departures shape s) 0 + held roles' s) % 2 ^ 40 ≡ (get_or words (departures shape s) 0 + held roles s) % 2 ^ 40 = λ s. ap (λ (pair : ℕ × ℕ). (pair.0 + pair.1) % 2 ^ 40) (λ i. (dep s i, still s i)) in
     let left : (s : ℕ) → Left shape words words' map map' (held roles) (held roles') s = λ s. record { contents = λ j low. get_or-set_other words k (content shape s j) x 0 (λ z. omega arith); nobody = λ z. still s ∙ z; deps = λ _. dep s; sum = sum s } in
     let own : AtDesk shape words' map' (held roles') desk' = record {
       place = tt;

@@ -20,17 +20,16 @@ use Rattle.nr_core.proofs.Guards.{both, guard, reader_in}
 use Rattle.nr_core.proofs.KeyWords.{name_high}
 use Rattle.nr_core.proofs.OnKey.{in_range}
 use Rattle.nr_core.proofs.Poll.{polls}
-use Rattle.nr_core.proofs.Seat.{notes}
 use Rattle.nr_core.proofs.StateRoles.{Inv, state_sums}
 use Rattle.nr_core.proofs.Sums.{below-term, got_at, only-is, only-same, some_term, term_le, terms_le}
 use Rattle.nr_core.specs.Accounts.{on}
-use Rattle.nr_core.specs.Core.{AtPlace, held, holds}
+use Rattle.nr_core.specs.Core.{AtPlace, held}
 use Rattle.nr_core.specs.Machine.{moved, read_hold}
 use Rattle.nr_core.specs.Operations.{going, place_of}
 use Rattle.nr_core.specs.Refusals.{has_key, has_reader, if_holding, if_not_holding, if_unreadable, refusal}
 use Rattle.nr_core.specs.Slots.{content, name_number, set_of}
 use Rattle.nr_core.specs.States.{Arrive, Ask, Depart, Event, Go, Read, Start, State, hold_of, key_of, no_retired, retired_at, slot_in}
-use Rattle.nr_core.specs.Story.{Poll, holders, holders_from, is_on, map_after, poll_at, polls_after}
+use Rattle.nr_core.specs.Story.{Poll, holders_from, is_on, map_after, poll_at, polls_after}
 use Rattle.nr_core.specs.Sums.{only, total}
 use Rattle.nr_core.specs.Writer.{decided, ended, looked, moved_to, no_slot, read_on, renewed, settled, swapped, went}
 use Rattle.nr_core.specs.declared.calls.Step.{Step}

@@ -1,5 +1,5 @@
 -- Each event of the writer keeps the core state of a state, its roles and what they found.
-use Rattle.std.proofs.Common.{List, get_or, set, ◌++◌, ◌+◌, ◌-◌, ◌≡◌}
+use Rattle.std.proofs.Common.{List, get_or, set, ◌++◌, ◌≡◌}
 use Rattle.std.proofs.lemmas.Bool.{ltb-true}
 use Rattle.std.specs.Prelude.{None}
 use Rattle.nr_model.specs.Histories.{Entry}

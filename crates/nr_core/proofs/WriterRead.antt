@@ -1,5 +1,5 @@
 -- The writer reads a word of the slot that its key names; the last read decides its find or update.
-use Rattle.std.proofs.Common.{List, [], ap, arith, cond, get_or, length, nat_eq, refl, set, subst, suc, sym, take, ℕ, ◌*◌, ◌++◌, ◌+◌, ◌-◌, ◌<◌, ◌∙◌, ◌∷◌, ◌≡◌, ◌≢◌}
+use Rattle.std.proofs.Common.{List, [], ap, arith, cond, get_or, length, nat_eq, refl, set, subst, suc, sym, take, ℕ, ◌*◌, ◌++◌, ◌+◌, ◌<◌, ◌∙◌, ◌∷◌, ◌≡◌, ◌≢◌}
 use Rattle.std.proofs.lemmas.Bool.{eqb-false, eqb-true}
 use Rattle.std.specs.Prelude.{Err, Ok, Result}
 use lib.ListN.{get_elem?}
@@ -11,9 +11,10 @@ use Rattle.nr_model.specs.Maps.{applied_reply, reply_at, rows_or, state_after, s
 use Rattle.nr_model.specs.Rows.{IsRowSet}
 use Rattle.nr_model.specs.declared.batches.ApplyFault.{ApplyFault}
 use Rattle.nr_model.specs.declared.rows.Row.{Row}
+use Rattle.nr_words.proofs.SetWordLemmas.{length-row_words}
 use Rattle.nr_words.specs.SetWords.{encode}
 use Rattle.nr_core.proofs.Choices.{by_cases}
-use Rattle.nr_core.proofs.Frames.{length-row_words, not_hole}
+use Rattle.nr_core.proofs.Frames.{not_hole}
 use Rattle.nr_core.proofs.ReadThrough.{length-got_next, read_first, read_next, read_set, read_whole}
 use Rattle.nr_core.proofs.Settle.{ends, goes_on, idle_desk, settles}
 use Rattle.nr_core.specs.Core.{AtDesk, AtPlace, Core, Reads, held, keeps, taken}

@@ -1,5 +1,5 @@
 -- Slot accounting in a state: each slot's one place, and its counts.
-use Rattle.std.specs.Prelude.{◌≡◌, ℕ, suc, ◌+◌, ◌%◌, ◌<◌, List}
+use Rattle.std.specs.Prelude.{◌≡◌, ℕ, suc, ◌+◌, ◌<◌}
 use Rattle.nr_core.specs.declared.places.Hold.{Hold}
 use Rattle.nr_core.specs.declared.places.Hold.TheVariants.{Nothing, On}
 use Rattle.nr_core.specs.Sums.{total, only}

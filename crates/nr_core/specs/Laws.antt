@@ -1,5 +1,5 @@
 -- The laws over all lists of events.
-use Rattle.std.specs.Prelude.{◌≡◌, ℕ, suc, ◌+◌, ◌-◌, ◌*◌, ◌%◌, ◌<◌, ◌≤◌, ◌≢◌, ◌⊎◌, ◌==◌, if◌then◌else◌, List, [], ◌∷◌, ◌++◌, length, map, slice_index, slice_index_or, Option, Some, None, Ok}
+use Rattle.std.specs.Prelude.{◌≡◌, ℕ, ◌+◌, ◌<◌, ◌≤◌, ◌≢◌, ◌⊎◌, ◌==◌, if◌then◌else◌, List, [], ◌∷◌, ◌++◌, length, map, slice_index, slice_index_or, slice_set, Option, Some, None, Ok}
 use Rattle.nr_model.specs.declared.rows.Row.{Row}
 use Rattle.nr_model.specs.declared.calls.Reply.TheVariants as reply
 use Rattle.nr_model.specs.declared.calls.Call.TheVariants as model
@@ -14,7 +14,7 @@ use Rattle.nr_core.specs.declared.calls.WriterCall.{WriterCall}
 use Rattle.nr_core.specs.declared.calls.WriterCall.TheVariants.{Find, Fill, Update, Evict}
 use Rattle.nr_core.specs.declared.calls.WReply.TheVariants as writer
 use Rattle.nr_core.specs.declared.calls.Step.TheVariants.{Ended}
-use Rattle.nr_core.specs.declared.places.Hold.TheVariants.{Nothing, On}
+use Rattle.nr_core.specs.declared.places.Hold.TheVariants.{On}
 use Rattle.nr_core.specs.declared.places.Retired.{Retired}
 use Rattle.nr_core.specs.declared.places.Place.{Place}
 use Rattle.nr_core.specs.declared.places.Place.TheVariants.{Idle, Reading, Leaving, Searching, Putting}
@@ -22,7 +22,7 @@ use Rattle.nr_words.specs.SetWords.{encode}
 use Rattle.nr_core.specs.Slots.{content, slot_room}
 use Rattle.nr_core.specs.States.{State, Event, Arrive, Read, Depart, Ask, Start, Go, word, hold_of}
 use Rattle.nr_core.specs.Refusals.{refusal}
-use Rattle.nr_core.specs.Operations.{Load, place_of, operation}
+use Rattle.nr_core.specs.Operations.{Operation, Load, place_of, becomes, operation}
 use Rattle.nr_core.specs.Machine.{next, run, unless, read_answer, start_answer, go_answer}
 use Rattle.nr_core.specs.Story.{Story, Poll, story_of, tell, told, shown, entry, call_of, map_after}
 use Rattle.nr_core.specs.Core.{IsShape}
@@ -117,10 +117,14 @@ pub record IsJustified (story : Story) (event : Event) (counts : NoSlot) : Type 
   pub polled : map (λ (poll : Poll). poll.slot) (tell story event).polls ≡ map (λ (entry : Retired). entry.slot) (tell story event).state.desk.retired
   pub were_held : (index : ℕ) → index < length (tell story event).polls → 0 < length (slice_index_or (tell story event).polls index no_poll).holders
 
+-- the words change by one operation on one of them
+abbrev pub Operates : State → Operation → State → Type 0
+Operates state one after = (place_of one < length state.words) × (after.words ≡ slice_set state.words (place_of one) (becomes one (word state (place_of one))))
+
 -- what one event more does
 pub record Follows (story : Story) (event : Event) : Type 0 where
   -- one operation on one word
-  pub one_word : (place : ℕ) → place ≢ place_of (operation story.state event) → word (next story.state event) place ≡ word story.state place
+  pub one_operation : refusal story.state event ≡ None → Operates story.state (operation story.state event) (next story.state event)
   pub refused : refusal story.state event ≢ None → tell story event ≡ story
   -- an operation on a content word of a held slot is a load
   pub untouched : refusal story.state event ≡ None → (reader slot index : ℕ) (size : Option ℕ) → 0 < reader → hold_of story.state reader ≡ On slot size → index < slot_room

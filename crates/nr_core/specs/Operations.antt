@@ -1,5 +1,5 @@
 -- The one operation on one word that each event is.
-use Rattle.std.specs.Prelude.{ℕ, ◌+◌, ◌*◌, ◌%◌, ◌^◌, nat_le, if◌then◌else◌, bit_or, List, length, slice_index}
+use Rattle.std.specs.Prelude.{ℕ, ◌+◌, ◌*◌, ◌%◌, ◌^◌, nat_le, if◌then◌else◌, bit_or, length, slice_index}
 use Rattle.nr_core.specs.declared.shape.Shape.{Shape}
 use Rattle.nr_core.specs.declared.places.Place.{Place}
 use Rattle.nr_core.specs.declared.places.Place.TheVariants.{Idle, Reading, Leaving, Searching, Putting}

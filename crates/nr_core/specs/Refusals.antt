@@ -1,5 +1,5 @@
 -- When an event is refused, and why: a reader or key out of range first, the index of a read last.
-use Rattle.std.specs.Prelude.{ℕ, ◌+◌, ◌*◌, ◌==◌, ◌&&◌, nat_lt, nat_le, Bool, if◌then◌else◌, Option, Some, None}
+use Rattle.std.specs.Prelude.{ℕ, ◌*◌, ◌==◌, ◌&&◌, nat_lt, nat_le, Bool, if◌then◌else◌, Option, Some, None}
 use Rattle.nr_core.specs.declared.shape.Shape.{Shape}
 use Rattle.nr_core.specs.declared.calls.Refusal.{Refusal}
 use Rattle.nr_core.specs.declared.calls.Refusal.TheVariants.{Holding, NotHolding, Busy, NotBusy, OutOfRange}

@@ -1,5 +1,5 @@
 -- Slots: where their words stand, which slot a key's word names, and which set a slot spells.
-use Rattle.std.specs.Prelude.{◌≡◌, ℕ, suc, zero, ◌+◌, ◌*◌, ◌/◌, ◌%◌, ◌^◌, false, true, ◌≤◌, ◌<◌, ◌==◌, nat_lt, nat_le, Bool, List, [], ◌∷◌, ◌++◌, cond, length, take, drop, replicate, slice_index, Option, Some, None}
+use Rattle.std.specs.Prelude.{◌≡◌, ℕ, suc, zero, ◌+◌, ◌%◌, ◌^◌, false, true, ◌<◌, nat_le, List, [], ◌∷◌, ◌++◌, cond, length, take, drop, replicate, slice_index, Option, Some, None}
 use Rattle.nr_model.specs.declared.rows.Row.{Row}
 use Rattle.nr_model.specs.Rows.{IsRowSet}
 use Rattle.nr_core.specs.declared.shape.Shape.{Shape}

@@ -1,5 +1,5 @@
 -- The machine's state, where it opens, and the events that its callers attempt.
-use Rattle.std.specs.Prelude.{ℕ, suc, zero, ◌+◌, ◌-◌, ◌*◌, List, [], ◌∷◌, ◌++◌, replicate, slice_index, slice_index_or}
+use Rattle.std.specs.Prelude.{ℕ, ◌-◌, List, [], replicate, slice_index, slice_index_or}
 use Rattle.nr_core.specs.declared.shape.Shape.{Shape}
 use Rattle.nr_core.specs.declared.calls.WriterCall.{WriterCall}
 use Rattle.nr_core.specs.declared.calls.WriterCall.TheVariants.{Find, Fill, Update, Evict}

@@ -33,6 +33,8 @@ mod machine;
 mod places;
 mod roles;
 mod shape;
+#[cfg(test)]
+mod tests;
 mod words;
 mod words_read;
 

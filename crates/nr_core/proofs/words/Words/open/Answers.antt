@@ -1,4 +1,4 @@
-use Rattle.std.proofs.Common.{◌≡◌, ◌∙◌, ℕ, zero, suc, ◌+◌, ◌++◌, List, [], ap, sym, refl, append_assoc, append-nil, add-one, replicate}
+use Rattle.std.proofs.Common.{◌≡◌, ◌∙◌, ℕ, zero, suc, ◌+◌, ◌++◌, List, ap, sym, append_assoc, append-nil, add-one, replicate}
 use Rattle.nr_core.specs.Slots.{repeated}
 use Rattle.nr_core.proofs.words.Words.open.Goals as goal
 
