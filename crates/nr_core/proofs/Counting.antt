@@ -1,5 +1,5 @@
 -- How many slots are where, of any core state: a retired slot stands once, the retired ones are no more than the slots, and once every slot was taken the filled keys and the retired slots are all of them.
-use Rattle.std.proofs.Common.{Bool, List, [], ap, arith, cond, get_or, length, refl, set, suc, sym, ℕ, ◌+◌, ◌-◌, ◌<◌, ◌∙◌, ◌∷◌, ◌≡◌, ◌≤◌}
+use Rattle.std.proofs.Common.{Bool, List, [], ap, arith, cond, get_or, length, refl, set, suc, sym, ℕ, ◌+◌, ◌<◌, ◌∙◌, ◌∷◌, ◌≡◌, ◌≤◌}
 use Rattle.std.proofs.lemmas.Bool.{lt-leb}
 use Rattle.std.specs.List.{count_by}
 use lib.ListN.{get_elem?}
@@ -13,7 +13,8 @@ use Rattle.nr_model.specs.declared.states.KeyState.{KeyState}
 use Rattle.nr_core.proofs.Histories.{length-now}
 use Rattle.nr_core.proofs.OnKey.{in_range}
 use Rattle.nr_core.proofs.Sums.{below-exchanged, below-few, below-fewer, below-first, below-one, below-only, below-same, below-sum, below-term, below-zero, exchanged, only-same, only-suc, only-zero, terms_le, total-set}
-use Rattle.nr_core.specs.Core.{Core, ShowsState, is_writer, keeps, retirements, taken}
+use Rattle.nr_core.specs.Roles.{is_writer, keeps, retirements, taken}
+use Rattle.nr_core.specs.Core.{Core, ShowsState}
 use Rattle.nr_core.specs.Slots.{name_number, named, unused}
 use Rattle.nr_core.specs.Story.{map_after}
 use Rattle.nr_core.specs.Sums.{below, only, total}

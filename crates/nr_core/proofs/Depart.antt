@@ -1,19 +1,19 @@
 -- A reader departs from the slot that it holds.
-use Rattle.std.proofs.Common.{Bool, List, [], ap, arith, get_or, get_or-set_other, get_or-set_same, refl, set, subst, sym, ℕ, ◌%◌, ◌*◌, ◌+◌, ◌-◌, ◌<◌, ◌^◌, ◌∙◌, ◌≡◌, ◌≢◌, ◌≤◌}
+use Rattle.std.proofs.Common.{Bool, List, [], ap, arith, get_or, get_or-set_other, get_or-set_same, refl, set, subst, sym, ℕ, ◌%◌, ◌*◌, ◌+◌, ◌<◌, ◌^◌, ◌∙◌, ◌≡◌, ◌≢◌, ◌≤◌}
 use lib.ListN.{get_elem?}
 use mathlib.Core.Logic.{dite}
 use mathlib.Core.Option.{some}
 use native.Mathlib.Decide.{ℕ_discrete}
-use Rattle.nr_model.specs.Histories.{after}
 use Rattle.nr_model.specs.declared.rows.Row.{Row}
 use Rattle.nr_core.proofs.Frames.{Left, desk_more, holding_more}
 use Rattle.nr_core.proofs.OffKeys.{none_of, off_keys}
 use Rattle.nr_core.proofs.Sums.{only-other, only-same, total-set}
-use Rattle.nr_core.specs.Core.{Knows, held, holds, is_by}
+use Rattle.nr_core.specs.Roles.{held, holds, is_by}
+use Rattle.nr_core.specs.Core.{Knows}
 use Rattle.nr_core.specs.Operations.{Add}
 use Rattle.nr_core.specs.Slots.{content, departures, name_number}
 use Rattle.nr_core.specs.Steps.{CanStep, Departs}
-use Rattle.nr_core.specs.Story.{map_after, told}
+use Rattle.nr_core.specs.Story.{map_after}
 use Rattle.nr_core.specs.Sums.{only}
 use Rattle.nr_core.specs.declared.roles.Grip.TheVariants.{Nothing, On}
 use Rattle.nr_core.specs.declared.roles.Role.{Role}

@@ -6,7 +6,7 @@ use Rattle.nr_core.proofs.Opening.{inv_open}
 use Rattle.nr_core.proofs.ReaderEvents.{after_arrive, after_ask, after_depart, after_read}
 use Rattle.nr_core.proofs.StateRoles.{Inv}
 use Rattle.nr_core.proofs.WriterEvents.{after_go, after_start}
-use Rattle.nr_core.specs.Core.{IsShape}
+use Rattle.nr_core.specs.Sizes.{IsShape}
 use Rattle.nr_core.specs.Laws.{AllGiven, IsGiven}
 use Rattle.nr_core.specs.Machine.{moved, unless}
 use Rattle.nr_core.specs.Refusals.{refusal}

@@ -15,7 +15,8 @@ use Rattle.nr_core.proofs.Reach.{hold_room, place_room}
 use Rattle.nr_core.proofs.Settle.{own_ending}
 use Rattle.nr_core.proofs.Stands.{holder}
 use Rattle.nr_core.proofs.StateRoles.{Inv}
-use Rattle.nr_core.specs.Core.{AtDesk, AtPlace, Puts, held}
+use Rattle.nr_core.specs.Roles.{held}
+use Rattle.nr_core.specs.Core.{AtDesk, AtPlace, Puts}
 use Rattle.nr_core.specs.Laws.{EndsWithout, Follows, IsJustified, caller_of}
 use Rattle.nr_core.specs.Machine.{found_by, moved, unless}
 use Rattle.nr_core.specs.Operations.{Load, Operation, Store, Swap, going, operation, place_of}

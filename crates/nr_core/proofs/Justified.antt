@@ -16,7 +16,8 @@ use Rattle.nr_core.proofs.Settle.{key_same}
 use Rattle.nr_core.proofs.StateRoles.{Inv}
 use Rattle.nr_core.proofs.Sweeps.{AtSweep, Notes, Swept, polled_slots}
 use Rattle.nr_core.proofs.Without.{IsWithout, NoneLeft, decided_none, look_none, not_going, not_reply, polled_none}
-use Rattle.nr_core.specs.Core.{AtPlace, Reads, held, taken}
+use Rattle.nr_core.specs.Roles.{held, taken}
+use Rattle.nr_core.specs.Core.{AtPlace, Reads}
 use Rattle.nr_core.specs.Laws.{EndsWithout, IsJustified, call_at, call_in}
 use Rattle.nr_core.specs.Machine.{answer, found_by, moved, unless}
 use Rattle.nr_core.specs.Operations.{going, place_of}

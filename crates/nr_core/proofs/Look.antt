@@ -11,7 +11,8 @@ use Rattle.nr_words.specs.KeyWords.{has_ask, slot_of}
 use Rattle.nr_core.proofs.Frames.{asked_no_hole}
 use Rattle.nr_core.proofs.KeyWords.{names_none, names_one}
 use Rattle.nr_core.proofs.Settle.{ends, goes_on, idle_desk, key_same, own_ending, settles}
-use Rattle.nr_core.specs.Core.{AtDesk, Core, ShowsState, held, keeps, taken}
+use Rattle.nr_core.specs.Roles.{held, keeps, taken}
+use Rattle.nr_core.specs.Core.{AtDesk, Core, ShowsState}
 use Rattle.nr_core.specs.Laws.{IsGivenCall}
 use Rattle.nr_core.specs.Operations.{Load}
 use Rattle.nr_core.specs.Slots.{name_number, unused}

@@ -8,7 +8,9 @@ use Rattle.nr_words.specs.Places.{total_of}
 use Rattle.nr_core.proofs.Frames.{unused-free}
 use Rattle.nr_core.proofs.StateRoles.{Inv, no_grip, same_grip}
 use Rattle.nr_core.proofs.Sums.{only-other}
-use Rattle.nr_core.specs.Core.{Core, IsShape, Knows, ShowsState, held, holds, is_reader, is_writer, keeps}
+use Rattle.nr_core.specs.Roles.{held, holds, is_reader, is_writer, keeps}
+use Rattle.nr_core.specs.Sizes.{IsShape}
+use Rattle.nr_core.specs.Core.{Core, Knows, ShowsState}
 use Rattle.nr_core.specs.Slots.{departures, layout, name_number, opening_words, repeated, slot_room}
 use Rattle.nr_core.specs.States.{opening, opening_desk}
 use Rattle.nr_core.specs.Story.{map_after}
@@ -20,28 +22,24 @@ use Rattle.nr_core.specs.declared.shape.Shape.{Shape}
 use Rattle.nr_core.specs.declared.places.Hold.TheVariants as hold
 use Rattle.nr_model.specs.declared.states.KeyState.TheVariants as key
 
-pub readers_from : ℕ → ℕ → List Role
+abbrev pub readers_from : ℕ → ℕ → List Role
 readers_from i zero = []
 readers_from i (suc n) = Reader (suc i) Nothing ∷ readers_from (suc i) n
 
 no_weight : (g : Role → ℕ) → ((c : ℕ) → g (Reader c Nothing) ≡ 0) → (n i : ℕ) → total g (readers_from i n) ≡ 0
-unfolding readers_from
 no_weight g none zero i = refl
 no_weight g none (suc n) i = omega (arith, none (suc i), no_weight g none n (suc i))
 
 all_readers : (n i : ℕ) → (total is_reader (readers_from i n) ≡ n) × (length (readers_from i n) ≡ n)
-unfolding readers_from
 all_readers zero i = (refl, refl)
 all_readers (suc n) i = let t = all_readers n (suc i) in (omega (arith, t.0), omega (arith, t.1))
 
 reader_at : (n i j : ℕ) → j < n → get_elem? (readers_from i n) j ≡ some (Reader (suc (i + j)) Nothing)
-unfolding readers_from
 reader_at zero i j low = absurd (omega arith)
 reader_at (suc n) i zero low = ap (λ (c : ℕ). some (Reader c Nothing)) (omega arith)
 reader_at (suc n) i (suc j) low = reader_at n (suc i) j (omega arith) ∙ ap (λ (c : ℕ). some (Reader c Nothing)) (omega arith)
 
 only_readers : (n i j : ℕ) (u : Role) → get_elem? (readers_from i n) j ≡ some u → (c : ℕ) × (Reader c Nothing ≡ u)
-unfolding readers_from
 only_readers zero i j u e = absurd (some-ne-none u (sym e))
 only_readers (suc n) i zero u e = (suc i, some-injective (Reader (suc i) Nothing) u e)
 only_readers (suc n) i (suc j) u e = only_readers n (suc i) j u e

@@ -9,7 +9,8 @@ use Rattle.nr_model.specs.declared.rows.Row.{Row}
 use Rattle.nr_core.proofs.Choices.{by_cases}
 use Rattle.nr_core.proofs.Settle.{goes_on, idle_desk}
 use Rattle.nr_core.proofs.Sums.{at_remove, got_at, only-le, total-le, total-remove}
-use Rattle.nr_core.specs.Core.{AtPlace, Core, held, holds, is_reader, keeps, taken}
+use Rattle.nr_core.specs.Roles.{held, holds, is_reader, keeps, taken}
+use Rattle.nr_core.specs.Core.{AtPlace, Core}
 use Rattle.nr_core.specs.Slots.{departures, unused}
 use Rattle.nr_core.specs.States.{no_retired, retired_at}
 use Rattle.nr_core.specs.Story.{call_of, ending, map_after}

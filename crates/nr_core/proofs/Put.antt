@@ -11,7 +11,8 @@ use Rattle.nr_words.specs.SetWords.{encode}
 use Rattle.nr_core.proofs.Frames.{Left, free_more, retired_more, unused-free}
 use Rattle.nr_core.proofs.OffKeys.{no_writer, off_keys}
 use Rattle.nr_core.proofs.Sums.{only-same, term_le, total-set}
-use Rattle.nr_core.specs.Core.{AtDesk, AtPlace, Core, Puts, held, holds, keeps, taken}
+use Rattle.nr_core.specs.Roles.{held, holds, keeps, taken}
+use Rattle.nr_core.specs.Core.{AtDesk, AtPlace, Core, Puts}
 use Rattle.nr_core.specs.Slots.{content, departures, named, unused}
 use Rattle.nr_core.specs.Story.{map_after}
 use Rattle.nr_core.specs.Sums.{only, total}

@@ -12,7 +12,9 @@ use Rattle.nr_core.proofs.Events.{inv_story}
 use Rattle.nr_core.proofs.Runs.{run_more, story_state}
 use Rattle.nr_core.proofs.StateRoles.{Inv, erased}
 use Rattle.nr_core.proofs.Sums.{got_at, only-same}
-use Rattle.nr_core.specs.Core.{AtDesk, AtPlace, Grips, IsShape, ShowsState, held, taken}
+use Rattle.nr_core.specs.Roles.{held, taken}
+use Rattle.nr_core.specs.Sizes.{IsShape}
+use Rattle.nr_core.specs.Core.{AtDesk, AtPlace, Grips, ShowsState}
 use Rattle.nr_core.specs.Laws.{AllGiven, IsGiven}
 use Rattle.nr_core.specs.Machine.{moved, next, run, unless}
 use Rattle.nr_core.specs.Reach.{HasRoom, Reached, RoomAt, RoomOf}

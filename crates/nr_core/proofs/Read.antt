@@ -1,19 +1,19 @@
 -- A reader reads a word of the slot that it holds.
-use Rattle.std.proofs.Common.{Bool, List, [], ap, arith, cond, get_or, length, nat_eq, refl, set, true, ℕ, ◌%◌, ◌+◌, ◌-◌, ◌<◌, ◌^◌, ◌∙◌, ◌≡◌, ◌≢◌}
+use Rattle.std.proofs.Common.{Bool, List, [], ap, arith, cond, get_or, length, nat_eq, refl, set, true, ℕ, ◌%◌, ◌+◌, ◌<◌, ◌^◌, ◌∙◌, ◌≡◌, ◌≢◌}
 use lib.ListN.{get_elem?}
 use lib.Seq.{set-get_or}
 use mathlib.Core.Option.{some}
-use Rattle.nr_model.specs.Histories.{after}
 use Rattle.nr_model.specs.declared.rows.Row.{Row}
 use Rattle.nr_words.specs.SetWords.{encode}
 use Rattle.nr_core.proofs.Frames.{Left, desk_more, holding_more}
 use Rattle.nr_core.proofs.OffKeys.{none_of, off_keys}
 use Rattle.nr_core.proofs.Sums.{total-set}
-use Rattle.nr_core.specs.Core.{Knows, held, holds, is_by}
+use Rattle.nr_core.specs.Roles.{held, holds, is_by}
+use Rattle.nr_core.specs.Core.{Knows}
 use Rattle.nr_core.specs.Operations.{Load}
 use Rattle.nr_core.specs.Slots.{content, departures, name_number}
 use Rattle.nr_core.specs.Steps.{CanStep, ReadsHeld}
-use Rattle.nr_core.specs.Story.{map_after, told}
+use Rattle.nr_core.specs.Story.{map_after}
 use Rattle.nr_core.specs.declared.roles.Grip.TheVariants.{On}
 use Rattle.nr_core.specs.declared.roles.Role.{Role}
 use Rattle.nr_core.specs.declared.roles.Role.TheVariants.{Note, Reader, Writer}

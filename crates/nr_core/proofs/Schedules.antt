@@ -1,5 +1,5 @@
 -- The laws over all lists of events: what stands between any two steps, and the bound on slots.
-use Rattle.std.proofs.Common.{List, [], ap, arith, length, refl, subst, sym, ◌+◌, ◌∙◌, ◌∷◌, ◌≡◌, ◌≤◌}
+use Rattle.std.proofs.Common.{List, [], ap, arith, length, refl, subst, sym, ◌+◌, ◌-◌, ◌<◌, ◌∙◌, ◌∷◌, ◌≡◌, ◌≤◌}
 use Rattle.std.proofs.lemmas.List.{length-map}
 use Rattle.std.proofs.lemmas.List.Sums.{count_by-le-length}
 use Rattle.std.specs.Prelude.{None, Option, Some, fold}
@@ -15,10 +15,11 @@ use Rattle.nr_core.proofs.Settle.{ends}
 use Rattle.nr_core.proofs.Stands.{stands}
 use Rattle.nr_core.proofs.StateRoles.{Inv}
 use Rattle.nr_core.proofs.Sweeps.{Swept, swept_event}
-use Rattle.nr_core.specs.Core.{IsShape}
 use Rattle.nr_core.specs.Laws.{AllGiven, EndsWithout, EverySchedule, IsGiven, SlotBound, map_of}
 use Rattle.nr_core.specs.Machine.{moved, unless}
 use Rattle.nr_core.specs.Refusals.{refusal}
+use Rattle.nr_core.specs.Roles.{held}
+use Rattle.nr_core.specs.Sizes.{IsShape}
 use Rattle.nr_core.specs.States.{Event, State}
 use Rattle.nr_core.specs.Story.{Poll, Story, beginning, polls_after, story_of, tell}
 use Rattle.nr_core.specs.declared.calls.NoSlot.{NoSlot}
@@ -49,19 +50,21 @@ every_schedule_lem shape events fits given = let t = inv_story shape events fits
 filled_le : (m : PartialMap) → filled_count m ≤ length m.states
 filled_le m = count_by-le-length is_filled_key m.states
 
--- with a slot for each key, each reader and one more, a call always has one: no more slots than readers are held at their polls
-never_without : (story : Story) (event : Event) → Inv story.state story.history → Swept story.state story.polls → Swept (tell story event).state (tell story event).polls → (tell story event).state.shape ≡ story.state.shape
-    → story.state.shape.keys + story.state.shape.readers + 1 ≤ story.state.shape.slots → (counts : NoSlot) → EndsWithout story.state event counts → ⊥
-never_without story event inv swept after kept room counts ends = let j = no_slot_is_justified story event inv swept after counts ends in let all = j.all in let live = j.live in let held_there = j.held in
+-- a call that ends with no slot polled every retired slot while a reader held it
+few_held : (story : Story) (event : Event) → Inv story.state story.history → Swept story.state story.polls → Swept (tell story event).state (tell story event).polls → (tell story event).state.shape ≡ story.state.shape
+    → (counts : NoSlot) → EndsWithout story.state event counts → (counts.held ≤ story.state.shape.readers) × (story.state.shape.slots < story.state.shape.keys + story.state.shape.readers + 1)
+few_held story event inv swept after kept counts ends = let j = no_slot_is_justified story event inv swept after counts ends in let all = j.all in let live = j.live in let held_there = j.held in
     let at_most = filled_le (map_of story) in let size : length (map_of story).states ≡ story.state.shape.keys = length-now story.state.shape story.history in
     let few : length (tell story event).polls ≤ story.state.shape.readers = subst (λ (s : Shape). length (tell story event).polls ≤ s.readers) kept after.few in
-    let same : length (tell story event).polls ≡ length (tell story event).state.desk.retired = sym (length-map (tell story event).polls (λ (x : Poll). x.slot)) ∙ ap length j.polled ∙ length-map (tell story event).state.desk.retired (λ (x : Retired). x.slot) in
-    absurd (omega arith)
+    let same : length (tell story event).polls ≡ length (tell story event).state.desk.retired
+    = sym (length-map (tell story event).polls (λ (x : Poll). x.slot)) ∙ ap length j.polled ∙ length-map (tell story event).state.desk.retired (λ (x : Retired). x.slot) in
+    (omega arith, omega arith)
 
 pub slot_bound_lem : SlotBound
 slot_bound_lem shape events fits given = let t = inv_story shape events fits given in let swept = swept_story shape events fits given in let story = story_of shape events in (
   subst (λ (s : Shape). length story.polls ≤ s.readers) t.1 swept.few,
-  λ room event one counts ends.
-      never_without story event t.0 swept (swept_tell story event t.0 swept) (after_tell story event (subst (λ (s : Shape). IsGiven s.bound event) (sym t.1) one) t.0).1
-      (subst (λ (s : Shape). s.keys + s.readers + 1 ≤ s.slots) (sym t.1) room) counts (subst (λ (s : State). EndsWithout s event counts) (sym (story_state shape events)) ends),
+  λ event counts one ends.
+      subst (λ (s : Shape). (counts.held ≤ s.readers) × (s.slots < s.keys + s.readers + 1)) t.1
+      (few_held story event t.0 swept (swept_tell story event t.0 swept) (after_tell story event (subst (λ (s : Shape). IsGiven s.bound event) (sym t.1) one) t.0).1 counts
+      (subst (λ (s : State). EndsWithout s event counts) (sym (story_state shape events)) ends)),
 )

@@ -17,7 +17,8 @@ use Rattle.nr_core.proofs.Frames.{unused-free}
 use Rattle.nr_core.proofs.Histories.{legal-more, replies_so, state_other, state_same}
 use Rattle.nr_core.proofs.OffKeys.{none_of}
 use Rattle.nr_core.proofs.Sums.{only-other, only-same}
-use Rattle.nr_core.specs.Core.{AtDesk, Core, Wants, held, keeps}
+use Rattle.nr_core.specs.Roles.{held, keeps}
+use Rattle.nr_core.specs.Core.{AtDesk, Core, Wants}
 use Rattle.nr_core.specs.Slots.{unused}
 use Rattle.nr_core.specs.States.{key_of}
 use Rattle.nr_core.specs.Story.{call_of, ending, entry, map_after}

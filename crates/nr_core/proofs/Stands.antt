@@ -16,7 +16,8 @@ use Rattle.nr_core.proofs.Reach.{none_beyond}
 use Rattle.nr_core.proofs.Shown.{shown_is}
 use Rattle.nr_core.proofs.StateRoles.{Found, Inv, erased, state_sums}
 use Rattle.nr_core.proofs.Sums.{got_at, only-is, only-same, term_le}
-use Rattle.nr_core.specs.Core.{AtPlace, held, holds, taken}
+use Rattle.nr_core.specs.Roles.{held, holds, taken}
+use Rattle.nr_core.specs.Core.{AtPlace}
 use Rattle.nr_core.specs.Laws.{HoldsFound, Stands, map_of}
 use Rattle.nr_core.specs.Machine.{answer, found_by, read_answer}
 use Rattle.nr_core.specs.Refusals.{has_reader, if_beyond, if_unreadable, refusal}

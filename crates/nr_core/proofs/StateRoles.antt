@@ -12,7 +12,8 @@ use Rattle.nr_model.specs.declared.rows.Row.{Row}
 use Rattle.nr_core.proofs.Histories.{of-append}
 use Rattle.nr_core.proofs.Sums.{at_set}
 use Rattle.nr_core.specs.Accounts.{on}
-use Rattle.nr_core.specs.Core.{Core, grips, held, holds, keeps}
+use Rattle.nr_core.specs.Roles.{grips, held, holds, keeps}
+use Rattle.nr_core.specs.Core.{Core}
 use Rattle.nr_core.specs.States.{State}
 use Rattle.nr_core.specs.Story.{call_of, ending, ending_at, entry}
 use Rattle.nr_core.specs.Sums.{total}

@@ -1,5 +1,5 @@
 -- Sums over lists that change at one place, and over the numbers below one.
-use Rattle.std.proofs.Common.{List, [], ap, arith, cond, drop, eq-eqb, get_or, inl, inr, length, ne_eqb, refl, set, suc, sym, take, zero, ℕ, ⊎_elim, ◌++◌, ◌+◌, ◌-◌, ◌<◌, ◌∙◌, ◌∷◌, ◌≡◌, ◌≢◌, ◌≤◌, ◌⊎◌}
+use Rattle.std.proofs.Common.{List, [], ap, arith, cond, drop, eq-eqb, get_or, inl, inr, length, ne_eqb, refl, set, suc, sym, take, zero, ℕ, ⊎_elim, ◌++◌, ◌+◌, ◌<◌, ◌∙◌, ◌∷◌, ◌≡◌, ◌≢◌, ◌≤◌, ◌⊎◌}
 use lib.ListN.{get_elem?}
 use mathlib.Core.Logic.{dite}
 use mathlib.Core.Option.{some, some-injective, some-ne-none}

@@ -23,7 +23,8 @@ use Rattle.nr_core.proofs.Poll.{polls}
 use Rattle.nr_core.proofs.StateRoles.{Inv, state_sums}
 use Rattle.nr_core.proofs.Sums.{below-term, got_at, only-is, only-same, some_term, term_le, terms_le}
 use Rattle.nr_core.specs.Accounts.{on}
-use Rattle.nr_core.specs.Core.{AtPlace, held}
+use Rattle.nr_core.specs.Roles.{held}
+use Rattle.nr_core.specs.Core.{AtPlace}
 use Rattle.nr_core.specs.Machine.{moved, read_hold}
 use Rattle.nr_core.specs.Operations.{going, place_of}
 use Rattle.nr_core.specs.Refusals.{has_key, has_reader, if_holding, if_not_holding, if_unreadable, refusal}

@@ -7,7 +7,8 @@ use Rattle.nr_model.specs.Maps.{reply_at, state_after}
 use Rattle.nr_model.specs.declared.states.KeyState.{KeyState}
 use Rattle.nr_core.proofs.Sums.{only-zero}
 use Rattle.nr_core.proofs.Swap.{swap_step}
-use Rattle.nr_core.specs.Core.{AtPlace, Core, ShowsState, held, taken}
+use Rattle.nr_core.specs.Roles.{held, taken}
+use Rattle.nr_core.specs.Core.{AtPlace, Core, ShowsState}
 use Rattle.nr_core.specs.Story.{entry, map_after}
 use Rattle.nr_core.specs.Writer.{swapped}
 use Rattle.nr_core.specs.declared.places.Place.TheVariants.{Leaving}

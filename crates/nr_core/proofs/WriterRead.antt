@@ -17,7 +17,8 @@ use Rattle.nr_core.proofs.Choices.{by_cases}
 use Rattle.nr_core.proofs.Frames.{not_hole}
 use Rattle.nr_core.proofs.ReadThrough.{length-got_next, read_first, read_next, read_set, read_whole}
 use Rattle.nr_core.proofs.Settle.{ends, goes_on, idle_desk, settles}
-use Rattle.nr_core.specs.Core.{AtDesk, AtPlace, Core, Reads, held, keeps, taken}
+use Rattle.nr_core.specs.Roles.{held, keeps, taken}
+use Rattle.nr_core.specs.Core.{AtDesk, AtPlace, Core, Reads}
 use Rattle.nr_core.specs.Slots.{content, set_of, unused}
 use Rattle.nr_core.specs.States.{key_of}
 use Rattle.nr_core.specs.Story.{call_of, ending, map_after}

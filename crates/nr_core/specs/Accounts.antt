@@ -6,7 +6,8 @@ use Rattle.nr_core.specs.Sums.{total, only}
 use Rattle.nr_words.specs.KeyWords.{arrivals_of}
 use Rattle.nr_core.specs.Slots.{name_number, named, unused}
 use Rattle.nr_core.specs.States.{State, word, retired_at}
-use Rattle.nr_core.specs.Core.{Counts, retirements, taken}
+use Rattle.nr_core.specs.Roles.{retirements, taken}
+use Rattle.nr_core.specs.Core.{Counts}
 use Rattle.std.specs.Prelude.{length}
 
 -- how many readers hold the slot

@@ -1,5 +1,5 @@
 -- What stands between any two steps: the words, the callers' roles and the history agree. It is said of any list of callers, so that it serves schedules and running callers alike.
-use Rattle.std.specs.Prelude.{◌≡◌, ℕ, suc, ◌+◌, ◌*◌, ◌%◌, ◌^◌, ◌==◌, ◌<◌, ◌≤◌, List, [], length, take, slice_index, Bool, false}
+use Rattle.std.specs.Prelude.{◌≡◌, ℕ, suc, ◌+◌, ◌*◌, ◌%◌, ◌^◌, ◌<◌, ◌≤◌, List, [], length, take, slice_index}
 use mathlib.Core.Option.{some}
 use lib.ListN.{get_elem?}
 use Rattle.nr_model.specs.declared.rows.Row.{Row}
@@ -20,66 +20,15 @@ use Rattle.nr_core.specs.declared.roles.Desk.{Desk}
 use Rattle.nr_core.specs.declared.places.Retired.{Retired}
 use Rattle.nr_core.specs.declared.places.Place.{Place}
 use Rattle.nr_core.specs.declared.places.Place.TheVariants.{Idle, Reading, Leaving, Searching, Putting}
-use Rattle.nr_core.specs.Sums.{total, only}
+use Rattle.nr_core.specs.Sums.{total}
+use Rattle.nr_core.specs.Sizes.{IsShape}
+use Rattle.nr_core.specs.Roles.{is_writer, is_reader, held, keeps}
 use Rattle.nr_words.specs.KeyWords.{arrivals_of}
 use Rattle.nr_words.specs.SetWords.{encode}
 use Rattle.nr_words.specs.Places.{total_of}
-use Rattle.nr_core.specs.Slots.{layout, departures, content, slot_room, name_number, named, unused, SlotSpells}
+use Rattle.nr_core.specs.Slots.{layout, departures, content, slot_room, name_number, named, SlotSpells}
 use Rattle.nr_core.specs.States.{key_of}
 use Rattle.nr_core.specs.Story.{call_of, map_after}
-
--- the sizes that the words have room for: a set fits a slot, a slot's number and the count of its holders their bits
-pub record IsShape (shape : Shape) : Type 0 where
-  pub bound : 2 * shape.bound < slot_room
-  pub slots : shape.slots ≤ 2 ^ 22
-  pub readers : shape.readers < 2 ^ 40
-
--- whether the role is that caller's; 1 for a writer; 1 for a reader
-abbrev pub is_by : ℕ → Role → Bool
-is_by caller (Writer desk) = 0 == caller
-is_by caller (Reader reader grip) = reader == caller
-is_by caller Note = false
-
-abbrev pub is_writer : Role → ℕ
-is_writer (Writer desk) = 1
-is_writer (Reader reader grip) = 0
-is_writer Note = 0
-
-abbrev pub is_reader : Role → ℕ
-is_reader (Writer desk) = 0
-is_reader (Reader reader grip) = 1
-is_reader Note = 0
-
--- 1 where the reader holds the slot
-abbrev pub grips : ℕ → Grip → ℕ
-grips slot Nothing = 0
-grips slot (On held rows sized) = only slot held
-
-abbrev pub holds : ℕ → Role → ℕ
-holds slot (Writer desk) = 0
-holds slot (Reader reader grip) = grips slot grip
-holds slot Note = 0
-
--- how many callers hold the slot
-abbrev pub held : List Role → ℕ → ℕ
-held roles slot = total (holds slot) roles
-
--- 1 where the writer's call has taken the slot; how often it is retired
-abbrev pub taken : ℕ → Place → ℕ
-taken slot Idle = 0
-taken slot (Reading call named got) = 0
-taken slot (Leaving at) = 0
-taken slot (Searching call rows poll) = 0
-taken slot (Putting call rows mine departed index) = only slot mine
-
-abbrev pub retirements : ℕ → List Retired → ℕ
-retirements slot retired = total (λ entry. only slot entry.slot) retired
-
--- how often the slot is free, retired or taken
-abbrev pub keeps : ℕ → Role → ℕ
-keeps slot (Writer desk) = unused slot desk.fresh + retirements slot desk.retired + taken slot desk.place
-keeps slot (Reader reader grip) = 0
-keeps slot Note = 0
 
 -- a count of arrivals is the departures and the callers that hold the slot, as far as counts go
 abbrev pub Counts : Shape → List ℕ → (ℕ → ℕ) → ℕ → ℕ → Type 0

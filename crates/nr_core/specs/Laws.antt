@@ -25,7 +25,7 @@ use Rattle.nr_core.specs.Refusals.{refusal}
 use Rattle.nr_core.specs.Operations.{Operation, Load, place_of, becomes, operation}
 use Rattle.nr_core.specs.Machine.{next, run, unless, read_answer, start_answer, go_answer}
 use Rattle.nr_core.specs.Story.{Story, Poll, story_of, tell, told, shown, entry, call_of, map_after}
-use Rattle.nr_core.specs.Core.{IsShape}
+use Rattle.nr_core.specs.Sizes.{IsShape}
 use Rattle.nr_core.specs.Accounts.{Accounted}
 
 -- the sets that fills bring are row sets
@@ -139,11 +139,11 @@ abbrev pub EverySchedule : Type 0
 EverySchedule = (shape : Shape) (events : List Event) → IsShape shape → AllGiven shape.bound events
     → Stands (story_of shape events) × ((event : Event) → IsGiven shape.bound event → Follows (story_of shape events) event)
 
--- at most as many polls of a call as there are readers find their slots held, so with a slot for each key, each reader and one more no call ends without
+-- at most as many polls of a call as there are readers find their slots held; so a call that ends with no slot has no more retired slots than readers, and none does in a map with a slot for each key, each reader and one more
 abbrev pub SlotBound : Type 0
 SlotBound = (shape : Shape) (events : List Event) → IsShape shape → AllGiven shape.bound events
     → (length (story_of shape events).polls ≤ shape.readers)
-    × (shape.keys + shape.readers + 1 ≤ shape.slots → (event : Event) → IsGiven shape.bound event → (counts : NoSlot) → EndsWithout (run shape events) event counts → ⊥)
+    × ((event : Event) (counts : NoSlot) → IsGiven shape.bound event → EndsWithout (run shape events) event counts → (counts.held ≤ shape.readers) × (shape.slots < shape.keys + shape.readers + 1))
 
 -- a run goes on by one event, and the story's states are the run's
 abbrev pub RunGoesOn : Type 0

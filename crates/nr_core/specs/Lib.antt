@@ -1,14 +1,15 @@
 pub mod Sums
 pub mod Slots
+pub mod Sizes
 pub mod States
 pub mod Refusals
 pub mod Operations
 pub mod Writer
 pub mod Machine
 pub mod Story
+pub mod Roles
 pub mod Core
 pub mod Steps
 pub mod Accounts
 pub mod Laws
 pub mod Reach
-pub mod Sizes

@@ -9,7 +9,7 @@ use Rattle.nr_words.specs.Places.{total_of}
 use Rattle.nr_core.specs.Slots.{layout, slot_room}
 use Rattle.nr_core.specs.States.{State, Event, key_of, hold_of, retired_at}
 use Rattle.nr_core.specs.Machine.{run}
-use Rattle.nr_core.specs.Core.{IsShape}
+use Rattle.nr_core.specs.Sizes.{IsShape}
 use Rattle.nr_core.specs.Laws.{AllGiven}
 
 -- some events lead from the opening to the state

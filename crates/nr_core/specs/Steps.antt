@@ -20,7 +20,8 @@ use Rattle.nr_core.specs.Slots.{name_number}
 use Rattle.nr_core.specs.Operations.{Operation, place_of, becomes}
 use Rattle.nr_core.specs.Writer.{looked, went}
 use Rattle.nr_core.specs.Story.{entry, call_of, ending, ending_at}
-use Rattle.nr_core.specs.Core.{is_by, is_writer, is_reader, Core}
+use Rattle.nr_core.specs.Roles.{is_by, is_writer, is_reader}
+use Rattle.nr_core.specs.Core.{Core}
 
 -- what a step tells, of the word that it found, the caller's role after it and the entries that it added
 abbrev pub Telling : Type 1

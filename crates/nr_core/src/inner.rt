@@ -5,8 +5,8 @@ ghost use Rattle.nr_core.specs.States.{opening, hold_of};
 ghost use Rattle.nr_core.specs.Reach.{HasRoom, RoomOf};
 
 mod reader_steps;
+mod reclaim;
 mod refusals;
-mod slot_search;
 mod writer_steps;
 
 use crate::places::{Hold, Place, Retired};

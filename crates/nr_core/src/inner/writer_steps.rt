@@ -147,8 +147,8 @@ impl Inner {
     {
         let mut words = [0; CONTENT_WORDS];
         encode(&rows, &mut words);
-        self.words
-            .store(self.layout.content(slot, index), words[index as usize]);
+        let place = self.layout.content(slot, index);
+        self.words.store(place, words[index as usize]);
         self.go_to(Place::Putting(call, rows, slot, departed, index + 1))
     }
 
@@ -168,9 +168,8 @@ impl Inner {
         ensures answer { result ≡ (put_on self.old.desk call rows slot departed index (found_by self.old Go)).1 }
         ensures new { self.new ≡ moved self.old Go }
     {
-        let word = self
-            .words
-            .swap(self.layout.key(call.key()), naming(slot, departed));
+        let place = self.layout.key(call.key());
+        let word = self.words.swap(place, naming(slot, departed));
         self.retire(word);
         Step::Ended(WReply::Reply(Reply::Done))
     }

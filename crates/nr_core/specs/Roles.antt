@@ -1,0 +1,58 @@
+-- The roles of callers: whose a role is, which slots it holds, and which slots it keeps.
+use Rattle.std.specs.Prelude.{ℕ, ◌+◌, ◌==◌, List, Bool, false}
+use Rattle.nr_core.specs.declared.roles.Role.{Role}
+use Rattle.nr_core.specs.declared.roles.Role.TheVariants.{Writer, Reader, Note}
+use Rattle.nr_core.specs.declared.roles.Grip.{Grip}
+use Rattle.nr_core.specs.declared.roles.Grip.TheVariants.{Nothing, On}
+use Rattle.nr_core.specs.declared.places.Retired.{Retired}
+use Rattle.nr_core.specs.declared.places.Place.{Place}
+use Rattle.nr_core.specs.declared.places.Place.TheVariants.{Idle, Reading, Leaving, Searching, Putting}
+use Rattle.nr_core.specs.Sums.{total, only}
+use Rattle.nr_core.specs.Slots.{unused}
+
+-- whether the role is that caller's; 1 for a writer; 1 for a reader
+abbrev pub is_by : ℕ → Role → Bool
+is_by caller (Writer desk) = 0 == caller
+is_by caller (Reader reader grip) = reader == caller
+is_by caller Note = false
+
+abbrev pub is_writer : Role → ℕ
+is_writer (Writer desk) = 1
+is_writer (Reader reader grip) = 0
+is_writer Note = 0
+
+abbrev pub is_reader : Role → ℕ
+is_reader (Writer desk) = 0
+is_reader (Reader reader grip) = 1
+is_reader Note = 0
+
+-- 1 where the reader holds the slot
+abbrev pub grips : ℕ → Grip → ℕ
+grips slot Nothing = 0
+grips slot (On held rows sized) = only slot held
+
+abbrev pub holds : ℕ → Role → ℕ
+holds slot (Writer desk) = 0
+holds slot (Reader reader grip) = grips slot grip
+holds slot Note = 0
+
+-- how many callers hold the slot
+abbrev pub held : List Role → ℕ → ℕ
+held roles slot = total (holds slot) roles
+
+-- 1 where the writer's call has taken the slot; how often it is retired
+abbrev pub taken : ℕ → Place → ℕ
+taken slot Idle = 0
+taken slot (Reading call named got) = 0
+taken slot (Leaving at) = 0
+taken slot (Searching call rows poll) = 0
+taken slot (Putting call rows mine departed index) = only slot mine
+
+abbrev pub retirements : ℕ → List Retired → ℕ
+retirements slot retired = total (λ entry. only slot entry.slot) retired
+
+-- how often the slot is free, retired or taken
+abbrev pub keeps : ℕ → Role → ℕ
+keeps slot (Writer desk) = unused slot desk.fresh + retirements slot desk.retired + taken slot desk.place
+keeps slot (Reader reader grip) = 0
+keeps slot Note = 0
