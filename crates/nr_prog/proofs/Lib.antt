@@ -1,0 +1,9 @@
+mod CountLemmas
+mod CountedLemmas
+mod InputLemmas
+mod KeptLemmas
+mod LineLemmas
+mod RunLemmas
+mod SpellingLemmas
+mod TextLemmas
+mod WordLemmas

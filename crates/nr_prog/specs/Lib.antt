@@ -1,0 +1,13 @@
+pub mod Counted
+pub mod Grammar
+pub mod Input
+pub mod Lines
+pub mod Output
+pub mod Program
+pub mod Run
+pub mod Script
+pub mod ScriptMachine
+pub mod Spelling
+pub mod Strays
+pub mod Text
+pub mod Words

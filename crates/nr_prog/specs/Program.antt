@@ -1,0 +1,19 @@
+-- What the program writes of a fault.
+use Rattle.std.specs.Prelude.{ℕ, List, [], ◌∷◌, ◌++◌, codes, Option, Err}
+use Rattle.nr_prog.specs.declared.fault.RunFault.{RunFault}
+use Rattle.nr_prog.specs.declared.fault.RunFault.TheVariants as faults
+use Rattle.nr_prog.specs.Lines.{line_feed}
+use Rattle.nr_prog.specs.Output.{AppendsSome}
+use Rattle.nr_prog.specs.Run.{Runs}
+
+-- the line of a fault
+abbrev pub line_of : RunFault → List ℕ
+line_of faults.Read = codes "nr: the input could not be read" ++ line_feed ∷ []
+line_of faults.Write = codes "nr: the output could not be written" ++ line_feed ∷ []
+line_of faults.Memory = codes "nr: no memory" ++ line_feed ∷ []
+line_of faults.TooMuch = codes "nr: the input is over 268435456 bytes" ++ line_feed ∷ []
+
+-- A run ends with a fault, and then that fault's line is written, or some of it.
+abbrev pub TellsFault : (List (List ℕ) → List ℕ) → ℕ → Option (List ℕ) → Option (List ℕ) → Option (List ℕ) → Option (List ℕ) → Type 0
+TellsFault text limit had left held holds =
+    (fault : RunFault) × (ran : Option (List ℕ)) × Runs text limit (Err fault) had left held ran × AppendsSome ran holds (line_of fault)

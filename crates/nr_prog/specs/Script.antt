@@ -1,0 +1,199 @@
+-- Scripts: what their lines do to a map, and what each line is answered.
+use Rattle.std.specs.Prelude.{ℕ, ◌+◌, ◌-◌, ◌==◌, ◌&&◌, nat_lt, nat_le, if◌then◌else◌, Bool, false, List, length, Option, None, Some, option_map, Result, Ok, Err, slice_index, slice_index_or, slice_set, replicate}
+use Rattle.std.specs.List.{list_all, filter_map}
+use Rattle.nr_model.specs.declared.rows.Row.{Row}
+use Rattle.nr_model.specs.declared.rows.TooMany.{TooMany}
+use Rattle.nr_model.specs.declared.rows.TheConstants.{MAX_ROWS}
+use Rattle.nr_model.specs.declared.seq_map.TheConstants.{MAX_KEYS}
+use Rattle.nr_model.specs.declared.states.KeyState.{KeyState}
+use Rattle.nr_model.specs.declared.states.KeyState.TheVariants as states
+use Rattle.nr_model.specs.declared.calls.Call.{Call}
+use Rattle.nr_model.specs.declared.calls.Call.TheVariants as calls
+use Rattle.nr_model.specs.declared.calls.Reply.{Reply}
+use Rattle.nr_model.specs.declared.calls.Reply.TheVariants as reply
+use Rattle.nr_model.specs.Maps.{PartialMap, opening, key_count, key_of, state_of, reply_to, next, filled_count}
+use Rattle.nr_model.specs.Histories.{is_done}
+use Rattle.nr_prog.specs.declared.line.TheConstants.{LINE_LIMIT}
+use Rattle.nr_prog.specs.declared.pin.Pin.{Pin}
+use Rattle.nr_prog.specs.declared.opened.TheConstants.{MAX_SLOTS, MAX_READERS}
+use Rattle.nr_prog.specs.declared.command.Command.{Command}
+use Rattle.nr_prog.specs.declared.command.Command.TheVariants.{Open, Find, Ask, Fill, Update, Evict, Look, Pin as PinKey, Show, Unpin}
+use Rattle.nr_prog.specs.declared.answer.Answer.{Answer}
+use Rattle.nr_prog.specs.declared.answer.Answer.TheVariants as answers
+use Rattle.nr_prog.specs.declared.answer.Refusal.{Refusal}
+use Rattle.nr_prog.specs.declared.answer.Refusal.TheVariants as refusals
+use Rattle.nr_prog.specs.Grammar.{words, number, command}
+use Rattle.nr_prog.specs.Spelling.{spelled}
+use Rattle.nr_prog.specs.Strays.{keyed, strays}
+use Rattle.nr_prog.specs.Text.{text}
+
+-- a script that was opened
+pub record Opened : Type 0 where
+  pub map : PartialMap
+  pub slots : ℕ
+  -- the put number of the set of each key that is filled
+  pub puts : List ℕ
+  -- how many sets were put: the next put number
+  pub put_count : ℕ
+  -- what each reader has pinned
+  pub pins : List (Option Pin)
+
+-- the put numbers that readers pin
+abbrev pub pinned : List (Option Pin) → List ℕ
+pinned pins = filter_map (λ pin. option_map (λ (p : Pin). p.put) pin) pins
+
+abbrev pub pin_has_put : ℕ → Option Pin → Bool
+pin_has_put put None = false
+pin_has_put put (Some pin) = pin.put == put
+
+-- each slot holds the set of a key, or a stray
+abbrev pub is_full : Opened → Bool
+is_full script = filled_count script.map + strays (keyed script.map.states script.puts) (pinned script.pins) == script.slots
+
+-- what a command is answered, or why it is refused, and the script after it
+abbrev pub Outcome : Type 0
+Outcome = Result Answer Refusal × Opened
+
+-- a call that is done puts a set
+abbrev pub puts_after : Reply → ℕ → Opened → List ℕ
+puts_after reply.Done key script = slice_set script.puts key script.put_count
+puts_after other key script = script.puts
+
+abbrev pub put_count_after : Reply → Opened → ℕ
+put_count_after reply.Done script = script.put_count + 1
+put_count_after other script = script.put_count
+
+abbrev pub after_call : Opened → Call → Opened
+after_call script call =
+    record script { map = next script.map call; puts = puts_after (reply_to script.map call) (key_of call) script; put_count = put_count_after (reply_to script.map call) script }
+
+-- the map's reply to a call, unless the call would be done and no slot is left for it
+abbrev pub answer_call : Opened → Call → Outcome
+answer_call script call =
+    if is_done (reply_to script.map call) && is_full script then (Ok answers.NoSlot, script) else (Ok (answers.Reply (reply_to script.map call)), after_call script call)
+
+-- the readers are numbered from 1
+abbrev pub has_reader : Opened → ℕ → Bool
+has_reader script reader = nat_lt 0 reader && nat_le reader (length script.pins)
+
+abbrev pub pin_of : Opened → ℕ → Option Pin
+pin_of script reader = slice_index_or script.pins (reader - 1) None
+
+-- What a command needs is looked for in the order of the refusals; the command goes on with what was found, or is refused.
+abbrev pub with_found : {A : Type 0} → Opened → Result A Refusal → (A → Outcome) → Outcome
+with_found script (Ok found) outcome = outcome found
+with_found script (Err refusal) outcome = (Err refusal, script)
+
+-- a reader of the script
+abbrev pub found_reader : Opened → ℕ → Result (Unit {0}) Refusal
+found_reader script reader = if has_reader script reader then Ok tt else Err refusals.NoReader
+
+-- a key of the script, by its number
+abbrev pub found_key : Opened → Option ℕ → Result ℕ Refusal
+found_key script None = Err refusals.Bad
+found_key script (Some key) = if nat_lt key (key_count script.map) then Ok key else Err refusals.NoKey
+
+-- a key, for a reader of the script
+abbrev pub found_by_reader : Opened → ℕ → Option ℕ → Result ℕ Refusal
+found_by_reader script reader None = Err refusals.Bad
+found_by_reader script reader (Some key) = if has_reader script reader then found_key script (Some key) else Err refusals.NoReader
+
+-- a set that isn't of too many rows
+abbrev pub found_set : Result (List Row) TooMany → Result (List Row) Refusal
+found_set (Ok rows) = Ok rows
+found_set (Err e) = Err refusals.TooMany
+
+-- no pin, and a pin
+abbrev pub found_no_pin : Option Pin → Result (Unit {0}) Refusal
+found_no_pin None = Ok tt
+found_no_pin (Some pin) = Err refusals.Holding
+
+abbrev pub found_pin : Option Pin → Result Pin Refusal
+found_pin None = Err refusals.NotHolding
+found_pin (Some pin) = Ok pin
+
+-- a call by a reader that holds no pin
+abbrev pub call_by_reader : Opened → ℕ → List ℕ → (ℕ → Outcome) → Outcome
+call_by_reader script reader word outcome =
+    with_found script (found_by_reader script reader (number word)) (λ key. with_found script (found_no_pin (pin_of script reader)) (λ _. outcome key))
+
+-- a call by the writer
+abbrev pub call_by_writer : Opened → List ℕ → (ℕ → Outcome) → Outcome
+call_by_writer script word outcome = with_found script (found_key script (number word)) outcome
+
+abbrev pub pins_after : Opened → ℕ → Option Pin → Opened
+pins_after script reader pin = record script { pins = slice_set script.pins (reader - 1) pin }
+
+-- a reader pins the set of a key, if the key has one
+abbrev pub answer_pin : Opened → ℕ → ℕ → KeyState → Outcome
+answer_pin script reader key states.Hole = (Ok (answers.Reply reply.Hole), script)
+answer_pin script reader key states.Asked = (Ok (answers.Reply reply.Hole), script)
+answer_pin script reader key (states.Rows rows) =
+    (Ok answers.Ok, pins_after script reader (Some (record { key = key; rows = rows; put = slice_index script.puts key })))
+
+-- each command of an opened script
+abbrev pub answer_opened : Opened → Command → Outcome
+answer_opened script (Open keys slots readers first_count) = (Err refusals.Bad, script)
+answer_opened script (Find reader word) = call_by_reader script reader word (λ key. answer_call script (calls.Find key))
+answer_opened script (Ask reader word) = call_by_reader script reader word (λ key. answer_call script (calls.Ask key))
+answer_opened script (Fill word set) =
+    call_by_writer script word (λ key. with_found script (found_set set) (λ rows. answer_call script (calls.Fill key rows)))
+answer_opened script (Update word batch) = call_by_writer script word (λ key. answer_call script (calls.Update key batch))
+answer_opened script (Evict word) = call_by_writer script word (λ key. answer_call script (calls.Evict key))
+answer_opened script (Look word) = call_by_writer script word (λ key. answer_call script (calls.Find key))
+answer_opened script (PinKey reader word) = call_by_reader script reader word (λ key. answer_pin script reader key (state_of script.map key))
+answer_opened script (Show reader) =
+    with_found script (found_reader script reader) (λ _. with_found script (found_pin (pin_of script reader)) (λ pin. (Ok (answers.Reply (reply.Rows pin.rows)), script)))
+answer_opened script (Unpin reader) =
+    with_found script (found_reader script reader) (λ _. with_found script (found_pin (pin_of script reader)) (λ pin. (Ok answers.Ok, pins_after script reader None)))
+
+-- keys, slots and readers are within their limits
+abbrev pub is_in_limits : ℕ → ℕ → ℕ → Bool
+is_in_limits keys slots readers =
+    nat_lt 0 keys && (nat_le keys MAX_KEYS && (nat_lt 0 slots && (nat_le slots MAX_SLOTS && (nat_lt 0 readers && nat_le readers MAX_READERS))))
+
+abbrev pub opened : ℕ → ℕ → ℕ → Opened
+opened keys slots readers =
+    record { map = opening keys MAX_ROWS; slots = slots; puts = replicate keys 0; put_count = 0; pins = replicate readers None }
+
+-- a script, which begins closed
+abbrev pub State : Type 0
+State = Option Opened
+
+abbrev pub start : State
+start = None
+
+-- each command of a script that is closed
+abbrev pub answer_closed : Command → Result Answer Refusal × State
+answer_closed (Open keys slots readers first_count) =
+    if is_in_limits keys slots readers then (Ok answers.Ok, Some (opened keys slots readers)) else (Err refusals.Bad, None)
+answer_closed other = (Err refusals.Closed, None)
+
+abbrev pub stays_open : Outcome → Result Answer Refusal × State
+stays_open (result, script) = (result, Some script)
+
+abbrev pub answer_command : State → Option Command → Result Answer Refusal × State
+answer_command state None = (Err refusals.Bad, state)
+answer_command None (Some command) = answer_closed command
+answer_command (Some script) (Some command) = stays_open (answer_opened script command)
+
+-- a line that is not too long, not empty, and all printed
+abbrev pub is_printed : ℕ → Bool
+is_printed b = nat_le 32 b && nat_le b 126
+
+abbrev pub is_plain : List ℕ → Bool
+is_plain line = nat_le (length line) LINE_LIMIT && (nat_lt 0 (length line) && list_all is_printed line)
+
+abbrev pub answer_line : State → List ℕ → Result Answer Refusal × State
+answer_line state line = if is_plain line then answer_command state (command (words line)) else (Err refusals.Bad, state)
+
+abbrev pub in_words : Result Answer Refusal × State → List ℕ × State
+in_words (result, state) = (spelled result, state)
+
+-- the reply to a line, and the state after it
+abbrev pub answer : State → List ℕ → List ℕ × State
+answer state line = in_words (answer_line state line)
+
+-- what a script writes for its lines
+abbrev pub script_text : List (List ℕ) → List ℕ
+script_text lines = text answer start lines

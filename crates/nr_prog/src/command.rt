@@ -1,0 +1,230 @@
+//! What a line asks for.
+ghost use Rattle.std.specs.Prelude.{◌≡◌, ◌<◌, ◌≤◌, length, List, ℕ, MatchOption, Some, None, option_map, option_and_then};
+ghost use Rattle.nr_prog.specs.declared.command.Command.{Command};
+ghost use Rattle.nr_prog.specs.Grammar.{command, opening, filling, updating, each, row, delta, key, set_of, batch_of, reader_and_key, key_alone, reader_alone, words};
+ghost use Rattle.nr_prog.specs.Words.{words_left};
+
+use crate::words::{Words, delta, number, row};
+use nr_model::{Batch, Delta, MAX_DELTAS, MAX_ROWS, Row, RowSet, TooMany};
+use std::marker::Model;
+
+/// The word that stands for a key.
+#[derive(Drop)]
+pub(crate) struct KeyWord<'a> {
+    pub(crate) bytes: &'a [u8],
+}
+
+impl<'a> Model for KeyWord<'a> {
+    ghost use Rattle.std.specs.Prelude.{List, ℕ};
+
+    ghost Value = { List ℕ };
+
+    ghost view = { λ word. word.bytes.now };
+}
+
+/// What a line asks for, where it fits the grammar.
+#[derive(Drop)]
+pub(crate) enum Command<'a> {
+    Open {
+        keys: u64,
+        slots: u64,
+        readers: u64,
+        first_count: u64,
+    },
+    Find {
+        reader: u64,
+        key: KeyWord<'a>,
+    },
+    Ask {
+        reader: u64,
+        key: KeyWord<'a>,
+    },
+    Fill {
+        key: KeyWord<'a>,
+        rows: Result<RowSet, TooMany>,
+    },
+    Update {
+        key: KeyWord<'a>,
+        batch: Batch,
+    },
+    Evict {
+        key: KeyWord<'a>,
+    },
+    Look {
+        key: KeyWord<'a>,
+    },
+    Pin {
+        reader: u64,
+        key: KeyWord<'a>,
+    },
+    Show {
+        reader: u64,
+    },
+    Unpin {
+        reader: u64,
+    },
+}
+
+/// The rows that a set is made from: one more than it takes is enough to see that they are too many.
+const KEPT_ROWS: usize = MAX_ROWS + 1;
+
+/// The same for a batch.
+const KEPT_DELTAS: usize = MAX_DELTAS + 1;
+
+/// The command of a line, or none where it doesn't fit the grammar.
+pub(crate) fn parse(line: &[u8]) -> Option<Command<'_>>
+    ensures { result ≡ command (words line.now) }
+{
+    let mut words = Words::new(line);
+    let name = words.next()?;
+    if name == b"open".as_slice() {
+        return opening(words);
+    }
+    if name == b"find".as_slice() {
+        let (reader, key) = reader_and_key(words)?;
+        return Some(Command::Find { reader, key });
+    }
+    if name == b"ask".as_slice() {
+        let (reader, key) = reader_and_key(words)?;
+        return Some(Command::Ask { reader, key });
+    }
+    if name == b"fill".as_slice() {
+        return filling(words);
+    }
+    if name == b"update".as_slice() {
+        return updating(words);
+    }
+    if name == b"evict".as_slice() {
+        let key = key_alone(words)?;
+        return Some(Command::Evict { key });
+    }
+    if name == b"look".as_slice() {
+        let key = key_alone(words)?;
+        return Some(Command::Look { key });
+    }
+    if name == b"pin".as_slice() {
+        let (reader, key) = reader_and_key(words)?;
+        return Some(Command::Pin { reader, key });
+    }
+    if name == b"show".as_slice() {
+        let reader = reader_alone(words)?;
+        return Some(Command::Show { reader });
+    }
+    if name == b"unpin".as_slice() {
+        let reader = reader_alone(words)?;
+        return Some(Command::Unpin { reader });
+    }
+    None
+}
+
+fn opening(mut words: Words<'_>) -> Option<Command<'_>>
+    ensures { result ≡ opening (words_left words.entry) }
+{
+    let keys = words.next()?;
+    let slots = words.next()?;
+    let readers = words.next()?;
+    let first_count = words.next();
+    if words.next().is_some() {
+        return None;
+    }
+    Some(Command::Open {
+        keys: number(keys)?,
+        slots: number(slots)?,
+        readers: number(readers)?,
+        first_count: match first_count {
+            None => 0,
+            Some(word) => number(word)?,
+        },
+    })
+}
+
+fn reader_and_key(mut words: Words<'_>) -> Option<(u64, KeyWord<'_>)>
+    ensures { (made : ℕ → List ℕ → Command) → reader_and_key made (words_left words.entry) ≡ option_map (λ found. made found.0 found.1) result }
+{
+    let reader = words.next()?;
+    let word = words.next()?;
+    if words.next().is_some() {
+        return None;
+    }
+    Some((number(reader)?, key(word)?))
+}
+
+fn key_alone(mut words: Words<'_>) -> Option<KeyWord<'_>>
+    ensures { (made : List ℕ → Command) → key_alone made (words_left words.entry) ≡ option_map made result }
+{
+    let word = words.next()?;
+    if words.next().is_some() {
+        return None;
+    }
+    key(word)
+}
+
+fn reader_alone(mut words: Words<'_>) -> Option<u64>
+    ensures { (made : ℕ → Command) → reader_alone made (words_left words.entry) ≡ option_map made result }
+{
+    let reader = words.next()?;
+    if words.next().is_some() {
+        return None;
+    }
+    number(reader)
+}
+
+fn key(word: &[u8]) -> Option<KeyWord<'_>>
+    ensures { result ≡ key word.now }
+{
+    if word.is_empty() {
+        return None;
+    }
+    Some(KeyWord { bytes: word })
+}
+
+fn filling(mut words: Words<'_>) -> Option<Command<'_>>
+    ensures { result ≡ filling (words_left words.entry) }
+{
+    let key = key(words.next()?)?;
+    let rows = set(words)?;
+    Some(Command::Fill { key, rows })
+}
+
+/// The set of the rows that the words spell, if each spells one.
+fn set(words: Words<'_>) -> Option<Result<RowSet, TooMany>>
+    ensures { result ≡ option_map set_of (each row (words_left words.entry)) }
+{
+    let mut kept = [Row { a: 0, b: 0 }; KEPT_ROWS];
+    let mut len = 0;
+    for word in words {
+        let row = row(word)?;
+        if len < KEPT_ROWS {
+            kept[len] = row;
+            len += 1;
+        }
+    }
+    Some(RowSet::of(&kept[..len]))
+}
+
+fn updating(mut words: Words<'_>) -> Option<Command<'_>>
+    ensures { result ≡ updating (words_left words.entry) }
+{
+    let key = key(words.next()?)?;
+    let batch = batch(words)?;
+    Some(Command::Update { key, batch })
+}
+
+/// The batch of the signed rows that the words spell, if each spells one and they are 1 to 64.
+fn batch(words: Words<'_>) -> Option<Batch>
+    ensures { result ≡ option_and_then batch_of (each delta (words_left words.entry)) }
+{
+    let mut kept = [Delta {
+        plus: false,
+        row: Row { a: 0, b: 0 },
+    }; KEPT_DELTAS];
+    let mut len = 0;
+    for word in words {
+        let delta = delta(word)?;
+        if len < KEPT_DELTAS {
+            kept[len] = delta;
+            len += 1;
+        }
+    }
+    Batch::of(&kept[..len]).ok()
+}
