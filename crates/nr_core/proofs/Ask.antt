@@ -12,9 +12,9 @@ use Rattle.nr_core.proofs.Histories.{legal-more, replies_so, state_other, state_
 use Rattle.nr_core.proofs.KeyWords.{name-asked, names_none, names_one}
 use Rattle.nr_core.proofs.OnKey.{on_key}
 use Rattle.nr_core.proofs.Sums.{total-set}
-use Rattle.nr_core.specs.Roles.{holds}
 use Rattle.nr_core.specs.Core.{ShowsState}
 use Rattle.nr_core.specs.Operations.{Or}
+use Rattle.nr_core.specs.Roles.{holds}
 use Rattle.nr_core.specs.Slots.{name_number}
 use Rattle.nr_core.specs.Steps.{Asks, CanStep, ask_word}
 use Rattle.nr_core.specs.Story.{entry, map_after}

@@ -13,8 +13,8 @@ use Rattle.nr_model.specs.declared.states.KeyState.{KeyState}
 use Rattle.nr_core.proofs.Histories.{length-now}
 use Rattle.nr_core.proofs.OnKey.{in_range}
 use Rattle.nr_core.proofs.Sums.{below-exchanged, below-few, below-fewer, below-first, below-one, below-only, below-same, below-sum, below-term, below-zero, exchanged, only-same, only-suc, only-zero, terms_le, total-set}
-use Rattle.nr_core.specs.Roles.{is_writer, keeps, retirements, taken}
 use Rattle.nr_core.specs.Core.{Core, ShowsState}
+use Rattle.nr_core.specs.Roles.{is_writer, keeps, retirements, taken}
 use Rattle.nr_core.specs.Slots.{name_number, named, unused}
 use Rattle.nr_core.specs.Story.{map_after}
 use Rattle.nr_core.specs.Sums.{below, only, total}

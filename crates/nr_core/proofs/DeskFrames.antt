@@ -11,8 +11,8 @@ use Rattle.nr_words.specs.KeyWords.{arrivals_of}
 use Rattle.nr_core.proofs.Frames.{Left, desk_more, shows_more}
 use Rattle.nr_core.proofs.OffKeys.{no_writer}
 use Rattle.nr_core.proofs.Sums.{at_set, below-change, total-set}
-use Rattle.nr_core.specs.Roles.{held, holds, is_reader, is_writer, keeps}
 use Rattle.nr_core.specs.Core.{AtDesk, Core, Knows, ShowsState}
+use Rattle.nr_core.specs.Roles.{held, holds, is_reader, is_writer, keeps}
 use Rattle.nr_core.specs.Slots.{content, departures, name_number}
 use Rattle.nr_core.specs.Story.{map_after, shown}
 use Rattle.nr_core.specs.Sums.{only}

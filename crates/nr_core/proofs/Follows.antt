@@ -14,14 +14,14 @@ use Rattle.nr_core.proofs.OffKeys.{none_of}
 use Rattle.nr_core.proofs.Reach.{hold_room, place_room}
 use Rattle.nr_core.proofs.Settle.{own_ending}
 use Rattle.nr_core.proofs.Stands.{holder}
-use Rattle.nr_core.proofs.StateRoles.{Inv}
-use Rattle.nr_core.specs.Roles.{held}
+use Rattle.nr_core.proofs.StateRoles.{IsCoreState}
 use Rattle.nr_core.specs.Core.{AtDesk, AtPlace, Puts}
 use Rattle.nr_core.specs.Laws.{EndsWithout, Follows, IsJustified, caller_of}
 use Rattle.nr_core.specs.Machine.{found_by, moved, unless}
 use Rattle.nr_core.specs.Operations.{Load, Operation, Store, Swap, going, operation, place_of}
 use Rattle.nr_core.specs.Reach.{RoomAt, RoomOf}
 use Rattle.nr_core.specs.Refusals.{has_key, has_reader, if_busy, if_holding, if_not_busy, if_not_holding, if_unreadable, refusal}
+use Rattle.nr_core.specs.Roles.{held}
 use Rattle.nr_core.specs.Slots.{content, naming, slot_room}
 use Rattle.nr_core.specs.States.{Arrive, Ask, Depart, Event, Go, Read, Start, State, hold_of, key_of, slot_in}
 use Rattle.nr_core.specs.Story.{Story, call_of, map_after, polls_after, told}
@@ -46,10 +46,10 @@ told_by state (Start call) c = own_ending (call_of call) (looked state.shape sta
 told_by state Go c = own_ending_at state.desk.place (went state.shape state.desk state.desk.place (found_by state Go)).1 c
 
 -- the set that is put is a row set
-taken_set : (state : State) (log : List Entry) → Inv state log → (call : WriterCall) (rows : List Row) (slot departed index : ℕ) → state.desk.place ≡ Putting call rows slot departed index → IsRowSet state.shape.bound rows
-taken_set state log inv call rows slot departed index is =
-    let p : Puts state.shape state.words (map_after state.shape log) (held inv.roles) call rows slot departed index
-    = subst (AtPlace state.shape state.words (map_after state.shape log) (held inv.roles) state.desk.fresh state.desk.retired) is (inv.core.knows 0 (Writer state.desk) inv.fit.writer).place in p.wants.row_set
+taken_set : (state : State) (log : List Entry) → IsCoreState state log → (call : WriterCall) (rows : List Row) (slot departed index : ℕ) → state.desk.place ≡ Putting call rows slot departed index → IsRowSet state.shape.bound rows
+taken_set state log is_core call rows slot departed index is =
+    let p : Puts state.shape state.words (map_after state.shape log) (held is_core.roles) call rows slot departed index
+    = subst (AtPlace state.shape state.words (map_after state.shape log) (held is_core.roles) state.desk.fresh state.desk.retired) is (is_core.core.knows 0 (Writer state.desk) is_core.fit.writer).place in p.wants.row_set
 
 -- the word of a read that is not refused is a slot's, and so is that of a departure
 readable_room : (shape : Shape) (index : ℕ) (held : Hold) → if_unreadable index held ≡ None → RoomOf shape held → (slot_in held < shape.slots) × (index < slot_room)
@@ -63,64 +63,64 @@ departs_room shape (hold.On slot None) ok room = room
 departs_room shape (hold.On slot (Some size)) ok room = room.0
 
 -- an operation on a content word of a held slot is a load
-held_untouched : (state : State) (log : List Entry) (event : Event) (inv : Inv state log) → refusal state event ≡ None → (s i : ℕ) → (0 < held inv.roles s) × (s < state.shape.slots) → i < slot_room → place_of (operation state event) ≡ content state.shape s i → operation state event ≡ Load (content state.shape s i)
-held_untouched state log (Arrive r k) inv ok s i held_so low here = let shape = state.shape in
+held_untouched : (state : State) (log : List Entry) (event : Event) (is_core : IsCoreState state log) → refusal state event ≡ None → (s i : ℕ) → (0 < held is_core.roles s) × (s < state.shape.slots) → i < slot_room → place_of (operation state event) ≡ content state.shape s i → operation state event ≡ Load (content state.shape s i)
+held_untouched state log (Arrive r k) is_core ok s i held_so low here = let shape = state.shape in
     let g = guard (has_reader shape r && has_key shape k) (if_holding (hold_of state r)) refuse.OutOfRange ok in let b = both (has_reader shape r) (has_key shape k) g.0 in let near : k < shape.keys = ltb-true k shape.keys b.1 in absurd (omega arith)
-held_untouched state log (Ask r k) inv ok s i held_so low here = let shape = state.shape in
+held_untouched state log (Ask r k) is_core ok s i held_so low here = let shape = state.shape in
     let g = guard (has_reader shape r && has_key shape k) (if_holding (hold_of state r)) refuse.OutOfRange ok in let b = both (has_reader shape r) (has_key shape k) g.0 in let near : k < shape.keys = ltb-true k shape.keys b.1 in absurd (omega arith)
-held_untouched state log (Read r p) inv ok s i held_so low here = ap Load here
-held_untouched state log (Start call) inv ok s i held_so low here = ap Load here
-held_untouched state log (Depart r) inv ok s i held_so low here = absurd (omega arith)
-held_untouched state log Go inv ok s i held_so low here = go state.desk.place refl here
+held_untouched state log (Read r p) is_core ok s i held_so low here = ap Load here
+held_untouched state log (Start call) is_core ok s i held_so low here = ap Load here
+held_untouched state log (Depart r) is_core ok s i held_so low here = absurd (omega arith)
+held_untouched state log Go is_core ok s i held_so low here = go state.desk.place refl here
   where
-    mine : AtDesk state.shape state.words (map_after state.shape log) (held inv.roles) state.desk
-    mine = inv.core.knows 0 (Writer state.desk) inv.fit.writer
+    mine : AtDesk state.shape state.words (map_after state.shape log) (held is_core.roles) state.desk
+    mine = is_core.core.knows 0 (Writer state.desk) is_core.fit.writer
 
-    at_place : (p : Place) → state.desk.place ≡ p → AtPlace state.shape state.words (map_after state.shape log) (held inv.roles) state.desk.fresh state.desk.retired p
-    at_place p is = subst (AtPlace state.shape state.words (map_after state.shape log) (held inv.roles) state.desk.fresh state.desk.retired) is mine.place
+    at_place : (p : Place) → state.desk.place ≡ p → AtPlace state.shape state.words (map_after state.shape log) (held is_core.roles) state.desk.fresh state.desk.retired p
+    at_place p is = subst (AtPlace state.shape state.words (map_after state.shape log) (held is_core.roles) state.desk.fresh state.desk.retired) is mine.place
 
     go : (p : Place) → state.desk.place ≡ p → place_of (going state.shape state.desk p) ≡ content state.shape s i → going state.shape state.desk p ≡ Load (content state.shape s i)
     go Idle is e = ap Load e
     go (Reading call t got) is e = ap Load e
     go (Leaving k) is e = let near = (at_place (Leaving k) is).1.near in absurd (omega arith)
     go (Searching call rows p) is e = ap Load e
-    go (Putting call rows t departed j) is e = let p = at_place (Putting call rows t departed j) is in let near = p.wants.near in let short = p.wants.row_set.1 in let fits = inv.core.fits.bound in let free = p.nobody in let some_there = held_so.0 in
+    go (Putting call rows t departed j) is e = let p = at_place (Putting call rows t departed j) is in let near = p.wants.near in let short = p.wants.row_set.1 in let fits = is_core.core.fits.bound in let free = p.nobody in let some_there = held_so.0 in
         by_cases (λ v. let o = cond {A = Operation} v (Store (content state.shape t j) (get_or (encode rows) j 0)) (Swap (key_of call) (naming t departed)) in place_of o ≡ content state.shape s i → o ≡ Load (content state.shape s i)) (nat_le j (2 * length rows))
-        (λ yes e. let l : j ≤ 2 * length rows = leb-true j (2 * length rows) yes in let same_slot : s ≡ t = omega arith in let zero_there : held inv.roles s ≡ 0 = ap (held inv.roles) same_slot ∙ free in absurd (omega arith))
+        (λ yes e. let l : j ≤ 2 * length rows = leb-true j (2 * length rows) yes in let same_slot : s ≡ t = omega arith in let zero_there : held is_core.roles s ≡ 0 = ap (held is_core.roles) same_slot ∙ free in absurd (omega arith))
         (λ no e. absurd (omega arith)) e
 
 -- an operation is on one of the words
-inside_words : (state : State) (log : List Entry) (event : Event) → Inv state log → refusal state event ≡ None → place_of (operation state event) < length state.words
-inside_words state log (Arrive r k) inv ok = let wide = inv.core.wide in
+inside_words : (state : State) (log : List Entry) (event : Event) → IsCoreState state log → refusal state event ≡ None → place_of (operation state event) < length state.words
+inside_words state log (Arrive r k) is_core ok = let wide = is_core.core.wide in
     let g = guard (has_reader state.shape r && has_key state.shape k) (if_holding (hold_of state r)) refuse.OutOfRange ok in let b = both (has_reader state.shape r) (has_key state.shape k) g.0 in let near : k < state.shape.keys = ltb-true k state.shape.keys b.1 in omega arith
-inside_words state log (Ask r k) inv ok = let wide = inv.core.wide in
+inside_words state log (Ask r k) is_core ok = let wide = is_core.core.wide in
     let g = guard (has_reader state.shape r && has_key state.shape k) (if_holding (hold_of state r)) refuse.OutOfRange ok in let b = both (has_reader state.shape r) (has_key state.shape k) g.0 in let near : k < state.shape.keys = ltb-true k state.shape.keys b.1 in omega arith
-inside_words state log (Start call) inv ok = let wide = inv.core.wide in
+inside_words state log (Start call) is_core ok = let wide = is_core.core.wide in
     let g = guard (has_key state.shape (key_of call)) (if_busy state.desk.place) refuse.OutOfRange ok in let near : key_of call < state.shape.keys = ltb-true (key_of call) state.shape.keys g.0 in omega arith
-inside_words state log (Read r index) inv ok = let wide = inv.core.wide in
+inside_words state log (Read r index) is_core ok = let wide = is_core.core.wide in
     let g = guard (has_reader state.shape r) (if_unreadable index (hold_of state r)) refuse.OutOfRange ok in let low = (reader_in state.shape r g.0).0 in
-    let t = readable_room state.shape index (hold_of state r) g.1 (hold_room state log inv r low) in let near = t.0 in let short = t.1 in omega arith
-inside_words state log (Depart r) inv ok = let wide = inv.core.wide in
+    let t = readable_room state.shape index (hold_of state r) g.1 (hold_room state log is_core r low) in let near = t.0 in let short = t.1 in omega arith
+inside_words state log (Depart r) is_core ok = let wide = is_core.core.wide in
     let g = guard (has_reader state.shape r) (if_not_holding (hold_of state r)) refuse.OutOfRange ok in let low = (reader_in state.shape r g.0).0 in
-    let near = departs_room state.shape (hold_of state r) g.1 (hold_room state log inv r low) in omega arith
-inside_words state log Go inv ok = go state.desk.place refl (place_room state log inv state.desk.place refl)
+    let near = departs_room state.shape (hold_of state r) g.1 (hold_room state log is_core r low) in omega arith
+inside_words state log Go is_core ok = go state.desk.place refl (place_room state log is_core state.desk.place refl)
   where
     go : (place : Place) → state.desk.place ≡ place → RoomAt state place → place_of (going state.shape state.desk place) < length state.words
     go Idle is room = absurd (no_some (if_not_busy state.desk.place) refuse.NotBusy (ap if_not_busy is) ok)
-    go (Reading call slot got) is room = let wide = inv.core.wide in let near = room.0 in let short = room.1 in omega arith
-    go (Leaving k) is room = let wide = inv.core.wide in let near = room.0 in omega arith
-    go (Searching call rows poll) is room = let wide = inv.core.wide in let near = room.1 in omega arith
-    go (Putting call rows slot departed index) is room = let wide = inv.core.wide in let fits = inv.core.fits.bound in let near = room.0 in let inside = room.2 in
-        let short = (taken_set state log inv call rows slot departed index is).1 in
+    go (Reading call slot got) is room = let wide = is_core.core.wide in let near = room.0 in let short = room.1 in omega arith
+    go (Leaving k) is room = let wide = is_core.core.wide in let near = room.0 in omega arith
+    go (Searching call rows poll) is room = let wide = is_core.core.wide in let near = room.1 in omega arith
+    go (Putting call rows slot departed index) is room = let wide = is_core.core.wide in let fits = is_core.core.fits.bound in let near = room.0 in let inside = room.2 in
+        let short = (taken_set state log is_core call rows slot departed index is).1 in
         by_cases (λ v. place_of (cond {A = Operation} v (Store (content state.shape slot index) (get_or (encode rows) index 0)) (Swap (key_of call) (naming slot departed))) < length state.words) (nat_le index (2 * length rows))
         (λ yes. let l : index ≤ 2 * length rows = leb-true index (2 * length rows) yes in omega arith)
         (λ _. omega arith)
 
-pub follows : (story : Story) (event : Event) → Inv story.state story.history → ((counts : NoSlot) → EndsWithout story.state event counts → IsJustified story event counts) → Follows story event
-follows story event inv justified = record {
-  one_operation = λ ok. (inside_words story.state story.history event inv ok, ap (λ (o : Option Refusal). (unless o story.state (moved story.state event)).words) ok);
+pub follows : (story : Story) (event : Event) → IsCoreState story.state story.history → ((counts : NoSlot) → EndsWithout story.state event counts → IsJustified story event counts) → Follows story event
+follows story event is_core justified = record {
+  one_operation = λ ok. (inside_words story.state story.history event is_core ok, ap (λ (o : Option Refusal). (unless o story.state (moved story.state event)).words) ok);
   refused = λ why. stays (refusal story.state event) why;
-  untouched = λ ok r s i n low is low_i here. held_untouched story.state story.history event inv ok s i (holder story inv r s n low is) low_i here;
+  untouched = λ ok r s i n low is low_i here. held_untouched story.state story.history event is_core ok s i (holder story is_core r s n low is) low_i here;
   own = λ c. of-append c story.history (unless (refusal story.state event) [] (told story.state event)) ∙ ap (λ (l : List Entry). entries_of story.history c ++ l) (mine (refusal story.state event) c);
   justified = justified;
 }

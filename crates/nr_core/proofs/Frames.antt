@@ -7,8 +7,8 @@ use Rattle.nr_model.specs.declared.rows.Row.{Row}
 use Rattle.nr_model.specs.declared.states.KeyState.{KeyState}
 use Rattle.nr_words.proofs.SetWordLemmas.{length-row_words}
 use Rattle.nr_core.proofs.Sums.{only-same, term_le}
-use Rattle.nr_core.specs.Roles.{grips, keeps, taken}
 use Rattle.nr_core.specs.Core.{AtDesk, AtPlace, Grips, Reads, ShowsState, Wants}
+use Rattle.nr_core.specs.Roles.{grips, keeps, taken}
 use Rattle.nr_core.specs.Slots.{SlotSpells, content, departures, name_number, unused}
 use Rattle.nr_core.specs.States.{key_of}
 use Rattle.nr_core.specs.Story.{call_of}

@@ -13,15 +13,15 @@ use Rattle.nr_core.proofs.Histories.{replies_so}
 use Rattle.nr_core.proofs.Poll.{polls}
 use Rattle.nr_core.proofs.ReadThrough.{read_whole}
 use Rattle.nr_core.proofs.Settle.{key_same}
-use Rattle.nr_core.proofs.StateRoles.{Inv}
+use Rattle.nr_core.proofs.StateRoles.{IsCoreState}
 use Rattle.nr_core.proofs.Sweeps.{AtSweep, Notes, Swept, polled_slots}
 use Rattle.nr_core.proofs.Without.{IsWithout, NoneLeft, decided_none, look_none, not_going, not_reply, polled_none}
-use Rattle.nr_core.specs.Roles.{held, taken}
 use Rattle.nr_core.specs.Core.{AtPlace, Reads}
 use Rattle.nr_core.specs.Laws.{EndsWithout, IsJustified, call_at, call_in}
 use Rattle.nr_core.specs.Machine.{answer, found_by, moved, unless}
 use Rattle.nr_core.specs.Operations.{going, place_of}
 use Rattle.nr_core.specs.Refusals.{has_key, if_busy, refusal}
+use Rattle.nr_core.specs.Roles.{held, taken}
 use Rattle.nr_core.specs.Slots.{content, departures, set_of}
 use Rattle.nr_core.specs.States.{Arrive, Ask, Depart, Event, Go, Read, Start, State, key_of, retired_at}
 use Rattle.nr_core.specs.Story.{Poll, Story, call_of, ending, map_after, poll_at, polls_after, polls_at, tell, told}
@@ -70,11 +70,11 @@ record Ending (state : State) (log : List Entry) (place : Place) (polls : List P
   pub done : reply_at state.shape.bound (call_of call) (state_of (map_after state.shape log) (key_of call)) ≡ reply.Done
   pub polled : map (λ (poll : Poll). poll.slot) polls ≡ map (λ (entry : Retired). entry.slot) state.desk.retired
 
-justify : (story : Story) (event : Event) (inv : Inv story.state story.history) → refusal story.state event ≡ None → Swept (tell story event).state (tell story event).polls → (counts : NoSlot) (call : WriterCall) → call_at story.state event ≡ call ∷ []
+justify : (story : Story) (event : Event) (is_core : IsCoreState story.state story.history) → refusal story.state event ≡ None → Swept (tell story event).state (tell story event).polls → (counts : NoSlot) (call : WriterCall) → call_at story.state event ≡ call ∷ []
     → (outcome : Desk × Step) → (moved story.state event).desk ≡ outcome.0 → Ending story.state story.history story.state.desk.place (polls_after story.state story.polls event) call outcome counts → IsJustified story event counts
-justify story event inv ok swept counts call is_call outcome desk_is ending =
-    let state = story.state in let shape = state.shape in let desk = state.desk in let core = inv.core in let writer_there = inv.fit.writer in let told_so = tell_is story event ok in
-    let all_slots = slots_are shape state.words inv.roles story.history core 0 desk writer_there ending.full ending.free in
+justify story event is_core ok swept counts call is_call outcome desk_is ending =
+    let state = story.state in let shape = state.shape in let desk = state.desk in let core = is_core.core in let writer_there = is_core.fit.writer in let told_so = tell_is story event ok in
+    let all_slots = slots_are shape state.words is_core.roles story.history core 0 desk writer_there ending.full ending.free in
     let live_is : counts.live ≡ shape.slots - length desk.retired = ap (λ (n : NoSlot). n.live) ending.none.counted in
     let held_is : counts.held ≡ length desk.retired = ap (λ (n : NoSlot). n.held) ending.none.counted in
     let retired_is : (tell story event).state.desk.retired ≡ desk.retired = ap (λ (s : Story). s.state.desk.retired) told_so ∙ ap (λ (d : Desk). d.retired) (desk_is ∙ ending.none.same) in record {
@@ -92,24 +92,24 @@ no_polls : (l : List Retired) → length l ≡ 0 → map (λ (poll : Poll). poll
 no_polls l e = ap (map (λ (entry : Retired). entry.slot)) (sym (none_in l e))
 
 -- the step after the look, from each place
-go_ending : (state : State) (log : List Entry) (polls : List Poll) → Inv state log → Swept state polls → (place : Place) → state.desk.place ≡ place → (counts : NoSlot)
+go_ending : (state : State) (log : List Entry) (polls : List Poll) → IsCoreState state log → Swept state polls → (place : Place) → state.desk.place ≡ place → (counts : NoSlot)
     → let outcome = went state.shape state.desk place (get_or state.words (place_of (going state.shape state.desk place)) 0) in
     IsWithout counts outcome → (call : WriterCall) × (call_in place ≡ call ∷ []) × Ending state log place (polls_at state polls place) call outcome counts
-go_ending state log polls inv swept Idle is counts e = absurd (not_going counts e)
-go_ending state log polls inv swept (Leaving k) is counts e = absurd (not_reply counts reply.Evicted e)
-go_ending state log polls inv swept (Putting call rows slot departed index) is counts e = let found = get_or state.words (place_of (going state.shape state.desk (Putting call rows slot departed index))) 0 in
+go_ending state log polls is_core swept Idle is counts e = absurd (not_going counts e)
+go_ending state log polls is_core swept (Leaving k) is counts e = absurd (not_reply counts reply.Evicted e)
+go_ending state log polls is_core swept (Putting call rows slot departed index) is counts e = let found = get_or state.words (place_of (going state.shape state.desk (Putting call rows slot departed index))) 0 in
     let Goal : Type 0 = (q : WriterCall) × (call ∷ [] ≡ q ∷ []) × Ending state log (Putting call rows slot departed index) polls q (put_on state.desk call rows slot departed index found) counts in
     by_cases (λ v. IsWithout counts (cond {A = Desk × Step} v (moved_to state.desk (Putting call rows slot departed (index + 1)), Going) (swapped state.desk found, ended reply.Done)) → Goal) (nat_le index (2 * length rows))
     (λ _ e'. absurd (not_going counts e')) (λ _ e'. absurd (not_reply counts reply.Done e')) e
-go_ending state log polls inv swept (Reading call s got) is counts e =
+go_ending state log polls is_core swept (Reading call s got) is counts e =
     let shape = state.shape in let words = state.words in let desk = state.desk in let map_now = map_after shape log in
-    let known = inv.core.knows 0 (Writer desk) inv.fit.writer in
-    let p : Reads shape words map_now (held inv.roles) (key_of call) s got = subst (AtPlace shape words map_now (held inv.roles) desk.fresh desk.retired) is known.place in
+    let known = is_core.core.knows 0 (Writer desk) is_core.fit.writer in
+    let p : Reads shape words map_now (held is_core.roles) (key_of call) s got = subst (AtPlace shape words map_now (held is_core.roles) desk.fresh desk.retired) is known.place in
     let got' : List ℕ = got ++ get_or words (content shape s (length got)) 0 ∷ [] in
     let none_polled : polls ≡ [] = subst (AtSweep state polls) is swept.sweep in
     by_cases (λ v. let outcome = cond {A = Desk × Step} v (decided shape desk call (set_of shape.bound got')) (moved_to desk (Reading call s got'), Going) in
     (v ≡ true → length got' ≡ 2 * get_or got' 0 0 + 1) → IsWithout counts outcome → (q : WriterCall) × (call ∷ [] ≡ q ∷ []) × Ending state log (Reading call s got) polls q outcome counts) (nat_eq (length got') (2 * get_or got' 0 0 + 1))
-    (λ _ whole e'. let n = decided_none shape desk counts call (set_of shape.bound got') e' in let set_is = read_whole shape words inv.roles log inv.core (key_of call) s got p (whole refl) in (
+    (λ _ whole e'. let n = decided_none shape desk counts call (set_of shape.bound got') e' in let set_is = read_whole shape words is_core.roles log is_core.core (key_of call) s got p (whole refl) in (
       call,
       refl,
       record {
@@ -122,10 +122,10 @@ go_ending state log polls inv swept (Reading call s got) is counts e =
     ))
     (λ _ _ e'. absurd (not_going counts e'))
     (eqb-true (length got') (2 * get_or got' 0 0 + 1)) e
-go_ending state log polls inv swept (Searching call rows q) is counts e =
+go_ending state log polls is_core swept (Searching call rows q) is counts e =
     let shape = state.shape in let words = state.words in let desk = state.desk in let map_now = map_after shape log in
-    let known = inv.core.knows 0 (Writer desk) inv.fit.writer in
-    let at_p : AtPlace shape words map_now (held inv.roles) desk.fresh desk.retired (Searching call rows q) = subst (AtPlace shape words map_now (held inv.roles) desk.fresh desk.retired) is known.place in
+    let known = is_core.core.knows 0 (Writer desk) is_core.fit.writer in
+    let at_p : AtPlace shape words map_now (held is_core.roles) desk.fresh desk.retired (Searching call rows q) = subst (AtPlace shape words map_now (held is_core.roles) desk.fresh desk.retired) is known.place in
     let notes : Notes state polls q = subst (AtSweep state polls) is swept.sweep in
     let found = get_or words (departures shape (retired_at desk q).slot) 0 in let within = at_p.1 in
     let n = polled_none shape desk counts call rows q found e in
@@ -143,25 +143,25 @@ go_ending state log polls inv swept (Searching call rows q) is counts e =
       },
     )
 
-pub no_slot_is_justified : (story : Story) (event : Event) → Inv story.state story.history → Swept story.state story.polls → Swept (tell story event).state (tell story event).polls → (counts : NoSlot) → EndsWithout story.state event counts → IsJustified story event counts
-no_slot_is_justified story (Arrive r k) inv swept after counts e = absurd e
-no_slot_is_justified story (Read r i) inv swept after counts e = absurd e
-no_slot_is_justified story (Depart r) inv swept after counts e = absurd e
-no_slot_is_justified story (Ask r k) inv swept after counts e = absurd e
-no_slot_is_justified story (Start call) inv swept after counts e =
+pub no_slot_is_justified : (story : Story) (event : Event) → IsCoreState story.state story.history → Swept story.state story.polls → Swept (tell story event).state (tell story event).polls → (counts : NoSlot) → EndsWithout story.state event counts → IsJustified story event counts
+no_slot_is_justified story (Arrive r k) is_core swept after counts e = absurd e
+no_slot_is_justified story (Read r i) is_core swept after counts e = absurd e
+no_slot_is_justified story (Depart r) is_core swept after counts e = absurd e
+no_slot_is_justified story (Ask r k) is_core swept after counts e = absurd e
+no_slot_is_justified story (Start call) is_core swept after counts e =
     let state = story.state in let shape = state.shape in let desk = state.desk in let w = get_or state.words (key_of call) 0 in let outcome = looked shape desk call w in
     let a = answered (refusal state (Start call)) outcome.1 (Ended (writer.NoSlot counts)) e in
     let g = guard (has_key shape (key_of call)) (if_busy desk.place) refuse.OutOfRange a.0 in let near : key_of call < shape.keys = ltb-true (key_of call) shape.keys g.0 in let idle = is_idle desk.place g.1 in
     let n = look_none shape desk counts call w a.1 in
-    justify story (Start call) inv a.0 after counts call refl outcome refl (record {
+    justify story (Start call) is_core a.0 after counts call refl outcome refl (record {
       none = n.0;
       full = n.1;
       free = λ s. ap (taken s) idle;
-      done = n.3 (state_of (map_after shape story.history) (key_of call)) state.words (inv.core.shows (key_of call) near);
+      done = n.3 (state_of (map_after shape story.history) (key_of call)) state.words (is_core.core.shows (key_of call) near);
       polled = no_polls desk.retired n.2;
     })
-no_slot_is_justified story Go inv swept after counts e =
+no_slot_is_justified story Go is_core swept after counts e =
     let state = story.state in let desk = state.desk in let outcome = went state.shape desk desk.place (found_by state Go) in
     let a = answered (refusal state Go) outcome.1 (Ended (writer.NoSlot counts)) e in
-    let n = go_ending state story.history story.polls inv swept desk.place refl counts a.1 in
-    justify story Go inv a.0 after counts n.0 n.1 outcome refl n.2
+    let n = go_ending state story.history story.polls is_core swept desk.place refl counts a.1 in
+    justify story Go is_core a.0 after counts n.0 n.1 outcome refl n.2

@@ -10,8 +10,8 @@ use Rattle.nr_model.specs.declared.states.KeyState.{KeyState}
 use Rattle.nr_words.specs.KeyWords.{arrivals_of}
 use Rattle.nr_core.proofs.Frames.{Left, desk_more, holding_more, shows_more}
 use Rattle.nr_core.proofs.Sums.{at_set, below-same, below-term, below-terms, only-same, term_le, total-set}
-use Rattle.nr_core.specs.Roles.{grips, held, holds, is_reader, is_writer, keeps}
 use Rattle.nr_core.specs.Core.{Core, Grips, Knows, ShowsState}
+use Rattle.nr_core.specs.Roles.{grips, held, holds, is_reader, is_writer, keeps}
 use Rattle.nr_core.specs.Slots.{content, departures, name_number, named}
 use Rattle.nr_core.specs.Story.{map_after, shown}
 use Rattle.nr_core.specs.Sums.{only, total}

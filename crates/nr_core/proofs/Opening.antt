@@ -6,11 +6,11 @@ use mathlib.Core.Option.{some, some-injective, some-ne-none}
 use Rattle.nr_model.specs.declared.states.KeyState.{KeyState}
 use Rattle.nr_words.specs.Places.{total_of}
 use Rattle.nr_core.proofs.Frames.{unused-free}
-use Rattle.nr_core.proofs.StateRoles.{Inv, no_grip, same_grip}
+use Rattle.nr_core.proofs.StateRoles.{IsCoreState, no_grip, same_grip}
 use Rattle.nr_core.proofs.Sums.{only-other}
+use Rattle.nr_core.specs.Core.{Core, Knows, ShowsState}
 use Rattle.nr_core.specs.Roles.{held, holds, is_reader, is_writer, keeps}
 use Rattle.nr_core.specs.Sizes.{IsShape}
-use Rattle.nr_core.specs.Core.{Core, Knows, ShowsState}
 use Rattle.nr_core.specs.Slots.{departures, layout, name_number, opening_words, repeated, slot_room}
 use Rattle.nr_core.specs.States.{opening, opening_desk}
 use Rattle.nr_core.specs.Story.{map_after}
@@ -91,8 +91,8 @@ core_opens shape fits n few = let words = opening_words shape in let slot = shap
       few = omega (arith, all.0);
     }
 
-pub inv_open : (shape : Shape) → IsShape shape → Inv (opening shape) []
-inv_open shape fits = record {
+pub opening_core : (shape : Shape) → IsShape shape → IsCoreState (opening shape) []
+opening_core shape fits = record {
   roles = Writer opening_desk ∷ readers_from 0 shape.readers;
   core = core_opens shape fits shape.readers (omega arith);
   fit = record {

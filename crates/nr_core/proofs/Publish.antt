@@ -10,8 +10,8 @@ use Rattle.nr_core.proofs.KeyWords.{naming_is}
 use Rattle.nr_core.proofs.Settle.{key_same}
 use Rattle.nr_core.proofs.Sums.{only-suc}
 use Rattle.nr_core.proofs.Swap.{swap_step}
-use Rattle.nr_core.specs.Roles.{held, taken}
 use Rattle.nr_core.specs.Core.{AtPlace, Core, Puts, ShowsState}
+use Rattle.nr_core.specs.Roles.{held, taken}
 use Rattle.nr_core.specs.Slots.{departures, naming}
 use Rattle.nr_core.specs.States.{key_of}
 use Rattle.nr_core.specs.Story.{call_of, entry, map_after}
@@ -26,12 +26,12 @@ use Rattle.nr_core.specs.declared.shape.Shape.{Shape}
 use Rattle.nr_model.specs.declared.calls.Reply.TheVariants as reply
 
 pub publishes : (shape : Shape) (words : List ℕ) (roles : List Role) (log : List Entry) (core : Core shape words roles log) (id : ℕ) (desk : Desk) → get_elem? roles id ≡ some (Writer desk)
-    → (call : WriterCall) (rows : List Row) (s e i : ℕ) → desk.place ≡ Putting call rows s e i → 2 * length rows < i
-    → Core shape (set words (key_of call) (naming s e)) (set roles id (Writer (swapped desk (get_or words (key_of call) 0)))) (log ++ entry 0 (call_of call) reply.Done ∷ [])
-publishes shape words roles log core id desk is_there call rows s e i is_at past = let t = core.knows id (Writer desk) is_there in let map = map_after shape log in
-    let p : Puts shape words map (held roles) call rows s e i = subst (AtPlace shape words map (held roles) desk.fresh desk.retired) is_at t.place in let wants = p.wants in let fits = core.fits.slots in let inside = p.inside in let n = naming_is s e (omega arith) in
+    → (call : WriterCall) (rows : List Row) (slot departed index : ℕ) → desk.place ≡ Putting call rows slot departed index → 2 * length rows < index
+    → Core shape (set words (key_of call) (naming slot departed)) (set roles id (Writer (swapped desk (get_or words (key_of call) 0)))) (log ++ entry 0 (call_of call) reply.Done ∷ [])
+publishes shape words roles log core id desk there call rows slot departed index is_at past = let known = core.knows id (Writer desk) there in let map = map_after shape log in
+    let putting : Puts shape words map (held roles) call rows slot departed index = subst (AtPlace shape words map (held roles) desk.fresh desk.retired) is_at known.place in let wants = putting.wants in let fits = core.fits.slots in let inside = putting.inside in let n = naming_is slot departed (omega arith) in
     let flat-size = length-row_words rows in
-    swap_step shape words roles log core id desk is_there (key_of call) (naming s e) (call_of call) reply.Done wants.near (key_same call) wants.done
-    (subst (ShowsState shape words (naming s e)) (sym wants.leaves) (s, n.0, inside, (wants.row_set, λ j low. p.put j (omega arith))))
-    (λ u. ap (taken u) is_at ∙ sym (ap (only (suc u)) n.0 ∙ only-suc u s))
-    (λ u z. let same : s ≡ u = omega (arith, n.0) in subst (λ (v : ℕ). arrivals_of (naming s e) % 2 ^ 40 ≡ (get_or words (departures shape v) 0 + held roles v) % 2 ^ 40) same (omega (arith, n.1, p.counted, p.nobody)))
+    swap_step shape words roles log core id desk there (key_of call) (naming slot departed) (call_of call) reply.Done wants.near (key_same call) wants.done
+    (subst (ShowsState shape words (naming slot departed)) (sym wants.leaves) (slot, n.0, inside, (wants.row_set, λ j low. putting.put j (omega arith))))
+    (λ u. ap (taken u) is_at ∙ sym (ap (only (suc u)) n.0 ∙ only-suc u slot))
+    (λ u z. let same : slot ≡ u = omega (arith, n.0) in subst (λ (v : ℕ). arrivals_of (naming slot departed) % 2 ^ 40 ≡ (get_or words (departures shape v) 0 + held roles v) % 2 ^ 40) same (omega (arith, n.1, putting.counted, putting.nobody)))

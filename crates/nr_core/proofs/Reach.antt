@@ -8,17 +8,17 @@ use native.Mathlib.Decide.{dec_le}
 use Rattle.nr_model.specs.Histories.{Entry}
 use Rattle.nr_model.specs.Maps.{PartialMap}
 use Rattle.nr_core.proofs.Counting.{few_retired, fewer_retired, named_inside, names_it}
-use Rattle.nr_core.proofs.Events.{inv_story}
+use Rattle.nr_core.proofs.Events.{story_core}
 use Rattle.nr_core.proofs.Runs.{run_more, story_state}
-use Rattle.nr_core.proofs.StateRoles.{Inv, erased}
+use Rattle.nr_core.proofs.StateRoles.{IsCoreState, erased}
 use Rattle.nr_core.proofs.Sums.{got_at, only-same}
-use Rattle.nr_core.specs.Roles.{held, taken}
-use Rattle.nr_core.specs.Sizes.{IsShape}
 use Rattle.nr_core.specs.Core.{AtDesk, AtPlace, Grips, ShowsState}
 use Rattle.nr_core.specs.Laws.{AllGiven, IsGiven}
 use Rattle.nr_core.specs.Machine.{moved, next, run, unless}
 use Rattle.nr_core.specs.Reach.{HasRoom, Reached, RoomAt, RoomOf}
 use Rattle.nr_core.specs.Refusals.{refusal}
+use Rattle.nr_core.specs.Roles.{held, taken}
+use Rattle.nr_core.specs.Sizes.{IsShape}
 use Rattle.nr_core.specs.Slots.{name_number, named, slot_room}
 use Rattle.nr_core.specs.States.{Event, State, hold_of, key_of, no_retired, opening, retired_at}
 use Rattle.nr_core.specs.Story.{holders, map_after, story_of}
@@ -60,9 +60,9 @@ reached_next state event given reached = let kept = shape_kept state event in re
 pub leads_on : (state : State) (event : Event) → IsGiven state.shape.bound event → ∥ Reached state ∥₁ → ∥ Reached (next state event) ∥₁
 leads_on state event given reached = ∥∥₁_map reached (reached_next state event given)
 
-inv_of : (state : State) (reached : Reached state) → Inv state (story_of state.shape reached.events).history
-inv_of state reached = let t = inv_story state.shape reached.events reached.shape reached.given in
-    subst (λ s. Inv s (story_of state.shape reached.events).history) (story_state state.shape reached.events ∙ sym reached.leads) t.0
+reached_core : (state : State) (reached : Reached state) → IsCoreState state (story_of state.shape reached.events).history
+reached_core state reached = let t = story_core state.shape reached.events reached.shape reached.given in
+    subst (λ s. IsCoreState s (story_of state.shape reached.events).history) (story_state state.shape reached.events ∙ sym reached.leads) t.0
 
 -- THE ROOM OF THE NEXT STEP
 
@@ -76,39 +76,39 @@ none_beyond [] i out = refl
 none_beyond (x ∷ l) zero out = absurd (omega arith)
 none_beyond (x ∷ l) (suc i) out = none_beyond l i (omega arith)
 
-pub hold_room : (state : State) (log : List Entry) → Inv state log → (reader : ℕ) → 0 < reader → RoomOf state.shape (hold_of state reader)
-hold_room state log inv reader low = let size = inv.fit.size in let i : ℕ = reader - 1 in dite (dec_le state.shape.readers i)
+pub hold_room : (state : State) (log : List Entry) → IsCoreState state log → (reader : ℕ) → 0 < reader → RoomOf state.shape (hold_of state reader)
+hold_room state log is_core reader low = let size = is_core.fit.size in let i : ℕ = reader - 1 in dite (dec_le state.shape.readers i)
     (λ out. subst (RoomOf state.shape) (sym (none_beyond state.holds i (omega arith))) tt)
-    (λ inside. let o = inv.fit.readers i (omega arith) in subst (RoomOf state.shape) (sym o.2) (grip_room state.shape state.words (map_after state.shape log) (held inv.roles) inv.core.fits.bound o.0 (inv.core.knows (suc i) (Reader (suc i) o.0) o.1)))
+    (λ inside. let o = is_core.fit.readers i (omega arith) in subst (RoomOf state.shape) (sym o.2) (grip_room state.shape state.words (map_after state.shape log) (held is_core.roles) is_core.core.fits.bound o.0 (is_core.core.knows (suc i) (Reader (suc i) o.0) o.1)))
 
-pub place_room : (state : State) (log : List Entry) → Inv state log → (place : Place) → state.desk.place ≡ place → RoomAt state place
-place_room state log inv place is = go place is (subst (AtPlace state.shape state.words (map_after state.shape log) (held inv.roles) state.desk.fresh state.desk.retired) is desk.place)
+pub place_room : (state : State) (log : List Entry) → IsCoreState state log → (place : Place) → state.desk.place ≡ place → RoomAt state place
+place_room state log is_core place is = go place is (subst (AtPlace state.shape state.words (map_after state.shape log) (held is_core.roles) state.desk.fresh state.desk.retired) is desk.place)
   where
-    desk : AtDesk state.shape state.words (map_after state.shape log) (held inv.roles) state.desk
-    desk = inv.core.knows 0 (Writer state.desk) inv.fit.writer
+    desk : AtDesk state.shape state.words (map_after state.shape log) (held is_core.roles) state.desk
+    desk = is_core.core.knows 0 (Writer state.desk) is_core.fit.writer
 
     fewer : (slot : ℕ) → slot < state.shape.slots → 0 < named state.shape state.words slot + taken slot state.desk.place → length state.desk.retired < state.shape.slots
-    fewer = fewer_retired state.shape state.words inv.roles log inv.core 0 state.desk inv.fit.writer
+    fewer = fewer_retired state.shape state.words is_core.roles log is_core.core 0 state.desk is_core.fit.writer
 
     inside : (k slot : ℕ) → k < state.shape.keys → name_number (get_or state.words k 0) ≡ suc slot → slot < state.shape.slots
-    inside = named_inside state.shape state.words inv.roles log inv.core
+    inside = named_inside state.shape state.words is_core.roles log is_core.core
 
-    go : (p : Place) → state.desk.place ≡ p → AtPlace state.shape state.words (map_after state.shape log) (held inv.roles) state.desk.fresh state.desk.retired p → RoomAt state p
+    go : (p : Place) → state.desk.place ≡ p → AtPlace state.shape state.words (map_after state.shape log) (held is_core.roles) state.desk.fresh state.desk.retired p → RoomAt state p
     go Idle e t = tt
-    go (Reading call slot got) e t = let fits = inv.core.fits.bound in let more = t.more in let shown : ShowsState state.shape state.words (get_or state.words (key_of call) 0) (key.Rows t.rows) = subst (ShowsState state.shape state.words (get_or state.words (key_of call) 0)) t.full (inv.core.shows (key_of call) t.near) in
+    go (Reading call slot got) e t = let fits = is_core.core.fits.bound in let more = t.more in let shown : ShowsState state.shape state.words (get_or state.words (key_of call) 0) (key.Rows t.rows) = subst (ShowsState state.shape state.words (get_or state.words (key_of call) 0)) t.full (is_core.core.shows (key_of call) t.near) in
         let short = shown.3.0.1 in (inside (key_of call) slot t.near t.names, omega arith)
-    go (Leaving k) e t = let named_so = names_it state.shape state.words inv.roles log inv.core k t.0 t.1.near t.1.names in (t.1.near, fewer t.0 (inside k t.0 t.1.near t.1.names) (omega arith))
+    go (Leaving k) e t = let named_so = names_it state.shape state.words is_core.roles log is_core.core k t.0 t.1.near t.1.names in (t.1.near, fewer t.0 (inside k t.0 t.1.near t.1.names) (omega arith))
     go (Searching call rows poll) e t = (t.1, (desk.retired poll (retired_at state.desk poll) (got_at state.desk.retired poll no_retired t.1)).0)
     go (Putting call rows slot departed index) e t = let mine : taken slot state.desk.place ≡ 1 = ap (taken slot) e ∙ only-same slot in (t.wants.near, fewer slot t.inside (omega arith), t.inside)
 
 room_of : (state : State) → Reached state → HasRoom state
-room_of state reached = let log = (story_of state.shape reached.events).history in let inv = inv_of state reached in record {
+room_of state reached = let log = (story_of state.shape reached.events).history in let is_core = reached_core state reached in record {
   shape = reached.shape;
-  words = inv.core.wide;
-  holds = inv.fit.size;
-  held = hold_room state log inv;
-  few = few_retired state.shape state.words inv.roles log inv.core 0 state.desk inv.fit.writer;
-  place = place_room state log inv state.desk.place refl;
+  words = is_core.core.wide;
+  holds = is_core.fit.size;
+  held = hold_room state log is_core;
+  few = few_retired state.shape state.words is_core.roles log is_core.core 0 state.desk is_core.fit.writer;
+  place = place_room state log is_core state.desk.place refl;
 }
 
 -- room is one fact

@@ -8,9 +8,9 @@ use Rattle.nr_words.specs.SetWords.{encode}
 use Rattle.nr_core.proofs.Frames.{Left, desk_more, holding_more}
 use Rattle.nr_core.proofs.OffKeys.{none_of, off_keys}
 use Rattle.nr_core.proofs.Sums.{total-set}
-use Rattle.nr_core.specs.Roles.{held, holds, is_by}
 use Rattle.nr_core.specs.Core.{Knows}
 use Rattle.nr_core.specs.Operations.{Load}
+use Rattle.nr_core.specs.Roles.{held, holds, is_by}
 use Rattle.nr_core.specs.Slots.{content, departures, name_number}
 use Rattle.nr_core.specs.Steps.{CanStep, ReadsHeld}
 use Rattle.nr_core.specs.Story.{map_after}

@@ -7,8 +7,8 @@ use Rattle.nr_model.specs.Rows.{IsRowSet}
 use Rattle.nr_words.proofs.SetWordLemmas.{length-row_words}
 use Rattle.nr_words.specs.SetWords.{encode}
 use Rattle.nr_core.proofs.Sets.{set_back}
-use Rattle.nr_core.specs.Roles.{held}
 use Rattle.nr_core.specs.Core.{Core, Reads, ShowsState}
+use Rattle.nr_core.specs.Roles.{held}
 use Rattle.nr_core.specs.Slots.{SlotSpells, content, name_number, set_of}
 use Rattle.nr_core.specs.Story.{map_after}
 use Rattle.nr_core.specs.declared.roles.Role.{Role}

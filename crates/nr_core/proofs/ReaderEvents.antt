@@ -24,7 +24,7 @@ use Rattle.nr_core.proofs.Histories.{of-append, replies_so}
 use Rattle.nr_core.proofs.KeyWords.{names_none, names_one}
 use Rattle.nr_core.proofs.Read.{reads}
 use Rattle.nr_core.proofs.Shown.{shown_is}
-use Rattle.nr_core.proofs.StateRoles.{AllFound, Found, Inv, erased, fit_reader, found_quiet, found_set, no_grip, one_other, one_same, same_rows}
+use Rattle.nr_core.proofs.StateRoles.{AllFound, Found, IsCoreState, erased, fit_reader, found_quiet, found_set, no_grip, one_other, one_same, same_rows}
 use Rattle.nr_core.proofs.Sums.{set_again}
 use Rattle.nr_core.specs.Core.{Core}
 use Rattle.nr_core.specs.Machine.{moved, read_hold}
@@ -52,8 +52,8 @@ is_free (On s rows b) e = absurd (no_some (Some refuse.Holding) refuse.Holding r
 reply_of : (shape : Shape) (log : List Entry) (c : ℕ) (call : Call) (y : Reply) → IsLegal (opening_map shape.keys shape.bound) (log ++ entry c call y ∷ []) → y ≡ reply_at shape.bound call (state_of (map_after shape log) (call_key call))
 reply_of shape log c call y legal = ((legal_goes_on_lem (opening_map shape.keys shape.bound) log (entry c call y)).1.1 legal).1 ∙ replies_so shape log call
 
-pub after_arrive : (state : State) (log : List Entry) (r k : ℕ) → Inv state log → refusal state (Arrive r k) ≡ None → Inv (moved state (Arrive r k)) (log ++ told state (Arrive r k))
-after_arrive state log r k inv ok = let shape = state.shape in let words = state.words in let roles = inv.roles in let core = inv.core in let f = inv.fit in
+pub after_arrive : (state : State) (log : List Entry) (r k : ℕ) → IsCoreState state log → refusal state (Arrive r k) ≡ None → IsCoreState (moved state (Arrive r k)) (log ++ told state (Arrive r k))
+after_arrive state log r k is_core ok = let shape = state.shape in let words = state.words in let roles = is_core.roles in let core = is_core.core in let f = is_core.fit in
     let g = guard (has_reader shape r && has_key shape k) (if_holding (get_or state.holds (r - 1) hold.Nothing)) refuse.OutOfRange ok in
     let b = both (has_reader shape r) (has_key shape k) g.0 in let near : k < shape.keys = ltb-true k shape.keys b.1 in let in_r = reader_in shape r b.0 in let low_r = in_r.0 in let high_r = in_r.1 in
     let i : ℕ = r - 1 in let low : i < shape.readers = omega arith in let number : suc i ≡ r = omega arith in
@@ -61,7 +61,7 @@ after_arrive state log r k inv ok = let shape = state.shape in let words = state
     let there_is : get_elem? roles (suc i) ≡ some (Reader (suc i) Nothing) = o.1 ∙ ap (λ (x : Grip). some (Reader (suc i) x)) free in
     let t = arrives shape (suc i) (suc i) k near words roles log core there_is in let w : ℕ = get_or words k 0 in let words' = set words k ((w + ARRIVE) % 2 ^ 64) in
     let shown_so : find_reply (state_of (map_after shape log) k) ≡ find_reply (shown state k) = ap find_reply (sym (shown_is state roles log core k near)) in
-    let finish : (x : Grip) (y : Reply) → t.after ≡ Reader (suc i) x → t.entries ≡ entry (suc i) (model.Find k) y ∷ [] → cond (is_filled w) (hold.On (slot_of w) None) hold.Nothing ≡ erased x → ((s : ℕ) (rows : List Row) (b : Bool) → x ≡ On s rows b → y ≡ reply.Rows rows) → Inv (moved state (Arrive r k)) (log ++ told state (Arrive r k))
+    let finish : (x : Grip) (y : Reply) → t.after ≡ Reader (suc i) x → t.entries ≡ entry (suc i) (model.Find k) y ∷ [] → cond (is_filled w) (hold.On (slot_of w) None) hold.Nothing ≡ erased x → ((s : ℕ) (rows : List Row) (b : Bool) → x ≡ On s rows b → y ≡ reply.Rows rows) → IsCoreState (moved state (Arrive r k)) (log ++ told state (Arrive r k))
     = λ x y role es held_so replied.
     let c1 : Core shape words' (set roles (suc i) (Reader (suc i) x)) (log ++ entry (suc i) (model.Find k) y ∷ []) = subst (λ (p : Role × List Entry). Core shape words' (set roles (suc i) p.0) (log ++ p.1)) (λ j. (role j, es j)) t.core in
     let reply_is : y ≡ find_reply (shown state k) = reply_of shape log (suc i) (model.Find k) y c1.legal ∙ shown_so in
@@ -70,7 +70,7 @@ after_arrive state log r k inv ok = let shape = state.shape in let words = state
       core = subst (λ (p : ℕ × Reply). Core shape words' (set roles (suc i) (Reader (suc i) x)) (log ++ entry p.0 (model.Find k) p.1 ∷ [])) (λ j. (number j, reply_is j)) c1;
       fit = fit_reader shape.readers roles state.holds state.desk f i low x (cond (is_filled w) (hold.On (slot_of w) None) hold.Nothing) held_so;
       found = subst (λ (p : ℕ × Reply). AllFound (set roles (suc i) (Reader (suc i) x)) (log ++ entry p.0 (model.Find k) p.1 ∷ [])) (λ j. (number j, reply_is j))
-          (found_set roles log (entry (suc i) (model.Find k) y ∷ []) i x inv.found (λ j ne. one_other (suc i) (suc j) (model.Find k) y (λ z. ne (omega arith)))
+          (found_set roles log (entry (suc i) (model.Find k) y ∷ []) i x is_core.found (λ j ne. one_other (suc i) (suc j) (model.Find k) y (λ z. ne (omega arith)))
           (λ s rows b is. (k, entries_of log (suc i), of-append (suc i) log (entry (suc i) (model.Find k) y ∷ []) ∙ ap (λ (l : List Entry). entries_of log (suc i) ++ l) (one_same (suc i) (suc i) (model.Find k) y refl ∙ ap (λ (a : Reply). entry (suc i) (model.Find k) a ∷ []) (replied s rows b is)))));
     } in
     ⊎_elim
@@ -80,8 +80,8 @@ after_arrive state log r k inv ok = let shape = state.shape in let words = state
     finish Nothing reply.Hole a.1 a.2 (ap (λ v. cond v (hold.On (slot_of w) None) hold.Nothing) (names_none w a.0)) (λ s rows b is. absurd (no_grip s rows b is)))
     t.told
 
-pub after_ask : (state : State) (log : List Entry) (r k : ℕ) → Inv state log → refusal state (Ask r k) ≡ None → Inv (moved state (Ask r k)) (log ++ told state (Ask r k))
-after_ask state log r k inv ok = let shape = state.shape in let words = state.words in let roles = inv.roles in let core = inv.core in let f = inv.fit in
+pub after_ask : (state : State) (log : List Entry) (r k : ℕ) → IsCoreState state log → refusal state (Ask r k) ≡ None → IsCoreState (moved state (Ask r k)) (log ++ told state (Ask r k))
+after_ask state log r k is_core ok = let shape = state.shape in let words = state.words in let roles = is_core.roles in let core = is_core.core in let f = is_core.fit in
     let g = guard (has_reader shape r && has_key shape k) (if_holding (get_or state.holds (r - 1) hold.Nothing)) refuse.OutOfRange ok in
     let b = both (has_reader shape r) (has_key shape k) g.0 in let near : k < shape.keys = ltb-true k shape.keys b.1 in let in_r = reader_in shape r b.0 in let low_r = in_r.0 in let high_r = in_r.1 in
     let i : ℕ = r - 1 in let low : i < shape.readers = omega arith in let number : suc i ≡ r = omega arith in
@@ -97,7 +97,7 @@ after_ask state log r k inv ok = let shape = state.shape in let words = state.wo
       core = subst (λ (p : ℕ × Reply). Core shape words' roles (log ++ entry p.0 (model.Ask k) p.1 ∷ [])) (λ j. (number j, reply_is j)) c1;
       fit = f;
       found = subst (λ (p : ℕ × Reply). AllFound roles (log ++ entry p.0 (model.Ask k) p.1 ∷ [])) (λ j. (number j, reply_is j)) (subst (λ (l : List Role). AllFound l (log ++ entry (suc i) (model.Ask k) y ∷ [])) (set_again roles (suc i) (Reader (suc i) Nothing) there_is)
-          (found_set roles log (entry (suc i) (model.Ask k) y ∷ []) i Nothing inv.found (λ j ne. one_other (suc i) (suc j) (model.Ask k) y (λ z. ne (omega arith))) (λ s rows b is. absurd (no_grip s rows b is))));
+          (found_set roles log (entry (suc i) (model.Ask k) y ∷ []) i Nothing is_core.found (λ j ne. one_other (suc i) (suc j) (model.Ask k) y (λ z. ne (omega arith))) (λ s rows b is. absurd (no_grip s rows b is))));
     }
 
 pub is_held : (x : Grip) → if_not_holding (erased x) ≡ None → (s : ℕ) × (rows : List Row) × (b : Bool) × (x ≡ On s rows b)
@@ -112,24 +112,24 @@ readable i (On s rows b) e = (s, rows, b, refl, within b e)
     within true e = let g = guard (nat_le i (2 * length rows)) None refuse.OutOfRange e in let l : i ≤ 2 * length rows = leb-true i (2 * length rows) g.0 in let n = length-row_words rows in omega arith
     within false e = let g = guard (nat_eq i 0) None refuse.OutOfRange e in let l : i ≡ 0 = eqb-true i 0 g.0 in omega arith
 
-pub after_depart : (state : State) (log : List Entry) (r : ℕ) → Inv state log → refusal state (Depart r) ≡ None → Inv (moved state (Depart r)) (log ++ told state (Depart r))
-after_depart state log r inv ok = let shape = state.shape in let words = state.words in let roles = inv.roles in let core = inv.core in let f = inv.fit in
+pub after_depart : (state : State) (log : List Entry) (r : ℕ) → IsCoreState state log → refusal state (Depart r) ≡ None → IsCoreState (moved state (Depart r)) (log ++ told state (Depart r))
+after_depart state log r is_core ok = let shape = state.shape in let words = state.words in let roles = is_core.roles in let core = is_core.core in let f = is_core.fit in
     let g = guard (has_reader shape r) (if_not_holding (get_or state.holds (r - 1) hold.Nothing)) refuse.OutOfRange ok in
     let in_r = reader_in shape r g.0 in let low_r = in_r.0 in let high_r = in_r.1 in let i : ℕ = r - 1 in let low : i < shape.readers = omega arith in
     let o = f.readers i low in let x = is_held o.0 (ap if_not_holding (sym o.2) ∙ g.1) in let s = x.0 in let m = x.1 in let b = x.2 in
     let there_is : get_elem? roles (suc i) ≡ some (Reader (suc i) (On s m b)) = o.1 ∙ ap (λ (y : Grip). some (Reader (suc i) y)) x.3 in
     let holds_it : get_or state.holds i hold.Nothing ≡ erased (On s m b) = o.2 ∙ ap erased x.3 in
     let t = departs shape (suc i) (suc i) s m b words roles log core there_is in
-    let Result : ℕ → Type 0 = λ u. Inv (record { shape = shape; words = set words (departures shape u) ((get_or words (departures shape u) 0 + 1) % 2 ^ 64); holds = set state.holds i hold.Nothing; desk = state.desk }) (log ++ []) in
+    let Result : ℕ → Type 0 = λ u. IsCoreState (record { shape = shape; words = set words (departures shape u) ((get_or words (departures shape u) 0 + 1) % 2 ^ 64); holds = set state.holds i hold.Nothing; desk = state.desk }) (log ++ []) in
     subst (λ (y : Hold). Result (slot_in y)) (sym holds_it) (record {
       roles = set roles (suc i) (Reader (suc i) Nothing);
       core = subst (λ (p : Role × List Entry). Core shape (set words (departures shape s) ((get_or words (departures shape s) 0 + 1) % 2 ^ 64)) (set roles (suc i) p.0) (log ++ p.1)) (λ j. (t.told.0 j, t.told.1 j)) t.core;
       fit = fit_reader shape.readers roles state.holds state.desk f i low Nothing hold.Nothing refl;
-      found = found_set roles log [] i Nothing inv.found (λ _ _. refl) (λ s rows b is. absurd (no_grip s rows b is));
+      found = found_set roles log [] i Nothing is_core.found (λ _ _. refl) (λ s rows b is. absurd (no_grip s rows b is));
     })
 
-pub after_read : (state : State) (log : List Entry) (r p : ℕ) → Inv state log → refusal state (Read r p) ≡ None → Inv (moved state (Read r p)) (log ++ told state (Read r p))
-after_read state log r p inv ok = let shape = state.shape in let words = state.words in let roles = inv.roles in let core = inv.core in let f = inv.fit in
+pub after_read : (state : State) (log : List Entry) (r p : ℕ) → IsCoreState state log → refusal state (Read r p) ≡ None → IsCoreState (moved state (Read r p)) (log ++ told state (Read r p))
+after_read state log r p is_core ok = let shape = state.shape in let words = state.words in let roles = is_core.roles in let core = is_core.core in let f = is_core.fit in
     let g = guard (has_reader shape r) (if_unreadable p (get_or state.holds (r - 1) hold.Nothing)) refuse.OutOfRange ok in
     let in_r = reader_in shape r g.0 in let low_r = in_r.0 in let high_r = in_r.1 in let i : ℕ = r - 1 in let low : i < shape.readers = omega arith in
     let o = f.readers i low in let x = readable p o.0 (ap (if_unreadable p) (sym o.2) ∙ g.1) in let s = x.0 in let m = x.1 in let b = x.2 in
@@ -138,10 +138,10 @@ after_read state log r p inv ok = let shape = state.shape in let words = state.w
     let t = reads shape (suc i) (suc i) s m b p x.4 words roles log core there_is in let w : ℕ = get_or words (content shape s p) 0 in
     let known : hold.On s (cond (nat_eq p 0) (Some w) (cond b (Some (length m)) None)) ≡ erased (On s m b') = ap (hold.On s) (by_cases (λ v. (v ≡ true → p ≡ 0) → cond v (Some w) (cond b (Some (length m)) None) ≡ cond (cond v true b) (Some (length m)) None) (nat_eq p 0)
     (λ _ zero_so. ap (λ (n : ℕ). Some n) (t.told.0 ∙ ap (λ (n : ℕ). get_or (encode m) n 0) (zero_so refl))) (λ _ _. refl) (eqb-true p 0)) in
-    let Result : Hold → Type 0 = λ y. Inv (record { shape = shape; words = set words (content shape (slot_in y) p) (get_or words (content shape (slot_in y) p) 0); holds = set state.holds i (read_hold p (get_or words (content shape (slot_in y) p) 0) y); desk = state.desk }) (log ++ []) in
+    let Result : Hold → Type 0 = λ y. IsCoreState (record { shape = shape; words = set words (content shape (slot_in y) p) (get_or words (content shape (slot_in y) p) 0); holds = set state.holds i (read_hold p (get_or words (content shape (slot_in y) p) 0) y); desk = state.desk }) (log ++ []) in
     subst Result (sym holds_it) (record {
       roles = set roles (suc i) (Reader (suc i) (On s m b'));
       core = subst (λ (call : Role × List Entry). Core shape (set words (content shape s p) w) (set roles (suc i) call.0) (log ++ call.1)) (λ j. (t.told.1 j, t.told.2 j)) t.core;
       fit = fit_reader shape.readers roles state.holds state.desk f i low (On s m b') (hold.On s (cond (nat_eq p 0) (Some w) (cond b (Some (length m)) None))) known;
-      found = found_set roles log [] i (On s m b') inv.found (λ _ _. refl) (λ t rows a is. subst (λ (l : List Row). Found (log ++ []) (suc i) l) (same_rows s t m rows b' a is) (found_quiet log [] (suc i) m refl (inv.found i s m b there_is)));
+      found = found_set roles log [] i (On s m b') is_core.found (λ _ _. refl) (λ t rows a is. subst (λ (l : List Row). Found (log ++ []) (suc i) l) (same_rows s t m rows b' a is) (found_quiet log [] (suc i) m refl (is_core.found i s m b there_is)));
     })

@@ -6,8 +6,8 @@ use Rattle.nr_model.specs.Histories.{Entry}
 use Rattle.nr_core.proofs.Frames.{Left, desk_more, holding_more}
 use Rattle.nr_core.proofs.OffKeys.{no_writer}
 use Rattle.nr_core.proofs.Sums.{at_snoc, total-append}
-use Rattle.nr_core.specs.Roles.{held, holds, is_reader, is_writer, keeps}
 use Rattle.nr_core.specs.Core.{Core, Knows}
+use Rattle.nr_core.specs.Roles.{held, holds, is_reader, is_writer, keeps}
 use Rattle.nr_core.specs.Slots.{departures}
 use Rattle.nr_core.specs.Story.{map_after}
 use Rattle.nr_core.specs.Sums.{total}

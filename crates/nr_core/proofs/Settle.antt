@@ -17,8 +17,8 @@ use Rattle.nr_core.proofs.Frames.{unused-free}
 use Rattle.nr_core.proofs.Histories.{legal-more, replies_so, state_other, state_same}
 use Rattle.nr_core.proofs.OffKeys.{none_of}
 use Rattle.nr_core.proofs.Sums.{only-other, only-same}
-use Rattle.nr_core.specs.Roles.{held, keeps}
 use Rattle.nr_core.specs.Core.{AtDesk, Core, Wants}
+use Rattle.nr_core.specs.Roles.{held, keeps}
 use Rattle.nr_core.specs.Slots.{unused}
 use Rattle.nr_core.specs.States.{key_of}
 use Rattle.nr_core.specs.Story.{call_of, ending, entry, map_after}
@@ -86,20 +86,20 @@ module _ (shape : Shape) (words : List ℕ) (map : PartialMap) (hold : ℕ → �
       (λ yes. refl)
       (λ no. by_cases (λ v. ending c (cond {A = Desk × Step} v (moved_to desk Idle, no_slot shape desk) (moved_to desk (Searching call rows 0), Going)).1 ≡ []) (nat_eq (length desk.retired) 0) (λ _. refl) (λ _. refl))
 
-module _ (shape : Shape) (words : List ℕ) (roles : List Role) (log : List Entry) (core : Core shape words roles log) (id : ℕ) (desk : Desk) (is_there : get_elem? roles id ≡ some (Writer desk)) (i : ℕ) where
+module _ (shape : Shape) (words : List ℕ) (roles : List Role) (log : List Entry) (core : Core shape words roles log) (id : ℕ) (desk : Desk) (there : get_elem? roles id ≡ some (Writer desk)) (place : ℕ) where
   -- a step on a word that stays, which ends the call with a reply and changes no state
   pub ends : (desk' : Desk) (c : Call) (y : Reply) → call_key c < shape.keys → reply_at shape.bound c (state_of (map_after shape log) (call_key c)) ≡ y → state_after shape.bound c (state_of (map_after shape log) (call_key c)) ≡ state_of (map_after shape log) (call_key c)
-      → ((s : ℕ) → keeps s (Writer desk') ≡ keeps s (Writer desk)) → AtDesk shape words (map_after shape log) (held roles) desk' → Core shape (set words i (get_or words i 0)) (set roles id (Writer desk')) (log ++ entry 0 c y ∷ [])
-  ends desk' c y near replies stays same own = desk_step shape words roles log (entry 0 c y ∷ []) core id desk desk' i is_there (legal-more shape log (entry 0 c y) core.legal (sym (replies_so shape log c ∙ replies)))
+      → ((s : ℕ) → keeps s (Writer desk') ≡ keeps s (Writer desk)) → AtDesk shape words (map_after shape log) (held roles) desk' → Core shape (set words place (get_or words place 0)) (set roles id (Writer desk')) (log ++ entry 0 c y ∷ [])
+  ends desk' c y near replies stays same own = desk_step shape words roles log (entry 0 c y ∷ []) core id desk desk' place there (legal-more shape log (entry 0 c y) core.legal (sym (replies_so shape log c ∙ replies)))
       (λ j. dite (ℕ_discrete j (call_key c)) (λ e. ap (state_of (map_after shape (log ++ entry 0 c y ∷ []))) e ∙ state_same shape log (entry 0 c y) near ∙ stays ∙ ap (state_of (map_after shape log)) (sym e)) (λ ne. state_other shape log (entry 0 c y) j ne))
       (λ s _. same s) own
 
   -- a step on a word that stays, after which the call goes on or has no slot
-  pub goes_on : (desk' : Desk) → ((s : ℕ) → keeps s (Writer desk') ≡ keeps s (Writer desk)) → AtDesk shape words (map_after shape log) (held roles) desk' → Core shape (set words i (get_or words i 0)) (set roles id (Writer desk')) (log ++ [])
-  goes_on desk' same own = desk_step shape words roles log [] core id desk desk' i is_there (subst (IsLegal (opening_map shape.keys shape.bound)) (sym (append-nil log)) core.legal) (λ j. ap (λ l. state_of (map_after shape l) j) (append-nil log)) (λ s _. same s) own
+  pub goes_on : (desk' : Desk) → ((s : ℕ) → keeps s (Writer desk') ≡ keeps s (Writer desk)) → AtDesk shape words (map_after shape log) (held roles) desk' → Core shape (set words place (get_or words place 0)) (set roles id (Writer desk')) (log ++ [])
+  goes_on desk' same own = desk_step shape words roles log [] core id desk desk' place there (subst (IsLegal (opening_map shape.keys shape.bound)) (sym (append-nil log)) core.legal) (λ j. ap (λ l. state_of (map_after shape l) j) (append-nil log)) (λ s _. same s) own
 
   -- a call that finds a slot for its set, or polls, or has none
   pub settles : (call : WriterCall) (rows : List Row) → ((s : ℕ) → keeps s (Writer (moved_to desk Idle)) ≡ keeps s (Writer desk)) → Wants shape words (map_after shape log) (held roles) call rows
-      → Core shape (set words i (get_or words i 0)) (set roles id (Writer (settled shape desk call rows).0)) (log ++ ending (call_of call) (settled shape desk call rows).1)
-  settles call rows same wants = subst (λ (es : List Entry). Core shape (set words i (get_or words i 0)) (set roles id (Writer (settled shape desk call rows).0)) (log ++ es)) (sym (settle_quiet shape words (map_after shape log) (held roles) desk call rows (call_of call)))
-      (goes_on (settled shape desk call rows).0 (λ s. settle_keeps shape words (map_after shape log) (held roles) desk call rows s ∙ same s) (settle_desk shape words (map_after shape log) (held roles) desk call rows (idle_desk shape words (map_after shape log) (held roles) desk (core.knows id (Writer desk) is_there)) wants))
+      → Core shape (set words place (get_or words place 0)) (set roles id (Writer (settled shape desk call rows).0)) (log ++ ending (call_of call) (settled shape desk call rows).1)
+  settles call rows same wants = subst (λ (es : List Entry). Core shape (set words place (get_or words place 0)) (set roles id (Writer (settled shape desk call rows).0)) (log ++ es)) (sym (settle_quiet shape words (map_after shape log) (held roles) desk call rows (call_of call)))
+      (goes_on (settled shape desk call rows).0 (λ s. settle_keeps shape words (map_after shape log) (held roles) desk call rows s ∙ same s) (settle_desk shape words (map_after shape log) (held roles) desk call rows (idle_desk shape words (map_after shape log) (held roles) desk (core.knows id (Writer desk) there)) wants))

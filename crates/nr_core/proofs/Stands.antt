@@ -14,13 +14,13 @@ use Rattle.nr_words.specs.SetWords.{encode}
 use Rattle.nr_core.proofs.Guards.{guard}
 use Rattle.nr_core.proofs.Reach.{none_beyond}
 use Rattle.nr_core.proofs.Shown.{shown_is}
-use Rattle.nr_core.proofs.StateRoles.{Found, Inv, erased, state_sums}
+use Rattle.nr_core.proofs.StateRoles.{Found, IsCoreState, erased, state_sums}
 use Rattle.nr_core.proofs.Sums.{got_at, only-is, only-same, term_le}
-use Rattle.nr_core.specs.Roles.{held, holds, taken}
 use Rattle.nr_core.specs.Core.{AtPlace}
 use Rattle.nr_core.specs.Laws.{HoldsFound, Stands, map_of}
 use Rattle.nr_core.specs.Machine.{answer, found_by, read_answer}
 use Rattle.nr_core.specs.Refusals.{has_reader, if_beyond, if_unreadable, refusal}
+use Rattle.nr_core.specs.Roles.{held, holds, taken}
 use Rattle.nr_core.specs.Slots.{content, departures, unused}
 use Rattle.nr_core.specs.States.{Read, State, hold_of, no_retired, slot_in}
 use Rattle.nr_core.specs.Story.{Story}
@@ -78,11 +78,11 @@ reads_word state reader slot size rows index holds_it known spelt ok =
     ∙ ap (λ (y : Hold). Ok (get_or state.words (content state.shape (slot_in y) index) 0)) holds_it
     ∙ ap (λ (w : ℕ). Ok w) (spelt index low)
 
-pub holding : (story : Story) → Inv story.state story.history → (r s : ℕ) (n : Option ℕ) → 0 < r → hold_of story.state r ≡ hold.On s n → HoldsFound story r s n
-holding story inv r s n low e = let state = story.state in let size = inv.fit.size in let i : ℕ = r - 1 in let number : suc i ≡ r = omega arith in
+pub holding : (story : Story) → IsCoreState story.state story.history → (r s : ℕ) (n : Option ℕ) → 0 < r → hold_of story.state r ≡ hold.On s n → HoldsFound story r s n
+holding story is_core r s n low e = let state = story.state in let size = is_core.fit.size in let i : ℕ = r - 1 in let number : suc i ≡ r = omega arith in
     let within : i < state.shape.readers = dite (dec_le state.shape.readers i) (λ l. let z : 0 ≡ suc s = ap hold_number (sym (none_beyond state.holds i (omega arith)) ∙ e) in absurd (omega arith)) (λ l. omega arith) in
-    let o = inv.fit.readers i within in let x = erased_is o.0 s n (sym o.2 ∙ e) in let there_is : get_elem? inv.roles (suc i) ≡ some (Reader (suc i) (On s x.0 x.1)) = o.1 ∙ ap (λ (g : Grip). some (Reader (suc i) g)) x.2 in
-    let knows = inv.core.knows (suc i) (Reader (suc i) (On s x.0 x.1)) there_is in let found_it : Found story.history r x.0 = subst (λ (c : ℕ). Found story.history c x.0) number (inv.found i s x.0 x.1 there_is) in record {
+    let o = is_core.fit.readers i within in let x = erased_is o.0 s n (sym o.2 ∙ e) in let there_is : get_elem? is_core.roles (suc i) ≡ some (Reader (suc i) (On s x.0 x.1)) = o.1 ∙ ap (λ (g : Grip). some (Reader (suc i) g)) x.2 in
+    let knows = is_core.core.knows (suc i) (Reader (suc i) (On s x.0 x.1)) there_is in let found_it : Found story.history r x.0 = subst (λ (c : ℕ). Found story.history c x.0) number (is_core.found i s x.0 x.1 there_is) in record {
       at = found_it.0;
       rows = x.0;
       before = found_it.1;
@@ -94,14 +94,14 @@ holding story inv r s n low e = let state = story.state in let size = inv.fit.si
     }
 
 -- a reader that holds a slot is counted, and its slot is in range
-pub holder : (story : Story) (inv : Inv story.state story.history) → (r s : ℕ) (n : Option ℕ) → 0 < r → hold_of story.state r ≡ hold.On s n → (0 < held inv.roles s) × (s < story.state.shape.slots)
-holder story inv r s n low e = let state = story.state in let size = inv.fit.size in let i : ℕ = r - 1 in
+pub holder : (story : Story) (is_core : IsCoreState story.state story.history) → (r s : ℕ) (n : Option ℕ) → 0 < r → hold_of story.state r ≡ hold.On s n → (0 < held is_core.roles s) × (s < story.state.shape.slots)
+holder story is_core r s n low e = let state = story.state in let size = is_core.fit.size in let i : ℕ = r - 1 in
     let within : i < state.shape.readers = dite (dec_le state.shape.readers i) (λ l. let z : 0 ≡ suc s = ap hold_number (sym (none_beyond state.holds i (omega arith)) ∙ e) in absurd (omega arith)) (λ l. omega arith) in
-    let o = inv.fit.readers i within in let x = erased_is o.0 s n (sym o.2 ∙ e) in let there_is : get_elem? inv.roles (suc i) ≡ some (Reader (suc i) (On s x.0 x.1)) = o.1 ∙ ap (λ (g : Grip). some (Reader (suc i) g)) x.2 in
-    let part = term_le (holds s) inv.roles (suc i) (Reader (suc i) (On s x.0 x.1)) there_is in let one = only-same s in (omega arith, (inv.core.knows (suc i) (Reader (suc i) (On s x.0 x.1)) there_is).0)
+    let o = is_core.fit.readers i within in let x = erased_is o.0 s n (sym o.2 ∙ e) in let there_is : get_elem? is_core.roles (suc i) ≡ some (Reader (suc i) (On s x.0 x.1)) = o.1 ∙ ap (λ (g : Grip). some (Reader (suc i) g)) x.2 in
+    let part = term_le (holds s) is_core.roles (suc i) (Reader (suc i) (On s x.0 x.1)) there_is in let one = only-same s in (omega arith, (is_core.core.knows (suc i) (Reader (suc i) (On s x.0 x.1)) there_is).0)
 
-pub stands : (story : Story) → Inv story.state story.history → Stands story
-stands story inv = let state = story.state in let shape = state.shape in let core = inv.core in let roles = inv.roles in let sums = state_sums state roles inv.fit in let desk = core.knows 0 (Writer state.desk) inv.fit.writer in record {
+pub stands : (story : Story) → IsCoreState story.state story.history → Stands story
+stands story is_core = let state = story.state in let shape = state.shape in let core = is_core.core in let roles = is_core.roles in let sums = state_sums state roles is_core.fit in let desk = core.knows 0 (Writer state.desk) is_core.fit.writer in record {
   legal = core.legal;
   shows = shown_is state roles story.history core;
   accounted = record {
@@ -111,6 +111,6 @@ stands story inv = let state = story.state in let shape = state.shape in let cor
     unheld = λ s near mine. sym (sums s).0 ∙ dite (dec_le state.desk.fresh s) (λ l. (desk.free s l near).0)
         (λ l. let u : unused s state.desk.fresh ≡ 0 = ap (λ b. cond {A = ℕ} b 1 0) (lt-leb state.desk.fresh s (omega arith)) in taken_nobody shape state.words (map_of story) (held roles) state.desk.fresh state.desk.retired s state.desk.place desk.place (omega arith));
   };
-  held = λ r s n low e. holding story inv r s n low e;
+  held = λ r s n low e. holding story is_core r s n low e;
   sent = λ k near. sends_are_filled_lem shape.keys shape.bound k story.history core.legal near;
 }

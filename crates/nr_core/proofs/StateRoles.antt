@@ -12,8 +12,8 @@ use Rattle.nr_model.specs.declared.rows.Row.{Row}
 use Rattle.nr_core.proofs.Histories.{of-append}
 use Rattle.nr_core.proofs.Sums.{at_set}
 use Rattle.nr_core.specs.Accounts.{on}
-use Rattle.nr_core.specs.Roles.{grips, held, holds, keeps}
 use Rattle.nr_core.specs.Core.{Core}
+use Rattle.nr_core.specs.Roles.{grips, held, holds, keeps}
 use Rattle.nr_core.specs.States.{State}
 use Rattle.nr_core.specs.Story.{call_of, ending, ending_at, entry}
 use Rattle.nr_core.specs.Sums.{total}
@@ -83,7 +83,7 @@ Found log c rows = (k : ℕ) × (before : List Entry) × (entries_of log c ≡ b
 abbrev pub AllFound : List Role → List Entry → Type 0
 AllFound roles log = (j s : ℕ) (rows : List Row) (b : Bool) → get_elem? roles (suc j) ≡ some (Reader (suc j) (On s rows b)) → Found log (suc j) rows
 
-pub record Inv (state : State) (log : List Entry) : Type 0 where
+pub record IsCoreState (state : State) (log : List Entry) : Type 0 where
   pub roles : List Role
   pub core : Core state.shape state.words roles log
   pub fit : Fit state.shape.readers roles state.holds state.desk

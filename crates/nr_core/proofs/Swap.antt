@@ -13,8 +13,8 @@ use Rattle.nr_core.proofs.Frames.{Left, free_more, retired_more}
 use Rattle.nr_core.proofs.Histories.{legal-more, replies_so, state_other, state_same}
 use Rattle.nr_core.proofs.OnKey.{in_range}
 use Rattle.nr_core.proofs.Sums.{at_snoc, only-suc, only-zero, total-append, total-set}
-use Rattle.nr_core.specs.Roles.{held, holds, taken}
 use Rattle.nr_core.specs.Core.{AtDesk, Core, ShowsState}
+use Rattle.nr_core.specs.Roles.{held, holds, taken}
 use Rattle.nr_core.specs.Slots.{content, departures, name_number}
 use Rattle.nr_core.specs.Story.{entry, map_after, shown}
 use Rattle.nr_core.specs.Sums.{only, total}

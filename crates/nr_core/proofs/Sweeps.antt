@@ -1,4 +1,6 @@
 -- The polls of one call: the readers that they find are different.
+-- One reader is noted for each poll that finds its slot held (Notes). No slot is retired during a sweep, so a noted reader holds the noted slot, or none or a named one (keeps_notes);
+-- the next slot that is found held is another, and so is its reader (poll_noted, sweep_more). Every event keeps this (swept_event).
 use Rattle.std.proofs.Common.{List, [], ap, arith, cond, drop, get_or, get_or-set_other, get_or-set_same, inl, inr, length, map, nat_eq, refl, set, subst, suc, sym, take, zero, ℕ, ⊎_elim, ◌%◌, ◌*◌, ◌++◌, ◌+◌, ◌-◌, ◌/◌, ◌<◌, ◌^◌, ◌∙◌, ◌∷◌, ◌≡◌, ◌≢◌, ◌≤◌, ◌⊎◌}
 use Rattle.std.proofs.lemmas.Bool.{eqb-false, eqb-true, ltb-true}
 use Rattle.std.proofs.lemmas.List.{length-append, map-append}
@@ -20,14 +22,14 @@ use Rattle.nr_core.proofs.Guards.{both, guard, reader_in}
 use Rattle.nr_core.proofs.KeyWords.{name_high}
 use Rattle.nr_core.proofs.OnKey.{in_range}
 use Rattle.nr_core.proofs.Poll.{polls}
-use Rattle.nr_core.proofs.StateRoles.{Inv, state_sums}
+use Rattle.nr_core.proofs.StateRoles.{IsCoreState, state_sums}
 use Rattle.nr_core.proofs.Sums.{below-term, got_at, only-is, only-same, some_term, term_le, terms_le}
 use Rattle.nr_core.specs.Accounts.{on}
-use Rattle.nr_core.specs.Roles.{held}
 use Rattle.nr_core.specs.Core.{AtPlace}
 use Rattle.nr_core.specs.Machine.{moved, read_hold}
 use Rattle.nr_core.specs.Operations.{going, place_of}
 use Rattle.nr_core.specs.Refusals.{has_key, has_reader, if_holding, if_not_holding, if_unreadable, refusal}
+use Rattle.nr_core.specs.Roles.{held}
 use Rattle.nr_core.specs.Slots.{content, name_number, set_of}
 use Rattle.nr_core.specs.States.{Arrive, Ask, Depart, Event, Go, Read, Start, State, hold_of, key_of, no_retired, retired_at, slot_in}
 use Rattle.nr_core.specs.Story.{Poll, holders_from, is_on, map_after, poll_at, polls_after}
@@ -49,11 +51,11 @@ use Rattle.nr_core.specs.declared.calls.Refusal.TheVariants as refuse
 use Rattle.nr_model.specs.declared.calls.Reply.TheVariants as reply
 
 -- how often reader c, counted from 0, holds slot u, and how often u is retired
-abbrev pub at_of : State → ℕ → ℕ → ℕ
-at_of state c u = on u (get_or state.holds c hold.Nothing)
+abbrev pub holds_at : State → ℕ → ℕ → ℕ
+holds_at state c u = on u (get_or state.holds c hold.Nothing)
 
-abbrev pub ret_of : State → ℕ → ℕ
-ret_of state u = total (λ (x : Retired). only u x.slot) state.desk.retired
+abbrev pub retirements_of : State → ℕ → ℕ
+retirements_of state u = total (λ (x : Retired). only u x.slot) state.desk.retired
 
 -- A sweep that is about to poll the retired slot at p: each slot before it was found held, and one reader was noted for each. The readers are different, and each holds its noted slot, or one that is not retired.
 pub record Notes (state : State) (polls : List Poll) (p : ℕ) : Type 0 where
@@ -62,7 +64,7 @@ pub record Notes (state : State) (polls : List Poll) (p : ℕ) : Type 0 where
   pub polled : length polls ≡ p
   pub slots : map (λ (x : Poll). x.slot) polls ≡ map (λ (x : Retired). x.slot) (take p state.desk.retired)
   pub which : (i s c : ℕ) → get_elem? notes i ≡ some (s, c) → (c < state.shape.readers) × (i < p) × ((get_or state.desk.retired i no_retired).slot ≡ s)
-  pub noted : Noted (at_of state) (ret_of state) notes
+  pub noted : Noted (holds_at state) (retirements_of state) notes
   pub distinct : Distinct notes
 
 abbrev pub AtSweep : State → List Poll → Place → Type 0
@@ -79,7 +81,7 @@ pub record Swept (state : State) (polls : List Poll) : Type 0 where
 
 -- a reader's step keeps a sweep: who comes to hold a slot holds one that is named
 keeps_notes : (state : State) (words : List ℕ) (hs : List Hold) (polls : List Poll) (p : ℕ)
-    → ((c u : ℕ) → 0 < on u (get_or hs c hold.Nothing) → (0 < at_of state c u) ⊎ (ret_of state u ≡ 0))
+    → ((c u : ℕ) → 0 < on u (get_or hs c hold.Nothing) → (0 < holds_at state c u) ⊎ (retirements_of state u ≡ 0))
     → Notes state polls p → Notes (record { shape = state.shape; words = words; holds = hs; desk = state.desk }) polls p
 keeps_notes state words hs polls p step n = record {
   notes = n.notes;
@@ -87,22 +89,22 @@ keeps_notes state words hs polls p step n = record {
   polled = n.polled;
   slots = n.slots;
   which = n.which;
-  noted = noted_step (at_of state) (λ c u. on u (get_or hs c hold.Nothing)) (ret_of state) n.notes step n.noted;
+  noted = noted_step (holds_at state) (λ c u. on u (get_or hs c hold.Nothing)) (retirements_of state) n.notes step n.noted;
   distinct = n.distinct;
 }
 
 -- a slot that a key names is not retired
-named_not_retired : (state : State) (log : List Entry) → Inv state log → (k u : ℕ) → k < state.shape.keys → name_number (get_or state.words k 0) ≡ suc u → ret_of state u ≡ 0
-named_not_retired state log inv k u near names = let shape = state.shape in let inside = in_range shape state.words (get_or state.words k 0) (state_of (map_after shape log) k) u (inv.core.shows k near) names in
-    omega (arith, inv.core.places u inside, (state_sums state inv.roles inv.fit u).1, below-term (λ j. only (suc u) (name_number (get_or state.words j 0))) shape.keys k near, ap (only (suc u)) names, only-same (suc u))
+named_not_retired : (state : State) (log : List Entry) → IsCoreState state log → (k u : ℕ) → k < state.shape.keys → name_number (get_or state.words k 0) ≡ suc u → retirements_of state u ≡ 0
+named_not_retired state log is_core k u near names = let shape = state.shape in let inside = in_range shape state.words (get_or state.words k 0) (state_of (map_after shape log) k) u (is_core.core.shows k near) names in
+    omega (arith, is_core.core.places u inside, (state_sums state is_core.roles is_core.fit u).1, below-term (λ j. only (suc u) (name_number (get_or state.words j 0))) shape.keys k near, ap (only (suc u)) names, only-same (suc u))
 
-arrive_step : (state : State) (log : List Entry) → Inv state log → (r k : ℕ) → r - 1 < length state.holds → k < state.shape.keys → (c u : ℕ)
-    → 0 < on u (get_or (set state.holds (r - 1) (cond (is_filled (get_or state.words k 0)) (hold.On (slot_of (get_or state.words k 0)) None) hold.Nothing)) c hold.Nothing) → (0 < at_of state c u) ⊎ (ret_of state u ≡ 0)
-arrive_step state log inv r k within near c u = let w = get_or state.words k 0 in let x = cond (is_filled w) (hold.On (slot_of w) None) hold.Nothing in
+arrive_step : (state : State) (log : List Entry) → IsCoreState state log → (r k : ℕ) → r - 1 < length state.holds → k < state.shape.keys → (c u : ℕ)
+    → 0 < on u (get_or (set state.holds (r - 1) (cond (is_filled (get_or state.words k 0)) (hold.On (slot_of (get_or state.words k 0)) None) hold.Nothing)) c hold.Nothing) → (0 < holds_at state c u) ⊎ (retirements_of state u ≡ 0)
+arrive_step state log is_core r k within near c u = let w = get_or state.words k 0 in let x = cond (is_filled w) (hold.On (slot_of w) None) hold.Nothing in
     dite (ℕ_discrete c (r - 1))
     (λ same. let is : get_or (set state.holds (r - 1) x) c hold.Nothing ≡ x = ap (λ (j : ℕ). get_or (set state.holds (r - 1) x) j hold.Nothing) same ∙ get_or-set_same state.holds (r - 1) x hold.Nothing within in
-    λ more. inr (by_cases (λ v. is_filled w ≡ v → 0 < on u (cond v (hold.On (slot_of w) None) hold.Nothing) → ret_of state u ≡ 0) (is_filled w)
-    (λ yes filled_so more'. let slot_is : slot_of w ≡ u = only-is u (slot_of w) more' in let two : w / 2 % 2 ≡ 1 = eqb-true (w / 2 % 2) 1 yes in let n = name_high w two in named_not_retired state log inv k u near (omega arith))
+    λ more. inr (by_cases (λ v. is_filled w ≡ v → 0 < on u (cond v (hold.On (slot_of w) None) hold.Nothing) → retirements_of state u ≡ 0) (is_filled w)
+    (λ yes filled_so more'. let slot_is : slot_of w ≡ u = only-is u (slot_of w) more' in let two : w / 2 % 2 ≡ 1 = eqb-true (w / 2 % 2) 1 yes in let n = name_high w two in named_not_retired state log is_core k u near (omega arith))
     (λ no _ more'. absurd (omega arith)) refl (subst (λ (y : Hold). 0 < on u y) is more)))
     (λ other. λ more. inl (subst (λ (y : Hold). 0 < on u y) (get_or-set_other state.holds (r - 1) c x hold.Nothing other) more))
 
@@ -112,17 +114,17 @@ one_hold hold.Nothing u s a b = absurd (omega arith)
 one_hold (hold.On t n) u s a b = sym (only-is u t a) ∙ only-is s t b
 
 -- a poll that found its slot held: some reader holds it, who was not noted
-poll_noted : (state : State) (log : List Entry) (polls : List Poll) (p c : ℕ) → Inv state log → p < length state.desk.retired → c < state.shape.readers → (n : Notes state polls p)
-    → let s = (get_or state.desk.retired p no_retired).slot in 0 < at_of state c s
-    → Noted (at_of state) (ret_of state) (n.notes ++ (s, c) ∷ []) × Distinct (n.notes ++ (s, c) ∷ [])
-poll_noted state log polls p c inv within near n here =
+poll_noted : (state : State) (log : List Entry) (polls : List Poll) (p c : ℕ) → IsCoreState state log → p < length state.desk.retired → c < state.shape.readers → (n : Notes state polls p)
+    → let s = (get_or state.desk.retired p no_retired).slot in 0 < holds_at state c s
+    → Noted (holds_at state) (retirements_of state) (n.notes ++ (s, c) ∷ []) × Distinct (n.notes ++ (s, c) ∷ [])
+poll_noted state log polls p c is_core within near n here =
     let l = state.desk.retired in let z = get_or l p no_retired in let s = z.slot in let g : Retired → ℕ = λ x. only s x.slot in
     let at_p : get_elem? l p ≡ some z = got_at l p no_retired within in let one = only-same s in let part = term_le g l p z at_p in
-    let desk = inv.core.knows 0 (Writer state.desk) inv.fit.writer in let inside = (desk.retired p z at_p).0 in
-    noted_poll (at_of state) (ret_of state) n.notes s c n.noted n.distinct here (omega arith)
+    let desk = is_core.core.knows 0 (Writer state.desk) is_core.fit.writer in let inside = (desk.retired p z at_p).0 in
+    noted_poll (holds_at state) (retirements_of state) n.notes s c n.noted n.distinct here (omega arith)
     (λ i desk e. let w = n.which i s desk e in let low = w.1 in let x = get_or l i no_retired in let at_i : get_elem? l i ≡ some x = got_at l i no_retired (omega arith) in
     let both_there = terms_le g l i p x z (λ call. omega arith) at_i at_p in let again : only s x.slot ≡ 1 = ap (only s) w.2 ∙ one in
-    absurd (omega (arith, inv.core.places s inside, (state_sums state inv.roles inv.fit s).1)))
+    absurd (omega (arith, is_core.core.places s inside, (state_sums state is_core.roles is_core.fit s).1)))
     (λ u more. one_hold (get_or state.holds c hold.Nothing) u s more here)
 
 at_end : {A : Type 0} (l : List A) (a b : A) (j : ℕ) → get_elem? (l ++ a ∷ []) j ≡ some b → (get_elem? l j ≡ some b) ⊎ ((j ≡ length l) × (a ≡ b))
@@ -139,11 +141,11 @@ polled_slots state polls p within slots = let plus_one : p + 1 ≡ suc p = omega
     ∙ sym (ap (λ (j : ℕ). map (λ (x : Retired). x.slot) (take j state.desk.retired)) plus_one ∙ ap (map (λ (x : Retired). x.slot)) (take-suc state.desk.retired p no_retired within) ∙ map-append (λ (x : Retired). x.slot) (take p state.desk.retired) (get_or state.desk.retired p no_retired ∷ []))
 
 -- a sweep goes on by a slot that was found held, and its polls are no more than the readers
-sweep_more : (state : State) (log : List Entry) (polls : List Poll) (p c : ℕ) → Inv state log → p < length state.desk.retired → c < state.shape.readers → Notes state polls p
-    → 0 < at_of state c (get_or state.desk.retired p no_retired).slot → (desk : Desk) → desk.retired ≡ state.desk.retired
+sweep_more : (state : State) (log : List Entry) (polls : List Poll) (p c : ℕ) → IsCoreState state log → p < length state.desk.retired → c < state.shape.readers → Notes state polls p
+    → 0 < holds_at state c (get_or state.desk.retired p no_retired).slot → (desk : Desk) → desk.retired ≡ state.desk.retired
     → Notes state (polls ++ poll_at state p ∷ []) (p + 1) × (p + 1 ≤ state.shape.readers)
-sweep_more state log polls p c inv within near n here desk same =
-    let s = (get_or state.desk.retired p no_retired).slot in let t = poll_noted state log polls p c inv within near n here in let size = n.size in let polled = n.polled in
+sweep_more state log polls p c is_core within near n here desk same =
+    let s = (get_or state.desk.retired p no_retired).slot in let t = poll_noted state log polls p c is_core within near n here in let size = n.size in let polled = n.polled in
     let notes' : List (ℕ × ℕ) = n.notes ++ (s, c) ∷ [] in let longer : length notes' ≡ length n.notes + 1 = length-append n.notes ((s, c) ∷ []) in
     let which' : (i u b : ℕ) → get_elem? notes' i ≡ some (u, b) → (b < state.shape.readers) × (i < p + 1) × ((get_or state.desk.retired i no_retired).slot ≡ u)
     = λ i u b e. ⊎_elim {A = get_elem? n.notes i ≡ some (u, b)} {B = (i ≡ length n.notes) × ((s, c) ≡ (u, b))}
@@ -165,7 +167,7 @@ sweep_more state log polls p c inv within near n here desk same =
 
 -- EVERY EVENT KEEPS A SWEEP
 
-reader_swept : (state : State) (words : List ℕ) (hs : List Hold) (polls : List Poll) → ((c u : ℕ) → 0 < on u (get_or hs c hold.Nothing) → (0 < at_of state c u) ⊎ (ret_of state u ≡ 0)) → Swept state polls → Swept (record { shape = state.shape; words = words; holds = hs; desk = state.desk }) polls
+reader_swept : (state : State) (words : List ℕ) (hs : List Hold) (polls : List Poll) → ((c u : ℕ) → 0 < on u (get_or hs c hold.Nothing) → (0 < holds_at state c u) ⊎ (retirements_of state u ≡ 0)) → Swept state polls → Swept (record { shape = state.shape; words = words; holds = hs; desk = state.desk }) polls
 reader_swept state words hs polls step s = record { few = s.few; sweep = go state.desk.place s.sweep; held = s.held }
   where
     go : (p : Place) → AtSweep state polls p → AtSweep (record { shape = state.shape; words = words; holds = hs; desk = state.desk }) polls p
@@ -175,9 +177,9 @@ reader_swept state words hs polls step s = record { few = s.few; sweep = go stat
     go (Searching call rows p) t = keeps_notes state words hs polls p step t
     go (Putting call rows u departed i) t = tt
 
-other_reader : (state : State) (i : ℕ) (x : Hold) → i < length state.holds → ((u : ℕ) → 0 < on u x → 0 < at_of state i u) → (c u : ℕ) → 0 < on u (get_or (set state.holds i x) c hold.Nothing) → (0 < at_of state c u) ⊎ (ret_of state u ≡ 0)
+other_reader : (state : State) (i : ℕ) (x : Hold) → i < length state.holds → ((u : ℕ) → 0 < on u x → 0 < holds_at state i u) → (c u : ℕ) → 0 < on u (get_or (set state.holds i x) c hold.Nothing) → (0 < holds_at state c u) ⊎ (retirements_of state u ≡ 0)
 other_reader state i x within own c u = dite (ℕ_discrete c i)
-    (λ same. λ more. inl (subst (λ (j : ℕ). 0 < at_of state j u) (sym same) (own u (subst (λ (y : Hold). 0 < on u y) (ap (λ (j : ℕ). get_or (set state.holds i x) j hold.Nothing) same ∙ get_or-set_same state.holds i x hold.Nothing within) more))))
+    (λ same. λ more. inl (subst (λ (j : ℕ). 0 < holds_at state j u) (sym same) (own u (subst (λ (y : Hold). 0 < on u y) (ap (λ (j : ℕ). get_or (set state.holds i x) j hold.Nothing) same ∙ get_or-set_same state.holds i x hold.Nothing within) more))))
     (λ ne. λ more. inl (subst (λ (y : Hold). 0 < on u y) (get_or-set_other state.holds i c x hold.Nothing ne) more))
 
 read_same : (i w u : ℕ) (x : Hold) → on u (read_hold i w x) ≡ on u x
@@ -242,27 +244,27 @@ abbrev has_holder : Poll → Type 0
 has_holder x = 0 < length x.holders
 
 -- the writer's step after its look
-go_swept : (state : State) (log : List Entry) (polls : List Poll) → Inv state log → Swept state polls → (p : Place) → state.desk.place ≡ p → (w : ℕ) → w ≡ get_or state.words (place_of (going state.shape state.desk p)) 0 → (words : List ℕ)
+go_swept : (state : State) (log : List Entry) (polls : List Poll) → IsCoreState state log → Swept state polls → (p : Place) → state.desk.place ≡ p → (w : ℕ) → w ≡ get_or state.words (place_of (going state.shape state.desk p)) 0 → (words : List ℕ)
     → let desk' = (went state.shape state.desk p w).0 in Swept (record { shape = state.shape; words = words; holds = state.holds; desk = desk' })
     (elim p as (λ _. List Poll) [ Idle ↦ polls | Reading call s got ↦ polls | Leaving k ↦ polls | Searching call rows i ↦ cond (nat_eq (w % 2 ^ 40) ((retired_at state.desk i).arrivals % 2 ^ 40)) polls (polls ++ poll_at state i ∷ []) | Putting call rows s e i ↦ polls ])
-go_swept state log polls inv s Idle is w w_is words = record { few = s.few; sweep = subst (λ (p : Place). AtSweep (with_desk state.shape words state.holds state.desk) polls p) (sym is) tt; held = s.held }
-go_swept state log polls inv s (Reading call t got) is w w_is words = record { few = s.few; sweep = read_good state.shape words state.holds state.desk call t (got ++ w ∷ []) polls (subst (AtSweep state polls) is s.sweep); held = s.held }
-go_swept state log polls inv s (Leaving k) is w w_is words = record { few = s.few; sweep = tt; held = s.held }
-go_swept state log polls inv s (Putting call rows t e i) is w w_is words = record { few = s.few; sweep = by_cases (λ v. Good state.shape words state.holds polls (cond {A = Desk × Step} v (moved_to state.desk (Putting call rows t e (i + 1)), Going) (swapped state.desk w, ended reply.Done))) (nat_le i (2 * length rows)) (λ _. tt) (λ _. tt); held = s.held }
-go_swept state log polls inv sw (Searching call rows p) is w w_is words =
+go_swept state log polls is_core s Idle is w w_is words = record { few = s.few; sweep = subst (λ (p : Place). AtSweep (with_desk state.shape words state.holds state.desk) polls p) (sym is) tt; held = s.held }
+go_swept state log polls is_core s (Reading call t got) is w w_is words = record { few = s.few; sweep = read_good state.shape words state.holds state.desk call t (got ++ w ∷ []) polls (subst (AtSweep state polls) is s.sweep); held = s.held }
+go_swept state log polls is_core s (Leaving k) is w w_is words = record { few = s.few; sweep = tt; held = s.held }
+go_swept state log polls is_core s (Putting call rows t e i) is w w_is words = record { few = s.few; sweep = by_cases (λ v. Good state.shape words state.holds polls (cond {A = Desk × Step} v (moved_to state.desk (Putting call rows t e (i + 1)), Going) (swapped state.desk w, ended reply.Done))) (nat_le i (2 * length rows)) (λ _. tt) (λ _. tt); held = s.held }
+go_swept state log polls is_core sw (Searching call rows p) is w w_is words =
     let shape = state.shape in let desk = state.desk in let z = get_or desk.retired p no_retired in let s = z.slot in let n : Notes state polls p = subst (AtSweep state polls) is sw.sweep in
-    let known = inv.core.knows 0 (Writer desk) inv.fit.writer in
-    let at_p : AtPlace shape state.words (map_after shape log) (held inv.roles) desk.fresh desk.retired (Searching call rows p) = subst (AtPlace shape state.words (map_after shape log) (held inv.roles) desk.fresh desk.retired) is known.place in let within = at_p.1 in
+    let known = is_core.core.knows 0 (Writer desk) is_core.fit.writer in
+    let at_p : AtPlace shape state.words (map_after shape log) (held is_core.roles) desk.fresh desk.retired (Searching call rows p) = subst (AtPlace shape state.words (map_after shape log) (held is_core.roles) desk.fresh desk.retired) is known.place in let within = at_p.1 in
     let count = (known.retired p z (got_at desk.retired p no_retired within)).1 in
     let Taken : Desk = record { place = Putting call rows s w 0; fresh = desk.fresh; retired = take p desk.retired ++ drop (suc p) desk.retired } in
     let Rest : Desk × Step = cond {A = Desk × Step} (nat_lt (p + 1) (length desk.retired)) (moved_to desk (Searching call rows (p + 1)), Going) (moved_to desk Idle, no_slot shape desk) in
     by_cases (λ v. Swept (with_desk shape words state.holds (cond {A = Desk × Step} v (Taken, Going) Rest).0) (cond v polls (polls ++ poll_at state p ∷ []))) (nat_eq (w % 2 ^ 40) (z.arrivals % 2 ^ 40))
     (λ _. record { few = sw.few; sweep = tt; held = sw.held })
     (λ no. let miss : w % 2 ^ 40 ≢ z.arrivals % 2 ^ 40 = eqb-false (w % 2 ^ 40) (z.arrivals % 2 ^ 40) no in
-    let held_there : 0 < total (on s) state.holds = omega (arith, (state_sums state inv.roles inv.fit s).0) in
-    let who = some_term (on s) state.holds held_there in let got = got_or state.holds who.0 who.1 who.2 in let size = inv.fit.size in let low = got.1 in
-    let here : 0 < at_of state who.0 s = subst (λ (x : Hold). 0 < on s x) (sym got.0) who.3 in
-    let more = sweep_more state log polls p who.0 inv within (omega arith) n here desk refl in let few = more.1 in let polled = n.polled in
+    let held_there : 0 < total (on s) state.holds = omega (arith, (state_sums state is_core.roles is_core.fit s).0) in
+    let who = some_term (on s) state.holds held_there in let got = got_or state.holds who.0 who.1 who.2 in let size = is_core.fit.size in let low = got.1 in
+    let here : 0 < holds_at state who.0 s = subst (λ (x : Hold). 0 < on s x) (sym got.0) who.3 in
+    let more = sweep_more state log polls p who.0 is_core within (omega arith) n here desk refl in let few = more.1 in let polled = n.polled in
     record {
       few = omega (arith, length-append polls (poll_at state p ∷ []));
       sweep = by_cases (λ v. Good shape words state.holds (polls ++ poll_at state p ∷ []) (cond {A = Desk × Step} v (moved_to desk (Searching call rows (p + 1)), Going) (moved_to desk Idle, no_slot shape desk))) (nat_lt (p + 1) (length desk.retired))
@@ -270,16 +272,16 @@ go_swept state log polls inv sw (Searching call rows p) is w w_is words =
       held = all_more has_holder polls (poll_at state p) (record { slot = 0; holders = [] }) sw.held (some_holder s state.holds 1 held_there);
     })
 
-pub swept_event : (state : State) (log : List Entry) (polls : List Poll) (event : Event) → Inv state log → Swept state polls → refusal state event ≡ None → Swept (moved state event) (polls_after state polls event)
-swept_event state log polls (Arrive r k) inv s ok =
-    let g = guard (has_reader state.shape r && has_key state.shape k) (if_holding (hold_of state r)) refuse.OutOfRange ok in let b = both (has_reader state.shape r) (has_key state.shape k) g.0 in let i = reader_in state.shape r b.0 in let lo = i.0 in let hi = i.1 in let size = inv.fit.size in
-    reader_swept state (moved state (Arrive r k)).words (moved state (Arrive r k)).holds polls (arrive_step state log inv r k (omega arith) (ltb-true k state.shape.keys b.1)) s
-swept_event state log polls (Ask r k) inv s ok = reader_swept state (moved state (Ask r k)).words state.holds polls (λ c u more. inl more) s
-swept_event state log polls (Read r p) inv s ok =
-    let g = guard (has_reader state.shape r) (if_unreadable p (hold_of state r)) refuse.OutOfRange ok in let i = reader_in state.shape r g.0 in let lo = i.0 in let hi = i.1 in let size = inv.fit.size in let w = get_or state.words (content state.shape (slot_in (hold_of state r)) p) 0 in
+pub swept_event : (state : State) (log : List Entry) (polls : List Poll) (event : Event) → IsCoreState state log → Swept state polls → refusal state event ≡ None → Swept (moved state event) (polls_after state polls event)
+swept_event state log polls (Arrive r k) is_core s ok =
+    let g = guard (has_reader state.shape r && has_key state.shape k) (if_holding (hold_of state r)) refuse.OutOfRange ok in let b = both (has_reader state.shape r) (has_key state.shape k) g.0 in let i = reader_in state.shape r b.0 in let lo = i.0 in let hi = i.1 in let size = is_core.fit.size in
+    reader_swept state (moved state (Arrive r k)).words (moved state (Arrive r k)).holds polls (arrive_step state log is_core r k (omega arith) (ltb-true k state.shape.keys b.1)) s
+swept_event state log polls (Ask r k) is_core s ok = reader_swept state (moved state (Ask r k)).words state.holds polls (λ c u more. inl more) s
+swept_event state log polls (Read r p) is_core s ok =
+    let g = guard (has_reader state.shape r) (if_unreadable p (hold_of state r)) refuse.OutOfRange ok in let i = reader_in state.shape r g.0 in let lo = i.0 in let hi = i.1 in let size = is_core.fit.size in let w = get_or state.words (content state.shape (slot_in (hold_of state r)) p) 0 in
     reader_swept state (moved state (Read r p)).words (moved state (Read r p)).holds polls (other_reader state (r - 1) (read_hold p w (hold_of state r)) (omega arith) (λ u more. omega (arith, read_same p w u (hold_of state r)))) s
-swept_event state log polls (Depart r) inv s ok =
-    let g = guard (has_reader state.shape r) (if_not_holding (hold_of state r)) refuse.OutOfRange ok in let i = reader_in state.shape r g.0 in let lo = i.0 in let hi = i.1 in let size = inv.fit.size in
+swept_event state log polls (Depart r) is_core s ok =
+    let g = guard (has_reader state.shape r) (if_not_holding (hold_of state r)) refuse.OutOfRange ok in let i = reader_in state.shape r g.0 in let lo = i.0 in let hi = i.1 in let size = is_core.fit.size in
     reader_swept state (moved state (Depart r)).words (moved state (Depart r)).holds polls (other_reader state (r - 1) hold.Nothing (omega arith) (λ u more. absurd (omega arith))) s
-swept_event state log polls (Start call) inv s ok = record { few = omega arith; sweep = look_good state.shape (moved state (Start call)).words state.holds state.desk call (get_or state.words (key_of call) 0); held = λ i low. absurd (omega arith) }
-swept_event state log polls Go inv s ok = go_swept state log polls inv s state.desk.place refl (get_or state.words (place_of (going state.shape state.desk state.desk.place)) 0) refl (moved state Go).words
+swept_event state log polls (Start call) is_core s ok = record { few = omega arith; sweep = look_good state.shape (moved state (Start call)).words state.holds state.desk call (get_or state.words (key_of call) 0); held = λ i low. absurd (omega arith) }
+swept_event state log polls Go is_core s ok = go_swept state log polls is_core s state.desk.place refl (get_or state.words (place_of (going state.shape state.desk state.desk.place)) 0) refl (moved state Go).words

@@ -7,8 +7,8 @@ use Rattle.nr_model.specs.Maps.{reply_at, state_after}
 use Rattle.nr_model.specs.declared.states.KeyState.{KeyState}
 use Rattle.nr_core.proofs.Sums.{only-zero}
 use Rattle.nr_core.proofs.Swap.{swap_step}
-use Rattle.nr_core.specs.Roles.{held, taken}
 use Rattle.nr_core.specs.Core.{AtPlace, Core, ShowsState}
+use Rattle.nr_core.specs.Roles.{held, taken}
 use Rattle.nr_core.specs.Story.{entry, map_after}
 use Rattle.nr_core.specs.Writer.{swapped}
 use Rattle.nr_core.specs.declared.places.Place.TheVariants.{Leaving}
@@ -19,9 +19,9 @@ use Rattle.nr_core.specs.declared.shape.Shape.{Shape}
 use Rattle.nr_model.specs.declared.calls.Call.TheVariants as model
 use Rattle.nr_model.specs.declared.calls.Reply.TheVariants as reply
 
-pub unpublishes : (shape : Shape) (words : List ℕ) (roles : List Role) (log : List Entry) (core : Core shape words roles log) (id : ℕ) (desk : Desk) → get_elem? roles id ≡ some (Writer desk) → (k : ℕ) → desk.place ≡ Leaving k
-    → Core shape (set words k 0) (set roles id (Writer (swapped desk (get_or words k 0)))) (log ++ entry 0 (model.Evict k) reply.Evicted ∷ [])
-unpublishes shape words roles log core id desk is_there k is_at = let t = core.knows id (Writer desk) is_there in let map = map_after shape log in
-    let p : AtPlace shape words map (held roles) desk.fresh desk.retired (Leaving k) = subst (AtPlace shape words map (held roles) desk.fresh desk.retired) is_at t.place in let r = p.1 in
-    swap_step shape words roles log core id desk is_there k 0 (model.Evict k) reply.Evicted r.near refl (ap (reply_at shape.bound (model.Evict k)) r.full) (subst (λ (z : KeyState). ShowsState shape words 0 z) (sym (ap (state_after shape.bound (model.Evict k)) r.full)) (refl, refl))
+pub unpublishes : (shape : Shape) (words : List ℕ) (roles : List Role) (log : List Entry) (core : Core shape words roles log) (id : ℕ) (desk : Desk) → get_elem? roles id ≡ some (Writer desk) → (at : ℕ) → desk.place ≡ Leaving at
+    → Core shape (set words at 0) (set roles id (Writer (swapped desk (get_or words at 0)))) (log ++ entry 0 (model.Evict at) reply.Evicted ∷ [])
+unpublishes shape words roles log core id desk there at is_at = let known = core.knows id (Writer desk) there in let map = map_after shape log in
+    let p : AtPlace shape words map (held roles) desk.fresh desk.retired (Leaving at) = subst (AtPlace shape words map (held roles) desk.fresh desk.retired) is_at known.place in let r = p.1 in
+    swap_step shape words roles log core id desk there at 0 (model.Evict at) reply.Evicted r.near refl (ap (reply_at shape.bound (model.Evict at)) r.full) (subst (λ (z : KeyState). ShowsState shape words 0 z) (sym (ap (state_after shape.bound (model.Evict at)) r.full)) (refl, refl))
     (λ s. ap (taken s) is_at ∙ sym (only-zero s)) (λ s e. absurd (omega arith))
