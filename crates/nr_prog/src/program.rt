@@ -55,7 +55,7 @@ fn tell<W: Write>(line: &[u8], writer: &mut W)
 }
 
 /// The line that the program writes of a fault.
-fn line_of(fault: RunFault) -> &'static [u8]
+pub(crate) fn line_of(fault: RunFault) -> &'static [u8]
     ensures { result.now ≡ line_of fault }
 {
     match fault {
