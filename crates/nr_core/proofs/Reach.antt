@@ -44,10 +44,6 @@ shape_kept state event = go (refusal state event)
     go None = refl
     go (Some why) = refl
 
--- no event leads to the opening
-pub reached_open : (shape : Shape) → IsShape shape → ∥ Reached (opening shape) ∥₁
-reached_open shape fits = ∣ record { events = []; shape = fits; given = tt; leads = refl } ∣₁
-
 reached_next : (state : State) (event : Event) → IsGiven state.shape.bound event → Reached state → Reached (next state event)
 reached_next state event given reached = let kept = shape_kept state event in record {
   events = reached.events ++ event ∷ [];
