@@ -1,13 +1,17 @@
+pub mod Attempts
 pub mod Counted
 pub mod Grammar
 pub mod Input
 pub mod Lines
+pub mod Opening
 pub mod Output
 pub mod Program
 pub mod Run
+pub mod Schedule
 pub mod Script
 pub mod ScriptMachine
 pub mod Spelling
+pub mod StepSpelling
 pub mod Strays
 pub mod Text
 pub mod Words

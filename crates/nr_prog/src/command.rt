@@ -187,7 +187,7 @@ fn filling(mut words: Words<'_>) -> Option<Command<'_>>
 }
 
 /// The set of the rows that the words spell, if each spells one.
-fn set(words: Words<'_>) -> Option<Result<RowSet, TooMany>>
+pub(crate) fn set(words: Words<'_>) -> Option<Result<RowSet, TooMany>>
     ensures { result ≡ option_map set_of (each row (words_left words.entry)) }
 {
     let mut kept = [Row { a: 0, b: 0 }; KEPT_ROWS];
@@ -211,7 +211,7 @@ fn updating(mut words: Words<'_>) -> Option<Command<'_>>
 }
 
 /// The batch of the signed rows that the words spell, if each spells one and they are 1 to 64.
-fn batch(words: Words<'_>) -> Option<Batch>
+pub(crate) fn batch(words: Words<'_>) -> Option<Batch>
     ensures { result ≡ option_and_then batch_of (each delta (words_left words.entry)) }
 {
     let mut kept = [Delta {

@@ -4,17 +4,23 @@
 #![tactic(auto)]
 
 mod answer;
+mod attempt;
 mod command;
 mod fault;
 mod input;
 mod line;
 mod machine;
 mod opened;
+mod opening;
 mod output;
 mod pin;
 mod program;
+mod schedule;
+mod schedule_machine;
 mod script;
 mod script_machine;
+mod step_answer;
+mod steps;
 #[cfg(test)]
 mod tests;
 mod words;
@@ -22,3 +28,4 @@ mod words;
 pub use fault::RunFault;
 pub use program::main_with;
 pub use script::{replies, run};
+pub use steps::run_steps;

@@ -145,7 +145,7 @@ fn is_in_limits(keys: u64, slots: u64, readers: u64) -> bool
         && readers <= MAX_READERS
 }
 
-fn is_plain(text: &[u8]) -> bool
+pub(crate) fn is_plain(text: &[u8]) -> bool
     ensures { result ≡ is_plain text.now }
 {
     text.len() <= LINE_LIMIT && !text.is_empty() && are_printed(text)
