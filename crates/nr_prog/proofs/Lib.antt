@@ -3,6 +3,7 @@ mod CountedLemmas
 mod InputLemmas
 mod KeptLemmas
 mod LineLemmas
+mod ProgramLemmas
 mod RunLemmas
 mod SpellingLemmas
 mod TextLemmas

@@ -1,5 +1,5 @@
 -- What the program writes of a fault.
-use Rattle.std.specs.Prelude.{ℕ, List, [], ◌∷◌, ◌++◌, codes, Option, Err}
+use Rattle.std.specs.Prelude.{ℕ, ◌≡◌, ◌⊎◌, List, [], ◌∷◌, ◌++◌, codes, Option, Ok, Err}
 use Rattle.nr_prog.specs.declared.fault.RunFault.{RunFault}
 use Rattle.nr_prog.specs.declared.fault.RunFault.TheVariants as faults
 use Rattle.nr_prog.specs.Lines.{line_feed}
@@ -17,3 +17,8 @@ line_of faults.TooMuch = codes "nr: the input is over 268435456 bytes" ++ line_f
 abbrev pub TellsFault : (List (List ℕ) → List ℕ) → ℕ → Option (List ℕ) → Option (List ℕ) → Option (List ℕ) → Option (List ℕ) → Type 0
 TellsFault text limit had left held holds =
     (fault : RunFault) × (ran : Option (List ℕ)) × Runs text limit (Err fault) had left held ran × AppendsSome ran holds (line_of fault)
+
+-- a run to the input's end, with status 0, or to a fault that is told, with status 1
+abbrev pub EndsRun : (List (List ℕ) → List ℕ) → ℕ → ℕ → Option (List ℕ) → Option (List ℕ) → Option (List ℕ) → Option (List ℕ) → Type 0
+EndsRun text limit status had left held holds =
+    ((status ≡ 0) × Runs text limit (Ok tt) had left held holds) ⊎ ((status ≡ 1) × TellsFault text limit had left held holds)

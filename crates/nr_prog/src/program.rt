@@ -1,13 +1,14 @@
 //! The program: what its arguments ask for, and what it tells of a fault.
-ghost use Rattle.std.specs.Prelude.{◌≡◌, ◌≢◌, [], Ok, Err};
-ghost use Rattle.nr_prog.specs.Program.{TellsFault, line_of};
-ghost use Rattle.nr_prog.specs.Run.{Runs};
+ghost use Rattle.std.specs.Prelude.{◌≡◌, ◌≢◌, [], ◌∷◌, map, codes, string_bytes, MatchResult};
+ghost use Rattle.nr_prog.specs.Program.{EndsRun, line_of};
 ghost use Rattle.nr_prog.specs.Output.{AppendsSome};
+ghost use Rattle.nr_prog.specs.Schedule.{schedule_text};
 ghost use Rattle.nr_prog.specs.Script.{script_text};
 
 use crate::fault::RunFault;
 use crate::output::write_all;
 use crate::script::{INPUT_LIMIT, run};
+use crate::steps::run_steps;
 use std::alloc::Global;
 use std::io::{Read, Write};
 use std::sync::Wait;
@@ -15,8 +16,9 @@ use std::thread::Threads;
 
 /// Runs what the words after the program's name ask for, and answers the exit status.
 ///
-/// Without words, a script from the reader to the writer: 0, or 1 after a fault, whose line it then
-/// writes as far as it can. With any word, the line on its usage and 2.
+/// Without words a script from the reader to the writer, with the word `steps` a schedule: 0, or 1
+/// after a fault, whose line it then writes as far as it can. With any other words, the line on its
+/// usage and 2.
 pub fn main_with<T: Threads + Wait, R: Read, W: Write>(
     rt: &T,
     alloc: Global,
@@ -24,18 +26,36 @@ pub fn main_with<T: Threads + Wait, R: Read, W: Write>(
     reader: &mut R,
     writer: &mut W,
 ) -> u8
-    ensures done { args.now ≡ [] → result ≡ 0 →
-        Runs script_text INPUT_LIMIT (Ok tt) (R.remaining reader.old) (R.remaining reader.new) (W.contents writer.old) (W.contents writer.new) }
-    ensures fault { args.now ≡ [] → result ≢ 0 → (result ≡ 1)
-        × TellsFault script_text INPUT_LIMIT (R.remaining reader.old) (R.remaining reader.new) (W.contents writer.old) (W.contents writer.new) }
-    ensures usage { args.now ≢ [] → result ≡ 2 }
+    ensures script { args.now ≡ [] →
+        EndsRun script_text INPUT_LIMIT result (R.remaining reader.old) (R.remaining reader.new) (W.contents writer.old) (W.contents writer.new) }
+    ensures steps { map string_bytes args.now ≡ codes "steps" ∷ [] →
+        EndsRun schedule_text INPUT_LIMIT result (R.remaining reader.old) (R.remaining reader.new) (W.contents writer.old) (W.contents writer.new) }
+    ensures usage { args.now ≢ [] → map string_bytes args.now ≢ codes "steps" ∷ [] → result ≡ 2 }
 {
     let _ = rt;
-    if !args.is_empty() {
-        tell(USAGE, writer);
-        return 2;
+    match args {
+        [] => {
+            let ran = run(alloc, reader, writer);
+            status_of(ran, writer)
+        }
+        [word] if word.as_str() == "steps" => {
+            let ran = run_steps(alloc, reader, writer);
+            status_of(ran, writer)
+        }
+        _ => {
+            tell(USAGE, writer);
+            2
+        }
     }
-    match run(alloc, reader, writer) {
+}
+
+/// The exit status after a run; the line of a fault is written before.
+fn status_of<W: Write>(ran: Result<(), RunFault>, writer: &mut W) -> u8
+    ensures { MatchResult ran
+        (λ _. (result ≡ 0) × (W.contents writer.new ≡ W.contents writer.old))
+        (λ fault. (result ≡ 1) × AppendsSome (W.contents writer.old) (W.contents writer.new) (line_of fault)) }
+{
+    match ran {
         Ok(()) => 0,
         Err(fault) => {
             tell(line_of(fault), writer);

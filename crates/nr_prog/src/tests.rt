@@ -625,7 +625,7 @@ fn each_fault_has_its_line(rt: HostRuntime) {
 
 #[test]
 fn the_program_tells_its_usage(rt: HostRuntime) -> Result<(), Fail> {
-    for word in ["steps", "load", "", "x"] {
+    for word in ["load", "", "step", "x"] {
         let mut script: &[u8] = b"find 1 0\n";
         let (status, written) = program(&rt, Some(word), &mut script, usize::MAX)?;
         assert_eq!(rt; status, 2, "{word}");

@@ -1,6 +1,6 @@
 //! Schedules, and the replies that their lines must get.
 use super::{run_steps, run_steps_within};
-use crate::RunFault;
+use crate::{RunFault, main_with};
 use std::alloc::{AllocError, Global};
 use std::io;
 use std::io::{ErrorKind, Read};
@@ -331,4 +331,30 @@ fn a_full_output_ends_the_run(rt: HostRuntime) {
     let ended = run_steps(rt.alloc(), &mut reader, &mut writer);
     assert_eq!(rt; ended, Err(RunFault::Write));
     assert_eq!(rt; room.as_slice(), b"ok\nse".as_slice());
+}
+
+#[test]
+fn the_program_runs_a_schedule(rt: HostRuntime) -> Result<(), Fail> {
+    let mut args = Vec::new(rt.alloc());
+    args.push(String::from_str(rt.alloc(), "steps")?)?;
+    let (input, text) = input_and_text(rt.alloc(), COUNTS_WRAP)?;
+    let mut reader = input.as_slice();
+    let mut written = Vec::new(rt.alloc());
+    let status = main_with(&rt, rt.alloc(), args.as_slice(), &mut reader, &mut written);
+    assert_eq!(rt; status, 0);
+    assert_eq!(rt; written.as_slice(), text.as_slice());
+
+    let mut cut = Failing { bytes: b"go\ngo" };
+    let mut told = Vec::new(rt.alloc());
+    let status = main_with(&rt, rt.alloc(), args.as_slice(), &mut cut, &mut told);
+    assert_eq!(rt; status, 1);
+    let line: &[u8] = b"closed\nnr: the input could not be read\n";
+    assert_eq!(rt; told.as_slice(), line);
+
+    args.push(String::from_str(rt.alloc(), "steps")?)?;
+    let mut unread: &[u8] = b"go\n";
+    let mut usage = Vec::new(rt.alloc());
+    let status = main_with(&rt, rt.alloc(), args.as_slice(), &mut unread, &mut usage);
+    assert_eq!(rt; status, 2);
+    Ok(())
 }
