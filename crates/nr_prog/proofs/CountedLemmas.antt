@@ -1,5 +1,5 @@
 -- Each command keeps the counts of an opened script right: a fill, an update, an eviction, any other call, a pin and its end.
-use Rattle.std.proofs.Common.{◌≡◌, ◌≢◌, ℕ, zero, suc, ◌+◌, ◌-◌, ◌<◌, ◌≤◌, Bool, true, false, List, [], ◌∷◌, length, set, get_or, replicate, Option, None, Some, Result, Ok, Err, ⊎_elim, refl, sym, ap, ◌∙◌, arith, length-set}
+use Rattle.std.proofs.Common.{◌≡◌, ◌≢◌, ℕ, zero, suc, ◌+◌, ◌-◌, ◌<◌, ◌≤◌, Bool, true, false, List, [], ◌∷◌, length, set, get_or, replicate, Option, None, Some, Result, Ok, Err, ⊎_elim, refl, sym, ap, subst, ◌∙◌, arith, length-set}
 use Rattle.std.specs.Prelude.{◌==◌, ◌&&◌, nat_lt}
 use Rattle.std.proofs.lemmas.Bool.{cases_eq, cases_lt, lt-ltb, le-ltb, eqb-true, eqb-false}
 use Rattle.std.proofs.lemmas.List.{set-get_or, get_or-set_same, get_or-set_other, length-replicate}
@@ -19,9 +19,10 @@ use Rattle.nr_model.specs.declared.seq_map.TheConstants.{MAX_KEYS}
 use Rattle.nr_model.specs.Batches.{applied}
 use Rattle.nr_model.specs.Maps.{PartialMap, opening, key_count, key_of, state_of, reply_at, state_after, reply_to, next, filled_count, is_filled, applied_reply}
 use Rattle.nr_model.proofs.HistoryLemmas.{one, state_of-next_same, state_of-next_other}
+use Rattle.nr_prog.specs.declared.keys.Keys.{Keys}
 use Rattle.nr_prog.specs.declared.pin.Pin.{Pin}
 use Rattle.nr_prog.specs.declared.opened.TheConstants.{MAX_READERS}
-use Rattle.nr_prog.specs.Counted.{IsCounted, HasPut}
+use Rattle.nr_prog.specs.Counted.{IsCounted, HasPut, NamesFit}
 use Rattle.nr_prog.specs.Script.{pinned}
 use Rattle.nr_prog.specs.Strays.{keyed, count_of, one_if_none, one_if_some}
 use Rattle.nr_prog.proofs.CountLemmas.{keyed-set, own, one_same, one_other, pinned-set, pins_put, strays_same, strays_leave, strays_pin, strays_unpin, strays-le-length, pinned-le-length}
@@ -431,3 +432,7 @@ counted_opening keys readers few_keys few_readers =
       pin_key = λ reader pin held. let never : None ≡ Some pin = sym (none_held readers reader) ∙ held in cc;
       pin_at = λ reader pin held has. let never : None ≡ Some pin = sym (none_held readers reader) ∙ held in cc;
     }
+
+-- a call leaves as many keys, so the names still fit
+pub names_stay : (keys : Keys) (map new : PartialMap) (call : Call) → new ≡ next map call → NamesFit keys (key_count map) → NamesFit keys (key_count new)
+names_stay keys map new call is_new fit = rw is_new (subst (NamesFit keys) (sym (length-set map.states (key_of call) (state_after map.bound call (state_of map (key_of call))))) fit)

@@ -3,6 +3,8 @@ use Rattle.std.specs.Prelude.{ℕ, ◌≡◌, ◌+◌, ◌<◌, ◌≤◌, true,
 use Rattle.nr_model.specs.Maps.{PartialMap, key_count, filled_count, is_filled, state_of}
 use Rattle.nr_model.specs.declared.rows.TheConstants.{MAX_ROWS}
 use Rattle.nr_model.specs.declared.seq_map.TheConstants.{MAX_KEYS}
+use Rattle.nr_prog.specs.declared.keys.Keys.{Keys}
+use Rattle.nr_prog.specs.declared.keys.Keys.TheVariants as kinds
 use Rattle.nr_prog.specs.declared.pin.Pin.{Pin}
 use Rattle.nr_prog.specs.declared.opened.TheConstants.{MAX_READERS}
 use Rattle.nr_prog.specs.Script.{pinned}
@@ -26,3 +28,12 @@ pub record IsCounted (map : PartialMap) (puts : List ℕ) (put_count : ℕ) (pin
   -- the set of a pin stands at no other key than its own
   pub pin_key : (reader : ℕ) (pin : Pin) → slice_index_or pins reader None ≡ Some pin → pin.key < key_count map
   pub pin_at : (reader : ℕ) (pin : Pin) → slice_index_or pins reader None ≡ Some pin → 0 < count_of (keyed map.states puts) pin.put → HasPut map puts pin.key pin.put
+
+-- as many names as keys
+abbrev pub NamesFit : Keys → ℕ → Type 0
+NamesFit kinds.Numbered count = Unit {0}
+NamesFit (kinds.Named naming) count = naming.keys ≡ count
+
+pub record IsOpened (keys : Keys) (map : PartialMap) (puts : List ℕ) (put_count : ℕ) (pins : List (Option Pin)) (filled stray : ℕ) : Type 0 where
+  pub names : NamesFit keys (key_count map)
+  pub counted : IsCounted map puts put_count pins filled stray

@@ -1,6 +1,6 @@
 -- The grammar: the command that a line's words spell.
 use Rattle.std.specs.Prelude.{ℕ, ◌+◌, ◌-◌, ◌*◌, ◌^◌, ◌==◌, ◌&&◌, nat_lt, nat_le, if◌then◌else◌, Bool, true, false, List, [], ◌∷◌, length, Option, Some, None, Result, Ok, Err, codes, option_and_then, option_map}
-use Rattle.std.specs.List.{slice_split, before_first, after_first}
+use Rattle.std.specs.List.{slice_split, before_first, after_first, list_all}
 use Rattle.std.specs.Str.{bytes_eq}
 use Rattle.std.specs.Char.{is_ascii_digit}
 use Rattle.nr_model.specs.declared.rows.Row.{Row}
@@ -52,19 +52,23 @@ abbrev pub delta : List ℕ → Option Delta
 delta [] = None
 delta (sign ∷ spelled) = if sign == 43 then signed true (row spelled) else if sign == 45 then signed false (row spelled) else None
 
--- a word for a key, before it is known which words the script's keys have: one byte or more
-abbrev pub key : List ℕ → Option (List ℕ)
-key word = if nat_lt 0 (length word) then Some word else None
+-- the bytes of a name
+abbrev pub is_name_byte : ℕ → Bool
+is_name_byte b = nat_le 33 b && nat_le b 126
 
-abbrev pub opening_of : Option ℕ → Option ℕ → Option ℕ → Option ℕ → Option Command
-opening_of keys slots readers first_count =
-    option_and_then (λ k. option_and_then (λ s. option_and_then (λ r. option_map (λ f. Open k s r f) first_count) readers) slots) keys
+-- a word for a key, before it is known what stands for the script's keys: one byte or more
+abbrev pub key : List ℕ → Option (List ℕ)
+key word = if nat_lt 0 (length word) && list_all is_name_byte word then Some word else None
+
+abbrev pub opening_of : Bool → Option ℕ → Option ℕ → Option ℕ → Option ℕ → Option Command
+opening_of named keys slots readers first_count =
+    option_and_then (λ k. option_and_then (λ s. option_and_then (λ r. option_map (λ f. Open named k s r f) first_count) readers) slots) keys
 
 -- keys, slots, readers and the first count, which is 0 where it is left out
-abbrev pub opening : List (List ℕ) → Option Command
-opening (keys ∷ slots ∷ readers ∷ []) = opening_of (number keys) (number slots) (number readers) (Some 0)
-opening (keys ∷ slots ∷ readers ∷ first_count ∷ []) = opening_of (number keys) (number slots) (number readers) (number first_count)
-opening other = None
+abbrev pub opening : Bool → List (List ℕ) → Option Command
+opening named (keys ∷ slots ∷ readers ∷ []) = opening_of named (number keys) (number slots) (number readers) (Some 0)
+opening named (keys ∷ slots ∷ readers ∷ first_count ∷ []) = opening_of named (number keys) (number slots) (number readers) (number first_count)
+opening named other = None
 
 -- a reader and a key, a key alone, a reader alone
 abbrev pub reader_and_key : (ℕ → List ℕ → Command) → List (List ℕ) → Option Command
@@ -101,7 +105,8 @@ updating (word ∷ more) = option_and_then (λ k. option_map (λ batch. Update k
 abbrev pub command : List (List ℕ) → Option Command
 command [] = None
 command (name ∷ more) =
-    if bytes_eq name (codes "open") then opening more
+    if bytes_eq name (codes "open") then opening false more
+    else if bytes_eq name (codes "open-named") then opening true more
     else if bytes_eq name (codes "find") then reader_and_key Find more
     else if bytes_eq name (codes "ask") then reader_and_key Ask more
     else if bytes_eq name (codes "fill") then filling more

@@ -1,5 +1,5 @@
 -- Scripts: what their lines do to a map, and what each line is answered.
-use Rattle.std.specs.Prelude.{ℕ, ◌+◌, ◌-◌, ◌==◌, ◌&&◌, nat_lt, nat_le, if◌then◌else◌, Bool, false, List, length, Option, None, Some, option_map, Result, Ok, Err, slice_index, slice_index_or, slice_set, replicate}
+use Rattle.std.specs.Prelude.{ℕ, ◌+◌, ◌-◌, ◌==◌, ◌&&◌, nat_lt, nat_le, if◌then◌else◌, Bool, false, List, length, Option, None, Some, option_map, Result, Ok, Err, slice_index, slice_index_or, slice_set, replicate, is_none, true}
 use Rattle.std.specs.List.{list_all, filter_map}
 use Rattle.nr_model.specs.declared.rows.Row.{Row}
 use Rattle.nr_model.specs.declared.rows.TooMany.{TooMany}
@@ -13,6 +13,12 @@ use Rattle.nr_model.specs.declared.calls.Reply.{Reply}
 use Rattle.nr_model.specs.declared.calls.Reply.TheVariants as reply
 use Rattle.nr_model.specs.Maps.{PartialMap, opening, key_count, key_of, state_of, reply_to, next, filled_count}
 use Rattle.nr_model.specs.Histories.{is_done}
+use Rattle.nr_names.specs.declared.faults.NameFault.{NameFault}
+use Rattle.nr_names.specs.declared.faults.NameFault.TheVariants as names
+use Rattle.nr_names.specs.declared.table.TheConstants.{LONGEST_NAME}
+use Rattle.nr_names.specs.Naming.{no_names, intern_reply, next as next_naming}
+use Rattle.nr_prog.specs.declared.keys.Keys.{Keys}
+use Rattle.nr_prog.specs.declared.keys.Keys.TheVariants as kinds
 use Rattle.nr_prog.specs.declared.line.TheConstants.{LINE_LIMIT}
 use Rattle.nr_prog.specs.declared.pin.Pin.{Pin}
 use Rattle.nr_prog.specs.declared.opened.TheConstants.{MAX_SLOTS, MAX_READERS}
@@ -29,6 +35,8 @@ use Rattle.nr_prog.specs.Text.{text}
 
 -- a script that was opened
 pub record Opened : Type 0 where
+  -- what stands for its keys: their numbers, or names
+  pub keys : Keys
   pub map : PartialMap
   pub slots : ℕ
   -- the put number of the set of each key that is filled
@@ -80,23 +88,47 @@ abbrev pub pin_of : Opened → ℕ → Option Pin
 pin_of script reader = slice_index_or script.pins (reader - 1) None
 
 -- What a command needs is looked for in the order of the refusals; the command goes on with what was found, or is refused.
-abbrev pub with_found : {A : Type 0} → Opened → Result A Refusal → (A → Outcome) → Outcome
-with_found script (Ok found) outcome = outcome found
-with_found script (Err refusal) outcome = (Err refusal, script)
+abbrev pub with_found : {A : Type 0} → Result A Refusal × Opened → (A → Opened → Outcome) → Outcome
+with_found (Ok found, script) outcome = outcome found script
+with_found (Err refusal, script) outcome = (Err refusal, script)
 
 -- a reader of the script
 abbrev pub found_reader : Opened → ℕ → Result (Unit {0}) Refusal
 found_reader script reader = if has_reader script reader then Ok tt else Err refusals.NoReader
 
--- a key of the script, by its number
-abbrev pub found_key : Opened → Option ℕ → Result ℕ Refusal
-found_key script None = Err refusals.Bad
-found_key script (Some key) = if nat_lt key (key_count script.map) then Ok key else Err refusals.NoKey
+-- a key by its number, and by its name
+abbrev pub numbered_key : ℕ → Option ℕ → Result ℕ Refusal
+numbered_key count None = Err refusals.Bad
+numbered_key count (Some key) = if nat_lt key count then Ok key else Err refusals.NoKey
+
+abbrev pub named_key : Result ℕ NameFault → Result ℕ Refusal
+named_key (Ok key) = Ok key
+named_key (Err names.TooLong) = Err refusals.TooLong
+named_key (Err names.Full) = Err refusals.Full
+named_key (Err other) = Err refusals.Bad
+
+-- the key that a word stands for, of so many keys, and the names after it: a new name gets the next number
+abbrev pub key_of_word : Keys → ℕ → List ℕ → Result ℕ Refusal × Keys
+key_of_word kinds.Numbered count word = (numbered_key count (number word), kinds.Numbered)
+key_of_word (kinds.Named naming) count word = (named_key (intern_reply LONGEST_NAME naming word), kinds.Named (next_naming LONGEST_NAME naming word))
+
+abbrev pub with_keys : Opened → Result ℕ Refusal × Keys → Result ℕ Refusal × Opened
+with_keys script (found, keys) = (found, record script { keys = keys })
+
+abbrev pub found_key : Opened → List ℕ → Result ℕ Refusal × Opened
+found_key script word = with_keys script (key_of_word script.keys (key_count script.map) word)
+
+-- a word that cannot stand for a key
+abbrev pub is_no_key : Keys → List ℕ → Bool
+is_no_key kinds.Numbered word = is_none (number word)
+is_no_key (kinds.Named naming) word = false
 
 -- a key, for a reader of the script
-abbrev pub found_by_reader : Opened → ℕ → Option ℕ → Result ℕ Refusal
-found_by_reader script reader None = Err refusals.Bad
-found_by_reader script reader (Some key) = if has_reader script reader then found_key script (Some key) else Err refusals.NoReader
+abbrev pub found_by_reader : Opened → ℕ → List ℕ → Result ℕ Refusal × Opened
+found_by_reader script reader word =
+    if is_no_key script.keys word then (Err refusals.Bad, script)
+    else if has_reader script reader then found_key script word
+    else (Err refusals.NoReader, script)
 
 -- a set that isn't of too many rows
 abbrev pub found_set : Result (List Row) TooMany → Result (List Row) Refusal
@@ -112,14 +144,13 @@ abbrev pub found_pin : Option Pin → Result Pin Refusal
 found_pin None = Err refusals.NotHolding
 found_pin (Some pin) = Ok pin
 
--- a call by a reader that holds no pin
-abbrev pub call_by_reader : Opened → ℕ → List ℕ → (ℕ → Outcome) → Outcome
-call_by_reader script reader word outcome =
-    with_found script (found_by_reader script reader (number word)) (λ key. with_found script (found_no_pin (pin_of script reader)) (λ _. outcome key))
+-- what a reader does that must hold no pin, and what it does with its pin
+abbrev pub without_pin : Opened → ℕ → Outcome → Outcome
+without_pin script reader outcome = with_found (found_no_pin (pin_of script reader), script) (λ _ free. outcome)
 
--- a call by the writer
-abbrev pub call_by_writer : Opened → List ℕ → (ℕ → Outcome) → Outcome
-call_by_writer script word outcome = with_found script (found_key script (number word)) outcome
+abbrev pub with_pin : Opened → ℕ → (Pin → Outcome) → Outcome
+with_pin script reader outcome =
+    with_found (found_reader script reader, script) (λ _ of_reader. with_found (found_pin (pin_of script reader), script) (λ pin held. outcome pin))
 
 abbrev pub pins_after : Opened → ℕ → Option Pin → Opened
 pins_after script reader pin = record script { pins = slice_set script.pins (reader - 1) pin }
@@ -133,28 +164,31 @@ answer_pin script reader key (states.Rows rows) =
 
 -- each command of an opened script
 abbrev pub answer_opened : Opened → Command → Outcome
-answer_opened script (Open keys slots readers first_count) = (Err refusals.Bad, script)
-answer_opened script (Find reader word) = call_by_reader script reader word (λ key. answer_call script (calls.Find key))
-answer_opened script (Ask reader word) = call_by_reader script reader word (λ key. answer_call script (calls.Ask key))
+answer_opened script (Open named keys slots readers first_count) = (Err refusals.Bad, script)
+answer_opened script (Find reader word) = with_found (found_by_reader script reader word) (λ key after. without_pin after reader (answer_call after (calls.Find key)))
+answer_opened script (Ask reader word) = with_found (found_by_reader script reader word) (λ key after. without_pin after reader (answer_call after (calls.Ask key)))
 answer_opened script (Fill word set) =
-    call_by_writer script word (λ key. with_found script (found_set set) (λ rows. answer_call script (calls.Fill key rows)))
-answer_opened script (Update word batch) = call_by_writer script word (λ key. answer_call script (calls.Update key batch))
-answer_opened script (Evict word) = call_by_writer script word (λ key. answer_call script (calls.Evict key))
-answer_opened script (Look word) = call_by_writer script word (λ key. answer_call script (calls.Find key))
-answer_opened script (PinKey reader word) = call_by_reader script reader word (λ key. answer_pin script reader key (state_of script.map key))
-answer_opened script (Show reader) =
-    with_found script (found_reader script reader) (λ _. with_found script (found_pin (pin_of script reader)) (λ pin. (Ok (answers.Reply (reply.Rows pin.rows)), script)))
-answer_opened script (Unpin reader) =
-    with_found script (found_reader script reader) (λ _. with_found script (found_pin (pin_of script reader)) (λ pin. (Ok answers.Ok, pins_after script reader None)))
+    with_found (found_key script word) (λ key after. with_found (found_set set, after) (λ rows fits. answer_call after (calls.Fill key rows)))
+answer_opened script (Update word batch) = with_found (found_key script word) (λ key after. answer_call after (calls.Update key batch))
+answer_opened script (Evict word) = with_found (found_key script word) (λ key after. answer_call after (calls.Evict key))
+answer_opened script (Look word) = with_found (found_key script word) (λ key after. answer_call after (calls.Find key))
+answer_opened script (PinKey reader word) =
+    with_found (found_by_reader script reader word) (λ key after. without_pin after reader (answer_pin after reader key (state_of after.map key)))
+answer_opened script (Show reader) = with_pin script reader (λ pin. (Ok (answers.Reply (reply.Rows pin.rows)), script))
+answer_opened script (Unpin reader) = with_pin script reader (λ pin. (Ok answers.Ok, pins_after script reader None))
 
 -- keys, slots and readers are within their limits
 abbrev pub is_in_limits : ℕ → ℕ → ℕ → Bool
 is_in_limits keys slots readers =
     nat_lt 0 keys && (nat_le keys MAX_KEYS && (nat_lt 0 slots && (nat_le slots MAX_SLOTS && (nat_lt 0 readers && nat_le readers MAX_READERS))))
 
-abbrev pub opened : ℕ → ℕ → ℕ → Opened
-opened keys slots readers =
-    record { map = opening keys MAX_ROWS; slots = slots; puts = replicate keys 0; put_count = 0; pins = replicate readers None }
+abbrev pub keys_opened : Bool → ℕ → Keys
+keys_opened true count = kinds.Named (no_names count)
+keys_opened false count = kinds.Numbered
+
+abbrev pub opened : Bool → ℕ → ℕ → ℕ → Opened
+opened named keys slots readers =
+    record { keys = keys_opened named keys; map = opening keys MAX_ROWS; slots = slots; puts = replicate keys 0; put_count = 0; pins = replicate readers None }
 
 -- a script, which begins closed
 abbrev pub State : Type 0
@@ -165,8 +199,8 @@ start = None
 
 -- each command of a script that is closed
 abbrev pub answer_closed : Command → Result Answer Refusal × State
-answer_closed (Open keys slots readers first_count) =
-    if is_in_limits keys slots readers then (Ok answers.Ok, Some (opened keys slots readers)) else (Err refusals.Bad, None)
+answer_closed (Open named keys slots readers first_count) =
+    if is_in_limits keys slots readers then (Ok answers.Ok, Some (opened named keys slots readers)) else (Err refusals.Bad, None)
 answer_closed other = (Err refusals.Closed, None)
 
 abbrev pub stays_open : Outcome → Result Answer Refusal × State

@@ -1,7 +1,8 @@
 //! What a line asks for.
 ghost use Rattle.std.specs.Prelude.{◌≡◌, ◌<◌, ◌≤◌, length, List, ℕ, MatchOption, Some, None, option_map, option_and_then};
+ghost use Rattle.std.specs.List.{list_all};
 ghost use Rattle.nr_prog.specs.declared.command.Command.{Command};
-ghost use Rattle.nr_prog.specs.Grammar.{command, opening, filling, updating, each, row, delta, key, set_of, batch_of, reader_and_key, key_alone, reader_alone, words};
+ghost use Rattle.nr_prog.specs.Grammar.{number, is_name_byte, command, opening, filling, updating, each, row, delta, key, set_of, batch_of, reader_and_key, key_alone, reader_alone, words};
 ghost use Rattle.nr_prog.specs.Words.{words_left};
 
 use crate::words::{Words, delta, number, row};
@@ -11,7 +12,7 @@ use std::marker::Model;
 /// The word that stands for a key.
 #[derive(Drop)]
 pub(crate) struct KeyWord<'a> {
-    pub(crate) bytes: &'a [u8],
+    bytes: &'a [u8],
 }
 
 impl<'a> Model for KeyWord<'a> {
@@ -19,13 +20,39 @@ impl<'a> Model for KeyWord<'a> {
 
     ghost Value = { List ℕ };
 
+    ghost use Rattle.std.specs.Prelude.{IsTrue};
+    ghost use Rattle.std.specs.List.{list_all};
+    ghost use Rattle.nr_prog.specs.Grammar.{is_name_byte};
+
     ghost view = { λ word. word.bytes.now };
+
+    ghost invariant = { λ word. IsTrue (list_all is_name_byte word.bytes.now) };
+}
+
+impl KeyWord<'_> {
+    /// The number that the word spells, if it spells one.
+    pub(crate) fn number(&self) -> Option<u64>
+        ensures { result ≡ number self.now }
+    {
+        number(self.bytes)
+    }
+
+    /// The name that the word is.
+    pub(crate) fn name(&self) -> &str
+        ensures { result.now ≡ self.now }
+    {
+        match str::from_utf8(self.bytes) {
+            Ok(name) => name,
+            Err(_) => unreachable!(),
+        }
+    }
 }
 
 /// What a line asks for, where it fits the grammar.
 #[derive(Drop)]
 pub(crate) enum Command<'a> {
     Open {
+        named: bool,
         keys: u64,
         slots: u64,
         readers: u64,
@@ -78,7 +105,10 @@ pub(crate) fn parse(line: &[u8]) -> Option<Command<'_>>
     let mut words = Words::new(line);
     let name = words.next()?;
     if name == b"open".as_slice() {
-        return opening(words);
+        return opening(false, words);
+    }
+    if name == b"open-named".as_slice() {
+        return opening(true, words);
     }
     if name == b"find".as_slice() {
         let (reader, key) = reader_and_key(words)?;
@@ -117,8 +147,8 @@ pub(crate) fn parse(line: &[u8]) -> Option<Command<'_>>
     None
 }
 
-fn opening(mut words: Words<'_>) -> Option<Command<'_>>
-    ensures { result ≡ opening (words_left words.entry) }
+fn opening(named: bool, mut words: Words<'_>) -> Option<Command<'_>>
+    ensures { result ≡ opening named (words_left words.entry) }
 {
     let keys = words.next()?;
     let slots = words.next()?;
@@ -128,6 +158,7 @@ fn opening(mut words: Words<'_>) -> Option<Command<'_>>
         return None;
     }
     Some(Command::Open {
+        named,
         keys: number(keys)?,
         slots: number(slots)?,
         readers: number(readers)?,
@@ -172,10 +203,16 @@ fn reader_alone(mut words: Words<'_>) -> Option<u64>
 fn key(word: &[u8]) -> Option<KeyWord<'_>>
     ensures { result ≡ key word.now }
 {
-    if word.is_empty() {
+    if word.is_empty() || !is_name(word) {
         return None;
     }
     Some(KeyWord { bytes: word })
+}
+
+fn is_name(word: &[u8]) -> bool
+    ensures { result ≡ list_all is_name_byte word.now }
+{
+    word.iter().all(|b| *b >= 33 && *b <= 126)
 }
 
 fn filling(mut words: Words<'_>) -> Option<Command<'_>>

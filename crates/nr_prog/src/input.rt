@@ -1,5 +1,6 @@
 //! The bytes of a reader, taken a line at a time, and no more of them than a limit.
 ghost use Rattle.std.specs.Prelude.{◌≡◌, []};
+ghost use Rattle.nr_prog.specs.Input.{pending, allowance, TakesByte, TakesLine, Refills, Probes};
 
 use crate::fault::RunFault;
 use crate::line::Line;
@@ -29,8 +30,6 @@ pub(crate) struct Input {
 }
 
 impl Input {
-    ghost use Rattle.nr_prog.specs.Input.{pending, allowance, TakesByte, TakesLine, Refills};
-
     /// An input of at most `limit` bytes.
     pub(crate) fn new(limit: u64) -> Input
         ensures nothing { pending result ≡ [] }
@@ -99,8 +98,6 @@ impl Input {
         }
     }
 }
-
-ghost use Rattle.nr_prog.specs.Input.{Probes};
 
 /// Looks whether a reader that may give no more is at its end: `false` if it is.
 fn probe<R: Read>(reader: &mut R) -> Result<bool, RunFault>

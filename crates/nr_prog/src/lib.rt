@@ -8,6 +8,7 @@ mod attempt;
 mod command;
 mod fault;
 mod input;
+mod keys;
 mod line;
 mod machine;
 mod opened;

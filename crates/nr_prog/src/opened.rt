@@ -3,16 +3,15 @@ ghost use Rattle.std.specs.Prelude.{◌≡◌, ◌<◌, ◌≤◌, ◌+◌, ◌-
 ghost use Rattle.std.specs.List.{list_any};
 ghost use Rattle.nr_model.specs.Maps.{is_filled, key_count, key_of, reply_to, state_of};
 ghost use Rattle.nr_model.specs.Histories.{is_done};
-ghost use Rattle.nr_prog.specs.Script.{answer_opened, answer_call, answer_pin, is_full, found_reader, found_key, found_by_reader, found_no_pin, found_pin, pins_after, pinned, pin_has_put};
+ghost use Rattle.nr_prog.specs.Script.{answer_opened, answer_call, answer_pin, is_full, has_reader, found_reader, found_key, found_by_reader, found_set, found_no_pin, found_pin, with_found, without_pin, with_pin, pins_after, pinned, pin_has_put};
 ghost use Rattle.nr_prog.specs.Strays.{keyed, count_of, one_if_none, one_if_some};
-ghost use Rattle.nr_prog.specs.Grammar.{number};
 
 use crate::answer::{Answer, Refusal};
 use crate::command::{Command, KeyWord};
 use crate::fault::RunFault;
+use crate::keys::Keys;
 use crate::pin::Pin;
-use crate::words::number;
-use nr_model::{Call, KeyState, MAX_KEYS, Reply, SeqMap};
+use nr_model::{Call, KeyState, MAX_KEYS, Reply, RowSet, SeqMap, TooMany};
 use std::alloc::Global;
 use std::marker::Model;
 
@@ -26,6 +25,7 @@ pub(crate) const MAX_READERS: u64 = 1024;
 /// all keys.
 #[derive(Drop)]
 pub(crate) struct Opened {
+    keys: Keys,
     map: SeqMap,
     slots: u64,
     puts: Vec<u64>,
@@ -40,28 +40,31 @@ impl Model for Opened {
 
     ghost Value = { script.Opened };
 
-    ghost use Rattle.nr_prog.specs.Counted.{IsCounted};
+    ghost use Rattle.nr_prog.specs.Counted.{IsOpened};
 
-    ghost view = { λ inside. record { map = inside.map; slots = inside.slots; puts = inside.puts.items; put_count = inside.put_count; pins = inside.pins.items } };
+    ghost view = { λ inside. record { keys = inside.keys; map = inside.map; slots = inside.slots; puts = inside.puts.items; put_count = inside.put_count; pins = inside.pins.items } };
 
-    ghost invariant = { λ inside. IsCounted inside.map inside.puts.items inside.put_count inside.pins.items inside.filled inside.strays };
+    ghost invariant = { λ inside. IsOpened inside.keys inside.map inside.puts.items inside.put_count inside.pins.items inside.filled inside.strays };
 }
 
 impl Opened {
     ghost use Rattle.nr_prog.specs.Script as script;
 
-    /// A map of holes. The sizes are within their limits.
+    /// A map of holes, whose keys stand on lines by their names or by their numbers. The sizes are
+    /// within their limits.
     pub(crate) fn open(
         alloc: Global,
+        named: bool,
         keys: u32,
         slots: u64,
         readers: u64,
     ) -> Result<Opened, RunFault>
         requires keys { (0 < keys) × (keys ≤ MAX_KEYS) }
         requires readers { readers ≤ MAX_READERS }
-        ensures ok { IfOk result (λ opened. opened ≡ script.opened keys slots readers) }
+        ensures ok { IfOk result (λ opened. opened ≡ script.opened named keys slots readers) }
         ensures fault { IfErr result (λ fault. fault ≡ RunFault.Memory) }
     {
+        let words = Keys::open(alloc, named, keys)?;
         let Ok(map) = SeqMap::open(alloc, keys) else {
             return Err(RunFault::Memory);
         };
@@ -72,6 +75,7 @@ impl Opened {
             return Err(RunFault::Memory);
         };
         Ok(Opened {
+            keys: words,
             map,
             slots,
             puts,
@@ -83,56 +87,72 @@ impl Opened {
     }
 
     /// The answer to a command, or the first refusal that fits.
-    pub(crate) fn answer(&mut self, command: &Command<'_>) -> Result<Answer, Refusal>
+    pub(crate) fn answer(
+        &mut self,
+        command: &Command<'_>,
+    ) -> Result<Result<Answer, Refusal>, RunFault>
         requires { self.old.put_count < u64.MAX }
-        ensures answer { answer_opened self.old command.now ≡ (result, self.new) }
-        ensures puts { self.new.put_count ≤ self.old.put_count + 1 }
+        ensures answer { IfOk result (λ said. answer_opened self.old command.now ≡ (said, self.new)) }
+        ensures puts { OnOk result (self.new.put_count ≤ self.old.put_count + 1) }
+        ensures fault { IfErr result (λ fault. fault ≡ RunFault.Memory) }
     {
         match command {
-            Command::Open { .. } => Err(Refusal::Bad),
-            Command::Find { reader, key } => {
-                let key = self.key_by_reader(*reader, key)?;
-                self.check_no_pin(*reader)?;
-                Ok(self.call(&Call::Find(key)))
-            }
-            Command::Ask { reader, key } => {
-                let key = self.key_by_reader(*reader, key)?;
-                self.check_no_pin(*reader)?;
-                Ok(self.call(&Call::Ask(key)))
-            }
-            Command::Fill { key, rows } => {
-                let key = self.key(key)?;
-                let rows = rows.map_err(|_| Refusal::TooMany)?;
-                Ok(self.call(&Call::Fill(key, rows)))
-            }
-            Command::Update { key, batch } => {
-                let key = self.key(key)?;
-                Ok(self.call(&Call::Update(key, *batch)))
-            }
-            Command::Evict { key } => {
-                let key = self.key(key)?;
-                Ok(self.call(&Call::Evict(key)))
-            }
-            Command::Look { key } => {
-                let key = self.key(key)?;
-                Ok(self.call(&Call::Find(key)))
-            }
-            Command::Pin { reader, key } => {
-                let key = self.key_by_reader(*reader, key)?;
-                self.check_no_pin(*reader)?;
-                Ok(self.pin(*reader, key))
-            }
-            Command::Show { reader } => {
-                self.check_reader(*reader)?;
-                let pin = self.pin_of(*reader)?;
-                Ok(Answer::Reply(Reply::Rows(pin.rows)))
-            }
-            Command::Unpin { reader } => {
-                self.check_reader(*reader)?;
-                let pin = self.pin_of(*reader)?;
-                self.unpin(*reader, &pin);
-                Ok(Answer::Ok)
-            }
+            Command::Open { .. } => Ok(Err(Refusal::Bad)),
+            Command::Find { reader, key } => match self.key_by_reader(*reader, key)? {
+                Ok(key) => Ok(self.call_by_reader(*reader, &Call::Find(key))),
+                Err(refusal) => Ok(Err(refusal)),
+            },
+            Command::Ask { reader, key } => match self.key_by_reader(*reader, key)? {
+                Ok(key) => Ok(self.call_by_reader(*reader, &Call::Ask(key))),
+                Err(refusal) => Ok(Err(refusal)),
+            },
+            Command::Fill { key, rows } => match self.key(key)? {
+                Ok(key) => Ok(self.fill(key, rows)),
+                Err(refusal) => Ok(Err(refusal)),
+            },
+            Command::Update { key, batch } => match self.key(key)? {
+                Ok(key) => Ok(Ok(self.call(&Call::Update(key, *batch)))),
+                Err(refusal) => Ok(Err(refusal)),
+            },
+            Command::Evict { key } => match self.key(key)? {
+                Ok(key) => Ok(Ok(self.call(&Call::Evict(key)))),
+                Err(refusal) => Ok(Err(refusal)),
+            },
+            Command::Look { key } => match self.key(key)? {
+                Ok(key) => Ok(Ok(self.call(&Call::Find(key)))),
+                Err(refusal) => Ok(Err(refusal)),
+            },
+            Command::Pin { reader, key } => match self.key_by_reader(*reader, key)? {
+                Ok(key) => Ok(self.pin(*reader, key)),
+                Err(refusal) => Ok(Err(refusal)),
+            },
+            Command::Show { reader } => Ok(self.show(*reader)),
+            Command::Unpin { reader } => Ok(self.unpin(*reader)),
+        }
+    }
+
+    /// A call by a reader that holds no pin.
+    fn call_by_reader(&mut self, reader: u64, call: &Call) -> Result<Answer, Refusal>
+        requires reader { (0 < reader) × (reader ≤ length self.old.pins) }
+        requires key { key_of call.now < key_count self.old.map }
+        requires puts { self.old.put_count < u64.MAX }
+        ensures answer { without_pin self.old reader (answer_call self.old call.now) ≡ (result, self.new) }
+        ensures puts { self.new.put_count ≤ self.old.put_count + 1 }
+    {
+        self.check_no_pin(reader)?;
+        Ok(self.call(call))
+    }
+
+    /// A fill, unless there are too many rows.
+    fn fill(&mut self, key: u32, rows: &Result<RowSet, TooMany>) -> Result<Answer, Refusal>
+        requires key { key < key_count self.old.map }
+        requires puts { self.old.put_count < u64.MAX }
+        ensures answer { with_found (found_set rows.now, self.old) (λ rows fits. answer_call fits (Call.Fill key rows)) ≡ (result, self.new) }
+        ensures puts { self.new.put_count ≤ self.old.put_count + 1 }
+    {
+        match rows {
+            Ok(rows) => Ok(self.call(&Call::Fill(key, *rows))),
+            Err(_) => Err(Refusal::TooMany),
         }
     }
 
@@ -140,7 +160,8 @@ impl Opened {
     fn call(&mut self, call: &Call) -> Answer
         requires key { key_of call.now < key_count self.old.map }
         requires puts { self.old.put_count < u64.MAX }
-        ensures { answer_call self.old call.now ≡ (Ok result, self.new) }
+        ensures answer { answer_call self.old call.now ≡ (Ok result, self.new) }
+        ensures puts { self.new.put_count ≤ self.old.put_count + 1 }
     {
         if self.is_full() && self.would_be_done(call) {
             return Answer::NoSlot;
@@ -190,46 +211,49 @@ impl Opened {
         }
     }
 
-    /// The number of the key that a word spells.
-    fn key(&self, word: &KeyWord<'_>) -> Result<u32, Refusal>
-        ensures found { result ≡ found_key self.now (number word.now) }
-        ensures within { IfOk result (λ key. key < key_count self.now.map) }
+    /// The key that a word stands for. A name that is new gets the next number.
+    fn key(&mut self, word: &KeyWord<'_>) -> Result<Result<u32, Refusal>, RunFault>
+        ensures found { IfOk result (λ found. found_key self.old word.now ≡ (found, self.new)) }
+        ensures within { IfOk result (λ found. IfOk found (λ key. key < key_count self.new.map)) }
+        ensures kept { self.new ≡ record self.old { keys = self.new.keys } }
+        ensures fault { IfErr result (λ fault. fault ≡ RunFault.Memory) }
     {
-        match number(word.bytes) {
-            None => Err(Refusal::Bad),
-            Some(key) => self.key_at(key),
-        }
+        let count = self.map.keys();
+        self.keys.key(count, word)
     }
 
     /// The same, for a reader.
-    fn key_by_reader(&self, reader: u64, word: &KeyWord<'_>) -> Result<u32, Refusal>
-        ensures found { result ≡ found_by_reader self.now reader (number word.now) }
-        ensures key { IfOk result (λ key. key < key_count self.now.map) }
-        ensures reader { OnOk result ((0 < reader) × (reader ≤ length self.now.pins)) }
+    fn key_by_reader(
+        &mut self,
+        reader: u64,
+        word: &KeyWord<'_>,
+    ) -> Result<Result<u32, Refusal>, RunFault>
+        ensures found { IfOk result (λ found. found_by_reader self.old reader word.now ≡ (found, self.new)) }
+        ensures key { IfOk result (λ found. IfOk found (λ key. key < key_count self.new.map)) }
+        ensures reader { IfOk result (λ found. OnOk found ((0 < reader) × (reader ≤ length self.new.pins))) }
+        ensures kept { self.new ≡ record self.old { keys = self.new.keys } }
+        ensures fault { IfErr result (λ fault. fault ≡ RunFault.Memory) }
     {
-        let Some(key) = number(word.bytes) else {
-            return Err(Refusal::Bad);
-        };
-        self.check_reader(reader)?;
-        self.key_at(key)
+        if self.keys.refuses(word) {
+            return Ok(Err(Refusal::Bad));
+        }
+        if !self.has_reader(reader) {
+            return Ok(Err(Refusal::NoReader));
+        }
+        self.key(word)
     }
 
-    fn key_at(&self, key: u64) -> Result<u32, Refusal>
-        ensures found { result ≡ found_key self.now (Some key) }
-        ensures within { IfOk result (λ key. key < key_count self.now.map) }
+    fn has_reader(&self, reader: u64) -> bool
+        ensures { result ≡ has_reader self.now reader }
     {
-        if key < u64::from(self.map.keys()) {
-            Ok(key as u32)
-        } else {
-            Err(Refusal::NoKey)
-        }
+        0 < reader && reader <= self.pins.len() as u64
     }
 
     fn check_reader(&self, reader: u64) -> Result<(), Refusal>
         ensures found { result ≡ found_reader self.now reader }
         ensures within { OnOk result ((0 < reader) × (reader ≤ length self.now.pins)) }
     {
-        if 0 < reader && reader <= self.pins.len() as u64 {
+        if self.has_reader(reader) {
             Ok(())
         } else {
             Err(Refusal::NoReader)
@@ -255,30 +279,42 @@ impl Opened {
         self.pins[reader as usize - 1].ok_or(Refusal::NotHolding)
     }
 
-    /// Pins the set of a key for a reader that has no pin.
-    fn pin(&mut self, reader: u64, key: u32) -> Answer
+    /// Pins the set of a key, for a reader that holds no pin.
+    fn pin(&mut self, reader: u64, key: u32) -> Result<Answer, Refusal>
         requires reader { (0 < reader) × (reader ≤ length self.old.pins) }
-        requires free { script.pin_of self.old reader ≡ None }
         requires key { key < key_count self.old.map }
-        ensures { answer_pin self.old reader key (state_of self.old.map key) ≡ (Ok result, self.new) }
+        ensures answer { without_pin self.old reader (answer_pin self.old reader key (state_of self.old.map key)) ≡ (result, self.new) }
+        ensures puts { self.new.put_count ≡ self.old.put_count }
     {
+        self.check_no_pin(reader)?;
         let KeyState::Rows(rows) = self.map.state(key) else {
-            return Answer::Reply(Reply::Hole);
+            return Ok(Answer::Reply(Reply::Hole));
         };
         let put = self.puts[key as usize];
         self.pins[reader as usize - 1] = Some(Pin { key, rows, put });
-        Answer::Ok
+        Ok(Answer::Ok)
+    }
+
+    /// Shows the set that a reader has pinned.
+    fn show(&self, reader: u64) -> Result<Answer, Refusal>
+        ensures { with_pin self.now reader (λ pin. (Ok (Answer.Reply (Reply.Rows pin.rows)), self.now)) ≡ (result, self.now) }
+    {
+        self.check_reader(reader)?;
+        let pin = self.pin_of(reader)?;
+        Ok(Answer::Reply(Reply::Rows(pin.rows)))
     }
 
     /// Ends a reader's pin.
-    fn unpin(&mut self, reader: u64, pin: &Pin)
-        requires reader { (0 < reader) × (reader ≤ length self.old.pins) }
-        requires held { script.pin_of self.old reader ≡ Some pin.now }
-        ensures { self.new ≡ pins_after self.old reader None }
+    fn unpin(&mut self, reader: u64) -> Result<Answer, Refusal>
+        ensures answer { with_pin self.old reader (λ pin. (Ok Answer.Ok, pins_after self.old reader None)) ≡ (result, self.new) }
+        ensures puts { self.new.put_count ≡ self.old.put_count }
     {
-        let key_has_it = self.key_has_it(reader, pin);
+        self.check_reader(reader)?;
+        let pin = self.pin_of(reader)?;
+        let key_has_it = self.key_has_it(reader, &pin);
         self.pins[reader as usize - 1] = None;
         self.strays -= strays_ended(self.pins.as_slice(), pin.put, key_has_it);
+        Ok(Answer::Ok)
     }
 
     /// The key of a reader's pin still has the set that is pinned.

@@ -100,7 +100,7 @@ impl ScriptMachine {
         ensures fault { IfErr result (λ fault. fault ≡ RunFault.Memory) }
     {
         match &mut self.opened {
-            Some(script) => Ok(script.answer(command)),
+            Some(script) => script.answer(command),
             None => self.open(alloc, command),
         }
     }
@@ -117,6 +117,7 @@ impl ScriptMachine {
         ensures fault { IfErr result (λ fault. fault ≡ RunFault.Memory) }
     {
         let Command::Open {
+            named,
             keys,
             slots,
             readers,
@@ -128,7 +129,7 @@ impl ScriptMachine {
         if !is_in_limits(*keys, *slots, *readers) {
             return Ok(Err(Refusal::Bad));
         }
-        let opened = Opened::open(alloc, *keys as u32, *slots, *readers)?;
+        let opened = Opened::open(alloc, *named, *keys as u32, *slots, *readers)?;
         self.opened = Some(opened);
         Ok(Ok(Answer::Ok))
     }

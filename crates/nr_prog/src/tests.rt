@@ -260,7 +260,50 @@ const WORDS_OF_LINES: Script = &[
     ("look", "bad"),
 ];
 
-const SCRIPTS: [Script; 17] = [
+const NAMED_KEYS: Script = &[
+    ("open-named 2 3 1", "ok"),
+    ("ask 2 x", "no-reader"),
+    ("ask 1 y", "send"),
+    (
+        "fill z 1:1 2:1 3:1 4:1 5:1 6:1 7:1 8:1 9:1 10:1 11:1 12:1 13:1 14:1 15:1 16:1",
+        "too-many",
+    ),
+    ("find 1 x", "full"),
+    ("find 1 z", "hole"),
+];
+
+const A_LONG_NAME_IS_REFUSED: Script = &[
+    ("open-named 1 2 1", "ok"),
+    ("find 1 apple", "hole"),
+    ("ask 1 pear", "full"),
+    ("ask 1 apple", "send"),
+    ("fill apple 1:2", "done"),
+    ("find 1 apple", "rows 1:2"),
+    (
+        "evict aaaaaaaaaaaaaaaaaaaaaaaaaaaaaaaaaaaaaaaaaaaaaaaaaaaaaaaaaaaaaaaaaaaaaaaaaaaaaaaaaaaaaaaaaaaaaaaaaaaaaaaaaaaaaaaaaaaaaaaaaaaaaaaaaaaaaaaaaaaaaaaaaaaaaaaaaaaaaaaaaaaaaaaaaaaaaaaaaaaaaaaaaaaaaaaaaaaaaaaaaaaaaaaaaaaaaaaaaaaaaaaaaaaaaaaaaaaaaaaaaaaaaaaaaaaaaaaa",
+        "too-long",
+    ),
+];
+
+const A_REFUSED_LINE_KEEPS_ITS_NAME: Script = &[
+    ("find 1 z", "closed"),
+    ("open-named 3 3 1 7", "ok"),
+    ("find 2 b", "no-reader"),
+    ("ask 1 a", "send"),
+    ("fill a 1:1", "done"),
+    ("pin 1 a", "ok"),
+    ("find 1 b", "holding"),
+    ("unpin 1", "ok"),
+    ("evict 0", "nothing"),
+    ("evict c", "full"),
+    ("update +1:1 +2:2", "full"),
+    ("update b 1:1", "bad"),
+    ("evict b", "nothing"),
+    ("evict a", "evicted"),
+    ("open-named 1 1 1", "bad"),
+];
+
+const SCRIPTS: [Script; 20] = [
     EMPTY_INPUT,
     FIRST_PATH,
     UNASKED_KEYS_TAKE_NOTHING,
@@ -278,6 +321,9 @@ const SCRIPTS: [Script; 17] = [
     NO_SLOT_COMES_LAST,
     REFUSALS_IN_THEIR_ORDER,
     WORDS_OF_LINES,
+    NAMED_KEYS,
+    A_LONG_NAME_IS_REFUSED,
+    A_REFUSED_LINE_KEEPS_ITS_NAME,
 ];
 
 /// The lines of a script, each ended by a line feed, and their replies.

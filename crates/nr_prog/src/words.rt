@@ -1,7 +1,8 @@
 //! The words of a line, and the numbers and rows that they spell.
 ghost use Rattle.std.specs.Prelude.{◌≡◌, [], ◌∷◌, ◌==◌, MatchOption, position};
 ghost use Rattle.std.specs.Iterator.{YieldsFirstRef, item_count};
-ghost use Rattle.nr_prog.specs.Grammar.{number, row, delta};
+ghost use Rattle.nr_prog.specs.Grammar.{words, number, row, delta};
+ghost use Rattle.nr_prog.specs.Words.{words_left};
 
 use nr_model::{Delta, Row};
 
@@ -12,9 +13,6 @@ pub(crate) struct Words<'a> {
 }
 
 impl<'a> Words<'a> {
-    ghost use Rattle.nr_prog.specs.Words.{words_left};
-    ghost use Rattle.nr_prog.specs.Grammar.{words};
-
     pub(crate) fn new(line: &'a [u8]) -> Words<'a>
         ensures { words_left result ≡ words line.now }
     {
@@ -23,8 +21,6 @@ impl<'a> Words<'a> {
 }
 
 impl<'a> Iterator for Words<'a> {
-    ghost use Rattle.nr_prog.specs.Words.{words_left};
-
     type Item = &'a [u8];
 
     ghost next_gives = { YieldsFirstRef words_left };
@@ -37,8 +33,6 @@ impl<'a> Iterator for Words<'a> {
         Some(word)
     }
 }
-
-ghost use Rattle.nr_prog.specs.Grammar.{words};
 
 /// The first word, and what stands behind the space after it, if one does.
 fn split_word(line: &[u8]) -> (&[u8], Option<&[u8]>)

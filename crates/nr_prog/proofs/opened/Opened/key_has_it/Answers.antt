@@ -7,7 +7,7 @@ use Rattle.nr_prog.proofs.opened.Opened.key_has_it.Goals as goal
 pub returns-then-is_filled : goal.returns-then-is_filled
 returns-then-is_filled c =
     let inside = c.self.inside in
-    let counted = c.self.invariant in
+    let counted = c.self.invariant.counted in
     let held = (rw (← c.self.view_is) at c.requires).held in
     let within : c.args.pin.now.key < length inside.puts.items = omega (arith, counted.pin_key _ _ held, counted.a_put_each) in
     let filled : is_filled (state_of inside.map c.args.pin.now.key) ≡ true = ap is_filled (sym c.state.ensures) ∙ sym c.if-is_filled.ensures in

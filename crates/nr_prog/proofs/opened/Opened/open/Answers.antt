@@ -1,8 +1,11 @@
-use Rattle.std.proofs.Common.{rules}
+use Rattle.std.proofs.Common.{rules, subst, sym}
+use Rattle.std.proofs.lemmas.List.{length-replicate}
+use Rattle.nr_model.specs.declared.states.KeyState.TheVariants.{Hole}
+use Rattle.nr_prog.specs.Counted.{NamesFit}
 use Rattle.nr_prog.proofs.CountedLemmas.{counted_opening}
 use Rattle.nr_prog.proofs.opened.Opened.open.Goals as goal
 
 pub invariant_of-result : goal.invariant_of-result
 invariant_of-result c =
     rw (c.in-Ok.ensures.ok, c.in-Ok-vec.ensures.items_if_clones_equal (λ y e. e), c.in-Ok-vec-2.ensures.items_if_clones_equal (λ y e. search rules))
-    (counted_opening c.args.keys c.args.readers c.requires.keys.1 c.requires.readers)
+    (record { names = subst (NamesFit c.in_ok-words.words) (sym (length-replicate c.args.keys Hole)) c.in_ok-words.ensures.fits; counted = counted_opening c.args.keys c.args.readers c.requires.keys.1 c.requires.readers })
