@@ -21,7 +21,7 @@ use Rattle.nr_model.specs.Maps.{PartialMap, opening, key_count, key_of, state_of
 use Rattle.nr_model.proofs.HistoryLemmas.{one, state_of-next_same, state_of-next_other}
 use Rattle.nr_prog.specs.declared.keys.Keys.{Keys}
 use Rattle.nr_prog.specs.declared.pin.Pin.{Pin}
-use Rattle.nr_prog.specs.declared.opened.TheConstants.{MAX_READERS}
+use Rattle.nr_core.specs.declared.shape.TheConstants.{MAX_READERS}
 use Rattle.nr_prog.specs.Counted.{IsCounted, HasPut, NamesFit}
 use Rattle.nr_prog.specs.Script.{pinned}
 use Rattle.nr_prog.specs.Strays.{keyed, count_of, one_if_none, one_if_some}

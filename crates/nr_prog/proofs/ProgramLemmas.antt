@@ -1,5 +1,5 @@
 -- How a run ended, and what was told of it, is the end of the program.
-use Rattle.std.proofs.Common.{ℕ, ◌≡◌, ◌≤◌, ◌<◌, List, [], ◌∷◌, length, get_or, refl, ap, Option, Result, Ok, Err, inl, inr, arith}
+use Rattle.std.proofs.Common.{ℕ, ◌≡◌, ◌≤◌, ◌<◌, List, [], ◌∷◌, length, get_or, refl, Option, Result, Ok, Err, inl, inr, arith}
 use Rattle.std.specs.Prelude.{MatchResult}
 use Rattle.nr_prog.specs.declared.fault.RunFault.{RunFault}
 use Rattle.nr_prog.specs.Output.{AppendsSome}

@@ -6,7 +6,7 @@ use Rattle.nr_model.specs.declared.seq_map.TheConstants.{MAX_KEYS}
 use Rattle.nr_prog.specs.declared.keys.Keys.{Keys}
 use Rattle.nr_prog.specs.declared.keys.Keys.TheVariants as kinds
 use Rattle.nr_prog.specs.declared.pin.Pin.{Pin}
-use Rattle.nr_prog.specs.declared.opened.TheConstants.{MAX_READERS}
+use Rattle.nr_core.specs.declared.shape.TheConstants.{MAX_READERS}
 use Rattle.nr_prog.specs.Script.{pinned}
 use Rattle.nr_prog.specs.Strays.{keyed, count_of, strays}
 

@@ -1,4 +1,5 @@
 pub mod Attempts
+pub mod Commands
 pub mod Counted
 pub mod Grammar
 pub mod Input

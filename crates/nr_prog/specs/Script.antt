@@ -4,7 +4,6 @@ use Rattle.std.specs.List.{list_all, filter_map}
 use Rattle.nr_model.specs.declared.rows.Row.{Row}
 use Rattle.nr_model.specs.declared.rows.TooMany.{TooMany}
 use Rattle.nr_model.specs.declared.rows.TheConstants.{MAX_ROWS}
-use Rattle.nr_model.specs.declared.seq_map.TheConstants.{MAX_KEYS}
 use Rattle.nr_model.specs.declared.states.KeyState.{KeyState}
 use Rattle.nr_model.specs.declared.states.KeyState.TheVariants as states
 use Rattle.nr_model.specs.declared.calls.Call.{Call}
@@ -21,14 +20,16 @@ use Rattle.nr_prog.specs.declared.keys.Keys.{Keys}
 use Rattle.nr_prog.specs.declared.keys.Keys.TheVariants as kinds
 use Rattle.nr_prog.specs.declared.line.TheConstants.{LINE_LIMIT}
 use Rattle.nr_prog.specs.declared.pin.Pin.{Pin}
-use Rattle.nr_prog.specs.declared.opened.TheConstants.{MAX_SLOTS, MAX_READERS}
 use Rattle.nr_prog.specs.declared.command.Command.{Command}
 use Rattle.nr_prog.specs.declared.command.Command.TheVariants.{Open, Find, Ask, Fill, Update, Evict, Look, Pin as PinKey, Show, Unpin}
 use Rattle.nr_prog.specs.declared.answer.Answer.{Answer}
 use Rattle.nr_prog.specs.declared.answer.Answer.TheVariants as answers
 use Rattle.nr_prog.specs.declared.answer.Refusal.{Refusal}
 use Rattle.nr_prog.specs.declared.answer.Refusal.TheVariants as refusals
-use Rattle.nr_prog.specs.Grammar.{words, number, command}
+use Rattle.nr_prog.specs.Commands.{command}
+use Rattle.nr_prog.specs.Grammar.{words, number}
+use Rattle.nr_prog.specs.declared.opening.Opening.{Opening}
+use Rattle.nr_prog.specs.Opening.{is_in_limits}
 use Rattle.nr_prog.specs.Spelling.{spelled}
 use Rattle.nr_prog.specs.Strays.{keyed, strays}
 use Rattle.nr_prog.specs.Text.{text}
@@ -164,7 +165,7 @@ answer_pin script reader key (states.Rows rows) =
 
 -- each command of an opened script
 abbrev pub answer_opened : Opened → Command → Outcome
-answer_opened script (Open named keys slots readers first_count) = (Err refusals.Bad, script)
+answer_opened script (Open named sizes) = (Err refusals.Bad, script)
 answer_opened script (Find reader word) = with_found (found_by_reader script reader word) (λ key after. without_pin after reader (answer_call after (calls.Find key)))
 answer_opened script (Ask reader word) = with_found (found_by_reader script reader word) (λ key after. without_pin after reader (answer_call after (calls.Ask key)))
 answer_opened script (Fill word set) =
@@ -177,18 +178,14 @@ answer_opened script (PinKey reader word) =
 answer_opened script (Show reader) = with_pin script reader (λ pin. (Ok (answers.Reply (reply.Rows pin.rows)), script))
 answer_opened script (Unpin reader) = with_pin script reader (λ pin. (Ok answers.Ok, pins_after script reader None))
 
--- keys, slots and readers are within their limits
-abbrev pub is_in_limits : ℕ → ℕ → ℕ → Bool
-is_in_limits keys slots readers =
-    nat_lt 0 keys && (nat_le keys MAX_KEYS && (nat_lt 0 slots && (nat_le slots MAX_SLOTS && (nat_lt 0 readers && nat_le readers MAX_READERS))))
-
+-- what stands for the keys when a script is opened
 abbrev pub keys_opened : Bool → ℕ → Keys
 keys_opened true count = kinds.Named (no_names count)
 keys_opened false count = kinds.Numbered
 
-abbrev pub opened : Bool → ℕ → ℕ → ℕ → Opened
-opened named keys slots readers =
-    record { keys = keys_opened named keys; map = opening keys MAX_ROWS; slots = slots; puts = replicate keys 0; put_count = 0; pins = replicate readers None }
+abbrev pub opened : Bool → Opening → Opened
+opened named sizes =
+    record { keys = keys_opened named sizes.keys; map = opening sizes.keys MAX_ROWS; slots = sizes.slots; puts = replicate sizes.keys 0; put_count = 0; pins = replicate sizes.readers None }
 
 -- a script, which begins closed
 abbrev pub State : Type 0
@@ -199,8 +196,7 @@ start = None
 
 -- each command of a script that is closed
 abbrev pub answer_closed : Command → Result Answer Refusal × State
-answer_closed (Open named keys slots readers first_count) =
-    if is_in_limits keys slots readers then (Ok answers.Ok, Some (opened named keys slots readers)) else (Err refusals.Bad, None)
+answer_closed (Open named sizes) = if is_in_limits sizes then (Ok answers.Ok, Some (opened named sizes)) else (Err refusals.Bad, None)
 answer_closed other = (Err refusals.Closed, None)
 
 abbrev pub stays_open : Outcome → Result Answer Refusal × State

@@ -2,9 +2,11 @@
 ghost use Rattle.std.specs.Prelude.{◌≡◌, ◌<◌, ◌≤◌, length, List, ℕ, MatchOption, Some, None, option_map, option_and_then};
 ghost use Rattle.std.specs.List.{list_all};
 ghost use Rattle.nr_prog.specs.declared.command.Command.{Command};
-ghost use Rattle.nr_prog.specs.Grammar.{number, is_name_byte, command, opening, filling, updating, each, row, delta, key, set_of, batch_of, reader_and_key, key_alone, reader_alone, words};
+ghost use Rattle.nr_prog.specs.Commands.{command, is_name_byte, key, reader_and_key, key_alone, reader_alone, filling, updating};
+ghost use Rattle.nr_prog.specs.Grammar.{words, number, row, delta, each, set_of, batch_of};
 ghost use Rattle.nr_prog.specs.Words.{words_left};
 
+use crate::opening::Opening;
 use crate::words::{Words, delta, number, row};
 use nr_model::{Batch, Delta, MAX_DELTAS, MAX_ROWS, Row, RowSet, TooMany};
 use std::marker::Model;
@@ -22,7 +24,7 @@ impl<'a> Model for KeyWord<'a> {
 
     ghost use Rattle.std.specs.Prelude.{IsTrue};
     ghost use Rattle.std.specs.List.{list_all};
-    ghost use Rattle.nr_prog.specs.Grammar.{is_name_byte};
+    ghost use Rattle.nr_prog.specs.Commands.{is_name_byte};
 
     ghost view = { λ word. word.bytes.now };
 
@@ -53,10 +55,7 @@ impl KeyWord<'_> {
 pub(crate) enum Command<'a> {
     Open {
         named: bool,
-        keys: u64,
-        slots: u64,
-        readers: u64,
-        first_count: u64,
+        sizes: Opening,
     },
     Find {
         reader: u64,
@@ -105,10 +104,15 @@ pub(crate) fn parse(line: &[u8]) -> Option<Command<'_>>
     let mut words = Words::new(line);
     let name = words.next()?;
     if name == b"open".as_slice() {
-        return opening(false, words);
+        let sizes = Opening::parse(words)?;
+        return Some(Command::Open {
+            named: false,
+            sizes,
+        });
     }
     if name == b"open-named".as_slice() {
-        return opening(true, words);
+        let sizes = Opening::parse(words)?;
+        return Some(Command::Open { named: true, sizes });
     }
     if name == b"find".as_slice() {
         let (reader, key) = reader_and_key(words)?;
@@ -145,28 +149,6 @@ pub(crate) fn parse(line: &[u8]) -> Option<Command<'_>>
         return Some(Command::Unpin { reader });
     }
     None
-}
-
-fn opening(named: bool, mut words: Words<'_>) -> Option<Command<'_>>
-    ensures { result ≡ opening named (words_left words.entry) }
-{
-    let keys = words.next()?;
-    let slots = words.next()?;
-    let readers = words.next()?;
-    let first_count = words.next();
-    if words.next().is_some() {
-        return None;
-    }
-    Some(Command::Open {
-        named,
-        keys: number(keys)?,
-        slots: number(slots)?,
-        readers: number(readers)?,
-        first_count: match first_count {
-            None => 0,
-            Some(word) => number(word)?,
-        },
-    })
 }
 
 fn reader_and_key(mut words: Words<'_>) -> Option<(u64, KeyWord<'_>)>

@@ -10,16 +10,12 @@ use crate::answer::{Answer, Refusal};
 use crate::command::{Command, KeyWord};
 use crate::fault::RunFault;
 use crate::keys::Keys;
+use crate::opening::Opening;
 use crate::pin::Pin;
+use nr_core::MAX_READERS;
 use nr_model::{Call, KeyState, MAX_KEYS, Reply, RowSet, SeqMap, TooMany};
 use std::alloc::Global;
 use std::marker::Model;
-
-/// The most slots of a map.
-pub(crate) const MAX_SLOTS: u64 = 131_072;
-
-/// The most readers of a map.
-pub(crate) const MAX_READERS: u64 = 1024;
 
 /// An opened script over the sequential map, with what it counts so that no command looks through
 /// all keys.
@@ -50,34 +46,28 @@ impl Model for Opened {
 impl Opened {
     ghost use Rattle.nr_prog.specs.Script as script;
 
-    /// A map of holes, whose keys stand on lines by their names or by their numbers. The sizes are
-    /// within their limits.
-    pub(crate) fn open(
-        alloc: Global,
-        named: bool,
-        keys: u32,
-        slots: u64,
-        readers: u64,
-    ) -> Result<Opened, RunFault>
-        requires keys { (0 < keys) × (keys ≤ MAX_KEYS) }
-        requires readers { readers ≤ MAX_READERS }
-        ensures ok { IfOk result (λ opened. opened ≡ script.opened named keys slots readers) }
+    /// A map of holes, whose keys stand on lines by their names or by their numbers.
+    pub(crate) fn open(alloc: Global, named: bool, sizes: &Opening) -> Result<Opened, RunFault>
+        requires keys { (0 < sizes.now.keys) × (sizes.now.keys ≤ MAX_KEYS) }
+        requires readers { sizes.now.readers ≤ MAX_READERS }
+        ensures ok { IfOk result (λ opened. opened ≡ script.opened named sizes.now) }
         ensures fault { IfErr result (λ fault. fault ≡ RunFault.Memory) }
     {
-        let words = Keys::open(alloc, named, keys)?;
-        let Ok(map) = SeqMap::open(alloc, keys) else {
+        let count = sizes.keys as u32;
+        let keys = Keys::open(alloc, named, count)?;
+        let Ok(map) = SeqMap::open(alloc, count) else {
             return Err(RunFault::Memory);
         };
-        let Ok(puts) = vec![in alloc; 0; keys as usize] else {
+        let Ok(puts) = vec![in alloc; 0; sizes.keys as usize] else {
             return Err(RunFault::Memory);
         };
-        let Ok(pins) = vec![in alloc; None; readers as usize] else {
+        let Ok(pins) = vec![in alloc; None; sizes.readers as usize] else {
             return Err(RunFault::Memory);
         };
         Ok(Opened {
-            keys: words,
+            keys,
             map,
-            slots,
+            slots: sizes.slots,
             puts,
             put_count: 0,
             pins,

@@ -1,15 +1,14 @@
 //! A script over the sequential map: closed until it is opened, and then a map.
 ghost use Rattle.std.specs.Prelude.{◌≡◌, ◌<◌, ◌≤◌, ◌+◌, ℕ, List, Some, None, OnOk, IfOk, IfErr};
 ghost use Rattle.std.specs.List.{list_all};
-ghost use Rattle.nr_prog.specs.Script.{is_plain, is_printed, is_in_limits};
+ghost use Rattle.nr_prog.specs.Script.{is_plain, is_printed};
 
 use crate::answer::{Answer, Refusal, write_reply};
 use crate::command::{Command, parse};
 use crate::fault::RunFault;
 use crate::line::{LINE_LIMIT, Line};
 use crate::machine::Machine;
-use crate::opened::{MAX_READERS, MAX_SLOTS, Opened};
-use nr_model::MAX_KEYS;
+use crate::opened::Opened;
 use std::alloc::Global;
 
 /// A script's state. It begins closed.
@@ -116,34 +115,16 @@ impl ScriptMachine {
         ensures left { OnOk result (lines_left self.old ≤ lines_left self.new + 1) }
         ensures fault { IfErr result (λ fault. fault ≡ RunFault.Memory) }
     {
-        let Command::Open {
-            named,
-            keys,
-            slots,
-            readers,
-            ..
-        } = command
-        else {
+        let Command::Open { named, sizes } = command else {
             return Ok(Err(Refusal::Closed));
         };
-        if !is_in_limits(*keys, *slots, *readers) {
+        if !sizes.is_in_limits() {
             return Ok(Err(Refusal::Bad));
         }
-        let opened = Opened::open(alloc, *named, *keys as u32, *slots, *readers)?;
+        let opened = Opened::open(alloc, *named, sizes)?;
         self.opened = Some(opened);
         Ok(Ok(Answer::Ok))
     }
-}
-
-fn is_in_limits(keys: u64, slots: u64, readers: u64) -> bool
-    ensures { result ≡ is_in_limits keys slots readers }
-{
-    0 < keys
-        && keys <= u64::from(MAX_KEYS)
-        && 0 < slots
-        && slots <= MAX_SLOTS
-        && 0 < readers
-        && readers <= MAX_READERS
 }
 
 pub(crate) fn is_plain(text: &[u8]) -> bool
