@@ -312,10 +312,6 @@ module _ (map : PartialMap) (puts : List ℕ) (put_count : ℕ) (pins : List (Op
       pub other_keeps : (given : Reply) → given ≡ reply_to map call → given ≢ reply.Done → given ≢ reply.Evicted → IsCounted new puts put_count pins filled stray
       other_keeps given is not_done not_evicted = rw is_new (counted_same (same_after given _ _ not_done not_evicted (after_reply given is)))
 
-      -- an eviction has something to take away
-      pub evict_some : reply.Evicted ≡ reply_to map call → 0 < filled
-      evict_some evicted = let (was, is) = after_reply reply.Evicted evicted in omega (arith, counted.filled_is, filled_moved, ap one was, ap one is)
-
   module _ (reader : ℕ) (within : reader < length pins) where
     pinned_other : (pin : Option Pin) (r : ℕ) (p : Pin) → reader ≢ r → get_or (set pins reader pin) r None ≡ Some p → get_or pins r None ≡ Some p
     pinned_other pin r p other held = let flip : r ≢ reader = λ e. other (sym e) in sym (get_or-set_other pins reader r pin None flip) ∙ held

@@ -13,16 +13,9 @@ pub record Keeps {A : Type 0} (spells : List ℕ → Option A) (room : ℕ) (all
   pub rest : option_map (λ more. done ++ more) (each spells left) ≡ each spells all
 
 module _ {A : Type 0} (spells : List ℕ → Option A) (room : ℕ) (all : List (List ℕ)) where
-  none_done : (more : Option (List A)) → option_map (λ m. [] ++ m) more ≡ more
-  none_done None = refl
-  none_done (Some m) = refl
-
   one_done : (done : List A) (x : A) (more : Option (List A)) → option_map (λ m. (done ++ x ∷ []) ++ m) more ≡ option_map (λ m. done ++ m) (onto_all (Some x) more)
   one_done done x None = refl
   one_done done x (Some m) = ap Some (append_assoc done (x ∷ []) m)
-
-  pub keeps_none : (kept : List A) → length kept ≡ room → Keeps spells room all all kept 0
-  keeps_none kept wide = record { done = []; width = wide; front = sym (take_all room [] (omega arith)); count = omega arith; rest = none_done (each spells all) }
 
   pub keeps_more : (word : List ℕ) (left : List (List ℕ)) (kept : List A) (len : ℕ) (x : A) → Keeps spells room all (word ∷ left) kept len
       → spells word ≡ Some x → len < room → Keeps spells room all left (set kept len x) (len + 1)

@@ -1,7 +1,7 @@
 -- A run goes on from one line to the next: what stands after some lines were answered, and what follows at each way in which the run can end.
 use Rattle.std.proofs.Common.{◌≡◌, ◌≢◌, ℕ, ◌+◌, ◌<◌, ◌≤◌, List, [], ◌∷◌, ◌++◌, length, take, Option, None, Some, Ok, Err, inl, inr, refl, sym, ap, subst, ◌∙◌, arith, append_assoc, append-nil, length-append}
 use Rattle.std.specs.Io.KnownBytes.{prepend_known, Consumes, Appends}
-use Rattle.std.proofs.KnownBytes.{Consumes-nil, Consumes-trans, Appends-nil, Appends-trans}
+use Rattle.std.proofs.KnownBytes.{Consumes-trans, Appends-trans}
 use Rattle.std.proofs.lemmas.List.{take_at}
 use Rattle.nr_prog.specs.declared.fault.RunFault.{RunFault}
 use Rattle.nr_prog.specs.declared.fault.RunFault.TheVariants as faults
@@ -30,21 +30,6 @@ module _ {S : Type 0} (answer : S → List ℕ → List ℕ × S) (start : S) wh
     pub cut : (more : List ℕ) → lines (taken ++ more) ≡ done ++ lines more
     pub count : length taken + allowance input ≡ limit
     pub counters : limit < lines_left + length taken
-
-  pub answered_none : (limit : ℕ) (input : Input) (had held : Option (List ℕ)) (lines_left : ℕ) → pending input ≡ [] → allowance input ≡ limit → limit < lines_left
-      → Answered limit input had had held held start lines_left
-  answered_none limit input had held lines_left none all room =
-      record {
-        taken = [];
-        done = [];
-        consumes = rw (unread_none input had none) (Consumes-nil had);
-        appends = Appends-nil held;
-        state_is = refl;
-        ended = λ more. refl;
-        cut = λ more. refl;
-        count = omega (arith, all);
-        counters = omega (arith, room);
-      }
 
   -- what the input holds was taken from the reader too
   unread_taken : (had left : Option (List ℕ)) (bs more : List ℕ) → Consumes had (prepend_known more left) bs → Consumes had left (bs ++ more)
