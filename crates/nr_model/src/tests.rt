@@ -48,7 +48,7 @@ fn rows_are_pushed_in_order(rt: HostRuntime) -> Result<(), Fail> {
     let mut set = set_of(&[row(9, 9)])?;
     set.clear();
     assert_eq!(rt; set.len(), 0);
-    set.push(row(3, 9));
+    set.push(0, row(3, 9));
     assert_eq!(rt; set.len(), 1);
     assert_eq!(rt; set.get(0), Some(row(3, 9)));
     Ok(())
