@@ -102,6 +102,7 @@ abbrev pub numbered_key : ℕ → Option ℕ → Result ℕ Refusal
 numbered_key count None = Err refusals.Bad
 numbered_key count (Some key) = if nat_lt key count then Ok key else Err refusals.NoKey
 
+-- a word is never empty, so nothing else comes of a name
 abbrev pub named_key : Result ℕ NameFault → Result ℕ Refusal
 named_key (Ok key) = Ok key
 named_key (Err names.TooLong) = Err refusals.TooLong
