@@ -5,6 +5,7 @@ mod KeptLemmas
 mod LineLemmas
 mod ProgramLemmas
 mod RunLemmas
+mod ScheduleLemmas
 mod SpellingLemmas
 mod TextLemmas
 mod WordLemmas

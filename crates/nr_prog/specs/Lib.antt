@@ -9,6 +9,7 @@ pub mod Output
 pub mod Program
 pub mod Run
 pub mod Schedule
+pub mod ScheduleRuns
 pub mod Script
 pub mod ScriptMachine
 pub mod Spelling

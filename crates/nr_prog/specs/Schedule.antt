@@ -3,6 +3,7 @@ use Rattle.std.specs.Prelude.{ℕ, if◌then◌else◌, List, Option, None, Some
 use Rattle.nr_model.specs.declared.rows.Row.{Row}
 use Rattle.nr_model.specs.declared.rows.TooMany.{TooMany}
 use Rattle.nr_model.specs.declared.rows.TheConstants.{MAX_ROWS}
+use Rattle.nr_core.specs.declared.shape.Shape.{Shape}
 use Rattle.nr_core.specs.declared.calls.Refusal.{Refusal}
 use Rattle.nr_core.specs.declared.calls.WriterCall.{WriterCall}
 use Rattle.nr_core.specs.declared.calls.WriterCall.TheVariants as calls
@@ -61,14 +62,17 @@ abbrev pub closed : State
 closed = None
 
 -- the machine that an opening opens
-abbrev pub opened : Opening → machine.State
-opened opening = machine.opening (record {
+abbrev pub shape_of : Opening → Shape
+shape_of opening = record {
   keys = opening.keys;
   slots = opening.slots;
   readers = opening.readers;
   bound = MAX_ROWS;
   first = opening.first_count;
-})
+}
+
+abbrev pub opened : Opening → machine.State
+opened opening = machine.opening (shape_of opening)
 
 -- each attempt before a machine is opened
 abbrev pub answer_closed : Attempt → Result StepAnswer StepRefusal × State

@@ -9,6 +9,7 @@ mod command;
 mod fault;
 mod input;
 mod keys;
+pub mod laws;
 mod line;
 mod machine;
 mod opened;

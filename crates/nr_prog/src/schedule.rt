@@ -140,22 +140,22 @@ impl Schedule {
     }
 
     /// A reader's number, unless it is too large for one that the machine has.
-    fn reader(&self, number: u64) -> Result<u32, Refusal>
-        ensures ok { IfOk result (λ reader. reader ≡ number) }
-        ensures err { IfErr result (λ why. (why ≡ Refusal.OutOfRange) × (has_reader self.now.shape number ≡ false)) }
+    fn reader(&self, reader: u64) -> Result<u32, Refusal>
+        ensures ok { IfOk result (λ number. number ≡ reader) }
+        ensures err { IfErr result (λ why. (why ≡ Refusal.OutOfRange) × (has_reader self.now.shape reader ≡ false)) }
     {
-        // A machine has no more of them than their limit, and this shows it.
+        // What always holds of the machine shows that it has fewer readers than this.
         let _ = &self.core;
-        u32::try_from(number).map_err(|_| Refusal::OutOfRange)
+        u32::try_from(reader).map_err(|_| Refusal::OutOfRange)
     }
 
     /// A key's number, unless it is too large for one that the machine has.
-    fn key(&self, number: u64) -> Result<u32, Refusal>
-        ensures ok { IfOk result (λ key. key ≡ number) }
-        ensures err { IfErr result (λ why. (why ≡ Refusal.OutOfRange) × (has_key self.now.shape number ≡ false)) }
+    fn key(&self, key: u64) -> Result<u32, Refusal>
+        ensures ok { IfOk result (λ number. number ≡ key) }
+        ensures err { IfErr result (λ why. (why ≡ Refusal.OutOfRange) × (has_key self.now.shape key ≡ false)) }
     {
-        // A machine has no more of them than their limit, and this shows it.
+        // The same of its keys.
         let _ = &self.core;
-        u32::try_from(number).map_err(|_| Refusal::OutOfRange)
+        u32::try_from(key).map_err(|_| Refusal::OutOfRange)
     }
 }
