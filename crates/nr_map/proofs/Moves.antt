@@ -1,0 +1,87 @@
+-- What a step does to its token's own view: it learns the history so far and adds entries, or it learns nothing.
+use Rattle.std.proofs.Common.{◌≡◌, ℕ, ◌+◌, List, [], ◌++◌, map, cond, true, refl, sym, ap, ◌∙◌, subst, arith, append_assoc, append-nil}
+use mathlib.Core.Option.{some}
+use lib.ListN.{get_elem?}
+use Rattle.atomic_table.specs.Table.{State}
+use Rattle.nr_model.specs.Histories.{Entry, IsLegal, entries_of}
+use Rattle.nr_model.specs.Maps.{opening}
+use Rattle.nr_core.proofs.Histories.{of-append}
+use Rattle.nr_core.specs.Roles.{is_by, is_reader, is_writer}
+use Rattle.nr_core.specs.Operations.{Operation}
+use Rattle.nr_core.specs.Steps.{Stepped, Telling}
+use Rattle.nr_core.specs.declared.roles.Role.{Role}
+use Rattle.nr_core.specs.declared.shape.Shape.{Shape}
+use Rattle.nr_map.specs.Plays.{Advances, Waits}
+use Rattle.nr_map.specs.Rule.{Fits, Kept, role_of}
+use Rattle.nr_map.proofs.Lift.{Choice}
+use Rattle.nr_map.specs.Views.{Poll, View, number_of}
+
+-- the view after a step that learns the history so far and adds entries; after one that learns nothing
+abbrev pub learned : View → Role → List Entry → List Entry → List Poll → View
+learned view after seen entries polls = record { role = after; shape = view.shape; made = view.made; seen = seen; told = view.told; mine = view.mine ++ entries; steps = view.steps + 1; polls = polls }
+
+abbrev pub waited : View → Role → View
+waited view after = record { role = after; shape = view.shape; made = view.made; seen = view.seen; told = view.told; mine = view.mine; steps = view.steps + 1; polls = view.polls }
+
+module _ (shape : Shape) (log : List Entry) (view : View) (fits : Fits shape log view) (after : Role) (same : (caller : ℕ) → is_by caller after ≡ is_by caller view.role) (writer : is_writer after ≡ is_writer view.role) (reader : is_reader after ≡ is_reader view.role) where
+  pub learned_fits : (entries : List Entry) (polls : List Poll) → ((caller : ℕ) → entries_of entries caller ≡ cond (is_by caller view.role) entries []) → Fits shape (log ++ entries) (learned view after (log ++ entries) entries polls)
+  learned_fits entries polls own =
+      let all : (caller : ℕ) → is_by caller after ≡ true → entries_of (log ++ entries) caller ≡ view.mine ++ entries = λ caller his. let before : is_by caller view.role ≡ true = sym (same caller) ∙ his in
+      of-append caller log entries ∙ ap (λ (l : List Entry). l ++ entries_of entries caller) (fits.own caller before) ∙ ap (λ (l : List Entry). view.mine ++ l) (own caller ∙ ap (λ y. cond y entries []) before) in record {
+        begins = record { rest = []; is = sym (append-nil (log ++ entries)) };
+        told = record { rest = fits.told.rest ++ entries; is = ap (λ (l : List Entry). l ++ entries) fits.told.is ∙ append_assoc view.told fits.told.rest entries };
+        own = all;
+        knows_own = all;
+        sized = λ l. fits.sized (omega arith);
+      }
+
+  pub waited_fits : Fits shape (log ++ []) (waited view after)
+  waited_fits = record {
+    begins = record { rest = fits.begins.rest; is = append-nil log ∙ fits.begins.is };
+    told = record { rest = fits.told.rest; is = append-nil log ∙ fits.told.is };
+    own = λ caller his. ap (λ (l : List Entry). entries_of l caller) (append-nil log) ∙ fits.own caller (sym (same caller) ∙ his);
+    knows_own = λ caller his. fits.knows_own caller (sym (same caller) ∙ his);
+    sized = λ l. fits.sized (omega arith);
+  }
+
+  module _ (number : number_of after ≡ number_of view.role) (sized : view.shape ≡ shape) where
+    pub learned_advances : (entries : List Entry) (polls : List Poll) → is_by (number_of view.role) view.role ≡ true → ((caller : ℕ) → entries_of entries caller ≡ cond (is_by caller view.role) entries []) → IsLegal (opening shape.keys shape.bound) (log ++ entries)
+        → Advances view entries (learned view after (log ++ entries) entries polls)
+    learned_advances entries polls caller own legal id = record {
+      table = refl;
+      number = number;
+      between = fits.begins.rest;
+      seen = ap (λ (l : List Entry). l ++ entries) fits.begins.is;
+      mine = refl;
+      legal = subst (λ (g : Shape). IsLegal (opening g.keys g.bound) (log ++ entries)) (sym sized) legal;
+      own = (learned_fits entries polls own).knows_own (number_of after) (same (number_of after) ∙ ap (λ (n : ℕ). is_by n view.role) number ∙ caller);
+      steps_made = refl;
+    }
+
+    pub waited_waits : Waits view (waited view after)
+    waited_waits id = record { table = refl; number = number; seen = refl; mine = refl; steps_made = refl }
+
+-- The two ways in which a step of the core becomes one of the token.
+module _ (shape : Shape) (id : ℕ) (view : View) (operation : Operation) (tells : Telling) (state : State (Unit {0}) View) (kept : Kept shape state) (at : get_elem? state.views id ≡ some view)
+    (step : Stepped shape state.words (map role_of state.views) kept.log id view.role operation tells) (same_number : number_of step.after ≡ number_of view.role) (sized : view.shape ≡ shape) where
+  -- the token learns the history so far, with the step's entries
+  pub learning : (polls : List Poll) (then : View → Type 0) → is_by (number_of view.role) view.role ≡ true → (told : List Entry) → step.entries ≡ told
+      → let next = learned view step.after (kept.log ++ step.entries) step.entries polls in (Advances view told next → then next) → Choice shape id view operation tells state kept step then
+  learning polls then caller told is tell = let fits = kept.fits id view at in record {
+    next = learned view step.after (kept.log ++ step.entries) step.entries polls;
+    role = refl;
+    made = refl;
+    fits = learned_fits shape kept.log view fits step.after step.same step.writer step.reader step.entries polls step.own;
+    told = tell (subst (λ (entries : List Entry). Advances view entries (learned view step.after (kept.log ++ step.entries) step.entries polls)) is
+        (learned_advances shape kept.log view fits step.after step.same step.writer step.reader same_number sized step.entries polls caller step.own step.core.legal));
+  }
+
+  -- the token learns nothing from a step without an entry
+  pub waiting : (then : View → Type 0) → step.entries ≡ [] → (Waits view (waited view step.after) → then (waited view step.after)) → Choice shape id view operation tells state kept step then
+  waiting then none tell = let fits = kept.fits id view at in record {
+    next = waited view step.after;
+    role = refl;
+    made = refl;
+    fits = subst (λ (entries : List Entry). Fits shape (kept.log ++ entries) (waited view step.after)) (sym none) (waited_fits shape kept.log view fits step.after step.same step.writer step.reader);
+    told = tell (waited_waits shape kept.log view fits step.after step.same step.writer step.reader same_number sized);
+  }

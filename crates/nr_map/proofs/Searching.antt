@@ -1,0 +1,143 @@
+-- The search for a slot: each retired one is polled in order, until one is not held.
+use Rattle.std.proofs.Common.{◌≡◌, ◌≢◌, ℕ, zero, suc, ◌+◌, ◌-◌, ◌<◌, ◌≤◌, ◌⊎◌, List, [], ◌∷◌, ◌++◌, Bool, true, false, cond, map, get_or, length, nat_eq, take, inl, inr, ⊎_elim, refl, sym, ap, ◌∙◌, subst, arith, append-nil, le-leb}
+use Rattle.std.proofs.lemmas.Bool.{eq-eqb, lt-leb, lt-ltb, le-ltb, ne_eqb}
+use Rattle.std.specs.Prelude.{nat_lt}
+use mathlib.Core.Logic.{dite}
+use mathlib.Core.Option.{some, some-ne-none}
+use native.Mathlib.Decide.{ℕ_discrete, dec_le}
+use lib.ListN.{get_elem?}
+use lib.Seq.{take-suc}
+use mathlib.Core.List.{map-append}
+use Rattle.std.proofs.lemmas.List.{take_all}
+use Rattle.nr_words.specs.KeyWords.{same_count}
+use Rattle.nr_core.proofs.Choices.{by_cases}
+use Rattle.nr_core.proofs.Sums.{at_snoc}
+use Rattle.nr_core.specs.States.{no_retired, retired_at}
+use Rattle.nr_model.specs.Histories.{Entry, IsLegal}
+use Rattle.nr_model.specs.declared.calls.Call.{Call}
+use Rattle.nr_model.specs.declared.rows.Row.{Row}
+use Rattle.nr_core.specs.Story.{call_of, ending}
+use Rattle.nr_core.specs.Writer.{moved_to, no_slot, polled, polls_on, settled, taking_fresh, taking_retired}
+use Rattle.nr_core.specs.declared.calls.NoSlot.{NoSlot}
+use Rattle.nr_core.specs.declared.calls.Step.{Step}
+use Rattle.nr_core.specs.declared.calls.Step.TheVariants.{Ended, Going}
+use Rattle.nr_core.specs.declared.calls.WReply.TheVariants as writer
+use Rattle.nr_core.specs.declared.calls.WriterCall.{WriterCall}
+use Rattle.nr_core.specs.declared.places.Place.TheVariants.{Idle, Searching}
+use Rattle.nr_core.specs.declared.places.Retired.{Retired}
+use Rattle.nr_core.specs.declared.roles.Desk.{Desk}
+use Rattle.nr_core.specs.declared.shape.Shape.{Shape}
+use Rattle.nr_map.proofs.Tokens.{grows_both}
+use Rattle.nr_map.specs.Callers.{Caller, Grows, Table, token}
+use Rattle.nr_map.specs.Plays.{Lacks}
+use Rattle.nr_map.specs.Spares.{Spare, desk_with, none_spare}
+use Rattle.nr_map.specs.Views.{Poll}
+use Rattle.nr_map.specs.WriterSeats.{AllNoted, GoesOn, GoesTo, Knows, LacksSlot, LeadsIn, MapSeat, Settles, WritesAt, poll_slot, retired_slot, swept}
+
+-- no step, where what is known is legal
+pub grows_none : (caller : Caller) → Knows caller → Grows 0 caller [] caller
+grows_none caller knows = record {
+  table = refl;
+  number = refl;
+  between = [];
+  seen = sym (append-nil (caller.seen ++ []) ∙ append-nil caller.seen);
+  mine = sym (append-nil caller.mine);
+  legal = knows.legal;
+  own = knows.own;
+  steps_made = omega arith;
+}
+
+-- one poll more was noted
+noted_more : (table : Table) (retired : List Retired) (count : ℕ) (polls longer : List Poll) (reader : ℕ) → count < length retired → AllNoted table (take count retired) polls → 0 < reader → reader ≤ table.shape.readers
+    → longer ≡ polls ++ (record { slot = (get_or retired count no_retired).slot; reader = reader }) ∷ [] → AllNoted table (take (count + 1) retired) longer
+noted_more table retired count polls longer reader low so_far positive few is = let last : Poll = record { slot = (get_or retired count no_retired).slot; reader = reader } in record {
+  slots = ap (map poll_slot) is ∙ map-append poll_slot polls (last ∷ []) ∙ ap (λ (l : List ℕ). l ++ last.slot ∷ []) so_far.slots ∙ sym (map-append retired_slot (take count retired) (get_or retired count no_retired ∷ []))
+      ∙ ap (map retired_slot) (sym (take-suc retired count no_retired low) ∙ ap (λ (n : ℕ). take n retired) (let next : suc count ≡ count + 1 = omega arith in next));
+  readers = λ at poll e. ⊎_elim (so_far.readers at poll) (λ (same : last ≡ poll). let r = ap (λ (p : Poll). p.reader) same in (omega arith, omega arith)) (at_snoc polls last poll at (ap (λ (l : List Poll). get_elem? l at) (sym is) ∙ e));
+}
+
+-- the search so far
+pub record Searched (table : Table) (call : WriterCall) (rows : List Row) (spare : Spare) (before after : MapSeat) (polls : ℕ) : Type 0 where
+  pub slots : spare.slots ≡ table.shape.slots
+  pub leads : LeadsIn polls table (call_of call) (swept table.shape (desk_with spare Idle) call rows polls) before after
+  pub noted : AllNoted table (take polls spare.retired) after.me.0.polls
+
+module _ (shape : Shape) (desk : Desk) (call : WriterCall) (rows : List Row) where
+  abbrev on_to : ℕ → Desk × Step
+  on_to polls = (moved_to desk (Searching call rows polls), Going)
+
+  abbrev none_left : Desk × Step
+  none_left = (moved_to desk Idle, no_slot shape desk)
+
+  swept_more : (polls : ℕ) → polls < length desk.retired → swept shape desk call rows polls ≡ on_to polls
+  swept_more polls low = ap (λ (b : Bool). cond {A = Desk × Step} b (on_to polls) none_left) (lt-ltb polls (length desk.retired) low)
+
+  pub swept_all : (polls : ℕ) → length desk.retired ≤ polls → swept shape desk call rows polls ≡ none_left
+  swept_all polls all = ap (λ (b : Bool). cond {A = Desk × Step} b (on_to polls) none_left) (le-ltb polls (length desk.retired) all)
+
+  swept_quiet : (c : Call) (polls : ℕ) → ending c (swept shape desk call rows polls).1 ≡ []
+  swept_quiet c polls = by_cases (λ b. ending c (cond {A = Desk × Step} b (on_to polls) none_left).1 ≡ []) (nat_lt polls (length desk.retired)) (λ _. refl) (λ _. refl)
+
+  -- a call that finds no slot that was never taken begins to poll, or has none
+  settled_swept : shape.slots ≤ desk.fresh → settled shape desk call rows ≡ swept shape desk call rows 0
+  settled_swept full = ap (λ (b : Bool). cond {A = Desk × Step} b (taking_fresh shape desk call rows, Going) (cond {A = Desk × Step} (nat_eq (length desk.retired) 0) none_left (on_to 0))) (le-ltb desk.fresh shape.slots full)
+      ∙ dite (ℕ_discrete (length desk.retired) 0)
+      (λ none. ap (λ (b : Bool). cond {A = Desk × Step} b none_left (on_to 0)) (eq-eqb (length desk.retired) 0 none) ∙ sym (swept_all 0 (omega arith)))
+      (λ some_there. ap (λ (b : Bool). cond {A = Desk × Step} b none_left (on_to 0)) (ne_eqb (length desk.retired) 0 some_there) ∙ sym (swept_more 0 (omega arith)))
+
+-- the search begins
+pub searched_none : (table : Table) (call : WriterCall) (rows : List Row) (spare : Spare) (seat : MapSeat) → Settles table call rows spare seat → spare.slots ≤ spare.fresh → Searched table call rows spare seat seat 0
+searched_none table call rows spare seat settles full =
+    let shape = table.shape in let desk = desk_with spare Idle in let size = settles.slots in
+    let is = settled_swept shape desk call rows (omega arith) in record {
+      slots = settles.slots;
+      leads = record {
+        writes = subst (λ (o : Desk × Step). WritesAt table o.0 seat) is settles.writes;
+        grows = subst (λ (es : List Entry). Grows 0 (token seat) es (token seat)) (sym (swept_quiet shape desk call rows (call_of call) 0)) (grows_none (token seat) settles.knows);
+        short = λ counts without. settles.short counts (ap (λ (o : Desk × Step). o.1) is ∙ without);
+      };
+      noted = subst (AllNoted table []) (sym settles.polls) (record { slots = refl; readers = λ at poll e. absurd (some-ne-none poll (sym e)) });
+    }
+
+module _ (table : Table) (call : WriterCall) (rows : List Row) (spare : Spare) (before mid : MapSeat) (polls : ℕ) (so_far : Searched table call rows spare before mid polls) (low : polls < length spare.retired) where
+  abbrev desk_now : Desk
+  desk_now = desk_with spare (Searching call rows polls)
+
+  pub searching_at : WritesAt table desk_now mid
+  searching_at = subst (λ (o : Desk × Step). WritesAt table o.0 mid) (swept_more table.shape (desk_with spare Idle) call rows polls low) so_far.leads.writes
+
+  so_far_quiet : Grows polls (token before) [] (token mid)
+  so_far_quiet = subst (λ (es : List Entry). Grows polls (token before) es (token mid)) (swept_quiet table.shape (desk_with spare Idle) call rows (call_of call) polls) so_far.leads.grows
+
+  module _ (found : ℕ) (after : MapSeat) (goes : GoesOn table found mid after) where
+    told : GoesTo table desk_now found mid after
+    told = goes desk_now searching_at.role
+
+    -- the slot is not held: it is taken
+    pub takes_it : same_count found (retired_at desk_now polls).arrivals ≡ true → WritesAt table (taking_retired desk_now call rows polls found) after × Grows (polls + 1) (token before) [] (token after)
+    takes_it agree =
+        let outcome : polled table.shape desk_now call rows polls found ≡ (taking_retired desk_now call rows polls found, Going) = ap (λ (b : Bool). cond {A = Desk × Step} b (taking_retired desk_now call rows polls found, Going) (polls_on table.shape desk_now call rows polls)) agree in
+        let leads = subst (λ (o : Desk × Step). LeadsIn 1 table (call_of call) o mid after) outcome told.leads in
+        (leads.writes, grows_both polls 1 (polls + 1) (token before) (token mid) [] (token after) refl so_far_quiet leads.grows)
+
+    -- the slot is held: the search goes on, or there is none
+    pub searched_more : same_count found (retired_at desk_now polls).arrivals ≡ false → Searched table call rows spare before after (polls + 1)
+    searched_more apart =
+        let outcome : polled table.shape desk_now call rows polls found ≡ swept table.shape (desk_with spare Idle) call rows (polls + 1) = ap (λ (b : Bool). cond {A = Desk × Step} b (taking_retired desk_now call rows polls found, Going) (polls_on table.shape desk_now call rows polls)) apart in
+        let leads = subst (λ (o : Desk × Step). LeadsIn 1 table (call_of call) o mid after) outcome told.leads in
+        let note = told.notes.1 apart in record {
+          slots = so_far.slots;
+          leads = record { writes = leads.writes; grows = grows_both polls 1 (polls + 1) (token before) (token mid) _ (token after) refl so_far_quiet leads.grows; short = leads.short };
+          noted = noted_more table spare.retired polls mid.me.0.polls after.me.0.polls note.0 low so_far.noted note.1 note.2 note.3;
+        }
+
+-- every retired slot was found held
+pub lacks_slot : (table : Table) (call : WriterCall) (rows : List Row) (spare : Spare) (before after : MapSeat) (polls : ℕ) → Searched table call rows spare before after polls → polls ≡ length spare.retired → LacksSlot table call (none_spare spare) spare spare before after
+lacks_slot table call rows spare before after polls so_far all =
+    let desk = desk_with spare Idle in let is = swept_all table.shape desk call rows polls (omega arith) in let leads = so_far.leads in record {
+      same = refl;
+      writes = subst (λ (o : Desk × Step). WritesAt table o.0 after) is leads.writes;
+      grows = subst (λ (n : ℕ). Grows n (token before) [] (token after)) all (subst (λ (es : List Entry). Grows polls (token before) es (token after)) (swept_quiet table.shape desk call rows (call_of call) polls) leads.grows);
+      lacks = leads.short (none_spare spare) (ap (λ (o : Desk × Step). o.1) is ∙ ap (λ (n : ℕ). Ended (writer.NoSlot (record { live = n - length spare.retired; held = length spare.retired }))) (sym so_far.slots));
+      noted = subst (λ (l : List Retired). AllNoted table l after.me.0.polls) (take_all polls spare.retired (omega arith)) so_far.noted;
+    }

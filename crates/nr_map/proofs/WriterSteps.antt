@@ -1,0 +1,184 @@
+-- The writer's steps on the table: the look of each call, and every later step.
+use Rattle.std.proofs.Common.{◌≡◌, ℕ, suc, ◌+◌, ◌-◌, ◌*◌, ◌<◌, ◌≤◌, List, [], ◌∷◌, ◌++◌, Bool, true, false, cond, map, set, get_or, le-leb, length, nat_eq, take, refl, sym, ap, ◌∙◌, subst, arith, append-nil}
+use Rattle.std.proofs.lemmas.Bool.{eq-eqb}
+use Rattle.std.specs.Prelude.{None, Some}
+use mathlib.Core.Logic.{dite}
+use native.Mathlib.Decide.{dec_le}
+use mathlib.Core.Option.{some}
+use mathlib.Core.Option.{none as no_value}
+use lib.ListN.{get_elem?}
+use Rattle.atomic_table.specs.Seated.{TableId}
+use Rattle.atomic_table.specs.Table.{Allows, Me, State, carried_after}
+use Rattle.atomic_table.proofs.Lists.{at_map}
+use Rattle.nr_model.specs.Histories.{Entry}
+use Rattle.nr_model.specs.Maps.{reply_to}
+use Rattle.nr_model.specs.declared.rows.Row.{Row}
+use Rattle.nr_model.specs.declared.calls.Call.{Call}
+use Rattle.nr_model.specs.declared.calls.Reply.TheVariants as reply
+use Rattle.nr_words.specs.KeyWords.{same_count}
+use Rattle.nr_words.specs.SetWords.{encode}
+use Rattle.nr_core.proofs.Go.{goes}
+use Rattle.nr_core.proofs.Look.{looks}
+use Rattle.nr_core.proofs.ReadThrough.{read_next, read_set}
+use Rattle.nr_core.proofs.Guards.{no_some}
+use Rattle.nr_core.proofs.Sums.{here_after, some_term, term_le}
+use Rattle.nr_core.specs.Core.{AtPlace, Core, Reads}
+use Rattle.nr_core.specs.Laws.{IsGivenCall}
+use Rattle.nr_core.specs.Operations.{Load, Operation, Store, Swap, becomes, going, place_of}
+use Rattle.nr_core.specs.Refusals.{if_not_busy}
+use Rattle.nr_core.specs.Roles.{held, holds, is_by, is_reader, is_writer, taken}
+use Rattle.nr_core.specs.Slots.{content, departures, naming}
+use Rattle.nr_core.specs.States.{key_of, retired_at}
+use Rattle.nr_core.specs.Steps.{CanStep, Goes, Looks, Stepped, Telling}
+use Rattle.nr_core.specs.Story.{call_of, ending, ending_at, map_after}
+use Rattle.nr_core.specs.Writer.{ended, looked, moved_to, swapped, went}
+use Rattle.nr_core.specs.declared.calls.NoSlot.{NoSlot}
+use Rattle.nr_core.specs.declared.calls.Step.{Step}
+use Rattle.nr_core.specs.declared.calls.Step.TheVariants.{Ended, Going}
+use Rattle.nr_core.specs.declared.calls.WReply.TheVariants as writer
+use Rattle.nr_core.specs.declared.calls.WriterCall.{WriterCall}
+use Rattle.nr_core.specs.declared.places.Place.{Place}
+use Rattle.nr_core.specs.declared.places.Place.TheVariants.{Idle, Leaving, Putting, Reading, Searching}
+use Rattle.nr_core.specs.declared.roles.Desk.{Desk}
+use Rattle.nr_core.specs.declared.roles.Role.{Role}
+use Rattle.nr_core.specs.declared.calls.Refusal.TheVariants as refuse
+use Rattle.nr_core.specs.declared.roles.Grip.{Grip}
+use Rattle.nr_core.specs.declared.roles.Grip.TheVariants.{Nothing, On}
+use Rattle.nr_core.specs.declared.roles.Role.TheVariants.{Note, Reader, Writer}
+use Rattle.nr_core.specs.declared.shape.Shape.{Shape}
+use Rattle.nr_map.proofs.Lift.{Choice, lifts}
+use Rattle.nr_map.proofs.Moves.{learned, learning}
+use Rattle.nr_map.proofs.PollNotes.{notes_so}
+use Rattle.nr_map.proofs.Room.{room_at}
+use Rattle.nr_map.proofs.Shortage.{Shortage, go_short, lacks_so, look_short}
+use Rattle.nr_map.specs.Callers.{caller_of}
+use Rattle.nr_map.specs.Plays.{Advances, Lacks, Leads, Looked, Notes, ReadsOn, Put, Room, Went, call_at, next_put, put_place}
+use Rattle.nr_map.specs.Rule.{Fits, Kept, counts, role_of}
+use Rattle.nr_map.specs.Views.{Poll, View, desk_of, number_of}
+
+-- the writer's own entries are told by 0
+writer_is : (role : Role) (desk : Desk) → role ≡ Writer desk → is_by (number_of role) role ≡ true
+writer_is role desk is = ap (λ r. is_by (number_of r) r) is
+
+writer_shape : (shape : Shape) (log : List Entry) (view : View) (desk : Desk) → view.role ≡ Writer desk → Fits shape log view → view.shape ≡ shape
+writer_shape shape log view desk is fits = fits.sized (let one : is_writer view.role ≡ 1 = ap is_writer is in omega arith)
+
+-- one writer has one desk
+same_desk : (role : Role) (desk other : Desk) → role ≡ Writer desk → role ≡ Writer other → desk ≡ other
+same_desk role desk other is also = sym (ap desk_of is) ∙ ap desk_of also
+
+module _ (shape : Shape) (id : ℕ) (view : View) (desk : Desk) (is : view.role ≡ Writer desk) (operation : Operation) (tells : Telling) (state : State (Unit {0}) View) (kept : Kept shape state) (at : get_elem? state.views id ≡ some view)
+    (step : Stepped shape state.words (map role_of state.views) kept.log id view.role operation tells) (call : Call) (outcome : Desk × Step) (role_told : step.after ≡ Writer outcome.0) (entries_told : step.entries ≡ ending call outcome.1) where
+  sized : view.shape ≡ shape
+  sized = writer_shape shape kept.log view desk is (kept.fits id view at)
+
+  there_after : get_elem? (set (map role_of state.views) id step.after) id ≡ some (Writer outcome.0)
+  there_after = here_after (map role_of state.views) id view.role step.after (at_map role_of state.views id view at) ∙ ap some role_told
+
+  room_after : Room view.shape outcome.0
+  room_after = subst (λ (s : Shape). Room s outcome.0) (sym sized) (room_at shape _ (set (map role_of state.views) id step.after) (kept.log ++ step.entries) step.core id outcome.0 there_after)
+
+  abbrev pub next_view : List Poll → View
+  next_view polls = learned view step.after (kept.log ++ step.entries) step.entries polls
+
+  short_after : (polls : List Poll) (counts : NoSlot) → outcome.1 ≡ Ended (writer.NoSlot counts) → Shortage shape kept.log desk call outcome counts → (table : TableId) → Lacks call counts (caller_of table (next_view polls))
+  short_after polls counts without shortage =
+      let none_added : step.entries ≡ [] = entries_told ∙ ap (ending call) without in
+      let same_log : kept.log ≡ kept.log ++ step.entries = sym (append-nil kept.log) ∙ ap (λ (l : List Entry). kept.log ++ l) (sym none_added) in
+      let desk_is : outcome.0 ≡ moved_to desk Idle = shortage.none.same in
+      lacks_so shape _ (set (map role_of state.views) id step.after) (kept.log ++ step.entries) step.core id outcome.0 there_after
+      (subst (λ (d : Desk). shape.slots ≤ d.fresh) (sym desk_is) shortage.full) (λ slot. ap (λ (d : Desk). taken slot d.place) desk_is)
+      call counts (shortage.none.counted ∙ ap (λ (d : Desk). record { live = shape.slots - length d.retired; held = length d.retired }) (sym desk_is))
+      (subst (λ (l : List Entry). reply_to (map_after shape l) call ≡ reply.Done) same_log shortage.done)
+      (next_view polls) sized refl role_told
+
+  pub leads_so : (polls : List Poll) → ((counts : NoSlot) → outcome.1 ≡ Ended (writer.NoSlot counts) → Shortage shape kept.log desk call outcome counts) → Advances view (ending call outcome.1) (next_view polls) → Leads call outcome view (next_view polls)
+  leads_so polls short advances = record { role = role_told; advances = advances; room = room_after; short = λ counts without. short_after polls counts without (short counts without) }
+
+  -- the writer's view after the step
+  pub writes : (polls : List Poll) (then : View → Type 0) → (Advances view (ending call outcome.1) (next_view polls) → then (next_view polls)) → Choice shape id view operation tells state kept step then
+  writes polls then tell = learning shape id view operation tells state kept at step (ap number_of role_told ∙ sym (ap number_of is)) sized polls then (writer_is view.role desk is) (ending call outcome.1) entries_told tell
+
+pub looks_so : (shape : Shape) (slots id : ℕ) (me : Me (Unit {0}) View) (desk : Desk) (call : WriterCall) → me.0.role ≡ Writer desk → desk.place ≡ Idle → IsGivenCall shape.bound call → key_of call < shape.keys
+    → Allows (Kept shape) slots id me (key_of call) (λ word. word) (λ found after. (other : Desk) → me.0.role ≡ Writer other → Looked other call found me.0 after.0)
+looks_so shape slots id me desk call is idle given near = let view = me.0 in let tells = Looks shape desk call in let operation = Load (key_of call) in
+    lifts shape id view operation tells slots me.1 (λ found next. (other : Desk) → view.role ≡ Writer other → Looked other call found view next) (subst (λ r. CanStep shape id r operation tells) (sym is) (looks shape id desk call idle given near))
+    (λ state kept at step. let found : ℕ = get_or state.words (key_of call) 0 in let outcome = looked shape desk call found in let c = call_of call in
+    let there : get_elem? (map role_of state.views) id ≡ some (Writer desk) = at_map role_of state.views id view at ∙ ap some is in
+    let short : (counts : NoSlot) → outcome.1 ≡ Ended (writer.NoSlot counts) → Shortage shape kept.log desk c outcome counts = λ counts. look_short shape state.words (map role_of state.views) kept.log kept.core id desk there counts call near in
+    let size = writer_shape shape kept.log view desk is (kept.fits id view at) in
+    writes shape id view desk is operation tells state kept at step c outcome step.told.0 step.told.1 [] (λ next. (other : Desk) → view.role ≡ Writer other → Looked other call found view next)
+    (λ advances other also. let next = learned view step.after (kept.log ++ step.entries) step.entries [] in
+    subst (λ (d : Desk). Looked d call found view next) (same_desk view.role desk other is also) (record {
+      leads = subst (λ (s : Shape). Leads c (looked s desk call found) view next) (sym size) (leads_so shape id view desk is operation tells state kept at step c outcome step.told.0 step.told.1 [] short advances);
+      polls = refl;
+    })))
+
+-- what the call of a place ends with
+ending_there : (place : Place) (step : Step) → if_not_busy place ≡ None → ending_at place step ≡ ending (call_at place) step
+ending_there Idle step busy = absurd (no_some (Some refuse.NotBusy) refuse.NotBusy refl busy)
+ending_there (Reading call slot got) step busy = refl
+ending_there (Leaving key) step busy = refl
+ending_there (Searching call rows poll) step busy = refl
+ending_there (Putting call rows slot departed index) step busy = refl
+
+-- the words of the key's set are read on
+reads_so : (shape : Shape) (words : List ℕ) (roles : List Role) (log : List Entry) → Core shape words roles log → (id : ℕ) (desk : Desk) → get_elem? roles id ≡ some (Writer desk) → (place : Place) → desk.place ≡ place
+    → ReadsOn shape place (get_or words (place_of (going shape desk place)) 0)
+reads_so shape words roles log core id desk there place is = go place (subst (AtPlace shape words (map_after shape log) (held roles) desk.fresh desk.retired) is (core.knows id (Writer desk) there).place)
+  where
+    go : (at : Place) → AtPlace shape words (map_after shape log) (held roles) desk.fresh desk.retired at → ReadsOn shape at (get_or words (place_of (going shape desk at)) 0)
+    go Idle stands = tt
+    go (Reading call slot got) reads = (reads.rows, read_set shape words roles log core (key_of call) slot got reads, read_next shape words roles log core (key_of call) slot got reads ∙ ap (λ (n : ℕ). take n (encode reads.rows)) (let one : suc (length got) ≡ length got + 1 = omega arith in one), reads.more)
+    go (Leaving key) stands = tt
+    go (Searching call rows poll) stands = tt
+    go (Putting call rows slot departed index) stands = tt
+
+pub goes_so : (shape : Shape) (slots id : ℕ) (me : Me (Unit {0}) View) (desk : Desk) → me.0.role ≡ Writer desk → if_not_busy desk.place ≡ None
+    → let operation = going shape desk desk.place in Allows (Kept shape) slots id me (place_of operation) (becomes operation) (λ found after. (other : Desk) → me.0.role ≡ Writer other → Went other found me.0 after.0)
+goes_so shape slots id me desk is busy = let view = me.0 in let tells = Goes shape desk in let operation = going shape desk desk.place in let c = call_at desk.place in
+    lifts shape id view operation tells slots me.1 (λ found next. (other : Desk) → view.role ≡ Writer other → Went other found view next) (subst (λ r. CanStep shape id r operation tells) (sym is) (goes shape id desk busy))
+    (λ state kept at step. let found : ℕ = get_or state.words (place_of operation) 0 in let outcome = went shape desk desk.place found in
+    let there : get_elem? (map role_of state.views) id ≡ some (Writer desk) = at_map role_of state.views id view at ∙ ap some is in
+    let short : (counts : NoSlot) → outcome.1 ≡ Ended (writer.NoSlot counts) → Shortage shape kept.log desk c outcome counts = λ counts. go_short shape state.words (map role_of state.views) kept.log kept.core id desk there counts in
+    let size = writer_shape shape kept.log view desk is (kept.fits id view at) in
+    let entries : step.entries ≡ ending c outcome.1 = step.told.1 ∙ ending_there desk.place outcome.1 busy in
+    let notes = notes_so shape state kept id desk there desk.place refl view.polls in
+    writes shape id view desk is operation tells state kept at step c outcome step.told.0 entries notes.0 (λ next. (other : Desk) → view.role ≡ Writer other → Went other found view next)
+    (λ advances other also. let next = learned view step.after (kept.log ++ step.entries) step.entries notes.0 in
+    subst (λ (d : Desk). Went d found view next) (same_desk view.role desk other is also) (record {
+      leads = subst (λ (s : Shape). Leads c (went s desk desk.place found) view next) (sym size) (leads_so shape id view desk is operation tells state kept at step c outcome step.told.0 entries notes.0 short advances);
+      reads_on = subst (λ (s : Shape). ReadsOn s desk.place found) (sym size) (reads_so shape state.words (map role_of state.views) kept.log kept.core id desk there desk.place refl);
+      notes = subst (λ (s : Shape). Notes s desk desk.place found view.polls notes.0) (sym size) notes.1;
+    })))
+
+-- what a step told, told otherwise
+tells_also : (holds : State (Unit {0}) View → Type 0) (slots id : ℕ) (me : Me (Unit {0}) View) (place : ℕ) (f : ℕ → ℕ) (then also : ℕ → Me (Unit {0}) View → Type 0) → ((found : ℕ) (after : Me (Unit {0}) View) → then found after → also found after)
+    → Allows holds slots id me place f then → Allows holds slots id me place f also
+tells_also holds slots id me place f then also so allows state kept wide at small = let step = allows state kept wide at small in (step.0, step.1, step.2, step.3, so (get_or state.words place 0) (step.0, carried_after me.1 step.1) step.4)
+
+-- a put leads to the next one, whatever word it found
+put_leads : (desk : Desk) (call : WriterCall) (rows : List Row) (slot departed index found : ℕ) (old new : View) → desk.place ≡ Putting call rows slot departed index → index ≤ 2 * length rows → Went desk found old new → Put desk old new
+put_leads desk call rows slot departed index found old new is low went_so =
+    let after : Desk × Step = (moved_to desk (Putting call rows slot departed (index + 1)), Going) in
+    let outcome : went old.shape desk desk.place found ≡ after = ap (λ (p : Place). went old.shape desk p found) is
+    ∙ ap (λ (b : Bool). cond {A = Desk × Step} b after (swapped desk found, ended reply.Done)) (le-leb index (2 * length rows) low) in
+    let next : next_put desk ≡ after.0 = ap (λ (p : Place). moved_to desk (put_place p)) is in
+    let leads = went_so.leads in record {
+      role = leads.role ∙ ap (λ (o : Desk × Step). Writer o.0) outcome ∙ sym (ap Writer next);
+      advances = subst (λ (s : Step). Advances old (ending (call_at desk.place) s) new) (ap (λ (o : Desk × Step). o.1) outcome) leads.advances;
+      room = subst (Room old.shape) (ap (λ (o : Desk × Step). o.0) outcome ∙ sym next) leads.room;
+      polls = subst (λ (p : Place). Notes old.shape desk p found old.polls new.polls) is went_so.notes;
+    }
+
+pub puts_so : (shape : Shape) (slots id : ℕ) (me : Me (Unit {0}) View) (desk : Desk) (call : WriterCall) (rows : List Row) (slot departed index : ℕ) → me.0.role ≡ Writer desk → desk.place ≡ Putting call rows slot departed index → index ≤ 2 * length rows
+    → let word = get_or (encode rows) index 0 in Allows (Kept shape) slots id me (content shape slot index) (λ _. word) (λ _ after. (other : Desk) → me.0.role ≡ Writer other → Put other me.0 after.0)
+puts_so shape slots id me desk call rows slot departed index is place_is low =
+    let at = moved_to desk (Putting call rows slot departed index) in
+    let word : ℕ = get_or (encode rows) index 0 in
+    let operation : going shape at at.place ≡ Store (content shape slot index) word = ap (λ (b : Bool). cond {A = Operation} b (Store (content shape slot index) word) (Swap (key_of call) (naming slot departed))) (le-leb index (2 * length rows) low) in
+    let at_is : me.0.role ≡ Writer at = is ∙ (λ j. Writer (record desk { place = place_is j })) in
+    let told : ℕ → Me (Unit {0}) View → Type 0 = λ found after. (other : Desk) → me.0.role ≡ Writer other → Went other found me.0 after.0 in
+    let allows = subst (λ (o : Operation). Allows (Kept shape) slots id me (place_of o) (becomes o) told) operation (goes_so shape slots id me at at_is refl) in
+    tells_also (Kept shape) slots id me (content shape slot index) (λ _. word) told (λ _ after. (other : Desk) → me.0.role ≡ Writer other → Put other me.0 after.0)
+    (λ found after so other also. put_leads other call rows slot departed index found me.0 after.0 (ap (λ (d : Desk). d.place) (same_desk me.0.role other at also at_is)) low (so other also)) allows

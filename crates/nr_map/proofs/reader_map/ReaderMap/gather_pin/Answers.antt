@@ -1,0 +1,10 @@
+use Rattle.std.proofs.Common.{subst}
+use Rattle.nr_map.proofs.Gathering.{gathers_seats}
+use Rattle.nr_map.specs.Callers.{Caller, token}
+use Rattle.nr_map.specs.Meetings.{Gathers}
+use Rattle.nr_map.proofs.reader_map.ReaderMap.gather_pin.Goals as goal
+
+pub returns-clause-gathers : goal.returns-clause-gathers
+returns-clause-gathers c = let writer = c.writer.inside.seat in let pin = c.pin.inside.seat in let hear = c.hear in let tell = c.hear-2 in
+    subst (λ (p : Caller × Caller). Gathers p.0 p.1 (token tell.new.other) (token tell.new.seat)) (λ j. (c.writer.view_is j, (c.pin.view_is j).reader))
+    (gathers_seats writer pin hear.new.seat hear.new.other tell.new.other tell.new.seat hear.ensures.other tell.ensures.other hear.ensures.meets tell.ensures.meets)

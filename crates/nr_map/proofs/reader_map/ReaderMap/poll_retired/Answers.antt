@@ -1,0 +1,66 @@
+use Rattle.std.proofs.Common.{List, ap, arith, get_or, inr, length, refl, subst, sym, ℕ, ◌+◌, ◌<◌, ◌∙◌, ◌≡◌}
+use Rattle.std.specs.Prelude.{remove}
+use Rattle.nr_words.specs.KeyWords.{same_count}
+use Rattle.nr_core.specs.States.{no_retired}
+use Rattle.nr_core.specs.declared.calls.NoSlot.{NoSlot}
+use Rattle.nr_core.specs.declared.places.Place.TheVariants.{Putting}
+use Rattle.nr_core.specs.declared.places.Retired.{Retired}
+use Rattle.nr_map.proofs.Searching.{lacks_slot, searched_more, searching_at, takes_it}
+use Rattle.nr_map.specs.Callers.{Table}
+use Rattle.nr_map.specs.Spares.{Spare, desk_with, none_spare}
+use Rattle.nr_map.specs.WriterSeats.{GoesOn, IsPolling, LacksSlot, TakesSlot, WritesAt}
+use Rattle.nr_map.proofs.reader_map.ReaderMap.poll_retired.Goals as goal
+
+retired_so : (list : List Retired) (spare before : Spare) → list ≡ spare.retired → spare ≡ before → list ≡ before.retired
+retired_so list spare before is same = is ∙ ap (λ (s : Spare). s.retired) same
+
+pub bounds-retired-place : goal.bounds-retired-place
+bounds-retired-place c = omega (arith, c.loop-place-test.true, ap length c.retired-place-end.ensures, ap length (retired_so c.retired.result.now _ _ c.retired.ensures c.loop-place.invariant.0))
+
+pub poll-departures-requires : goal.poll-departures-requires
+poll-departures-requires c = let so_far = c.loop-place.invariant in let spare = c.args.spare.now in
+    let low : c.loop-place.place < length spare.retired = omega (arith, c.loop-place-test.true, ap length c.retired-place-end.ensures) in
+    subst (λ (table : Table). IsPolling table (get_or c.retired.result.now c.loop-place.place no_retired).slot c.loop-place.seat) (sym c.self.view_is) (record {
+      desk = _;
+      writes = searching_at c.args.self.now c.args.call.now c.args.rows.now spare c.args.seat.now c.loop-place.seat c.loop-place.place so_far.1 low;
+      call = c.args.call.now;
+      rows = c.args.rows.now;
+      poll = c.loop-place.place;
+      place = refl;
+      slot_is = ap (λ (l : List Retired). (get_or l c.loop-place.place no_retired).slot) (retired_so c.retired.result.now _ _ c.retired.ensures so_far.0);
+    })
+
+pub take_retired-requires : goal.take_retired-requires
+take_retired-requires c = omega (arith, c.loop-place-test.true, ap length c.retired-place-end.ensures, ap (λ (s : Spare). length s.retired) c.loop-place.invariant.0)
+
+pub returns-then-same_count : goal.returns-then-same_count
+returns-then-same_count c = let so_far = c.loop-place.invariant in let spare = c.args.spare.now in let place : ℕ = c.loop-place.place in let found : ℕ = c.poll-departures.result in
+    let low : place < length spare.retired = omega (arith, c.loop-place-test.true, ap length c.retired-place-end.ensures) in
+    let list = retired_so c.retired.result.now _ _ c.retired.ensures so_far.0 in
+    let goes = subst (λ (table : Table). GoesOn table found c.loop-place.seat c.poll-departures.new.seat) c.self.view_is c.poll-departures.ensures in
+    let took = takes_it c.args.self.now c.args.call.now c.args.rows.now spare c.args.seat.now c.loop-place.seat place so_far.1 low found c.poll-departures.new.seat goes
+    (ap (λ (l : List Retired). same_count found (get_or l place no_retired).arrivals) (sym list) ∙ sym c.same_count.ensures ∙ c.if-same_count.true) in
+    let after_is : c.take_retired.new.self ≡ record spare { retired = remove spare.retired place } = c.take_retired.ensures ∙ ap (λ (s : Spare). record s { retired = remove s.retired place }) so_far.0 in
+    subst (λ (p : Spare × ℕ). TakesSlot c.args.self.now c.args.call.now c.args.rows.now p.1 found spare p.0 c.args.seat.now c.poll-departures.new.seat) (λ j. (sym after_is j, (get_or (sym list j) place no_retired).slot)) (record {
+      polls = place + 1;
+      took = inr (c.requires.none_fresh, place, low, refl, refl, refl);
+      slots = refl;
+      writes = took.0;
+      grows = took.1;
+    })
+
+pub loop-place-preserved : goal.loop-place-preserved
+loop-place-preserved c = let so_far = c.loop-place.invariant in let spare = c.args.spare.now in let place : ℕ = c.loop-place.place in let found : ℕ = c.poll-departures.result in
+    let low : place < length spare.retired = omega (arith, c.loop-place-test.true, ap length c.retired-place-end.ensures) in
+    let list = retired_so c.retired.result.now _ _ c.retired.ensures so_far.0 in
+    let goes = subst (λ (table : Table). GoesOn table found c.loop-place.seat c.poll-departures.new.seat) c.self.view_is c.poll-departures.ensures in (
+      so_far.0,
+      searched_more c.args.self.now c.args.call.now c.args.rows.now spare c.args.seat.now c.loop-place.seat place so_far.1 low found c.poll-departures.new.seat goes
+          (ap (λ (l : List Retired). same_count found (get_or l place no_retired).arrivals) (sym list) ∙ sym c.same_count.ensures ∙ c.if-same_count.false),
+    )
+
+pub returns : goal.returns
+returns c = let so_far = c.loop-place.invariant in let spare = c.args.spare.now in
+    let all : c.loop-place.place ≡ length spare.retired = omega (arith, c.loop-place-test.false, c.loop-place.auto.place-end, ap length c.retired-place-end.ensures) in
+    subst (λ (p : NoSlot × Spare). LacksSlot c.args.self.now c.args.call.now p.0 spare p.1 c.args.seat.now c.loop-place.seat) (λ j. (sym (c.counts.ensures ∙ ap none_spare so_far.0) j, sym so_far.0 j))
+    (lacks_slot c.args.self.now c.args.call.now c.args.rows.now spare c.args.seat.now c.loop-place.seat c.loop-place.place so_far.1 all)

@@ -1,0 +1,6 @@
+use Rattle.std.proofs.Common.{◌≡◌}
+use Rattle.nr_map.proofs.Searching.{Searched}
+use Rattle.nr_map.proofs.reader_map.ReaderMap.poll_retired.Given as goal
+
+abbrev pub invariant-loop-place : goal.invariant-loop-place
+invariant-loop-place l = (l.spare ≡ l.fn.spare) × Searched l.self l.call l.rows l.fn.spare l.fn.seat l.seat l.place

@@ -1,0 +1,13 @@
+use Rattle.std.proofs.Common.{arith, ◌∙◌}
+use Rattle.nr_map.proofs.Seating.{all_own}
+use Rattle.nr_map.specs.Callers.{caller_of}
+use Rattle.nr_map.proofs.reader_map.seated.Goals as goal
+
+pub returns : goal.returns
+returns c = let board = c.in_ok-board.board in let seated = c.in_ok-readers.ensures in record {
+  sizes = c.in_ok-board.ensures.board;
+  writes = c.in_ok-writer.ensures ∙ (λ j. caller_of (seated.own j) (seated.view j));
+  count = seated.count;
+  reads = seated.reads;
+  own = all_own board c.in_ok-readers.readers.items (λ place low. seated.reads place (omega (arith, seated.count)));
+}

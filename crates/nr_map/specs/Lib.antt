@@ -1,0 +1,15 @@
+pub mod Views
+pub mod Callers
+pub mod Rule
+pub mod Notes
+pub mod Plays
+pub mod Seats
+pub mod Learning
+pub mod Meetings
+pub mod Rounds
+pub mod Pins
+pub mod Opened
+pub mod Spares
+pub mod WriterSeats
+pub mod Searches
+pub mod Answers

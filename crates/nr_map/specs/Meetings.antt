@@ -1,0 +1,42 @@
+-- What a token learns of the history by itself, and of another token.
+use Rattle.std.specs.Prelude.{◌≡◌, ℕ, ◌+◌, ◌<◌, []}
+use Rattle.nr_model.specs.Histories.{IsLegal, entries_of}
+use Rattle.nr_model.specs.Maps.{state_of}
+use Rattle.nr_map.specs.declared.answers.KeyKind.{KeyKind}
+use Rattle.nr_map.specs.Callers.{Caller, map_seen, opening_map}
+use Rattle.nr_map.specs.Learning.{kind_of}
+use Rattle.nr_map.specs.Rule.{StartsWith}
+
+-- in so many steps, none of which adds an entry, the token learnt a legal history that begins with all that it had seen
+pub record Learns (steps : ℕ) (old new : Caller) : Type 0 where
+  pub table : new.table ≡ old.table
+  pub number : new.number ≡ old.number
+  pub seen : StartsWith new.seen old.seen
+  pub mine : new.mine ≡ old.mine
+  pub legal : IsLegal (opening_map old.table) new.seen
+  -- of the caller's calls the history has just those that it made, each once
+  pub own : entries_of new.seen new.number ≡ new.mine
+  -- and none of anybody whom the map doesn't have
+  pub nobody_else : (caller : ℕ) → old.table.shape.readers < caller → entries_of new.seen caller ≡ []
+  pub steps_made : new.steps ≡ old.steps + steps
+  -- the writer's slots and polls stay
+  pub fresh : new.fresh ≡ old.fresh
+  pub retired : new.retired ≡ old.retired
+  pub polls : new.polls ≡ old.polls
+
+-- the history begins with all that the other had seen too, so it has all calls that the other had made
+pub record Meets (steps : ℕ) (old other new : Caller) : Type 0 where
+  pub learns : Learns steps old new
+  pub seen : StartsWith new.seen other.seen
+  pub calls : StartsWith (entries_of new.seen other.number) other.mine
+
+-- the writer learnt of the reader, and then the reader of the writer: of either the writer's history has exactly its calls
+pub record Gathers (writer reader writer' reader' : Caller) : Type 0 where
+  pub of_reader : Meets 3 writer reader writer'
+  pub of_writer : Meets 3 reader writer' reader'
+  pub all : entries_of writer'.seen reader.number ≡ reader.mine
+
+-- the key's state after the history so far
+pub record StatesKey (at : ℕ) (old new : Caller) (kind : KeyKind) : Type 0 where
+  pub learns : Learns 1 old new
+  pub state : kind ≡ kind_of (state_of (map_seen new) at)

@@ -1,0 +1,29 @@
+-- A reader that holds a set.
+use Rattle.std.specs.Prelude.{◌≡◌, ℕ, List, length, Result, Ok, Err}
+use Rattle.atomic_table.specs.declared.shared.Seat.{Seat}
+use Rattle.nr_model.specs.declared.rows.Row.{Row}
+use Rattle.nr_model.specs.declared.calls.Call.TheVariants as model
+use Rattle.nr_model.specs.declared.calls.Reply.TheVariants as reply
+use Rattle.nr_map.specs.Callers.{Caller, Gains, KnowsOwn, token}
+use Rattle.nr_map.specs.Seats.{HoldsAt}
+use Rattle.nr_map.specs.Views.{View, number_of, rows_held}
+
+-- the reader, and the set that its find found
+pub record Pinned : Type 0 where
+  pub reader : Caller
+  pub rows : List Row
+
+abbrev pub pinned : Seat (Unit {0}) View → Pinned
+pinned seat = record { reader = token seat; rows = rows_held seat.me.0.role }
+
+-- the seat of a reader that holds so many rows, in the slot whose first content word stands at `begin`
+pub record Pins (seat : Seat (Unit {0}) View) (number begin count : ℕ) : Type 0 where
+  pub holds : HoldsAt (token seat).table begin seat
+  pub number_is : number ≡ number_of seat.me.0.role
+  pub count_is : count ≡ length (rows_held seat.me.0.role)
+  pub own : KnowsOwn (token seat)
+
+-- a pin is a find: of a filled key it holds the rows of the reply, and a hole gives the reader back
+abbrev pub PinsKey : ℕ → Caller → Result Pinned Caller → Type 0
+PinsKey key old (Ok pin) = Gains 2 old (model.Find key) (reply.Rows pin.rows) pin.reader
+PinsKey key old (Err reader) = Gains 1 old (model.Find key) reply.Hole reader

@@ -1,0 +1,54 @@
+-- What the writer's history has of all callers after rounds of gathers.
+use Rattle.std.specs.Prelude.{◌≡◌, ℕ, ◌+◌, ◌<◌, Bool, List, [], All, length, slice_index_or}
+use Rattle.std.specs.List.{count_by}
+use Rattle.nr_model.specs.Histories.{Entry, IsLegal, entries_of, fills, sends}
+use Rattle.nr_model.specs.Laws.{pending}
+use Rattle.nr_model.specs.Maps.{state_of}
+use Rattle.nr_core.specs.Sums.{total}
+use Rattle.nr_map.specs.Callers.{Caller, KnowsOwn, map_seen, opening_map}
+use Rattle.nr_map.specs.Rule.{StartsWith}
+
+-- the history has at least the caller's calls, or exactly these
+abbrev pub HasCalls : List Entry → Caller → Type 0
+HasCalls log caller = StartsWith (entries_of log caller.number) caller.mine
+
+abbrev pub HasJustCalls : List Entry → Caller → Type 0
+HasJustCalls log caller = entries_of log caller.number ≡ caller.mine
+
+-- the caller has seen the history, and knows its own calls
+abbrev pub HasHeard : List Entry → Caller → Type 0
+HasHeard log caller = StartsWith caller.seen log × KnowsOwn caller
+
+-- a caller's calls stay in a history that goes on
+abbrev pub CallsStay : Type 0
+CallsStay = (log later : List Entry) (caller : Caller) → StartsWith later log → HasCalls log caller → HasCalls later caller
+
+-- one round of gathers made the writer learn all readers' calls, and the next let each reader see what the writer had then: the writer had exactly their calls
+abbrev pub RoundsTellAll : Type 0
+RoundsTellAll = (log : List Entry) (readers : List Caller) → All (HasCalls log) readers → All (HasHeard log) readers → All (HasJustCalls log) readers
+
+-- the writer's history has exactly all callers' calls; the readers stand in the order of their numbers
+pub record KnowsAll (writer : Caller) (readers : List Caller) : Type 0 where
+  pub number : writer.number ≡ 0
+  pub own : KnowsOwn writer
+  pub legal : IsLegal (opening_map writer.table) writer.seen
+  pub nobody_else : (caller : ℕ) → writer.table.shape.readers < caller → entries_of writer.seen caller ≡ []
+  pub count : length readers ≡ writer.table.shape.readers
+  pub numbers : (at : ℕ) (other : Caller) → at < length readers → (slice_index_or readers at other).number ≡ at + 1
+  pub each : All (HasJustCalls writer.seen) readers
+
+-- the history's entries are the callers', counted by any test
+abbrev pub EntriesAreCallers : Type 0
+EntriesAreCallers =
+    (writer : Caller) (readers : List Caller) (test : Entry → Bool) →
+    KnowsAll writer readers →
+    count_by test writer.seen ≡ count_by test writer.mine + total (λ reader. count_by test reader.mine) readers
+
+-- so all callers' requests of a key that were answered Send are its fills, and one more where it is asked
+abbrev pub SendsOfAll : Type 0
+SendsOfAll =
+    (writer : Caller) (readers : List Caller) (key : ℕ) →
+    KnowsAll writer readers →
+    key < writer.table.shape.keys →
+    sends writer.mine key + total (λ reader. sends reader.mine key) readers
+    ≡ fills writer.mine key + total (λ reader. fills reader.mine key) readers + pending (state_of (map_seen writer) key)

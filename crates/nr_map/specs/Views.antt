@@ -1,0 +1,76 @@
+-- What a token knows: who its caller is, what it has seen of the history, the caller's own entries, and how many steps it has made.
+use Rattle.std.specs.Prelude.{ℕ, ◌+◌, Bool, false, List, []}
+use Rattle.nr_model.specs.declared.rows.Row.{Row}
+use Rattle.nr_model.specs.Histories.{Entry}
+use Rattle.nr_core.specs.declared.shape.Shape.{Shape}
+use Rattle.nr_core.specs.declared.roles.Desk.{Desk}
+use Rattle.nr_core.specs.declared.roles.Role.{Role}
+use Rattle.nr_core.specs.declared.roles.Role.TheVariants.{Writer, Reader, Note}
+use Rattle.nr_core.specs.declared.roles.Grip.{Grip}
+use Rattle.nr_core.specs.declared.roles.Grip.TheVariants.{Nothing, On}
+use Rattle.nr_core.specs.States.{opening_desk}
+
+-- a poll that found its slot held, and a reader that held it then
+pub record Poll : Type 0 where
+  pub slot : ℕ
+  pub reader : ℕ
+
+pub record View : Type 0 where
+  pub role : Role
+  pub shape : Shape
+  -- how many readers the writer has made
+  pub made : ℕ
+  pub seen : List Entry
+  -- what a note that it took in had seen
+  pub told : List Entry
+  pub mine : List Entry
+  pub steps : ℕ
+  -- the polls of the writer's call that found their slots held
+  pub polls : List Poll
+
+-- the number of the caller; the writer's is 0
+abbrev pub number_of : Role → ℕ
+number_of (Writer desk) = 0
+number_of (Reader reader grip) = reader
+number_of Note = 0
+
+-- the writer's desk
+abbrev pub desk_of : Role → Desk
+desk_of (Writer desk) = desk
+desk_of (Reader reader grip) = opening_desk
+desk_of Note = opening_desk
+
+-- what a reader holds: the slot, the set that it found there, and whether it has read its size
+abbrev pub grip_of : Role → Grip
+grip_of (Writer desk) = Nothing
+grip_of (Reader reader grip) = grip
+grip_of Note = Nothing
+
+abbrev pub slot_in : Grip → ℕ
+slot_in Nothing = 0
+slot_in (On slot rows sized) = slot
+
+abbrev pub rows_in : Grip → List Row
+rows_in Nothing = []
+rows_in (On slot rows sized) = rows
+
+abbrev pub is_sized : Grip → Bool
+is_sized Nothing = false
+is_sized (On slot rows sized) = sized
+
+abbrev pub slot_held : Role → ℕ
+slot_held role = slot_in (grip_of role)
+
+abbrev pub rows_held : Role → List Row
+rows_held role = rows_in (grip_of role)
+
+-- the first token is the writer's
+abbrev pub opener : Shape → View
+opener shape = record { role = Writer opening_desk; shape = shape; made = 0; seen = []; told = []; mine = []; steps = 0; polls = [] }
+
+-- the writer makes the next reader
+abbrev pub with_reader : View → View
+with_reader view = record view { made = view.made + 1 }
+
+abbrev pub next_reader : View → View
+next_reader view = record { role = Reader (view.made + 1) Nothing; shape = view.shape; made = 0; seen = []; told = []; mine = []; steps = 0; polls = [] }

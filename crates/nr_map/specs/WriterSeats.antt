@@ -1,0 +1,176 @@
+-- Where the writer's seat stands between two steps, and where a step leads it.
+use Rattle.std.specs.Prelude.{◌≡◌, ℕ, ◌+◌, ◌*◌, ◌<◌, ◌≤◌, nat_lt, if◌then◌else◌, List, [], ◌∷◌, ◌++◌, length, map, slice_index}
+use mathlib.Core.Option.{some}
+use lib.ListN.{get_elem?}
+use Rattle.atomic_table.specs.declared.shared.Seat.{Seat}
+use Rattle.nr_model.specs.declared.rows.Row.{Row}
+use Rattle.nr_model.specs.declared.calls.Call.{Call}
+use Rattle.nr_model.specs.declared.calls.Reply.TheVariants as reply
+use Rattle.nr_model.specs.Histories.{IsLegal}
+use Rattle.nr_words.specs.SetWords.{encode}
+use Rattle.nr_core.specs.Slots.{content}
+use Rattle.nr_core.specs.States.{key_of, retired_at}
+use Rattle.nr_core.specs.Story.{call_of, ending, entry}
+use Rattle.nr_core.specs.Writer.{moved_to, no_slot, settled, unnamed, went}
+use Rattle.nr_core.specs.declared.calls.NoSlot.{NoSlot}
+use Rattle.nr_core.specs.declared.calls.Step.{Step}
+use Rattle.nr_core.specs.declared.calls.Step.TheVariants.{Ended, Going}
+use Rattle.nr_core.specs.declared.places.Retired.{Retired}
+use Rattle.nr_core.specs.declared.shape.Shape.{Shape}
+use Rattle.nr_core.specs.declared.calls.WReply.TheVariants as writer
+use Rattle.nr_core.specs.declared.calls.WriterCall.{WriterCall}
+use Rattle.nr_core.specs.declared.places.Place.TheVariants.{Idle, Leaving, Putting, Reading, Searching}
+use Rattle.nr_core.specs.declared.roles.Desk.{Desk}
+use Rattle.nr_core.specs.declared.roles.Role.TheVariants.{Writer}
+use Rattle.nr_map.specs.Callers.{Caller, Grows, KnowsOwn, Table, opening_map, token}
+use Rattle.nr_map.specs.Spares.{Spare, Took, desk_with}
+use Rattle.nr_map.specs.Plays.{Lacks, Notes, ReadsOn, Room, call_at, next_put}
+use Rattle.nr_map.specs.Views.{Poll, View}
+
+abbrev pub MapSeat : Type 0
+MapSeat = Seat (Unit {0}) View
+
+-- the writer's seat, at a desk
+pub record WritesAt (table : Table) (desk : Desk) (seat : MapSeat) : Type 0 where
+  pub own : (token seat).table ≡ table
+  pub role : seat.me.0.role ≡ Writer desk
+  pub room : Room table.shape desk
+
+-- between calls
+pub record IsBetween (table : Table) (seat : MapSeat) : Type 0 where
+  pub desk : Desk
+  pub writes : WritesAt table desk seat
+  pub place : desk.place ≡ Idle
+
+-- about to read the word at that index of the slot whose content begins there
+pub record IsReading (table : Table) (begin index : ℕ) (seat : MapSeat) : Type 0 where
+  pub desk : Desk
+  pub writes : WritesAt table desk seat
+  pub call : WriterCall
+  pub slot : ℕ
+  pub got : List ℕ
+  pub place : desk.place ≡ Reading call slot got
+  pub begin_is : begin ≡ content table.shape slot 0
+  pub index_is : index ≡ length got
+
+-- about to poll the retired slot
+pub record IsPolling (table : Table) (slot : ℕ) (seat : MapSeat) : Type 0 where
+  pub desk : Desk
+  pub writes : WritesAt table desk seat
+  pub call : WriterCall
+  pub rows : List Row
+  pub poll : ℕ
+  pub place : desk.place ≡ Searching call rows poll
+  pub slot_is : slot ≡ (retired_at desk poll).slot
+
+-- about to put the word at that index of the slot whose content begins there
+pub record IsPutting (table : Table) (begin index word : ℕ) (seat : MapSeat) : Type 0 where
+  pub desk : Desk
+  pub writes : WritesAt table desk seat
+  pub call : WriterCall
+  pub rows : List Row
+  pub slot : ℕ
+  pub departed : ℕ
+  pub place : desk.place ≡ Putting call rows slot departed index
+  pub begin_is : begin ≡ content table.shape slot 0
+  pub more : index ≤ 2 * length rows
+  pub word_is : word ≡ slice_index (encode rows) index
+
+-- about to publish the slot, whose words are all put
+pub record IsPublishing (table : Table) (key slot departed : ℕ) (seat : MapSeat) : Type 0 where
+  pub desk : Desk
+  pub writes : WritesAt table desk seat
+  pub call : WriterCall
+  pub rows : List Row
+  pub place : desk.place ≡ Putting call rows slot departed (2 * length rows + 1)
+  pub key_is : key ≡ key_of call
+
+-- about to evict the key
+pub record IsLeaving (table : Table) (key : ℕ) (seat : MapSeat) : Type 0 where
+  pub desk : Desk
+  pub writes : WritesAt table desk seat
+  pub place : desk.place ≡ Leaving key
+
+-- so many steps of a call, to the desk of the outcome, with the entry of a call that ends there with a reply
+pub record LeadsIn (steps : ℕ) (table : Table) (call : Call) (outcome : Desk × Step) (old new : MapSeat) : Type 0 where
+  pub writes : WritesAt table outcome.0 new
+  pub grows : Grows steps (token old) (ending call outcome.1) (token new)
+  pub short : (counts : NoSlot) → outcome.1 ≡ Ended (writer.NoSlot counts) → Lacks call counts (token new)
+
+abbrev pub LeadsTo : Table → Call → Desk × Step → MapSeat → MapSeat → Type 0
+LeadsTo = LeadsIn 1
+
+-- one step from the place in the call
+pub record GoesTo (table : Table) (desk : Desk) (found : ℕ) (old new : MapSeat) : Type 0 where
+  pub leads : LeadsTo table (call_at desk.place) (went table.shape desk desk.place found) old new
+  pub reads_on : ReadsOn table.shape desk.place found
+  pub notes : Notes table.shape desk desk.place found old.me.0.polls new.me.0.polls
+
+abbrev pub GoesOn : Table → ℕ → MapSeat → MapSeat → Type 0
+GoesOn table found old new = (desk : Desk) → old.me.0.role ≡ Writer desk → GoesTo table desk found old new
+
+-- a put
+pub record PutsTo (table : Table) (desk : Desk) (old new : MapSeat) : Type 0 where
+  pub writes : WritesAt table (next_put desk) new
+  pub grows : Grows 1 (token old) [] (token new)
+  pub polls : new.me.0.polls ≡ old.me.0.polls
+
+-- what the writer knows is legal, and has its own entries
+pub record Knows (caller : Caller) : Type 0 where
+  pub legal : IsLegal (opening_map caller.table) caller.seen
+  pub own : KnowsOwn caller
+
+-- the call has its set, and looks for a slot
+pub record Settles (table : Table) (call : WriterCall) (rows : List Row) (spare : Spare) (seat : MapSeat) : Type 0 where
+  pub slots : spare.slots ≡ table.shape.slots
+  pub writes : WritesAt table (settled table.shape (desk_with spare Idle) call rows).0 seat
+  pub short : (counts : NoSlot) → (settled table.shape (desk_with spare Idle) call rows).1 ≡ Ended (writer.NoSlot counts) → Lacks (call_of call) counts (token seat)
+  pub knows : Knows (token seat)
+  pub polls : seat.me.0.polls ≡ []
+
+-- the search has found each of the first retired slots held
+abbrev pub swept : Shape → Desk → WriterCall → List Row → ℕ → Desk × Step
+swept shape desk call rows polls = (if nat_lt polls (length desk.retired) then (moved_to desk (Searching call rows polls), Going) else (moved_to desk Idle, no_slot shape desk))
+
+abbrev pub poll_slot : Poll → ℕ
+poll_slot poll = poll.slot
+
+abbrev pub retired_slot : Retired → ℕ
+retired_slot entry = entry.slot
+
+-- the polls are those of the retired slots in their order, each with a reader of the map
+pub record AllNoted (table : Table) (retired : List Retired) (polls : List Poll) : Type 0 where
+  pub slots : map poll_slot polls ≡ map retired_slot retired
+  pub readers : (at : ℕ) (poll : Poll) → get_elem? polls at ≡ some poll → (0 < poll.reader) × (poll.reader ≤ table.shape.readers)
+
+-- the slot that a call took, with its departures, or there was none
+pub record TakesSlot (table : Table) (call : WriterCall) (rows : List Row) (slot departed : ℕ) (spare after : Spare) (old new : MapSeat) : Type 0 where
+  pub polls : ℕ
+  pub took : Took polls spare after
+  pub slots : after.slots ≡ spare.slots
+  pub writes : WritesAt table (desk_with after (Putting call rows slot departed 0)) new
+  pub grows : Grows polls (token old) [] (token new)
+
+pub record LacksSlot (table : Table) (call : WriterCall) (counts : NoSlot) (spare after : Spare) (old new : MapSeat) : Type 0 where
+  pub same : after ≡ spare
+  pub writes : WritesAt table (desk_with spare Idle) new
+  pub grows : Grows (length spare.retired) (token old) [] (token new)
+  pub lacks : Lacks (call_of call) counts (token new)
+  pub noted : AllNoted table spare.retired new.me.0.polls
+
+-- the set was published: the call's last step is its entry, and the slot that the key named before is retired
+pub record PublishesSet (table : Table) (call : WriterCall) (rows : List Row) (spare after : Spare) (old new : MapSeat) : Type 0 where
+  pub polls : ℕ
+  pub mid : Spare
+  pub took : Took polls spare mid
+  pub word : ℕ
+  pub retires : after ≡ record mid { retired = mid.retired ++ unnamed word }
+  pub slots : after.slots ≡ spare.slots
+  pub writes : WritesAt table (desk_with after Idle) new
+  pub grows : Grows (2 * length rows + 2 + polls) (token old) (entry 0 (call_of call) reply.Done ∷ []) (token new)
+
+-- the writer between two calls, with its slots
+pub record RestsAt (table : Table) (spare : Spare) (seat : MapSeat) : Type 0 where
+  pub writes : WritesAt table (desk_with spare Idle) seat
+  pub slots : spare.slots ≡ table.shape.slots
+  pub own : KnowsOwn (token seat)

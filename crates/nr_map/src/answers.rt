@@ -1,0 +1,87 @@
+//! What the calls of a map answer.
+ghost use Rattle.std.specs.Prelude.{◌≡◌};
+ghost use Rattle.nr_map.specs.Learning.{kind_shown};
+
+use crate::ticket::Ticket;
+use nr_core::NoSlot;
+use nr_words::parts;
+use thiserror::Error;
+
+/// The answer to a find.
+#[derive(Clone, Copy, Debug, PartialEq, Eq)]
+pub enum Found {
+    /// The key is filled, and the caller's set has its rows.
+    Rows,
+    /// The key is not filled.
+    Hole,
+}
+
+/// The answer to a request.
+pub enum Asked {
+    /// Nobody asked before: whoever has the ticket sends the upquery.
+    Send(Ticket),
+    /// An upquery is under way.
+    Waiting,
+    /// The key is filled.
+    Filled,
+}
+
+/// Why a fill is refused.
+#[derive(Clone, Copy, Debug, PartialEq, Eq, Error)]
+pub enum FillFault {
+    #[error("nobody asked for the key")]
+    NotAsked,
+    #[error("the key is filled")]
+    Already,
+    #[error("no slot is to be had")]
+    NoSlot(NoSlot),
+}
+
+/// Why an update is refused.
+#[derive(Clone, Copy, Debug, PartialEq, Eq, Error)]
+pub enum UpdateFault {
+    #[error("the key is not filled")]
+    Dropped,
+    #[error("a row to be taken away is not there")]
+    NoRow,
+    #[error("more than 15 rows would be left")]
+    TooMany,
+    #[error("no slot is to be had")]
+    NoSlot(NoSlot),
+}
+
+/// The answer to an eviction.
+#[derive(Clone, Copy, Debug, PartialEq, Eq)]
+pub enum Evict {
+    /// The key was filled and is a hole now.
+    Evicted,
+    /// The key was not filled.
+    Nothing,
+}
+
+/// What a key is, without its rows.
+#[derive(Clone, Copy, Debug, PartialEq, Eq)]
+pub enum KeyKind {
+    /// Nobody asked for the key since it was filled last.
+    Hole,
+    /// An upquery is under way.
+    Asked,
+    /// The key is filled.
+    Rows,
+}
+
+impl KeyKind {
+    /// What a key's word shows.
+    pub(crate) fn of_word(word: u64) -> KeyKind
+        ensures { result ≡ kind_shown word }
+    {
+        let found = parts(word);
+        if found.filled {
+            KeyKind::Rows
+        } else if found.ask {
+            KeyKind::Asked
+        } else {
+            KeyKind::Hole
+        }
+    }
+}

@@ -1,0 +1,307 @@
+//! The table of words. It is private to this module, whose functions make one step each.
+ghost use Rattle.std.specs.Prelude.{ℕ, ◌≡◌, ◌<◌, ◌≤◌, ◌^◌, true, false, [], length, slice_index, IfOk};
+ghost use Rattle.nr_model.specs.Maps.{state_of};
+ghost use Rattle.nr_model.specs.declared.calls.Call.TheVariants as model;
+ghost use Rattle.nr_model.specs.declared.calls.Reply.TheVariants as reply;
+ghost use Rattle.nr_words.specs.KeyWords.{is_filled, slot_of};
+ghost use Rattle.nr_words.specs.SetWords.{encode};
+ghost use Rattle.nr_core.specs.declared.roles.Desk.{Desk};
+ghost use Rattle.nr_core.specs.declared.roles.Role.TheVariants.{Note, Writer};
+ghost use Rattle.nr_core.specs.Laws.{IsGivenCall};
+ghost use Rattle.nr_core.specs.States.{key_of};
+ghost use Rattle.nr_core.specs.Steps.{ask_word};
+ghost use Rattle.nr_core.specs.Story.{call_of};
+ghost use Rattle.nr_core.specs.Writer.{looked};
+ghost use Rattle.nr_core.specs.Slots.{content, opening_words};
+ghost use Rattle.nr_core.specs.Roles.{is_writer};
+ghost use Rattle.nr_core.specs.Sizes.{IsShape};
+ghost use Rattle.nr_map.specs.Views.{rows_held, with_reader, next_reader, opener};
+ghost use Rattle.nr_map.specs.Callers.{Gains, Rests, map_seen, token};
+ghost use Rattle.nr_map.specs.Seats.{IdlesAt, HoldsAt};
+ghost use Rattle.nr_map.specs.Notes.{IsCaller, note_of, with_note};
+ghost use Rattle.nr_map.specs.Learning.{Learned, kind_of, kind_shown};
+ghost use Rattle.nr_map.specs.Meetings.{Learns};
+ghost use Rattle.nr_map.specs.WriterSeats.{GoesOn, IsBetween, IsReading, IsPolling, IsPutting, IsPublishing, IsLeaving, LeadsTo, PutsTo};
+
+use crate::rule::{
+    Arrives, Asks, Departs, Given, Goes, Law, Looks, Notes, Puts, Reads, Seats, Sees,
+};
+use crate::view::View;
+use atomic_table::Table;
+use nr_core::{Shape, WriterCall};
+use nr_words::{ARRIVE, KeyParts, Layout, key_word};
+use std::alloc::{AllocError, Global};
+use std::marker::{Brand, Model};
+
+/// The words of a slot: its departures and its content.
+const SLOT_WORDS: usize = 32;
+
+/// A key's word counts arrivals modulo this.
+const COUNTS: u64 = 1 << 40;
+
+pub type Seat = atomic_table::Seat<(), View>;
+
+#[derive(Drop)]
+pub struct Board {
+    table: Table<(), View, Shape, Law, Global>,
+    shape: Shape,
+}
+
+impl Model for Board {
+    ghost use Rattle.std.specs.Prelude.{◌≡◌, ◌<◌, ◌^◌};
+    ghost use Rattle.nr_map.specs.Callers.{Table as MapTable};
+
+    ghost Value = { MapTable };
+
+    ghost use Rattle.nr_words.specs.Places.{total_of};
+    ghost use Rattle.nr_core.specs.Slots.{slot_room, layout};
+    ghost use Rattle.nr_core.specs.Sizes.{IsShape};
+
+    ghost view = { λ board. record { id = board.table.shared.table_id; shape = board.shape } };
+
+    ghost invariant = { λ board. (board.table.shared.key ≡ board.shape) × (board.table.shared.table_id.words ≡ total_of slot_room (layout board.shape)) × (0 < board.shape.keys) × (board.shape.keys < 2 ^ 32) × IsShape board.shape };
+}
+
+// The words at opening: every key a hole, every slot's departures the first count.
+fn lay(alloc: Global, shape: &Shape) -> Result<Vec<u64>, AllocError>
+    requires { shape.now.slots ≤ 2 ^ 22 }
+    ensures { IfOk result (λ words. words.items ≡ opening_words shape.now) }
+{
+    let layout = Layout {
+        keys: shape.keys,
+        slots: shape.slots,
+    };
+    let mut slot = [0; SLOT_WORDS];
+    slot[0] = shape.first;
+    let mut words = Vec::with_capacity(alloc, layout.total() as usize)?;
+    words.resize(shape.keys as usize, 0)?;
+    for _ in 0..shape.slots {
+        words.extend_from_slice(&slot)?;
+    }
+    Ok(words)
+}
+
+impl Board {
+    /// The table with the writer's token.
+    pub fn open(alloc: Global, shape: Shape) -> Result<(Board, Seat), AllocError>
+        requires sizes { IsShape shape }
+        requires keys { 0 < shape.keys }
+        ensures board { IfOk result (λ opened. opened.0.shape ≡ shape) }
+        ensures seat { IfOk result (λ opened. (opened.1.table_id ≡ opened.0.id) × (opened.1.me.0 ≡ opener shape)) }
+    {
+        let words = lay(alloc, &shape)?;
+        let (table, seat) = Table::of_words(alloc, &words, &shape)?;
+        Ok((Board { table, shape }, seat))
+    }
+
+    pub fn shape(&self) -> &Shape
+        ensures { result.now ≡ self.now.shape }
+    {
+        &self.shape
+    }
+
+    /// Where the first content word of a slot stands.
+    pub fn content(&self, slot: u32) -> u64
+        requires { slot < self.now.shape.slots }
+        ensures { result ≡ content self.now.shape slot 0 }
+    {
+        self.layout().content(slot, 0)
+    }
+
+    /// The writer makes the next reader.
+    pub fn seat(&self, seat: &mut Seat) -> Seat
+        requires own { seat.old.table_id ≡ self.now.id }
+        requires writer { is_writer seat.old.me.0.role ≡ 1 }
+        requires few { seat.old.me.0.made < self.now.shape.readers }
+        ensures own { (seat.new.table_id ≡ seat.old.table_id) × (result.table_id ≡ seat.old.table_id) }
+        ensures writer { seat.new.me.0 ≡ with_reader seat.old.me.0 }
+        ensures reader { result.me.0 ≡ next_reader seat.old.me.0 }
+    {
+        let words = &self.table.shared;
+        words.split_seat::<Seats>(seat)
+    }
+
+    /// A reader requests a key: the word as it was.
+    pub fn ask(&self, seat: &mut Seat, key: u32) -> u64
+        requires reader { IdlesAt self.now seat.old }
+        requires key { key < self.now.shape.keys }
+        ensures reader { IdlesAt self.now seat.new }
+        ensures gains { Gains 1 (token seat.old) (model.Ask key) (ask_word result) (token seat.new) }
+    {
+        let words = &self.table.shared;
+        words.fetch_or::<Asks>(seat, key as usize, 1)
+    }
+
+    /// A reader arrives at a key: the word as it was. Where it is filled the reader holds the slot
+    /// that it names.
+    pub fn arrive(&self, seat: &mut Seat, key: u32) -> u64
+        requires reader { IdlesAt self.now seat.old }
+        requires key { key < self.now.shape.keys }
+        ensures hole { is_filled result ≡ false → IdlesAt self.now seat.new × Gains 1 (token seat.old) (model.Find key) reply.Hole (token seat.new) }
+        ensures held { is_filled result ≡ true → HoldsAt self.now (content self.now.shape (slot_of result) 0) seat.new × Gains 1 (token seat.old) (model.Find key) (reply.Rows (rows_held seat.new.me.0.role)) (token seat.new) }
+    {
+        let words = &self.table.shared;
+        words.fetch_add::<Arrives>(seat, key as usize, ARRIVE)
+    }
+
+    /// A reader reads a content word of the slot that it holds, whose first one stands at `begin`.
+    pub fn read(&self, seat: &mut Seat, begin: u64, index: u32) -> u64
+        requires reader { HoldsAt self.now begin seat.old }
+        requires index { index < length (encode (rows_held seat.old.me.0.role)) }
+        ensures value { result ≡ slice_index (encode (rows_held seat.old.me.0.role)) index }
+        ensures reader { HoldsAt self.now begin seat.new }
+        ensures rows { rows_held seat.new.me.0.role ≡ rows_held seat.old.me.0.role }
+        ensures rests { Rests 1 (token seat.old) (token seat.new) }
+    {
+        let words = &self.table.shared;
+        let place = begin + u64::from(index);
+        words.load::<Reads>(seat, place as usize)
+    }
+
+    /// A reader departs from the slot that it holds, whose first content word stands at `begin`.
+    pub fn depart(&self, seat: &mut Seat, begin: u64)
+        requires reader { HoldsAt self.now begin seat.old }
+        ensures reader { IdlesAt self.now seat.new }
+        ensures rests { Rests 1 (token seat.old) (token seat.new) }
+    {
+        let words = &self.table.shared;
+        let place = begin - 1;
+        words.fetch_add::<Departs>(seat, place as usize, 1);
+    }
+
+    /// The writer looks at the key of a call: its word.
+    pub fn look(&self, seat: &mut Seat, call: &WriterCall) -> u64
+        requires writer { IsBetween self.now seat.old }
+        requires given { IsGivenCall self.now.shape.bound call.now }
+        requires key { key_of call.now < self.now.shape.keys }
+        ensures leads { (desk : Desk) → seat.old.me.0.role ≡ Writer desk → LeadsTo self.now (call_of call.now) (looked self.now.shape desk call.now result) seat.old seat.new }
+        ensures polls { seat.new.me.0.polls ≡ [] }
+    {
+        self.look_given::<Brand>(seat, call)
+    }
+
+    fn look_given<G: Given>(&self, seat: &mut Seat, call: &WriterCall) -> u64
+        requires writer { IsBetween self.now seat.old }
+        requires given { IsGivenCall self.now.shape.bound call.now }
+        requires key { key_of call.now < self.now.shape.keys }
+        requires call { G.call ≡ call.now }
+        ensures leads { (desk : Desk) → seat.old.me.0.role ≡ Writer desk → LeadsTo self.now (call_of call.now) (looked self.now.shape desk call.now result) seat.old seat.new }
+        ensures polls { seat.new.me.0.polls ≡ [] }
+    {
+        let words = &self.table.shared;
+        words.load::<Looks<G>>(seat, call.key() as usize)
+    }
+
+    /// The writer reads a content word of the slot that its key names, whose first one stands at
+    /// `begin`.
+    pub fn read_on(&self, seat: &mut Seat, begin: u64, index: u32) -> u64
+        requires { IsReading self.now begin index seat.old }
+        ensures { GoesOn self.now result seat.old seat.new }
+    {
+        let words = &self.table.shared;
+        let place = begin + u64::from(index);
+        words.load::<Goes>(seat, place as usize)
+    }
+
+    /// The writer polls a retired slot: its departures.
+    pub fn poll(&self, seat: &mut Seat, slot: u32) -> u64
+        requires { IsPolling self.now slot seat.old }
+        ensures { GoesOn self.now result seat.old seat.new }
+    {
+        let words = &self.table.shared;
+        let place = self.layout().departures(slot);
+        words.load::<Goes>(seat, place as usize)
+    }
+
+    /// The writer puts a content word into the slot that it took, whose first one stands at
+    /// `begin`.
+    pub fn put(&self, seat: &mut Seat, begin: u64, index: u32, word: u64)
+        requires { IsPutting self.now begin index word seat.old }
+        ensures { (desk : Desk) → seat.old.me.0.role ≡ Writer desk → PutsTo self.now desk seat.old seat.new }
+    {
+        let words = &self.table.shared;
+        let place = begin + u64::from(index);
+        words.store::<Puts>(seat, place as usize, word);
+    }
+
+    /// The writer names the slot that it filled at the key: the word as it was.
+    pub fn publish(&self, seat: &mut Seat, key: u32, slot: u32, departed: u64) -> u64
+        requires writer { IsPublishing self.now key slot departed seat.old }
+        requires key { key < self.now.shape.keys }
+        ensures { GoesOn self.now result seat.old seat.new }
+    {
+        let words = &self.table.shared;
+        let word = key_word(KeyParts {
+            ask: false,
+            filled: true,
+            slot,
+            arrivals: departed % COUNTS,
+        });
+        words.swap::<Goes>(seat, key as usize, word)
+    }
+
+    /// The writer makes the key a hole: the word as it was.
+    pub fn unpublish(&self, seat: &mut Seat, key: u32) -> u64
+        requires writer { IsLeaving self.now key seat.old }
+        requires key { key < self.now.shape.keys }
+        ensures { GoesOn self.now result seat.old seat.new }
+    {
+        let words = &self.table.shared;
+        words.swap::<Goes>(seat, key as usize, 0)
+    }
+
+    /// A note of what the token has seen. The token stays as it is.
+    pub fn note(&self, seat: &mut Seat) -> Seat
+        requires { seat.old.table_id ≡ self.now.id }
+        ensures same { (seat.new.table_id ≡ seat.old.table_id) × (seat.new.me ≡ seat.old.me) }
+        ensures note { (result.table_id ≡ seat.old.table_id) × (result.me ≡ (note_of seat.old.me.0, [])) }
+    {
+        let words = &self.table.shared;
+        words.split_seat::<Notes>(seat)
+    }
+
+    /// The token takes a note in.
+    pub fn take_note(&self, seat: &mut Seat, note: Seat)
+        requires own { (seat.old.table_id ≡ self.now.id) × (note.table_id ≡ self.now.id) }
+        requires note { (note.me.0.role ≡ Note) × (note.me.1 ≡ []) }
+        ensures own { seat.new.table_id ≡ seat.old.table_id }
+        ensures took { seat.new.me.0 ≡ with_note seat.old.me.0 note.me.0 }
+    {
+        let words = &self.table.shared;
+        words.join_seat::<Notes>(seat, note);
+    }
+
+    /// The token learns the history so far.
+    pub fn learn(&self, seat: &mut Seat)
+        requires own { (token seat.old).table ≡ self.now }
+        requires caller { IsCaller seat.old.me.0.role }
+        ensures own { seat.new.table_id ≡ seat.old.table_id }
+        ensures learned { (found : ℕ) × Learned 0 found seat.old.me.0 seat.new.me.0 }
+    {
+        let words = &self.table.shared;
+        words.load::<Sees>(seat, 0);
+    }
+
+    /// The token learns the history so far, by the word of a key, which shows the key's state.
+    pub fn learn_at(&self, seat: &mut Seat, key: u32) -> u64
+        requires own { (token seat.old).table ≡ self.now }
+        requires caller { IsCaller seat.old.me.0.role }
+        requires key { key < self.now.shape.keys }
+        ensures learns { Learns 1 (token seat.old) (token seat.new) }
+        ensures role { (seat.new.table_id ≡ seat.old.table_id) × (seat.new.me.0.role ≡ seat.old.me.0.role) }
+        ensures state { kind_shown result ≡ kind_of (state_of (map_seen (token seat.new)) key) }
+    {
+        let words = &self.table.shared;
+        words.load::<Sees>(seat, key as usize)
+    }
+
+    fn layout(&self) -> Layout
+        ensures keys { result.keys ≡ self.now.shape.keys }
+        ensures slots { result.slots ≡ self.now.shape.slots }
+    {
+        Layout {
+            keys: self.shape.keys,
+            slots: self.shape.slots,
+        }
+    }
+}

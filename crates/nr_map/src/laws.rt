@@ -1,0 +1,24 @@
+//! Laws over the definitions alone. Nothing runs here: each function's contract is the law.
+ghost use Rattle.nr_map.specs.Rounds.{CallsStay, EntriesAreCallers, RoundsTellAll, SendsOfAll};
+
+/// A caller's calls stay in a history that goes on.
+pub fn calls_stay()
+    ensures { CallsStay }
+{}
+
+/// After one round of gathers over all readers, and before another, with no calls in between, the
+/// writer's history has exactly the readers' calls. The second round shows it: each reader then
+/// sees what the writer had.
+pub fn rounds_tell_all()
+    ensures { RoundsTellAll }
+{}
+
+/// Such a history's entries are the callers', however they are counted.
+pub fn entries_are_callers()
+    ensures { EntriesAreCallers }
+{}
+
+/// All requests of a key that were answered `Send` are its fills, and one more where it is asked.
+pub fn sends_of_all()
+    ensures { SendsOfAll }
+{}

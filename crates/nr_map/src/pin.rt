@@ -1,0 +1,101 @@
+//! A reader that holds a set, and reads it as often as it likes.
+ghost use Rattle.std.specs.Prelude.{◌≡◌, ◌<◌, length, slice_get, Some};
+ghost use Rattle.nr_model.specs.declared.rows.TheConstants.{MAX_ROWS};
+ghost use Rattle.nr_model.specs.Rows.{IsRowSet};
+ghost use Rattle.nr_map.specs.Callers.{Rests};
+
+use crate::board::Seat;
+use crate::reader::Reader;
+use crate::reader_map::ReaderMap;
+use nr_model::Row;
+use nr_words::parts;
+use std::marker::Model;
+
+/// A reader that holds the set which it found. The set stays as it is until the reader is
+/// released, whatever is filled, updated or evicted meanwhile. A pin can't be dropped: it must be
+/// released.
+pub struct Pin {
+    pub(crate) seat: Seat,
+    number: u32,
+    begin: u64,
+    count: u32,
+}
+
+impl Model for Pin {
+    ghost use Rattle.nr_map.specs.Pins.{Pinned, Pins, pinned};
+
+    ghost Value = { Pinned };
+
+    ghost view = { λ pin. pinned pin.seat };
+
+    ghost invariant = { λ pin. Pins pin.seat pin.number pin.begin pin.count };
+}
+
+impl ReaderMap {
+    ghost use Rattle.nr_map.specs.Pins.{PinsKey};
+
+    /// Finds a key, and holds its set: 2 steps. Where the key is a hole, 1 step, the reader comes
+    /// back.
+    pub fn pin(&self, reader: Reader, key: u32) -> Result<Pin, Reader>
+        requires own { reader.table ≡ self.now }
+        requires key { key < self.now.shape.keys }
+        ensures { PinsKey key reader result }
+    {
+        let (mut seat, number) = reader.into_seat();
+        let found = parts(self.board.arrive(&mut seat, key));
+        if !found.filled {
+            return Err(Reader::of_seat(seat, number));
+        }
+        let begin = self.board.content(found.slot);
+        let count = self.board.read(&mut seat, begin, 0) as u32;
+        Ok(Pin {
+            seat,
+            number,
+            begin,
+            count,
+        })
+    }
+}
+
+impl Pin {
+    /// The number of the reader that holds the set.
+    pub fn number(&self) -> u32
+        ensures { result ≡ self.now.reader.number }
+    {
+        self.number
+    }
+
+    /// How many rows the set has. Takes no step.
+    pub fn len(&self) -> u32
+        ensures len { result ≡ length self.now.rows }
+        ensures row_set { IsRowSet self.now.reader.table.shape.bound self.now.rows }
+    {
+        self.count
+    }
+
+    /// A row of the set, in 2 steps.
+    pub fn row(&mut self, map: &ReaderMap, i: u32) -> Row
+        requires own { self.old.reader.table ≡ map.now }
+        requires i { i < length self.old.rows }
+        ensures row { slice_get self.old.rows i ≡ Some result }
+        ensures rows { self.new.rows ≡ self.old.rows }
+        ensures rests { Rests 2 self.old.reader self.new.reader }
+    {
+        map.read_row(&mut self.seat, self.begin, i)
+    }
+
+    /// Ends the hold, in 1 step, and gives the reader back.
+    pub fn release(self, map: &ReaderMap) -> Reader
+        requires own { self.reader.table ≡ map.now }
+        ensures { Rests 1 self.reader result }
+    {
+        let Pin {
+            mut seat,
+            number,
+            begin,
+            count: _,
+        } = self;
+        map.board.depart(&mut seat, begin);
+        Reader::of_seat(seat, number)
+    }
+}

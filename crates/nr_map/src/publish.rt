@@ -1,0 +1,59 @@
+//! How a call puts its set into a slot and publishes it.
+ghost use Rattle.std.specs.Prelude.{◌≡◌, ◌<◌, ◌+◌, ◌*◌, [], length};
+ghost use Rattle.nr_core.specs.States.{key_of};
+ghost use Rattle.nr_core.specs.Writer.{moved_to};
+ghost use Rattle.nr_core.specs.declared.places.Place.TheVariants.{Putting};
+ghost use Rattle.nr_map.specs.Views.{desk_of};
+ghost use Rattle.nr_map.specs.Callers.{Grows, token};
+ghost use Rattle.nr_map.specs.WriterSeats.{Knows, Settles, WritesAt};
+
+use crate::board::Seat;
+use crate::reader_map::ReaderMap;
+use crate::search::Taken;
+use crate::spare::Spare;
+use nr_core::{NoSlot, WriterCall};
+use nr_model::RowSet;
+use nr_words::{CONTENT_WORDS, encode};
+
+impl ReaderMap {
+    ghost use Rattle.nr_map.specs.Searches.{PublishesFor};
+
+    /// Takes a slot for the set of a call, puts the set there, and names the slot at the call's
+    /// key; the slot that the key named before is retired. Takes the polls of the search, a put for
+    /// each word of the set, and one swap.
+    pub(crate) fn publish(
+        &self,
+        seat: &mut Seat,
+        spare: &mut Spare,
+        call: &WriterCall,
+        rows: &RowSet,
+    ) -> Result<(), NoSlot>
+        requires settles { Settles self.now call.now rows.now spare.old seat.old }
+        requires key { key_of call.now < self.now.shape.keys }
+        ensures { PublishesFor self.now call.now rows.now spare.old spare.new seat.old seat.new result }
+    {
+        let taken = self.take_slot(seat, spare, call, rows)?;
+        self.put_rows(seat, call, rows, taken);
+        let old_word = self
+            .board
+            .publish(seat, call.key(), taken.slot, taken.departures);
+        spare.retire(old_word);
+        Ok(())
+    }
+
+    fn put_rows(&self, seat: &mut Seat, call: &WriterCall, rows: &RowSet, taken: Taken)
+        requires writer { WritesAt self.now (moved_to (desk_of seat.old.me.0.role) (Putting call.now rows.now taken.slot taken.departures 0)) seat.old }
+        requires knows { Knows (token seat.old) }
+        ensures writer { WritesAt self.now (moved_to (desk_of seat.old.me.0.role) (Putting call.now rows.now taken.slot taken.departures (2 * length rows.now + 1))) seat.new }
+        ensures grows { Grows (2 * length rows.now + 1) (token seat.old) [] (token seat.new) }
+        ensures polls { seat.new.me.0.polls ≡ seat.old.me.0.polls }
+    {
+        let _ = call;
+        let begin = self.board.content(taken.slot);
+        let mut words = [0; CONTENT_WORDS];
+        encode(rows, &mut words);
+        for index in 0..2 * rows.len() + 1 {
+            self.board.put(seat, begin, index as u32, words[index]);
+        }
+    }
+}

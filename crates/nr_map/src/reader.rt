@@ -1,0 +1,133 @@
+//! A reader's token, and its calls.
+ghost use Rattle.std.specs.Prelude.{◌≡◌, ◌<◌, ◌+◌, ◌*◌, length, slice_get, Some};
+ghost use Rattle.nr_map.specs.Views.{rows_held};
+ghost use Rattle.nr_map.specs.Callers.{Rests, token};
+ghost use Rattle.nr_map.specs.Seats.{HoldsAt};
+
+use crate::answers::{Asked, Found};
+use crate::board::Seat;
+use crate::reader_map::ReaderMap;
+use crate::ticket::Ticket;
+use nr_model::{Row, RowSet};
+use nr_words::parts;
+use std::marker::Model;
+
+/// What a reader makes its steps with. Between its calls it holds no slot.
+#[derive(Drop)]
+pub struct Reader {
+    pub(crate) seat: Seat,
+    number: u32,
+}
+
+impl Model for Reader {
+    ghost use Rattle.std.specs.Prelude.{◌≡◌};
+    ghost use Rattle.nr_core.specs.declared.roles.Role.TheVariants.{Reader as reader_role};
+    ghost use Rattle.nr_core.specs.declared.roles.Grip.TheVariants.{Nothing};
+    ghost use Rattle.nr_map.specs.Callers.{Caller, token, KnowsOwn};
+
+    ghost Value = { Caller };
+
+    ghost view = { λ reader. token reader.seat };
+
+    ghost invariant = { λ reader. (reader.seat.me.0.role ≡ reader_role reader.number Nothing) × KnowsOwn (token reader.seat) };
+}
+
+impl Reader {
+    ghost use Rattle.nr_core.specs.declared.roles.Role.TheVariants.{Reader as reader_role};
+    ghost use Rattle.nr_core.specs.declared.roles.Grip.TheVariants.{Nothing};
+    ghost use Rattle.nr_map.specs.Callers.{KnowsOwn};
+
+    pub(crate) fn of_seat(seat: Seat, number: u32) -> Reader
+        requires role { seat.me.0.role ≡ reader_role number Nothing }
+        requires own { KnowsOwn (token seat) }
+        ensures { result ≡ token seat }
+    {
+        Reader { seat, number }
+    }
+
+    /// The reader's parts. The reader ends.
+    pub(crate) fn into_seat(self) -> (Seat, u32)
+        ensures role { result.0.me.0.role ≡ reader_role result.1 Nothing }
+        ensures own { KnowsOwn (token result.0) }
+        ensures token { token result.0 ≡ self }
+    {
+        let Reader { seat, number } = self;
+        (seat, number)
+    }
+
+    /// The reader's number, from 1.
+    pub fn number(&self) -> u32
+        ensures { result ≡ self.now.number }
+    {
+        self.number
+    }
+}
+
+impl ReaderMap {
+    ghost use Rattle.nr_map.specs.Answers.{AsksKey, FindsKey};
+
+    /// Looks a key up, and writes its rows into the caller's set, which stays as it is where the
+    /// key is a hole. Takes 1 step for a hole, and 2n + 3 for n rows: it arrives, reads each word
+    /// of the set once, and departs.
+    pub fn find(&self, reader: &mut Reader, key: u32, rows: &mut RowSet) -> Found
+        requires own { reader.old.table ≡ self.now }
+        requires key { key < self.now.shape.keys }
+        ensures { FindsKey key reader.old rows.old reader.new rows.new result }
+    {
+        let word = self.board.arrive(&mut reader.seat, key);
+        let found = parts(word);
+        if !found.filled {
+            return Found::Hole;
+        }
+        let begin = self.board.content(found.slot);
+        self.load_rows(&mut reader.seat, begin, rows);
+        self.board.depart(&mut reader.seat, begin);
+        Found::Rows
+    }
+
+    // Writes the set of the slot that the reader holds, whose first content word stands at `begin`.
+    fn load_rows(&self, seat: &mut Seat, begin: u64, rows: &mut RowSet)
+        requires reader { HoldsAt self.now begin seat.old }
+        ensures reader { HoldsAt self.now begin seat.new }
+        ensures rows { rows.new ≡ rows_held seat.old.me.0.role }
+        ensures rests { Rests (2 * length rows.new + 1) (token seat.old) (token seat.new) }
+    {
+        let count = self.board.read(seat, begin, 0);
+        rows.clear();
+        for i in 0..count as u32 {
+            let row = self.read_row(seat, begin, i);
+            rows.push(i as usize, row);
+        }
+    }
+
+    // A row of that set.
+    pub(crate) fn read_row(&self, seat: &mut Seat, begin: u64, i: u32) -> Row
+        requires reader { HoldsAt self.now begin seat.old }
+        requires i { i < length (rows_held seat.old.me.0.role) }
+        ensures row { slice_get (rows_held seat.old.me.0.role) i ≡ Some result }
+        ensures reader { HoldsAt self.now begin seat.new }
+        ensures rows { rows_held seat.new.me.0.role ≡ rows_held seat.old.me.0.role }
+        ensures rests { Rests 2 (token seat.old) (token seat.new) }
+    {
+        let a = self.board.read(seat, begin, 2 * i + 1);
+        let b = self.board.read(seat, begin, 2 * i + 2);
+        Row { a, b }
+    }
+
+    /// Requests a key, in 1 step. Of the requests since the key became a hole the first is
+    /// answered `Send`, and no other.
+    pub fn ask(&self, reader: &mut Reader, key: u32) -> Asked
+        requires own { reader.old.table ≡ self.now }
+        requires key { key < self.now.shape.keys }
+        ensures { AsksKey key reader.old reader.new result }
+    {
+        let found = parts(self.board.ask(&mut reader.seat, key));
+        if found.filled {
+            Asked::Filled
+        } else if found.ask {
+            Asked::Waiting
+        } else {
+            Asked::Send(Ticket::of(key))
+        }
+    }
+}

@@ -1,0 +1,125 @@
+//! The map.
+ghost use Rattle.std.specs.Prelude.{◌≡◌, ◌<◌, ◌⊎◌, ◌↔◌, [], IfOk, Err};
+ghost use Rattle.nr_model.specs.declared.rows.TheConstants.{MAX_ROWS};
+ghost use Rattle.nr_model.specs.declared.seq_map.TheConstants.{MAX_KEYS};
+ghost use Rattle.nr_core.specs.Sizes.{IsShape};
+ghost use Rattle.nr_map.specs.Opened.{IsOpened, Seated};
+
+use crate::board::{Board, Seat};
+use crate::reader::Reader;
+use crate::writer::Writer;
+use nr_core::Shape;
+use nr_model::{MAX_KEYS, MAX_ROWS, OpenFault};
+use std::alloc::{AllocError, Global};
+use std::marker::Model;
+
+/// The largest number of slots of a map.
+pub const MAX_SLOTS: u32 = 131_072;
+
+/// The largest number of readers of a map.
+pub const MAX_READERS: u32 = 1024;
+
+/// A map of key numbers to row sets, shared by a writer and readers, each with a token of its own.
+#[derive(Drop)]
+pub struct ReaderMap {
+    pub(crate) board: Board,
+}
+
+impl Model for ReaderMap {
+    ghost use Rattle.std.specs.Prelude.{◌≡◌};
+    ghost use Rattle.nr_model.specs.declared.rows.TheConstants.{MAX_ROWS};
+    ghost use Rattle.nr_map.specs.Callers.{Table};
+
+    ghost Value = { Table };
+
+    ghost view = { λ map. map.board };
+
+    ghost invariant = { λ map. map.board.shape.bound ≡ MAX_ROWS };
+}
+
+impl ReaderMap {
+    /// A map with its writer and its readers, in the order of their numbers. Refused where a size
+    /// is out of its limits: 1 to 65,536 keys, 1 to 131,072 slots and 1 to 1,024 readers; and then
+    /// where there is no memory. Every slot's count of departures begins at `first_count`.
+    pub fn open(
+        alloc: Global,
+        keys: u32,
+        slots: u32,
+        readers: u32,
+        first_count: u64,
+    ) -> Result<(ReaderMap, Writer, Vec<Reader>), OpenFault>
+        ensures bad_size { (result ≡ Err OpenFault.BadSize) ↔ ((keys ≡ 0) ⊎ (MAX_KEYS < keys) ⊎ (slots ≡ 0) ⊎ (MAX_SLOTS < slots) ⊎ (readers ≡ 0) ⊎ (MAX_READERS < readers)) }
+        ensures ok { IfOk result (λ opened. IsOpened (record { keys = keys; slots = slots; readers = readers; bound = MAX_ROWS; first = first_count }) opened.0 opened.1 opened.2.items) }
+    {
+        if keys == 0 || keys > MAX_KEYS {
+            return Err(OpenFault::BadSize);
+        }
+        if slots == 0 || slots > MAX_SLOTS {
+            return Err(OpenFault::BadSize);
+        }
+        if readers == 0 || readers > MAX_READERS {
+            return Err(OpenFault::BadSize);
+        }
+        let shape = Shape {
+            keys,
+            slots,
+            readers,
+            bound: MAX_ROWS as u32,
+            first: first_count,
+        };
+        seated(alloc, shape).map_err(|_| OpenFault::Memory)
+    }
+
+    /// How many keys the map has. They are numbered from 0.
+    pub fn keys(&self) -> u32
+        ensures { result ≡ self.now.shape.keys }
+    {
+        self.board.shape().keys
+    }
+
+    /// How many slots the map has.
+    pub fn slots(&self) -> u32
+        ensures { result ≡ self.now.shape.slots }
+    {
+        self.board.shape().slots
+    }
+
+    /// How many readers the map has. They are numbered from 1.
+    pub fn readers(&self) -> u32
+        ensures { result ≡ self.now.shape.readers }
+    {
+        self.board.shape().readers
+    }
+}
+
+// A map of those sizes, with its tokens.
+fn seated(alloc: Global, shape: Shape) -> Result<(ReaderMap, Writer, Vec<Reader>), AllocError>
+    requires sizes { IsShape shape }
+    requires keys { 0 < shape.keys }
+    requires bound { shape.bound ≡ MAX_ROWS }
+    ensures { IfOk result (λ opened. IsOpened shape opened.0 opened.1 opened.2.items) }
+{
+    let (board, mut seat) = Board::open(alloc, shape)?;
+    let readers = seat_readers(alloc, &board, &mut seat, shape.readers)?;
+    let writer = Writer::of_seat(alloc, seat, shape.slots)?;
+    Ok((ReaderMap { board }, writer, readers))
+}
+
+// The readers, which the writer's seat makes one by one.
+fn seat_readers(
+    alloc: Global,
+    board: &Board,
+    seat: &mut Seat,
+    count: u32,
+) -> Result<Vec<Reader>, AllocError>
+    requires seat { Seated board.now.shape board.now seat.old [] 0 }
+    requires count { count ≡ board.now.shape.readers }
+    ensures { IfOk result (λ readers. Seated board.now.shape board.now seat.new readers.items count) }
+{
+    let mut readers = Vec::with_capacity(alloc, count as usize)?;
+    for made in 0..count {
+        let next = board.seat(seat);
+        readers.push(Reader::of_seat(next, made + 1))?;
+    }
+    Ok(readers)
+}

@@ -1,0 +1,42 @@
+//! The writer's token.
+ghost use Rattle.std.specs.Prelude.{◌≡◌, IfOk};
+ghost use Rattle.nr_core.specs.States.{opening_desk};
+ghost use Rattle.nr_core.specs.declared.roles.Role.TheVariants.{Writer as writer_role};
+ghost use Rattle.nr_map.specs.Callers.{KnowsOwn, token};
+
+use crate::board::Seat;
+use crate::spare::Spare;
+use std::alloc::{AllocError, Global};
+use std::marker::Model;
+
+/// What the writer makes its steps with.
+#[derive(Drop)]
+pub struct Writer {
+    pub(crate) seat: Seat,
+    pub(crate) spare: Spare,
+}
+
+impl Model for Writer {
+    ghost use Rattle.nr_map.specs.Callers.{Caller, token};
+
+    ghost Value = { Caller };
+
+    ghost use Rattle.nr_map.specs.WriterSeats.{RestsAt};
+
+    ghost view = { λ writer. token writer.seat };
+
+    ghost invariant = { λ writer. RestsAt (token writer.seat).table writer.spare writer.seat };
+}
+
+impl Writer {
+    /// The writer of a new map of so many slots.
+    pub(crate) fn of_seat(alloc: Global, seat: Seat, slots: u32) -> Result<Writer, AllocError>
+        requires role { seat.me.0.role ≡ writer_role opening_desk }
+        requires slots { slots ≡ seat.me.0.shape.slots }
+        requires own { KnowsOwn (token seat) }
+        ensures { IfOk result (λ writer. writer ≡ token seat) }
+    {
+        let spare = Spare::open(alloc, slots)?;
+        Ok(Writer { seat, spare })
+    }
+}

@@ -1,0 +1,157 @@
+//! The writer's calls.
+ghost use Rattle.std.specs.Prelude.{◌≡◌, ◌<◌};
+ghost use Rattle.nr_model.specs.declared.rows.TheConstants.{MAX_ROWS};
+ghost use Rattle.nr_map.specs.Callers.{token};
+ghost use Rattle.nr_map.specs.WriterSeats.{RestsAt};
+
+use crate::answers::{Evict, FillFault, Found, UpdateFault};
+use crate::board::Seat;
+use crate::reader_map::ReaderMap;
+use crate::spare::Spare;
+use crate::writer::Writer;
+use nr_core::WriterCall;
+use nr_model::{ApplyFault, Batch, RowSet};
+use nr_words::parts;
+
+impl ReaderMap {
+    ghost use Rattle.nr_map.specs.Answers.{LooksAt, FillsKey, UpdatesKey, EvictsKey};
+
+    /// A find of the writer's own: writes the key's rows into the caller's set, which stays as it
+    /// is where the key is a hole. Takes 1 step for a hole, and 2n + 2 for n rows.
+    pub fn look(&self, writer: &mut Writer, key: u32, rows: &mut RowSet) -> Found
+        requires own { writer.old.table ≡ self.now }
+        requires key { key < self.now.shape.keys }
+        ensures { LooksAt key writer.old rows.old writer.new rows.new result }
+    {
+        self.look_up(&mut writer.seat, &writer.spare, key, rows)
+    }
+
+    /// Fills a key that was asked for. Refused where nobody asked, where the key is filled, and
+    /// where it needs a slot and each one is a filled key's or held by a reader. Takes 1 step where
+    /// it is refused by the key, 2n + 3 and the polls for n rows where it is done, and 1 and a poll
+    /// of each retired slot where there is none.
+    pub fn fill(&self, writer: &mut Writer, key: u32, rows: &RowSet) -> Result<(), FillFault>
+        requires own { writer.old.table ≡ self.now }
+        requires key { key < self.now.shape.keys }
+        ensures { FillsKey key rows.now writer.old writer.new result }
+    {
+        self.fill_key(&mut writer.seat, &mut writer.spare, key, rows)
+    }
+
+    /// Applies a batch to the set of a filled key, whole or not at all. Refused where the key is not
+    /// filled, where the batch takes away a row that is not there, where too many rows would be
+    /// left, and where it needs a slot and each one is a filled key's or held by a reader. Takes 1
+    /// step where the key is not filled; with o rows before and n after, 2o + 2 where the batch is
+    /// refused, 2o + 2n + 4 and the polls where it is done, and 2o + 2 and a poll of each retired
+    /// slot where there is none.
+    pub fn update(&self, writer: &mut Writer, key: u32, batch: &Batch) -> Result<(), UpdateFault>
+        requires own { writer.old.table ≡ self.now }
+        requires key { key < self.now.shape.keys }
+        ensures { UpdatesKey MAX_ROWS key batch.now writer.old writer.new result }
+    {
+        self.update_key(&mut writer.seat, &mut writer.spare, key, batch)
+    }
+
+    /// Makes a filled key a hole. Takes 2 steps, and 1 where the key is not filled.
+    pub fn evict(&self, writer: &mut Writer, key: u32) -> Evict
+        requires own { writer.old.table ≡ self.now }
+        requires key { key < self.now.shape.keys }
+        ensures { EvictsKey key writer.old writer.new result }
+    {
+        self.evict_key(&mut writer.seat, &mut writer.spare, key)
+    }
+
+    fn look_up(&self, seat: &mut Seat, spare: &Spare, key: u32, rows: &mut RowSet) -> Found
+        requires own { (token seat.old).table ≡ self.now }
+        requires rests { RestsAt (token seat.old).table spare.now seat.old }
+        requires key { key < self.now.shape.keys }
+        ensures rests { RestsAt (token seat.new).table spare.now seat.new }
+        ensures looks { LooksAt key (token seat.old) rows.old (token seat.new) rows.new result }
+    {
+        let _ = spare;
+        let call = WriterCall::Find(key);
+        let found = parts(self.board.look(seat, &call));
+        if !found.filled {
+            return Found::Hole;
+        }
+        self.read_set(seat, &call, found.slot, rows);
+        Found::Rows
+    }
+
+    fn fill_key(
+        &self,
+        seat: &mut Seat,
+        spare: &mut Spare,
+        key: u32,
+        rows: &RowSet,
+    ) -> Result<(), FillFault>
+        requires own { (token seat.old).table ≡ self.now }
+        requires rests { RestsAt (token seat.old).table spare.old seat.old }
+        requires key { key < self.now.shape.keys }
+        ensures rests { RestsAt (token seat.new).table spare.new seat.new }
+        ensures fills { FillsKey key rows.now (token seat.old) (token seat.new) result }
+    {
+        // That it is a row set is known of a set whose length was asked for.
+        let _ = rows.len();
+        let call = WriterCall::Fill(key, *rows);
+        let found = parts(self.board.look(seat, &call));
+        if found.filled {
+            return Err(FillFault::Already);
+        }
+        if !found.ask {
+            return Err(FillFault::NotAsked);
+        }
+        if let Err(counts) = self.publish(seat, spare, &call, rows) {
+            return Err(FillFault::NoSlot(counts));
+        }
+        Ok(())
+    }
+
+    fn update_key(
+        &self,
+        seat: &mut Seat,
+        spare: &mut Spare,
+        key: u32,
+        batch: &Batch,
+    ) -> Result<(), UpdateFault>
+        requires own { (token seat.old).table ≡ self.now }
+        requires rests { RestsAt (token seat.old).table spare.old seat.old }
+        requires key { key < self.now.shape.keys }
+        ensures rests { RestsAt (token seat.new).table spare.new seat.new }
+        ensures updates { UpdatesKey MAX_ROWS key batch.now (token seat.old) (token seat.new) result }
+    {
+        let call = WriterCall::Update(key, *batch);
+        let found = parts(self.board.look(seat, &call));
+        if !found.filled {
+            return Err(UpdateFault::Dropped);
+        }
+        let mut rows = RowSet::new();
+        self.read_set(seat, &call, found.slot, &mut rows);
+        let new_rows = match rows.applied(batch) {
+            Ok(new_rows) => new_rows,
+            Err(ApplyFault::NoRow) => return Err(UpdateFault::NoRow),
+            Err(ApplyFault::TooMany) => return Err(UpdateFault::TooMany),
+        };
+        if let Err(counts) = self.publish(seat, spare, &call, &new_rows) {
+            return Err(UpdateFault::NoSlot(counts));
+        }
+        Ok(())
+    }
+
+    fn evict_key(&self, seat: &mut Seat, spare: &mut Spare, key: u32) -> Evict
+        requires own { (token seat.old).table ≡ self.now }
+        requires rests { RestsAt (token seat.old).table spare.old seat.old }
+        requires key { key < self.now.shape.keys }
+        ensures rests { RestsAt (token seat.new).table spare.new seat.new }
+        ensures evicts { EvictsKey key (token seat.old) (token seat.new) result }
+    {
+        let call = WriterCall::Evict(key);
+        let found = parts(self.board.look(seat, &call));
+        if !found.filled {
+            return Evict::Nothing;
+        }
+        let old_word = self.board.unpublish(seat, key);
+        spare.retire(old_word);
+        Evict::Evicted
+    }
+}
