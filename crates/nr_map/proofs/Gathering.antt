@@ -1,32 +1,29 @@
 -- What a token learns of another, and what it knows of both after a gather.
-use Rattle.std.proofs.Common.{◌≡◌, ℕ, ◌+◌, List, [], ◌∷◌, ◌++◌, length, refl, sym, ap, ◌∙◌, subst, arith, append-nil, length-append}
+use Rattle.std.proofs.Common.{◌≡◌, ℕ, zero, suc, ◌+◌, List, [], ◌∷◌, ◌++◌, length, sym, ap, ◌∙◌, subst, arith, append-nil, length-append, refl}
+use mathlib.Core.Option.{some, some-ne-none}
+use lib.ListN.{get_elem?}
 use Rattle.atomic_table.specs.Seated.{TableId}
-use Rattle.nr_model.specs.Histories.{Entry, IsLegal, entries_of}
+use Rattle.nr_model.specs.Histories.{Entry, entries_of}
 use Rattle.nr_core.proofs.Histories.{of-append}
+use Rattle.nr_core.specs.declared.places.Place.TheVariants.{Idle}
+use Rattle.nr_core.specs.declared.places.Retired.{Retired}
+use Rattle.nr_core.specs.declared.roles.Desk.{Desk}
+use Rattle.nr_core.specs.declared.roles.Grip.{Grip}
+use Rattle.nr_core.specs.declared.roles.Role.TheVariants.{Reader, Writer}
+use Rattle.nr_core.specs.declared.shape.Shape.{Shape}
+use Rattle.nr_marks.proofs.ExactPlace.{gathered_is_known_lem}
+use Rattle.nr_marks.proofs.ListPlaces.{at_left}
+use Rattle.nr_marks.specs.Exact.{Lists}
+use Rattle.nr_marks.specs.Marks.{Marks, Past, gripped, past, told_by}
+use Rattle.nr_marks.specs.Pasts.{Compared, Current}
 use Rattle.nr_map.proofs.Tokens.{MapSeat}
-use Rattle.nr_map.specs.Callers.{Caller, KnowsOwn, caller_of, opening_map, token}
-use Rattle.nr_map.specs.Learning.{Learned}
-use Rattle.nr_map.specs.Meetings.{Gathers, Learns, Meets}
+use Rattle.nr_map.specs.Callers.{Caller, KnowsOwn, caller_of, token}
+use Rattle.nr_map.specs.Learning.{HearsOf, Learned, LearnsOf}
+use Rattle.nr_map.specs.Meetings.{Gathers, Learns, Meets, desk_seen, how_is}
 use Rattle.nr_map.specs.Notes.{note_of, with_note}
 use Rattle.nr_map.specs.Rounds.{HasCalls, HasHeard, HasJustCalls}
 use Rattle.nr_map.specs.Rule.{StartsWith}
-use Rattle.nr_map.specs.Views.{View, desk_of, number_of}
-
--- what a load taught, after steps that taught nothing
-pub learns_view : (id : TableId) (at found steps more : ℕ) (old before new : View) → before ≡ record old { told = before.told; steps = old.steps + more } → steps ≡ more + 1 → Learned at found before new → Learns steps (caller_of id old) (caller_of id new)
-learns_view id at found steps more old before new same count learned = let grows = learned.advances id in record {
-  table = grows.table ∙ (λ j. (caller_of id (same j)).table);
-  number = ap number_of learned.role ∙ (λ j. number_of (same j).role);
-  seen = record { rest = grows.between; is = grows.seen ∙ append-nil (before.seen ++ grows.between) ∙ (λ j. (same j).seen ++ grows.between) };
-  mine = grows.mine ∙ append-nil before.mine ∙ (λ j. (same j).mine);
-  legal = subst (λ (v : View). IsLegal (opening_map (caller_of id v).table) new.seen) same grows.legal;
-  own = grows.own;
-  nobody_else = λ caller beyond. learned.nobody_else caller (let sized : before.shape.readers ≡ old.shape.readers = (λ j. (same j).shape.readers) in omega arith);
-  steps_made = let made : before.steps ≡ old.steps + more = (λ j. (same j).steps) in omega (arith, grows.steps_made);
-  fresh = (λ j. (desk_of (learned.role j)).fresh) ∙ (λ j. (desk_of (same j).role).fresh);
-  retired = (λ j. (desk_of (learned.role j)).retired) ∙ (λ j. (desk_of (same j).role).retired);
-  polls = learned.polls ∙ (λ j. (same j).polls);
-}
+use Rattle.nr_map.specs.Views.{View, desk_of, grip_of, number_of}
 
 -- a history that begins with what a caller has seen has that caller's calls
 pub begins_with_calls : (log : List Entry) (caller : Caller) → KnowsOwn caller → StartsWith log caller.seen → StartsWith (entries_of log caller.number) caller.mine
@@ -36,18 +33,31 @@ begins_with_calls log caller own begins = record {
 }
 
 -- a note of the other was taken in, and the history so far learnt
-pub meets_seat : (seat other joined new : MapSeat) (note : View) (found : ℕ) → KnowsOwn (token other) → note ≡ note_of other.me.0 → joined.me.0 ≡ with_note seat.me.0 note → new.table_id ≡ seat.table_id → Learned 0 found joined.me.0 new.me.0 → Meets 3 (token seat) (token other) (token new)
+pub meets_seat : (seat other joined new : MapSeat) (note : View) (found : ℕ) → KnowsOwn (token other) → note ≡ note_of other.me.0 → joined.me.0 ≡ with_note seat.me.0 note → new.table_id ≡ seat.table_id → Learned 0 found joined.me.0 new.me.0
+    → Meets 3 (token seat) (token other) (token new) × HearsOf seat.me.0 other.me.0 new.me.0
 meets_seat seat other joined new note found own is took same learned =
     let joins : joined.me.0 ≡ with_note seat.me.0 (note_of other.me.0) = took ∙ ap (with_note seat.me.0) is in
-    let told = subst (λ (v : View). Learned 0 found v new.me.0) joins learned in
-    subst (λ (id : TableId). Meets 3 (token seat) (token other) (caller_of id new.me.0)) (sym same) (record {
-      learns = learns_view seat.table_id 0 found 3 2 seat.me.0 (with_note seat.me.0 (note_of other.me.0)) new.me.0 (λ j. record seat.me.0 { told = other.me.0.seen; steps = two j }) refl told;
-      seen = told.told;
-      calls = begins_with_calls new.me.0.seen (token other) own told.told;
-    })
-  where
-    two : seat.me.0.steps + 1 + 1 ≡ seat.me.0.steps + 2
-    two = omega arith
+    let told = subst (λ (v : View). Learned 0 found v new.me.0) joins learned in let learns = told.learns seat.table_id in (
+      subst (λ (id : TableId). Meets 3 (token seat) (token other) (caller_of id new.me.0)) (sym same) (record {
+        learns = record {
+          table = learns.table;
+          number = learns.number;
+          seen = learns.seen;
+          mine = learns.mine;
+          legal = learns.legal;
+          own = learns.own;
+          nobody_else = learns.nobody_else;
+          steps_made = omega (arith, learns.steps_made);
+          fresh = learns.fresh;
+          retired = learns.retired;
+          holds = learns.holds;
+          marks = learns.marks;
+        };
+        seen = told.told;
+        calls = begins_with_calls new.me.0.seen (token other) own told.told;
+      }),
+      (told.news, told.pasts, told.of_readers),
+    )
 
 -- a list that goes on twice and is itself did not go on
 nothing_more : {A : Type 0} (xs ys zs : List A) → xs ≡ (xs ++ ys) ++ zs → ys ≡ []
@@ -62,27 +72,73 @@ just_calls log caller calls heard =
     let none = nothing_more caller.mine calls.rest (his later.rest) (sym heard.1 ∙ longer ∙ ap (λ (l : List Entry). l ++ his later.rest) calls.is) in
     calls.is ∙ ap (λ (l : List Entry). caller.mine ++ l) none ∙ append-nil caller.mine
 
-pub gathers_so : (writer reader writer' reader' : Caller) → Meets 3 writer reader writer' → Meets 3 reader writer' reader' → Gathers writer reader writer' reader'
-gathers_so writer reader writer' reader' first second = let log = writer'.seen in let learns = second.learns in record {
-  of_reader = first;
-  of_writer = second;
-  all = ap (entries_of log) (sym learns.number) ∙ just_calls log reader' (subst (λ (p : ℕ × List Entry). StartsWith (entries_of log p.0) p.1) (λ j. (sym learns.number j, sym learns.mine j)) first.calls) (second.seen, learns.own) ∙ learns.mine;
-}
+-- what two views knew of each other
+pub record Compares (writer reader heard : View) (desk : Desk) (one : Past) : Type 0 where
+  pub news : List Past
+  pub pasts : heard.pasts ≡ news ++ writer.pasts
+  pub known : get_elem? heard.pasts 0 ≡ some one
+  pub current : Current desk.retired writer.marks one
+  pub lists : Lists desk writer.marks writer.shape heard.seen
+
+compares_so : (writer reader heard told : View) (desk : Desk) (number : ℕ) (grip : Grip) → writer.role ≡ Writer desk → reader.role ≡ Reader number grip → heard.role ≡ Writer desk → HearsOf writer reader heard → HearsOf reader heard told
+    → Compares writer reader heard desk (past number grip reader.marks)
+compares_so writer reader heard told desk number grip writes reads still first second =
+    let news = first.0 in let noted = with_note writer (note_of reader) in let asked = with_note reader (note_of heard) in
+    let learnt = subst (λ r. LearnsOf r noted heard news) writes first.2 in
+    let compared = subst (λ r. LearnsOf r asked told second.0) reads second.2 in
+    let heard_so = subst (λ r. Compared number grip reader.marks (told_by r heard.marks heard.pasts)) still compared.1 in
+    let longer : (at : ℕ) (one : Past) → get_elem? news at ≡ some one → get_elem? heard.pasts at ≡ some one = λ at one is. ap (λ (l : List Past). get_elem? l at) first.1 ∙ at_left news writer.pasts at one is in
+    let known = gathered_is_known_lem desk.retired writer.marks (told_by reader.role reader.marks reader.pasts) news heard.pasts number grip reader.marks 0 (ap (λ r. get_elem? (told_by r reader.marks reader.pasts) 0) reads) learnt.0
+    (λ at one is. (at, longer at one is)) heard_so in record {
+      news = news;
+      pasts = first.1;
+      known = longer 0 (past number grip reader.marks) known.0;
+      current = known.1;
+      lists = learnt.1;
+    }
 
 -- a seat that lent itself is the same token
 same_token : (seat lent : MapSeat) → lent.table_id ≡ seat.table_id → lent.me ≡ seat.me → token lent ≡ token seat
 same_token seat lent id me = λ j. caller_of (id j) (me j).0
 
 pub learns_seat : (at found : ℕ) (seat new : MapSeat) → new.table_id ≡ seat.table_id → Learned at found seat.me.0 new.me.0 → Learns 1 (token seat) (token new)
-learns_seat at found seat new same learned = subst (λ (id : TableId). Learns 1 (token seat) (caller_of id new.me.0)) (sym same)
-    (learns_view seat.table_id at found 1 0 seat.me.0 seat.me.0 new.me.0 (λ j. record seat.me.0 { steps = none j }) refl learned)
-  where
-    none : seat.me.0.steps ≡ seat.me.0.steps + 0
-    none = omega arith
+learns_seat at found seat new same learned = subst (λ (id : TableId). Learns 1 (token seat) (caller_of id new.me.0)) (sym same) (learned.learns seat.table_id)
 
--- each was lent to the other once
-pub gathers_seats : (writer reader heard lent last told : MapSeat) → (lent.table_id ≡ reader.table_id) × (lent.me ≡ reader.me) → (last.table_id ≡ heard.table_id) × (last.me ≡ heard.me) → Meets 3 (token writer) (token reader) (token heard) → Meets 3 (token lent) (token heard) (token told)
-    → Gathers (token writer) (token reader) (token last) (token told)
-gathers_seats writer reader heard lent last told first second hears tells =
-    subst (λ (w : Caller). Gathers (token writer) (token reader) w (token told)) (sym (same_token heard last second.0 second.1))
-    (gathers_so (token writer) (token reader) (token heard) (token told) hears (subst (λ (r : Caller). Meets 3 r (token heard) (token told)) (same_token reader lent first.0 first.1) tells))
+-- the writer, which was between two calls, heard of the reader and the reader of it; each was lent to the other once
+module _ (writer reader heard lent last told : MapSeat) (fresh : ℕ) (retired : List Retired) (number : ℕ) (grip : Grip)
+    (writes : writer.me.0.role ≡ Writer (record { place = Idle; fresh = fresh; retired = retired })) (reads : reader.me.0.role ≡ Reader number grip) (stays : heard.me.0.role ≡ writer.me.0.role)
+    (first : (lent.table_id ≡ reader.table_id) × (lent.me ≡ reader.me)) (second : (last.table_id ≡ heard.table_id) × (last.me ≡ heard.me))
+    (meets : Meets 3 (token writer) (token reader) (token heard)) (meets_back : Meets 3 (token lent) (token heard) (token told)) (hears : HearsOf writer.me.0 reader.me.0 heard.me.0) (hears_back : HearsOf lent.me.0 heard.me.0 told.me.0) where
+  abbrev desk : Desk
+  desk = record { place = Idle; fresh = fresh; retired = retired }
+
+  writes_still : heard.me.0.role ≡ Writer desk
+  writes_still = stays ∙ writes
+
+  compares : Compares writer.me.0 reader.me.0 heard.me.0 desk (past number grip reader.me.0.marks)
+  compares = compares_so writer.me.0 reader.me.0 heard.me.0 told.me.0 desk number grip writes reads writes_still hears (subst (λ (v : View). HearsOf v heard.me.0 told.me.0) (λ j. (first.1 j).0) hears_back)
+
+  back : Meets 3 (token reader) (token heard) (token told)
+  back = subst (λ (r : Caller). Meets 3 r (token heard) (token told)) (same_token reader lent first.0 first.1) meets_back
+
+  one_is : past number grip reader.me.0.marks ≡ how_is (token reader)
+  one_is = λ j. record { reader = number_of (sym reads j); count = reader.me.0.marks.acts; slot = gripped (grip_of (sym reads j)); put = reader.me.0.marks.put }
+
+  gathers_heard : Gathers (token writer) (token reader) (token heard) (token told)
+  gathers_heard = let log = heard.me.0.seen in let learns = back.learns in let known = compares in record {
+    of_reader = meets;
+    of_writer = back;
+    all = ap (entries_of log) (sym learns.number) ∙ just_calls log (token told) (subst (λ (p : ℕ × List Entry). StartsWith (entries_of log p.0) p.1) (λ j. (sym learns.number j, sym learns.mine j)) meets.calls) (back.seen, learns.own) ∙ learns.mine;
+    news = known.news;
+    pasts = known.pasts;
+    place = 0;
+    known = known.known ∙ ap some one_is;
+    current = subst (λ (p : List Retired × Marks × Past). Current p.0 p.1 p.2) (λ j. ((desk_of (sym writes_still j)).retired, sym meets.learns.marks j, one_is j)) known.current;
+    lists = subst (λ (p : Desk × Marks × Shape). Lists p.0 p.1 p.2 log) (λ j. (desk_at j, sym meets.learns.marks j, (sym meets.learns.table j).shape)) known.lists;
+  }
+    where
+      desk_at : desk ≡ desk_seen (token heard)
+      desk_at = λ j. record { place = Idle; fresh = (desk_of (sym writes_still j)).fresh; retired = (desk_of (sym writes_still j)).retired }
+
+  pub gathers_seats : Gathers (token writer) (token reader) (token last) (token told)
+  gathers_seats = subst (λ (w : Caller). Gathers (token writer) (token reader) w (token told)) (sym (same_token heard last second.0 second.1)) gathers_heard

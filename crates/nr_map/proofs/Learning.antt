@@ -1,8 +1,8 @@
 -- A load that only learns.
-use Rattle.std.proofs.Common.{◌≡◌, ℕ, ◌%◌, ◌<◌, Bool, true, false, cond, List, [], get_or, refl, sym, ap, ◌∙◌, arith, eq-eqb, ne_eqb, append_assoc, append-nil, ◌++◌}
+use Rattle.std.proofs.Common.{◌≡◌, ℕ, ◌%◌, ◌+◌, ◌<◌, Bool, true, false, cond, List, [], get_or, refl, sym, ap, ◌∙◌, arith, eq-eqb, ne_eqb, append_assoc, append-nil, subst, ◌++◌}
 use Rattle.atomic_table.specs.Table.{Allows, Me}
-use Rattle.nr_model.specs.Histories.{Entry, entries_of}
-use Rattle.nr_model.specs.Maps.{state_of}
+use Rattle.nr_model.specs.Histories.{Entry, IsLegal, entries_of}
+use Rattle.nr_model.specs.Maps.{opening, state_of}
 use Rattle.nr_model.specs.declared.states.KeyState.{KeyState}
 use Rattle.nr_model.specs.declared.states.KeyState.TheVariants as key
 use Rattle.nr_words.specs.KeyWords.{has_ask, is_filled}
@@ -10,18 +10,24 @@ use Rattle.nr_core.proofs.KeyWords.{names_none, names_one}
 use Rattle.nr_core.proofs.Learn.{learns}
 use Rattle.nr_core.specs.Core.{ShowsState}
 use Rattle.nr_core.specs.Operations.{Load}
-use Rattle.nr_core.specs.Roles.{is_by}
+use Rattle.nr_core.specs.Roles.{is_by, is_reader, is_writer}
 use Rattle.nr_core.specs.Steps.{Learns}
 use Rattle.nr_core.specs.Story.{map_after}
 use Rattle.nr_core.specs.declared.roles.Role.{Role}
 use Rattle.nr_core.specs.declared.roles.Role.TheVariants.{Note, Reader, Writer}
 use Rattle.nr_core.specs.declared.shape.Shape.{Shape}
+use Rattle.nr_marks.proofs.LearnMarks.{learns_reader, learns_writer}
+use Rattle.nr_marks.specs.Exact.{Lists}
+use Rattle.nr_marks.specs.MarkSteps.{ReaderLearns, WriterLearns}
+use Rattle.nr_marks.specs.Marked.{CanMark, MarkTelling}
+use Rattle.nr_marks.specs.Marks.{Marks, Past, gripped}
 use Rattle.nr_map.proofs.Lift.{lifts}
-use Rattle.nr_map.proofs.Moves.{learning}
-use Rattle.nr_map.specs.Learning.{Learned, kind_of, kind_shown}
+use Rattle.nr_map.proofs.Moves.{chosen, learned_fits, learned_next}
+use Rattle.nr_map.specs.Kinds.{kind_of, kind_shown}
+use Rattle.nr_map.specs.Learning.{Learned, LearnsOf}
 use Rattle.nr_map.specs.Notes.{IsCaller}
-use Rattle.nr_map.specs.Rule.{Kept}
-use Rattle.nr_map.specs.Views.{View, number_of}
+use Rattle.nr_map.specs.Rule.{Kept, StartsWith, marks_of, role_of}
+use Rattle.nr_map.specs.Views.{View, desk_of, grip_of, number_of}
 use Rattle.nr_map.specs.declared.answers.KeyKind.{KeyKind}
 use Rattle.nr_map.specs.declared.answers.KeyKind.TheVariants as kind
 
@@ -45,17 +51,53 @@ shows_kind shape words word (key.Rows rows) shows = ap (λ (b : Bool). cond {A =
 still : (log entries : List Entry) → entries ≡ [] → log ≡ log ++ entries
 still log entries none = sym (append-nil log) ∙ ap (λ (l : List Entry). log ++ l) (sym none)
 
-pub learns_so : (shape : Shape) (slots id : ℕ) (me : Me (Unit {0}) View) (at : ℕ) → at < shape.keys → IsCaller me.0.role → Allows (Kept shape) slots id me at (λ word. word) (λ found after. Learned at found me.0 after.0)
-learns_so shape slots id me at near call = let view = me.0 in let tells = Learns view.role in
-    lifts shape id view (Load at) tells slots me.1 (λ found next. Learned at found view next) (learns shape id view.role at)
-    (λ state kept there step. let found : ℕ = get_or state.words at 0 in let fits = kept.fits id view there in let sized = fits.sized call in
-    learning shape id view (Load at) tells state kept there step (ap number_of step.told.0) sized view.polls (λ next. Learned at found view next) (caller_is view.role call) [] step.told.1
-    (λ advances. record {
-      role = step.told.0;
-      advances = advances;
-      told = record { rest = fits.told.rest ++ step.entries; is = ap (λ (l : List Entry). l ++ step.entries) fits.told.is ∙ append_assoc view.told fits.told.rest step.entries };
-      polls = refl;
-      nobody_else = λ caller beyond. ap (λ (l : List Entry). entries_of l caller) (sym (still kept.log step.entries step.told.1))
-          ∙ kept.silent caller (let few = kept.core.few in let made = kept.readers in let same : view.shape.readers ≡ shape.readers = ap (λ (s : Shape). s.readers) sized in omega arith);
-      state = shows_kind shape state.words found (state_of (map_after shape kept.log) at) (kept.core.shows at near) ∙ (λ j. kind_of (state_of (map_after (sym sized j) (still kept.log step.entries step.told.1 j)) at));
-    }))
+module _ (shape : Shape) (slots id : ℕ) (me : Me (Unit {0}) View) (at : ℕ) (near : at < shape.keys) (call : IsCaller me.0.role) where
+  abbrev view : View
+  view = me.0
+
+  abbrev CanLearn : MarkTelling → Type 0
+  CanLearn notes = CanMark role_of marks_of shape id view view.told_pasts (Load at) (Learns view.role) notes
+
+  learns_by : (notes : MarkTelling) → CanLearn notes
+      → ((word : ℕ) (after : Role) (log : List Entry) (now : Marks) (news : List Past) (next : View) → view.shape ≡ shape → next.seen ≡ log → notes word after log now news → (now ≡ view.marks) × LearnsOf view.role view next news)
+      → Allows (Kept shape) slots id me at (λ word. word) (λ found after. Learned at found view after.0)
+  learns_by notes can_learn tell = let tells = Learns view.role in
+      lifts shape id view (Load at) tells notes slots me.1 (λ found next. Learned at found view next) view.told_pasts (learns shape id view.role at) can_learn (λ state kept there. kept.told_pasts id view there)
+      (λ state kept there step marked. let found : ℕ = get_or state.words at 0 in let fits = kept.fits id view there in let sized = fits.sized call in
+      let next = learned_next shape id view (Load at) tells notes state kept there step marked (ap number_of step.told.0) sized in
+      let same = still kept.log step.entries step.told.1 in let grown = tell found step.after (kept.log ++ step.entries) marked.now marked.news next sized refl marked.told in
+      let own = (learned_fits shape kept.log view fits step.after step.same step.writer step.reader step.entries marked.now marked.news step.own).knows_own in
+      chosen shape id view (Load at) tells notes state kept there step marked (ap number_of step.told.0) sized (λ after. Learned at found view after) (record {
+        role = step.told.0;
+        learns = λ table. record {
+          table = refl;
+          number = ap number_of step.told.0;
+          seen = record { rest = fits.begins.rest; is = sym same ∙ fits.begins.is };
+          mine = ap (λ (l : List Entry). view.mine ++ l) step.told.1 ∙ append-nil view.mine;
+          legal = subst (λ (g : Shape). IsLegal (opening g.keys g.bound) (kept.log ++ step.entries)) (sym sized) step.core.legal;
+          own = own (number_of step.after) (step.same (number_of step.after) ∙ ap (λ (n : ℕ). is_by n view.role) (ap number_of step.told.0) ∙ caller_is view.role call);
+          nobody_else = λ caller beyond. ap (λ (l : List Entry). entries_of l caller) (sym same)
+              ∙ kept.silent caller (let few = kept.core.few in let made = kept.readers in let readers : view.shape.readers ≡ shape.readers = ap (λ (s : Shape). s.readers) sized in omega arith);
+          steps_made = refl;
+          fresh = ap (λ r. (desk_of r).fresh) step.told.0;
+          retired = ap (λ r. (desk_of r).retired) step.told.0;
+          holds = ap (λ r. gripped (grip_of r)) step.told.0;
+          marks = grown.0;
+        };
+        told = record { rest = fits.told.rest; is = sym same ∙ fits.told.is };
+        state = shows_kind shape state.words found (state_of (map_after shape kept.log) at) (kept.core.shows at near) ∙ (λ j. kind_of (state_of (map_after (sym sized j) (same j)) at));
+        news = marked.news;
+        pasts = refl;
+        told_pasts = refl;
+        of_readers = grown.1;
+      }))
+
+  learns_as : (role : Role) → view.role ≡ role → Allows (Kept shape) slots id me at (λ word. word) (λ found after. Learned at found view after.0)
+  learns_as (Writer desk) is = learns_by (WriterLearns shape view.marks desk view.told_pasts) (learns_writer role_of marks_of shape id view view.told_pasts at desk is)
+      (λ word after log now news next sized seen told. (told.0, subst (λ r. LearnsOf r view next news) (sym is) (told.1, subst (λ (p : Shape × List Entry). Lists desk view.marks p.0 p.1) (λ j. (sym sized j, sym seen j)) told.2)))
+  learns_as (Reader reader grip) is = learns_by (ReaderLearns reader grip view.marks view.told_pasts) (learns_reader role_of marks_of shape id view view.told_pasts at reader grip is)
+      (λ word after log now news next sized seen told. (told.0, subst (λ r. LearnsOf r view next news) (sym is) (told.1, told.2)))
+  learns_as Note is = absurd (let no_writer : is_writer view.role ≡ 0 = ap is_writer is in let no_reader : is_reader view.role ≡ 0 = ap is_reader is in omega arith)
+
+  pub learns_so : Allows (Kept shape) slots id me at (λ word. word) (λ found after. Learned at found view after.0)
+  learns_so = learns_as view.role refl

@@ -16,8 +16,10 @@ pub mod Room
 pub mod Shortage
 pub mod WriterSteps
 pub mod PollNotes
+pub mod Polled
 pub mod WriterSeats
 pub mod Searching
 pub mod Publishing
 pub mod ReadingOn
 pub mod WriterCalls
+pub mod NoSlots

@@ -15,7 +15,10 @@ use Rattle.nr_core.specs.Steps.{CanStep, Stepped, Telling}
 use Rattle.nr_core.specs.Sums.{total}
 use Rattle.nr_core.specs.declared.roles.Role.{Role}
 use Rattle.nr_core.specs.declared.shape.Shape.{Shape}
-use Rattle.nr_map.specs.Rule.{Fits, Kept, counts, role_of}
+use Rattle.nr_marks.proofs.Knowing.{knowing_step}
+use Rattle.nr_marks.specs.Marked.{AllSince, CanMark, MarkTelling, Remarked}
+use Rattle.nr_marks.specs.Marks.{Past}
+use Rattle.nr_map.specs.Rule.{Fits, Kept, counts, marks_of, pasts_of, role_of, told_pasts_of}
 use Rattle.nr_map.specs.Views.{View}
 
 abbrev Table : Type 0
@@ -41,28 +44,40 @@ apart shape state kept id other view viewed caller at there ne his =
     let by_cases : (y : Bool) → F y = λ y. elim y as F [ true ↦ λ h. absurd (omega arith) | false ↦ λ h. refl ] in
     by_cases (is_by caller view.role) small
 
-module _ (shape : Shape) (id : ℕ) (view : View) (operation : Operation) (tells : Telling) where
+-- what the token knows of readers is so since then
+pub knows_pasts : (shape : Shape) (id : ℕ) (view : View) (state : Table) → Kept shape state → get_elem? state.views id ≡ some view → AllSince role_of marks_of state.views view.pasts
+knows_pasts shape id view state kept at = kept.pasts id view at
+
+module _ (shape : Shape) (id : ℕ) (view : View) (operation : Operation) (tells : Telling) (notes : MarkTelling) where
   abbrev Step : (state : Table) → Kept shape state → Type 0
   Step state kept = Stepped shape state.words (map role_of state.views) kept.log id view.role operation tells
 
+  -- its marks after the step
+  abbrev pub Marks : (state : Table) (kept : Kept shape state) → Stepped shape state.words (map role_of state.views) kept.log id view.role operation tells → Type 0
+  Marks state kept step = Remarked role_of marks_of shape state.words state.views kept.log id view operation step.after step.entries notes
+
   -- the token's view after a step, which fits the history and tells what it should
-  pub record Choice (state : Table) (kept : Kept shape state) (step : Stepped shape state.words (map role_of state.views) kept.log id view.role operation tells) (then : View → Type 0) : Type 0 where
+  pub record Choice (state : Table) (kept : Kept shape state) (step : Stepped shape state.words (map role_of state.views) kept.log id view.role operation tells) (marked : Remarked role_of marks_of shape state.words state.views kept.log id view operation step.after step.entries notes) (then : View → Type 0) : Type 0 where
     pub next : View
     pub role : next.role ≡ step.after
     pub made : next.made ≡ view.made
+    pub marks : next.marks ≡ marked.now
+    pub pasts : next.pasts ≡ marked.news ++ view.pasts
+    pub told_pasts : next.told_pasts ≡ view.told_pasts
     pub fits : Fits shape (kept.log ++ step.entries) next
     pub told : then next
 
   -- whatever the table is, the token has such a view
   abbrev pub Chooses : (ℕ → View → Type 0) → Type 0
-  Chooses then = (state : Table) (kept : Kept shape state) → get_elem? state.views id ≡ some view → (step : Step state kept) → Choice state kept step (then (get_or state.words (place_of operation) 0))
+  Chooses then = (state : Table) (kept : Kept shape state) → get_elem? state.views id ≡ some view → (step : Step state kept) (marked : Marks state kept step) → Choice state kept step marked (then (get_or state.words (place_of operation) 0))
 
   -- the rule after the step
-  keeps_rule : (state : Table) (kept : Kept shape state) (carried : List (ℕ × Unit {0})) (then : View → Type 0) → get_elem? state.views id ≡ some view → (step : Step state kept) (choice : Choice state kept step then)
+  keeps_rule : (state : Table) (kept : Kept shape state) (carried : List (ℕ × Unit {0})) (then : View → Type 0) → get_elem? state.views id ≡ some view → (step : Step state kept) (marked : Marks state kept step) (choice : Choice state kept step marked then)
       → Kept shape (stepped state (place_of operation) (becomes operation (get_or state.words (place_of operation) 0)) id carried choice.next keeps)
-  keeps_rule state kept carried then at step choice =
+  keeps_rule state kept carried then at step marked choice =
       let views = state.views in let next = choice.next in let views' = set views id next in let log' = kept.log ++ step.entries in
       let there = at_map role_of views id view at in
+      let known = knowing_step role_of marks_of pasts_of told_pasts_of shape state.words views kept.log id view operation step.after step.entries notes at kept.pasts kept.told_pasts marked next choice.role choice.marks choice.pasts choice.told_pasts in
       let roles : map role_of views' ≡ set (map role_of views) id step.after = map-set role_of views id next ∙ ap (set (map role_of views) id) choice.role in
       let tally : (caller : ℕ) → total (counts caller) (map role_of views') ≡ total (counts caller) (map role_of views) = λ caller.
       let same : counts caller step.after ≡ counts caller view.role = ap (λ y. cond y 1 0) (step.same caller) in
@@ -81,16 +96,21 @@ module _ (shape : Shape) (id : ℕ) (view : View) (operation : Operation) (tells
             let no : (y : Bool) → cond y 1 0 ≤ 0 → entries_of step.entries caller ≡ cond y step.entries [] → entries_of step.entries caller ≡ []
             = λ y. elim y as (λ y'. cond y' 1 0 ≤ 0 → entries_of step.entries caller ≡ cond y' step.entries [] → entries_of step.entries caller ≡ []) [ true ↦ λ q _. absurd (omega arith) | false ↦ λ _ q. q ] in
             of-append caller kept.log step.entries ∙ ap (λ (l : List Entry). entries_of kept.log caller ++ l) (no (is_by caller view.role) (omega arith) (step.own caller)) ∙ append-nil (entries_of kept.log caller) ∙ kept.silent caller later;
+        marked = marked.marked next choice.role choice.marks;
+        pasts = known.0;
+        told_pasts = known.1;
         maker = λ j u e writes. ⊎_elim
             (λ (t : (j ≡ id) × (next ≡ u)). ap (λ (y : View). y.made) (sym t.1) ∙ choice.made ∙ kept.maker id view at (sym step.writer ∙ (ap is_writer (sym choice.role) ∙ (ap (λ (y : View). is_writer y.role) t.1 ∙ writes))))
             (λ (t : (j ≢ id) × (get_elem? views j ≡ some u)). kept.maker j u t.1 writes)
             (at_set views id j next u e);
       }
 
-  -- Where the core can make a step, so can the token.
-  pub lifts : (slots : ℕ) (carried : List (ℕ × Unit {0})) (then : ℕ → View → Type 0) → CanStep shape id view.role operation tells → Chooses then
+  -- Where the core can make a step and its marks go along, so can the token.
+  pub lifts : (slots : ℕ) (carried : List (ℕ × Unit {0})) (then : ℕ → View → Type 0) (known : List Past) → CanStep shape id view.role operation tells → CanMark role_of marks_of shape id view known operation tells notes
+      → ((state : Table) → Kept shape state → get_elem? state.views id ≡ some view → AllSince role_of marks_of state.views known) → Chooses then
       → Allows (Kept shape) slots id (view, carried) (place_of operation) (becomes operation) (λ found after. then found after.0)
-  lifts slots carried then can chooses state kept wide at small =
+  lifts slots carried then known can can_mark knows chooses state kept wide at small =
       let step = can state.words (map role_of state.views) kept.log kept.core (at_map role_of state.views id view at) in
-      let choice = chooses state kept at step in
-      (choice.next, keeps, tt, keeps_rule state kept carried (then (get_or state.words (place_of operation) 0)) at step choice, choice.told)
+      let marked = can_mark state.words state.views kept.log kept.core kept.marked kept.once at (knows state kept at) step.after step.entries step.told in
+      let choice = chooses state kept at step marked in
+      (choice.next, keeps, tt, keeps_rule state kept carried (then (get_or state.words (place_of operation) 0)) at step marked choice, choice.told)

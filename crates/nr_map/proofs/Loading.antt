@@ -11,4 +11,5 @@ pub record Loaded (table : Table) (begin : ℕ) (before after : MapSeat) (rows :
   pub reader : HoldsAt table begin after
   pub held : rows_held after.me.0.role ≡ rows_held before.me.0.role
   pub rows_so : rows ≡ take count (rows_held before.me.0.role)
+  pub marks : after.me.0.marks ≡ before.me.0.marks
   pub rests : Rests (2 * count + 1) (token before) (token after)

@@ -12,20 +12,22 @@ use Rattle.nr_core.specs.Steps.{Stepped, Telling}
 use Rattle.nr_core.specs.declared.roles.Role.{Role}
 use Rattle.nr_core.specs.declared.shape.Shape.{Shape}
 use Rattle.nr_map.specs.Plays.{Advances, Waits}
-use Rattle.nr_map.specs.Rule.{Fits, Kept, role_of}
+use Rattle.nr_marks.specs.Marked.{MarkTelling, Remarked}
+use Rattle.nr_marks.specs.Marks.{Marks, Past}
+use Rattle.nr_map.specs.Rule.{Fits, Kept, marks_of, role_of}
 use Rattle.nr_map.proofs.Lift.{Choice}
-use Rattle.nr_map.specs.Views.{Poll, View, number_of}
+use Rattle.nr_map.specs.Views.{View, number_of}
 
 -- the view after a step that learns the history so far and adds entries; after one that learns nothing
-abbrev pub learned : View → Role → List Entry → List Entry → List Poll → View
-learned view after seen entries polls = record { role = after; shape = view.shape; made = view.made; seen = seen; told = view.told; mine = view.mine ++ entries; steps = view.steps + 1; polls = polls }
+abbrev pub learned : View → Role → List Entry → List Entry → Marks → List Past → View
+learned view after seen entries marks news = record { role = after; shape = view.shape; made = view.made; seen = seen; told = view.told; mine = view.mine ++ entries; steps = view.steps + 1; marks = marks; pasts = news ++ view.pasts; told_pasts = view.told_pasts }
 
-abbrev pub waited : View → Role → View
-waited view after = record { role = after; shape = view.shape; made = view.made; seen = view.seen; told = view.told; mine = view.mine; steps = view.steps + 1; polls = view.polls }
+abbrev pub waited : View → Role → Marks → List Past → View
+waited view after marks news = record { role = after; shape = view.shape; made = view.made; seen = view.seen; told = view.told; mine = view.mine; steps = view.steps + 1; marks = marks; pasts = news ++ view.pasts; told_pasts = view.told_pasts }
 
 module _ (shape : Shape) (log : List Entry) (view : View) (fits : Fits shape log view) (after : Role) (same : (caller : ℕ) → is_by caller after ≡ is_by caller view.role) (writer : is_writer after ≡ is_writer view.role) (reader : is_reader after ≡ is_reader view.role) where
-  pub learned_fits : (entries : List Entry) (polls : List Poll) → ((caller : ℕ) → entries_of entries caller ≡ cond (is_by caller view.role) entries []) → Fits shape (log ++ entries) (learned view after (log ++ entries) entries polls)
-  learned_fits entries polls own =
+  pub learned_fits : (entries : List Entry) (marks : Marks) (news : List Past) → ((caller : ℕ) → entries_of entries caller ≡ cond (is_by caller view.role) entries []) → Fits shape (log ++ entries) (learned view after (log ++ entries) entries marks news)
+  learned_fits entries marks news own =
       let all : (caller : ℕ) → is_by caller after ≡ true → entries_of (log ++ entries) caller ≡ view.mine ++ entries = λ caller his. let before : is_by caller view.role ≡ true = sym (same caller) ∙ his in
       of-append caller log entries ∙ ap (λ (l : List Entry). l ++ entries_of entries caller) (fits.own caller before) ∙ ap (λ (l : List Entry). view.mine ++ l) (own caller ∙ ap (λ y. cond y entries []) before) in record {
         begins = record { rest = []; is = sym (append-nil (log ++ entries)) };
@@ -35,8 +37,8 @@ module _ (shape : Shape) (log : List Entry) (view : View) (fits : Fits shape log
         sized = λ l. fits.sized (omega arith);
       }
 
-  pub waited_fits : Fits shape (log ++ []) (waited view after)
-  waited_fits = record {
+  pub waited_fits : (marks : Marks) (news : List Past) → Fits shape (log ++ []) (waited view after marks news)
+  waited_fits marks news = record {
     begins = record { rest = fits.begins.rest; is = append-nil log ∙ fits.begins.is };
     told = record { rest = fits.told.rest; is = append-nil log ∙ fits.told.is };
     own = λ caller his. ap (λ (l : List Entry). entries_of l caller) (append-nil log) ∙ fits.own caller (sym (same caller) ∙ his);
@@ -45,43 +47,60 @@ module _ (shape : Shape) (log : List Entry) (view : View) (fits : Fits shape log
   }
 
   module _ (number : number_of after ≡ number_of view.role) (sized : view.shape ≡ shape) where
-    pub learned_advances : (entries : List Entry) (polls : List Poll) → is_by (number_of view.role) view.role ≡ true → ((caller : ℕ) → entries_of entries caller ≡ cond (is_by caller view.role) entries []) → IsLegal (opening shape.keys shape.bound) (log ++ entries)
-        → Advances view entries (learned view after (log ++ entries) entries polls)
-    learned_advances entries polls caller own legal id = record {
+    pub learned_advances : (entries : List Entry) (marks : Marks) (news : List Past) → news ≡ [] → is_by (number_of view.role) view.role ≡ true → ((caller : ℕ) → entries_of entries caller ≡ cond (is_by caller view.role) entries []) → IsLegal (opening shape.keys shape.bound) (log ++ entries)
+        → Advances view entries (learned view after (log ++ entries) entries marks news)
+    learned_advances entries marks news no_news caller own legal id = record {
       table = refl;
       number = number;
       between = fits.begins.rest;
       seen = ap (λ (l : List Entry). l ++ entries) fits.begins.is;
       mine = refl;
       legal = subst (λ (g : Shape). IsLegal (opening g.keys g.bound) (log ++ entries)) (sym sized) legal;
-      own = (learned_fits entries polls own).knows_own (number_of after) (same (number_of after) ∙ ap (λ (n : ℕ). is_by n view.role) number ∙ caller);
+      own = (learned_fits entries marks news own).knows_own (number_of after) (same (number_of after) ∙ ap (λ (n : ℕ). is_by n view.role) number ∙ caller);
       steps_made = refl;
+      pasts = ap (λ (l : List Past). l ++ view.pasts) no_news;
     }
 
-    pub waited_waits : Waits view (waited view after)
-    waited_waits id = record { table = refl; number = number; seen = refl; mine = refl; steps_made = refl }
+    pub waited_waits : (marks : Marks) (news : List Past) → news ≡ [] → Waits view (waited view after marks news)
+    waited_waits marks news no_news id = record { table = refl; number = number; seen = refl; mine = refl; steps_made = refl; pasts = ap (λ (l : List Past). l ++ view.pasts) no_news }
 
 -- The two ways in which a step of the core becomes one of the token.
-module _ (shape : Shape) (id : ℕ) (view : View) (operation : Operation) (tells : Telling) (state : State (Unit {0}) View) (kept : Kept shape state) (at : get_elem? state.views id ≡ some view)
-    (step : Stepped shape state.words (map role_of state.views) kept.log id view.role operation tells) (same_number : number_of step.after ≡ number_of view.role) (sized : view.shape ≡ shape) where
-  -- the token learns the history so far, with the step's entries
-  pub learning : (polls : List Poll) (then : View → Type 0) → is_by (number_of view.role) view.role ≡ true → (told : List Entry) → step.entries ≡ told
-      → let next = learned view step.after (kept.log ++ step.entries) step.entries polls in (Advances view told next → then next) → Choice shape id view operation tells state kept step then
-  learning polls then caller told is tell = let fits = kept.fits id view at in record {
-    next = learned view step.after (kept.log ++ step.entries) step.entries polls;
+module _ (shape : Shape) (id : ℕ) (view : View) (operation : Operation) (tells : Telling) (notes : MarkTelling) (state : State (Unit {0}) View) (kept : Kept shape state) (at : get_elem? state.views id ≡ some view)
+    (step : Stepped shape state.words (map role_of state.views) kept.log id view.role operation tells) (marked : Remarked role_of marks_of shape state.words state.views kept.log id view operation step.after step.entries notes)
+    (same_number : number_of step.after ≡ number_of view.role) (sized : view.shape ≡ shape) where
+  -- the view of a token that learns the history so far, with the step's entries
+  abbrev pub learned_next : View
+  learned_next = learned view step.after (kept.log ++ step.entries) step.entries marked.now marked.news
+
+  pub chosen : (then : View → Type 0) → then learned_next → Choice shape id view operation tells notes state kept step marked then
+  chosen then told = record {
+    next = learned_next;
     role = refl;
     made = refl;
-    fits = learned_fits shape kept.log view fits step.after step.same step.writer step.reader step.entries polls step.own;
-    told = tell (subst (λ (entries : List Entry). Advances view entries (learned view step.after (kept.log ++ step.entries) step.entries polls)) is
-        (learned_advances shape kept.log view fits step.after step.same step.writer step.reader same_number sized step.entries polls caller step.own step.core.legal));
+    marks = refl;
+    pasts = refl;
+    told_pasts = refl;
+    fits = learned_fits shape kept.log view (kept.fits id view at) step.after step.same step.writer step.reader step.entries marked.now marked.news step.own;
+    told = told;
   }
 
+  pub learning : (then : View → Type 0) → is_by (number_of view.role) view.role ≡ true → marked.news ≡ [] → (told : List Entry) → step.entries ≡ told
+      → (Advances view told learned_next → then learned_next) → Choice shape id view operation tells notes state kept step marked then
+  learning then caller no_news told is tell = chosen then (tell (subst (λ (entries : List Entry). Advances view entries learned_next) is
+      (learned_advances shape kept.log view (kept.fits id view at) step.after step.same step.writer step.reader same_number sized step.entries marked.now marked.news no_news caller step.own step.core.legal)))
+
   -- the token learns nothing from a step without an entry
-  pub waiting : (then : View → Type 0) → step.entries ≡ [] → (Waits view (waited view step.after) → then (waited view step.after)) → Choice shape id view operation tells state kept step then
-  waiting then none tell = let fits = kept.fits id view at in record {
-    next = waited view step.after;
+  abbrev pub waited_next : View
+  waited_next = waited view step.after marked.now marked.news
+
+  pub waiting : (then : View → Type 0) → marked.news ≡ [] → step.entries ≡ [] → (Waits view waited_next → then waited_next) → Choice shape id view operation tells notes state kept step marked then
+  waiting then no_news none tell = let fits = kept.fits id view at in record {
+    next = waited_next;
     role = refl;
     made = refl;
-    fits = subst (λ (entries : List Entry). Fits shape (kept.log ++ entries) (waited view step.after)) (sym none) (waited_fits shape kept.log view fits step.after step.same step.writer step.reader);
-    told = tell (waited_waits shape kept.log view fits step.after step.same step.writer step.reader same_number sized);
+    marks = refl;
+    pasts = refl;
+    told_pasts = refl;
+    fits = subst (λ (entries : List Entry). Fits shape (kept.log ++ entries) waited_next) (sym none) (waited_fits shape kept.log view fits step.after step.same step.writer step.reader marked.now marked.news);
+    told = tell (waited_waits shape kept.log view fits step.after step.same step.writer step.reader same_number sized marked.now marked.news no_news);
   }

@@ -1,5 +1,5 @@
 -- Notes are split from a token and joined to another.
-use Rattle.std.proofs.Common.{◌≡◌, ℕ, ◌≢◌, List, [], ◌∷◌, ◌++◌, map, set, ⊎_elim, refl, sym, ap, ◌∙◌, subst, arith}
+use Rattle.std.proofs.Common.{◌≡◌, ℕ, ◌≢◌, List, [], ◌∷◌, ◌++◌, map, set, ⊎_elim, inl, inr, refl, sym, ap, ◌∙◌, subst, arith}
 use mathlib.Core.List.{map-append}
 use mathlib.Core.Option.{some}
 use lib.ListN.{get_elem?}
@@ -16,7 +16,11 @@ use Rattle.nr_core.specs.declared.roles.Role.{Role}
 use Rattle.nr_core.specs.declared.roles.Role.TheVariants.{Note}
 use Rattle.nr_core.specs.declared.shape.Shape.{Shape}
 use Rattle.nr_map.specs.Notes.{note_of, spent, with_note}
-use Rattle.nr_map.specs.Rule.{Fits, Kept, StartsWith, counts, role_of}
+use Rattle.nr_marks.proofs.Knowing.{knowing_set, knowing_snoc, told_since}
+use Rattle.nr_marks.proofs.ListPlaces.{no_places}
+use Rattle.nr_marks.proofs.SeatMarks.{alike_marked, evolves_alike, seats_marked}
+use Rattle.nr_marks.specs.Marked.{Knowing, Marked, Since}
+use Rattle.nr_map.specs.Rule.{Fits, Kept, StartsWith, counts, marks_of, pasts_of, role_of, told_pasts_of}
 use Rattle.nr_map.specs.Views.{View}
 
 -- whoever is no caller, has no entries
@@ -45,6 +49,9 @@ splits_so shape id view state kept at =
       silent = kept.silent;
       maker = λ j u there writes. ⊎_elim (λ (t : get_elem? views j ≡ some u). kept.maker j u t writes)
           (λ (t : note ≡ u). absurd (let none : is_writer Note ≡ is_writer u.role = ap (λ (y : View). is_writer y.role) t in omega arith)) (at_snoc views note u j there);
+      marked = seats_marked role_of marks_of shape state.words views kept.log note (λ reader grip reads. absurd (cc)) kept.marked tt;
+      pasts = knowing_snoc role_of marks_of pasts_of views note (told_since role_of marks_of pasts_of views id view at (kept.pasts id view at)) kept.pasts;
+      told_pasts = knowing_snoc role_of marks_of told_pasts_of views note (no_places (Since role_of marks_of views)) kept.told_pasts;
     } in subst (λ (l : List View). Kept shape (record { words = state.words; homes = state.homes; views = l ++ note ∷ [] })) (sym (set_again views id view at)) after
 
 pub joins_so : (shape : Shape) (id : ℕ) (view : View) (other : ℕ) (note : View) → note.role ≡ Note → Joins (Kept shape) id view other note (with_note view note) spent
@@ -56,6 +63,8 @@ joins_so shape id view other note is state kept at apart there =
     let fits = kept.fits id view at in
     let mine : Fits shape kept.log both = record { begins = fits.begins; told = (kept.fits other note there').begins; own = fits.own; knows_own = fits.knows_own; sized = fits.sized } in
     let none : Fits shape kept.log spent = note_fits shape kept.log view spent refl (record { rest = kept.log; is = refl }) refl in
+    let evolves = evolves_alike role_of marks_of shape state.words state.views kept.log id view both at refl (inl refl) in
+    let ends = evolves_alike role_of marks_of shape state.words views kept.log other note spent there (sym is) (inr is) in
     let at_any : (P : View → Type 0) → P spent → P both → ((j : ℕ) (u : View) → get_elem? state.views j ≡ some u → P u) → (j : ℕ) (u : View) → get_elem? views' j ≡ some u → P u = λ P of_spent of_both of_other j u e. ⊎_elim
     (λ (t : (j ≡ other) × (spent ≡ u)). subst P t.1 of_spent)
     (λ (t : (j ≢ other) × (get_elem? views j ≡ some u)). ⊎_elim (λ (q : (j ≡ id) × (both ≡ u)). subst P q.1 of_both) (λ (q : (j ≢ id) × (get_elem? state.views j ≡ some u)). of_other j u q.1) (at_set state.views id j both u t.1))
@@ -69,5 +78,8 @@ joins_so shape id view other note is state kept at apart there =
       readers = ap (total is_reader) same ∙ kept.readers;
       fresh = λ caller later. ap (total (counts caller)) same ∙ kept.fresh caller later;
       silent = kept.silent;
+      marked = alike_marked role_of marks_of shape state.words views kept.log other note spent there (sym is) (inr is) (alike_marked role_of marks_of shape state.words state.views kept.log id view both at refl (inl refl) kept.marked);
+      pasts = knowing_set role_of marks_of pasts_of views other note spent there ends (no_places (Since role_of marks_of views)) (knowing_set role_of marks_of pasts_of state.views id view both at evolves (kept.pasts id view at) kept.pasts);
+      told_pasts = knowing_set role_of marks_of told_pasts_of views other note spent there ends (no_places (Since role_of marks_of views)) (knowing_set role_of marks_of told_pasts_of state.views id view both at evolves (kept.pasts other note there') kept.told_pasts);
       maker = at_any (λ (u : View). is_writer u.role ≡ 1 → u.made ≡ kept.made) (λ writes. absurd (omega arith)) (kept.maker id view at) kept.maker;
     }

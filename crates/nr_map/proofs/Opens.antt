@@ -1,19 +1,30 @@
 -- The table at opening keeps the rule; its words are laid out slot by slot.
-use Rattle.std.proofs.Common.{◌≡◌, ℕ, zero, suc, ◌+◌, ◌≤◌, List, [], ◌∷◌, ◌++◌, cond, ne_eqb, Bool, true, false, refl, sym, ap, ◌∙◌, subst, arith, append_assoc, append-nil}
+use Rattle.std.proofs.Common.{◌<◌, get_or, ◌≡◌, ℕ, zero, suc, ◌+◌, ◌≤◌, List, [], ◌∷◌, ◌++◌, cond, ne_eqb, Bool, true, false, refl, sym, ap, ◌∙◌, subst, arith, append_assoc, append-nil}
 use mathlib.Core.Option.{some, some-injective, some-ne-none}
 use lib.ListN.{get_elem?}
 use Rattle.atomic_table.specs.Table.{opening}
+use Rattle.nr_model.specs.declared.states.KeyState.TheVariants as states
+use Rattle.std.proofs.lemmas.List.{get_or-replicate}
 use Rattle.nr_core.proofs.Opening.{core_opens}
+use Rattle.nr_core.specs.Core.{ShowsState}
 use Rattle.nr_core.specs.Roles.{is_by}
 use Rattle.nr_core.specs.Sizes.{IsShape}
-use Rattle.nr_core.specs.Slots.{opening_words, repeated}
+use Rattle.nr_core.specs.Slots.{name_number, opening_words, repeated}
 use Rattle.nr_core.specs.declared.shape.Shape.{Shape}
-use Rattle.nr_map.specs.Rule.{Fits, Kept}
+use Rattle.nr_marks.proofs.ListPlaces.{no_places}
+use Rattle.nr_marks.proofs.SeatMarks.{opens_marked}
+use Rattle.nr_marks.specs.Marked.{AllSince, Since}
+use Rattle.nr_map.specs.Rule.{Fits, Kept, marks_of, role_of}
 use Rattle.nr_map.specs.Views.{View, opener}
 
 only_one : {A : Type 0} (a : A) (j : ℕ) (b : A) → get_elem? (a ∷ []) j ≡ some b → a ≡ b
 only_one a zero b e = some-injective a b e
 only_one a (suc j) b e = absurd (some-ne-none b (sym e))
+
+-- no key names a slot
+none_named : (shape : Shape) → IsShape shape → (key : ℕ) → key < shape.keys → name_number (get_or (opening_words shape) key 0) ≡ 0
+none_named shape fits key near = let core = core_opens shape fits 0 (omega arith) in
+    (subst (ShowsState shape (opening_words shape) (get_or (opening_words shape) key 0)) (get_or-replicate shape.keys key states.Hole states.Hole near) (core.shows key near)).0
 
 pub opens_so : (shape : Shape) → IsShape shape → Kept shape (opening (opening_words shape) [] (opener shape))
 opens_so shape fits = let view = opener shape in
@@ -26,6 +37,9 @@ opens_so shape fits = let view = opener shape in
       readers = refl;
       fresh = λ caller later. let none : cond (is_by caller view.role) 1 0 ≡ 0 = ap (λ (y : Bool). cond {A = ℕ} y 1 0) (ne_eqb 0 caller (λ e. omega arith)) in omega arith;
       silent = λ _ _. refl;
+      marked = opens_marked role_of marks_of shape (opening_words shape) view refl refl (none_named shape fits);
+      pasts = λ place who there. subst (λ (v : View). AllSince role_of marks_of (view ∷ []) v.pasts) (only_one view place who there) (no_places (Since role_of marks_of (view ∷ [])));
+      told_pasts = λ place who there. subst (λ (v : View). AllSince role_of marks_of (view ∷ []) v.told_pasts) (only_one view place who there) (no_places (Since role_of marks_of (view ∷ [])));
       maker = λ j u at w. ap (λ (y : View). y.made) (sym (only_one view j u at));
     }
 

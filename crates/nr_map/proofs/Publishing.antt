@@ -16,7 +16,9 @@ use Rattle.nr_map.proofs.Tokens.{grows_both}
 use Rattle.nr_core.specs.declared.roles.Role.TheVariants.{Writer}
 use Rattle.nr_map.specs.Callers.{Caller, Grows, Table, opening_map, token}
 use Rattle.nr_map.specs.Spares.{Spare, Took, desk_with}
-use Rattle.nr_map.specs.WriterSeats.{GoesOn, Knows, LeadsIn, MapSeat, PublishesSet, PutsTo, TakesSlot, WritesAt}
+use Rattle.nr_marks.specs.MarkSteps.{PutsMarks}
+use Rattle.nr_core.specs.States.{key_of}
+use Rattle.nr_map.specs.WriterSeats.{IsFrom, GoesOn, Knows, LeadsIn, MapSeat, PublishesSet, PutsTo, TakesSlot, WritesAt}
 
 -- what the writer knows after a step is legal
 pub knows_after : (steps : ℕ) (old : Caller) (entries : List Entry) (new : Caller) → Grows steps old entries new → Knows new
@@ -26,25 +28,31 @@ knows_after steps old entries new grows = record { legal = subst (λ (t : Table)
 pub record PutSoFar (table : Table) (desk : Desk) (call : WriterCall) (rows : List Row) (slot departed : ℕ) (before after : MapSeat) (index : ℕ) : Type 0 where
   pub writes : WritesAt table (moved_to desk (Putting call rows slot departed index)) after
   pub grows : Grows index (token before) [] (token after)
-  pub polls : after.me.0.polls ≡ before.me.0.polls
+  pub marks : after.me.0.marks ≡ before.me.0.marks
 
 pub put_more : (table : Table) (desk : Desk) (call : WriterCall) (rows : List Row) (slot departed : ℕ) (before mid after : MapSeat) (index : ℕ) → PutSoFar table desk call rows slot departed before mid index
     → ((at : Desk) → mid.me.0.role ≡ Writer at → PutsTo table at mid after) → PutSoFar table desk call rows slot departed before after (index + 1)
 put_more table desk call rows slot departed before mid after index so_far puts = let told = puts (moved_to desk (Putting call rows slot departed index)) so_far.writes.role in record {
   writes = told.writes;
   grows = grows_both index 1 (index + 1) (token before) (token mid) [] (token after) refl so_far.grows told.grows;
-  polls = told.polls ∙ so_far.polls;
+  marks = told.marks ∙ so_far.marks;
 }
 
 -- the swap that publishes the set
-pub published : (table : Table) (call : WriterCall) (rows : List Row) (spare mid_spare after_spare : Spare) (slot departed polls : ℕ) (before mid after : MapSeat) (found : ℕ) → Took polls spare mid_spare → mid_spare.slots ≡ spare.slots
+pub published : (table : Table) (call : WriterCall) (rows : List Row) (spare mid_spare after_spare : Spare) (slot departed polls : ℕ) (before mid after : MapSeat) (found : ℕ) → Took polls spare mid_spare → IsFrom slot spare → mid_spare.slots ≡ spare.slots
     → WritesAt table (desk_with mid_spare (Putting call rows slot departed (2 * length rows + 1))) mid → Grows (polls + (2 * length rows + 1)) (token before) [] (token mid) → GoesOn table found mid after
     → after_spare ≡ record mid_spare { retired = mid_spare.retired ++ unnamed found } → PublishesSet table call rows spare after_spare before after
-published table call rows spare mid_spare after_spare slot departed polls before mid after found took slots writes grows goes retires =
+published table call rows spare mid_spare after_spare slot departed polls before mid after found took from slots writes grows goes retires =
     let last : ℕ = 2 * length rows + 1 in let desk = desk_with mid_spare (Putting call rows slot departed last) in
     let told = goes desk writes.role in
     let outcome : put_on desk call rows slot departed last found ≡ (swapped desk found, ended reply.Done) = ap (λ (b : Bool). cond {A = Desk × Step} b (moved_to desk (Putting call rows slot departed (last + 1)), Going) (swapped desk found, ended reply.Done)) (lt-leb last (2 * length rows) (omega arith)) in
-    let leads = subst (λ (o : Desk × Step). LeadsIn 1 table (call_of call) o mid after) outcome told.leads in record {
+    let leads = subst (λ (o : Desk × Step). LeadsIn 1 table (call_of call) o mid after) outcome told.leads in
+    let marks = subst (λ (b : Bool). PutsMarks b mid.me.0.marks (key_of call) slot found after.me.0.role after.me.0.seen after.me.0.marks []) (lt-leb last (2 * length rows) (omega arith)) told.marks in record {
+      slot = slot;
+      from = from;
+      number = marks.0;
+      count = marks.1;
+      put = marks.2;
       polls = polls;
       mid = mid_spare;
       took = took;

@@ -26,10 +26,12 @@ use Rattle.nr_core.specs.declared.roles.Grip.TheVariants.{Nothing, On}
 use Rattle.nr_core.specs.declared.roles.Role.{Role}
 use Rattle.nr_core.specs.declared.roles.Role.TheVariants.{Reader}
 use Rattle.nr_core.specs.declared.shape.Shape.{Shape}
-use Rattle.nr_map.proofs.Lift.{Choice, lifts}
+use Rattle.nr_marks.proofs.ReaderMarks.{arrives_marked, asks_marked, departs_marked, reads_marked}
+use Rattle.nr_marks.specs.MarkSteps.{ArrivesMarks, DepartsMarks, KeepsMarks}
+use Rattle.nr_map.proofs.Lift.{Choice, knows_pasts, lifts}
 use Rattle.nr_map.proofs.Moves.{learned, learning, waiting}
 use Rattle.nr_map.specs.Plays.{Advances, Arrived, Asked, Departed, Holds, IsIdle, holding, Read, arrived, asked, departed, read}
-use Rattle.nr_map.specs.Rule.{Fits, Kept, role_of}
+use Rattle.nr_map.specs.Rule.{Fits, Kept, marks_of, role_of}
 use Rattle.nr_map.specs.Views.{View, grip_of, is_sized, number_of, rows_held, slot_held}
 
 -- a reader's own entries are told by its number
@@ -42,11 +44,12 @@ reader_shape shape log view grip is fits = fits.sized (let one : is_reader view.
 
 pub asks_so : (shape : Shape) (slots id : ℕ) (me : Me (Unit {0}) View) (key : ℕ) → key < shape.keys → IsIdle me.0.role → Allows (Kept shape) slots id me key (λ word. bit_or word 1) (asked (step slots key 1 0 none) me)
 asks_so shape slots id me key near idle = let view = me.0 in let reader = number_of view.role in let tells = Asks reader key in
-    lifts shape id view (Or key 1) tells slots me.1 (λ found next. Asked key found view next) (subst (λ r. CanStep shape id r (Or key 1) tells) (sym idle) (asks shape id reader key near))
-    (λ state kept at step. let role : step.after ≡ view.role = step.told.0 ∙ sym idle in
-    learning shape id view (Or key 1) tells state kept at step (ap number_of role) (reader_shape shape kept.log view Nothing idle (kept.fits id view at)) view.polls
-    (λ next. Asked key (get_or state.words key 0) view next) (reader_is view.role Nothing idle)
-    (entry reader (model.Ask key) (ask_word (get_or state.words key 0)) ∷ []) step.told.1 (λ advances. record { role = role; gains = advances }))
+    lifts shape id view (Or key 1) tells (KeepsMarks view.marks) slots me.1 (λ found next. Asked key found view next) view.pasts (subst (λ r. CanStep shape id r (Or key 1) tells) (sym idle) (asks shape id reader key near))
+    (asks_marked role_of marks_of shape id view view.pasts reader key near idle) (knows_pasts shape id view)
+    (λ state kept at step marked. let role : step.after ≡ view.role = step.told.0 ∙ sym idle in
+    learning shape id view (Or key 1) tells (KeepsMarks view.marks) state kept at step marked (ap number_of role) (reader_shape shape kept.log view Nothing idle (kept.fits id view at))
+    (λ next. Asked key (get_or state.words key 0) view next) (reader_is view.role Nothing idle) marked.told.1
+    (entry reader (model.Ask key) (ask_word (get_or state.words key 0)) ∷ []) step.told.1 (λ advances. record { role = role; gains = advances; marks = marked.told.0 }))
 
 -- what is true is not false
 differ : (b : Bool) (P : Type 0) → b ≡ true → b ≡ false → P
@@ -55,11 +58,12 @@ differ b P is not = let clash : true ≡ false = sym is ∙ not in absurd (cc)
 pub arrives_so : (shape : Shape) (slots id : ℕ) (me : Me (Unit {0}) View) (key : ℕ) → key < shape.keys → IsIdle me.0.role
     → Allows (Kept shape) slots id me key (λ word. (word + ARRIVE) % 2 ^ 64) (arrived (step slots key ARRIVE 0 none) me)
 arrives_so shape slots id me key near idle = let view = me.0 in let reader = number_of view.role in let tells = Arrives shape reader key in
-    lifts shape id view (Add key ARRIVE) tells slots me.1 (λ found next. Arrived key found view next) (subst (λ r. CanStep shape id r (Add key ARRIVE) tells) (sym idle) (arrives shape id reader key near))
-    (λ state kept at step. let found : ℕ = get_or state.words key 0 in let sized = reader_shape shape kept.log view Nothing idle (kept.fits id view at) in
-    let next = learned view step.after (kept.log ++ step.entries) step.entries view.polls in
-    let choose : number_of step.after ≡ reader → (told : List Entry) → step.entries ≡ told → (Advances view told next → Arrived key found view next) → Choice shape id view (Add key ARRIVE) tells state kept step (λ next. Arrived key found view next)
-    = λ same. learning shape id view (Add key ARRIVE) tells state kept at step same sized view.polls (λ next. Arrived key found view next) (reader_is view.role Nothing idle) in
+    lifts shape id view (Add key ARRIVE) tells (ArrivesMarks view.marks key) slots me.1 (λ found next. Arrived key found view next) view.pasts (subst (λ r. CanStep shape id r (Add key ARRIVE) tells) (sym idle) (arrives shape id reader key near))
+    (arrives_marked role_of marks_of shape id view view.pasts reader key near idle) (knows_pasts shape id view)
+    (λ state kept at step marked. let found : ℕ = get_or state.words key 0 in let sized = reader_shape shape kept.log view Nothing idle (kept.fits id view at) in
+    let next = learned view step.after (kept.log ++ step.entries) step.entries marked.now marked.news in
+    let choose : number_of step.after ≡ reader → (told : List Entry) → step.entries ≡ told → (Advances view told next → Arrived key found view next) → Choice shape id view (Add key ARRIVE) tells (ArrivesMarks view.marks key) state kept step marked (λ next. Arrived key found view next)
+    = λ same. learning shape id view (Add key ARRIVE) tells (ArrivesMarks view.marks key) state kept at step marked same sized (λ next. Arrived key found view next) (reader_is view.role Nothing idle) marked.told.1 in
     ⊎_elim
     (λ (t : (slot : ℕ) × (rows : List Row) × (name_number found ≡ suc slot) × (slot < shape.slots) × IsRowSet shape.bound rows × (step.after ≡ Reader reader (On slot rows false)) × (step.entries ≡ entry reader (model.Find key) (reply.Rows rows) ∷ [])).
     let names = names_one found t.0 t.2 in let same : number_of step.after ≡ reader = ap number_of t.5 in let rows_so : rows_held step.after ≡ t.1 = ap rows_held t.5 in let slot_so : slot_held step.after ≡ t.0 = ap slot_held t.5 in
@@ -75,12 +79,14 @@ arrives_so shape slots id me key near idle = let view = me.0 in let reader = num
         advances,
       );
       hole = λ empty. differ (is_filled found) _ names.0 empty;
+      marks = marked.told.0;
     }))
     (λ (t : (name_number found ≡ 0) × (step.after ≡ Reader reader Nothing) × (step.entries ≡ entry reader (model.Find key) reply.Hole ∷ [])).
     choose (ap number_of t.1) (entry reader (model.Find key) reply.Hole ∷ []) t.2 (λ advances. record {
       number = ap number_of t.1;
       held = λ full. differ (is_filled found) _ full (names_none found t.0);
       hole = λ _. (t.1 ∙ sym idle, advances);
+      marks = marked.told.0;
     }))
     step.told)
 
@@ -88,19 +94,22 @@ pub reads_so : (shape : Shape) (slots id : ℕ) (me : Me (Unit {0}) View) (index
     → let place = content shape (slot_held me.0.role) index in Allows (Kept shape) slots id me place (λ word. word) (read (step slots place 0 0 none) me)
 reads_so shape slots id me index is low sized = let view = me.0 in let reader = number_of view.role in let slot : ℕ = slot_held view.role in let rows = rows_held view.role in let sized_so = is_sized (grip_of view.role) in
     let place : ℕ = content shape slot index in let tells = ReadsHeld reader slot rows sized_so index in
-    lifts shape id view (Load place) tells slots me.1 (λ found next. Read place found view next) (subst (λ r. CanStep shape id r (Load place) tells) (sym is) (reads shape id reader slot rows sized_so index low))
-    (λ state kept at step. let same : number_of step.after ≡ reader = ap number_of step.told.1 in
-    waiting shape id view (Load place) tells state kept at step same sized (λ next. Read place (get_or state.words place 0) view next) step.told.2
+    lifts shape id view (Load place) tells (KeepsMarks view.marks) slots me.1 (λ found next. Read place found view next) view.pasts (subst (λ r. CanStep shape id r (Load place) tells) (sym is) (reads shape id reader slot rows sized_so index low))
+    (reads_marked role_of marks_of shape id view view.pasts reader slot index rows sized_so is) (knows_pasts shape id view)
+    (λ state kept at step marked. let same : number_of step.after ≡ reader = ap number_of step.told.1 in
+    waiting shape id view (Load place) tells (KeepsMarks view.marks) state kept at step marked same sized (λ next. Read place (get_or state.words place 0) view next) marked.told.1 step.told.2
     (λ waits. record {
       value = let begins : content view.shape slot 0 ≡ content shape slot 0 = ap (λ (s : Shape). content s slot 0) sized in let back : index ≡ place - content view.shape slot 0 = omega arith in
           step.told.0 ∙ ap (λ (i : ℕ). get_or (encode rows) i 0) back;
       hold = step.told.1 ∙ ap (holding view.role) (sym (ap (λ r. is_sized (grip_of r)) step.told.1));
       waits = waits;
+      marks = marked.told.0;
     }))
 
 pub departs_so : (shape : Shape) (slots id : ℕ) (me : Me (Unit {0}) View) → me.0.role ≡ holding me.0.role (is_sized (grip_of me.0.role)) → me.0.shape ≡ shape
     → let place = departures shape (slot_held me.0.role) in Allows (Kept shape) slots id me place (λ word. (word + 1) % 2 ^ 64) (departed (step slots place 1 0 none) me)
 departs_so shape slots id me is sized = let view = me.0 in let reader = number_of view.role in let slot : ℕ = slot_held view.role in let rows = rows_held view.role in let sized_so = is_sized (grip_of view.role) in
     let place : ℕ = departures shape slot in let tells = Departs reader in
-    lifts shape id view (Add place 1) tells slots me.1 (λ found next. Departed view next) (subst (λ r. CanStep shape id r (Add place 1) tells) (sym is) (departs shape id reader slot rows sized_so))
-    (λ state kept at step. waiting shape id view (Add place 1) tells state kept at step (ap number_of step.told.0) sized (λ next. Departed view next) step.told.1 (λ waits. record { role = step.told.0; waits = waits }))
+    lifts shape id view (Add place 1) tells (DepartsMarks view.marks) slots me.1 (λ found next. Departed view next) view.pasts (subst (λ r. CanStep shape id r (Add place 1) tells) (sym is) (departs shape id reader slot rows sized_so))
+    (departs_marked role_of marks_of shape id view view.pasts reader slot rows sized_so is) (knows_pasts shape id view)
+    (λ state kept at step marked. waiting shape id view (Add place 1) tells (DepartsMarks view.marks) state kept at step marked (ap number_of step.told.0) sized (λ next. Departed view next) marked.told.1 step.told.1 (λ waits. record { role = step.told.0; waits = waits; marks = marked.told.0 }))

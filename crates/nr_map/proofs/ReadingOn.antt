@@ -41,7 +41,7 @@ pub record ReadSoFar (table : Table) (desk : Desk) (call : WriterCall) (slot : �
   pub count_is : count ≡ length held
   pub part : rows ≡ take read held
   pub leads : LeadsIn (2 * read + 1) table (call_of call) (read_on table.shape desk call slot (count ∷ row_words rows)) before after
-  pub polls : after.me.0.polls ≡ before.me.0.polls
+  pub marks : after.me.0.marks ≡ before.me.0.marks
 
 module _ (table : Table) (desk : Desk) (call : WriterCall) (slot : ℕ) where
   -- a read that is not the last one
@@ -57,7 +57,7 @@ module _ (table : Table) (desk : Desk) (call : WriterCall) (slot : ℕ) where
     count_is = ap (λ (l : List ℕ). get_or l 0 0) on.2;
     part = refl;
     leads = told.leads;
-    polls = told.notes;
+    marks = told.marks.0;
   }
 
   module _ (before mid : MapSeat) (count read : ℕ) (rows : List Row) (so_far : ReadSoFar table desk call slot before mid count rows read) (low : read < count) where
@@ -110,7 +110,7 @@ module _ (table : Table) (desk : Desk) (call : WriterCall) (slot : ℕ) where
                   (grows_both (2 * read + 1) 1 (2 * read + 2) (token before) (token mid) [] (token half) (omega arith) leads_first.grows leads_second.grows) leads.grows;
               short = leads.short;
             };
-            polls = told.notes ∙ told_first.notes ∙ so_far.polls;
+            marks = told.marks.0 ∙ told_first.marks.0 ∙ so_far.marks;
           }
 
   -- the last read has the set

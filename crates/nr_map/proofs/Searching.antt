@@ -31,8 +31,11 @@ use Rattle.nr_map.proofs.Tokens.{grows_both}
 use Rattle.nr_map.specs.Callers.{Caller, Grows, Table, token}
 use Rattle.nr_map.specs.Plays.{Lacks}
 use Rattle.nr_map.specs.Spares.{Spare, desk_with, none_spare}
-use Rattle.nr_map.specs.Views.{Poll}
-use Rattle.nr_map.specs.WriterSeats.{AllNoted, GoesOn, GoesTo, Knows, LacksSlot, LeadsIn, MapSeat, Settles, WritesAt, poll_slot, retired_slot, swept}
+use Rattle.nr_marks.proofs.ExactPlace.{noted_more, noted_none}
+use Rattle.nr_marks.specs.MarkSteps.{PollTells}
+use Rattle.nr_marks.specs.Marks.{Past}
+use Rattle.nr_marks.specs.PollNotes.{Missed, Noted}
+use Rattle.nr_map.specs.WriterSeats.{GoesOn, GoesTo, Knows, LacksSlot, LeadsIn, MapSeat, Settles, WritesAt, swept}
 
 -- no step, where what is known is legal
 pub grows_none : (caller : Caller) → Knows caller → Grows 0 caller [] caller
@@ -45,22 +48,14 @@ grows_none caller knows = record {
   legal = knows.legal;
   own = knows.own;
   steps_made = omega arith;
-}
-
--- one poll more was noted
-noted_more : (table : Table) (retired : List Retired) (count : ℕ) (polls longer : List Poll) (reader : ℕ) → count < length retired → AllNoted table (take count retired) polls → 0 < reader → reader ≤ table.shape.readers
-    → longer ≡ polls ++ (record { slot = (get_or retired count no_retired).slot; reader = reader }) ∷ [] → AllNoted table (take (count + 1) retired) longer
-noted_more table retired count polls longer reader low so_far positive few is = let last : Poll = record { slot = (get_or retired count no_retired).slot; reader = reader } in record {
-  slots = ap (map poll_slot) is ∙ map-append poll_slot polls (last ∷ []) ∙ ap (λ (l : List ℕ). l ++ last.slot ∷ []) so_far.slots ∙ sym (map-append retired_slot (take count retired) (get_or retired count no_retired ∷ []))
-      ∙ ap (map retired_slot) (sym (take-suc retired count no_retired low) ∙ ap (λ (n : ℕ). take n retired) (let next : suc count ≡ count + 1 = omega arith in next));
-  readers = λ at poll e. ⊎_elim (so_far.readers at poll) (λ (same : last ≡ poll). let r = ap (λ (p : Poll). p.reader) same in (omega arith, omega arith)) (at_snoc polls last poll at (ap (λ (l : List Poll). get_elem? l at) (sym is) ∙ e));
+  pasts = refl;
 }
 
 -- the search so far
 pub record Searched (table : Table) (call : WriterCall) (rows : List Row) (spare : Spare) (before after : MapSeat) (polls : ℕ) : Type 0 where
   pub slots : spare.slots ≡ table.shape.slots
   pub leads : LeadsIn polls table (call_of call) (swept table.shape (desk_with spare Idle) call rows polls) before after
-  pub noted : AllNoted table (take polls spare.retired) after.me.0.polls
+  pub noted : Noted table.shape before.me.0.pasts after.me.0.marks.polls
 
 module _ (shape : Shape) (desk : Desk) (call : WriterCall) (rows : List Row) where
   abbrev on_to : ℕ → Desk × Step
@@ -96,7 +91,7 @@ searched_none table call rows spare seat settles full =
         grows = subst (λ (es : List Entry). Grows 0 (token seat) es (token seat)) (sym (swept_quiet shape desk call rows (call_of call) 0)) (grows_none (token seat) settles.knows);
         short = λ counts without. settles.short counts (ap (λ (o : Desk × Step). o.1) is ∙ without);
       };
-      noted = subst (AllNoted table []) (sym settles.polls) (record { slots = refl; readers = λ at poll e. absurd (some-ne-none poll (sym e)) });
+      noted = subst (Noted table.shape seat.me.0.pasts) (sym settles.polls) (noted_none table.shape seat.me.0.pasts);
     }
 
 module _ (table : Table) (call : WriterCall) (rows : List Row) (spare : Spare) (before mid : MapSeat) (polls : ℕ) (so_far : Searched table call rows spare before mid polls) (low : polls < length spare.retired) where
@@ -125,10 +120,11 @@ module _ (table : Table) (call : WriterCall) (rows : List Row) (spare : Spare) (
     searched_more apart =
         let outcome : polled table.shape desk_now call rows polls found ≡ swept table.shape (desk_with spare Idle) call rows (polls + 1) = ap (λ (b : Bool). cond {A = Desk × Step} b (taking_retired desk_now call rows polls found, Going) (polls_on table.shape desk_now call rows polls)) apart in
         let leads = subst (λ (o : Desk × Step). LeadsIn 1 table (call_of call) o mid after) outcome told.leads in
-        let note = told.notes.1 apart in record {
+        let polled_so = subst (λ (b : Bool). PollTells b table.shape mid.me.0.marks mid.me.0.pasts desk_now call polls after.me.0.seen after.me.0.marks) apart told.marks.1 in record {
           slots = so_far.slots;
           leads = record { writes = leads.writes; grows = grows_both polls 1 (polls + 1) (token before) (token mid) _ (token after) refl so_far_quiet leads.grows; short = leads.short };
-          noted = noted_more table spare.retired polls mid.me.0.polls after.me.0.polls note.0 low so_far.noted note.1 note.2 note.3;
+          noted = noted_more table.shape before.me.0.pasts mid.me.0.marks.polls (retired_at desk_now polls).slot after.me.0.marks.polls so_far.noted
+              (subst (λ (l : List Past). Missed table.shape l mid.me.0.marks.polls (retired_at desk_now polls).slot after.me.0.marks.polls) so_far.leads.grows.pasts polled_so.1);
         }
 
 -- every retired slot was found held
@@ -139,5 +135,5 @@ lacks_slot table call rows spare before after polls so_far all =
       writes = subst (λ (o : Desk × Step). WritesAt table o.0 after) is leads.writes;
       grows = subst (λ (n : ℕ). Grows n (token before) [] (token after)) all (subst (λ (es : List Entry). Grows polls (token before) es (token after)) (swept_quiet table.shape desk call rows (call_of call) polls) leads.grows);
       lacks = leads.short (none_spare spare) (ap (λ (o : Desk × Step). o.1) is ∙ ap (λ (n : ℕ). Ended (writer.NoSlot (record { live = n - length spare.retired; held = length spare.retired }))) (sym so_far.slots));
-      noted = subst (λ (l : List Retired). AllNoted table l after.me.0.polls) (take_all polls spare.retired (omega arith)) so_far.noted;
+      noted = so_far.noted;
     }

@@ -4,6 +4,7 @@ use Rattle.std.specs.Prelude.{All, Some, slice_get}
 use mathlib.Core.Logic.{dite}
 use native.Mathlib.Decide.{ℕ_discrete}
 use Rattle.nr_core.specs.declared.shape.Shape.{Shape}
+use Rattle.nr_marks.specs.Marks.{no_marks}
 use Rattle.nr_map.proofs.Tokens.{MapSeat}
 use Rattle.nr_map.specs.Callers.{Caller, Table, token}
 use Rattle.nr_map.specs.Opened.{Seated, made_so, newcomer}
@@ -21,13 +22,13 @@ get_new (r ∷ readers) last (suc place) e = get_new readers last place (omega a
 
 -- one reader more
 pub seated_more : (shape : Shape) (table : Table) (seat next : MapSeat) (readers longer : List Caller) (last : Caller) (made : ℕ) → Seated shape table seat readers made → next.table_id ≡ seat.table_id → next.me.0 ≡ made_so shape (made + 1)
-    → longer ≡ readers ++ last ∷ [] → last ≡ newcomer table (made + 1) → Seated shape table next longer (made + 1)
+    → longer ≡ readers ++ last ∷ [] → last ≡ newcomer table (made + 1) no_marks → Seated shape table next longer (made + 1)
 seated_more shape table seat next readers longer last made so own view more new = record {
   own = own ∙ so.own;
   view = view;
   count = omega (arith, so.count, ap length more, length-append readers (last ∷ []));
   reads = λ place low. ap (λ (l : List Caller). slice_get l place) more ∙ dite (ℕ_discrete place made)
-      (λ e. get_new readers last place (e ∙ sym so.count) ∙ ap Some new ∙ ap (λ (n : ℕ). Some (newcomer table (n + 1))) (sym e))
+      (λ e. get_new readers last place (e ∙ sym so.count) ∙ ap Some new ∙ ap (λ (n : ℕ). Some (newcomer table (n + 1) no_marks)) (sym e))
       (λ ne. get_old readers last place (omega (arith, so.count)) ∙ so.reads place (omega arith));
 }
 
@@ -37,5 +38,5 @@ get_or_so (r ∷ readers) zero spare reader is = (cc)
 get_or_so (r ∷ readers) (suc place) spare reader is = get_or_so readers place spare reader is
 
 -- what holds of each reader by its place holds of all
-pub all_own : (table : Table) (readers : List Caller) → ((place : ℕ) → place < length readers → slice_get readers place ≡ Some (newcomer table (place + 1))) → All (λ reader. reader.table ≡ table) readers
-all_own table readers reads place spare low = ap (λ (reader : Caller). reader.table) (get_or_so readers place spare (newcomer table (place + 1)) (reads place low))
+pub all_own : (table : Table) (readers : List Caller) → ((place : ℕ) → place < length readers → slice_get readers place ≡ Some (newcomer table (place + 1) no_marks)) → All (λ reader. reader.table ≡ table) readers
+all_own table readers reads place spare low = ap (λ (reader : Caller). reader.table) (get_or_so readers place spare (newcomer table (place + 1) no_marks) (reads place low))

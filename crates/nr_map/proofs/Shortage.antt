@@ -33,6 +33,10 @@ use Rattle.nr_core.specs.declared.roles.Desk.{Desk}
 use Rattle.nr_core.specs.declared.roles.Role.{Role}
 use Rattle.nr_core.specs.declared.roles.Role.TheVariants.{Writer}
 use Rattle.nr_core.specs.declared.shape.Shape.{Shape}
+use Rattle.nr_core.specs.Roles.{retirements}
+use Rattle.nr_core.specs.declared.places.Retired.{Retired}
+use Rattle.nr_marks.specs.PollNotes.{AllHeld}
+use Rattle.nr_map.proofs.Polled.{PolledAll}
 use Rattle.nr_map.specs.Callers.{caller_of}
 use Rattle.nr_map.specs.Plays.{Lacks, call_at}
 use Rattle.nr_map.specs.Views.{View, desk_of}
@@ -87,13 +91,18 @@ module _ (shape : Shape) (words : List ℕ) (roles : List Role) (log : List Entr
 -- what stands after such a step
 pub lacks_so : (shape : Shape) (words : List ℕ) (roles : List Role) (log : List Entry) → Core shape words roles log → (id : ℕ) (desk : Desk) → get_elem? roles id ≡ some (Writer desk) → shape.slots ≤ desk.fresh → ((slot : ℕ) → taken slot desk.place ≡ 0)
     → (call : Call) (counts : NoSlot) → counts ≡ record { live = shape.slots - length desk.retired; held = length desk.retired } → reply_to (map_after shape log) call ≡ reply.Done
-    → (view : View) → view.shape ≡ shape → view.seen ≡ log → view.role ≡ Writer desk → (table : TableId) → Lacks call counts (caller_of table view)
-lacks_so shape words roles log core id desk there full free call counts counted done view sized seen role table =
+    → (view : View) → PolledAll shape desk.retired view.marks.polls → view.shape ≡ shape → view.seen ≡ log → view.role ≡ Writer desk → (table : TableId) → Lacks call counts (caller_of table view)
+lacks_so shape words roles log core id desk there full free call counts counted done view polled sized seen role table =
     let map_is : map_after shape log ≡ map_after view.shape view.seen = λ j. map_after (sym sized j) (sym seen j) in
     let all = slots_are shape words roles log core id desk there full free in
+    let retired_is : desk.retired ≡ (desk_of view.role).retired = ap (λ r. (desk_of r).retired) (sym role) in
     let live_is = ap (λ (n : NoSlot). n.live) counted in let held_is = ap (λ (n : NoSlot). n.held) counted in record {
       would_be_done = ap (λ m. reply_to m call) (sym map_is) ∙ done;
       live = (let left : counts.live ≡ filled_count (map_after shape log) = omega (arith, all, live_is) in left) ∙ ap filled_count map_is;
       held = held_is ∙ ap (λ r. length (desk_of r).retired) (sym role);
+      full = subst (λ (p : ℕ × ℕ). p.0 ≤ p.1) (λ j. ((sym sized j).slots, (desk_of (sym role j)).fresh)) full;
+      apart = λ slot. subst (λ (l : List Retired). retirements slot l ≤ 1) retired_is (polled.apart slot);
+      polled = subst (λ (l : List Retired). AllHeld l view.marks.polls) retired_is polled.held;
+      few = let few = polled.few in let readers : view.shape.readers ≡ shape.readers = ap (λ (s : Shape). s.readers) sized in omega arith;
       all = (let sum : counts.live + counts.held ≡ shape.slots = omega (arith, all, live_is, held_is) in sum) ∙ ap (λ (s : Shape). s.slots) (sym sized);
     }

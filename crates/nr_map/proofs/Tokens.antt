@@ -18,7 +18,7 @@ pub seat_rests : (before after : MapSeat) → after.table_id ≡ before.table_id
 seat_rests before after same waits = subst (λ (id : TableId). Rests 1 (token before) (caller_of id after.me.0)) (sym same) (waits before.table_id)
 
 pub rests_none : (caller : Caller) → Rests 0 caller caller
-rests_none caller = record { table = refl; number = refl; seen = refl; mine = refl; steps_made = omega arith }
+rests_none caller = record { table = refl; number = refl; seen = refl; mine = refl; steps_made = omega arith; pasts = refl }
 
 pub rests_both : (m n sum : ℕ) (a b c : Caller) → sum ≡ m + n → Rests m a b → Rests n b c → Rests sum a c
 rests_both m n sum a b c is first then = record {
@@ -27,6 +27,7 @@ rests_both m n sum a b c is first then = record {
   seen = then.seen ∙ first.seen;
   mine = then.mine ∙ first.mine;
   steps_made = omega (arith, first.steps_made, then.steps_made);
+  pasts = then.pasts ∙ first.pasts;
 }
 
 pub grows_rests : (m n sum : ℕ) (a : Caller) (entries : List Entry) (b c : Caller) → sum ≡ m + n → Grows m a entries b → Rests n b c → Grows sum a entries c
@@ -39,6 +40,7 @@ grows_rests m n sum a entries b c is first then = record {
   legal = subst (IsLegal (opening_map a.table)) (sym then.seen) first.legal;
   own = (λ j. entries_of (then.seen j) (then.number j)) ∙ first.own ∙ sym then.mine;
   steps_made = omega (arith, first.steps_made, then.steps_made);
+  pasts = then.pasts ∙ first.pasts;
 }
 
 pub grows_both : (m n sum : ℕ) (a b : Caller) (entries : List Entry) (c : Caller) → sum ≡ m + n → Grows m a [] b → Grows n b entries c → Grows sum a entries c
@@ -51,4 +53,5 @@ grows_both m n sum a b entries c is first then = record {
   legal = subst (λ (t : Table). IsLegal (opening_map t) c.seen) first.table then.legal;
   own = then.own;
   steps_made = omega (arith, first.steps_made, then.steps_made);
+  pasts = then.pasts ∙ first.pasts;
 }

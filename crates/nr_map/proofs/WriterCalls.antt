@@ -1,5 +1,5 @@
 -- The writer's calls, put together of their steps.
-use Rattle.std.proofs.Common.{◌≡◌, ℕ, zero, suc, ◌+◌, ◌*◌, ◌<◌, ◌≤◌, List, [], ◌∷◌, ◌++◌, Bool, true, false, not, cond, length, nat_eq, refl, sym, ap, ◌∙◌, subst, arith, append-nil, length-append, map}
+use Rattle.std.proofs.Common.{inl, inr, ⊎_elim, slice_index, ◌≡◌, ℕ, zero, suc, ◌+◌, ◌*◌, ◌<◌, ◌≤◌, List, [], ◌∷◌, ◌++◌, Bool, true, false, not, cond, length, nat_eq, refl, sym, ap, ◌∙◌, subst, arith, append-nil, length-append, map}
 use Rattle.std.proofs.lemmas.List.{length-map}
 use Rattle.std.specs.Prelude.{Result, Ok, Err, nat_lt}
 use mathlib.Core.Option.{some, some-injective, some-ne-none}
@@ -38,8 +38,14 @@ use Rattle.nr_map.specs.Answers.{HasNoSlot, Publishes, SameSlots}
 use Rattle.nr_map.specs.Callers.{Caller, Gains, Grows, KnowsOwn, Table, opening_map, token}
 use Rattle.nr_map.specs.Plays.{Lacks}
 use Rattle.nr_map.specs.Spares.{Spare, Took, desk_with, spare_of}
-use Rattle.nr_map.specs.Views.{Poll, desk_of, number_of}
-use Rattle.nr_map.specs.WriterSeats.{AllNoted, GoesOn, IsBetween, IsLeaving, Knows, LacksSlot, LeadsIn, MapSeat, PublishesSet, RestsAt, Settles, WritesAt, poll_slot, retired_slot}
+use Rattle.nr_marks.proofs.PutNumbers.{count_grows, count_more}
+use Rattle.nr_marks.specs.Exact.{Took as TakesNew}
+use Rattle.nr_marks.specs.Marks.{Past}
+use Rattle.nr_marks.specs.PollNotes.{Noted}
+use Rattle.nr_marks.specs.Puts.{put_count}
+use Rattle.nr_map.specs.Meetings.{desk_seen}
+use Rattle.nr_map.specs.Views.{desk_of, number_of}
+use Rattle.nr_map.specs.WriterSeats.{IsFrom, GoesOn, IsBetween, IsLeaving, Knows, LacksSlot, LeadsIn, MapSeat, PublishesSet, RestsAt, Settles, WritesAt}
 
 -- the writer rests with its slots at its own map
 pub rests_own : (table : Table) (spare : Spare) (seat : MapSeat) → RestsAt table spare seat → RestsAt (token seat).table spare seat
@@ -71,19 +77,14 @@ none_between steps old new own grows =
     none_in [] e = refl
     none_in (x ∷ l) e = absurd (omega arith)
 
--- polls of different slots are different polls
-at_map_back : {A : Type 0} (f : A → ℕ) (g : Retired → ℕ) (xs : List A) (ys : List Retired) → map f xs ≡ map g ys → (at : ℕ) (x : A) → get_elem? xs at ≡ some x → (y : Retired) × (get_elem? ys at ≡ some y) × (f x ≡ g y)
-at_map_back f g [] ys same at x is = absurd (some-ne-none x (sym is))
-at_map_back f g (x' ∷ xs) [] same at x is = absurd (cc)
-at_map_back f g (x' ∷ xs) (y ∷ ys) same zero x is = (y, refl, ap f (sym (some-injective x' x is)) ∙ (let head : f x' ≡ g y = (cc) in head))
-at_map_back f g (x' ∷ xs) (y ∷ ys) same (suc at) x is = at_map_back f g xs ys (let tail : map f xs ≡ map g ys = (cc) in tail) at x is
-
-polls_apart : (retired : List Retired) (polls : List Poll) → map poll_slot polls ≡ map retired_slot retired
-    → ((one other : ℕ) (a b : Retired) → get_elem? retired one ≡ some a → get_elem? retired other ≡ some b → a.slot ≡ b.slot → one ≡ other)
-    → (one other : ℕ) (a b : Poll) → get_elem? polls one ≡ some a → get_elem? polls other ≡ some b → a.slot ≡ b.slot → one ≡ other
-polls_apart retired polls same apart one other a b at_one at_other slots =
-    let first = at_map_back poll_slot retired_slot polls retired same one a at_one in let second = at_map_back poll_slot retired_slot polls retired same other b at_other in
-    apart one other first.0 second.0 first.1 second.1 (sym first.2 ∙ slots ∙ second.2)
+-- the number of the set that a call put is none of those before the call
+takes_so : (steps number slot : ℕ) (old : Caller) (call : Call) (new : Caller) → Grows steps old (entry 0 call reply.Done ∷ []) new → IsFrom slot (spare_of old) → put_count new.seen ≡ suc number → slice_index new.marks.puts slot ≡ number
+    → TakesNew old.table.shape (desk_seen old) new.marks old.seen
+takes_so steps number slot old call new grows from count put = ⊎_elim inl
+    (λ (t : (at : ℕ) × (retired : Retired) × (get_elem? old.retired at ≡ some retired) × (retired.slot ≡ slot)).
+    let all : put_count new.seen ≡ put_count ((old.seen ++ grows.between) ++ entry 0 call reply.Done ∷ []) = ap put_count grows.seen in
+    let there : slice_index new.marks.puts t.1.slot ≡ number = ap (λ (s : ℕ). slice_index new.marks.puts s) t.3 ∙ put in
+    inr (t.0, t.1, t.2, omega (arith, count_more (old.seen ++ grows.between) (entry 0 call reply.Done), count_grows old.seen grows.between))) from
 
 module _ (table : Table) (spare : Spare) (before : MapSeat) (rests : RestsAt table spare before) where
   writer_number : (token before).number ≡ 0
@@ -100,7 +101,7 @@ module _ (table : Table) (spare : Spare) (before : MapSeat) (rests : RestsAt tab
   same_slots after rests_after = spare_shown table spare after rests_after ∙ sym (spare_shown table spare before rests)
 
   -- a call that has its set
-  pub settles_so : (steps : ℕ) (call : WriterCall) (rows : List Row) (mid : MapSeat) → LeadsIn steps table (call_of call) (settled table.shape (desk_with spare Idle) call rows) before mid → mid.me.0.polls ≡ []
+  pub settles_so : (steps : ℕ) (call : WriterCall) (rows : List Row) (mid : MapSeat) → LeadsIn steps table (call_of call) (settled table.shape (desk_with spare Idle) call rows) before mid → mid.me.0.marks.polls ≡ []
       → Settles table call rows spare mid × Grows steps (token before) [] (token mid)
   settles_so steps call rows mid leads polls =
       let grows = subst (λ (es : List Entry). Grows steps (token before) es (token mid)) (settled_quiet table.shape (desk_with spare Idle) call rows (call_of call)) leads.grows in
@@ -120,6 +121,7 @@ module _ (table : Table) (spare : Spare) (before : MapSeat) (rests : RestsAt tab
             word = published.word;
             retires = spare_shown table after_spare after rests_after ∙ published.retires;
             gains = subst (λ (n : ℕ). Grows (steps + 2 * length rows + 2 + published.polls) (token before) (entry n (call_of call) reply.Done ∷ []) (token after)) (sym writer_number) all;
+            takes = takes_so (steps + 2 * length rows + 2 + published.polls) published.number published.slot (token before) (call_of call) (token after) all (subst (IsFrom published.slot) (sym (spare_shown table spare before rests)) published.from) published.count published.put;
           },
         )
 
@@ -135,9 +137,7 @@ module _ (table : Table) (spare : Spare) (before : MapSeat) (rests : RestsAt tab
             grows = all;
             readers = none_between (steps + length (token before).retired) (token before) (token after) rests.own all;
             lacks = lacking.lacks;
-            held = sym (length-map after.me.0.polls poll_slot) ∙ ap length noted.slots ∙ length-map spare.retired retired_slot ∙ ap length (sym (ap (λ (s : Spare). s.retired) (spare_shown table spare after rests_spare))) ∙ sym lacking.lacks.held;
-            noted = subst (λ (p : Table × List Retired). AllNoted p.0 p.1 after.me.0.polls) (λ j. (sym rests.writes.own j, sym retired_is j)) noted;
-            apart = polls_apart spare.retired after.me.0.polls noted.slots lacking.writes.room.apart;
+            noted = subst (λ (p : Table × List Past). Noted p.0.shape p.1 after.me.0.marks.polls) (λ j. (sym rests.writes.own j, grows.pasts j)) noted;
             slots = same_slots after rests_spare;
           },
         )
@@ -261,7 +261,7 @@ module _ (table : Table) (spare : Spare) (before : MapSeat) (own : (token before
       let ended_so = ends table spare before rests_so (2 * length rows + 2) (model.Update key batch) (applied_reply (Err why)) spare after refl all in
       (rests_own table spare after ended_so.0, (ended_so.1, same_slots table spare before rests_so after ended_so.0))
 
-  pub renewed_so : (left : List Row) → applied table.shape.bound rows batch ≡ Ok left → after.me.0.polls ≡ [] → Settles table (Update key batch) left spare after × Grows (2 * length rows + 2) (token before) [] (token after)
+  pub renewed_so : (left : List Row) → applied table.shape.bound rows batch ≡ Ok left → after.me.0.marks.polls ≡ [] → Settles table (Update key batch) left spare after × Grows (2 * length rows + 2) (token before) [] (token after)
   renewed_so left is polls =
       let rests_so = rests_here table spare before own kept in let desk = desk_with spare (Reading (Update key batch) slot []) in
       let all = subst (λ (r : Result (List Row) ApplyFault). LeadsIn (2 * length rows + 2) table (model.Update key batch) (renewed table.shape desk (Update key batch) r) before after) is leads in

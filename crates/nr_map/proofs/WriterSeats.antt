@@ -10,9 +10,10 @@ use Rattle.nr_core.specs.declared.roles.Desk.{Desk}
 use Rattle.nr_core.specs.declared.roles.Role.{Role}
 use Rattle.nr_core.specs.declared.roles.Role.TheVariants.{Writer}
 use Rattle.nr_core.specs.declared.shape.Shape.{Shape}
+use Rattle.nr_marks.specs.MarkSteps.{GoesMarks}
 use Rattle.nr_map.proofs.Tokens.{seat_grows}
 use Rattle.nr_map.specs.Callers.{Table, token}
-use Rattle.nr_map.specs.Plays.{Leads, Looked, Notes, Put, ReadsOn, Room, Went, call_at, next_put}
+use Rattle.nr_map.specs.Plays.{Leads, Looked, Put, ReadsOn, Room, Went, call_at, next_put}
 use Rattle.nr_map.specs.WriterSeats.{GoesTo, LeadsTo, MapSeat, PutsTo, WritesAt}
 
 -- the desk with its place as it is
@@ -37,12 +38,12 @@ module _ (table : Table) (before after : MapSeat) (same : after.table_id ≡ bef
   gone_seat desk found told = record {
     leads = subst (λ (s : Shape). LeadsTo table (call_at desk.place) (went s desk desk.place found) before after) shape_is (leads_seat (call_at desk.place) (went before.me.0.shape desk desk.place found) told.leads);
     reads_on = subst (λ (s : Shape). ReadsOn s desk.place found) shape_is told.reads_on;
-    notes = subst (λ (s : Shape). Notes s desk desk.place found before.me.0.polls after.me.0.polls) shape_is told.notes;
+    marks = subst (λ (s : Shape). GoesMarks s before.me.0.marks before.me.0.pasts desk found after.me.0.role after.me.0.seen after.me.0.marks []) shape_is told.marks;
   }
 
   pub put_seat : (desk : Desk) → Put desk before.me.0 after.me.0 → PutsTo table desk before after
   put_seat desk told = let grows = seat_grows before after [] same told.advances in record {
     writes = record { own = grows.table ∙ own; role = told.role; room = subst (λ (s : Shape). Room s (next_put desk)) shape_is told.room };
     grows = grows;
-    polls = told.polls;
+    marks = told.marks;
   }

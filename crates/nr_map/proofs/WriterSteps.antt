@@ -1,5 +1,5 @@
 -- The writer's steps on the table: the look of each call, and every later step.
-use Rattle.std.proofs.Common.{◌≡◌, ℕ, suc, ◌+◌, ◌-◌, ◌*◌, ◌<◌, ◌≤◌, List, [], ◌∷◌, ◌++◌, Bool, true, false, cond, map, set, get_or, le-leb, length, nat_eq, take, refl, sym, ap, ◌∙◌, subst, arith, append-nil}
+use Rattle.std.proofs.Common.{nat_le, ◌≡◌, ℕ, suc, ◌+◌, ◌-◌, ◌*◌, ◌<◌, ◌≤◌, List, [], ◌∷◌, ◌++◌, Bool, true, false, cond, map, set, get_or, le-leb, length, nat_eq, take, refl, sym, ap, ◌∙◌, subst, arith, append-nil}
 use Rattle.std.proofs.lemmas.Bool.{eq-eqb}
 use Rattle.std.specs.Prelude.{None, Some}
 use mathlib.Core.Logic.{dite}
@@ -46,15 +46,20 @@ use Rattle.nr_core.specs.declared.roles.Grip.{Grip}
 use Rattle.nr_core.specs.declared.roles.Grip.TheVariants.{Nothing, On}
 use Rattle.nr_core.specs.declared.roles.Role.TheVariants.{Note, Reader, Writer}
 use Rattle.nr_core.specs.declared.shape.Shape.{Shape}
-use Rattle.nr_map.proofs.Lift.{Choice, lifts}
+use Rattle.nr_marks.proofs.GoMarks.{goes_marked}
+use Rattle.nr_marks.proofs.LookMarks.{looks_marked}
+use Rattle.nr_marks.specs.MarkSteps.{GoesMarks, LooksMarks, PutsMarks, went_marks}
+use Rattle.nr_marks.specs.Marked.{KnowsMarks, MarkTelling, Remarked}
+use Rattle.nr_map.proofs.Polled.{PolledAll, go_polled, look_polled}
+use Rattle.nr_marks.specs.Marks.{Marks, Past}
+use Rattle.nr_map.proofs.Lift.{Choice, knows_pasts, lifts}
 use Rattle.nr_map.proofs.Moves.{learned, learning}
-use Rattle.nr_map.proofs.PollNotes.{notes_so}
 use Rattle.nr_map.proofs.Room.{room_at}
 use Rattle.nr_map.proofs.Shortage.{Shortage, go_short, lacks_so, look_short}
 use Rattle.nr_map.specs.Callers.{caller_of}
-use Rattle.nr_map.specs.Plays.{Advances, Lacks, Leads, Looked, Notes, ReadsOn, Put, Room, Went, call_at, next_put, put_place}
-use Rattle.nr_map.specs.Rule.{Fits, Kept, counts, role_of}
-use Rattle.nr_map.specs.Views.{Poll, View, desk_of, number_of}
+use Rattle.nr_map.specs.Plays.{Advances, Lacks, Leads, Looked, ReadsOn, Put, Room, Went, call_at, next_put, put_place}
+use Rattle.nr_map.specs.Rule.{Fits, Kept, counts, marks_of, role_of}
+use Rattle.nr_map.specs.Views.{View, desk_of, number_of}
 
 -- the writer's own entries are told by 0
 writer_is : (role : Role) (desk : Desk) → role ≡ Writer desk → is_by (number_of role) role ≡ true
@@ -67,8 +72,8 @@ writer_shape shape log view desk is fits = fits.sized (let one : is_writer view.
 same_desk : (role : Role) (desk other : Desk) → role ≡ Writer desk → role ≡ Writer other → desk ≡ other
 same_desk role desk other is also = sym (ap desk_of is) ∙ ap desk_of also
 
-module _ (shape : Shape) (id : ℕ) (view : View) (desk : Desk) (is : view.role ≡ Writer desk) (operation : Operation) (tells : Telling) (state : State (Unit {0}) View) (kept : Kept shape state) (at : get_elem? state.views id ≡ some view)
-    (step : Stepped shape state.words (map role_of state.views) kept.log id view.role operation tells) (call : Call) (outcome : Desk × Step) (role_told : step.after ≡ Writer outcome.0) (entries_told : step.entries ≡ ending call outcome.1) where
+module _ (shape : Shape) (id : ℕ) (view : View) (desk : Desk) (is : view.role ≡ Writer desk) (operation : Operation) (tells : Telling) (notes : MarkTelling) (state : State (Unit {0}) View) (kept : Kept shape state) (at : get_elem? state.views id ≡ some view)
+    (step : Stepped shape state.words (map role_of state.views) kept.log id view.role operation tells) (marked : Remarked role_of marks_of shape state.words state.views kept.log id view operation step.after step.entries notes) (no_news : marked.news ≡ []) (call : Call) (outcome : Desk × Step) (role_told : step.after ≡ Writer outcome.0) (entries_told : step.entries ≡ ending call outcome.1) where
   sized : view.shape ≡ shape
   sized = writer_shape shape kept.log view desk is (kept.fits id view at)
 
@@ -78,11 +83,11 @@ module _ (shape : Shape) (id : ℕ) (view : View) (desk : Desk) (is : view.role 
   room_after : Room view.shape outcome.0
   room_after = subst (λ (s : Shape). Room s outcome.0) (sym sized) (room_at shape _ (set (map role_of state.views) id step.after) (kept.log ++ step.entries) step.core id outcome.0 there_after)
 
-  abbrev pub next_view : List Poll → View
-  next_view polls = learned view step.after (kept.log ++ step.entries) step.entries polls
+  abbrev pub next_view : View
+  next_view = learned view step.after (kept.log ++ step.entries) step.entries marked.now marked.news
 
-  short_after : (polls : List Poll) (counts : NoSlot) → outcome.1 ≡ Ended (writer.NoSlot counts) → Shortage shape kept.log desk call outcome counts → (table : TableId) → Lacks call counts (caller_of table (next_view polls))
-  short_after polls counts without shortage =
+  short_after : (counts : NoSlot) → outcome.1 ≡ Ended (writer.NoSlot counts) → Shortage shape kept.log desk call outcome counts → PolledAll shape desk.retired marked.now.polls → (table : TableId) → Lacks call counts (caller_of table next_view)
+  short_after counts without shortage polled =
       let none_added : step.entries ≡ [] = entries_told ∙ ap (ending call) without in
       let same_log : kept.log ≡ kept.log ++ step.entries = sym (append-nil kept.log) ∙ ap (λ (l : List Entry). kept.log ++ l) (sym none_added) in
       let desk_is : outcome.0 ≡ moved_to desk Idle = shortage.none.same in
@@ -90,29 +95,42 @@ module _ (shape : Shape) (id : ℕ) (view : View) (desk : Desk) (is : view.role 
       (subst (λ (d : Desk). shape.slots ≤ d.fresh) (sym desk_is) shortage.full) (λ slot. ap (λ (d : Desk). taken slot d.place) desk_is)
       call counts (shortage.none.counted ∙ ap (λ (d : Desk). record { live = shape.slots - length d.retired; held = length d.retired }) (sym desk_is))
       (subst (λ (l : List Entry). reply_to (map_after shape l) call ≡ reply.Done) same_log shortage.done)
-      (next_view polls) sized refl role_told
+      next_view (subst (λ (d : Desk). PolledAll shape d.retired marked.now.polls) (sym desk_is) polled) sized refl role_told
 
-  pub leads_so : (polls : List Poll) → ((counts : NoSlot) → outcome.1 ≡ Ended (writer.NoSlot counts) → Shortage shape kept.log desk call outcome counts) → Advances view (ending call outcome.1) (next_view polls) → Leads call outcome view (next_view polls)
-  leads_so polls short advances = record { role = role_told; advances = advances; room = room_after; short = λ counts without. short_after polls counts without (short counts without) }
+  pub leads_so : ((counts : NoSlot) → outcome.1 ≡ Ended (writer.NoSlot counts) → Shortage shape kept.log desk call outcome counts × PolledAll shape desk.retired marked.now.polls) → Advances view (ending call outcome.1) next_view → Leads call outcome view next_view
+  leads_so short advances = record { role = role_told; advances = advances; room = room_after; short = λ counts without. short_after counts without (short counts without).0 (short counts without).1 }
 
   -- the writer's view after the step
-  pub writes : (polls : List Poll) (then : View → Type 0) → (Advances view (ending call outcome.1) (next_view polls) → then (next_view polls)) → Choice shape id view operation tells state kept step then
-  writes polls then tell = learning shape id view operation tells state kept at step (ap number_of role_told ∙ sym (ap number_of is)) sized polls then (writer_is view.role desk is) (ending call outcome.1) entries_told tell
+  pub writes : (then : View → Type 0) → (Advances view (ending call outcome.1) next_view → then next_view) → Choice shape id view operation tells notes state kept step marked then
+  writes then tell = learning shape id view operation tells notes state kept at step marked (ap number_of role_told ∙ sym (ap number_of is)) sized then (writer_is view.role desk is) no_news (ending call outcome.1) entries_told tell
 
 pub looks_so : (shape : Shape) (slots id : ℕ) (me : Me (Unit {0}) View) (desk : Desk) (call : WriterCall) → me.0.role ≡ Writer desk → desk.place ≡ Idle → IsGivenCall shape.bound call → key_of call < shape.keys
     → Allows (Kept shape) slots id me (key_of call) (λ word. word) (λ found after. (other : Desk) → me.0.role ≡ Writer other → Looked other call found me.0 after.0)
-looks_so shape slots id me desk call is idle given near = let view = me.0 in let tells = Looks shape desk call in let operation = Load (key_of call) in
-    lifts shape id view operation tells slots me.1 (λ found next. (other : Desk) → view.role ≡ Writer other → Looked other call found view next) (subst (λ r. CanStep shape id r operation tells) (sym is) (looks shape id desk call idle given near))
-    (λ state kept at step. let found : ℕ = get_or state.words (key_of call) 0 in let outcome = looked shape desk call found in let c = call_of call in
+looks_so shape slots id me desk call is idle given near = let view = me.0 in let tells = Looks shape desk call in let notes = LooksMarks shape view.marks desk call in let operation = Load (key_of call) in
+    lifts shape id view operation tells notes slots me.1 (λ found next. (other : Desk) → view.role ≡ Writer other → Looked other call found view next) view.pasts (subst (λ r. CanStep shape id r operation tells) (sym is) (looks shape id desk call idle given near))
+    (looks_marked role_of marks_of shape id view view.pasts desk call idle near is) (knows_pasts shape id view)
+    (λ state kept at step marked. let found : ℕ = get_or state.words (key_of call) 0 in let outcome = looked shape desk call found in let c = call_of call in
     let there : get_elem? (map role_of state.views) id ≡ some (Writer desk) = at_map role_of state.views id view at ∙ ap some is in
-    let short : (counts : NoSlot) → outcome.1 ≡ Ended (writer.NoSlot counts) → Shortage shape kept.log desk c outcome counts = λ counts. look_short shape state.words (map role_of state.views) kept.log kept.core id desk there counts call near in
+    let short : (counts : NoSlot) → outcome.1 ≡ Ended (writer.NoSlot counts) → Shortage shape kept.log desk c outcome counts × PolledAll shape desk.retired marked.now.polls = λ counts without. (look_short shape state.words (map role_of state.views) kept.log kept.core id desk there counts call near without, look_polled shape view.marks desk call found step.after (kept.log ++ step.entries) marked.now marked.news marked.told (counts, without)) in
     let size = writer_shape shape kept.log view desk is (kept.fits id view at) in
-    writes shape id view desk is operation tells state kept at step c outcome step.told.0 step.told.1 [] (λ next. (other : Desk) → view.role ≡ Writer other → Looked other call found view next)
-    (λ advances other also. let next = learned view step.after (kept.log ++ step.entries) step.entries [] in
+    writes shape id view desk is operation tells notes state kept at step marked marked.told.1 c outcome step.told.0 step.told.1 (λ next. (other : Desk) → view.role ≡ Writer other → Looked other call found view next)
+    (λ advances other also. let next = learned view step.after (kept.log ++ step.entries) step.entries marked.now marked.news in
     subst (λ (d : Desk). Looked d call found view next) (same_desk view.role desk other is also) (record {
-      leads = subst (λ (s : Shape). Leads c (looked s desk call found) view next) (sym size) (leads_so shape id view desk is operation tells state kept at step c outcome step.told.0 step.told.1 [] short advances);
-      polls = refl;
+      leads = subst (λ (s : Shape). Leads c (looked s desk call found) view next) (sym size) (leads_so shape id view desk is operation tells notes state kept at step marked marked.told.1 c outcome step.told.0 step.told.1 short advances);
+      marks = subst (λ (p : Shape × List Past). LooksMarks p.0 view.marks desk call found step.after (kept.log ++ step.entries) marked.now p.1) (λ j. (sym size j, marked.told.1 j)) marked.told;
     })))
+
+-- no later step of a call learns of readers
+put_quiet : (b : Bool) (marks : Marks) (at slot word : ℕ) (after : Role) (log : List Entry) (now : Marks) (news : List Past) → PutsMarks b marks at slot word after log now news → news ≡ []
+put_quiet true marks at slot word after log now news told = told.1
+put_quiet false marks at slot word after log now news told = told.4
+
+went_quiet : (shape : Shape) (marks : Marks) (known : List Past) (desk : Desk) (place : Place) (word : ℕ) (after : Role) (log : List Entry) (now : Marks) (news : List Past) → went_marks shape marks known desk place word after log now news → news ≡ []
+went_quiet shape marks known desk Idle word after log now news told = told.1
+went_quiet shape marks known desk (Reading call slot got) word after log now news told = told.1
+went_quiet shape marks known desk (Leaving key) word after log now news told = told.1
+went_quiet shape marks known desk (Searching call rows poll) word after log now news told = told.0
+went_quiet shape marks known desk (Putting call rows slot departed index) word after log now news told = put_quiet (nat_le index (2 * length rows)) marks (key_of call) slot word after log now news told
 
 -- what the call of a place ends with
 ending_there : (place : Place) (step : Step) → if_not_busy place ≡ None → ending_at place step ≡ ending (call_at place) step
@@ -136,20 +154,22 @@ reads_so shape words roles log core id desk there place is = go place (subst (At
 
 pub goes_so : (shape : Shape) (slots id : ℕ) (me : Me (Unit {0}) View) (desk : Desk) → me.0.role ≡ Writer desk → if_not_busy desk.place ≡ None
     → let operation = going shape desk desk.place in Allows (Kept shape) slots id me (place_of operation) (becomes operation) (λ found after. (other : Desk) → me.0.role ≡ Writer other → Went other found me.0 after.0)
-goes_so shape slots id me desk is busy = let view = me.0 in let tells = Goes shape desk in let operation = going shape desk desk.place in let c = call_at desk.place in
-    lifts shape id view operation tells slots me.1 (λ found next. (other : Desk) → view.role ≡ Writer other → Went other found view next) (subst (λ r. CanStep shape id r operation tells) (sym is) (goes shape id desk busy))
-    (λ state kept at step. let found : ℕ = get_or state.words (place_of operation) 0 in let outcome = went shape desk desk.place found in
+goes_so shape slots id me desk is busy = let view = me.0 in let tells = Goes shape desk in let notes = GoesMarks shape view.marks view.pasts desk in let operation = going shape desk desk.place in let c = call_at desk.place in
+    lifts shape id view operation tells notes slots me.1 (λ found next. (other : Desk) → view.role ≡ Writer other → Went other found view next) view.pasts (subst (λ r. CanStep shape id r operation tells) (sym is) (goes shape id desk busy))
+    (goes_marked role_of marks_of shape id view view.pasts desk is busy) (knows_pasts shape id view)
+    (λ state kept at step marked. let found : ℕ = get_or state.words (place_of operation) 0 in let outcome = went shape desk desk.place found in
     let there : get_elem? (map role_of state.views) id ≡ some (Writer desk) = at_map role_of state.views id view at ∙ ap some is in
-    let short : (counts : NoSlot) → outcome.1 ≡ Ended (writer.NoSlot counts) → Shortage shape kept.log desk c outcome counts = λ counts. go_short shape state.words (map role_of state.views) kept.log kept.core id desk there counts in
+    let sweep = (subst (λ r. KnowsMarks role_of marks_of shape state.words state.views kept.log r view.marks) is (kept.marked.each id view at)).sweep in
+    let short : (counts : NoSlot) → outcome.1 ≡ Ended (writer.NoSlot counts) → Shortage shape kept.log desk c outcome counts × PolledAll shape desk.retired marked.now.polls = λ counts without. (go_short shape state.words (map role_of state.views) kept.log kept.core id desk there counts without, go_polled shape view.marks view.pasts desk found step.after (kept.log ++ step.entries) marked.now marked.news state.views desk.place sweep marked.told (counts, without)) in
     let size = writer_shape shape kept.log view desk is (kept.fits id view at) in
     let entries : step.entries ≡ ending c outcome.1 = step.told.1 ∙ ending_there desk.place outcome.1 busy in
-    let notes = notes_so shape state kept id desk there desk.place refl view.polls in
-    writes shape id view desk is operation tells state kept at step c outcome step.told.0 entries notes.0 (λ next. (other : Desk) → view.role ≡ Writer other → Went other found view next)
-    (λ advances other also. let next = learned view step.after (kept.log ++ step.entries) step.entries notes.0 in
+    let no_news = went_quiet shape view.marks view.pasts desk desk.place found step.after (kept.log ++ step.entries) marked.now marked.news marked.told in
+    writes shape id view desk is operation tells notes state kept at step marked no_news c outcome step.told.0 entries (λ next. (other : Desk) → view.role ≡ Writer other → Went other found view next)
+    (λ advances other also. let next = learned view step.after (kept.log ++ step.entries) step.entries marked.now marked.news in
     subst (λ (d : Desk). Went d found view next) (same_desk view.role desk other is also) (record {
-      leads = subst (λ (s : Shape). Leads c (went s desk desk.place found) view next) (sym size) (leads_so shape id view desk is operation tells state kept at step c outcome step.told.0 entries notes.0 short advances);
+      leads = subst (λ (s : Shape). Leads c (went s desk desk.place found) view next) (sym size) (leads_so shape id view desk is operation tells notes state kept at step marked no_news c outcome step.told.0 entries short advances);
       reads_on = subst (λ (s : Shape). ReadsOn s desk.place found) (sym size) (reads_so shape state.words (map role_of state.views) kept.log kept.core id desk there desk.place refl);
-      notes = subst (λ (s : Shape). Notes s desk desk.place found view.polls notes.0) (sym size) notes.1;
+      marks = subst (λ (p : Shape × List Past). GoesMarks p.0 view.marks view.pasts desk found step.after (kept.log ++ step.entries) marked.now p.1) (λ j. (sym size j, no_news j)) marked.told;
     })))
 
 -- what a step told, told otherwise
@@ -168,7 +188,7 @@ put_leads desk call rows slot departed index found old new is low went_so =
       role = leads.role ∙ ap (λ (o : Desk × Step). Writer o.0) outcome ∙ sym (ap Writer next);
       advances = subst (λ (s : Step). Advances old (ending (call_at desk.place) s) new) (ap (λ (o : Desk × Step). o.1) outcome) leads.advances;
       room = subst (Room old.shape) (ap (λ (o : Desk × Step). o.0) outcome ∙ sym next) leads.room;
-      polls = subst (λ (p : Place). Notes old.shape desk p found old.polls new.polls) is went_so.notes;
+      marks = (subst (λ (b : Bool). PutsMarks b old.marks (key_of call) slot found new.role new.seen new.marks []) (le-leb index (2 * length rows) low) (subst (λ (p : Place). went_marks old.shape old.marks old.pasts desk p found new.role new.seen new.marks []) is went_so.marks)).0;
     }
 
 pub puts_so : (shape : Shape) (slots id : ℕ) (me : Me (Unit {0}) View) (desk : Desk) (call : WriterCall) (rows : List Row) (slot departed index : ℕ) → me.0.role ≡ Writer desk → desk.place ≡ Putting call rows slot departed index → index ≤ 2 * length rows

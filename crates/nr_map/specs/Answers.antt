@@ -25,13 +25,19 @@ use Rattle.nr_map.specs.declared.answers.Asked.TheVariants as asked
 use Rattle.nr_map.specs.Callers.{Caller, Gains, Grows}
 use Rattle.nr_map.specs.Plays.{Lacks}
 use Rattle.nr_map.specs.Spares.{Spare, Took, spare_of}
-use Rattle.nr_map.specs.Views.{Poll}
-use Rattle.nr_map.specs.WriterSeats.{AllNoted}
+use Rattle.nr_marks.specs.Exact.{Took as TakesNew}
+use Rattle.nr_marks.specs.PollNotes.{Noted}
+use Rattle.nr_map.specs.Meetings.{desk_seen}
 
 -- a find: on a hole the caller's set stays; else it has all rows of the reply
 abbrev pub FindsKey : ℕ → Caller → List Row → Caller → List Row → Found → Type 0
 FindsKey key old before new rows found.Rows = Gains (2 * length rows + 3) old (model.Find key) (reply.Rows rows) new
 FindsKey key old before new rows found.Hole = Gains 1 old (model.Find key) reply.Hole new × (rows ≡ before)
+
+-- a find arrives, and departs from the set that it found
+abbrev pub acts_of : Found → ℕ
+acts_of found.Rows = 2
+acts_of found.Hole = 1
 
 -- a request: a ticket comes with Send alone, and is the key's
 abbrev pub AsksKey : ℕ → Caller → Caller → Asked → Type 0
@@ -56,6 +62,8 @@ pub record Publishes (steps : ℕ) (old : Caller) (call : Call) (rows : List Row
   pub word : ℕ
   pub retires : spare_of new ≡ record mid { retired = mid.retired ++ unnamed word }
   pub gains : Gains (steps + 2 * length rows + 2 + polls) old call reply.Done new
+  -- if there was no free slot, it put its set, with a new number, into one that was retired
+  pub takes : TakesNew old.table.shape (desk_seen old) new.marks old.seen
 
 -- A call that found no slot, after so many other steps and a poll of each retired slot. It is no entry: the writer has learnt readers' entries alone.
 pub record HasNoSlot (steps : ℕ) (old : Caller) (call : Call) (counts : NoSlot) (new : Caller) : Type 0 where
@@ -63,10 +71,8 @@ pub record HasNoSlot (steps : ℕ) (old : Caller) (call : Call) (counts : NoSlot
   pub readers : entries_of grows.between old.number ≡ []
   -- it would be done now, and each slot is a filled key's or was polled
   pub lacks : Lacks call counts new
-  -- the polls name so many different slots, the retired ones, each with a reader that held it
-  pub held : length new.polls ≡ counts.held
-  pub noted : AllNoted old.table old.retired new.polls
-  pub apart : (one other : ℕ) (a b : Poll) → get_elem? new.polls one ≡ some a → get_elem? new.polls other ≡ some b → a.slot ≡ b.slot → one ≡ other
+  -- no poll noted a reader as it was before what the writer knew of it
+  pub noted : Noted old.table.shape old.pasts new.marks.polls
   pub slots : SameSlots old new
 
 abbrev pub FillsKey : ℕ → List Row → Caller → Caller → Result (Unit {0}) FillFault → Type 0

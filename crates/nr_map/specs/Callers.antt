@@ -1,5 +1,5 @@
 -- What contracts see of a token, and what its steps add to it.
-use Rattle.std.specs.Prelude.{◌≡◌, ℕ, ◌+◌, List, [], ◌∷◌, ◌++◌}
+use Rattle.std.specs.Prelude.{◌≡◌, ℕ, ◌+◌, List, [], ◌∷◌, ◌++◌, Option}
 use Rattle.atomic_table.specs.Seated.{TableId}
 use Rattle.atomic_table.specs.declared.shared.Seat.{Seat}
 use Rattle.nr_model.specs.declared.calls.Call.{Call}
@@ -9,7 +9,8 @@ use Rattle.nr_model.specs.Histories.{Entry, IsLegal, after, entries_of}
 use Rattle.nr_core.specs.declared.shape.Shape.{Shape}
 use Rattle.nr_core.specs.declared.places.Retired.{Retired}
 use Rattle.nr_core.specs.Story.{entry}
-use Rattle.nr_map.specs.Views.{View, Poll, number_of, desk_of}
+use Rattle.nr_marks.specs.Marks.{Marks, Past, gripped}
+use Rattle.nr_map.specs.Views.{View, desk_of, grip_of, number_of}
 
 -- which map it is, and its sizes
 pub record Table : Type 0 where
@@ -30,8 +31,12 @@ pub record Caller : Type 0 where
   -- the writer's slots: how many were ever taken, and those that no key names any more, oldest first
   pub fresh : ℕ
   pub retired : List Retired
-  -- the polls of the writer's last call that found their slots held
-  pub polls : List Poll
+  -- the slot that a reader holds
+  pub holds : Option ℕ
+  -- put numbers, a reader's acts, and the polls of the writer's last call that found their slots held
+  pub marks : Marks
+  -- how readers were when the writer learnt it
+  pub pasts : List Past
 
 abbrev pub caller_of : TableId → View → Caller
 caller_of id view = record {
@@ -42,7 +47,9 @@ caller_of id view = record {
   steps = view.steps;
   fresh = (desk_of view.role).fresh;
   retired = (desk_of view.role).retired;
-  polls = view.polls;
+  holds = gripped (grip_of view.role);
+  marks = view.marks;
+  pasts = view.pasts;
 }
 
 abbrev pub token : Seat (Unit {0}) View → Caller
@@ -66,6 +73,8 @@ pub record Grows (steps : ℕ) (old : Caller) (entries : List Entry) (new : Call
   -- of the caller's calls the history has just those that it made, each once
   pub own : entries_of new.seen new.number ≡ new.mine
   pub steps_made : new.steps ≡ old.steps + steps
+  -- it learnt nothing of readers
+  pub pasts : new.pasts ≡ old.pasts
 
 -- the caller's call was answered so, and is one entry of that history
 abbrev pub Gains : ℕ → Caller → Call → Reply → Caller → Type 0
@@ -78,6 +87,7 @@ pub record Rests (steps : ℕ) (old new : Caller) : Type 0 where
   pub seen : new.seen ≡ old.seen
   pub mine : new.mine ≡ old.mine
   pub steps_made : new.steps ≡ old.steps + steps
+  pub pasts : new.pasts ≡ old.pasts
 
 -- the caller's own entries are those that it knows of itself
 abbrev pub KnowsOwn : Caller → Type 0

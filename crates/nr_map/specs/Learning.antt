@@ -1,34 +1,41 @@
--- A load that only learns the history so far, and what it tells of the key.
-use Rattle.std.specs.Prelude.{◌≡◌, ℕ, ◌<◌, if◌then◌else◌, []}
-use Rattle.nr_model.specs.declared.states.KeyState.{KeyState}
-use Rattle.nr_model.specs.declared.states.KeyState.TheVariants as key
-use Rattle.nr_model.specs.Histories.{entries_of}
+-- A load that only learns the history so far, and what it tells of the key and of readers.
+use Rattle.std.specs.Prelude.{◌≡◌, ℕ, List, [], ◌++◌}
+use Rattle.atomic_table.specs.Seated.{TableId}
 use Rattle.nr_model.specs.Maps.{state_of}
-use Rattle.nr_words.specs.KeyWords.{has_ask, is_filled}
 use Rattle.nr_core.specs.Story.{map_after}
-use Rattle.nr_map.specs.declared.answers.KeyKind.{KeyKind}
-use Rattle.nr_map.specs.declared.answers.KeyKind.TheVariants as kind
-use Rattle.nr_map.specs.Plays.{Advances, Then}
+use Rattle.nr_core.specs.declared.roles.Role.{Role}
+use Rattle.nr_core.specs.declared.roles.Role.TheVariants.{Note, Reader, Writer}
+use Rattle.nr_marks.specs.Exact.{Lists}
+use Rattle.nr_marks.specs.Marks.{Past}
+use Rattle.nr_marks.specs.Pasts.{Compared, Refreshed}
+use Rattle.nr_map.specs.Callers.{caller_of}
+use Rattle.nr_map.specs.Kinds.{kind_of, kind_shown}
+use Rattle.nr_map.specs.Meetings.{Learns}
+use Rattle.nr_map.specs.Notes.{note_of, with_note}
+use Rattle.nr_map.specs.Plays.{Then}
 use Rattle.nr_map.specs.Rule.{StartsWith}
 use Rattle.nr_map.specs.Views.{View}
 
--- the kind of a key's state, and of the word that shows it
-abbrev pub kind_of : KeyState → KeyKind
-kind_of key.Hole = kind.Hole
-kind_of key.Asked = kind.Asked
-kind_of (key.Rows rows) = kind.Rows
-
-abbrev pub kind_shown : ℕ → KeyKind
-kind_shown word = (if is_filled word then kind.Rows else (if has_ask word then kind.Asked else kind.Hole))
+-- what the token learns of readers: the writer how those are that it was told of, a reader whether it is still as it was told
+abbrev pub LearnsOf : Role → View → View → List Past → Type 0
+LearnsOf (Writer desk) old new news = Refreshed desk.retired old.marks old.told_pasts news × Lists desk old.marks old.shape new.seen
+LearnsOf (Reader reader grip) old new news = (news ≡ []) × Compared reader grip old.marks old.told_pasts
+LearnsOf Note old new news = Unit {0}
 
 -- the history so far begins with all that the token had seen, and with all that a note told it
 pub record Learned (at found : ℕ) (old new : View) : Type 0 where
   pub role : new.role ≡ old.role
-  pub advances : Advances old [] new
+  pub learns : (id : TableId) → Learns 1 (caller_of id old) (caller_of id new)
   pub told : StartsWith new.seen old.told
-  pub polls : new.polls ≡ old.polls
-  pub nobody_else : (caller : ℕ) → old.shape.readers < caller → entries_of new.seen caller ≡ []
   pub state : kind_shown found ≡ kind_of (state_of (map_after new.shape new.seen) at)
+  pub news : List Past
+  pub pasts : new.pasts ≡ news ++ old.pasts
+  pub told_pasts : new.told_pasts ≡ old.told_pasts
+  pub of_readers : LearnsOf old.role old new news
 
 abbrev pub has_learned : Then
 has_learned step before found after = Learned step.word found before.0 after.0
+
+-- what one token learnt of readers from another
+abbrev pub HearsOf : View → View → View → Type 0
+HearsOf old other new = (news : List Past) × (new.pasts ≡ news ++ old.pasts) × LearnsOf old.role (with_note old (note_of other)) new news

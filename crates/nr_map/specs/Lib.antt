@@ -4,8 +4,9 @@ pub mod Rule
 pub mod Notes
 pub mod Plays
 pub mod Seats
-pub mod Learning
+pub mod Kinds
 pub mod Meetings
+pub mod Learning
 pub mod Rounds
 pub mod Pins
 pub mod Opened
@@ -13,3 +14,4 @@ pub mod Spares
 pub mod WriterSeats
 pub mod Searches
 pub mod Answers
+pub mod ExactPlaces

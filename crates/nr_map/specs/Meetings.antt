@@ -1,10 +1,17 @@
 -- What a token learns of the history by itself, and of another token.
-use Rattle.std.specs.Prelude.{◌≡◌, ℕ, ◌+◌, ◌<◌, []}
+use Rattle.std.specs.Prelude.{◌≡◌, ℕ, ◌+◌, ◌<◌, List, [], ◌++◌}
+use mathlib.Core.Option.{some}
+use lib.ListN.{get_elem?}
 use Rattle.nr_model.specs.Histories.{IsLegal, entries_of}
 use Rattle.nr_model.specs.Maps.{state_of}
 use Rattle.nr_map.specs.declared.answers.KeyKind.{KeyKind}
 use Rattle.nr_map.specs.Callers.{Caller, map_seen, opening_map}
-use Rattle.nr_map.specs.Learning.{kind_of}
+use Rattle.nr_map.specs.Kinds.{kind_of}
+use Rattle.nr_core.specs.declared.places.Place.TheVariants.{Idle}
+use Rattle.nr_core.specs.declared.roles.Desk.{Desk}
+use Rattle.nr_marks.specs.Exact.{Lists}
+use Rattle.nr_marks.specs.Marks.{Past}
+use Rattle.nr_marks.specs.Pasts.{Current}
 use Rattle.nr_map.specs.Rule.{StartsWith}
 
 -- in so many steps, none of which adds an entry, the token learnt a legal history that begins with all that it had seen
@@ -19,10 +26,18 @@ pub record Learns (steps : ℕ) (old new : Caller) : Type 0 where
   -- and none of anybody whom the map doesn't have
   pub nobody_else : (caller : ℕ) → old.table.shape.readers < caller → entries_of new.seen caller ≡ []
   pub steps_made : new.steps ≡ old.steps + steps
-  -- the writer's slots and polls stay
+  -- the writer's slots, a reader's hold, and the marks stay
   pub fresh : new.fresh ≡ old.fresh
   pub retired : new.retired ≡ old.retired
-  pub polls : new.polls ≡ old.polls
+  pub holds : new.holds ≡ old.holds
+  pub marks : new.marks ≡ old.marks
+
+-- how a reader is, and the writer's desk between its calls, as their tokens show it
+abbrev pub how_is : Caller → Past
+how_is reader = record { reader = reader.number; count = reader.marks.acts; slot = reader.holds; put = reader.marks.put }
+
+abbrev pub desk_seen : Caller → Desk
+desk_seen writer = record { place = Idle; fresh = writer.fresh; retired = writer.retired }
 
 -- the history begins with all that the other had seen too, so it has all calls that the other had made
 pub record Meets (steps : ℕ) (old other new : Caller) : Type 0 where
@@ -35,6 +50,13 @@ pub record Gathers (writer reader writer' reader' : Caller) : Type 0 where
   pub of_reader : Meets 3 writer reader writer'
   pub of_writer : Meets 3 reader writer' reader'
   pub all : entries_of writer'.seen reader.number ≡ reader.mine
+  -- the writer knows how the reader is, and has compared it with its lists, which are those of the history
+  pub news : List Past
+  pub pasts : writer'.pasts ≡ news ++ writer.pasts
+  pub place : ℕ
+  pub known : get_elem? writer'.pasts place ≡ some (how_is reader)
+  pub current : Current writer'.retired writer'.marks (how_is reader)
+  pub lists : Lists (desk_seen writer') writer'.marks writer'.table.shape writer'.seen
 
 -- the key's state after the history so far
 pub record StatesKey (at : ℕ) (old new : Caller) (kind : KeyKind) : Type 0 where

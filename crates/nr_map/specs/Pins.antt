@@ -1,9 +1,11 @@
 -- A reader that holds a set.
-use Rattle.std.specs.Prelude.{◌≡◌, ℕ, List, length, Result, Ok, Err}
+use Rattle.std.specs.Prelude.{◌≡◌, ℕ, ◌+◌, List, length, Result, Ok, Err}
 use Rattle.atomic_table.specs.declared.shared.Seat.{Seat}
 use Rattle.nr_model.specs.declared.rows.Row.{Row}
 use Rattle.nr_model.specs.declared.calls.Call.TheVariants as model
 use Rattle.nr_model.specs.declared.calls.Reply.TheVariants as reply
+use Rattle.nr_marks.specs.Marks.{acted}
+use Rattle.nr_marks.specs.Puts.{put_number}
 use Rattle.nr_map.specs.Callers.{Caller, Gains, KnowsOwn, token}
 use Rattle.nr_map.specs.Seats.{HoldsAt}
 use Rattle.nr_map.specs.Views.{View, number_of, rows_held}
@@ -23,7 +25,7 @@ pub record Pins (seat : Seat (Unit {0}) View) (number begin count : ℕ) : Type 
   pub count_is : count ≡ length (rows_held seat.me.0.role)
   pub own : KnowsOwn (token seat)
 
--- a pin is a find: of a filled key it holds the rows of the reply, and a hole gives the reader back
+-- a pin is a find: of a filled key it holds the rows of the reply, whose put number is the key's, and a hole gives the reader back
 abbrev pub PinsKey : ℕ → Caller → Result Pinned Caller → Type 0
-PinsKey key old (Ok pin) = Gains 2 old (model.Find key) (reply.Rows pin.rows) pin.reader
-PinsKey key old (Err reader) = Gains 1 old (model.Find key) reply.Hole reader
+PinsKey key old (Ok pin) = Gains 2 old (model.Find key) (reply.Rows pin.rows) pin.reader × (pin.reader.marks ≡ acted old.marks (put_number pin.reader.seen key))
+PinsKey key old (Err reader) = Gains 1 old (model.Find key) reply.Hole reader × (reader.marks.acts ≡ old.marks.acts + 1)

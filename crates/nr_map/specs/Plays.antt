@@ -28,10 +28,14 @@ use Rattle.nr_core.specs.declared.roles.Grip.TheVariants.{Nothing, On}
 use Rattle.nr_core.specs.declared.shape.Shape.{Shape}
 use Rattle.nr_core.specs.Slots.{content}
 use Rattle.nr_core.specs.Steps.{ask_word}
-use Rattle.nr_core.specs.States.{retired_at}
+use Rattle.nr_core.specs.Roles.{retirements}
 use Rattle.nr_core.specs.Story.{call_of, ending, entry}
 use Rattle.nr_core.specs.Writer.{looked, moved_to, went}
-use Rattle.nr_map.specs.Views.{Poll, View, number_of, grip_of, is_sized, rows_held, slot_held}
+use Rattle.nr_marks.specs.MarkSteps.{GoesMarks, LooksMarks}
+use Rattle.nr_marks.specs.Marks.{acted}
+use Rattle.nr_marks.specs.PollNotes.{AllHeld}
+use Rattle.nr_marks.specs.Puts.{put_number}
+use Rattle.nr_map.specs.Views.{View, number_of, grip_of, is_sized, rows_held, slot_held}
 use Rattle.nr_map.specs.Callers.{Caller, Grows, Rests, caller_of, map_seen}
 
 -- a reader that holds nothing
@@ -63,6 +67,7 @@ Then = Step (Unit {0}) → Me (Unit {0}) View → ℕ → Me (Unit {0}) View →
 pub record Asked (key found : ℕ) (old new : View) : Type 0 where
   pub role : new.role ≡ old.role
   pub gains : Advances old (entry (number_of old.role) (model.Ask key) (ask_word found) ∷ []) new
+  pub marks : new.marks ≡ old.marks
 
 abbrev pub asked : Then
 asked step before found after = Asked step.word found before.0 after.0
@@ -72,6 +77,8 @@ pub record Arrived (key found : ℕ) (old new : View) : Type 0 where
   pub number : number_of new.role ≡ number_of old.role
   pub held : is_filled found ≡ true → Holds old.shape new.role × (slot_held new.role ≡ slot_of found) × Advances old (entry (number_of old.role) (model.Find key) (reply.Rows (rows_held new.role)) ∷ []) new
   pub hole : is_filled found ≡ false → (new.role ≡ old.role) × Advances old (entry (number_of old.role) (model.Find key) reply.Hole ∷ []) new
+  -- one act more; the set has the number of what was put last for the key
+  pub marks : new.marks ≡ acted old.marks (put_number new.seen key)
 
 abbrev pub arrived : Then
 arrived step before found after = Arrived step.word found before.0 after.0
@@ -81,6 +88,7 @@ pub record Read (place found : ℕ) (old new : View) : Type 0 where
   pub value : found ≡ slice_index (encode (rows_held old.role)) (place - content old.shape (slot_held old.role) 0)
   pub hold : new.role ≡ holding old.role (is_sized (grip_of new.role))
   pub waits : Waits old new
+  pub marks : new.marks ≡ old.marks
 
 abbrev pub read : Then
 read step before found after = Read step.word found before.0 after.0
@@ -89,6 +97,7 @@ read step before found after = Read step.word found before.0 after.0
 pub record Departed (old new : View) : Type 0 where
   pub role : new.role ≡ Reader (number_of old.role) Nothing
   pub waits : Waits old new
+  pub marks : new.marks ≡ acted old.marks old.marks.put
 
 abbrev pub departed : Then
 departed step before found after = Departed before.0 after.0
@@ -116,6 +125,12 @@ pub record Lacks (call : Call) (counts : NoSlot) (caller : Caller) : Type 0 wher
   pub live : counts.live ≡ filled_count (map_seen caller)
   pub held : counts.held ≡ length caller.retired
   pub all : counts.live + counts.held ≡ caller.table.shape.slots
+  -- every slot was taken once
+  pub full : caller.table.shape.slots ≤ caller.fresh
+  -- each retired slot is another one and was polled, and held then by another reader
+  pub apart : (slot : ℕ) → retirements slot caller.retired ≤ 1
+  pub polled : AllHeld caller.retired caller.marks.polls
+  pub few : length caller.marks.polls ≤ caller.table.shape.readers
 
 -- a step of the writer's call leads to the desk of the outcome, and adds its entry where it ends the call with a reply
 pub record Leads (call : Call) (outcome : Desk × CallStep) (old new : View) : Type 0 where
@@ -127,7 +142,7 @@ pub record Leads (call : Call) (outcome : Desk × CallStep) (old new : View) : T
 -- a look, which begins the call and its polls
 pub record Looked (desk : Desk) (call : WriterCall) (found : ℕ) (old new : View) : Type 0 where
   pub leads : Leads (call_of call) (looked old.shape desk call found) old new
-  pub polls : new.polls ≡ []
+  pub marks : LooksMarks old.shape old.marks desk call found new.role new.seen new.marks []
 
 -- the call that is at a place
 abbrev pub call_at : Place → Call
@@ -145,21 +160,11 @@ ReadsOn shape (Leaving key) found = Unit {0}
 ReadsOn shape (Searching call rows poll) found = Unit {0}
 ReadsOn shape (Putting call rows slot departures index) found = Unit {0}
 
--- a poll that finds its slot held notes it, with a reader that holds it; nothing else changes the polls
-abbrev pub Notes : Shape → Desk → Place → ℕ → List Poll → List Poll → Type 0
-Notes shape desk Idle found old new = new ≡ old
-Notes shape desk (Reading call slot got) found old new = new ≡ old
-Notes shape desk (Leaving key) found old new = new ≡ old
-Notes shape desk (Searching call rows poll) found old new =
-    (same_count found (retired_at desk poll).arrivals ≡ true → new ≡ old)
-    × (same_count found (retired_at desk poll).arrivals ≡ false → (reader : ℕ) × (0 < reader) × (reader ≤ shape.readers) × (new ≡ old ++ (record { slot = (retired_at desk poll).slot; reader = reader }) ∷ []))
-Notes shape desk (Putting call rows slot departures index) found old new = new ≡ old
-
 -- a later step of the call
 pub record Went (desk : Desk) (found : ℕ) (old new : View) : Type 0 where
   pub leads : Leads (call_at desk.place) (went old.shape desk desk.place found) old new
   pub reads_on : ReadsOn old.shape desk.place found
-  pub notes : Notes old.shape desk desk.place found old.polls new.polls
+  pub marks : GoesMarks old.shape old.marks old.pasts desk found new.role new.seen new.marks []
 
 abbrev pub has_looked : WriterCall → Then
 has_looked call step before found after = (desk : Desk) → before.0.role ≡ Writer desk → Looked desk call found before.0 after.0
@@ -183,7 +188,7 @@ pub record Put (desk : Desk) (old new : View) : Type 0 where
   pub role : new.role ≡ Writer (next_put desk)
   pub advances : Advances old [] new
   pub room : Room old.shape (next_put desk)
-  pub polls : new.polls ≡ old.polls
+  pub marks : new.marks ≡ old.marks
 
 abbrev pub has_put : Then
 has_put step before found after = (desk : Desk) → before.0.role ≡ Writer desk → Put desk before.0 after.0

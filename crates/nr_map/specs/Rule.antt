@@ -9,10 +9,21 @@ use Rattle.nr_core.specs.declared.roles.Role.{Role}
 use Rattle.nr_core.specs.Sums.{total}
 use Rattle.nr_core.specs.Core.{Core}
 use Rattle.nr_core.specs.Roles.{is_by, is_reader, is_writer}
+use Rattle.nr_marks.specs.Marked.{Knowing, Marked}
+use Rattle.nr_marks.specs.Marks.{Marks, Past}
 use Rattle.nr_map.specs.Views.{View}
 
 abbrev pub role_of : View → Role
 role_of view = view.role
+
+abbrev pub marks_of : View → Marks
+marks_of view = view.marks
+
+abbrev pub pasts_of : View → List Past
+pasts_of view = view.pasts
+
+abbrev pub told_pasts_of : View → List Past
+told_pasts_of view = view.told_pasts
 
 -- 1 where the role is that caller's
 abbrev pub counts : ℕ → Role → ℕ
@@ -43,4 +54,8 @@ pub record Kept (shape : Shape) (state : State (Unit {0}) View) : Type 0 where
   pub readers : total is_reader (map role_of state.views) ≡ made
   pub fresh : (caller : ℕ) → made < caller → total (counts caller) (map role_of state.views) ≡ 0
   pub silent : (caller : ℕ) → made < caller → entries_of log caller ≡ []
+  -- the marks agree with the words and the history, and what callers know of readers is so since then
+  pub marked : Marked role_of marks_of shape state.words state.views log
+  pub pasts : Knowing role_of marks_of pasts_of state.views
+  pub told_pasts : Knowing role_of marks_of told_pasts_of state.views
   pub maker : (id : ℕ) (view : View) → get_elem? state.views id ≡ some view → is_writer view.role ≡ 1 → view.made ≡ made

@@ -9,11 +9,7 @@ use Rattle.nr_core.specs.declared.roles.Role.TheVariants.{Writer, Reader, Note}
 use Rattle.nr_core.specs.declared.roles.Grip.{Grip}
 use Rattle.nr_core.specs.declared.roles.Grip.TheVariants.{Nothing, On}
 use Rattle.nr_core.specs.States.{opening_desk}
-
--- a poll that found its slot held, and a reader that held it then
-pub record Poll : Type 0 where
-  pub slot : ℕ
-  pub reader : ℕ
+use Rattle.nr_marks.specs.Marks.{Marks, Past, no_marks, opening_marks}
 
 pub record View : Type 0 where
   pub role : Role
@@ -25,8 +21,11 @@ pub record View : Type 0 where
   pub told : List Entry
   pub mine : List Entry
   pub steps : ℕ
-  -- the polls of the writer's call that found their slots held
-  pub polls : List Poll
+  -- put numbers, a reader's acts, the writer's polls
+  pub marks : Marks
+  -- how readers were when the writer learnt it, and what a note told of that
+  pub pasts : List Past
+  pub told_pasts : List Past
 
 -- the number of the caller; the writer's is 0
 abbrev pub number_of : Role → ℕ
@@ -66,11 +65,11 @@ rows_held role = rows_in (grip_of role)
 
 -- the first token is the writer's
 abbrev pub opener : Shape → View
-opener shape = record { role = Writer opening_desk; shape = shape; made = 0; seen = []; told = []; mine = []; steps = 0; polls = [] }
+opener shape = record { role = Writer opening_desk; shape = shape; made = 0; seen = []; told = []; mine = []; steps = 0; marks = opening_marks shape; pasts = []; told_pasts = [] }
 
 -- the writer makes the next reader
 abbrev pub with_reader : View → View
 with_reader view = record view { made = view.made + 1 }
 
 abbrev pub next_reader : View → View
-next_reader view = record { role = Reader (view.made + 1) Nothing; shape = view.shape; made = 0; seen = []; told = []; mine = []; steps = 0; polls = [] }
+next_reader view = record { role = Reader (view.made + 1) Nothing; shape = view.shape; made = 0; seen = []; told = []; mine = []; steps = 0; marks = no_marks; pasts = []; told_pasts = [] }

@@ -1,5 +1,5 @@
 -- Where the writer's seat stands between two steps, and where a step leads it.
-use Rattle.std.specs.Prelude.{◌≡◌, ℕ, ◌+◌, ◌*◌, ◌<◌, ◌≤◌, nat_lt, if◌then◌else◌, List, [], ◌∷◌, ◌++◌, length, map, slice_index}
+use Rattle.std.specs.Prelude.{◌≡◌, ℕ, suc, ◌+◌, ◌*◌, ◌<◌, ◌≤◌, ◌⊎◌, nat_lt, if◌then◌else◌, List, [], ◌∷◌, ◌++◌, length, map, slice_index}
 use mathlib.Core.Option.{some}
 use lib.ListN.{get_elem?}
 use Rattle.atomic_table.specs.declared.shared.Seat.{Seat}
@@ -24,8 +24,11 @@ use Rattle.nr_core.specs.declared.roles.Desk.{Desk}
 use Rattle.nr_core.specs.declared.roles.Role.TheVariants.{Writer}
 use Rattle.nr_map.specs.Callers.{Caller, Grows, KnowsOwn, Table, opening_map, token}
 use Rattle.nr_map.specs.Spares.{Spare, Took, desk_with}
-use Rattle.nr_map.specs.Plays.{Lacks, Notes, ReadsOn, Room, call_at, next_put}
-use Rattle.nr_map.specs.Views.{Poll, View}
+use Rattle.nr_map.specs.Plays.{Lacks, ReadsOn, Room, call_at, next_put}
+use Rattle.nr_marks.specs.MarkSteps.{GoesMarks}
+use Rattle.nr_marks.specs.PollNotes.{Noted}
+use Rattle.nr_marks.specs.Puts.{put_count}
+use Rattle.nr_map.specs.Views.{View}
 
 abbrev pub MapSeat : Type 0
 MapSeat = Seat (Unit {0}) View
@@ -104,7 +107,7 @@ LeadsTo = LeadsIn 1
 pub record GoesTo (table : Table) (desk : Desk) (found : ℕ) (old new : MapSeat) : Type 0 where
   pub leads : LeadsTo table (call_at desk.place) (went table.shape desk desk.place found) old new
   pub reads_on : ReadsOn table.shape desk.place found
-  pub notes : Notes table.shape desk desk.place found old.me.0.polls new.me.0.polls
+  pub marks : GoesMarks table.shape old.me.0.marks old.me.0.pasts desk found new.me.0.role new.me.0.seen new.me.0.marks []
 
 abbrev pub GoesOn : Table → ℕ → MapSeat → MapSeat → Type 0
 GoesOn table found old new = (desk : Desk) → old.me.0.role ≡ Writer desk → GoesTo table desk found old new
@@ -113,7 +116,7 @@ GoesOn table found old new = (desk : Desk) → old.me.0.role ≡ Writer desk →
 pub record PutsTo (table : Table) (desk : Desk) (old new : MapSeat) : Type 0 where
   pub writes : WritesAt table (next_put desk) new
   pub grows : Grows 1 (token old) [] (token new)
-  pub polls : new.me.0.polls ≡ old.me.0.polls
+  pub marks : new.me.0.marks ≡ old.me.0.marks
 
 -- what the writer knows is legal, and has its own entries
 pub record Knows (caller : Caller) : Type 0 where
@@ -126,27 +129,21 @@ pub record Settles (table : Table) (call : WriterCall) (rows : List Row) (spare 
   pub writes : WritesAt table (settled table.shape (desk_with spare Idle) call rows).0 seat
   pub short : (counts : NoSlot) → (settled table.shape (desk_with spare Idle) call rows).1 ≡ Ended (writer.NoSlot counts) → Lacks (call_of call) counts (token seat)
   pub knows : Knows (token seat)
-  pub polls : seat.me.0.polls ≡ []
+  pub polls : seat.me.0.marks.polls ≡ []
 
 -- the search has found each of the first retired slots held
 abbrev pub swept : Shape → Desk → WriterCall → List Row → ℕ → Desk × Step
 swept shape desk call rows polls = (if nat_lt polls (length desk.retired) then (moved_to desk (Searching call rows polls), Going) else (moved_to desk Idle, no_slot shape desk))
 
-abbrev pub poll_slot : Poll → ℕ
-poll_slot poll = poll.slot
-
-abbrev pub retired_slot : Retired → ℕ
-retired_slot entry = entry.slot
-
--- the polls are those of the retired slots in their order, each with a reader of the map
-pub record AllNoted (table : Table) (retired : List Retired) (polls : List Poll) : Type 0 where
-  pub slots : map poll_slot polls ≡ map retired_slot retired
-  pub readers : (at : ℕ) (poll : Poll) → get_elem? polls at ≡ some poll → (0 < poll.reader) × (poll.reader ≤ table.shape.readers)
+-- the slot was never taken, or was retired
+abbrev pub IsFrom : ℕ → Spare → Type 0
+IsFrom slot spare = (spare.fresh < spare.slots) ⊎ ((at : ℕ) × (entry : Retired) × (get_elem? spare.retired at ≡ some entry) × (entry.slot ≡ slot))
 
 -- the slot that a call took, with its departures, or there was none
 pub record TakesSlot (table : Table) (call : WriterCall) (rows : List Row) (slot departed : ℕ) (spare after : Spare) (old new : MapSeat) : Type 0 where
   pub polls : ℕ
   pub took : Took polls spare after
+  pub from : IsFrom slot spare
   pub slots : after.slots ≡ spare.slots
   pub writes : WritesAt table (desk_with after (Putting call rows slot departed 0)) new
   pub grows : Grows polls (token old) [] (token new)
@@ -156,7 +153,7 @@ pub record LacksSlot (table : Table) (call : WriterCall) (counts : NoSlot) (spar
   pub writes : WritesAt table (desk_with spare Idle) new
   pub grows : Grows (length spare.retired) (token old) [] (token new)
   pub lacks : Lacks (call_of call) counts (token new)
-  pub noted : AllNoted table spare.retired new.me.0.polls
+  pub noted : Noted table.shape old.me.0.pasts new.me.0.marks.polls
 
 -- the set was published: the call's last step is its entry, and the slot that the key named before is retired
 pub record PublishesSet (table : Table) (call : WriterCall) (rows : List Row) (spare after : Spare) (old new : MapSeat) : Type 0 where
@@ -166,6 +163,12 @@ pub record PublishesSet (table : Table) (call : WriterCall) (rows : List Row) (s
   pub word : ℕ
   pub retires : after ≡ record mid { retired = mid.retired ++ unnamed word }
   pub slots : after.slots ≡ spare.slots
+  -- the set has the next put number, and the slot was never taken before or was retired
+  pub slot : ℕ
+  pub from : IsFrom slot spare
+  pub number : ℕ
+  pub count : put_count new.me.0.seen ≡ suc number
+  pub put : slice_index new.me.0.marks.puts slot ≡ number
   pub writes : WritesAt table (desk_with after Idle) new
   pub grows : Grows (2 * length rows + 2 + polls) (token old) (entry 0 (call_of call) reply.Done ∷ []) (token new)
 

@@ -1,6 +1,6 @@
 //! What the calls of a map answer.
 ghost use Rattle.std.specs.Prelude.{◌≡◌};
-ghost use Rattle.nr_map.specs.Learning.{kind_shown};
+ghost use Rattle.nr_map.specs.Kinds.{kind_shown};
 
 use crate::ticket::Ticket;
 use nr_core::NoSlot;

@@ -17,9 +17,12 @@ ghost use Rattle.nr_core.specs.Roles.{is_writer};
 ghost use Rattle.nr_core.specs.Sizes.{IsShape};
 ghost use Rattle.nr_map.specs.Views.{rows_held, with_reader, next_reader, opener};
 ghost use Rattle.nr_map.specs.Callers.{Gains, Rests, map_seen, token};
+ghost use Rattle.nr_marks.specs.Marks.{acted};
+ghost use Rattle.nr_marks.specs.Puts.{put_number};
 ghost use Rattle.nr_map.specs.Seats.{IdlesAt, HoldsAt};
 ghost use Rattle.nr_map.specs.Notes.{IsCaller, note_of, with_note};
-ghost use Rattle.nr_map.specs.Learning.{Learned, kind_of, kind_shown};
+ghost use Rattle.nr_map.specs.Kinds.{kind_of, kind_shown};
+ghost use Rattle.nr_map.specs.Learning.{Learned};
 ghost use Rattle.nr_map.specs.Meetings.{Learns};
 ghost use Rattle.nr_map.specs.WriterSeats.{GoesOn, IsBetween, IsReading, IsPolling, IsPutting, IsPublishing, IsLeaving, LeadsTo, PutsTo};
 
@@ -127,6 +130,7 @@ impl Board {
         requires key { key < self.now.shape.keys }
         ensures reader { IdlesAt self.now seat.new }
         ensures gains { Gains 1 (token seat.old) (model.Ask key) (ask_word result) (token seat.new) }
+        ensures marks { seat.new.me.0.marks ≡ seat.old.me.0.marks }
     {
         let words = &self.table.shared;
         words.fetch_or::<Asks>(seat, key as usize, 1)
@@ -139,6 +143,7 @@ impl Board {
         requires key { key < self.now.shape.keys }
         ensures hole { is_filled result ≡ false → IdlesAt self.now seat.new × Gains 1 (token seat.old) (model.Find key) reply.Hole (token seat.new) }
         ensures held { is_filled result ≡ true → HoldsAt self.now (content self.now.shape (slot_of result) 0) seat.new × Gains 1 (token seat.old) (model.Find key) (reply.Rows (rows_held seat.new.me.0.role)) (token seat.new) }
+        ensures marks { seat.new.me.0.marks ≡ acted seat.old.me.0.marks (put_number seat.new.me.0.seen key) }
     {
         let words = &self.table.shared;
         words.fetch_add::<Arrives>(seat, key as usize, ARRIVE)
@@ -152,6 +157,8 @@ impl Board {
         ensures reader { HoldsAt self.now begin seat.new }
         ensures rows { rows_held seat.new.me.0.role ≡ rows_held seat.old.me.0.role }
         ensures rests { Rests 1 (token seat.old) (token seat.new) }
+        ensures hold { (token seat.new).holds ≡ (token seat.old).holds }
+        ensures marks { seat.new.me.0.marks ≡ seat.old.me.0.marks }
     {
         let words = &self.table.shared;
         let place = begin + u64::from(index);
@@ -163,6 +170,7 @@ impl Board {
         requires reader { HoldsAt self.now begin seat.old }
         ensures reader { IdlesAt self.now seat.new }
         ensures rests { Rests 1 (token seat.old) (token seat.new) }
+        ensures marks { seat.new.me.0.marks ≡ acted seat.old.me.0.marks seat.old.me.0.marks.put }
     {
         let words = &self.table.shared;
         let place = begin - 1;
@@ -175,7 +183,7 @@ impl Board {
         requires given { IsGivenCall self.now.shape.bound call.now }
         requires key { key_of call.now < self.now.shape.keys }
         ensures leads { (desk : Desk) → seat.old.me.0.role ≡ Writer desk → LeadsTo self.now (call_of call.now) (looked self.now.shape desk call.now result) seat.old seat.new }
-        ensures polls { seat.new.me.0.polls ≡ [] }
+        ensures polls { seat.new.me.0.marks.polls ≡ [] }
     {
         self.look_given::<Brand>(seat, call)
     }
@@ -186,7 +194,7 @@ impl Board {
         requires key { key_of call.now < self.now.shape.keys }
         requires call { G.call ≡ call.now }
         ensures leads { (desk : Desk) → seat.old.me.0.role ≡ Writer desk → LeadsTo self.now (call_of call.now) (looked self.now.shape desk call.now result) seat.old seat.new }
-        ensures polls { seat.new.me.0.polls ≡ [] }
+        ensures polls { seat.new.me.0.marks.polls ≡ [] }
     {
         let words = &self.table.shared;
         words.load::<Looks<G>>(seat, call.key() as usize)

@@ -1,4 +1,5 @@
 //! Laws over the definitions alone. Nothing runs here: each function's contract is the law.
+ghost use Rattle.nr_map.specs.ExactPlaces.{DoneIsExact, NoSlotIsExact};
 ghost use Rattle.nr_map.specs.Rounds.{CallsStay, EntriesAreCallers, RoundsTellAll, SendsOfAll};
 
 /// A caller's calls stay in a history that goes on.
@@ -21,4 +22,15 @@ pub fn entries_are_callers()
 /// All requests of a key that were answered `Send` are its fills, and one more where it is asked.
 pub fn sends_of_all()
     ensures { SendsOfAll }
+{}
+
+/// Where the writer knows how all readers are, and gathers them again after a call that found no
+/// slot, the filled keys and the different pinned put numbers that no key has are all the slots.
+pub fn no_slot_is_exact()
+    ensures { NoSlotIsExact }
+{}
+
+/// Where it gathers them before and after a fill or an update that was done, they were fewer.
+pub fn done_is_exact()
+    ensures { DoneIsExact }
 {}

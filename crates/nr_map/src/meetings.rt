@@ -2,6 +2,7 @@
 ghost use Rattle.std.specs.Prelude.{◌≡◌, ◌<◌};
 ghost use Rattle.nr_map.specs.Callers.{KnowsOwn, token};
 ghost use Rattle.nr_map.specs.Meetings.{Gathers, Meets, StatesKey};
+ghost use Rattle.nr_map.specs.Learning.{HearsOf};
 ghost use Rattle.nr_map.specs.Notes.{IsCaller};
 
 use crate::answers::KeyKind;
@@ -69,6 +70,7 @@ impl ReaderMap {
         requires caller { IsCaller seat.old.me.0.role }
         requires knows { KnowsOwn (token other.old) }
         ensures meets { Meets 3 (token seat.old) (token other.old) (token seat.new) }
+        ensures readers { HearsOf seat.old.me.0 other.old.me.0 seat.new.me.0 }
         ensures role { (seat.new.table_id ≡ seat.old.table_id) × (seat.new.me.0.role ≡ seat.old.me.0.role) }
         ensures other { (other.new.table_id ≡ other.old.table_id) × (other.new.me ≡ other.old.me) }
     {

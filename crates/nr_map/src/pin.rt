@@ -1,7 +1,8 @@
 //! A reader that holds a set, and reads it as often as it likes.
-ghost use Rattle.std.specs.Prelude.{◌≡◌, ◌<◌, length, slice_get, Some};
+ghost use Rattle.std.specs.Prelude.{◌≡◌, ◌<◌, length, slice_get, IsSome, Some};
 ghost use Rattle.nr_model.specs.declared.rows.TheConstants.{MAX_ROWS};
 ghost use Rattle.nr_model.specs.Rows.{IsRowSet};
+ghost use Rattle.nr_marks.specs.Marks.{acted};
 ghost use Rattle.nr_map.specs.Callers.{Rests};
 
 use crate::board::Seat;
@@ -69,6 +70,7 @@ impl Pin {
     pub fn len(&self) -> u32
         ensures len { result ≡ length self.now.rows }
         ensures row_set { IsRowSet self.now.reader.table.shape.bound self.now.rows }
+        ensures holds { IsSome self.now.reader.holds }
     {
         self.count
     }
@@ -80,6 +82,8 @@ impl Pin {
         ensures row { slice_get self.old.rows i ≡ Some result }
         ensures rows { self.new.rows ≡ self.old.rows }
         ensures rests { Rests 2 self.old.reader self.new.reader }
+        ensures holds { self.new.reader.holds ≡ self.old.reader.holds }
+        ensures marks { self.new.reader.marks ≡ self.old.reader.marks }
     {
         map.read_row(&mut self.seat, self.begin, i)
     }
@@ -87,7 +91,8 @@ impl Pin {
     /// Ends the hold, in 1 step, and gives the reader back.
     pub fn release(self, map: &ReaderMap) -> Reader
         requires own { self.reader.table ≡ map.now }
-        ensures { Rests 1 self.reader result }
+        ensures rests { Rests 1 self.reader result }
+        ensures marks { result.marks ≡ acted self.reader.marks self.reader.marks.put }
     {
         let Pin {
             mut seat,

@@ -46,7 +46,7 @@ impl ReaderMap {
         requires knows { Knows (token seat.old) }
         ensures writer { WritesAt self.now (moved_to (desk_of seat.old.me.0.role) (Putting call.now rows.now taken.slot taken.departures (2 * length rows.now + 1))) seat.new }
         ensures grows { Grows (2 * length rows.now + 1) (token seat.old) [] (token seat.new) }
-        ensures polls { seat.new.me.0.polls ≡ seat.old.me.0.polls }
+        ensures marks { seat.new.me.0.marks ≡ seat.old.me.0.marks }
     {
         let _ = call;
         let begin = self.board.content(taken.slot);

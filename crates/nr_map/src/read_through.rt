@@ -18,7 +18,7 @@ impl ReaderMap {
         requires writer { WritesAt self.now (moved_to (desk_of seat.old.me.0.role) (Reading call.now slot [])) seat.old }
         requires slot { slot < self.now.shape.slots }
         ensures leads { LeadsIn (2 * length rows.new + 1) self.now (call_of call.now) (decided self.now.shape (desk_of seat.old.me.0.role) call.now rows.new) seat.old seat.new }
-        ensures polls { seat.new.me.0.polls ≡ seat.old.me.0.polls }
+        ensures marks { seat.new.me.0.marks ≡ seat.old.me.0.marks }
     {
         let _ = call;
         let begin = self.board.content(slot);

@@ -1,5 +1,5 @@
 //! A reader's token, and its calls.
-ghost use Rattle.std.specs.Prelude.{◌≡◌, ◌<◌, ◌+◌, ◌*◌, length, slice_get, Some};
+ghost use Rattle.std.specs.Prelude.{◌≡◌, ◌<◌, ◌+◌, ◌*◌, length, slice_get, None, Some};
 ghost use Rattle.nr_map.specs.Views.{rows_held};
 ghost use Rattle.nr_map.specs.Callers.{Rests, token};
 ghost use Rattle.nr_map.specs.Seats.{HoldsAt};
@@ -57,14 +57,15 @@ impl Reader {
 
     /// The reader's number, from 1.
     pub fn number(&self) -> u32
-        ensures { result ≡ self.now.number }
+        ensures number { result ≡ self.now.number }
+        ensures idle { self.now.holds ≡ None }
     {
         self.number
     }
 }
 
 impl ReaderMap {
-    ghost use Rattle.nr_map.specs.Answers.{AsksKey, FindsKey};
+    ghost use Rattle.nr_map.specs.Answers.{AsksKey, FindsKey, acts_of};
 
     /// Looks a key up, and writes its rows into the caller's set, which stays as it is where the
     /// key is a hole. Takes 1 step for a hole, and 2n + 3 for n rows: it arrives, reads each word
@@ -72,7 +73,9 @@ impl ReaderMap {
     pub fn find(&self, reader: &mut Reader, key: u32, rows: &mut RowSet) -> Found
         requires own { reader.old.table ≡ self.now }
         requires key { key < self.now.shape.keys }
-        ensures { FindsKey key reader.old rows.old reader.new rows.new result }
+        ensures own { reader.new.table ≡ self.now }
+        ensures finds { FindsKey key reader.old rows.old reader.new rows.new result }
+        ensures acts { reader.new.marks.acts ≡ reader.old.marks.acts + acts_of result }
     {
         let word = self.board.arrive(&mut reader.seat, key);
         let found = parts(word);
@@ -91,6 +94,7 @@ impl ReaderMap {
         ensures reader { HoldsAt self.now begin seat.new }
         ensures rows { rows.new ≡ rows_held seat.old.me.0.role }
         ensures rests { Rests (2 * length rows.new + 1) (token seat.old) (token seat.new) }
+        ensures marks { seat.new.me.0.marks ≡ seat.old.me.0.marks }
     {
         let count = self.board.read(seat, begin, 0);
         rows.clear();
@@ -108,6 +112,8 @@ impl ReaderMap {
         ensures reader { HoldsAt self.now begin seat.new }
         ensures rows { rows_held seat.new.me.0.role ≡ rows_held seat.old.me.0.role }
         ensures rests { Rests 2 (token seat.old) (token seat.new) }
+        ensures hold { (token seat.new).holds ≡ (token seat.old).holds }
+        ensures marks { seat.new.me.0.marks ≡ seat.old.me.0.marks }
     {
         let a = self.board.read(seat, begin, 2 * i + 1);
         let b = self.board.read(seat, begin, 2 * i + 2);
@@ -119,7 +125,9 @@ impl ReaderMap {
     pub fn ask(&self, reader: &mut Reader, key: u32) -> Asked
         requires own { reader.old.table ≡ self.now }
         requires key { key < self.now.shape.keys }
-        ensures { AsksKey key reader.old reader.new result }
+        ensures own { reader.new.table ≡ self.now }
+        ensures asks { AsksKey key reader.old reader.new result }
+        ensures marks { reader.new.marks ≡ reader.old.marks }
     {
         let found = parts(self.board.ask(&mut reader.seat, key));
         if found.filled {

@@ -18,3 +18,6 @@ returns-clause-hole c = hole_seat c.args.self.now c.args.seat.now c.fetch_add.ne
 
 pub returns-clause-held : goal.returns-clause-held
 returns-clause-held c = held_seat c.args.self.now c.args.seat.now c.fetch_add.new.seat c.fetch_add.ensures.0 c.args.key c.fetch_add.result c.requires.reader c.fetch_add.ensures.2
+
+pub returns-clause-marks : goal.returns-clause-marks
+returns-clause-marks c = c.fetch_add.ensures.2.marks

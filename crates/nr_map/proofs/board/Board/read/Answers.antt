@@ -10,7 +10,8 @@ use Rattle.nr_map.proofs.Rows.{length-encode}
 use Rattle.nr_map.specs.Callers.{Table}
 use Rattle.nr_map.specs.Plays.{read}
 use Rattle.nr_map.specs.Rule.{Kept}
-use Rattle.nr_map.specs.Views.{rows_held, slot_held}
+use Rattle.nr_marks.specs.Marks.{gripped}
+use Rattle.nr_map.specs.Views.{grip_of, rows_held, slot_held}
 use Rattle.nr_map.proofs.board.Board.read.Goals as goal
 
 pub overflow_add-place : goal.overflow_add-place
@@ -35,4 +36,6 @@ returns c = let before = c.args.seat.now in let told = c.load.ensures.2 in let i
       reader = still.0;
       rows = still.1;
       rests = still.2;
+      hold = (λ j. gripped (grip_of (told.hold j))) ∙ sym (λ j. gripped (grip_of (reader.holds.is j)));
+      marks = told.marks;
     }

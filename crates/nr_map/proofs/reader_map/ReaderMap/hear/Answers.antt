@@ -1,7 +1,13 @@
 use Rattle.std.proofs.Common.{ap, ◌∙◌}
 use Rattle.nr_map.proofs.Gathering.{meets_seat}
+use Rattle.nr_map.specs.Views.{View}
 use Rattle.nr_map.proofs.reader_map.ReaderMap.hear.Goals as goal
 
-pub returns-clause-meets : goal.returns-clause-meets
-returns-clause-meets c = let learned = c.learn.ensures.learned in
-    meets_seat c.args.seat.now c.args.other.now c.take_note.new.seat c.learn.new.seat c.note-note.result.me.0 learned.0 c.requires.knows (ap (λ me. me.0) c.note-note.ensures.note.1) c.take_note.ensures.took (c.learn.ensures.own ∙ c.take_note.ensures.own) learned.1
+pub returns : goal.returns
+returns c = let learned = c.learn.ensures.learned in
+    let told = meets_seat c.args.seat.now c.args.other.now c.take_note.new.seat c.learn.new.seat c.note-note.result.me.0 learned.0 c.requires.knows (ap (λ me. me.0) c.note-note.ensures.note.1) c.take_note.ensures.took (c.learn.ensures.own ∙ c.take_note.ensures.own) learned.1 in record {
+      meets = told.0;
+      readers = told.1;
+      role = (c.learn.ensures.own ∙ c.take_note.ensures.own, learned.1.role ∙ ap (λ (v : View). v.role) c.take_note.ensures.took);
+      other = c.note-note.ensures.same;
+    }

@@ -15,6 +15,7 @@ push-requires-clause-in_order c = let held = rows_held c.args.seat.now.me.0.role
 pub loop-i-preserved : goal.loop-i-preserved
 loop-i-preserved c = let held = rows_held c.args.seat.now.me.0.role in let so_far = c.loop-i.invariant in let i = c.loop-i.i in let told = c.read_row-row.ensures in record {
   reader = told.reader;
+  marks = told.marks ∙ so_far.marks;
   held = told.rows ∙ so_far.held;
   rows_so = c.push.ensures ∙ rows_more held c.loop-i.rows i c.read_row-row.result so_far.rows_so (ap (λ (l : List Row). slice_get l i) (sym so_far.held) ∙ told.row);
   rests = rests_both (2 * i + 1) 2 (2 * (i + 1) + 1) _ _ _ (omega arith) so_far.rests told.rests;

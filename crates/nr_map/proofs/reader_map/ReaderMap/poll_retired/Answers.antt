@@ -5,6 +5,7 @@ use Rattle.nr_core.specs.States.{no_retired}
 use Rattle.nr_core.specs.declared.calls.NoSlot.{NoSlot}
 use Rattle.nr_core.specs.declared.places.Place.TheVariants.{Putting}
 use Rattle.nr_core.specs.declared.places.Retired.{Retired}
+use Rattle.nr_map.proofs.PollNotes.{at_get}
 use Rattle.nr_map.proofs.Searching.{lacks_slot, searched_more, searching_at, takes_it}
 use Rattle.nr_map.specs.Callers.{Table}
 use Rattle.nr_map.specs.Spares.{Spare, desk_with, none_spare}
@@ -44,6 +45,7 @@ returns-then-same_count c = let so_far = c.loop-place.invariant in let spare = c
     subst (λ (p : Spare × ℕ). TakesSlot c.args.self.now c.args.call.now c.args.rows.now p.1 found spare p.0 c.args.seat.now c.poll-departures.new.seat) (λ j. (sym after_is j, (get_or (sym list j) place no_retired).slot)) (record {
       polls = place + 1;
       took = inr (c.requires.none_fresh, place, low, refl, refl, refl);
+      from = inr (place, get_or spare.retired place no_retired, at_get spare.retired place low, refl);
       slots = refl;
       writes = took.0;
       grows = took.1;

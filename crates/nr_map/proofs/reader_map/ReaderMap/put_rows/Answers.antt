@@ -13,7 +13,7 @@ use Rattle.nr_map.specs.WriterSeats.{IsPutting, PutsTo}
 use Rattle.nr_map.proofs.reader_map.ReaderMap.put_rows.Goals as goal
 
 pub loop-index-init : goal.loop-index-init
-loop-index-init c = record { writes = c.requires.writer; grows = grows_none (token c.args.seat.now) c.requires.knows; polls = refl }
+loop-index-init c = record { writes = c.requires.writer; grows = grows_none (token c.args.seat.now) c.requires.knows; marks = refl }
 
 pub put-requires : goal.put-requires
 put-requires c = let rows = c.args.rows.now in let index : ℕ = c.loop-index.index in let words = length-encode rows in

@@ -9,6 +9,7 @@ use Rattle.nr_core.specs.declared.calls.Step.TheVariants.{Going}
 use Rattle.nr_core.specs.declared.calls.WriterCall.TheVariants as writer
 use Rattle.nr_core.specs.declared.places.Place.TheVariants.{Idle, Reading}
 use Rattle.nr_map.proofs.WriterCalls.{is_empty, is_full, lacks_so, look_ends, look_goes, publishes_so, read_through, reads_at, refused_so, renewed_so, rests_here, rests_own, update_dropped, update_reads}
+use Rattle.nr_marks.specs.Marks.{Marks}
 use Rattle.nr_map.specs.Callers.{Table}
 use Rattle.nr_map.specs.Spares.{desk_with}
 use Rattle.nr_map.proofs.reader_map.ReaderMap.update_key.Goals as goal
@@ -41,19 +42,19 @@ returns-in-Err-TooMany c = let bound : c.args.self.now.shape.bound ≡ MAX_ROWS 
 pub publish-requires-clause-settles : goal.publish-requires-clause-settles
 publish-requires-clause-settles c = let bound : c.args.self.now.shape.bound ≡ MAX_ROWS = ap (λ (t : Table). t.shape.bound) (sym c.self.view_is) ∙ c.self.invariant in let through = read_through c.args.self.now c.args.spare.now (writer.Update c.args.key c.args.batch.now) (slot_of c.look.result) c.args.seat.now c.look.new.seat c.read_set.new.seat (look_goes c.self.inside.board c.args.self.now c.self.view_is c.args.spare.now c.args.seat.now c.requires.own c.requires.rests (writer.Update c.args.key c.args.batch.now) c.look.result c.look.new.seat c.look.ensures.leads (desk_with c.args.spare.now (Reading (writer.Update c.args.key c.args.batch.now) (slot_of c.look.result) []), Going) (update_reads c.args.self.now.shape (desk_with c.args.spare.now Idle) c.args.key c.look.result c.args.batch.now (is_full c.parts-found.result c.look.result c.parts-found.ensures.parts c.if-not-found.false))) c.read_set.new.rows c.read_set.ensures.leads in
     let is : applied MAX_ROWS c.read_set.new.rows c.args.batch.now ≡ Ok c.in-Ok.new_rows = sym c.applied.ensures ∙ c.in-Ok.is in
-    let settles = renewed_so c.args.self.now c.args.spare.now c.args.seat.now c.requires.own c.requires.rests c.args.key c.args.batch.now (slot_of c.look.result) c.read_set.new.rows c.read_set.new.seat through c.in-Ok.new_rows (ap (λ (b : ℕ). applied b c.read_set.new.rows c.args.batch.now) bound ∙ is) (c.read_set.ensures.polls ∙ c.look.ensures.polls) in
+    let settles = renewed_so c.args.self.now c.args.spare.now c.args.seat.now c.requires.own c.requires.rests c.args.key c.args.batch.now (slot_of c.look.result) c.read_set.new.rows c.read_set.new.seat through c.in-Ok.new_rows (ap (λ (b : ℕ). applied b c.read_set.new.rows c.args.batch.now) bound ∙ is) (ap (λ (m : Marks). m.polls) c.read_set.ensures.marks ∙ c.look.ensures.polls) in
     settles.0
 
 pub returns-in-Err : goal.returns-in-Err
 returns-in-Err c = let bound : c.args.self.now.shape.bound ≡ MAX_ROWS = ap (λ (t : Table). t.shape.bound) (sym c.self.view_is) ∙ c.self.invariant in let through = read_through c.args.self.now c.args.spare.now (writer.Update c.args.key c.args.batch.now) (slot_of c.look.result) c.args.seat.now c.look.new.seat c.read_set.new.seat (look_goes c.self.inside.board c.args.self.now c.self.view_is c.args.spare.now c.args.seat.now c.requires.own c.requires.rests (writer.Update c.args.key c.args.batch.now) c.look.result c.look.new.seat c.look.ensures.leads (desk_with c.args.spare.now (Reading (writer.Update c.args.key c.args.batch.now) (slot_of c.look.result) []), Going) (update_reads c.args.self.now.shape (desk_with c.args.spare.now Idle) c.args.key c.look.result c.args.batch.now (is_full c.parts-found.result c.look.result c.parts-found.ensures.parts c.if-not-found.false))) c.read_set.new.rows c.read_set.ensures.leads in
     let is : applied MAX_ROWS c.read_set.new.rows c.args.batch.now ≡ Ok c.in-Ok.new_rows = sym c.applied.ensures ∙ c.in-Ok.is in
-    let settles = renewed_so c.args.self.now c.args.spare.now c.args.seat.now c.requires.own c.requires.rests c.args.key c.args.batch.now (slot_of c.look.result) c.read_set.new.rows c.read_set.new.seat through c.in-Ok.new_rows (ap (λ (b : ℕ). applied b c.read_set.new.rows c.args.batch.now) bound ∙ is) (c.read_set.ensures.polls ∙ c.look.ensures.polls) in
+    let settles = renewed_so c.args.self.now c.args.spare.now c.args.seat.now c.requires.own c.requires.rests c.args.key c.args.batch.now (slot_of c.look.result) c.read_set.new.rows c.read_set.new.seat through c.in-Ok.new_rows (ap (λ (b : ℕ). applied b c.read_set.new.rows c.args.batch.now) bound ∙ is) (ap (λ (m : Marks). m.polls) c.read_set.ensures.marks ∙ c.look.ensures.polls) in
     let told = lacks_so c.args.self.now c.args.spare.now c.args.seat.now (rests_here c.args.self.now c.args.spare.now c.args.seat.now c.requires.own c.requires.rests) (2 * length c.read_set.new.rows + 2) (writer.Update c.args.key c.args.batch.now) c.in-Ok.new_rows c.read_set.new.seat c.publish.new.seat settles.1 c.publish.new.spare c.in-Err.counts c.in-Err.ensures in
     record { rests = rests_own c.args.self.now c.publish.new.spare c.publish.new.seat told.0; updates = (c.read_set.new.rows, c.in-Ok.new_rows, is, told.1) }
 
 pub returns : goal.returns
 returns c = let bound : c.args.self.now.shape.bound ≡ MAX_ROWS = ap (λ (t : Table). t.shape.bound) (sym c.self.view_is) ∙ c.self.invariant in let through = read_through c.args.self.now c.args.spare.now (writer.Update c.args.key c.args.batch.now) (slot_of c.look.result) c.args.seat.now c.look.new.seat c.read_set.new.seat (look_goes c.self.inside.board c.args.self.now c.self.view_is c.args.spare.now c.args.seat.now c.requires.own c.requires.rests (writer.Update c.args.key c.args.batch.now) c.look.result c.look.new.seat c.look.ensures.leads (desk_with c.args.spare.now (Reading (writer.Update c.args.key c.args.batch.now) (slot_of c.look.result) []), Going) (update_reads c.args.self.now.shape (desk_with c.args.spare.now Idle) c.args.key c.look.result c.args.batch.now (is_full c.parts-found.result c.look.result c.parts-found.ensures.parts c.if-not-found.false))) c.read_set.new.rows c.read_set.ensures.leads in
     let is : applied MAX_ROWS c.read_set.new.rows c.args.batch.now ≡ Ok c.in-Ok.new_rows = sym c.applied.ensures ∙ c.in-Ok.is in
-    let settles = renewed_so c.args.self.now c.args.spare.now c.args.seat.now c.requires.own c.requires.rests c.args.key c.args.batch.now (slot_of c.look.result) c.read_set.new.rows c.read_set.new.seat through c.in-Ok.new_rows (ap (λ (b : ℕ). applied b c.read_set.new.rows c.args.batch.now) bound ∙ is) (c.read_set.ensures.polls ∙ c.look.ensures.polls) in
+    let settles = renewed_so c.args.self.now c.args.spare.now c.args.seat.now c.requires.own c.requires.rests c.args.key c.args.batch.now (slot_of c.look.result) c.read_set.new.rows c.read_set.new.seat through c.in-Ok.new_rows (ap (λ (b : ℕ). applied b c.read_set.new.rows c.args.batch.now) bound ∙ is) (ap (λ (m : Marks). m.polls) c.read_set.ensures.marks ∙ c.look.ensures.polls) in
     let told = publishes_so c.args.self.now c.args.spare.now c.args.seat.now (rests_here c.args.self.now c.args.spare.now c.args.seat.now c.requires.own c.requires.rests) (2 * length c.read_set.new.rows + 2) (writer.Update c.args.key c.args.batch.now) c.in-Ok.new_rows c.read_set.new.seat c.publish.new.seat settles.1 c.publish.new.spare c.in_default.ensures in
     record { rests = rests_own c.args.self.now c.publish.new.spare c.publish.new.seat told.0; updates = (c.read_set.new.rows, c.in-Ok.new_rows, is, told.1) }

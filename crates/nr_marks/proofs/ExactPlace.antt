@@ -1,0 +1,59 @@
+-- The exact place of a no-slot, and the slot bound, for whoever has all tokens in one hand and gathers every reader after each call.
+use Rattle.std.proofs.Common.{List, [], ap, arith, get_or, subst, sym, ℕ, ⊎_elim, ◌<◌, ◌∙◌, ◌≡◌, ◌≤◌}
+use Rattle.std.proofs.lemmas.List.Sums.{count_by-le-length}
+use lib.ListN.{get_elem?}
+use mathlib.Core.Option.{some, some-ne-none}
+use Rattle.nr_model.specs.Histories.{Entry}
+use Rattle.nr_model.specs.Maps.{filled_count, is_filled}
+use Rattle.nr_core.proofs.Histories.{length-now}
+use Rattle.nr_core.proofs.Sums.{at_snoc}
+use Rattle.nr_core.specs.Story.{map_after}
+use Rattle.nr_core.specs.declared.places.Retired.{Retired}
+use Rattle.nr_core.specs.declared.shape.Shape.{Shape}
+use Rattle.nr_marks.specs.Puts.{put_count}
+use Rattle.nr_marks.specs.Marks.{Past, past}
+use Rattle.nr_marks.specs.PollNotes.{Missed, Noted}
+use Rattle.nr_marks.specs.Pasts.{Current}
+use Rattle.nr_marks.specs.Exact.{pins}
+use Rattle.nr_marks.specs.MarkLaws.{DoneIsExact, GatheredIsKnown, NoRoomIsRare, NoSlotIsExact}
+use Rattle.nr_marks.proofs.ByHistory.{strays_by_history}
+use Rattle.nr_marks.proofs.Strays.{Still, all_strays, one_not_stray, strays_most}
+
+-- the polls of a call, from its look on
+pub noted_none : (shape : Shape) (known : List Past) → Noted shape known []
+noted_none shape known = record { newer = λ at place poll old e. absurd (some-ne-none poll (sym e)); range = λ at poll e. absurd (some-ne-none poll (sym e)) }
+
+pub noted_more : (shape : Shape) (known polls : List Past) (slot : ℕ) (now : List Past) → Noted shape known polls → Missed shape known polls slot now → Noted shape known now
+noted_more shape known polls slot now noted missed = record {
+  newer = λ at place poll old e there same. ⊎_elim (λ (z : get_elem? polls at ≡ some poll). noted.newer at place poll old z there same)
+      (λ (z : missed.note ≡ poll). subst (λ (b : Past). old.count ≤ b.count) z (missed.newer place old there (same ∙ ap (λ (b : Past). b.reader) (sym z)))) (at_snoc polls missed.note poll at (ap (λ l. get_elem? l at) (sym missed.more) ∙ e));
+  range = λ at poll e. ⊎_elim (λ (z : get_elem? polls at ≡ some poll). noted.range at poll z)
+      (λ (z : missed.note ≡ poll). subst (λ (b : Past). (0 < b.reader) × (b.reader ≤ shape.readers)) z missed.range) (at_snoc polls missed.note poll at (ap (λ l. get_elem? l at) (sym missed.more) ∙ e));
+}
+
+-- Where every reader was gathered before the call and again after it, with no act in between, a no-slot comes only where the filled keys and the strays are all slots.
+pub no_slot_is_exact_lem : NoSlotIsExact
+no_slot_is_exact_lem shape desk marks log known readers all before noted held lists current sum =
+    let still : Still marks.polls readers = λ i poll e. let range = noted.range i poll e in let c = all poll.reader range.0 range.1 in let b = before c.0 c.1 c.2 in (c.0, c.1, c.2, c.3, noted.newer i b.0 poll c.1 e b.1 c.3) in
+    let a = all_strays desk.retired marks (put_count log) readers lists.tidy current held still in let h = strays_by_history desk marks shape log (pins readers) lists in omega arith
+
+-- A fill or an update that is done comes only where they are fewer.
+pub done_is_exact_lem : DoneIsExact
+done_is_exact_lem shape desk after marks now log readers lists free before current took =
+    let sum = lists.slots free in let room = lists.room in let h = strays_by_history desk marks shape log (pins readers) lists in ⊎_elim
+    (λ (l : desk.fresh < shape.slots). let a = strays_most desk.retired marks (put_count log) readers lists.tidy before in omega arith)
+    (λ (t : (at : ℕ) × (entry : Retired) × (get_elem? desk.retired at ≡ some entry) × (put_count log ≤ get_or now.puts entry.slot 0)). let a = one_not_stray desk.retired marks (put_count log) readers lists.tidy before after now t.0 t.1 current t.2 t.3 in omega arith) took
+
+filled_few : (shape : Shape) (log : List Entry) → filled_count (map_after shape log) ≤ shape.keys
+filled_few shape log = let n = length-now shape log in let c = count_by-le-length is_filled (map_after shape log).states in omega arith
+
+-- no more slots are retired than there are readers, so some slot is to be had where there are more than keys and readers
+pub no_room_is_rare_lem : NoRoomIsRare
+no_room_is_rare_lem shape call retired polls log none = let f = filled_few shape log in let s = none.slots in let few = none.few in let many = none.held.many in (omega arith, λ enough. absurd (omega arith))
+
+-- The writer was told of a reader as it is, and learnt; then the reader was told what the writer learnt.
+pub gathered_is_known_lem : GatheredIsKnown
+gathered_is_known_lem retired marks told news heard reader grip mine at is fresh hears compared =
+    let n = fresh.newer at (past reader grip mine) is in let p : Past = n.0 in let cur = fresh.current at p n.1 in let h = hears at p n.1 in let e = compared h.0 p h.1 n.2 in
+    let le = e.0 in let le' = n.3 in let count : p.count ≡ mine.acts = omega arith in let f = e.1 (sym count) in
+    let same : p ≡ past reader grip mine = λ i. record { reader = n.2 i; count = count i; slot = sym f.0 i; put = sym f.1 i } in (n.1 ∙ ap some same, subst (Current retired marks) same cur)

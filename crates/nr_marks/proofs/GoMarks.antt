@@ -1,0 +1,46 @@
+-- The writer's next step from its place, whichever kind it is, and its marks.
+use Rattle.std.proofs.Common.{Bool, List, cond, false, get_or, length, refl, true, ℕ, ◌*◌, ◌+◌, ◌≡◌}
+use Rattle.std.specs.Prelude.{None, nat_le}
+use Rattle.nr_words.specs.SetWords.{encode}
+use Rattle.nr_core.specs.Operations.{Operation, Store, Swap, going}
+use Rattle.nr_core.specs.Refusals.{if_not_busy}
+use Rattle.nr_core.specs.Slots.{content, naming}
+use Rattle.nr_core.specs.States.{key_of}
+use Rattle.nr_core.specs.Steps.{Goes}
+use Rattle.nr_core.specs.Story.{call_of, ending}
+use Rattle.nr_core.specs.Writer.{ended, moved_to, swapped}
+use Rattle.nr_core.specs.declared.calls.Step.{Step}
+use Rattle.nr_core.specs.declared.calls.Step.TheVariants.{Going}
+use Rattle.nr_core.specs.declared.places.Place.{Place}
+use Rattle.nr_core.specs.declared.places.Place.TheVariants.{Idle, Leaving, Putting, Reading, Searching}
+use Rattle.nr_core.specs.declared.roles.Desk.{Desk}
+use Rattle.nr_core.specs.declared.roles.Role.{Role}
+use Rattle.nr_core.specs.declared.roles.Role.TheVariants.{Writer}
+use Rattle.nr_core.specs.declared.shape.Shape.{Shape}
+use Rattle.nr_model.specs.declared.calls.Reply.TheVariants as reply
+use Rattle.nr_core.proofs.Guards.{no_some}
+use Rattle.nr_marks.specs.Marks.{Marks, Past}
+use Rattle.nr_marks.specs.Marked.{CanMark}
+use Rattle.nr_marks.specs.MarkSteps.{GoesMarks, PutsMarks, went_marks}
+use Rattle.nr_marks.proofs.PollMarks.{polls_marked}
+use Rattle.nr_marks.proofs.SwapMarks.{publishes_marked, puts_marked, unpublishes_marked}
+use Rattle.nr_marks.proofs.DeskMarks.{Went}
+use Rattle.nr_marks.proofs.LookMarks.{reads_on_marked}
+
+module _ {A : Type 0} (role : A → Role) (marks : A → Marks) (shape : Shape) (id : ℕ) (me : A) (known : List Past) (desk : Desk) (was : role me ≡ Writer desk) where
+  goes_at : (place : Place) → desk.place ≡ place → if_not_busy place ≡ None → CanMark role marks shape id me known (going shape desk place) (Went shape desk place) (went_marks shape (marks me) known desk place)
+  goes_at Idle is_at busy = absurd (no_some _ _ refl busy)
+  goes_at (Reading call slot got) is_at busy = reads_on_marked role marks shape id me known desk call slot got is_at was
+  goes_at (Leaving k) is_at busy = unpublishes_marked role marks shape id me known desk k is_at was
+  goes_at (Searching call rows poll) is_at busy = polls_marked role marks shape id me known desk call rows poll is_at was
+  goes_at (Putting call rows slot departed at) is_at busy = put_on_marked (nat_le at (2 * length rows))
+    where
+      put_on_marked : (b : Bool) → CanMark role marks shape id me known (cond {A = Operation} b (Store (content shape slot at) (get_or (encode rows) at 0)) (Swap (key_of call) (naming slot departed)))
+          (λ word after entries. (after ≡ Writer (cond {A = Desk × Step} b (moved_to desk (Putting call rows slot departed (at + 1)), Going) (swapped desk word, ended reply.Done)).0)
+          × (entries ≡ ending (call_of call) (cond {A = Desk × Step} b (moved_to desk (Putting call rows slot departed (at + 1)), Going) (swapped desk word, ended reply.Done)).1))
+          (PutsMarks b (marks me) (key_of call) slot)
+      put_on_marked true = puts_marked role marks shape id me known desk call rows slot departed at was
+      put_on_marked false = publishes_marked role marks shape id me known desk call rows slot departed at is_at was
+
+  pub goes_marked : if_not_busy desk.place ≡ None → CanMark role marks shape id me known (going shape desk desk.place) (Goes shape desk) (GoesMarks shape (marks me) known desk)
+  goes_marked busy = goes_at desk.place refl busy

@@ -1,0 +1,9 @@
+pub mod Puts
+pub mod Strays
+pub mod Marks
+pub mod PollNotes
+pub mod Pasts
+pub mod Marked
+pub mod Exact
+pub mod MarkSteps
+pub mod MarkLaws

@@ -1,0 +1,86 @@
+-- What each kind of step tells of the marks.
+use Rattle.std.specs.Prelude.{◌≡◌, ℕ, suc, ◌+◌, ◌≤◌, List, [], ◌∷◌, ◌++◌, length, slice_index, ◌*◌, nat_le, Bool, true, false}
+use Rattle.nr_model.specs.Histories.{Entry}
+use Rattle.nr_core.specs.declared.shape.Shape.{Shape}
+use Rattle.nr_core.specs.declared.calls.WriterCall.{WriterCall}
+use Rattle.nr_core.specs.declared.roles.Grip.{Grip}
+use Rattle.nr_core.specs.declared.roles.Desk.{Desk}
+use Rattle.nr_core.specs.declared.places.Place.{Place}
+use Rattle.nr_core.specs.declared.places.Place.TheVariants.{Idle, Reading, Leaving, Searching, Putting}
+use Rattle.nr_core.specs.declared.calls.NoSlot.{NoSlot}
+use Rattle.nr_core.specs.declared.calls.Step.{Step}
+use Rattle.nr_core.specs.declared.calls.Step.TheVariants.{Ended}
+use Rattle.nr_words.specs.KeyWords.{same_count}
+use Rattle.nr_core.specs.States.{retired_at, key_of}
+use Rattle.nr_core.specs.Writer.{looked, read_on}
+use Rattle.nr_core.specs.declared.calls.WReply.TheVariants as writer
+use Rattle.nr_marks.specs.Puts.{put_count, put_number}
+use Rattle.nr_marks.specs.Marks.{Past, Marks, acted, with_polls, with_name, without_name}
+use Rattle.nr_marks.specs.PollNotes.{NoRoom, Missed}
+use Rattle.nr_marks.specs.Pasts.{Refreshed, Compared}
+use Rattle.nr_marks.specs.Marked.{MarkTelling}
+use Rattle.nr_marks.specs.Exact.{Lists}
+
+-- the step ends the call with no slot
+abbrev pub IsNoSlot : Step → Type 0
+IsNoSlot step = (counts : NoSlot) × (step ≡ Ended (writer.NoSlot counts))
+
+-- a request, a read of a hold and a put leave the marks
+abbrev pub KeepsMarks : Marks → MarkTelling
+KeepsMarks marks word after log now news = (now ≡ marks) × (news ≡ [])
+
+-- an arrive's hold has the key's put number
+abbrev pub ArrivesMarks : Marks → ℕ → MarkTelling
+ArrivesMarks marks at word after log now news = (now ≡ acted marks (put_number log at)) × (news ≡ [])
+
+abbrev pub DepartsMarks : Marks → MarkTelling
+DepartsMarks marks word after log now news = (now ≡ acted marks marks.put) × (news ≡ [])
+
+-- a look begins the list of polls anew
+abbrev pub LooksMarks : Shape → Marks → Desk → WriterCall → MarkTelling
+LooksMarks shape marks desk call word after log now news =
+    (now ≡ with_polls marks []) × (news ≡ []) × (IsNoSlot (looked shape desk call word).1 → NoRoom shape call desk.retired [] log)
+
+abbrev pub ReadsOnMarks : Shape → Marks → Desk → WriterCall → ℕ → List ℕ → MarkTelling
+ReadsOnMarks shape marks desk call slot got word after log now news =
+    (now ≡ marks) × (news ≡ []) × (IsNoSlot (read_on shape desk call slot (got ++ word ∷ [])).1 → NoRoom shape call desk.retired [] log)
+
+-- a poll that finds its slot free of readers leaves the marks; one that finds it held notes a reader that holds it, and the last such one leaves no room
+abbrev pub PollTells : Bool → Shape → Marks → List Past → Desk → WriterCall → ℕ → List Entry → Marks → Type 0
+PollTells true shape marks known desk call poll log now = now ≡ marks
+PollTells false shape marks known desk call poll log now =
+    (now ≡ with_polls marks now.polls) × Missed shape known marks.polls (retired_at desk poll).slot now.polls × (length desk.retired ≤ poll + 1 → NoRoom shape call desk.retired now.polls log)
+
+abbrev pub PollsMarks : Shape → Marks → List Past → Desk → WriterCall → ℕ → MarkTelling
+PollsMarks shape marks known desk call poll word after log now news = (news ≡ []) × PollTells (same_count word (retired_at desk poll).arrivals) shape marks known desk call poll log now
+
+-- a publish gives the slot the next put number
+abbrev pub PublishesMarks : Marks → ℕ → ℕ → MarkTelling
+PublishesMarks marks at slot word after log now news = (number : ℕ) × (put_count log ≡ suc number) × (slice_index now.puts slot ≡ number) × (now ≡ with_name marks at slot number) × (news ≡ [])
+
+-- a put, or after the last put the publish
+abbrev pub PutsMarks : Bool → Marks → ℕ → ℕ → MarkTelling
+PutsMarks true marks at slot = KeepsMarks marks
+PutsMarks false marks at slot = PublishesMarks marks at slot
+
+abbrev pub UnpublishesMarks : Marks → ℕ → MarkTelling
+UnpublishesMarks marks at word after log now news = (now ≡ without_name marks at) × (news ≡ [])
+
+-- the writer's later steps, by its place
+abbrev pub went_marks : Shape → Marks → List Past → Desk → Place → MarkTelling
+went_marks shape marks known desk Idle = KeepsMarks marks
+went_marks shape marks known desk (Reading call slot got) = ReadsOnMarks shape marks desk call slot got
+went_marks shape marks known desk (Leaving at) = UnpublishesMarks marks at
+went_marks shape marks known desk (Searching call rows poll) = PollsMarks shape marks known desk call poll
+went_marks shape marks known desk (Putting call rows slot departed index) = PutsMarks (nat_le index (2 * length rows)) marks (key_of call) slot
+
+abbrev pub GoesMarks : Shape → Marks → List Past → Desk → MarkTelling
+GoesMarks shape marks known desk = went_marks shape marks known desk desk.place
+
+-- the writer learns how the readers are that it was told of, and what its lists say of the history so far
+abbrev pub WriterLearns : Shape → Marks → Desk → List Past → MarkTelling
+WriterLearns shape marks desk told word after log now news = (now ≡ marks) × Refreshed desk.retired marks told news × Lists desk marks shape log
+
+-- a reader compares itself with what it was told of itself
+abbrev pub ReaderLearns : ℕ → Grip → Marks → List Past → MarkTelling
+ReaderLearns reader grip marks told word after log now news = (now ≡ marks) × (news ≡ []) × Compared reader grip marks told

@@ -1,0 +1,62 @@
+-- Marks, which contracts alone see beside a caller's role: a reader's count of acts and the put number of its hold; the writer's names, put numbers and polls.
+use Rattle.std.specs.Prelude.{ℕ, suc, List, [], ◌∷◌, slice_set, Option, Some, None, replicate}
+use Rattle.nr_core.specs.declared.shape.Shape.{Shape}
+use Rattle.nr_core.specs.declared.roles.Role.{Role}
+use Rattle.nr_core.specs.declared.roles.Role.TheVariants.{Writer, Reader, Note}
+use Rattle.nr_core.specs.declared.roles.Grip.{Grip}
+use Rattle.nr_core.specs.declared.roles.Grip.TheVariants.{Nothing, On}
+
+-- a reader as it was once: how many arrives and departs it had made, the slot that it held, and the put number of the set there
+pub record Past : Type 0 where
+  pub reader : ℕ
+  pub count : ℕ
+  pub slot : Option ℕ
+  pub put : ℕ
+
+-- a reader has the first two, the writer the others
+pub record Marks : Type 0 where
+  -- its arrives and departs, and the put number of the set that it holds
+  pub acts : ℕ
+  pub put : ℕ
+  -- for each key 0, or one more than the slot that it names
+  pub names : List ℕ
+  -- for each slot the put number of the set that was put into it last
+  pub puts : List ℕ
+  -- the polls of this call that found their slots held
+  pub polls : List Past
+
+-- the slot that a reader holds
+abbrev pub gripped : Grip → Option ℕ
+gripped Nothing = None
+gripped (On slot rows sized) = Some slot
+
+-- how a reader is
+abbrev pub past : ℕ → Grip → Marks → Past
+past reader grip marks = record { reader = reader; count = marks.acts; slot = gripped grip; put = marks.put }
+
+-- the writer's marks at the opening: no key names a slot; who has no marks yet
+abbrev pub opening_marks : Shape → Marks
+opening_marks shape = record { acts = 0; put = 0; names = replicate shape.keys 0; puts = replicate shape.slots 0; polls = [] }
+
+abbrev pub no_marks : Marks
+no_marks = record { acts = 0; put = 0; names = []; puts = []; polls = [] }
+
+-- what a note tells of readers: a reader's of itself, the writer's all that it knows
+abbrev pub told_by : Role → Marks → List Past → List Past
+told_by (Writer desk) marks pasts = pasts
+told_by (Reader reader grip) marks pasts = past reader grip marks ∷ []
+told_by Note marks pasts = []
+
+-- one act more, after which the hold has that put number
+abbrev pub acted : Marks → ℕ → Marks
+acted marks put = record marks { acts = suc marks.acts; put = put }
+
+abbrev pub with_polls : Marks → List Past → Marks
+with_polls marks polls = record marks { polls = polls }
+
+-- the key names the slot, into which the set of that number was put
+abbrev pub with_name : Marks → ℕ → ℕ → ℕ → Marks
+with_name marks key slot number = record marks { names = slice_set marks.names key (suc slot); puts = slice_set marks.puts slot number }
+
+abbrev pub without_name : Marks → ℕ → Marks
+without_name marks key = record marks { names = slice_set marks.names key 0 }
