@@ -1,5 +1,16 @@
 //! The running map: readers look keys up without a lock, each in a thread of its own, while one
 //! writer fills, updates and evicts them.
+//!
+//! A key has one word: whether it was asked for, whether it is filled, the slot of its set, and how
+//! many readers have arrived. A slot has a word that counts departures, and the words of one set.
+//! A reader arrives by adding to the key's word, which tells it the slot; it may read that slot
+//! until it adds to the slot's departures. The writer puts a set into a slot that nobody holds and
+//! then swaps the key's word, whose arrivals it makes the slot's departures; the slot that the word
+//! named before is retired with the arrivals that it had, and is free once its departures are as
+//! many.
+//!
+//! Each step of a call is one operation on one word, and each call is one entry of one history that
+//! all callers share, at the step that decides its answer.
 #![tactic(auto)]
 
 mod answers;
@@ -24,9 +35,9 @@ mod writer;
 mod writer_calls;
 
 pub use answers::{Asked, Evict, FillFault, Found, KeyKind, UpdateFault};
-pub use nr_core::NoSlot;
+pub use nr_core::{MAX_READERS, MAX_SLOTS, NoSlot};
 pub use pin::Pin;
 pub use reader::Reader;
-pub use reader_map::{MAX_READERS, MAX_SLOTS, ReaderMap};
+pub use reader_map::ReaderMap;
 pub use ticket::Ticket;
 pub use writer::Writer;

@@ -1,23 +1,17 @@
 //! The map.
-ghost use Rattle.std.specs.Prelude.{◌≡◌, ◌<◌, ◌⊎◌, ◌↔◌, [], IfOk, Err};
+ghost use Rattle.std.specs.Prelude.{◌≡◌, ◌<◌, ◌⊎◌, ◌↔◌, [], IfOk, IsTrue, Err};
 ghost use Rattle.nr_model.specs.declared.rows.TheConstants.{MAX_ROWS};
 ghost use Rattle.nr_model.specs.declared.seq_map.TheConstants.{MAX_KEYS};
-ghost use Rattle.nr_core.specs.Sizes.{IsShape};
+ghost use Rattle.nr_core.specs.Sizes.{IsShape, IsBadSize};
 ghost use Rattle.nr_map.specs.Opened.{IsOpened, Seated};
 
 use crate::board::{Board, Seat};
 use crate::reader::Reader;
 use crate::writer::Writer;
-use nr_core::Shape;
+use nr_core::{MAX_READERS, MAX_SLOTS, Shape};
 use nr_model::{MAX_KEYS, MAX_ROWS, OpenFault};
 use std::alloc::{AllocError, Global};
 use std::marker::Model;
-
-/// The largest number of slots of a map.
-pub const MAX_SLOTS: u32 = 131_072;
-
-/// The largest number of readers of a map.
-pub const MAX_READERS: u32 = 1024;
 
 /// A map of key numbers to row sets, shared by a writer and readers, each with a token of its own.
 #[derive(Drop)]
@@ -48,16 +42,13 @@ impl ReaderMap {
         readers: u32,
         first_count: u64,
     ) -> Result<(ReaderMap, Writer, Vec<Reader>), OpenFault>
-        ensures bad_size { (result ≡ Err OpenFault.BadSize) ↔ ((keys ≡ 0) ⊎ (MAX_KEYS < keys) ⊎ (slots ≡ 0) ⊎ (MAX_SLOTS < slots) ⊎ (readers ≡ 0) ⊎ (MAX_READERS < readers)) }
+        ensures bad_size { (result ≡ Err OpenFault.BadSize) ↔ (IsBadSize MAX_KEYS keys ⊎ IsBadSize MAX_SLOTS slots ⊎ IsBadSize MAX_READERS readers) }
         ensures ok { IfOk result (λ opened. IsOpened (record { keys = keys; slots = slots; readers = readers; bound = MAX_ROWS; first = first_count }) opened.0 opened.1 opened.2.items) }
     {
-        if keys == 0 || keys > MAX_KEYS {
-            return Err(OpenFault::BadSize);
-        }
-        if slots == 0 || slots > MAX_SLOTS {
-            return Err(OpenFault::BadSize);
-        }
-        if readers == 0 || readers > MAX_READERS {
+        if is_bad_size(MAX_KEYS, keys)
+            || is_bad_size(MAX_SLOTS, slots)
+            || is_bad_size(MAX_READERS, readers)
+        {
             return Err(OpenFault::BadSize);
         }
         let shape = Shape {
@@ -90,6 +81,12 @@ impl ReaderMap {
     {
         self.board.shape().readers
     }
+}
+
+fn is_bad_size(limit: u32, size: u32) -> bool
+    ensures { IsTrue result ↔ IsBadSize limit size }
+{
+    size == 0 || size > limit
 }
 
 // A map of those sizes, with its tokens.
