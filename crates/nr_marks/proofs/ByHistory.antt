@@ -13,7 +13,7 @@ use Rattle.nr_core.specs.Sums.{below, only, total}
 use Rattle.nr_core.specs.declared.roles.Desk.{Desk}
 use Rattle.nr_core.specs.declared.shape.Shape.{Shape}
 use Rattle.nr_marks.specs.Puts.{put_number}
-use Rattle.nr_marks.specs.Strays.{keyed, strays}
+use Rattle.nr_model.specs.Strays.{keyed, strays}
 use Rattle.nr_marks.specs.Marks.{Marks}
 use Rattle.nr_marks.specs.Exact.{Lists, filled_puts, named_puts}
 use Rattle.nr_marks.proofs.HowOften.{how_often, stray_count, strays_count}

@@ -2,7 +2,7 @@
 use Rattle.std.proofs.Common.{List, [], ap, arith, cond, nat_eq, refl, ℕ, ◌+◌, ◌∷◌, ◌≡◌}
 use Rattle.nr_model.proofs.HistoryLemmas.{count_by-cons}
 use Rattle.nr_core.specs.Sums.{only, total}
-use Rattle.nr_marks.specs.Strays.{count_of, strays}
+use Rattle.nr_model.specs.Strays.{count_of, strays}
 
 abbrev pub how_often : ℕ → List ℕ → ℕ
 how_often number numbers = total (only number) numbers

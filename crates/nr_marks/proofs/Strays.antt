@@ -9,7 +9,7 @@ use native.Mathlib.Decide.{ℕ_discrete}
 use Rattle.nr_core.proofs.Sums.{only-is, only-other, only-same, some_term, term_le}
 use Rattle.nr_core.specs.Sums.{only, total}
 use Rattle.nr_core.specs.declared.places.Retired.{Retired}
-use Rattle.nr_marks.specs.Strays.{strays}
+use Rattle.nr_model.specs.Strays.{strays}
 use Rattle.nr_marks.specs.Marks.{Marks, Past}
 use Rattle.nr_marks.specs.PollNotes.{AllHeld}
 use Rattle.nr_marks.specs.Pasts.{AllCurrent, Living}

@@ -11,7 +11,7 @@ use Rattle.nr_core.specs.Roles.{taken}
 use Rattle.nr_core.specs.Story.{map_after}
 use Rattle.std.specs.List.{filter_map, range_with_len}
 use Rattle.nr_marks.specs.Puts.{put_count, put_number}
-use Rattle.nr_marks.specs.Strays.{keyed, count_of}
+use Rattle.nr_model.specs.Strays.{keyed, count_of}
 use Rattle.nr_marks.specs.Marks.{Past, Marks}
 use Rattle.nr_marks.specs.Pasts.{Living}
 

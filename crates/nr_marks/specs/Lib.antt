@@ -1,5 +1,4 @@
 pub mod Puts
-pub mod Strays
 pub mod Marks
 pub mod PollNotes
 pub mod Pasts

@@ -11,7 +11,7 @@ use Rattle.nr_core.specs.declared.roles.Desk.{Desk}
 use Rattle.nr_core.specs.declared.roles.Grip.{Grip}
 use Rattle.nr_core.specs.Roles.{taken}
 use Rattle.nr_core.specs.Story.{map_after}
-use Rattle.nr_marks.specs.Strays.{strays}
+use Rattle.nr_model.specs.Strays.{strays}
 use Rattle.nr_marks.specs.Marks.{Marks, Past, past}
 use Rattle.nr_marks.specs.PollNotes.{AllHeld, NoRoom, Noted}
 use Rattle.nr_marks.specs.Pasts.{AllCurrent, AllKnown, AllReaders, Compared, Current, Refreshed}

@@ -8,7 +8,7 @@ use Rattle.nr_model.specs.Maps.{is_filled}
 use Rattle.nr_model.proofs.HistoryLemmas.{one, count_by-cons}
 use Rattle.nr_prog.specs.declared.pin.Pin.{Pin}
 use Rattle.nr_prog.specs.Script.{pinned, pin_has_put}
-use Rattle.nr_prog.specs.Strays.{keyed, count_of, one_if_none, one_if_some, strays}
+use Rattle.nr_model.specs.Strays.{keyed, count_of, one_if_none, one_if_some, strays}
 
 pub count_of-cons : (put other : ℕ) (puts : List ℕ) → count_of (other ∷ puts) put ≡ one (other == put) + count_of puts put
 count_of-cons put other puts = count_by-cons (λ p. p == put) other puts

@@ -24,7 +24,7 @@ use Rattle.nr_prog.specs.declared.pin.Pin.{Pin}
 use Rattle.nr_core.specs.declared.shape.TheConstants.{MAX_READERS}
 use Rattle.nr_prog.specs.Counted.{IsCounted, HasPut, NamesFit}
 use Rattle.nr_prog.specs.Script.{pinned}
-use Rattle.nr_prog.specs.Strays.{keyed, count_of, one_if_none, one_if_some}
+use Rattle.nr_model.specs.Strays.{keyed, count_of, one_if_none, one_if_some}
 use Rattle.nr_prog.proofs.CountLemmas.{keyed-set, own, one_same, one_other, pinned-set, pins_put, strays_same, strays_leave, strays_pin, strays_unpin, strays-le-length, pinned-le-length}
 
 -- whether the key is filled after a call, by the reply and whether it was before

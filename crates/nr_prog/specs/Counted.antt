@@ -8,7 +8,7 @@ use Rattle.nr_prog.specs.declared.keys.Keys.TheVariants as kinds
 use Rattle.nr_prog.specs.declared.pin.Pin.{Pin}
 use Rattle.nr_core.specs.declared.shape.TheConstants.{MAX_READERS}
 use Rattle.nr_prog.specs.Script.{pinned}
-use Rattle.nr_prog.specs.Strays.{keyed, count_of, strays}
+use Rattle.nr_model.specs.Strays.{keyed, count_of, strays}
 
 -- the key is filled with the set of that put number
 pub record HasPut (map : PartialMap) (puts : List ℕ) (key put : ℕ) : Type 0 where

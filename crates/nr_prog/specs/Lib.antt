@@ -14,6 +14,5 @@ pub mod Script
 pub mod ScriptMachine
 pub mod Spelling
 pub mod StepSpelling
-pub mod Strays
 pub mod Text
 pub mod Words

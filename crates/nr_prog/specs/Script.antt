@@ -31,7 +31,7 @@ use Rattle.nr_prog.specs.Grammar.{words, number}
 use Rattle.nr_prog.specs.declared.opening.Opening.{Opening}
 use Rattle.nr_prog.specs.Opening.{is_in_limits}
 use Rattle.nr_prog.specs.Spelling.{spelled}
-use Rattle.nr_prog.specs.Strays.{keyed, strays}
+use Rattle.nr_model.specs.Strays.{keyed, strays}
 use Rattle.nr_prog.specs.Text.{text}
 
 -- a script that was opened

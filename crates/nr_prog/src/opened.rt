@@ -4,7 +4,7 @@ ghost use Rattle.std.specs.List.{list_any};
 ghost use Rattle.nr_model.specs.Maps.{is_filled, key_count, key_of, reply_to, state_of};
 ghost use Rattle.nr_model.specs.Histories.{is_done};
 ghost use Rattle.nr_prog.specs.Script.{answer_opened, answer_call, answer_pin, is_full, has_reader, found_reader, found_key, found_by_reader, found_set, found_no_pin, found_pin, with_found, without_pin, with_pin, pins_after, pinned, pin_has_put};
-ghost use Rattle.nr_prog.specs.Strays.{keyed, count_of, one_if_none, one_if_some};
+ghost use Rattle.nr_model.specs.Strays.{keyed, count_of, one_if_none, one_if_some};
 
 use crate::answer::{Answer, Refusal};
 use crate::command::{Command, KeyWord};

@@ -1,6 +1,6 @@
 use Rattle.std.proofs.Common.{sym, ap, ◌∙◌}
 use Rattle.nr_prog.specs.Script.{pinned}
-use Rattle.nr_prog.specs.Strays.{count_of, one_if_none}
+use Rattle.nr_model.specs.Strays.{count_of, one_if_none}
 use Rattle.nr_prog.proofs.CountLemmas.{one_if_none-some, pinned_some, pinned_not}
 use Rattle.nr_prog.proofs.opened.strays_ended.Goals as goal
 

@@ -1,7 +1,7 @@
 use Rattle.std.proofs.Common.{◌≡◌, sym, ap, ◌∙◌, arith}
 use Rattle.nr_model.specs.Maps.{is_filled, state_of}
 use Rattle.nr_prog.specs.Script.{pinned}
-use Rattle.nr_prog.specs.Strays.{count_of}
+use Rattle.nr_model.specs.Strays.{count_of}
 use Rattle.nr_prog.proofs.CountLemmas.{one_of_both}
 use Rattle.nr_prog.proofs.CountedLemmas.{few_strays, fill_keeps, update_keeps, evict_keeps, other_keeps, names_stay}
 use Rattle.nr_prog.proofs.opened.Opened.call.Goals as goal

@@ -1,6 +1,6 @@
 use Rattle.std.proofs.Common.{◌≡◌, ◌-◌, ◌+◌, ◌<◌, length, set, None, ◌∙◌, arith}
 use Rattle.nr_prog.specs.Script.{pinned}
-use Rattle.nr_prog.specs.Strays.{keyed, count_of, one_if_none}
+use Rattle.nr_model.specs.Strays.{keyed, count_of, one_if_none}
 use Rattle.nr_prog.proofs.CountLemmas.{ended}
 use Rattle.nr_prog.proofs.CountedLemmas.{counted_unpin, some_end}
 use Rattle.nr_prog.proofs.opened.Opened.unpin.Goals as goal
