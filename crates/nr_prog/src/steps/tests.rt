@@ -333,6 +333,25 @@ fn a_full_output_ends_the_run(rt: HostRuntime) {
     assert_eq!(rt; room.as_slice(), b"ok\nse".as_slice());
 }
 
+// Passes as well where any one request for memory is refused (`rt try --test --fail-alloc N`).
+#[test]
+fn want_of_memory_ends_the_run(rt: HostRuntime) {
+    let text: &[u8] = b"ok\nsend\nnot-holding\nout-of-range\n";
+    for _ in 0..2 {
+        let mut reader: &[u8] = b"open 2 3 1\nask 1 1\nread 1 0\nwriter evict 2\n";
+        let mut room = [0u8; 64];
+        let mut writer = room.as_mut_slice();
+        let ended = run_steps(rt.alloc(), &mut reader, &mut writer);
+        let written = room.split(|b| *b == 0).next().unwrap_or(b"");
+        if ended.is_ok() {
+            assert_eq!(rt; written, text);
+        } else {
+            assert_eq!(rt; ended, Err(RunFault::Memory));
+            assert!(rt; text.starts_with(written));
+        }
+    }
+}
+
 #[test]
 fn the_program_runs_a_schedule(rt: HostRuntime) -> Result<(), Fail> {
     let mut args = Vec::new(rt.alloc());
