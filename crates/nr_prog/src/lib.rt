@@ -1,6 +1,6 @@
-//! Scripts: lines of commands on a reader map, answered one by one from any reader to any writer.
-//! A text is said by definitions over the sequential model; one loop runs whatever answers lines,
-//! and says what was written also where a read, a write or memory fails.
+//! Scripts and schedules: lines answered one by one from any reader to any writer, by a sequential
+//! map or by the step machine. A text is said by definitions over their models; one loop runs
+//! whatever answers lines, and says what was written also where a read, a write or memory fails.
 #![tactic(auto)]
 
 mod answer;
