@@ -1,5 +1,5 @@
 -- After rounds of gathers the writer's history is that of all callers.
-use Rattle.std.proofs.Common.{◌≡◌, ◌≢◌, ℕ, zero, suc, ◌+◌, ◌<◌, ◌≤◌, Bool, true, false, ◌&&◌, cond, List, [], ◌∷◌, ◌++◌, All, length, refl, sym, ap, ◌∙◌, subst, arith, append_assoc, eq-eqb, ne_eqb, get_or, ⊎_elim}
+use Rattle.std.proofs.Common.{◌≡◌, ◌≢◌, ℕ, suc, ◌+◌, ◌<◌, ◌≤◌, Bool, ◌&&◌, cond, List, [], ◌∷◌, ◌++◌, length, refl, sym, ap, ◌∙◌, arith, append_assoc, eq-eqb, ne_eqb, get_or, ⊎_elim}
 use Rattle.std.specs.List.{count_by}
 use Rattle.std.proofs.lemmas.Bool.{cases_lt}
 use mathlib.Core.Logic.{dite}
@@ -7,11 +7,11 @@ use native.Mathlib.Decide.{ℕ_discrete}
 use Rattle.nr_model.proofs.HistoryLemmas.{count_by-cons, sends_are_filled_lem}
 use Rattle.nr_model.specs.Histories.{Entry, asks, entries_of, fills_key, is_done, is_send}
 use Rattle.nr_core.proofs.Histories.{of-append}
-use Rattle.nr_core.proofs.Sums.{below-change, below-first, below-same, below-zero}
+use Rattle.nr_core.proofs.Sums.{below-change, below-first, below-zero}
 use Rattle.nr_core.specs.Sums.{below, total}
 use Rattle.nr_map.proofs.Gathering.{just_calls}
 use Rattle.nr_map.specs.Callers.{Caller}
-use Rattle.nr_map.specs.Rounds.{CallsStay, EntriesAreCallers, KnowsAll, RoundsTellAll, SendsOfAll}
+use Rattle.nr_map.specs.Rounds.{CallsStay, EntriesAreCallers, RoundsTellAll, SendsOfAll}
 
 pub calls_stay_lem : CallsStay
 calls_stay_lem log later caller goes_on has = let his : List Entry → List Entry = λ l. entries_of l caller.number in record {

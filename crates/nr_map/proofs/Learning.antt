@@ -1,5 +1,5 @@
 -- A load that only learns.
-use Rattle.std.proofs.Common.{◌≡◌, ℕ, ◌%◌, ◌+◌, ◌<◌, Bool, true, false, cond, List, [], get_or, refl, sym, ap, ◌∙◌, arith, eq-eqb, ne_eqb, append_assoc, append-nil, subst, ◌++◌}
+use Rattle.std.proofs.Common.{◌≡◌, ℕ, ◌%◌, ◌<◌, Bool, true, false, cond, List, [], get_or, refl, sym, ap, ◌∙◌, arith, eq-eqb, ne_eqb, append-nil, subst, ◌++◌}
 use Rattle.atomic_table.specs.Table.{Allows, Me}
 use Rattle.nr_model.specs.Histories.{Entry, IsLegal, entries_of}
 use Rattle.nr_model.specs.Maps.{opening, state_of}
@@ -26,7 +26,7 @@ use Rattle.nr_map.proofs.Moves.{chosen, learned_fits, learned_next}
 use Rattle.nr_map.specs.Kinds.{kind_of, kind_shown}
 use Rattle.nr_map.specs.Learning.{Learned, LearnsOf}
 use Rattle.nr_map.specs.Notes.{IsCaller}
-use Rattle.nr_map.specs.Rule.{Kept, StartsWith, marks_of, role_of}
+use Rattle.nr_map.specs.Rule.{Kept, marks_of, role_of}
 use Rattle.nr_map.specs.Views.{View, desk_of, grip_of, number_of}
 use Rattle.nr_map.specs.declared.answers.KeyKind.{KeyKind}
 use Rattle.nr_map.specs.declared.answers.KeyKind.TheVariants as kind

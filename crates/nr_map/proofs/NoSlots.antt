@@ -7,9 +7,9 @@ use Rattle.nr_core.specs.declared.shape.Shape.{Shape}
 use Rattle.nr_marks.proofs.ExactPlace.{done_is_exact_lem, no_slot_is_exact_lem}
 use Rattle.nr_marks.specs.Exact.{Took}
 use Rattle.nr_marks.specs.Marks.{Marks, Past}
-use Rattle.nr_marks.specs.Pasts.{AllCurrent, AllReaders}
+use Rattle.nr_marks.specs.Pasts.{AllReaders}
 use Rattle.nr_marks.specs.PollNotes.{AllHeld, Noted}
-use Rattle.nr_map.specs.Callers.{Caller, Table}
+use Rattle.nr_map.specs.Callers.{Table}
 use Rattle.nr_map.specs.ExactPlaces.{DoneIsExact, NoSlotIsExact}
 use Rattle.nr_map.specs.Meetings.{desk_seen}
 

@@ -7,12 +7,10 @@ use Rattle.nr_model.specs.declared.calls.Reply.TheVariants as reply
 use Rattle.nr_words.specs.KeyWords.{same_count}
 use Rattle.nr_core.proofs.Choices.{by_cases}
 use Rattle.nr_core.specs.Roles.{retirements}
-use Rattle.nr_core.specs.States.{key_of, retired_at}
-use Rattle.nr_core.specs.Writer.{ended, looked, moved_to, no_slot, polls_on, swapped, taking_retired, went}
-use Rattle.nr_core.specs.declared.calls.NoSlot.{NoSlot}
+use Rattle.nr_core.specs.States.{retired_at}
+use Rattle.nr_core.specs.Writer.{ended, looked, moved_to, no_slot, swapped, taking_retired, went}
 use Rattle.nr_core.specs.declared.calls.Step.{Step}
-use Rattle.nr_core.specs.declared.calls.Step.TheVariants.{Ended, Going}
-use Rattle.nr_core.specs.declared.calls.WReply.TheVariants as writer
+use Rattle.nr_core.specs.declared.calls.Step.TheVariants.{Going}
 use Rattle.nr_core.specs.declared.calls.WriterCall.{WriterCall}
 use Rattle.nr_core.specs.declared.places.Place.{Place}
 use Rattle.nr_core.specs.declared.places.Place.TheVariants.{Idle, Leaving, Putting, Reading, Searching}

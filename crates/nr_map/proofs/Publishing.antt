@@ -1,15 +1,14 @@
 -- A set is put word by word, and published.
-use Rattle.std.proofs.Common.{◌≡◌, ℕ, zero, suc, ◌+◌, ◌*◌, ◌<◌, ◌≤◌, List, [], ◌∷◌, ◌++◌, Bool, cond, get_or, length, refl, sym, ap, ◌∙◌, subst, arith}
+use Rattle.std.proofs.Common.{◌≡◌, ℕ, ◌+◌, ◌*◌, List, [], ◌++◌, Bool, cond, length, refl, sym, ap, ◌∙◌, subst, arith}
 use Rattle.std.proofs.lemmas.Bool.{lt-leb}
 use Rattle.nr_model.specs.declared.calls.Reply.TheVariants as reply
 use Rattle.nr_model.specs.declared.rows.Row.{Row}
 use Rattle.nr_model.specs.Histories.{Entry, IsLegal}
-use Rattle.nr_core.specs.Story.{call_of, ending, entry}
+use Rattle.nr_core.specs.Story.{call_of}
 use Rattle.nr_core.specs.Writer.{ended, moved_to, put_on, swapped, unnamed}
 use Rattle.nr_core.specs.declared.calls.Step.{Step}
 use Rattle.nr_core.specs.declared.calls.Step.TheVariants.{Going}
 use Rattle.nr_core.specs.declared.calls.WriterCall.{WriterCall}
-use Rattle.nr_core.specs.declared.places.Place.{Place}
 use Rattle.nr_core.specs.declared.places.Place.TheVariants.{Idle, Putting}
 use Rattle.nr_core.specs.declared.roles.Desk.{Desk}
 use Rattle.nr_map.proofs.Tokens.{grows_both}
@@ -18,7 +17,7 @@ use Rattle.nr_map.specs.Callers.{Caller, Grows, Table, opening_map, token}
 use Rattle.nr_map.specs.Spares.{Spare, Took, desk_with}
 use Rattle.nr_marks.specs.MarkSteps.{PutsMarks}
 use Rattle.nr_core.specs.States.{key_of}
-use Rattle.nr_map.specs.WriterSeats.{IsFrom, GoesOn, Knows, LeadsIn, MapSeat, PublishesSet, PutsTo, TakesSlot, WritesAt}
+use Rattle.nr_map.specs.WriterSeats.{IsFrom, GoesOn, Knows, LeadsIn, MapSeat, PublishesSet, PutsTo, WritesAt}
 
 -- what the writer knows after a step is legal
 pub knows_after : (steps : ℕ) (old : Caller) (entries : List Entry) (new : Caller) → Grows steps old entries new → Knows new

@@ -1,18 +1,17 @@
 -- What the reader's steps tell of its seat.
-use Rattle.std.proofs.Common.{◌≡◌, ℕ, ◌+◌, ◌-◌, ◌<◌, Bool, true, false, ap, sym, subst, ◌∙◌}
+use Rattle.std.proofs.Common.{◌≡◌, ℕ, ◌<◌, true, false, ap, sym, subst, ◌∙◌}
 use Rattle.nr_model.specs.declared.calls.Call.TheVariants as model
 use Rattle.nr_model.specs.declared.calls.Reply.TheVariants as reply
 use Rattle.nr_model.specs.Rows.{IsRowSet}
 use Rattle.nr_words.specs.KeyWords.{is_filled, slot_of}
 use Rattle.nr_core.specs.Slots.{content}
 use Rattle.nr_core.specs.Steps.{ask_word}
-use Rattle.nr_core.specs.Story.{entry}
 use Rattle.nr_core.specs.declared.roles.Grip.TheVariants.{Nothing, On}
 use Rattle.nr_core.specs.declared.roles.Role.TheVariants.{Reader}
 use Rattle.nr_core.specs.declared.shape.Shape.{Shape}
 use Rattle.nr_map.proofs.Tokens.{MapSeat, seat_grows, seat_rests}
 use Rattle.nr_map.specs.Callers.{Gains, Rests, Table, token}
-use Rattle.nr_map.specs.Plays.{Arrived, Asked, Departed, Holds, IsIdle, Read, holding}
+use Rattle.nr_map.specs.Plays.{Arrived, Asked, Departed, Holds, IsIdle, Read}
 use Rattle.nr_map.specs.Seats.{HoldsAt, IdlesAt}
 use Rattle.nr_map.specs.Views.{grip_of, is_sized, number_of, rows_held, slot_held}
 

@@ -1,5 +1,5 @@
 -- The reader's steps on the table: request, arrive, read, depart.
-use Rattle.std.proofs.Common.{◌≡◌, ℕ, suc, ◌+◌, ◌-◌, ◌%◌, ◌^◌, ◌<◌, ◌⊎◌, List, [], ◌∷◌, ◌++◌, Bool, true, false, cond, length, get_or, inl, inr, ⊎_elim, refl, sym, ap, ◌∙◌, subst, arith, eq-eqb}
+use Rattle.std.proofs.Common.{◌≡◌, ℕ, suc, ◌+◌, ◌-◌, ◌%◌, ◌^◌, ◌<◌, List, [], ◌∷◌, ◌++◌, Bool, true, false, length, get_or, ⊎_elim, refl, sym, ap, ◌∙◌, subst, arith, eq-eqb}
 use Rattle.std.specs.Prelude.{bit_or}
 use mathlib.Core.Option.{none}
 use Rattle.atomic_table.specs.Table.{Me, step, Allows}
@@ -8,7 +8,7 @@ use Rattle.nr_model.specs.Rows.{IsRowSet}
 use Rattle.nr_model.specs.declared.rows.Row.{Row}
 use Rattle.nr_model.specs.declared.calls.Call.TheVariants as model
 use Rattle.nr_model.specs.declared.calls.Reply.TheVariants as reply
-use Rattle.nr_words.specs.KeyWords.{is_filled, slot_of}
+use Rattle.nr_words.specs.KeyWords.{is_filled}
 use Rattle.nr_words.specs.SetWords.{encode}
 use Rattle.nr_words.specs.declared.key_words.TheConstants.{ARRIVE}
 use Rattle.nr_core.proofs.Arrive.{arrives}
@@ -16,10 +16,10 @@ use Rattle.nr_core.proofs.Ask.{asks}
 use Rattle.nr_core.proofs.Depart.{departs}
 use Rattle.nr_core.proofs.KeyWords.{names_none, names_one}
 use Rattle.nr_core.proofs.Read.{reads}
-use Rattle.nr_core.specs.Roles.{is_by, is_reader, is_writer}
-use Rattle.nr_core.specs.Operations.{Add, Load, Operation, Or, becomes, place_of}
+use Rattle.nr_core.specs.Roles.{is_by, is_reader}
+use Rattle.nr_core.specs.Operations.{Add, Load, Or}
 use Rattle.nr_core.specs.Slots.{content, departures, name_number}
-use Rattle.nr_core.specs.Steps.{Arrives, Asks, CanStep, Departs, ReadsHeld, Stepped, ask_word}
+use Rattle.nr_core.specs.Steps.{Arrives, Asks, CanStep, Departs, ReadsHeld, ask_word}
 use Rattle.nr_core.specs.Story.{entry}
 use Rattle.nr_core.specs.declared.roles.Grip.{Grip}
 use Rattle.nr_core.specs.declared.roles.Grip.TheVariants.{Nothing, On}
@@ -30,7 +30,7 @@ use Rattle.nr_marks.proofs.ReaderMarks.{arrives_marked, asks_marked, departs_mar
 use Rattle.nr_marks.specs.MarkSteps.{ArrivesMarks, DepartsMarks, KeepsMarks}
 use Rattle.nr_map.proofs.Lift.{Choice, knows_pasts, lifts}
 use Rattle.nr_map.proofs.Moves.{learned, learning, waiting}
-use Rattle.nr_map.specs.Plays.{Advances, Arrived, Asked, Departed, Holds, IsIdle, holding, Read, arrived, asked, departed, read}
+use Rattle.nr_map.specs.Plays.{Advances, Arrived, Asked, Departed, IsIdle, holding, Read, arrived, asked, departed, read}
 use Rattle.nr_map.specs.Rule.{Fits, Kept, marks_of, role_of}
 use Rattle.nr_map.specs.Views.{View, grip_of, is_sized, number_of, rows_held, slot_held}
 

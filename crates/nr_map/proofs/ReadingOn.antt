@@ -1,25 +1,22 @@
 -- The writer reads the set of the slot that its key names, row by row.
-use Rattle.std.proofs.Common.{◌≡◌, ◌≢◌, ℕ, zero, suc, ◌+◌, ◌*◌, ◌<◌, ◌≤◌, List, [], ◌∷◌, ◌++◌, Bool, true, false, cond, get_or, length, nat_eq, take, drop, refl, sym, ap, ◌∙◌, subst, arith, append_assoc, length-append}
+use Rattle.std.proofs.Common.{◌≡◌, ◌≢◌, ℕ, zero, suc, ◌+◌, ◌*◌, ◌<◌, List, [], ◌∷◌, ◌++◌, Bool, cond, get_or, length, take, drop, refl, sym, ap, ◌∙◌, subst, arith, append_assoc, length-append}
 use Rattle.std.proofs.lemmas.Bool.{eq-eqb, ne_eqb}
 use Rattle.std.proofs.lemmas.List.{take_all}
 use Rattle.nr_model.specs.declared.rows.Row.{Row}
-use Rattle.nr_model.specs.Histories.{Entry}
 use Rattle.nr_model.specs.Rows.{IsRowSet}
-use Rattle.nr_model.specs.declared.calls.Call.{Call}
 use Rattle.nr_words.proofs.SetWordLemmas.{length-row_words, row_words-append, rows_in-row_words}
 use Rattle.nr_words.specs.SetWords.{encode, row_words, rows_in}
 use Rattle.nr_core.proofs.Sets.{set_back}
 use Rattle.nr_core.specs.Slots.{content, set_of}
-use Rattle.nr_core.specs.Story.{call_of, ending}
+use Rattle.nr_core.specs.Story.{call_of}
 use Rattle.nr_core.specs.Writer.{decided, moved_to, read_on}
 use Rattle.nr_core.specs.declared.calls.Step.{Step}
 use Rattle.nr_core.specs.declared.calls.Step.TheVariants.{Going}
 use Rattle.nr_core.specs.declared.calls.WriterCall.{WriterCall}
 use Rattle.nr_core.specs.declared.places.Place.TheVariants.{Reading}
 use Rattle.nr_core.specs.declared.roles.Desk.{Desk}
-use Rattle.nr_core.specs.declared.shape.Shape.{Shape}
 use Rattle.nr_map.proofs.Tokens.{grows_both}
-use Rattle.nr_map.specs.Callers.{Grows, Table, token}
+use Rattle.nr_map.specs.Callers.{Table, token}
 use Rattle.nr_map.specs.WriterSeats.{GoesOn, GoesTo, IsReading, LeadsIn, MapSeat, WritesAt}
 
 -- the words of a beginning of the rows

@@ -1,5 +1,5 @@
 -- What stands at the writer's desk in every core state: its slots are the map's, and there is room to retire one where its call will.
-use Rattle.std.proofs.Common.{◌≡◌, ℕ, ◌+◌, ◌<◌, List, ap, refl, subst, arith}
+use Rattle.std.proofs.Common.{◌≡◌, ℕ, List, ap, refl, subst, arith}
 use mathlib.Core.Option.{some}
 use lib.ListN.{get_elem?}
 use Rattle.nr_model.specs.Histories.{Entry}

@@ -1,5 +1,5 @@
 -- The rows of a set, read word by word.
-use Rattle.std.proofs.Common.{◌≡◌, ℕ, zero, suc, ◌+◌, ◌*◌, ◌<◌, ◌∙◌, Bool, true, not, List, [], ◌∷◌, ◌++◌, length, get_or, take, refl, ap, sym, arith}
+use Rattle.std.proofs.Common.{◌≡◌, ℕ, zero, suc, ◌+◌, ◌*◌, ◌<◌, ◌∙◌, true, not, List, [], ◌∷◌, ◌++◌, length, get_or, take, refl, ap, sym, arith}
 use Rattle.std.specs.Prelude.{slice_get, Some}
 use Rattle.nr_words.proofs.SetWordLemmas.{length-row_words}
 use Rattle.std.proofs.lemmas.Bool.{and_from, and_parts}

@@ -1,35 +1,26 @@
 -- The search for a slot: each retired one is polled in order, until one is not held.
-use Rattle.std.proofs.Common.{◌≡◌, ◌≢◌, ℕ, zero, suc, ◌+◌, ◌-◌, ◌<◌, ◌≤◌, ◌⊎◌, List, [], ◌∷◌, ◌++◌, Bool, true, false, cond, map, get_or, length, nat_eq, take, inl, inr, ⊎_elim, refl, sym, ap, ◌∙◌, subst, arith, append-nil, le-leb}
-use Rattle.std.proofs.lemmas.Bool.{eq-eqb, lt-leb, lt-ltb, le-ltb, ne_eqb}
+use Rattle.std.proofs.Common.{◌≡◌, ℕ, ◌+◌, ◌-◌, ◌<◌, ◌≤◌, List, [], ◌++◌, Bool, true, false, cond, length, nat_eq, refl, sym, ap, ◌∙◌, subst, arith, append-nil}
+use Rattle.std.proofs.lemmas.Bool.{eq-eqb, lt-ltb, le-ltb, ne_eqb}
 use Rattle.std.specs.Prelude.{nat_lt}
 use mathlib.Core.Logic.{dite}
-use mathlib.Core.Option.{some, some-ne-none}
-use native.Mathlib.Decide.{ℕ_discrete, dec_le}
-use lib.ListN.{get_elem?}
-use lib.Seq.{take-suc}
-use mathlib.Core.List.{map-append}
-use Rattle.std.proofs.lemmas.List.{take_all}
+use native.Mathlib.Decide.{ℕ_discrete}
 use Rattle.nr_words.specs.KeyWords.{same_count}
 use Rattle.nr_core.proofs.Choices.{by_cases}
-use Rattle.nr_core.proofs.Sums.{at_snoc}
-use Rattle.nr_core.specs.States.{no_retired, retired_at}
-use Rattle.nr_model.specs.Histories.{Entry, IsLegal}
+use Rattle.nr_core.specs.States.{retired_at}
+use Rattle.nr_model.specs.Histories.{Entry}
 use Rattle.nr_model.specs.declared.calls.Call.{Call}
 use Rattle.nr_model.specs.declared.rows.Row.{Row}
 use Rattle.nr_core.specs.Story.{call_of, ending}
 use Rattle.nr_core.specs.Writer.{moved_to, no_slot, polled, polls_on, settled, taking_fresh, taking_retired}
-use Rattle.nr_core.specs.declared.calls.NoSlot.{NoSlot}
 use Rattle.nr_core.specs.declared.calls.Step.{Step}
 use Rattle.nr_core.specs.declared.calls.Step.TheVariants.{Ended, Going}
 use Rattle.nr_core.specs.declared.calls.WReply.TheVariants as writer
 use Rattle.nr_core.specs.declared.calls.WriterCall.{WriterCall}
 use Rattle.nr_core.specs.declared.places.Place.TheVariants.{Idle, Searching}
-use Rattle.nr_core.specs.declared.places.Retired.{Retired}
 use Rattle.nr_core.specs.declared.roles.Desk.{Desk}
 use Rattle.nr_core.specs.declared.shape.Shape.{Shape}
 use Rattle.nr_map.proofs.Tokens.{grows_both}
 use Rattle.nr_map.specs.Callers.{Caller, Grows, Table, token}
-use Rattle.nr_map.specs.Plays.{Lacks}
 use Rattle.nr_map.specs.Spares.{Spare, desk_with, none_spare}
 use Rattle.nr_marks.proofs.ExactPlace.{noted_more, noted_none}
 use Rattle.nr_marks.specs.MarkSteps.{PollTells}

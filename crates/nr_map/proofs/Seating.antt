@@ -1,12 +1,12 @@
 -- The loop that seats the readers of a new map.
-use Rattle.std.proofs.Common.{◌≡◌, ℕ, zero, suc, ◌+◌, ◌<◌, List, [], ◌∷◌, ◌++◌, get_or, length, refl, ap, ◌∙◌, sym, subst, arith, length-append}
+use Rattle.std.proofs.Common.{◌≡◌, ℕ, zero, suc, ◌+◌, ◌<◌, List, [], ◌∷◌, ◌++◌, get_or, length, refl, ap, ◌∙◌, sym, arith, length-append}
 use Rattle.std.specs.Prelude.{All, Some, slice_get}
 use mathlib.Core.Logic.{dite}
 use native.Mathlib.Decide.{ℕ_discrete}
 use Rattle.nr_core.specs.declared.shape.Shape.{Shape}
 use Rattle.nr_marks.specs.Marks.{no_marks}
 use Rattle.nr_map.proofs.Tokens.{MapSeat}
-use Rattle.nr_map.specs.Callers.{Caller, Table, token}
+use Rattle.nr_map.specs.Callers.{Caller, Table}
 use Rattle.nr_map.specs.Opened.{Seated, made_so, newcomer}
 
 get_old : (readers : List Caller) (last : Caller) (place : ℕ) → place < length readers → slice_get (readers ++ last ∷ []) place ≡ slice_get readers place

@@ -20,7 +20,7 @@ use Rattle.nr_core.specs.declared.shape.Shape.{Shape}
 use Rattle.nr_marks.proofs.Knowing.{knowing_set, knowing_snoc}
 use Rattle.nr_marks.proofs.ListPlaces.{no_places}
 use Rattle.nr_marks.proofs.SeatMarks.{alike_marked, evolves_alike, seats_marked}
-use Rattle.nr_marks.specs.Marked.{Knowing, Marked, Since}
+use Rattle.nr_marks.specs.Marked.{Since}
 use Rattle.nr_map.specs.Rule.{Fits, Kept, counts, marks_of, pasts_of, role_of, told_pasts_of}
 use Rattle.nr_marks.specs.Marks.{gripped}
 use Rattle.nr_map.specs.Views.{View, grip_of, next_reader, with_reader}

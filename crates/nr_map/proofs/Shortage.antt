@@ -1,5 +1,5 @@
 -- A call that ends with no slot: it would be done, and each slot is a filled key's or retired.
-use Rattle.std.proofs.Common.{◌≡◌, ℕ, ◌+◌, ◌-◌, ◌*◌, ◌<◌, ◌≤◌, List, [], ◌∷◌, ◌++◌, Bool, true, get_or, length, nat_eq, cond, refl, sym, ap, ◌∙◌, subst, arith, append-nil}
+use Rattle.std.proofs.Common.{◌≡◌, ℕ, ◌+◌, ◌-◌, ◌*◌, ◌<◌, ◌≤◌, List, [], ◌∷◌, ◌++◌, true, get_or, length, nat_eq, cond, refl, sym, ap, ◌∙◌, subst, arith}
 use Rattle.std.proofs.lemmas.Bool.{eqb-true}
 use Rattle.std.specs.Prelude.{nat_le}
 use mathlib.Core.Option.{some}
@@ -22,7 +22,7 @@ use Rattle.nr_core.specs.Roles.{held, taken}
 use Rattle.nr_core.specs.Slots.{content, departures, set_of}
 use Rattle.nr_core.specs.States.{key_of, retired_at}
 use Rattle.nr_core.specs.Story.{call_of, map_after}
-use Rattle.nr_core.specs.Writer.{decided, ended, looked, moved_to, put_on, swapped, went}
+use Rattle.nr_core.specs.Writer.{decided, ended, looked, moved_to, swapped, went}
 use Rattle.nr_core.specs.declared.calls.NoSlot.{NoSlot}
 use Rattle.nr_core.specs.declared.calls.Step.{Step}
 use Rattle.nr_core.specs.declared.calls.Step.TheVariants.{Going}

@@ -1,8 +1,7 @@
 -- The writer's calls, put together of their steps.
-use Rattle.std.proofs.Common.{inl, inr, ⊎_elim, slice_index, ◌≡◌, ℕ, zero, suc, ◌+◌, ◌*◌, ◌<◌, ◌≤◌, List, [], ◌∷◌, ◌++◌, Bool, true, false, not, cond, length, nat_eq, refl, sym, ap, ◌∙◌, subst, arith, append-nil, length-append, map}
-use Rattle.std.proofs.lemmas.List.{length-map}
+use Rattle.std.proofs.Common.{inl, inr, ⊎_elim, slice_index, ◌≡◌, ℕ, suc, ◌+◌, ◌*◌, List, [], ◌∷◌, ◌++◌, Bool, true, false, not, cond, length, nat_eq, refl, sym, ap, ◌∙◌, subst, arith, append-nil, length-append}
 use Rattle.std.specs.Prelude.{Result, Ok, Err, nat_lt}
-use mathlib.Core.Option.{some, some-injective, some-ne-none}
+use mathlib.Core.Option.{some}
 use lib.ListN.{get_elem?}
 use Rattle.nr_model.specs.declared.calls.Call.{Call}
 use Rattle.nr_model.specs.declared.calls.Call.TheVariants as model
@@ -13,18 +12,17 @@ use Rattle.nr_model.specs.declared.rows.Row.{Row}
 use Rattle.nr_model.specs.declared.batches.ApplyFault.{ApplyFault}
 use Rattle.nr_model.specs.Batches.{applied}
 use Rattle.nr_model.specs.Maps.{applied_reply}
-use Rattle.nr_model.specs.Histories.{Entry, IsLegal, entries_of}
+use Rattle.nr_model.specs.Histories.{Entry, entries_of}
 use Rattle.nr_words.specs.declared.key_words.KeyParts.{KeyParts}
 use Rattle.nr_words.specs.KeyWords.{has_ask, is_filled, parts_of, slot_of}
 use Rattle.nr_core.proofs.Choices.{by_cases}
 use Rattle.nr_core.proofs.Histories.{of-append}
 use Rattle.nr_core.proofs.Without.{not_reply}
 use Rattle.nr_core.specs.Story.{call_of, ending, entry}
-use Rattle.nr_core.specs.Writer.{decided, ended, looked, moved_to, no_slot, renewed, settled, swapped, taking_fresh, unnamed}
+use Rattle.nr_core.specs.Writer.{decided, ended, looked, moved_to, no_slot, renewed, settled, taking_fresh, unnamed}
 use Rattle.nr_core.specs.declared.calls.NoSlot.{NoSlot}
 use Rattle.nr_core.specs.declared.calls.Step.{Step}
-use Rattle.nr_core.specs.declared.calls.Step.TheVariants.{Ended, Going}
-use Rattle.nr_core.specs.declared.calls.WReply.TheVariants as writer
+use Rattle.nr_core.specs.declared.calls.Step.TheVariants.{Going}
 use Rattle.nr_core.specs.declared.calls.WriterCall.{WriterCall}
 use Rattle.nr_core.specs.declared.calls.WriterCall.TheVariants.{Evict, Fill, Find, Update}
 use Rattle.nr_core.specs.declared.places.Place.TheVariants.{Idle, Leaving, Reading, Searching}
@@ -35,8 +33,7 @@ use Rattle.nr_core.specs.declared.shape.Shape.{Shape}
 use Rattle.nr_map.proofs.Publishing.{knows_after}
 use Rattle.nr_map.proofs.Tokens.{grows_both}
 use Rattle.nr_map.specs.Answers.{HasNoSlot, Publishes, SameSlots}
-use Rattle.nr_map.specs.Callers.{Caller, Gains, Grows, KnowsOwn, Table, opening_map, token}
-use Rattle.nr_map.specs.Plays.{Lacks}
+use Rattle.nr_map.specs.Callers.{Caller, Gains, Grows, KnowsOwn, Table, token}
 use Rattle.nr_map.specs.Spares.{Spare, Took, desk_with, spare_of}
 use Rattle.nr_marks.proofs.PutNumbers.{count_grows, count_more}
 use Rattle.nr_marks.specs.Exact.{Took as TakesNew}
@@ -45,7 +42,7 @@ use Rattle.nr_marks.specs.PollNotes.{Noted}
 use Rattle.nr_marks.specs.Puts.{put_count}
 use Rattle.nr_map.specs.Meetings.{desk_seen}
 use Rattle.nr_map.specs.Views.{desk_of, number_of}
-use Rattle.nr_map.specs.WriterSeats.{IsFrom, GoesOn, IsBetween, IsLeaving, Knows, LacksSlot, LeadsIn, MapSeat, PublishesSet, RestsAt, Settles, WritesAt}
+use Rattle.nr_map.specs.WriterSeats.{IsFrom, GoesOn, IsBetween, LacksSlot, LeadsIn, MapSeat, PublishesSet, RestsAt, Settles, WritesAt}
 
 -- the writer rests with its slots at its own map
 pub rests_own : (table : Table) (spare : Spare) (seat : MapSeat) → RestsAt table spare seat → RestsAt (token seat).table spare seat

@@ -1,5 +1,5 @@
 -- What the writer's steps tell of its seat.
-use Rattle.std.proofs.Common.{◌≡◌, ℕ, List, [], ap, sym, subst, ◌∙◌}
+use Rattle.std.proofs.Common.{◌≡◌, ℕ, [], ap, subst, ◌∙◌}
 use Rattle.nr_model.specs.declared.calls.Call.{Call}
 use Rattle.nr_core.specs.Story.{call_of}
 use Rattle.nr_core.specs.Writer.{looked, went}
@@ -14,7 +14,7 @@ use Rattle.nr_marks.specs.MarkSteps.{GoesMarks}
 use Rattle.nr_map.proofs.Tokens.{seat_grows}
 use Rattle.nr_map.specs.Callers.{Table, token}
 use Rattle.nr_map.specs.Plays.{Leads, Looked, Put, ReadsOn, Room, Went, call_at, next_put}
-use Rattle.nr_map.specs.WriterSeats.{GoesTo, LeadsTo, MapSeat, PutsTo, WritesAt}
+use Rattle.nr_map.specs.WriterSeats.{GoesTo, LeadsTo, MapSeat, PutsTo}
 
 -- the desk with its place as it is
 pub desk_at : (role : Role) (desk : Desk) (place : Place) → role ≡ Writer desk → desk.place ≡ place → role ≡ Writer (record desk { place = place })

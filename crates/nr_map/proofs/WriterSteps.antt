@@ -1,11 +1,7 @@
 -- The writer's steps on the table: the look of each call, and every later step.
-use Rattle.std.proofs.Common.{nat_le, ◌≡◌, ℕ, suc, ◌+◌, ◌-◌, ◌*◌, ◌<◌, ◌≤◌, List, [], ◌∷◌, ◌++◌, Bool, true, false, cond, map, set, get_or, le-leb, length, nat_eq, take, refl, sym, ap, ◌∙◌, subst, arith, append-nil}
-use Rattle.std.proofs.lemmas.Bool.{eq-eqb}
+use Rattle.std.proofs.Common.{nat_le, ◌≡◌, ℕ, suc, ◌+◌, ◌-◌, ◌*◌, ◌<◌, ◌≤◌, List, [], ◌++◌, Bool, true, false, cond, map, set, get_or, le-leb, length, take, refl, sym, ap, ◌∙◌, subst, arith, append-nil}
 use Rattle.std.specs.Prelude.{None, Some}
-use mathlib.Core.Logic.{dite}
-use native.Mathlib.Decide.{dec_le}
 use mathlib.Core.Option.{some}
-use mathlib.Core.Option.{none as no_value}
 use lib.ListN.{get_elem?}
 use Rattle.atomic_table.specs.Seated.{TableId}
 use Rattle.atomic_table.specs.Table.{Allows, Me, State, carried_after}
@@ -15,20 +11,19 @@ use Rattle.nr_model.specs.Maps.{reply_to}
 use Rattle.nr_model.specs.declared.rows.Row.{Row}
 use Rattle.nr_model.specs.declared.calls.Call.{Call}
 use Rattle.nr_model.specs.declared.calls.Reply.TheVariants as reply
-use Rattle.nr_words.specs.KeyWords.{same_count}
 use Rattle.nr_words.specs.SetWords.{encode}
 use Rattle.nr_core.proofs.Go.{goes}
 use Rattle.nr_core.proofs.Look.{looks}
 use Rattle.nr_core.proofs.ReadThrough.{read_next, read_set}
 use Rattle.nr_core.proofs.Guards.{no_some}
-use Rattle.nr_core.proofs.Sums.{here_after, some_term, term_le}
-use Rattle.nr_core.specs.Core.{AtPlace, Core, Reads}
+use Rattle.nr_core.proofs.Sums.{here_after}
+use Rattle.nr_core.specs.Core.{AtPlace, Core}
 use Rattle.nr_core.specs.Laws.{IsGivenCall}
 use Rattle.nr_core.specs.Operations.{Load, Operation, Store, Swap, becomes, going, place_of}
 use Rattle.nr_core.specs.Refusals.{if_not_busy}
-use Rattle.nr_core.specs.Roles.{held, holds, is_by, is_reader, is_writer, taken}
-use Rattle.nr_core.specs.Slots.{content, departures, naming}
-use Rattle.nr_core.specs.States.{key_of, retired_at}
+use Rattle.nr_core.specs.Roles.{held, holds, is_by, is_writer, taken}
+use Rattle.nr_core.specs.Slots.{content, naming}
+use Rattle.nr_core.specs.States.{key_of}
 use Rattle.nr_core.specs.Steps.{CanStep, Goes, Looks, Stepped, Telling}
 use Rattle.nr_core.specs.Story.{call_of, ending, ending_at, map_after}
 use Rattle.nr_core.specs.Writer.{ended, looked, moved_to, swapped, went}
@@ -42,9 +37,7 @@ use Rattle.nr_core.specs.declared.places.Place.TheVariants.{Idle, Leaving, Putti
 use Rattle.nr_core.specs.declared.roles.Desk.{Desk}
 use Rattle.nr_core.specs.declared.roles.Role.{Role}
 use Rattle.nr_core.specs.declared.calls.Refusal.TheVariants as refuse
-use Rattle.nr_core.specs.declared.roles.Grip.{Grip}
-use Rattle.nr_core.specs.declared.roles.Grip.TheVariants.{Nothing, On}
-use Rattle.nr_core.specs.declared.roles.Role.TheVariants.{Note, Reader, Writer}
+use Rattle.nr_core.specs.declared.roles.Role.TheVariants.{Writer}
 use Rattle.nr_core.specs.declared.shape.Shape.{Shape}
 use Rattle.nr_marks.proofs.GoMarks.{goes_marked}
 use Rattle.nr_marks.proofs.LookMarks.{looks_marked}

@@ -1,7 +1,5 @@
 -- What each call says of its token, by its answer.
 use Rattle.std.specs.Prelude.{◌≡◌, ℕ, ◌+◌, ◌*◌, List, [], ◌++◌, length, Result, Ok, Err}
-use mathlib.Core.Option.{some}
-use lib.ListN.{get_elem?}
 use Rattle.nr_model.specs.declared.rows.Row.{Row}
 use Rattle.nr_model.specs.declared.batches.ApplyFault.TheVariants as fault
 use Rattle.nr_model.specs.declared.batches.Delta.{Delta}

@@ -11,7 +11,7 @@ use Rattle.nr_model.specs.declared.calls.Reply.TheVariants as reply
 use Rattle.nr_model.specs.Rows.{IsRowSet}
 use Rattle.nr_model.specs.Histories.{Entry}
 use Rattle.nr_model.specs.Maps.{filled_count, reply_to}
-use Rattle.nr_words.specs.KeyWords.{is_filled, same_count, slot_of}
+use Rattle.nr_words.specs.KeyWords.{is_filled, slot_of}
 use Rattle.nr_words.specs.SetWords.{encode}
 use Rattle.nr_core.specs.declared.roles.Role.{Role}
 use Rattle.nr_core.specs.declared.roles.Role.TheVariants.{Reader, Writer}

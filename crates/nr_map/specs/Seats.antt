@@ -1,5 +1,5 @@
 -- Where a seat stands between two steps: whose it is, of which map, and what it holds.
-use Rattle.std.specs.Prelude.{◌≡◌, ℕ, ◌<◌}
+use Rattle.std.specs.Prelude.{◌≡◌, ℕ}
 use Rattle.atomic_table.specs.declared.shared.Seat.{Seat}
 use Rattle.nr_core.specs.Slots.{content}
 use Rattle.nr_map.specs.Views.{View, slot_held}

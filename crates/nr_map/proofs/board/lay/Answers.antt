@@ -1,5 +1,4 @@
-use Rattle.std.proofs.Common.{List, ap, append_assoc, refl, replicate, sym, ℕ, ◌++◌, ◌∙◌, ◌∷◌}
-use Rattle.std.proofs.lemmas.Grind.{common_steps}
+use Rattle.std.proofs.Common.{List, ap, append_assoc, replicate, ℕ, ◌++◌, ◌∙◌, ◌∷◌}
 use Rattle.nr_core.specs.Slots.{repeated}
 use Rattle.nr_map.proofs.Opens.{repeated-more}
 use Rattle.nr_map.proofs.board.lay.Goals as goal

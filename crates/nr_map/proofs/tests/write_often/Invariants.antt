@@ -1,4 +1,4 @@
-use Rattle.std.proofs.Common.{◌≡◌, ◌<◌, ℕ, ◌+◌, ◌-◌, ◌*◌, ◌≤◌, length}
+use Rattle.std.proofs.Common.{◌≡◌}
 use Rattle.nr_map.proofs.tests.write_often.Given as goal
 
 abbrev pub invariant-loop-mark : goal.invariant-loop-mark

@@ -2,7 +2,6 @@ use Rattle.std.proofs.Common.{ap, arith, refl, subst, sym, ℕ, ◌<◌, ◌∙�
 use Rattle.atomic_table.specs.Table.{Allows}
 use Rattle.nr_core.specs.Slots.{departures}
 use Rattle.nr_core.specs.States.{retired_at}
-use Rattle.nr_core.specs.declared.places.Place.{Place}
 use Rattle.nr_core.specs.declared.places.Place.TheVariants.{Searching}
 use Rattle.nr_core.specs.declared.roles.Desk.{Desk}
 use Rattle.nr_core.specs.declared.roles.Role.TheVariants.{Writer}

@@ -1,4 +1,4 @@
-use Rattle.std.proofs.Common.{ap, arith, refl, subst, sym, ℕ, ◌+◌, ◌∙◌, ◌≡◌}
+use Rattle.std.proofs.Common.{ap, arith, subst, sym, ℕ, ◌+◌, ◌∙◌, ◌≡◌}
 use Rattle.atomic_table.specs.Table.{Allows}
 use Rattle.nr_core.specs.Slots.{content}
 use Rattle.nr_core.specs.declared.roles.Desk.{Desk}

@@ -1,7 +1,6 @@
-use Rattle.std.proofs.Common.{ap, arith, length, refl, subst, sym, ℕ, ◌*◌, ◌+◌, ◌≤◌, ◌<◌, ◌∙◌, ◌≡◌}
+use Rattle.std.proofs.Common.{ap, arith, length, refl, subst, sym, ℕ, ◌+◌, ◌∙◌, ◌≡◌}
 use Rattle.atomic_table.specs.Table.{Allows}
 use Rattle.nr_core.specs.Slots.{content}
-use Rattle.nr_core.specs.declared.places.Place.{Place}
 use Rattle.nr_core.specs.declared.places.Place.TheVariants.{Reading}
 use Rattle.nr_core.specs.declared.roles.Desk.{Desk}
 use Rattle.nr_core.specs.declared.roles.Role.TheVariants.{Writer}

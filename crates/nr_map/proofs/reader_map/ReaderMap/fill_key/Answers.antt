@@ -1,4 +1,4 @@
-use Rattle.std.proofs.Common.{ap, arith, not, refl, subst, sym, ◌∙◌}
+use Rattle.std.proofs.Common.{ap, sym, ◌∙◌}
 use Rattle.nr_model.specs.declared.calls.Reply.TheVariants as reply
 use Rattle.nr_words.specs.declared.key_words.KeyParts.{KeyParts}
 use Rattle.nr_core.specs.Writer.{settled}

@@ -1,4 +1,4 @@
-use Rattle.std.proofs.Common.{[], ap, arith, refl, subst, sym, ◌∙◌}
+use Rattle.std.proofs.Common.{[], ap, arith, refl}
 use Rattle.nr_model.specs.declared.calls.Reply.TheVariants as reply
 use Rattle.nr_words.specs.KeyWords.{slot_of}
 use Rattle.nr_words.specs.declared.key_words.KeyParts.{KeyParts}

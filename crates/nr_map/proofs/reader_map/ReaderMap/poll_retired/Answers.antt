@@ -3,13 +3,12 @@ use Rattle.std.specs.Prelude.{remove}
 use Rattle.nr_words.specs.KeyWords.{same_count}
 use Rattle.nr_core.specs.States.{no_retired}
 use Rattle.nr_core.specs.declared.calls.NoSlot.{NoSlot}
-use Rattle.nr_core.specs.declared.places.Place.TheVariants.{Putting}
 use Rattle.nr_core.specs.declared.places.Retired.{Retired}
 use Rattle.nr_map.proofs.PollNotes.{at_get}
 use Rattle.nr_map.proofs.Searching.{lacks_slot, searched_more, searching_at, takes_it}
 use Rattle.nr_map.specs.Callers.{Table}
-use Rattle.nr_map.specs.Spares.{Spare, desk_with, none_spare}
-use Rattle.nr_map.specs.WriterSeats.{GoesOn, IsPolling, LacksSlot, TakesSlot, WritesAt}
+use Rattle.nr_map.specs.Spares.{Spare, none_spare}
+use Rattle.nr_map.specs.WriterSeats.{GoesOn, IsPolling, LacksSlot, TakesSlot}
 use Rattle.nr_map.proofs.reader_map.ReaderMap.poll_retired.Goals as goal
 
 retired_so : (list : List Retired) (spare before : Spare) → list ≡ spare.retired → spare ≡ before → list ≡ before.retired

@@ -1,4 +1,4 @@
-use Rattle.std.proofs.Common.{List, ap, arith, get_or, length, refl, replicate, subst, sym, ℕ, ◌-◌, ◌+◌, ◌*◌, ◌∙◌, ◌≡◌}
+use Rattle.std.proofs.Common.{List, ap, arith, get_or, length, refl, replicate, subst, sym, ℕ, ◌-◌, ◌∙◌, ◌≡◌}
 use Rattle.std.proofs.lemmas.List.{get_or_append_left}
 use Rattle.nr_core.specs.declared.roles.Desk.{Desk}
 use Rattle.nr_core.specs.declared.roles.Role.TheVariants.{Writer}

@@ -1,9 +1,8 @@
-use Rattle.std.proofs.Common.{List, ap, arith, get_or, length, subst, sym, ℕ, ◌∙◌, ◌<◌, ◌*◌, ◌+◌}
+use Rattle.std.proofs.Common.{List, ap, arith, get_or, length, subst, sym, ◌∙◌, ◌<◌, ◌*◌, ◌+◌}
 use Rattle.std.specs.Prelude.{Some}
 use Rattle.nr_model.specs.declared.rows.Row.{Row}
 use Rattle.nr_words.specs.SetWords.{encode}
 use Rattle.nr_map.proofs.Rows.{encoded_row, length-encode}
-use Rattle.nr_map.proofs.Tokens.{rests_both}
 use Rattle.nr_map.specs.Views.{rows_held}
 use Rattle.nr_map.proofs.reader_map.ReaderMap.read_row.Goals as goal
 

@@ -1,5 +1,4 @@
-use Rattle.std.proofs.Common.{[], ap, arith, length, subst, sym, ℕ, ◌*◌, ◌+◌, ◌∙◌, ◌<◌, ◌≡◌, Fits, w32}
-use Rattle.std.specs.Prelude.{IsTrue}
+use Rattle.std.proofs.Common.{ap, arith, subst, sym, ◌*◌, ◌+◌, ◌∙◌, ◌≡◌}
 use Rattle.nr_core.specs.Slots.{content}
 use Rattle.nr_model.specs.Rows.{is_ascending}
 use Rattle.nr_map.proofs.ReadingOn.{ReadSoFar, read_all, read_count, read_more, reading_first, reading_second}

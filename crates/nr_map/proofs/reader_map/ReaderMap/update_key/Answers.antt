@@ -1,4 +1,4 @@
-use Rattle.std.proofs.Common.{[], ap, arith, length, refl, sym, ℕ, ◌*◌, ◌+◌, ◌∙◌, ◌≡◌, Ok, Err}
+use Rattle.std.proofs.Common.{[], ap, arith, length, sym, ℕ, ◌*◌, ◌+◌, ◌∙◌, ◌≡◌, Ok, Err}
 use Rattle.nr_model.specs.Batches.{applied}
 use Rattle.nr_model.specs.declared.batches.ApplyFault.TheVariants as fault
 use Rattle.nr_model.specs.declared.calls.Reply.TheVariants as reply
