@@ -1,5 +1,5 @@
 //! A reader that holds a set, and reads it as often as it likes.
-ghost use Rattle.std.specs.Prelude.{◌≡◌, ◌<◌, length, slice_get, IsSome, Some};
+ghost use Rattle.std.specs.Prelude.{◌≡◌, ◌<◌, length, slice_get, IsSome, None, Some};
 ghost use Rattle.nr_model.specs.declared.rows.TheConstants.{MAX_ROWS};
 ghost use Rattle.nr_model.specs.Rows.{IsRowSet};
 ghost use Rattle.nr_marks.specs.Marks.{acted};
@@ -92,6 +92,7 @@ impl Pin {
     pub fn release(self, map: &ReaderMap) -> Reader
         requires own { self.reader.table ≡ map.now }
         ensures rests { Rests 1 self.reader result }
+        ensures idle { result.holds ≡ None }
         ensures marks { result.marks ≡ acted self.reader.marks self.reader.marks.put }
     {
         let Pin {
