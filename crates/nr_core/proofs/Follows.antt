@@ -22,7 +22,7 @@ use Rattle.nr_core.specs.Operations.{Load, Operation, Store, Swap, going, operat
 use Rattle.nr_core.specs.Reach.{RoomAt, RoomOf}
 use Rattle.nr_core.specs.Refusals.{has_key, has_reader, if_busy, if_holding, if_not_busy, if_not_holding, if_unreadable, refusal}
 use Rattle.nr_core.specs.Roles.{held}
-use Rattle.nr_core.specs.Slots.{content, naming, slot_room}
+use Rattle.nr_core.specs.Slots.{bound_of, content, naming, slot_room}
 use Rattle.nr_core.specs.States.{Arrive, Ask, Depart, Event, Go, Read, Start, State, hold_of, key_of, slot_in}
 use Rattle.nr_core.specs.Story.{Story, call_of, map_after, polls_after, told}
 use Rattle.nr_core.specs.Writer.{looked, went}
@@ -46,7 +46,7 @@ told_by state (Start call) c = own_ending (call_of call) (looked state.shape sta
 told_by state Go c = own_ending_at state.desk.place (went state.shape state.desk state.desk.place (found_by state Go)).1 c
 
 -- the set that is put is a row set
-taken_set : (state : State) (log : List Entry) → IsCoreState state log → (call : WriterCall) (rows : List Row) (slot departed index : ℕ) → state.desk.place ≡ Putting call rows slot departed index → IsRowSet state.shape.bound rows
+taken_set : (state : State) (log : List Entry) → IsCoreState state log → (call : WriterCall) (rows : List Row) (slot departed index : ℕ) → state.desk.place ≡ Putting call rows slot departed index → IsRowSet (bound_of state.shape) rows
 taken_set state log is_core call rows slot departed index is =
     let p : Puts state.shape state.words (map_after state.shape log) (held is_core.roles) call rows slot departed index
     = subst (AtPlace state.shape state.words (map_after state.shape log) (held is_core.roles) state.desk.fresh state.desk.retired) is (is_core.core.knows 0 (Writer state.desk) is_core.fit.writer).place in p.wants.row_set

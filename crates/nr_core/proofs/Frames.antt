@@ -9,7 +9,7 @@ use Rattle.nr_words.proofs.SetWordLemmas.{length-row_words}
 use Rattle.nr_core.proofs.Sums.{only-same, term_le}
 use Rattle.nr_core.specs.Core.{AtDesk, AtPlace, Grips, Reads, ShowsState, Wants}
 use Rattle.nr_core.specs.Roles.{grips, keeps, taken}
-use Rattle.nr_core.specs.Slots.{SlotSpells, content, departures, name_number, unused}
+use Rattle.nr_core.specs.Slots.{SlotSpells, bound_of, content, departures, name_number, unused}
 use Rattle.nr_core.specs.States.{key_of}
 use Rattle.nr_core.specs.Story.{call_of}
 use Rattle.nr_core.specs.Sums.{only, total}
@@ -39,22 +39,22 @@ pub asked_no_hole : (z : KeyState) → z ≡ key.Asked → z ≡ key.Hole → �
 asked_no_hole z e n = let two : rank z ≡ 1 = ap rank e in let none : rank z ≡ 0 = ap rank n in omega arith
 
 module _ (shape : Shape) where
-  pub spells_more : (words words' : List ℕ) (s : ℕ) (m : List Row) → ((i : ℕ) → i ≤ 2 * shape.bound → get_or words' (content shape s i) 0 ≡ get_or words (content shape s i) 0) → SlotSpells shape words s m → SlotSpells shape words' s m
+  pub spells_more : (words words' : List ℕ) (s : ℕ) (m : List Row) → ((i : ℕ) → i ≤ 2 * (bound_of shape) → get_or words' (content shape s i) 0 ≡ get_or words (content shape s i) 0) → SlotSpells shape words s m → SlotSpells shape words' s m
   spells_more words words' s m f t = let short = t.0.1 in let n = length-row_words m in (t.0, λ i l. f i (omega arith) ∙ t.1 i l)
 
-  pub shows_more : (words words' : List ℕ) (w : ℕ) (state : KeyState) → ((s i : ℕ) → name_number w ≡ suc s → s < shape.slots → i ≤ 2 * shape.bound → get_or words' (content shape s i) 0 ≡ get_or words (content shape s i) 0) → ShowsState shape words w state → ShowsState shape words' w state
+  pub shows_more : (words words' : List ℕ) (w : ℕ) (state : KeyState) → ((s i : ℕ) → name_number w ≡ suc s → s < shape.slots → i ≤ 2 * (bound_of shape) → get_or words' (content shape s i) 0 ≡ get_or words (content shape s i) 0) → ShowsState shape words w state → ShowsState shape words' w state
   shows_more words words' w key.Hole f t = t
   shows_more words words' w key.Asked f t = t
   shows_more words words' w (key.Rows m) f t = (t.0, t.1, t.2, spells_more words words' t.0 m (λ i l. f t.0 i t.1 t.2 l) t.3)
 
   module _ (words words' : List ℕ) (m m' : PartialMap) (hold hold' : ℕ → ℕ) where
-    pub holding_more : (x : Grip) → ((s i : ℕ) → 0 < grips s x → s < shape.slots → i ≤ 2 * shape.bound → get_or words' (content shape s i) 0 ≡ get_or words (content shape s i) 0) → Grips shape words m hold x → Grips shape words' m' hold' x
+    pub holding_more : (x : Grip) → ((s i : ℕ) → 0 < grips s x → s < shape.slots → i ≤ 2 * (bound_of shape) → get_or words' (content shape s i) 0 ≡ get_or words (content shape s i) 0) → Grips shape words m hold x → Grips shape words' m' hold' x
     holding_more Nothing f t = tt
     holding_more (On s set b) f t = let in_range = t.0 in let one = only-same s in (in_range, spells_more words words' s set (λ i l. f s i (omega arith) in_range l) t.1)
 
     -- what a step leaves of a slot
     pub record Left (s : ℕ) : Type 0 where
-      pub contents : (i : ℕ) → i ≤ 2 * shape.bound → get_or words' (content shape s i) 0 ≡ get_or words (content shape s i) 0
+      pub contents : (i : ℕ) → i ≤ 2 * (bound_of shape) → get_or words' (content shape s i) 0 ≡ get_or words (content shape s i) 0
       pub nobody : hold s ≡ 0 → hold' s ≡ 0
       pub deps : hold s ≡ 0 → get_or words' (departures shape s) 0 ≡ get_or words (departures shape s) 0
       pub sum : (get_or words' (departures shape s) 0 + hold' s) % 2 ^ 40 ≡ (get_or words (departures shape s) 0 + hold s) % 2 ^ 40
@@ -64,8 +64,8 @@ module _ (shape : Shape) where
         → (i : ℕ) (x : Retired) → get_elem? l i ≡ some x → (x.slot < shape.slots) × (x.arrivals % 2 ^ 40 ≡ (get_or words' (departures shape x.slot) 0 + hold' x.slot) % 2 ^ 40)
     retired_more l left t i x at = let r = t i x at in let part = term_le (λ (y : Retired). only x.slot y.slot) l i x at in let one = only-same x.slot in (r.0, r.1 ∙ sym (left x.slot r.0 (omega arith)).sum)
 
-    pub free_more : (fresh : ℕ) → ((s : ℕ) → s < shape.slots → fresh ≤ s → Left s) → ((s : ℕ) → fresh ≤ s → s < shape.slots → (hold s ≡ 0) × (get_or words (departures shape s) 0 ≡ shape.first))
-        → (s : ℕ) → fresh ≤ s → s < shape.slots → (hold' s ≡ 0) × (get_or words' (departures shape s) 0 ≡ shape.first)
+    pub free_more : (fresh : ℕ) → ((s : ℕ) → s < shape.slots → fresh ≤ s → Left s) → ((s : ℕ) → fresh ≤ s → s < shape.slots → (hold s ≡ 0) × (get_or words (departures shape s) 0 ≡ shape.first_count))
+        → (s : ℕ) → fresh ≤ s → s < shape.slots → (hold' s ≡ 0) × (get_or words' (departures shape s) 0 ≡ shape.first_count)
     free_more fresh left t s from near = let f = t s from near in let l = left s near from in (l.nobody f.0, l.deps f.0 ∙ f.1)
 
     module _ (names : (k : ℕ) → k < shape.keys → name_number (get_or words' k 0) ≡ name_number (get_or words k 0)) (stays : (k : ℕ) → (state_of m k ≡ key.Hole → ⊥) → state_of m' k ≡ state_of m k) where
@@ -74,8 +74,8 @@ module _ (shape : Shape) where
         near = t.near;
         row_set = t.row_set;
         no_hole = λ e. t.no_hole (sym same ∙ e);
-        done = ap (reply_at shape.bound (call_of call)) same ∙ t.done;
-        leaves = ap (state_after shape.bound (call_of call)) same ∙ t.leaves;
+        done = ap (reply_at (bound_of shape) (call_of call)) same ∙ t.done;
+        leaves = ap (state_after (bound_of shape) (call_of call)) same ∙ t.leaves;
       }
 
       pub reads_more : (k s : ℕ) (got : List ℕ) → Reads shape words m hold k s got → Reads shape words' m' hold' k s got

@@ -15,7 +15,7 @@ use Rattle.nr_core.specs.Core.{AtDesk, Core, ShowsState}
 use Rattle.nr_core.specs.Laws.{IsGivenCall}
 use Rattle.nr_core.specs.Operations.{Load}
 use Rattle.nr_core.specs.Roles.{held, keeps, taken}
-use Rattle.nr_core.specs.Slots.{name_number, unused}
+use Rattle.nr_core.specs.Slots.{bound_of, name_number, unused}
 use Rattle.nr_core.specs.States.{key_of}
 use Rattle.nr_core.specs.Steps.{CanStep, Looks}
 use Rattle.nr_core.specs.Story.{call_of, ending, map_after}
@@ -52,11 +52,11 @@ module _ (shape : Shape) (words : List ℕ) (roles : List Role) (log : List Entr
     mine = idle_desk shape words (map_after shape log) (held roles) desk (core.knows id (Writer desk) there)
 
     -- a look that ends the call
-    stops : (call : WriterCall) (y : Reply) → key_of call < shape.keys → looked shape desk call (get_or words place 0) ≡ (moved_to desk Idle, ended y) → reply_at shape.bound (call_of call) (state_of (map_after shape log) (key_of call)) ≡ y
-        → state_after shape.bound (call_of call) (state_of (map_after shape log) (key_of call)) ≡ state_of (map_after shape log) (key_of call) → Looked call
+    stops : (call : WriterCall) (y : Reply) → key_of call < shape.keys → looked shape desk call (get_or words place 0) ≡ (moved_to desk Idle, ended y) → reply_at (bound_of shape) (call_of call) (state_of (map_after shape log) (key_of call)) ≡ y
+        → state_after (bound_of shape) (call_of call) (state_of (map_after shape log) (key_of call)) ≡ state_of (map_after shape log) (key_of call) → Looked call
     stops call y near is replies stays = outcome call (moved_to desk Idle, ended y) is (ends shape words roles log core id desk there place (moved_to desk Idle) (call_of call) y (subst (λ (k : ℕ). k < shape.keys) (sym (key_same call)) near)
-        (ap (λ (k : ℕ). reply_at shape.bound (call_of call) (state_of (map_after shape log) k)) (key_same call) ∙ replies)
-        (ap (λ (k : ℕ). state_after shape.bound (call_of call) (state_of (map_after shape log) k)) (key_same call) ∙ stays ∙ ap (state_of (map_after shape log)) (sym (key_same call))) idle_keeps mine)
+        (ap (λ (k : ℕ). reply_at (bound_of shape) (call_of call) (state_of (map_after shape log) k)) (key_same call) ∙ replies)
+        (ap (λ (k : ℕ). state_after (bound_of shape) (call_of call) (state_of (map_after shape log) k)) (key_same call) ∙ stays ∙ ap (state_of (map_after shape log)) (sym (key_same call))) idle_keeps mine)
 
     -- a look after which the set is read
     begins : (call : WriterCall) (s : ℕ) (rows : List Row) → key_of call < shape.keys → name_number (get_or words (key_of call) 0) ≡ suc s → state_of (map_after shape log) (key_of call) ≡ key.Rows rows
@@ -65,14 +65,14 @@ module _ (shape : Shape) (words : List ℕ) (roles : List Role) (log : List Entr
         (let m = mine in record { place = record { near = near; names = names; rows = rows; full = full; part = refl; more = omega arith }; room = m.room; free = m.free; retired = m.retired }))
 
 look_all : (shape : Shape) (words : List ℕ) (roles : List Role) (log : List Entry) (core : Core shape words roles log) (id : ℕ) (desk : Desk) (there : get_elem? roles id ≡ some (Writer desk)) → desk.place ≡ Idle
-    → (call : WriterCall) → IsGivenCall shape.bound call → key_of call < shape.keys → Looked shape words roles log core id desk there (key_of call) call
+    → (call : WriterCall) → IsGivenCall (bound_of shape) call → key_of call < shape.keys → Looked shape words roles log core id desk there (key_of call) call
 look_all shape words roles log core id desk there idle (Find k) given near =
     let map = map_after shape log in let w = get_or words k 0 in
     let Goal : KeyState → Type 0 = λ z. state_of map k ≡ z → ShowsState shape words w z → Looked shape words roles log core id desk there k (Find k) in
     let A : Desk × Step = (moved_to desk (Reading (Find k) (slot_of w) []), Going) in let B : Desk × Step = (moved_to desk Idle, ended reply.Hole) in
     let go : (z : KeyState) → Goal z = λ z. elim z as Goal [
-      | key.Hole ↦ λ is t. stops shape words roles log core id desk there k idle (Find k) reply.Hole near (ap (λ b. cond b A B) (names_none w t.0)) (ap (reply_at shape.bound (model.Find k)) is) refl
-      | key.Asked ↦ λ is t. stops shape words roles log core id desk there k idle (Find k) reply.Hole near (ap (λ b. cond b A B) (names_none w t.0)) (ap (reply_at shape.bound (model.Find k)) is) refl
+      | key.Hole ↦ λ is t. stops shape words roles log core id desk there k idle (Find k) reply.Hole near (ap (λ b. cond b A B) (names_none w t.0)) (ap (reply_at (bound_of shape) (model.Find k)) is) refl
+      | key.Asked ↦ λ is t. stops shape words roles log core id desk there k idle (Find k) reply.Hole near (ap (λ b. cond b A B) (names_none w t.0)) (ap (reply_at (bound_of shape) (model.Find k)) is) refl
       | key.Rows rows ↦ λ is t. let n = names_one w t.0 t.1 in begins shape words roles log core id desk there k idle (Find k) (slot_of w) rows near (t.1 ∙ ap suc (sym n.1)) is (ap (λ b. cond b A B) n.0)
     ] in go (state_of map k) refl (core.shows k near)
 look_all shape words roles log core id desk there idle (Update k batch) given near =
@@ -80,8 +80,8 @@ look_all shape words roles log core id desk there idle (Update k batch) given ne
     let Goal : KeyState → Type 0 = λ z. state_of map k ≡ z → ShowsState shape words w z → Looked shape words roles log core id desk there k call in
     let A : Desk × Step = (moved_to desk (Reading call (slot_of w) []), Going) in let B : Desk × Step = (moved_to desk Idle, ended reply.Dropped) in
     let go : (z : KeyState) → Goal z = λ z. elim z as Goal [
-      | key.Hole ↦ λ is t. stops shape words roles log core id desk there k idle call reply.Dropped near (ap (λ b. cond b A B) (names_none w t.0)) (ap (reply_at shape.bound (model.Update k batch)) is) (ap (state_after shape.bound (model.Update k batch)) is ∙ sym is)
-      | key.Asked ↦ λ is t. stops shape words roles log core id desk there k idle call reply.Dropped near (ap (λ b. cond b A B) (names_none w t.0)) (ap (reply_at shape.bound (model.Update k batch)) is) (ap (state_after shape.bound (model.Update k batch)) is ∙ sym is)
+      | key.Hole ↦ λ is t. stops shape words roles log core id desk there k idle call reply.Dropped near (ap (λ b. cond b A B) (names_none w t.0)) (ap (reply_at (bound_of shape) (model.Update k batch)) is) (ap (state_after (bound_of shape) (model.Update k batch)) is ∙ sym is)
+      | key.Asked ↦ λ is t. stops shape words roles log core id desk there k idle call reply.Dropped near (ap (λ b. cond b A B) (names_none w t.0)) (ap (reply_at (bound_of shape) (model.Update k batch)) is) (ap (state_after (bound_of shape) (model.Update k batch)) is ∙ sym is)
       | key.Rows rows ↦ λ is t. let n = names_one w t.0 t.1 in begins shape words roles log core id desk there k idle call (slot_of w) rows near (t.1 ∙ ap suc (sym n.1)) is (ap (λ b. cond b A B) n.0)
     ] in go (state_of map k) refl (core.shows k near)
 look_all shape words roles log core id desk there idle (Evict k) given near =
@@ -89,8 +89,8 @@ look_all shape words roles log core id desk there idle (Evict k) given near =
     let Goal : KeyState → Type 0 = λ z. state_of map k ≡ z → ShowsState shape words w z → Looked shape words roles log core id desk there k call in
     let A : Desk × Step = (moved_to desk (Leaving k), Going) in let B : Desk × Step = (moved_to desk Idle, ended reply.Nothing) in
     let go : (z : KeyState) → Goal z = λ z. elim z as Goal [
-      | key.Hole ↦ λ is t. stops shape words roles log core id desk there k idle call reply.Nothing near (ap (λ b. cond b A B) (names_none w t.0)) (ap (reply_at shape.bound (model.Evict k)) is) (ap (state_after shape.bound (model.Evict k)) is ∙ sym is)
-      | key.Asked ↦ λ is t. stops shape words roles log core id desk there k idle call reply.Nothing near (ap (λ b. cond b A B) (names_none w t.0)) (ap (reply_at shape.bound (model.Evict k)) is) (ap (state_after shape.bound (model.Evict k)) is ∙ sym is)
+      | key.Hole ↦ λ is t. stops shape words roles log core id desk there k idle call reply.Nothing near (ap (λ b. cond b A B) (names_none w t.0)) (ap (reply_at (bound_of shape) (model.Evict k)) is) (ap (state_after (bound_of shape) (model.Evict k)) is ∙ sym is)
+      | key.Asked ↦ λ is t. stops shape words roles log core id desk there k idle call reply.Nothing near (ap (λ b. cond b A B) (names_none w t.0)) (ap (reply_at (bound_of shape) (model.Evict k)) is) (ap (state_after (bound_of shape) (model.Evict k)) is ∙ sym is)
       | key.Rows rows ↦ λ is t. let n = names_one w t.0 t.1 in let m = mine shape words roles log core id desk there k idle in outcome shape words roles log core id desk there k call (moved_to desk (Leaving k), Going) (ap (λ b. cond b A B) n.0)
           (goes_on shape words roles log core id desk there k (moved_to desk (Leaving k)) (idle_keeps shape words roles log core id desk there k idle)
           (record { place = (slot_of w, record { near = near; names = t.1 ∙ ap suc (sym n.1); rows = rows; full = is; part = refl; more = omega arith }); room = m.room; free = m.free; retired = m.retired }))
@@ -100,13 +100,13 @@ look_all shape words roles log core id desk there idle (Fill k rows) given near 
     let Goal : KeyState → Type 0 = λ z. state_of map k ≡ z → ShowsState shape words w z → Looked shape words roles log core id desk there k call in
     let A : Desk × Step = (moved_to desk Idle, ended reply.Already) in let B : Desk × Step = settled shape desk call rows in let C : Desk × Step = (moved_to desk Idle, ended reply.NotAsked) in
     let go : (z : KeyState) → Goal z = λ z. elim z as Goal [
-      | key.Hole ↦ λ is t. let even = t.1 in stops shape words roles log core id desk there k idle call reply.NotAsked near (ap (λ b. cond b A (cond (has_ask w) B C)) (names_none w t.0) ∙ ap (λ b. cond b B C) (ne_eqb (w % 2) 1 (λ z. omega arith))) (ap (reply_at shape.bound (model.Fill k rows)) is) (ap (state_after shape.bound (model.Fill k rows)) is ∙ sym is)
+      | key.Hole ↦ λ is t. let even = t.1 in stops shape words roles log core id desk there k idle call reply.NotAsked near (ap (λ b. cond b A (cond (has_ask w) B C)) (names_none w t.0) ∙ ap (λ b. cond b B C) (ne_eqb (w % 2) 1 (λ z. omega arith))) (ap (reply_at (bound_of shape) (model.Fill k rows)) is) (ap (state_after (bound_of shape) (model.Fill k rows)) is ∙ sym is)
       | key.Asked ↦ λ is t. outcome shape words roles log core id desk there k call B (ap (λ b. cond b A (cond (has_ask w) B C)) (names_none w t.0) ∙ ap (λ b. cond b B C) (eq-eqb (w % 2) 1 t.1))
-          (settles shape words roles log core id desk there k call rows (idle_keeps shape words roles log core id desk there k idle) (record { near = near; row_set = given; no_hole = asked_no_hole (state_of map k) is; done = ap (reply_at shape.bound (model.Fill k rows)) is; leaves = ap (state_after shape.bound (model.Fill k rows)) is }))
-      | key.Rows old ↦ λ is t. let n = names_one w t.0 t.1 in stops shape words roles log core id desk there k idle call reply.Already near (ap (λ b. cond b A (cond (has_ask w) B C)) n.0) (ap (reply_at shape.bound (model.Fill k rows)) is) (ap (state_after shape.bound (model.Fill k rows)) is ∙ sym is)
+          (settles shape words roles log core id desk there k call rows (idle_keeps shape words roles log core id desk there k idle) (record { near = near; row_set = given; no_hole = asked_no_hole (state_of map k) is; done = ap (reply_at (bound_of shape) (model.Fill k rows)) is; leaves = ap (state_after (bound_of shape) (model.Fill k rows)) is }))
+      | key.Rows old ↦ λ is t. let n = names_one w t.0 t.1 in stops shape words roles log core id desk there k idle call reply.Already near (ap (λ b. cond b A (cond (has_ask w) B C)) n.0) (ap (reply_at (bound_of shape) (model.Fill k rows)) is) (ap (state_after (bound_of shape) (model.Fill k rows)) is ∙ sym is)
     ] in go (state_of map k) refl (core.shows k near)
 
-pub looks : (shape : Shape) (id : ℕ) (desk : Desk) (call : WriterCall) → desk.place ≡ Idle → IsGivenCall shape.bound call → key_of call < shape.keys → CanStep shape id (Writer desk) (Load (key_of call)) (Looks shape desk call)
+pub looks : (shape : Shape) (id : ℕ) (desk : Desk) (call : WriterCall) → desk.place ≡ Idle → IsGivenCall (bound_of shape) call → key_of call < shape.keys → CanStep shape id (Writer desk) (Load (key_of call)) (Looks shape desk call)
 looks shape id desk call idle given near words roles log core there = let o = looked shape desk call (get_or words (key_of call) 0) in record {
   after = Writer o.0;
   entries = ending (call_of call) o.1;

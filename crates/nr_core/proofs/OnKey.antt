@@ -5,7 +5,7 @@ use mathlib.Core.Logic.{dite}
 use mathlib.Core.Option.{some}
 use native.Mathlib.Decide.{ℕ_discrete}
 use Rattle.nr_model.specs.Histories.{Entry, IsLegal, after}
-use Rattle.nr_model.specs.Maps.{opening as opening_map, state_of}
+use Rattle.nr_model.specs.Maps.{state_of}
 use Rattle.nr_model.specs.declared.states.KeyState.{KeyState}
 use Rattle.nr_words.specs.KeyWords.{arrivals_of}
 use Rattle.nr_core.proofs.Frames.{Left, desk_more, holding_more, shows_more}
@@ -13,7 +13,7 @@ use Rattle.nr_core.proofs.Sums.{at_set, below-same, below-term, below-terms, onl
 use Rattle.nr_core.specs.Core.{Core, Grips, Knows, ShowsState}
 use Rattle.nr_core.specs.Roles.{grips, held, holds, is_reader, is_writer, keeps}
 use Rattle.nr_core.specs.Slots.{content, departures, name_number, named}
-use Rattle.nr_core.specs.Story.{map_after, shown}
+use Rattle.nr_core.specs.Story.{map_after, opening_map, shown}
 use Rattle.nr_core.specs.Sums.{only, total}
 use Rattle.nr_core.specs.declared.roles.Grip.{Grip}
 use Rattle.nr_core.specs.declared.roles.Role.{Role}
@@ -40,7 +40,7 @@ kept_by s roles j u at l = let part = term_le (keeps s) roles j u at in omega ar
 -- a reader's step on a key's word that leaves what the word names
 pub on_key : (shape : Shape) (words : List ℕ) (roles : List Role) (log es : List Entry) (core : Core shape words roles log) (id c : ℕ) (before after : Grip) (k x : ℕ)
     → k < shape.keys → get_elem? roles id ≡ some (Reader c before) → name_number x ≡ name_number (get_or words k 0)
-    → IsLegal (opening_map shape.keys shape.bound) (log ++ es)
+    → IsLegal (opening_map shape) (log ++ es)
     → ((j : ℕ) → j ≢ k → state_of (map_after shape (log ++ es)) j ≡ state_of (map_after shape log) j)
     → ((j : ℕ) → (state_of (map_after shape log) j ≡ key.Hole → ⊥) → state_of (map_after shape (log ++ es)) j ≡ state_of (map_after shape log) j)
     → ShowsState shape words x (state_of (map_after shape (log ++ es)) k)

@@ -70,11 +70,11 @@ below_none f (suc n) none = omega (arith, below_none f n (λ k l. none k (omega 
 
 -- the writer, and so many readers
 pub core_opens : (shape : Shape) → IsShape shape → (n : ℕ) → n ≤ shape.readers → Core shape (opening_words shape) (Writer opening_desk ∷ readers_from 0 n) []
-core_opens shape fits n few = let words = opening_words shape in let slot = shape.first ∷ replicate slot_room 0 in let roles = Writer opening_desk ∷ readers_from 0 n in let all = all_readers n 0 in
+core_opens shape fits n few = let words = opening_words shape in let slot = shape.first_count ∷ replicate slot_room 0 in let roles = Writer opening_desk ∷ readers_from 0 n in let all = all_readers n 0 in
     let key_zero : (k : ℕ) → k < shape.keys → get_or words k 0 ≡ 0 = front shape.keys (repeated shape.slots slot) in
     let wide : length words ≡ total_of slot_room (layout shape) = omega (arith, length-append (replicate shape.keys 0) (repeated shape.slots slot), length-replicate {A = ℕ} shape.keys 0, length-repeated shape.slots slot refl) in
-    let dep : (s : ℕ) → s < shape.slots → get_or words (departures shape s) 0 ≡ shape.first
-    = λ s near. past (replicate shape.keys 0) (repeated shape.slots slot) (departures shape s) (suc slot_room * s) (omega (arith, length-replicate {A = ℕ} shape.keys 0)) ∙ each_slot shape.slots s shape.first (replicate slot_room 0) (suc slot_room * s) refl near refl in
+    let dep : (s : ℕ) → s < shape.slots → get_or words (departures shape s) 0 ≡ shape.first_count
+    = λ s near. past (replicate shape.keys 0) (repeated shape.slots slot) (departures shape s) (suc slot_room * s) (omega (arith, length-replicate {A = ℕ} shape.keys 0)) ∙ each_slot shape.slots s shape.first_count (replicate slot_room 0) (suc slot_room * s) refl near refl in
     let nobody_holds : (s : ℕ) → held roles s ≡ 0 = λ s. omega (arith, no_weight (holds s) (λ c. refl) n 0) in
     let nameless : (k : ℕ) → k < shape.keys → name_number (get_or words k 0) ≡ 0 = λ k near. ap name_number (key_zero k near) in record {
       fits = fits;

@@ -19,7 +19,7 @@ use Rattle.nr_core.specs.Reach.{HasRoom, Reached, RoomAt, RoomOf}
 use Rattle.nr_core.specs.Refusals.{refusal}
 use Rattle.nr_core.specs.Roles.{held, taken}
 use Rattle.nr_core.specs.Sizes.{IsShape}
-use Rattle.nr_core.specs.Slots.{name_number, named, slot_room}
+use Rattle.nr_core.specs.Slots.{bound_of, name_number, named, slot_room}
 use Rattle.nr_core.specs.States.{Event, State, hold_of, key_of, no_retired, opening, retired_at}
 use Rattle.nr_core.specs.Story.{holders, map_after, story_of}
 use Rattle.nr_core.specs.declared.calls.Refusal.{Refusal}
@@ -44,16 +44,16 @@ shape_kept state event = go (refusal state event)
     go None = refl
     go (Some why) = refl
 
-reached_next : (state : State) (event : Event) → IsGiven state.shape.bound event → Reached state → Reached (next state event)
+reached_next : (state : State) (event : Event) → IsGiven (bound_of state.shape) event → Reached state → Reached (next state event)
 reached_next state event given reached = let kept = shape_kept state event in record {
   events = reached.events ++ event ∷ [];
   shape = subst IsShape (sym kept) reached.shape;
-  given = subst (λ (shape : Shape). AllGiven shape.bound (reached.events ++ event ∷ [])) (sym kept) (all_given state.shape.bound reached.events event reached.given given);
+  given = subst (λ (shape : Shape). AllGiven (bound_of shape) (reached.events ++ event ∷ [])) (sym kept) (all_given (bound_of state.shape) reached.events event reached.given given);
   leads = ap (λ s. next s event) reached.leads ∙ sym (run_more state.shape reached.events event) ∙ ap (λ shape. run shape (reached.events ++ event ∷ [])) (sym kept);
 }
 
 -- an event leads on
-pub leads_on : (state : State) (event : Event) → IsGiven state.shape.bound event → ∥ Reached state ∥₁ → ∥ Reached (next state event) ∥₁
+pub leads_on : (state : State) (event : Event) → IsGiven (bound_of state.shape) event → ∥ Reached state ∥₁ → ∥ Reached (next state event) ∥₁
 leads_on state event given reached = ∥∥₁_map reached (reached_next state event given)
 
 reached_core : (state : State) (reached : Reached state) → IsCoreState state (story_of state.shape reached.events).history
@@ -62,7 +62,7 @@ reached_core state reached = let t = story_core state.shape reached.events reach
 
 -- THE ROOM OF THE NEXT STEP
 
-grip_room : (shape : Shape) (words : List ℕ) (map : PartialMap) (holders : ℕ → ℕ) → 2 * shape.bound < slot_room → (grip : Grip) → Grips shape words map holders grip → RoomOf shape (erased grip)
+grip_room : (shape : Shape) (words : List ℕ) (map : PartialMap) (holders : ℕ → ℕ) → 2 * (bound_of shape) < slot_room → (grip : Grip) → Grips shape words map holders grip → RoomOf shape (erased grip)
 grip_room shape words map holders fits Nothing t = tt
 grip_room shape words map holders fits (On slot rows true) t = let short = t.1.0.1 in (t.0, omega arith)
 grip_room shape words map holders fits (On slot rows false) t = t.0

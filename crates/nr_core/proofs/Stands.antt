@@ -21,7 +21,7 @@ use Rattle.nr_core.specs.Laws.{HoldsFound, Stands, map_of}
 use Rattle.nr_core.specs.Machine.{answer, found_by, read_answer}
 use Rattle.nr_core.specs.Refusals.{has_reader, if_beyond, if_unreadable, refusal}
 use Rattle.nr_core.specs.Roles.{held, holds, taken}
-use Rattle.nr_core.specs.Slots.{content, departures, unused}
+use Rattle.nr_core.specs.Slots.{bound_of, content, departures, unused}
 use Rattle.nr_core.specs.States.{Read, State, hold_of, no_retired, slot_in}
 use Rattle.nr_core.specs.Story.{Story}
 use Rattle.nr_core.specs.declared.calls.Refusal.{Refusal}
@@ -112,5 +112,5 @@ stands story is_core = let state = story.state in let shape = state.shape in let
         (λ l. let u : unused s state.desk.fresh ≡ 0 = ap (λ b. cond {A = ℕ} b 1 0) (lt-leb state.desk.fresh s (omega arith)) in taken_nobody shape state.words (map_of story) (held roles) state.desk.fresh state.desk.retired s state.desk.place desk.place (omega arith));
   };
   held = λ r s n low e. holding story is_core r s n low e;
-  sent = λ k near. sends_are_filled_lem shape.keys shape.bound k story.history core.legal near;
+  sent = λ k near. sends_are_filled_lem shape.keys (bound_of shape) k story.history core.legal near;
 }

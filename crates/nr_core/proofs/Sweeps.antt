@@ -30,7 +30,7 @@ use Rattle.nr_core.specs.Machine.{moved, read_hold}
 use Rattle.nr_core.specs.Operations.{going, place_of}
 use Rattle.nr_core.specs.Refusals.{has_key, has_reader, if_holding, if_not_holding, if_unreadable, refusal}
 use Rattle.nr_core.specs.Roles.{held}
-use Rattle.nr_core.specs.Slots.{content, name_number, set_of}
+use Rattle.nr_core.specs.Slots.{bound_of, content, name_number, set_of}
 use Rattle.nr_core.specs.States.{Arrive, Ask, Depart, Event, Go, Read, Start, State, hold_of, key_of, no_retired, retired_at, slot_in}
 use Rattle.nr_core.specs.Story.{Poll, holders_from, is_on, map_after, poll_at, polls_after}
 use Rattle.nr_core.specs.Sums.{only, total}
@@ -197,7 +197,7 @@ module _ (shape : Shape) (words : List ℕ) (hs : List Hold) where
   Good polls o = AtSweep (with_desk o.0) polls o.0.place
 
   settle_good : (desk : Desk) (call : WriterCall) (rows : List Row) (polls : List Poll) → polls ≡ [] → Good polls (settled shape desk call rows)
-  settle_good desk call rows polls none = by_cases (λ v. Good polls (cond {A = Desk × Step} v (record { place = Putting call rows desk.fresh shape.first 0; fresh = desk.fresh + 1; retired = desk.retired }, Going)
+  settle_good desk call rows polls none = by_cases (λ v. Good polls (cond {A = Desk × Step} v (record { place = Putting call rows desk.fresh shape.first_count 0; fresh = desk.fresh + 1; retired = desk.retired }, Going)
       (cond {A = Desk × Step} (nat_eq (length desk.retired) 0) (moved_to desk Idle, no_slot shape desk) (moved_to desk (Searching call rows 0), Going)))) (nat_lt desk.fresh shape.slots) (λ _. tt)
       (λ _. by_cases (λ v. Good polls (cond {A = Desk × Step} v (moved_to desk Idle, no_slot shape desk) (moved_to desk (Searching call rows 0), Going))) (nat_eq (length desk.retired) 0) (λ _. tt) (λ _. no_notes (moved_to desk (Searching call rows 0)) polls none))
 
@@ -212,14 +212,14 @@ module _ (shape : Shape) (words : List ℕ) (hs : List Hold) where
   decided_good desk (Find k) rows polls none = tt
   decided_good desk (Fill k new) rows polls none = tt
   decided_good desk (Evict k) rows polls none = tt
-  decided_good desk (Update k b) rows polls none = go (applied shape.bound rows b)
+  decided_good desk (Update k b) rows polls none = go (applied (bound_of shape) rows b)
     where
       go : (a : Result (List Row) ApplyFault) → Good polls (renewed shape desk (Update k b) a)
       go (Ok new) = settle_good desk (Update k b) new polls none
       go (Err f) = tt
 
   read_good : (desk : Desk) (call : WriterCall) (s : ℕ) (got : List ℕ) (polls : List Poll) → polls ≡ [] → Good polls (read_on shape desk call s got)
-  read_good desk call s got polls none = by_cases (λ v. Good polls (cond {A = Desk × Step} v (decided shape desk call (set_of shape.bound got)) (moved_to desk (Reading call s got), Going))) (nat_eq (length got) (2 * get_or got 0 0 + 1)) (λ _. decided_good desk call (set_of shape.bound got) polls none) (λ _. none)
+  read_good desk call s got polls none = by_cases (λ v. Good polls (cond {A = Desk × Step} v (decided shape desk call (set_of (bound_of shape) got)) (moved_to desk (Reading call s got), Going))) (nat_eq (length got) (2 * get_or got 0 0 + 1)) (λ _. decided_good desk call (set_of (bound_of shape) got) polls none) (λ _. none)
 
 got_or : (l : List Hold) (j : ℕ) (x : Hold) → get_elem? l j ≡ some x → (get_or l j hold.Nothing ≡ x) × (j < length l)
 got_or [] j x e = absurd (some-ne-none x (sym e))

@@ -9,6 +9,7 @@ use Rattle.nr_core.proofs.Sums.{only-zero}
 use Rattle.nr_core.proofs.Swap.{swap_step}
 use Rattle.nr_core.specs.Core.{AtPlace, Core, ShowsState}
 use Rattle.nr_core.specs.Roles.{held, taken}
+use Rattle.nr_core.specs.Slots.{bound_of}
 use Rattle.nr_core.specs.Story.{entry, map_after}
 use Rattle.nr_core.specs.Writer.{swapped}
 use Rattle.nr_core.specs.declared.places.Place.TheVariants.{Leaving}
@@ -23,5 +24,5 @@ pub unpublishes : (shape : Shape) (words : List ℕ) (roles : List Role) (log : 
     → Core shape (set words at 0) (set roles id (Writer (swapped desk (get_or words at 0)))) (log ++ entry 0 (model.Evict at) reply.Evicted ∷ [])
 unpublishes shape words roles log core id desk there at is_at = let known = core.knows id (Writer desk) there in let map = map_after shape log in
     let p : AtPlace shape words map (held roles) desk.fresh desk.retired (Leaving at) = subst (AtPlace shape words map (held roles) desk.fresh desk.retired) is_at known.place in let r = p.1 in
-    swap_step shape words roles log core id desk there at 0 (model.Evict at) reply.Evicted r.near refl (ap (reply_at shape.bound (model.Evict at)) r.full) (subst (λ (z : KeyState). ShowsState shape words 0 z) (sym (ap (state_after shape.bound (model.Evict at)) r.full)) (refl, refl))
+    swap_step shape words roles log core id desk there at 0 (model.Evict at) reply.Evicted r.near refl (ap (reply_at (bound_of shape) (model.Evict at)) r.full) (subst (λ (z : KeyState). ShowsState shape words 0 z) (sym (ap (state_after (bound_of shape) (model.Evict at)) r.full)) (refl, refl))
     (λ s. ap (taken s) is_at ∙ sym (only-zero s)) (λ s e. absurd (omega arith))

@@ -13,6 +13,7 @@ use Rattle.nr_core.proofs.Choices.{by_cases}
 use Rattle.nr_core.proofs.KeyWords.{names_one}
 use Rattle.nr_core.specs.Core.{ShowsState}
 use Rattle.nr_core.specs.Machine.{answer}
+use Rattle.nr_core.specs.Slots.{bound_of}
 use Rattle.nr_core.specs.States.{retired_at}
 use Rattle.nr_core.specs.Story.{call_of}
 use Rattle.nr_core.specs.Writer.{decided, ended, looked, moved_to, no_slot, polled, polls_on, renewed, settled, taking_fresh, taking_retired}
@@ -64,21 +65,21 @@ module _ (shape : Shape) (desk : Desk) (counts : NoSlot) where
 
   -- a look ends so at a fill of an asked key alone
   pub look_none : (call : WriterCall) (w : ℕ) → IsWithout counts (looked shape desk call w)
-      → NoneLeft shape desk (looked shape desk call w) counts × (shape.slots ≤ desk.fresh) × (length desk.retired ≡ 0) × ((state : KeyState) (words : List ℕ) → ShowsState shape words w state → reply_at shape.bound (call_of call) state ≡ reply.Done)
+      → NoneLeft shape desk (looked shape desk call w) counts × (shape.slots ≤ desk.fresh) × (length desk.retired ≡ 0) × ((state : KeyState) (words : List ℕ) → ShowsState shape words w state → reply_at (bound_of shape) (call_of call) state ≡ reply.Done)
   look_none (Find k) w = by_cases (λ v. let o = cond {A = Desk × Step} v (moved_to desk (Reading (Find k) (slot_of w) []), Going) (moved_to desk Idle, ended reply.Hole) in
-      IsWithout counts o → NoneLeft shape desk o counts × (shape.slots ≤ desk.fresh) × (length desk.retired ≡ 0) × ((state : KeyState) (words : List ℕ) → ShowsState shape words w state → reply_at shape.bound (model.Find k) state ≡ reply.Done)) (is_filled w)
+      IsWithout counts o → NoneLeft shape desk o counts × (shape.slots ≤ desk.fresh) × (length desk.retired ≡ 0) × ((state : KeyState) (words : List ℕ) → ShowsState shape words w state → reply_at (bound_of shape) (model.Find k) state ≡ reply.Done)) (is_filled w)
       (λ _ e. absurd (not_going counts e)) (λ _ e. absurd (not_reply counts reply.Hole e))
   look_none (Update k batch) w = by_cases (λ v. let o = cond {A = Desk × Step} v (moved_to desk (Reading (Update k batch) (slot_of w) []), Going) (moved_to desk Idle, ended reply.Dropped) in
-      IsWithout counts o → NoneLeft shape desk o counts × (shape.slots ≤ desk.fresh) × (length desk.retired ≡ 0) × ((state : KeyState) (words : List ℕ) → ShowsState shape words w state → reply_at shape.bound (model.Update k batch) state ≡ reply.Done)) (is_filled w)
+      IsWithout counts o → NoneLeft shape desk o counts × (shape.slots ≤ desk.fresh) × (length desk.retired ≡ 0) × ((state : KeyState) (words : List ℕ) → ShowsState shape words w state → reply_at (bound_of shape) (model.Update k batch) state ≡ reply.Done)) (is_filled w)
       (λ _ e. absurd (not_going counts e)) (λ _ e. absurd (not_reply counts reply.Dropped e))
   look_none (Evict k) w = by_cases (λ v. let o = cond {A = Desk × Step} v (moved_to desk (Leaving k), Going) (moved_to desk Idle, ended reply.Nothing) in
-      IsWithout counts o → NoneLeft shape desk o counts × (shape.slots ≤ desk.fresh) × (length desk.retired ≡ 0) × ((state : KeyState) (words : List ℕ) → ShowsState shape words w state → reply_at shape.bound (model.Evict k) state ≡ reply.Done)) (is_filled w)
+      IsWithout counts o → NoneLeft shape desk o counts × (shape.slots ≤ desk.fresh) × (length desk.retired ≡ 0) × ((state : KeyState) (words : List ℕ) → ShowsState shape words w state → reply_at (bound_of shape) (model.Evict k) state ≡ reply.Done)) (is_filled w)
       (λ _ e. absurd (not_going counts e)) (λ _ e. absurd (not_reply counts reply.Nothing e))
   look_none (Fill k rows) w = by_cases (λ v. is_filled w ≡ v → let o = cond {A = Desk × Step} v (moved_to desk Idle, ended reply.Already) (cond {A = Desk × Step} (has_ask w) (settled shape desk (Fill k rows) rows) (moved_to desk Idle, ended reply.NotAsked)) in
-      IsWithout counts o → NoneLeft shape desk o counts × (shape.slots ≤ desk.fresh) × (length desk.retired ≡ 0) × ((state : KeyState) (words : List ℕ) → ShowsState shape words w state → reply_at shape.bound (model.Fill k rows) state ≡ reply.Done)) (is_filled w)
+      IsWithout counts o → NoneLeft shape desk o counts × (shape.slots ≤ desk.fresh) × (length desk.retired ≡ 0) × ((state : KeyState) (words : List ℕ) → ShowsState shape words w state → reply_at (bound_of shape) (model.Fill k rows) state ≡ reply.Done)) (is_filled w)
       (λ _ _ e. absurd (not_reply counts reply.Already e))
       (λ unfilled _. by_cases (λ v. let o = cond {A = Desk × Step} v (settled shape desk (Fill k rows) rows) (moved_to desk Idle, ended reply.NotAsked) in
-      IsWithout counts o → NoneLeft shape desk o counts × (shape.slots ≤ desk.fresh) × (length desk.retired ≡ 0) × ((state : KeyState) (words : List ℕ) → ShowsState shape words w state → reply_at shape.bound (model.Fill k rows) state ≡ reply.Done)) (has_ask w)
+      IsWithout counts o → NoneLeft shape desk o counts × (shape.slots ≤ desk.fresh) × (length desk.retired ≡ 0) × ((state : KeyState) (words : List ℕ) → ShowsState shape words w state → reply_at (bound_of shape) (model.Fill k rows) state ≡ reply.Done)) (has_ask w)
       (λ asked e. let n = settle_none (Fill k rows) rows e in (n.0, n.1, n.2, λ state words shows. asked_state_of state words shows unfilled asked))
       (λ _ e. absurd (not_reply counts reply.NotAsked e)))
       refl
@@ -90,13 +91,13 @@ module _ (shape : Shape) (desk : Desk) (counts : NoSlot) where
 
   -- a last read ends so where an update has a new set
   pub decided_none : (call : WriterCall) (rows : List Row) → IsWithout counts (decided shape desk call rows)
-      → NoneLeft shape desk (decided shape desk call rows) counts × (shape.slots ≤ desk.fresh) × (length desk.retired ≡ 0) × (reply_at shape.bound (call_of call) (key.Rows rows) ≡ reply.Done)
+      → NoneLeft shape desk (decided shape desk call rows) counts × (shape.slots ≤ desk.fresh) × (length desk.retired ≡ 0) × (reply_at (bound_of shape) (call_of call) (key.Rows rows) ≡ reply.Done)
   decided_none (Find k) rows e = absurd (not_reply counts (reply.Rows rows) e)
   decided_none (Fill k new) rows e = absurd (not_going counts e)
   decided_none (Evict k) rows e = absurd (not_going counts e)
-  decided_none (Update k batch) rows e = go (applied shape.bound rows batch) refl e
+  decided_none (Update k batch) rows e = go (applied (bound_of shape) rows batch) refl e
     where
-      go : (a : Result (List Row) ApplyFault) → applied shape.bound rows batch ≡ a → IsWithout counts (renewed shape desk (Update k batch) a)
+      go : (a : Result (List Row) ApplyFault) → applied (bound_of shape) rows batch ≡ a → IsWithout counts (renewed shape desk (Update k batch) a)
           → NoneLeft shape desk (renewed shape desk (Update k batch) a) counts × (shape.slots ≤ desk.fresh) × (length desk.retired ≡ 0) × (applied_reply a ≡ reply.Done)
       go (Ok new) is e' = let n = settle_none (Update k batch) new e' in (n.0, n.1, n.2, refl)
       go (Err why) is e' = absurd (not_reply counts (applied_reply (Err why)) e')

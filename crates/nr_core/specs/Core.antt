@@ -8,7 +8,6 @@ use Rattle.nr_model.specs.declared.states.KeyState.{KeyState}
 use Rattle.nr_model.specs.declared.states.KeyState.TheVariants as key
 use Rattle.nr_model.specs.Rows.{IsRowSet}
 use Rattle.nr_model.specs.Maps.{PartialMap, state_of, reply_at, state_after}
-use Rattle.nr_model.specs.Maps.{opening as opening_map}
 use Rattle.nr_model.specs.Histories.{Entry, IsLegal}
 use Rattle.nr_core.specs.declared.shape.Shape.{Shape}
 use Rattle.nr_core.specs.declared.calls.WriterCall.{WriterCall}
@@ -26,9 +25,9 @@ use Rattle.nr_core.specs.Roles.{is_writer, is_reader, held, keeps}
 use Rattle.nr_words.specs.KeyWords.{arrivals_of}
 use Rattle.nr_words.specs.SetWords.{encode}
 use Rattle.nr_words.specs.Places.{total_of}
-use Rattle.nr_core.specs.Slots.{layout, departures, content, slot_room, name_number, named, SlotSpells}
+use Rattle.nr_core.specs.Slots.{bound_of, layout, departures, content, slot_room, name_number, named, SlotSpells}
 use Rattle.nr_core.specs.States.{key_of}
-use Rattle.nr_core.specs.Story.{call_of, map_after}
+use Rattle.nr_core.specs.Story.{call_of, map_after, opening_map}
 
 -- a count of arrivals is the departures and the callers that hold the slot, as far as counts go
 abbrev pub Counts : Shape → List ℕ → (ℕ → ℕ) → ℕ → ℕ → Type 0
@@ -38,10 +37,10 @@ module _ (shape : Shape) (words : List ℕ) (map : PartialMap) (holders : ℕ �
   -- the call would be done now, and leave the set at its key
   pub record Wants (call : WriterCall) (rows : List Row) : Type 0 where
     pub near : key_of call < shape.keys
-    pub row_set : IsRowSet shape.bound rows
+    pub row_set : IsRowSet (bound_of shape) rows
     pub no_hole : state_of map (key_of call) ≡ key.Hole → ⊥
-    pub done : reply_at shape.bound (call_of call) (state_of map (key_of call)) ≡ reply.Done
-    pub leaves : state_after shape.bound (call_of call) (state_of map (key_of call)) ≡ key.Rows rows
+    pub done : reply_at (bound_of shape) (call_of call) (state_of map (key_of call)) ≡ reply.Done
+    pub leaves : state_after (bound_of shape) (call_of call) (state_of map (key_of call)) ≡ key.Rows rows
 
   -- the key's slot is being read, and these words are the first of its set
   pub record Reads (at slot : ℕ) (got : List ℕ) : Type 0 where
@@ -72,7 +71,7 @@ module _ (shape : Shape) (words : List ℕ) (map : PartialMap) (holders : ℕ �
   pub record AtDesk (desk : Desk) : Type 0 where
     pub place : AtPlace desk.fresh desk.retired desk.place
     pub room : desk.fresh ≤ shape.slots
-    pub free : (slot : ℕ) → desk.fresh ≤ slot → slot < shape.slots → (holders slot ≡ 0) × (slice_index words (departures shape slot) ≡ shape.first)
+    pub free : (slot : ℕ) → desk.fresh ≤ slot → slot < shape.slots → (holders slot ≡ 0) × (slice_index words (departures shape slot) ≡ shape.first_count)
     pub retired : (at : ℕ) (entry : Retired) → get_elem? desk.retired at ≡ some entry → (entry.slot < shape.slots) × Counts shape words holders entry.slot entry.arrivals
 
   -- what a reader knows: the slot that it holds spells the set that it found
@@ -94,7 +93,7 @@ ShowsState shape words word (key.Rows rows) = (slot : ℕ) × (name_number word 
 pub record Core (shape : Shape) (words : List ℕ) (roles : List Role) (log : List Entry) : Type 0 where
   pub fits : IsShape shape
   pub wide : length words ≡ total_of slot_room (layout shape)
-  pub legal : IsLegal (opening_map shape.keys shape.bound) log
+  pub legal : IsLegal (opening_map shape) log
   -- the words show the map after the history
   pub shows : (at : ℕ) → at < shape.keys → ShowsState shape words (slice_index words at) (state_of (map_after shape log) at)
   -- each slot has exactly one place: named by a key, free, retired or taken

@@ -6,7 +6,7 @@ use Rattle.nr_core.specs.declared.places.Hold.TheVariants.{Nothing, On}
 use Rattle.nr_core.specs.declared.places.Place.{Place}
 use Rattle.nr_core.specs.declared.places.Place.TheVariants.{Idle, Reading, Leaving, Searching, Putting}
 use Rattle.nr_words.specs.Places.{total_of}
-use Rattle.nr_core.specs.Slots.{layout, slot_room}
+use Rattle.nr_core.specs.Slots.{bound_of, layout, slot_room}
 use Rattle.nr_core.specs.States.{State, Event, key_of, hold_of, retired_at}
 use Rattle.nr_core.specs.Machine.{run}
 use Rattle.nr_core.specs.Sizes.{IsShape}
@@ -16,7 +16,7 @@ use Rattle.nr_core.specs.Laws.{AllGiven}
 pub record Reached (state : State) : Type 0 where
   pub events : List Event
   pub shape : IsShape state.shape
-  pub given : AllGiven state.shape.bound events
+  pub given : AllGiven (bound_of state.shape) events
   pub leads : state ≡ run state.shape events
 
 -- the words that a hold lets its reader read are a slot's

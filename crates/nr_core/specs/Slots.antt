@@ -30,7 +30,7 @@ repeated (suc n) xs = xs ++ repeated n xs
 
 -- the words at opening: every key a hole, every slot's departures the first count
 abbrev pub opening_words : Shape → List ℕ
-opening_words shape = replicate shape.keys 0 ++ repeated shape.slots (shape.first ∷ replicate slot_room 0)
+opening_words shape = replicate shape.keys 0 ++ repeated shape.slots (shape.first_count ∷ replicate slot_room 0)
 
 -- the word that fills a key with a slot whose departures are these
 abbrev pub naming : ℕ → ℕ → ℕ
@@ -63,4 +63,4 @@ set_of bound words = rows_or_none (decode bound words)
 -- the slot's content words are those of the row set
 abbrev pub SlotSpells : Shape → List ℕ → ℕ → List Row → Type 0
 SlotSpells shape words slot rows =
-    IsRowSet shape.bound rows × ((index : ℕ) → index < length (encode rows) → slice_index words (content shape slot index) ≡ slice_index (encode rows) index)
+    IsRowSet (bound_of shape) rows × ((index : ℕ) → index < length (encode rows) → slice_index words (content shape slot index) ≡ slice_index (encode rows) index)

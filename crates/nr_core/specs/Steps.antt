@@ -16,7 +16,7 @@ use Rattle.nr_core.specs.declared.roles.Grip.TheVariants.{Nothing, On}
 use Rattle.nr_core.specs.declared.roles.Desk.{Desk}
 use Rattle.nr_words.specs.KeyWords.{is_filled, has_ask}
 use Rattle.nr_words.specs.SetWords.{encode}
-use Rattle.nr_core.specs.Slots.{name_number}
+use Rattle.nr_core.specs.Slots.{bound_of, name_number}
 use Rattle.nr_core.specs.Operations.{Operation, place_of, becomes}
 use Rattle.nr_core.specs.Writer.{looked, went}
 use Rattle.nr_core.specs.Story.{entry, call_of, ending, ending_at}
@@ -46,7 +46,7 @@ CanStep shape id role operation tells =
 -- an arrive finds the key's set, and holds its slot, or finds a hole
 abbrev pub Arrives : Shape → ℕ → ℕ → Telling
 Arrives shape reader at word after entries =
-    ((slot : ℕ) × (rows : List Row) × (name_number word ≡ suc slot) × (slot < shape.slots) × IsRowSet shape.bound rows × (after ≡ Reader reader (On slot rows false)) × (entries ≡ entry reader (model.Find at) (reply.Rows rows) ∷ []))
+    ((slot : ℕ) × (rows : List Row) × (name_number word ≡ suc slot) × (slot < shape.slots) × IsRowSet (bound_of shape) rows × (after ≡ Reader reader (On slot rows false)) × (entries ≡ entry reader (model.Find at) (reply.Rows rows) ∷ []))
     ⊎ ((name_number word ≡ 0) × (after ≡ Reader reader Nothing) × (entries ≡ entry reader (model.Find at) reply.Hole ∷ []))
 
 -- the reply that a key's word gives to a request

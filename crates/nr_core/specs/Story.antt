@@ -6,7 +6,7 @@ use Rattle.nr_model.specs.declared.calls.Reply.{Reply}
 use Rattle.nr_model.specs.declared.states.KeyState.{KeyState}
 use Rattle.nr_model.specs.declared.states.KeyState.TheVariants as key
 use Rattle.nr_model.specs.Maps.{PartialMap, find_reply, ask_reply}
-use Rattle.nr_model.specs.Maps.{opening as opening_map}
+use Rattle.nr_model.specs.Maps.{opening as map_opening}
 use Rattle.nr_model.specs.Histories.{Entry, after}
 use Rattle.nr_core.specs.declared.shape.Shape.{Shape}
 use Rattle.nr_core.specs.declared.calls.WriterCall.{WriterCall}
@@ -19,7 +19,7 @@ use Rattle.nr_core.specs.declared.places.Hold.TheVariants.{Nothing, On}
 use Rattle.nr_core.specs.declared.places.Place.{Place}
 use Rattle.nr_core.specs.declared.places.Place.TheVariants.{Idle, Reading, Leaving, Searching, Putting}
 use Rattle.nr_words.specs.KeyWords.{is_filled, has_ask, slot_of, same_count}
-use Rattle.nr_core.specs.Slots.{content_words, set_of}
+use Rattle.nr_core.specs.Slots.{bound_of, content_words, set_of}
 use Rattle.nr_core.specs.States.{State, Event, Arrive, Read, Depart, Ask, Start, Go, opening, word, retired_at}
 use Rattle.nr_core.specs.Refusals.{refusal}
 use Rattle.nr_core.specs.Writer.{looked, went}
@@ -27,13 +27,13 @@ use Rattle.nr_core.specs.Machine.{found_by, unless, next}
 
 -- the map that a history leaves
 abbrev pub map_after : Shape → List Entry → PartialMap
-map_after shape history = after (opening_map shape.keys shape.bound) history
+map_after shape history = after (opening_map shape) history
 
 -- the key's state that its word shows, with the slot that it names
 abbrev pub shown : State → ℕ → KeyState
 shown state at =
     (if is_filled (word state at)
-    then key.Rows (set_of state.shape.bound (content_words state.shape state.words (slot_of (word state at))))
+    then key.Rows (set_of (bound_of state.shape) (content_words state.shape state.words (slot_of (word state at))))
     else (if has_ask (word state at) then key.Asked else key.Hole))
 
 abbrev pub call_of : WriterCall → Call

@@ -17,7 +17,7 @@ use Rattle.nr_core.specs.declared.places.Place.TheVariants.{Idle, Reading, Leavi
 use Rattle.nr_core.specs.declared.places.Retired.{Retired}
 use Rattle.nr_core.specs.declared.roles.Desk.{Desk}
 use Rattle.nr_words.specs.KeyWords.{is_filled, has_ask, slot_of, arrivals_of, same_count}
-use Rattle.nr_core.specs.Slots.{set_of}
+use Rattle.nr_core.specs.Slots.{bound_of, set_of}
 use Rattle.nr_core.specs.States.{retired_at}
 
 -- the desk with the writer at another place of its call
@@ -33,7 +33,7 @@ no_slot shape desk = Ended (writer.NoSlot (record { live = shape.slots - length 
 
 -- the desk after the first free slot was taken for the set
 abbrev pub taking_fresh : Shape → Desk → WriterCall → List Row → Desk
-taking_fresh shape desk call rows = record { place = Putting call rows desk.fresh shape.first 0; fresh = desk.fresh + 1; retired = desk.retired }
+taking_fresh shape desk call rows = record { place = Putting call rows desk.fresh shape.first_count 0; fresh = desk.fresh + 1; retired = desk.retired }
 
 -- the call takes a free slot for its set, or goes on to poll the retired ones, or there is none
 abbrev pub settled : Shape → Desk → WriterCall → List Row → Desk × Step
@@ -62,13 +62,13 @@ renewed shape desk call (Err fault) = (moved_to desk Idle, ended (applied_reply 
 abbrev pub decided : Shape → Desk → WriterCall → List Row → Desk × Step
 decided shape desk (Find key) rows = (moved_to desk Idle, ended (reply.Rows rows))
 decided shape desk (Fill key new) rows = (moved_to desk Idle, Going)
-decided shape desk (Update key batch) rows = renewed shape desk (Update key batch) (applied shape.bound rows batch)
+decided shape desk (Update key batch) rows = renewed shape desk (Update key batch) (applied (bound_of shape) rows batch)
 decided shape desk (Evict key) rows = (moved_to desk Idle, Going)
 
 -- a read, after which the call has read these words of the slot
 abbrev pub read_on : Shape → Desk → WriterCall → ℕ → List ℕ → Desk × Step
 read_on shape desk call slot got =
-    (if length got == 2 * slice_index got 0 + 1 then decided shape desk call (set_of shape.bound got) else (moved_to desk (Reading call slot got), Going))
+    (if length got == 2 * slice_index got 0 + 1 then decided shape desk call (set_of (bound_of shape) got) else (moved_to desk (Reading call slot got), Going))
 
 -- the desk after the retired slot at a place was taken for the set, whose departures were found
 abbrev pub taking_retired : Desk → WriterCall → List Row → ℕ → ℕ → Desk
