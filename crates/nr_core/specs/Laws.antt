@@ -5,18 +5,18 @@ use Rattle.nr_model.specs.declared.calls.Reply.TheVariants as reply
 use Rattle.nr_model.specs.declared.calls.Call.TheVariants as model
 use Rattle.nr_model.specs.Rows.{IsRowSet}
 use Rattle.nr_model.specs.Maps.{PartialMap, state_of, reply_to, filled_count}
-use Rattle.nr_model.specs.Histories.{Entry, IsLegal, entries_of, sends, fills}
+use Rattle.nr_model.specs.Histories.{Entry, IsLegal, entries_of, sends, fills, cancels}
 use Rattle.nr_model.specs.Laws.{pending}
 use Rattle.nr_core.specs.declared.shape.Shape.{Shape}
 use Rattle.nr_core.specs.declared.calls.NoSlot.{NoSlot}
 use Rattle.nr_core.specs.declared.calls.WriterCall.{WriterCall}
-use Rattle.nr_core.specs.declared.calls.WriterCall.TheVariants.{Find, Fill, Update, Evict}
+use Rattle.nr_core.specs.declared.calls.WriterCall.TheVariants.{Find, Fill, Update, Evict, Cancel}
 use Rattle.nr_core.specs.declared.calls.WReply.TheVariants as writer
 use Rattle.nr_core.specs.declared.calls.Step.TheVariants.{Ended}
 use Rattle.nr_core.specs.declared.places.Hold.TheVariants.{On}
 use Rattle.nr_core.specs.declared.places.Retired.{Retired}
 use Rattle.nr_core.specs.declared.places.Place.{Place}
-use Rattle.nr_core.specs.declared.places.Place.TheVariants.{Idle, Reading, Leaving, Searching, Putting}
+use Rattle.nr_core.specs.declared.places.Place.TheVariants.{Idle, Reading, Leaving, Withdrawing, Searching, Putting}
 use Rattle.nr_words.specs.SetWords.{encode}
 use Rattle.nr_core.specs.Slots.{bound_of, content, slot_room}
 use Rattle.nr_core.specs.States.{State, Event, Arrive, Read, Depart, Ask, Start, Go, word, hold_of}
@@ -30,9 +30,10 @@ use Rattle.nr_core.specs.Accounts.{Accounted}
 -- the sets that fills bring are row sets
 abbrev pub IsGivenCall : ℕ → WriterCall → Type 0
 IsGivenCall bound (Find at) = Unit {0}
-IsGivenCall bound (Fill at rows) = IsRowSet bound rows
+IsGivenCall bound (Fill at number rows) = IsRowSet bound rows
 IsGivenCall bound (Update at batch) = Unit {0}
 IsGivenCall bound (Evict at) = Unit {0}
+IsGivenCall bound (Cancel at) = Unit {0}
 
 abbrev pub IsGiven : ℕ → Event → Type 0
 IsGiven bound (Arrive reader at) = Unit {0}
@@ -71,8 +72,8 @@ pub record Stands (story : Story) : Type 0 where
   pub shows : Shows story.state (map_of story)
   pub accounted : Accounted story.state
   pub held : (reader slot : ℕ) (size : Option ℕ) → 0 < reader → hold_of story.state reader ≡ On slot size → HoldsFound story reader slot size
-  -- each request that was sent was filled once, but the one that is pending
-  pub sent : (at : ℕ) → at < story.state.shape.keys → sends story.history at ≡ fills story.history at + pending (state_of (map_of story) at)
+  -- each request that was sent was filled or cancelled, once, but the one that is pending
+  pub sent : (at : ℕ) → at < story.state.shape.keys → sends story.history at ≡ fills story.history at + cancels story.history at + pending (state_of (map_of story) at)
 
 -- whose attempt an event is
 abbrev pub caller_of : Event → ℕ
@@ -88,6 +89,7 @@ abbrev pub call_in : Place → List WriterCall
 call_in Idle = []
 call_in (Reading call slot got) = call ∷ []
 call_in (Leaving at) = Evict at ∷ []
+call_in (Withdrawing at) = Cancel at ∷ []
 call_in (Searching call rows poll) = call ∷ []
 call_in (Putting call rows slot departed index) = call ∷ []
 

@@ -14,7 +14,7 @@ use Rattle.nr_core.specs.declared.roles.Role.{Role}
 use Rattle.nr_core.specs.declared.roles.Role.TheVariants.{Writer, Reader}
 use Rattle.nr_core.specs.declared.roles.Grip.TheVariants.{Nothing, On}
 use Rattle.nr_core.specs.declared.roles.Desk.{Desk}
-use Rattle.nr_words.specs.KeyWords.{is_filled, has_ask}
+use Rattle.nr_words.specs.KeyWords.{is_filled, has_ask, slot_of}
 use Rattle.nr_words.specs.SetWords.{encode}
 use Rattle.nr_core.specs.Slots.{bound_of, name_number}
 use Rattle.nr_core.specs.Operations.{Operation, place_of, becomes}
@@ -51,7 +51,7 @@ Arrives shape reader at word after entries =
 
 -- the reply that a key's word gives to a request
 abbrev pub ask_word : ℕ → Reply
-ask_word word = (if is_filled word then reply.Filled else (if has_ask word then reply.Waiting else reply.Send))
+ask_word word = (if is_filled word then reply.Filled else (if has_ask word then reply.Waiting else reply.Send (slot_of word)))
 
 abbrev pub Asks : ℕ → ℕ → Telling
 Asks reader at word after entries = (after ≡ Reader reader Nothing) × (entries ≡ entry reader (model.Ask at) (ask_word word) ∷ [])
