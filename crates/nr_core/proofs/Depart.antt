@@ -38,7 +38,7 @@ departs shape id reader slot rows sized words roles log core there =
       sum = sums t;
     } in
     let others : (j : ℕ) (u : Role) → j ≢ id → get_elem? roles j ≡ some u → Knows shape words map (held roles) u → Knows shape words' map (held roles') u = λ j u _ _. elim u as (λ v. Knows shape words map (held roles) v → Knows shape words' map (held roles') v) [
-      | Writer desk ↦ λ t. desk_more shape words words' map map (held roles) (held roles') (λ k l. ap name_number (get_or-set_other words place k x 0 (λ e. omega arith))) (λ _ _. refl) desk (λ y _ _. left y) t
+      | Writer desk ↦ λ t. desk_more shape words words' map map (held roles) (held roles') (λ k l. ap name_number (get_or-set_other words place k x 0 (λ e. omega arith))) (λ _ _. refl) desk (λ _. refl) (λ y _ _. left y) t
       | Reader other y ↦ λ t. holding_more shape words words' map map (held roles) (held roles') y (λ a j _ _ low. cont a j low) t
       | Note ↦ λ t. tt
     ] in

@@ -6,7 +6,7 @@ use mathlib.Core.Logic.{dite}
 use mathlib.Core.Option.{some}
 use native.Mathlib.Decide.{ℕ_discrete}
 use Rattle.nr_model.specs.Histories.{Entry, IsLegal}
-use Rattle.nr_model.specs.Maps.{state_of}
+use Rattle.nr_model.specs.Maps.{number_of, state_of}
 use Rattle.nr_words.specs.KeyWords.{arrivals_of}
 use Rattle.nr_core.proofs.Frames.{Left, desk_more, shows_more}
 use Rattle.nr_core.proofs.OffKeys.{no_writer}
@@ -31,7 +31,7 @@ desk_step shape words roles log es core id desk desk' i at legal same keeping ow
     let roles' = set roles id (Writer desk') in let map = map_after shape log in let map' = map_after shape (log ++ es) in
     let still : (s : ℕ) → held roles' s ≡ held roles s = λ s. let t = total-set (holds s) roles id (Writer desk) (Writer desk') at in omega arith in
     let left : (s : ℕ) → Left shape words words map map' (held roles) (held roles') s = λ s. record { contents = λ _ _. refl; nobody = λ z. still s ∙ z; deps = λ _. refl; sum = ap (λ (y : ℕ). (get_or words (departures shape s) 0 + y) % 2 ^ 40) (still s) } in
-    let own' : AtDesk shape words map' (held roles') desk' = desk_more shape words words map map' (held roles) (held roles') (λ _ _. refl) (λ j _. same j) desk' (λ s _ _. left s) own in
+    let own' : AtDesk shape words map' (held roles') desk' = desk_more shape words words map map' (held roles) (held roles') (λ _ _. refl) (λ j _. same j) desk' (λ j. ap number_of (same j)) (λ s _ _. left s) own in
     subst (λ (v : List ℕ). Core shape v roles' (log ++ es)) (sym (set-get_or words i 0)) record {
       fits = core.fits;
       wide = core.wide;

@@ -27,7 +27,7 @@ length-after [] m = refl
 length-after (e ∷ es) m = length-after es (next_map m e.call) ∙ length-set m.states (call_key e.call) (state_after m.bound e.call (state_of m (call_key e.call)))
 
 pub length-now : (shape : Shape) (log : List Entry) → length (map_after shape log).states ≡ shape.keys
-length-now shape log = length-after log (opening_map shape) ∙ length-replicate shape.keys key.Hole
+length-now shape log = length-after log (opening_map shape) ∙ length-replicate shape.keys (key.Hole shape.first_number)
 
 pub bound-after : (log : List Entry) (m : PartialMap) → (after m log).bound ≡ m.bound
 bound-after [] m = refl

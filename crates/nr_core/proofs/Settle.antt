@@ -23,11 +23,11 @@ use Rattle.nr_core.specs.Slots.{bound_of, unused}
 use Rattle.nr_core.specs.States.{key_of}
 use Rattle.nr_core.specs.Story.{call_of, ending, entry, map_after, opening_map}
 use Rattle.nr_core.specs.Sums.{only}
-use Rattle.nr_core.specs.Writer.{moved_to, no_slot, settled}
+use Rattle.nr_core.specs.Writer.{moved_to, no_slot, settled, taking_fresh}
 use Rattle.nr_core.specs.declared.calls.Step.{Step}
 use Rattle.nr_core.specs.declared.calls.Step.TheVariants.{Ended, Going}
 use Rattle.nr_core.specs.declared.calls.WriterCall.{WriterCall}
-use Rattle.nr_core.specs.declared.calls.WriterCall.TheVariants.{Evict, Fill, Find, Update}
+use Rattle.nr_core.specs.declared.calls.WriterCall.TheVariants.{Cancel, Evict, Fill, Find, Update}
 use Rattle.nr_core.specs.declared.places.Place.TheVariants.{Idle, Putting, Searching}
 use Rattle.nr_core.specs.declared.roles.Desk.{Desk}
 use Rattle.nr_core.specs.declared.roles.Role.{Role}
@@ -45,9 +45,10 @@ unused-next s f = dite (dec_le (f + 1) s)
 
 pub key_same : (call : WriterCall) → call_key (call_of call) ≡ key_of call
 key_same (Find k) = refl
-key_same (Fill k rows) = refl
+key_same (Fill k number rows) = refl
 key_same (Update k batch) = refl
 key_same (Evict k) = refl
+key_same (Cancel k) = refl
 
 pub own_ending : (call : Call) (s : Step) (b : ℕ) → entries_of (ending call s) b ≡ cond (nat_eq 0 b) (ending call s) []
 own_ending call Going b = none_of (nat_eq 0 b)
@@ -55,33 +56,34 @@ own_ending call (Ended (writer.Reply y)) b = refl
 own_ending call (Ended (writer.NoSlot n)) b = none_of (nat_eq 0 b)
 
 pub idle_desk : (shape : Shape) (words : List ℕ) (map : PartialMap) (hold : ℕ → ℕ) (desk : Desk) → AtDesk shape words map hold desk → AtDesk shape words map hold (moved_to desk Idle)
-idle_desk shape words map hold desk t = record { place = tt; room = t.room; free = t.free; retired = t.retired }
+idle_desk shape words map hold desk t = record { place = tt; room = t.room; free = t.free; retired = t.retired; numbers = t.numbers }
 
 module _ (shape : Shape) (words : List ℕ) (map : PartialMap) (hold : ℕ → ℕ) (desk : Desk) (call : WriterCall) (rows : List Row) where
   settle_desk : AtDesk shape words map hold (moved_to desk Idle) → Wants shape words map hold call rows → AtDesk shape words map hold (settled shape desk call rows).0
   settle_desk t wants = by_cases (λ v. AtDesk shape words map hold (cond {A = Desk × Step} v
-      (record { place = Putting call rows desk.fresh shape.first_count 0; fresh = desk.fresh + 1; retired = desk.retired }, Going)
+      (taking_fresh shape desk call rows, Going)
       (cond {A = Desk × Step} (nat_eq (length desk.retired) 0) (moved_to desk Idle, no_slot shape desk) (moved_to desk (Searching call rows 0), Going))).0) (nat_lt desk.fresh shape.slots)
       (λ yes. let l : desk.fresh < shape.slots = ltb-true desk.fresh shape.slots yes in let f = t.free desk.fresh (omega arith) l in record {
         place = record { wants = wants; inside = l; nobody = f.0; counted = f.1; within = omega arith; put = λ j low. absurd (omega arith) };
         room = omega arith;
         free = λ s from near. t.free s (omega arith) near;
         retired = t.retired;
+        numbers = t.numbers;
       })
       (λ no. let full : shape.slots ≤ desk.fresh = ltb-false desk.fresh shape.slots no in by_cases (λ v. AtDesk shape words map hold (cond {A = Desk × Step} v (moved_to desk Idle, no_slot shape desk) (moved_to desk (Searching call rows 0), Going)).0) (nat_eq (length desk.retired) 0)
       (λ _. t)
-      (λ some_there. let n : length desk.retired ≢ 0 = eqb-false (length desk.retired) 0 some_there in record { place = (wants, omega arith, full); room = t.room; free = t.free; retired = t.retired }))
+      (λ some_there. let n : length desk.retired ≢ 0 = eqb-false (length desk.retired) 0 some_there in record { place = (wants, omega arith, full); room = t.room; free = t.free; retired = t.retired; numbers = t.numbers }))
 
   settle_keeps : (s : ℕ) → keeps s (Writer (settled shape desk call rows).0) ≡ keeps s (Writer (moved_to desk Idle))
   settle_keeps s = by_cases (λ v. keeps s (Writer (cond {A = Desk × Step} v
-      (record { place = Putting call rows desk.fresh shape.first_count 0; fresh = desk.fresh + 1; retired = desk.retired }, Going)
+      (taking_fresh shape desk call rows, Going)
       (cond {A = Desk × Step} (nat_eq (length desk.retired) 0) (moved_to desk Idle, no_slot shape desk) (moved_to desk (Searching call rows 0), Going))).0) ≡ keeps s (Writer (moved_to desk Idle))) (nat_lt desk.fresh shape.slots)
       (λ yes. let u = unused-next s desk.fresh in omega arith)
       (λ no. by_cases (λ v. keeps s (Writer (cond {A = Desk × Step} v (moved_to desk Idle, no_slot shape desk) (moved_to desk (Searching call rows 0), Going)).0) ≡ keeps s (Writer (moved_to desk Idle))) (nat_eq (length desk.retired) 0) (λ _. refl) (λ _. refl))
 
   settle_quiet : (c : Call) → ending c (settled shape desk call rows).1 ≡ []
   settle_quiet c = by_cases (λ v. ending c (cond {A = Desk × Step} v
-      (record { place = Putting call rows desk.fresh shape.first_count 0; fresh = desk.fresh + 1; retired = desk.retired }, Going)
+      (taking_fresh shape desk call rows, Going)
       (cond {A = Desk × Step} (nat_eq (length desk.retired) 0) (moved_to desk Idle, no_slot shape desk) (moved_to desk (Searching call rows 0), Going))).1 ≡ []) (nat_lt desk.fresh shape.slots)
       (λ yes. refl)
       (λ no. by_cases (λ v. ending c (cond {A = Desk × Step} v (moved_to desk Idle, no_slot shape desk) (moved_to desk (Searching call rows 0), Going)).1 ≡ []) (nat_eq (length desk.retired) 0) (λ _. refl) (λ _. refl))

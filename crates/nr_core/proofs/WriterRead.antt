@@ -77,8 +77,9 @@ reads_on shape words roles log core id desk there call slot got is_at = let know
     (decide_all shape words roles log core id desk there place call reading.rows reading.near reading.full (read_set shape words roles log core (key_of call) slot got reading) keeps_so idle))
     (λ no. let unfinished : length got' ≢ 2 * get_or got' 0 0 + 1 = eqb-false (length got') (2 * get_or got' 0 0 + 1) no in let more = reading.more in
     let same_len : suc (length got) ≡ length got' = omega arith in goes_on shape words roles log core id desk there place (moved_to desk (Reading call slot got')) keeps_so (record {
-      place = record { near = reading.near; names = reading.names; rows = reading.rows; full = reading.full; part = read_next shape words roles log core (key_of call) slot got reading ∙ ap (λ (n : ℕ). take n (encode reading.rows)) same_len; more = omega arith };
+      place = record { near = reading.near; names = reading.names; number = reading.number; rows = reading.rows; full = reading.full; part = read_next shape words roles log core (key_of call) slot got reading ∙ ap (λ (n : ℕ). take n (encode reading.rows)) same_len; more = omega arith };
       room = known.room;
       free = known.free;
       retired = known.retired;
+      numbers = known.numbers;
     }))
