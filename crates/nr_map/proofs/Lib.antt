@@ -23,3 +23,4 @@ pub mod Publishing
 pub mod ReadingOn
 pub mod WriterCalls
 pub mod NoSlots
+pub mod SlotBounds

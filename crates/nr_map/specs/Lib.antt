@@ -15,3 +15,4 @@ pub mod WriterSeats
 pub mod Searches
 pub mod Answers
 pub mod ExactPlaces
+pub mod SlotBounds

@@ -144,6 +144,8 @@ pub record TakesSlot (table : Table) (call : WriterCall) (rows : List Row) (slot
   pub polls : ℕ
   pub took : Took polls spare after
   pub from : IsFrom slot spare
+  -- all polls but the last one found their slots held, each by another reader
+  pub few : polls ≤ table.shape.readers + 1
   pub slots : after.slots ≡ spare.slots
   pub writes : WritesAt table (desk_with after (Putting call rows slot departed 0)) new
   pub grows : Grows polls (token old) [] (token new)
@@ -162,6 +164,7 @@ pub record PublishesSet (table : Table) (call : WriterCall) (rows : List Row) (s
   pub took : Took polls spare mid
   pub word : ℕ
   pub retires : after ≡ record mid { retired = mid.retired ++ unnamed word }
+  pub few : polls ≤ table.shape.readers + 1
   pub slots : after.slots ≡ spare.slots
   -- the set has the next put number, and the slot was never taken before or was retired
   pub slot : ℕ
