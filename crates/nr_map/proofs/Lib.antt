@@ -1,4 +1,5 @@
 pub mod Lift
+pub mod Entries
 pub mod Moves
 pub mod ReaderSteps
 pub mod Seats

@@ -14,6 +14,7 @@ use Rattle.nr_core.specs.declared.roles.Desk.{Desk}
 use Rattle.nr_map.proofs.Tokens.{grows_both}
 use Rattle.nr_core.specs.declared.roles.Role.TheVariants.{Writer}
 use Rattle.nr_map.specs.Callers.{Caller, Grows, Table, opening_map, token}
+use Rattle.nr_map.specs.Entries.{AreCallers}
 use Rattle.nr_map.specs.Spares.{Spare, Took, desk_with}
 use Rattle.nr_marks.specs.MarkSteps.{PutsMarks}
 use Rattle.nr_core.specs.States.{key_of}
@@ -21,7 +22,7 @@ use Rattle.nr_map.specs.WriterSeats.{IsFrom, GoesOn, Knows, LeadsIn, MapSeat, Pu
 
 -- what the writer knows after a step is legal
 pub knows_after : (steps : ℕ) (old : Caller) (entries : List Entry) (new : Caller) → Grows steps old entries new → Knows new
-knows_after steps old entries new grows = record { legal = subst (λ (t : Table). IsLegal (opening_map t) new.seen) (sym grows.table) grows.legal; own = grows.own }
+knows_after steps old entries new grows = record { legal = subst (λ (t : Table). IsLegal (opening_map t) new.seen) (sym grows.table) grows.legal; callers = subst (λ (t : Table). AreCallers t.shape.readers new.seen) (sym grows.table) grows.callers; own = grows.own }
 
 -- so many words are put
 pub record PutSoFar (table : Table) (desk : Desk) (call : WriterCall) (rows : List Row) (slot departed : ℕ) (before after : MapSeat) (index : ℕ) : Type 0 where

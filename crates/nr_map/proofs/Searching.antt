@@ -38,6 +38,7 @@ grows_none caller knows = record {
   mine = sym (append-nil caller.mine);
   legal = knows.legal;
   own = knows.own;
+  callers = knows.callers;
   steps_made = omega arith;
   pasts = refl;
 }

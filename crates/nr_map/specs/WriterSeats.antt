@@ -22,6 +22,7 @@ use Rattle.nr_core.specs.declared.calls.WriterCall.{WriterCall}
 use Rattle.nr_core.specs.declared.places.Place.TheVariants.{Idle, Leaving, Putting, Reading, Searching}
 use Rattle.nr_core.specs.declared.roles.Desk.{Desk}
 use Rattle.nr_core.specs.declared.roles.Role.TheVariants.{Writer}
+use Rattle.nr_map.specs.Entries.{AreCallers}
 use Rattle.nr_map.specs.Callers.{Caller, Grows, KnowsOwn, Table, opening_map, token}
 use Rattle.nr_map.specs.Spares.{Spare, Took, desk_with}
 use Rattle.nr_map.specs.Plays.{Lacks, ReadsOn, Room, call_at, next_put}
@@ -118,9 +119,10 @@ pub record PutsTo (table : Table) (desk : Desk) (old new : MapSeat) : Type 0 whe
   pub grows : Grows 1 (token old) [] (token new)
   pub marks : new.me.0.marks ≡ old.me.0.marks
 
--- what the writer knows is legal, and has its own entries
+-- what the writer knows is legal, and has the entries of the map's callers, with its own
 pub record Knows (caller : Caller) : Type 0 where
   pub legal : IsLegal (opening_map caller.table) caller.seen
+  pub callers : AreCallers caller.table.shape.readers caller.seen
   pub own : KnowsOwn caller
 
 -- the call has its set, and looks for a slot
