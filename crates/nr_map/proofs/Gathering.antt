@@ -46,12 +46,14 @@ meets_seat seat other joined new note found own is took same learned =
           mine = learns.mine;
           legal = learns.legal;
           own = learns.own;
-          nobody_else = learns.nobody_else;
+          callers = learns.callers;
           steps_made = omega (arith, learns.steps_made);
           fresh = learns.fresh;
           retired = learns.retired;
           holds = learns.holds;
           marks = learns.marks;
+          news = learns.news;
+          pasts = learns.pasts;
         };
         seen = told.told;
         calls = begins_with_calls new.me.0.seen (token other) own told.told;
@@ -74,8 +76,6 @@ just_calls log caller calls heard =
 
 -- what two views knew of each other
 pub record Compares (writer reader heard : View) (desk : Desk) (one : Past) : Type 0 where
-  pub news : List Past
-  pub pasts : heard.pasts ≡ news ++ writer.pasts
   pub known : get_elem? heard.pasts 0 ≡ some one
   pub current : Current desk.retired writer.marks one
   pub lists : Lists desk writer.marks writer.shape heard.seen
@@ -90,8 +90,6 @@ compares_so writer reader heard told desk number grip writes reads still first s
     let longer : (at : ℕ) (one : Past) → get_elem? news at ≡ some one → get_elem? heard.pasts at ≡ some one = λ at one is. ap (λ (l : List Past). get_elem? l at) first.1 ∙ at_left news writer.pasts at one is in
     let known = gathered_is_known_lem desk.retired writer.marks (told_by reader.role reader.marks reader.pasts) news heard.pasts number grip reader.marks 0 (ap (λ r. get_elem? (told_by r reader.marks reader.pasts) 0) reads) learnt.0
     (λ at one is. (at, longer at one is)) heard_so in record {
-      news = news;
-      pasts = first.1;
       known = longer 0 (past number grip reader.marks) known.0;
       current = known.1;
       lists = learnt.1;
@@ -129,8 +127,6 @@ module _ (writer reader heard lent last told : MapSeat) (fresh : ℕ) (retired :
     of_reader = meets;
     of_writer = back;
     all = ap (entries_of log) (sym learns.number) ∙ just_calls log (token told) (subst (λ (p : ℕ × List Entry). StartsWith (entries_of log p.0) p.1) (λ j. (sym learns.number j, sym learns.mine j)) meets.calls) (back.seen, learns.own) ∙ learns.mine;
-    news = known.news;
-    pasts = known.pasts;
     place = 0;
     known = known.known ∙ ap some one_is;
     current = subst (λ (p : List Retired × Marks × Past). Current p.0 p.1 p.2) (λ j. ((desk_of (sym writes_still j)).retired, sym meets.learns.marks j, one_is j)) known.current;

@@ -22,7 +22,8 @@ use Rattle.nr_marks.specs.MarkSteps.{ReaderLearns, WriterLearns}
 use Rattle.nr_marks.specs.Marked.{CanMark, MarkTelling}
 use Rattle.nr_marks.specs.Marks.{Marks, Past, gripped}
 use Rattle.nr_map.proofs.Lift.{lifts}
-use Rattle.nr_map.proofs.Moves.{chosen, learned_fits, learned_next}
+use Rattle.nr_map.proofs.Moves.{ActsGo, chosen, learned, learned_own}
+use Rattle.nr_map.specs.Entries.{AreCallers, acts_told, to_depart}
 use Rattle.nr_map.specs.Kinds.{kind_of, kind_shown}
 use Rattle.nr_map.specs.Learning.{Learned, LearnsOf}
 use Rattle.nr_map.specs.Notes.{IsCaller}
@@ -64,10 +65,12 @@ module _ (shape : Shape) (slots id : ℕ) (me : Me (Unit {0}) View) (at : ℕ) (
   learns_by notes can_learn tell = let tells = Learns view.role in
       lifts shape id view (Load at) tells notes slots me.1 (λ found next. Learned at found view next) view.told_pasts (learns shape id view.role at) can_learn (λ state kept there. kept.told_pasts id view there)
       (λ state kept there step marked. let found : ℕ = get_or state.words at 0 in let fits = kept.fits id view there in let sized = fits.sized call in
-      let next = learned_next shape id view (Load at) tells notes state kept there step marked (ap number_of step.told.0) sized in
+      let callers : AreCallers shape.readers step.entries = subst (AreCallers shape.readers) (sym step.told.1) tt in
+      let next = learned view step.after (kept.log ++ step.entries) step.entries marked.now marked.news in
       let same = still kept.log step.entries step.told.1 in let grown = tell found step.after (kept.log ++ step.entries) marked.now marked.news next sized refl marked.told in
-      let own = (learned_fits shape kept.log view fits step.after step.same step.writer step.reader step.entries marked.now marked.news step.own).knows_own in
-      chosen shape id view (Load at) tells notes state kept there step marked (ap number_of step.told.0) sized (λ after. Learned at found view after) (record {
+      let own = learned_own shape kept.log view fits step.after step.same step.writer step.reader step.entries step.own in
+      let acts : ActsGo view step.after step.entries marked.now = λ reads. let same_marks = ap (λ (m : Marks). m.acts) grown.0 in let hold = ap (λ r. to_depart (gripped (grip_of r))) step.told.0 in let none : acts_told step.entries ≡ 0 = ap acts_told step.told.1 in omega arith in
+      chosen shape id view (Load at) tells notes state kept there step marked (ap number_of step.told.0) sized callers acts (λ after. Learned at found view after) (record {
         role = step.told.0;
         learns = λ table. record {
           table = refl;
@@ -76,13 +79,14 @@ module _ (shape : Shape) (slots id : ℕ) (me : Me (Unit {0}) View) (at : ℕ) (
           mine = ap (λ (l : List Entry). view.mine ++ l) step.told.1 ∙ append-nil view.mine;
           legal = subst (λ (g : Shape). IsLegal (opening g.keys g.bound) (kept.log ++ step.entries)) (sym sized) step.core.legal;
           own = own (number_of step.after) (step.same (number_of step.after) ∙ ap (λ (n : ℕ). is_by n view.role) (ap number_of step.told.0) ∙ caller_is view.role call);
-          nobody_else = λ caller beyond. ap (λ (l : List Entry). entries_of l caller) (sym same)
-              ∙ kept.silent caller (let few = kept.core.few in let made = kept.readers in let readers : view.shape.readers ≡ shape.readers = ap (λ (s : Shape). s.readers) sized in omega arith);
+          callers = subst (λ (p : Shape × List Entry). AreCallers p.0.readers p.1) (λ j. (sym sized j, same j)) kept.callers;
           steps_made = refl;
           fresh = ap (λ r. (desk_of r).fresh) step.told.0;
           retired = ap (λ r. (desk_of r).retired) step.told.0;
           holds = ap (λ r. gripped (grip_of r)) step.told.0;
           marks = grown.0;
+          news = marked.news;
+          pasts = refl;
         };
         told = record { rest = fits.told.rest; is = sym same ∙ fits.told.is };
         state = shows_kind shape state.words found (state_of (map_after shape kept.log) at) (kept.core.shows at near) ∙ (λ j. kind_of (state_of (map_after (sym sized j) (same j)) at));

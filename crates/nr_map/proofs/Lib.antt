@@ -1,4 +1,5 @@
 pub mod Lift
+pub mod Entries
 pub mod Moves
 pub mod ReaderSteps
 pub mod Seats
@@ -23,3 +24,4 @@ pub mod Publishing
 pub mod ReadingOn
 pub mod WriterCalls
 pub mod NoSlots
+pub mod SlotBounds

@@ -18,6 +18,8 @@ use Rattle.nr_core.specs.declared.shape.Shape.{Shape}
 use Rattle.nr_marks.proofs.Knowing.{knowing_step}
 use Rattle.nr_marks.specs.Marked.{AllSince, CanMark, MarkTelling, Remarked}
 use Rattle.nr_marks.specs.Marks.{Past}
+use Rattle.nr_map.proofs.Entries.{callers_both}
+use Rattle.nr_map.specs.Entries.{AreCallers}
 use Rattle.nr_map.specs.Rule.{Fits, Kept, counts, marks_of, pasts_of, role_of, told_pasts_of}
 use Rattle.nr_map.specs.Views.{View}
 
@@ -31,6 +33,7 @@ other_fits shape log entries view fits none = record {
   own = λ caller his. of-append caller log entries ∙ ap (λ (l : List Entry). entries_of log caller ++ l) (none caller his) ∙ append-nil (entries_of log caller) ∙ fits.own caller his;
   told = record { rest = fits.told.rest ++ entries; is = ap (λ (l : List Entry). l ++ entries) fits.told.is ∙ append_assoc view.told fits.told.rest entries };
   knows_own = fits.knows_own;
+  acts = fits.acts;
   sized = fits.sized;
 }
 
@@ -65,6 +68,7 @@ module _ (shape : Shape) (id : ℕ) (view : View) (operation : Operation) (tells
     pub pasts : next.pasts ≡ marked.news ++ view.pasts
     pub told_pasts : next.told_pasts ≡ view.told_pasts
     pub fits : Fits shape (kept.log ++ step.entries) next
+    pub callers : AreCallers shape.readers step.entries
     pub told : then next
 
   -- whatever the table is, the token has such a view
@@ -88,6 +92,7 @@ module _ (shape : Shape) (id : ℕ) (view : View) (operation : Operation) (tells
             (λ (t : (j ≡ id) × (next ≡ u)). subst (Fits shape log') t.1 choice.fits)
             (λ (t : (j ≢ id) × (get_elem? views j ≡ some u)). other_fits shape kept.log step.entries u (kept.fits j u t.1) (λ caller his. step.own caller ∙ ap (λ y. cond y step.entries []) (apart shape state kept id j view u caller at t.1 t.0 his)))
             (at_set views id j next u e);
+        callers = callers_both shape.readers kept.log step.entries kept.callers choice.callers;
         once = λ caller. let o = kept.once caller in omega (arith, tally caller);
         made = kept.made;
         readers = omega (arith, kept.readers, step.reader, ap (total is_reader) roles, total-set is_reader (map role_of views) id view.role step.after there);

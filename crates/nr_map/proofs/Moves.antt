@@ -1,11 +1,12 @@
 -- What a step does to its token's own view: it learns the history so far and adds entries, or it learns nothing.
-use Rattle.std.proofs.Common.{◌≡◌, ℕ, ◌+◌, List, [], ◌++◌, map, cond, true, refl, sym, ap, ◌∙◌, subst, arith, append_assoc, append-nil}
+use Rattle.std.proofs.Common.{◌≡◌, ℕ, ◌<◌, ◌+◌, List, [], ◌++◌, map, cond, true, refl, sym, ap, ◌∙◌, subst, arith, append_assoc, append-nil}
 use mathlib.Core.Option.{some}
 use lib.ListN.{get_elem?}
 use Rattle.atomic_table.specs.Table.{State}
 use Rattle.nr_model.specs.Histories.{Entry, IsLegal, entries_of}
 use Rattle.nr_model.specs.Maps.{opening}
 use Rattle.nr_core.proofs.Histories.{of-append}
+use Rattle.nr_core.proofs.Sums.{total-append}
 use Rattle.nr_core.specs.Roles.{is_by, is_reader, is_writer}
 use Rattle.nr_core.specs.Operations.{Operation}
 use Rattle.nr_core.specs.Steps.{Stepped, Telling}
@@ -13,10 +14,12 @@ use Rattle.nr_core.specs.declared.roles.Role.{Role}
 use Rattle.nr_core.specs.declared.shape.Shape.{Shape}
 use Rattle.nr_map.specs.Plays.{Advances, Waits}
 use Rattle.nr_marks.specs.Marked.{MarkTelling, Remarked}
-use Rattle.nr_marks.specs.Marks.{Marks, Past}
+use Rattle.nr_marks.specs.Marks.{Marks, Past, gripped}
 use Rattle.nr_map.specs.Rule.{Fits, Kept, marks_of, role_of}
 use Rattle.nr_map.proofs.Lift.{Choice}
-use Rattle.nr_map.specs.Views.{View, number_of}
+use Rattle.nr_map.proofs.Entries.{callers_both}
+use Rattle.nr_map.specs.Entries.{AreCallers, acts_at, acts_told, to_depart}
+use Rattle.nr_map.specs.Views.{View, grip_of, number_of}
 
 -- the view after a step that learns the history so far and adds entries; after one that learns nothing
 abbrev pub learned : View → Role → List Entry → List Entry → Marks → List Past → View
@@ -25,38 +28,49 @@ learned view after seen entries marks news = record { role = after; shape = view
 abbrev pub waited : View → Role → Marks → List Past → View
 waited view after marks news = record { role = after; shape = view.shape; made = view.made; seen = view.seen; told = view.told; mine = view.mine; steps = view.steps + 1; marks = marks; pasts = news ++ view.pasts; told_pasts = view.told_pasts }
 
+-- a reader's count of acts goes along with its entries, but for the departure that is to come
+abbrev pub ActsGo : View → Role → List Entry → Marks → Type 0
+ActsGo view after entries marks = 0 < is_reader after → marks.acts + to_depart (gripped (grip_of after)) ≡ view.marks.acts + to_depart (gripped (grip_of view.role)) + acts_told entries
+
 module _ (shape : Shape) (log : List Entry) (view : View) (fits : Fits shape log view) (after : Role) (same : (caller : ℕ) → is_by caller after ≡ is_by caller view.role) (writer : is_writer after ≡ is_writer view.role) (reader : is_reader after ≡ is_reader view.role) where
-  pub learned_fits : (entries : List Entry) (marks : Marks) (news : List Past) → ((caller : ℕ) → entries_of entries caller ≡ cond (is_by caller view.role) entries []) → Fits shape (log ++ entries) (learned view after (log ++ entries) entries marks news)
-  learned_fits entries marks news own =
-      let all : (caller : ℕ) → is_by caller after ≡ true → entries_of (log ++ entries) caller ≡ view.mine ++ entries = λ caller his. let before : is_by caller view.role ≡ true = sym (same caller) ∙ his in
-      of-append caller log entries ∙ ap (λ (l : List Entry). l ++ entries_of entries caller) (fits.own caller before) ∙ ap (λ (l : List Entry). view.mine ++ l) (own caller ∙ ap (λ y. cond y entries []) before) in record {
+  -- the history with the step's entries has the caller's, and no more of it
+  pub learned_own : (entries : List Entry) → ((caller : ℕ) → entries_of entries caller ≡ cond (is_by caller view.role) entries []) → (caller : ℕ) → is_by caller after ≡ true → entries_of (log ++ entries) caller ≡ view.mine ++ entries
+  learned_own entries own caller his = let before : is_by caller view.role ≡ true = sym (same caller) ∙ his in
+      of-append caller log entries ∙ ap (λ (l : List Entry). l ++ entries_of entries caller) (fits.own caller before) ∙ ap (λ (l : List Entry). view.mine ++ l) (own caller ∙ ap (λ y. cond y entries []) before)
+
+  pub learned_fits : (entries : List Entry) (marks : Marks) (news : List Past) → ((caller : ℕ) → entries_of entries caller ≡ cond (is_by caller view.role) entries []) → ActsGo view after entries marks → Fits shape (log ++ entries) (learned view after (log ++ entries) entries marks news)
+  learned_fits entries marks news own acts =
+      let all = learned_own entries own in record {
         begins = record { rest = []; is = sym (append-nil (log ++ entries)) };
         told = record { rest = fits.told.rest ++ entries; is = ap (λ (l : List Entry). l ++ entries) fits.told.is ∙ append_assoc view.told fits.told.rest entries };
         own = all;
         knows_own = all;
+        acts = λ reads. omega (arith, fits.acts (omega arith), acts reads, total-append (λ (e : Entry). acts_at e.call e.reply) view.mine entries);
         sized = λ l. fits.sized (omega arith);
       }
 
-  pub waited_fits : (marks : Marks) (news : List Past) → Fits shape (log ++ []) (waited view after marks news)
-  waited_fits marks news = record {
+  pub waited_fits : (marks : Marks) (news : List Past) → ActsGo view after [] marks → Fits shape (log ++ []) (waited view after marks news)
+  waited_fits marks news acts = record {
     begins = record { rest = fits.begins.rest; is = append-nil log ∙ fits.begins.is };
     told = record { rest = fits.told.rest; is = append-nil log ∙ fits.told.is };
     own = λ caller his. ap (λ (l : List Entry). entries_of l caller) (append-nil log) ∙ fits.own caller (sym (same caller) ∙ his);
     knows_own = λ caller his. fits.knows_own caller (sym (same caller) ∙ his);
+    acts = λ reads. omega (arith, fits.acts (omega arith), acts reads);
     sized = λ l. fits.sized (omega arith);
   }
 
   module _ (number : number_of after ≡ number_of view.role) (sized : view.shape ≡ shape) where
-    pub learned_advances : (entries : List Entry) (marks : Marks) (news : List Past) → news ≡ [] → is_by (number_of view.role) view.role ≡ true → ((caller : ℕ) → entries_of entries caller ≡ cond (is_by caller view.role) entries []) → IsLegal (opening shape.keys shape.bound) (log ++ entries)
+    pub learned_advances : (entries : List Entry) (marks : Marks) (news : List Past) → news ≡ [] → is_by (number_of view.role) view.role ≡ true → ((caller : ℕ) → entries_of entries caller ≡ cond (is_by caller view.role) entries []) → IsLegal (opening shape.keys shape.bound) (log ++ entries) → AreCallers shape.readers (log ++ entries)
         → Advances view entries (learned view after (log ++ entries) entries marks news)
-    learned_advances entries marks news no_news caller own legal id = record {
+    learned_advances entries marks news no_news caller own legal callers id = record {
       table = refl;
       number = number;
       between = fits.begins.rest;
       seen = ap (λ (l : List Entry). l ++ entries) fits.begins.is;
       mine = refl;
       legal = subst (λ (g : Shape). IsLegal (opening g.keys g.bound) (log ++ entries)) (sym sized) legal;
-      own = (learned_fits entries marks news own).knows_own (number_of after) (same (number_of after) ∙ ap (λ (n : ℕ). is_by n view.role) number ∙ caller);
+      own = learned_own entries own (number_of after) (same (number_of after) ∙ ap (λ (n : ℕ). is_by n view.role) number ∙ caller);
+      callers = subst (λ (g : Shape). AreCallers g.readers (log ++ entries)) (sym sized) callers;
       steps_made = refl;
       pasts = ap (λ (l : List Past). l ++ view.pasts) no_news;
     }
@@ -67,7 +81,7 @@ module _ (shape : Shape) (log : List Entry) (view : View) (fits : Fits shape log
 -- The two ways in which a step of the core becomes one of the token.
 module _ (shape : Shape) (id : ℕ) (view : View) (operation : Operation) (tells : Telling) (notes : MarkTelling) (state : State (Unit {0}) View) (kept : Kept shape state) (at : get_elem? state.views id ≡ some view)
     (step : Stepped shape state.words (map role_of state.views) kept.log id view.role operation tells) (marked : Remarked role_of marks_of shape state.words state.views kept.log id view operation step.after step.entries notes)
-    (same_number : number_of step.after ≡ number_of view.role) (sized : view.shape ≡ shape) where
+    (same_number : number_of step.after ≡ number_of view.role) (sized : view.shape ≡ shape) (callers : AreCallers shape.readers step.entries) (acts : ActsGo view step.after step.entries marked.now) where
   -- the view of a token that learns the history so far, with the step's entries
   abbrev pub learned_next : View
   learned_next = learned view step.after (kept.log ++ step.entries) step.entries marked.now marked.news
@@ -80,14 +94,15 @@ module _ (shape : Shape) (id : ℕ) (view : View) (operation : Operation) (tells
     marks = refl;
     pasts = refl;
     told_pasts = refl;
-    fits = learned_fits shape kept.log view (kept.fits id view at) step.after step.same step.writer step.reader step.entries marked.now marked.news step.own;
+    fits = learned_fits shape kept.log view (kept.fits id view at) step.after step.same step.writer step.reader step.entries marked.now marked.news step.own acts;
+    callers = callers;
     told = told;
   }
 
   pub learning : (then : View → Type 0) → is_by (number_of view.role) view.role ≡ true → marked.news ≡ [] → (told : List Entry) → step.entries ≡ told
       → (Advances view told learned_next → then learned_next) → Choice shape id view operation tells notes state kept step marked then
   learning then caller no_news told is tell = chosen then (tell (subst (λ (entries : List Entry). Advances view entries learned_next) is
-      (learned_advances shape kept.log view (kept.fits id view at) step.after step.same step.writer step.reader same_number sized step.entries marked.now marked.news no_news caller step.own step.core.legal)))
+      (learned_advances shape kept.log view (kept.fits id view at) step.after step.same step.writer step.reader same_number sized step.entries marked.now marked.news no_news caller step.own step.core.legal (callers_both shape.readers kept.log step.entries kept.callers callers))))
 
   -- the token learns nothing from a step without an entry
   abbrev pub waited_next : View
@@ -101,6 +116,7 @@ module _ (shape : Shape) (id : ℕ) (view : View) (operation : Operation) (tells
     marks = refl;
     pasts = refl;
     told_pasts = refl;
-    fits = subst (λ (entries : List Entry). Fits shape (kept.log ++ entries) waited_next) (sym none) (waited_fits shape kept.log view fits step.after step.same step.writer step.reader marked.now marked.news);
+    fits = subst (λ (entries : List Entry). Fits shape (kept.log ++ entries) waited_next) (sym none) (waited_fits shape kept.log view fits step.after step.same step.writer step.reader marked.now marked.news (subst (λ (entries : List Entry). ActsGo view step.after entries marked.now) none acts));
+    callers = callers;
     told = tell (waited_waits shape kept.log view fits step.after step.same step.writer step.reader same_number sized marked.now marked.news no_news);
   }

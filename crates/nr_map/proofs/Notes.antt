@@ -30,6 +30,7 @@ note_fits shape log view note is begins none = record {
   told = subst (StartsWith log) (sym none) (record { rest = log; is = refl });
   own = λ caller his. absurd (cc);
   knows_own = λ caller his. absurd (cc);
+  acts = λ reads. let no_reader : is_reader note.role ≡ 0 = ap is_reader is in absurd (omega arith);
   sized = λ call. let no_writer : is_writer note.role ≡ 0 = ap is_writer is in let no_reader : is_reader note.role ≡ 0 = ap is_reader is in absurd (omega arith);
 }
 
@@ -42,6 +43,7 @@ splits_so shape id view state kept at =
       log = kept.log;
       core = subst (λ (rs : List Role). Core shape state.words rs kept.log) (sym more) (notes shape state.words roles kept.log kept.core);
       fits = λ j u there. ⊎_elim (λ (t : get_elem? views j ≡ some u). kept.fits j u t) (λ (t : note ≡ u). subst (Fits shape kept.log) t (note_fits shape kept.log view note refl (kept.fits id view at).begins refl)) (at_snoc views note u j there);
+      callers = kept.callers;
       once = λ caller. omega (arith, kept.once caller, tally caller);
       made = kept.made;
       readers = omega (arith, kept.readers, ap (total is_reader) more, total-append is_reader roles (Note ∷ []));
@@ -61,7 +63,7 @@ joins_so shape id view other note is state kept at apart there =
     let first : map role_of views ≡ roles = map-set role_of state.views id both ∙ set_again roles id view.role (at_map role_of state.views id view at) in
     let same : map role_of views' ≡ roles = map-set role_of views other spent ∙ ap (λ (l : List Role). set l other Note) first ∙ set_again roles other Note (at_map role_of state.views other note there' ∙ ap some is) in
     let fits = kept.fits id view at in
-    let mine : Fits shape kept.log both = record { begins = fits.begins; told = (kept.fits other note there').begins; own = fits.own; knows_own = fits.knows_own; sized = fits.sized } in
+    let mine : Fits shape kept.log both = record { begins = fits.begins; told = (kept.fits other note there').begins; own = fits.own; knows_own = fits.knows_own; acts = fits.acts; sized = fits.sized } in
     let none : Fits shape kept.log spent = note_fits shape kept.log view spent refl (record { rest = kept.log; is = refl }) refl in
     let evolves = evolves_alike role_of marks_of shape state.words state.views kept.log id view both at refl (inl refl) in
     let ends = evolves_alike role_of marks_of shape state.words views kept.log other note spent there (sym is) (inr is) in
@@ -73,6 +75,7 @@ joins_so shape id view other note is state kept at apart there =
       log = kept.log;
       core = subst (λ (rs : List Role). Core shape state.words rs kept.log) (sym same) kept.core;
       fits = at_any (Fits shape kept.log) none mine kept.fits;
+      callers = kept.callers;
       once = λ caller. omega (arith, kept.once caller, ap (total (counts caller)) same);
       made = kept.made;
       readers = ap (total is_reader) same ∙ kept.readers;

@@ -1,5 +1,5 @@
 -- A set is put word by word, and published.
-use Rattle.std.proofs.Common.{◌≡◌, ℕ, ◌+◌, ◌*◌, List, [], ◌++◌, Bool, cond, length, refl, sym, ap, ◌∙◌, subst, arith}
+use Rattle.std.proofs.Common.{◌≡◌, ℕ, ◌+◌, ◌*◌, ◌≤◌, List, [], ◌++◌, Bool, cond, length, refl, sym, ap, ◌∙◌, subst, arith}
 use Rattle.std.proofs.lemmas.Bool.{lt-leb}
 use Rattle.nr_model.specs.declared.calls.Reply.TheVariants as reply
 use Rattle.nr_model.specs.declared.rows.Row.{Row}
@@ -14,6 +14,7 @@ use Rattle.nr_core.specs.declared.roles.Desk.{Desk}
 use Rattle.nr_map.proofs.Tokens.{grows_both}
 use Rattle.nr_core.specs.declared.roles.Role.TheVariants.{Writer}
 use Rattle.nr_map.specs.Callers.{Caller, Grows, Table, opening_map, token}
+use Rattle.nr_map.specs.Entries.{AreCallers}
 use Rattle.nr_map.specs.Spares.{Spare, Took, desk_with}
 use Rattle.nr_marks.specs.MarkSteps.{PutsMarks}
 use Rattle.nr_core.specs.States.{key_of}
@@ -21,7 +22,7 @@ use Rattle.nr_map.specs.WriterSeats.{IsFrom, GoesOn, Knows, LeadsIn, MapSeat, Pu
 
 -- what the writer knows after a step is legal
 pub knows_after : (steps : ℕ) (old : Caller) (entries : List Entry) (new : Caller) → Grows steps old entries new → Knows new
-knows_after steps old entries new grows = record { legal = subst (λ (t : Table). IsLegal (opening_map t) new.seen) (sym grows.table) grows.legal; own = grows.own }
+knows_after steps old entries new grows = record { legal = subst (λ (t : Table). IsLegal (opening_map t) new.seen) (sym grows.table) grows.legal; callers = subst (λ (t : Table). AreCallers t.shape.readers new.seen) (sym grows.table) grows.callers; own = grows.own }
 
 -- so many words are put
 pub record PutSoFar (table : Table) (desk : Desk) (call : WriterCall) (rows : List Row) (slot departed : ℕ) (before after : MapSeat) (index : ℕ) : Type 0 where
@@ -38,10 +39,10 @@ put_more table desk call rows slot departed before mid after index so_far puts =
 }
 
 -- the swap that publishes the set
-pub published : (table : Table) (call : WriterCall) (rows : List Row) (spare mid_spare after_spare : Spare) (slot departed polls : ℕ) (before mid after : MapSeat) (found : ℕ) → Took polls spare mid_spare → IsFrom slot spare → mid_spare.slots ≡ spare.slots
+pub published : (table : Table) (call : WriterCall) (rows : List Row) (spare mid_spare after_spare : Spare) (slot departed polls : ℕ) (before mid after : MapSeat) (found : ℕ) → Took polls spare mid_spare → polls ≤ table.shape.readers + 1 → IsFrom slot spare → mid_spare.slots ≡ spare.slots
     → WritesAt table (desk_with mid_spare (Putting call rows slot departed (2 * length rows + 1))) mid → Grows (polls + (2 * length rows + 1)) (token before) [] (token mid) → GoesOn table found mid after
     → after_spare ≡ record mid_spare { retired = mid_spare.retired ++ unnamed found } → PublishesSet table call rows spare after_spare before after
-published table call rows spare mid_spare after_spare slot departed polls before mid after found took from slots writes grows goes retires =
+published table call rows spare mid_spare after_spare slot departed polls before mid after found took few from slots writes grows goes retires =
     let last : ℕ = 2 * length rows + 1 in let desk = desk_with mid_spare (Putting call rows slot departed last) in
     let told = goes desk writes.role in
     let outcome : put_on desk call rows slot departed last found ≡ (swapped desk found, ended reply.Done) = ap (λ (b : Bool). cond {A = Desk × Step} b (moved_to desk (Putting call rows slot departed (last + 1)), Going) (swapped desk found, ended reply.Done)) (lt-leb last (2 * length rows) (omega arith)) in
@@ -55,6 +56,7 @@ published table call rows spare mid_spare after_spare slot departed polls before
       polls = polls;
       mid = mid_spare;
       took = took;
+      few = few;
       word = found;
       retires = retires;
       slots = ap (λ (s : Spare). s.slots) retires ∙ slots;

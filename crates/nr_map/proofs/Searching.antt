@@ -1,5 +1,5 @@
 -- The search for a slot: each retired one is polled in order, until one is not held.
-use Rattle.std.proofs.Common.{◌≡◌, ℕ, ◌+◌, ◌-◌, ◌<◌, ◌≤◌, List, [], ◌++◌, Bool, true, false, cond, length, nat_eq, refl, sym, ap, ◌∙◌, subst, arith, append-nil}
+use Rattle.std.proofs.Common.{◌≡◌, ℕ, ◌+◌, ◌-◌, ◌<◌, ◌≤◌, List, [], ◌∷◌, ◌++◌, length-append, Bool, true, false, cond, length, nat_eq, refl, sym, ap, ◌∙◌, subst, arith, append-nil}
 use Rattle.std.proofs.lemmas.Bool.{eq-eqb, lt-ltb, le-ltb, ne_eqb}
 use Rattle.std.specs.Prelude.{nat_lt}
 use mathlib.Core.Logic.{dite}
@@ -38,6 +38,7 @@ grows_none caller knows = record {
   mine = sym (append-nil caller.mine);
   legal = knows.legal;
   own = knows.own;
+  callers = knows.callers;
   steps_made = omega arith;
   pasts = refl;
 }
@@ -47,6 +48,8 @@ pub record Searched (table : Table) (call : WriterCall) (rows : List Row) (spare
   pub slots : spare.slots ≡ table.shape.slots
   pub leads : LeadsIn polls table (call_of call) (swept table.shape (desk_with spare Idle) call rows polls) before after
   pub noted : Noted table.shape before.me.0.pasts after.me.0.marks.polls
+  pub many : length after.me.0.marks.polls ≡ polls
+  pub few : polls ≤ table.shape.readers
 
 module _ (shape : Shape) (desk : Desk) (call : WriterCall) (rows : List Row) where
   abbrev on_to : ℕ → Desk × Step
@@ -83,6 +86,8 @@ searched_none table call rows spare seat settles full =
         short = λ counts without. settles.short counts (ap (λ (o : Desk × Step). o.1) is ∙ without);
       };
       noted = subst (Noted table.shape seat.me.0.pasts) (sym settles.polls) (noted_none table.shape seat.me.0.pasts);
+      many = ap length settles.polls;
+      few = omega arith;
     }
 
 module _ (table : Table) (call : WriterCall) (rows : List Row) (spare : Spare) (before mid : MapSeat) (polls : ℕ) (so_far : Searched table call rows spare before mid polls) (low : polls < length spare.retired) where
@@ -116,6 +121,8 @@ module _ (table : Table) (call : WriterCall) (rows : List Row) (spare : Spare) (
           leads = record { writes = leads.writes; grows = grows_both polls 1 (polls + 1) (token before) (token mid) _ (token after) refl so_far_quiet leads.grows; short = leads.short };
           noted = noted_more table.shape before.me.0.pasts mid.me.0.marks.polls (retired_at desk_now polls).slot after.me.0.marks.polls so_far.noted
               (subst (λ (l : List Past). Missed table.shape l mid.me.0.marks.polls (retired_at desk_now polls).slot after.me.0.marks.polls) so_far.leads.grows.pasts polled_so.1);
+          many = ap length polled_so.1.more ∙ length-append mid.me.0.marks.polls (polled_so.1.note ∷ []) ∙ ap (λ (n : ℕ). n + 1) so_far.many;
+          few = let missed = polled_so.1 in let few = missed.few in let more : length after.me.0.marks.polls ≡ length mid.me.0.marks.polls + 1 = ap length missed.more ∙ length-append mid.me.0.marks.polls (missed.note ∷ []) in let many = so_far.many in omega arith;
         }
 
 -- every retired slot was found held

@@ -44,10 +44,11 @@ seats_so shape id view writes few state kept at =
       core = subst (λ (rs : List Role). Core shape state.words rs kept.log) (sym more) (seats shape state.words roles kept.log (view.made + 1) kept.core (omega (arith, kept.readers)));
       fits = λ j u there. ⊎_elim
           (λ (t : get_elem? (set views id left) j ≡ some u). ⊎_elim
-          (λ (q : (j ≡ id) × (left ≡ u)). subst (Fits shape kept.log) q.1 (record { begins = fits.begins; told = fits.told; own = fits.own; knows_own = fits.knows_own; sized = fits.sized }))
+          (λ (q : (j ≡ id) × (left ≡ u)). subst (Fits shape kept.log) q.1 (record { begins = fits.begins; told = fits.told; own = fits.own; knows_own = fits.knows_own; acts = fits.acts; sized = fits.sized }))
           (λ (q : (j ≢ id) × (get_elem? views j ≡ some u)). kept.fits j u q.1) (at_set views id j left u t))
-          (λ (t : next ≡ u). subst (Fits shape kept.log) t (record { begins = record { rest = kept.log; is = refl }; told = record { rest = kept.log; is = refl }; own = silent; knows_own = λ caller e. refl; sized = λ _. fits.sized (omega arith) }))
+          (λ (t : next ≡ u). subst (Fits shape kept.log) t (record { begins = record { rest = kept.log; is = refl }; told = record { rest = kept.log; is = refl }; own = silent; knows_own = λ caller e. refl; acts = λ reads. refl; sized = λ _. fits.sized (omega arith) }))
           (at_snoc (set views id left) next u j there);
+      callers = kept.callers;
       once = λ caller. dite (ℕ_discrete caller (view.made + 1)) (λ e. let z = kept.fresh caller (omega arith) in let one : counts caller next.role ≤ 1 = at_most_one (is_by caller next.role) in omega (arith, tally caller))
           (λ ne. omega (arith, tally caller, not_next caller ne, kept.once caller));
       made = kept.made + 1;

@@ -5,6 +5,7 @@ use Rattle.atomic_table.specs.declared.shared.Seat.{Seat}
 use Rattle.nr_model.specs.Histories.{Entry, IsLegal, entries_of}
 use Rattle.nr_map.specs.Callers.{Caller, Grows, Rests, Table, caller_of, opening_map, token}
 use Rattle.nr_map.specs.Plays.{Advances, Waits}
+use Rattle.nr_map.specs.Entries.{AreCallers}
 use Rattle.nr_map.specs.Views.{View}
 
 abbrev pub MapSeat : Type 0
@@ -39,6 +40,7 @@ grows_rests m n sum a entries b c is first then = record {
   mine = then.mine ∙ first.mine;
   legal = subst (IsLegal (opening_map a.table)) (sym then.seen) first.legal;
   own = (λ j. entries_of (then.seen j) (then.number j)) ∙ first.own ∙ sym then.mine;
+  callers = subst (AreCallers a.table.shape.readers) (sym then.seen) first.callers;
   steps_made = omega (arith, first.steps_made, then.steps_made);
   pasts = then.pasts ∙ first.pasts;
 }
@@ -52,6 +54,7 @@ grows_both m n sum a b entries c is first then = record {
   mine = then.mine ∙ ap (λ (l : List Entry). l ++ entries) (first.mine ∙ append-nil a.mine);
   legal = subst (λ (t : Table). IsLegal (opening_map t) c.seen) first.table then.legal;
   own = then.own;
+  callers = subst (λ (t : Table). AreCallers t.shape.readers c.seen) first.table then.callers;
   steps_made = omega (arith, first.steps_made, then.steps_made);
   pasts = then.pasts ∙ first.pasts;
 }

@@ -1,5 +1,5 @@
 -- The writer's calls, put together of their steps.
-use Rattle.std.proofs.Common.{inl, inr, ⊎_elim, slice_index, ◌≡◌, ℕ, suc, ◌+◌, ◌*◌, List, [], ◌∷◌, ◌++◌, Bool, true, false, not, cond, length, nat_eq, refl, sym, ap, ◌∙◌, subst, arith, append-nil, length-append}
+use Rattle.std.proofs.Common.{inl, inr, ⊎_elim, slice_index, ◌≡◌, ℕ, suc, ◌+◌, ◌*◌, ◌≤◌, List, [], ◌∷◌, ◌++◌, Bool, true, false, not, cond, length, nat_eq, refl, sym, ap, ◌∙◌, subst, arith, append-nil, length-append}
 use Rattle.std.specs.Prelude.{Result, Ok, Err, nat_lt}
 use mathlib.Core.Option.{some}
 use lib.ListN.{get_elem?}
@@ -115,6 +115,7 @@ module _ (table : Table) (spare : Spare) (before : MapSeat) (rests : RestsAt tab
             polls = published.polls;
             mid = published.mid;
             took = subst (λ (s : Spare). Took published.polls s published.mid) (sym (spare_shown table spare before rests)) published.took;
+            few = subst (λ (t : Table). published.polls ≤ t.shape.readers + 1) (sym rests.writes.own) published.few;
             word = published.word;
             retires = spare_shown table after_spare after rests_after ∙ published.retires;
             gains = subst (λ (n : ℕ). Grows (steps + 2 * length rows + 2 + published.polls) (token before) (entry n (call_of call) reply.Done ∷ []) (token after)) (sym writer_number) all;

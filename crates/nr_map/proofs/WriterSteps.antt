@@ -1,5 +1,5 @@
 -- The writer's steps on the table: the look of each call, and every later step.
-use Rattle.std.proofs.Common.{nat_le, ◌≡◌, ℕ, suc, ◌+◌, ◌-◌, ◌*◌, ◌<◌, ◌≤◌, List, [], ◌++◌, Bool, true, false, cond, map, set, get_or, le-leb, length, take, refl, sym, ap, ◌∙◌, subst, arith, append-nil}
+use Rattle.std.proofs.Common.{inl, nat_le, ◌≡◌, ℕ, suc, ◌+◌, ◌-◌, ◌*◌, ◌<◌, ◌≤◌, List, [], ◌++◌, Bool, true, false, cond, map, set, get_or, le-leb, length, take, refl, sym, ap, ◌∙◌, subst, arith, append-nil}
 use Rattle.std.specs.Prelude.{None, Some}
 use mathlib.Core.Option.{some}
 use lib.ListN.{get_elem?}
@@ -21,7 +21,7 @@ use Rattle.nr_core.specs.Core.{AtPlace, Core}
 use Rattle.nr_core.specs.Laws.{IsGivenCall}
 use Rattle.nr_core.specs.Operations.{Load, Operation, Store, Swap, becomes, going, place_of}
 use Rattle.nr_core.specs.Refusals.{if_not_busy}
-use Rattle.nr_core.specs.Roles.{held, holds, is_by, is_writer, taken}
+use Rattle.nr_core.specs.Roles.{held, holds, is_by, is_reader, is_writer, taken}
 use Rattle.nr_core.specs.Slots.{content, naming}
 use Rattle.nr_core.specs.States.{key_of}
 use Rattle.nr_core.specs.Steps.{CanStep, Goes, Looks, Stepped, Telling}
@@ -46,7 +46,8 @@ use Rattle.nr_marks.specs.Marked.{KnowsMarks, MarkTelling, Remarked}
 use Rattle.nr_map.proofs.Polled.{PolledAll, go_polled, look_polled}
 use Rattle.nr_marks.specs.Marks.{Marks, Past}
 use Rattle.nr_map.proofs.Lift.{Choice, knows_pasts, lifts}
-use Rattle.nr_map.proofs.Moves.{learned, learning}
+use Rattle.nr_map.proofs.Moves.{ActsGo, learned, learning}
+use Rattle.nr_map.specs.Entries.{AreCallers}
 use Rattle.nr_map.proofs.Room.{room_at}
 use Rattle.nr_map.proofs.Shortage.{Shortage, go_short, lacks_so, look_short}
 use Rattle.nr_map.specs.Callers.{caller_of}
@@ -61,12 +62,24 @@ writer_is role desk is = ap (λ r. is_by (number_of r) r) is
 writer_shape : (shape : Shape) (log : List Entry) (view : View) (desk : Desk) → view.role ≡ Writer desk → Fits shape log view → view.shape ≡ shape
 writer_shape shape log view desk is fits = fits.sized (let one : is_writer view.role ≡ 1 = ap is_writer is in omega arith)
 
+-- a call that ends is an entry of the writer's
+writer_entries : (readers : ℕ) (call : Call) (step : Step) → AreCallers readers (ending call step)
+writer_entries readers call Going = tt
+writer_entries readers call (Ended (writer.Reply answer)) = (inl refl, tt)
+writer_entries readers call (Ended (writer.NoSlot counts)) = tt
+
 -- one writer has one desk
 same_desk : (role : Role) (desk other : Desk) → role ≡ Writer desk → role ≡ Writer other → desk ≡ other
 same_desk role desk other is also = sym (ap desk_of is) ∙ ap desk_of also
 
 module _ (shape : Shape) (id : ℕ) (view : View) (desk : Desk) (is : view.role ≡ Writer desk) (operation : Operation) (tells : Telling) (notes : MarkTelling) (state : State (Unit {0}) View) (kept : Kept shape state) (at : get_elem? state.views id ≡ some view)
     (step : Stepped shape state.words (map role_of state.views) kept.log id view.role operation tells) (marked : Remarked role_of marks_of shape state.words state.views kept.log id view operation step.after step.entries notes) (no_news : marked.news ≡ []) (call : Call) (outcome : Desk × Step) (role_told : step.after ≡ Writer outcome.0) (entries_told : step.entries ≡ ending call outcome.1) where
+  callers_told : AreCallers shape.readers step.entries
+  callers_told = subst (AreCallers shape.readers) (sym entries_told) (writer_entries shape.readers call outcome.1)
+
+  acts_told_so : ActsGo view step.after step.entries marked.now
+  acts_told_so reads = absurd (let none : is_reader step.after ≡ 0 = ap is_reader role_told in omega arith)
+
   sized : view.shape ≡ shape
   sized = writer_shape shape kept.log view desk is (kept.fits id view at)
 
@@ -95,7 +108,7 @@ module _ (shape : Shape) (id : ℕ) (view : View) (desk : Desk) (is : view.role 
 
   -- the writer's view after the step
   pub writes : (then : View → Type 0) → (Advances view (ending call outcome.1) next_view → then next_view) → Choice shape id view operation tells notes state kept step marked then
-  writes then tell = learning shape id view operation tells notes state kept at step marked (ap number_of role_told ∙ sym (ap number_of is)) sized then (writer_is view.role desk is) no_news (ending call outcome.1) entries_told tell
+  writes then tell = learning shape id view operation tells notes state kept at step marked (ap number_of role_told ∙ sym (ap number_of is)) sized callers_told acts_told_so then (writer_is view.role desk is) no_news (ending call outcome.1) entries_told tell
 
 pub looks_so : (shape : Shape) (slots id : ℕ) (me : Me (Unit {0}) View) (desk : Desk) (call : WriterCall) → me.0.role ≡ Writer desk → desk.place ≡ Idle → IsGivenCall shape.bound call → key_of call < shape.keys
     → Allows (Kept shape) slots id me (key_of call) (λ word. word) (λ found after. (other : Desk) → me.0.role ≡ Writer other → Looked other call found me.0 after.0)

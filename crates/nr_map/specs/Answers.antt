@@ -1,5 +1,5 @@
 -- What each call says of its token, by its answer.
-use Rattle.std.specs.Prelude.{◌≡◌, ℕ, ◌+◌, ◌*◌, List, [], ◌++◌, length, Result, Ok, Err}
+use Rattle.std.specs.Prelude.{◌≡◌, ℕ, ◌+◌, ◌*◌, ◌≤◌, List, [], ◌++◌, length, Result, Ok, Err}
 use Rattle.nr_model.specs.declared.rows.Row.{Row}
 use Rattle.nr_model.specs.declared.batches.ApplyFault.TheVariants as fault
 use Rattle.nr_model.specs.declared.batches.Delta.{Delta}
@@ -57,6 +57,7 @@ pub record Publishes (steps : ℕ) (old : Caller) (call : Call) (rows : List Row
   pub polls : ℕ
   pub mid : Spare
   pub took : Took polls (spare_of old) mid
+  pub few : polls ≤ old.table.shape.readers + 1
   pub word : ℕ
   pub retires : spare_of new ≡ record mid { retired = mid.retired ++ unnamed word }
   pub gains : Gains (steps + 2 * length rows + 2 + polls) old call reply.Done new

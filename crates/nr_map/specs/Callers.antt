@@ -10,6 +10,7 @@ use Rattle.nr_core.specs.declared.shape.Shape.{Shape}
 use Rattle.nr_core.specs.declared.places.Retired.{Retired}
 use Rattle.nr_core.specs.Story.{entry}
 use Rattle.nr_marks.specs.Marks.{Marks, Past, gripped}
+use Rattle.nr_map.specs.Entries.{AreCallers}
 use Rattle.nr_map.specs.Views.{View, desk_of, grip_of, number_of}
 
 -- which map it is, and its sizes
@@ -72,6 +73,8 @@ pub record Grows (steps : ℕ) (old : Caller) (entries : List Entry) (new : Call
   pub legal : IsLegal (opening_map old.table) new.seen
   -- of the caller's calls the history has just those that it made, each once
   pub own : entries_of new.seen new.number ≡ new.mine
+  -- and of others' only finds and requests of the map's readers, and calls of its writer
+  pub callers : AreCallers old.table.shape.readers new.seen
   pub steps_made : new.steps ≡ old.steps + steps
   -- it learnt nothing of readers
   pub pasts : new.pasts ≡ old.pasts

@@ -1,4 +1,5 @@
 pub mod Views
+pub mod Entries
 pub mod Callers
 pub mod Rule
 pub mod Notes
@@ -15,3 +16,4 @@ pub mod WriterSeats
 pub mod Searches
 pub mod Answers
 pub mod ExactPlaces
+pub mod SlotBounds

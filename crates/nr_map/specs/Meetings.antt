@@ -12,6 +12,7 @@ use Rattle.nr_core.specs.declared.roles.Desk.{Desk}
 use Rattle.nr_marks.specs.Exact.{Lists}
 use Rattle.nr_marks.specs.Marks.{Past}
 use Rattle.nr_marks.specs.Pasts.{Current}
+use Rattle.nr_map.specs.Entries.{AreCallers}
 use Rattle.nr_map.specs.Rule.{StartsWith}
 
 -- in so many steps, none of which adds an entry, the token learnt a legal history that begins with all that it had seen
@@ -23,14 +24,17 @@ pub record Learns (steps : ℕ) (old new : Caller) : Type 0 where
   pub legal : IsLegal (opening_map old.table) new.seen
   -- of the caller's calls the history has just those that it made, each once
   pub own : entries_of new.seen new.number ≡ new.mine
-  -- and none of anybody whom the map doesn't have
-  pub nobody_else : (caller : ℕ) → old.table.shape.readers < caller → entries_of new.seen caller ≡ []
+  -- and of others' only finds and requests of the map's readers, and calls of its writer
+  pub callers : AreCallers old.table.shape.readers new.seen
   pub steps_made : new.steps ≡ old.steps + steps
   -- the writer's slots, a reader's hold, and the marks stay
   pub fresh : new.fresh ≡ old.fresh
   pub retired : new.retired ≡ old.retired
   pub holds : new.holds ≡ old.holds
   pub marks : new.marks ≡ old.marks
+  -- it forgets nothing that it knew of readers
+  pub news : List Past
+  pub pasts : new.pasts ≡ news ++ old.pasts
 
 -- how a reader is, and the writer's desk between its calls, as their tokens show it
 abbrev pub how_is : Caller → Past
@@ -51,8 +55,6 @@ pub record Gathers (writer reader writer' reader' : Caller) : Type 0 where
   pub of_writer : Meets 3 reader writer' reader'
   pub all : entries_of writer'.seen reader.number ≡ reader.mine
   -- the writer knows how the reader is, and has compared it with its lists, which are those of the history
-  pub news : List Past
-  pub pasts : writer'.pasts ≡ news ++ writer.pasts
   pub place : ℕ
   pub known : get_elem? writer'.pasts place ≡ some (how_is reader)
   pub current : Current writer'.retired writer'.marks (how_is reader)

@@ -6,6 +6,7 @@ use Rattle.nr_model.specs.Laws.{pending}
 use Rattle.nr_model.specs.Maps.{state_of}
 use Rattle.nr_core.specs.Sums.{total}
 use Rattle.nr_map.specs.Callers.{Caller, KnowsOwn, map_seen, opening_map}
+use Rattle.nr_map.specs.Entries.{AreCallers}
 use Rattle.nr_map.specs.Rule.{StartsWith}
 
 -- the history has at least the caller's calls, or exactly these
@@ -32,7 +33,7 @@ pub record KnowsAll (writer : Caller) (readers : List Caller) : Type 0 where
   pub number : writer.number ≡ 0
   pub own : KnowsOwn writer
   pub legal : IsLegal (opening_map writer.table) writer.seen
-  pub nobody_else : (caller : ℕ) → writer.table.shape.readers < caller → entries_of writer.seen caller ≡ []
+  pub callers : AreCallers writer.table.shape.readers writer.seen
   pub count : length readers ≡ writer.table.shape.readers
   pub numbers : (at : ℕ) (other : Caller) → at < length readers → (slice_index_or readers at other).number ≡ at + 1
   pub each : All (HasJustCalls writer.seen) readers

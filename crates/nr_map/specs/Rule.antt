@@ -10,8 +10,9 @@ use Rattle.nr_core.specs.Sums.{total}
 use Rattle.nr_core.specs.Core.{Core}
 use Rattle.nr_core.specs.Roles.{is_by, is_reader, is_writer}
 use Rattle.nr_marks.specs.Marked.{Knowing, Marked}
-use Rattle.nr_marks.specs.Marks.{Marks, Past}
-use Rattle.nr_map.specs.Views.{View}
+use Rattle.nr_marks.specs.Marks.{Marks, Past, gripped}
+use Rattle.nr_map.specs.Entries.{AreCallers, acts_told, to_depart}
+use Rattle.nr_map.specs.Views.{View, grip_of}
 
 abbrev pub role_of : View → Role
 role_of view = view.role
@@ -40,6 +41,8 @@ pub record Fits (shape : Shape) (log : List Entry) (view : View) : Type 0 where
   pub told : StartsWith log view.told
   pub own : (caller : ℕ) → is_by caller view.role ≡ true → entries_of log caller ≡ view.mine
   pub knows_own : (caller : ℕ) → is_by caller view.role ≡ true → entries_of view.seen caller ≡ view.mine
+  -- a reader's acts are those that its entries tell, but the departure that is to come
+  pub acts : 0 < is_reader view.role → view.marks.acts + to_depart (gripped (grip_of view.role)) ≡ acts_told view.mine
   -- a note is no caller, and has no shape to keep
   pub sized : 0 < is_writer view.role + is_reader view.role → view.shape ≡ shape
 
@@ -47,6 +50,7 @@ pub record Kept (shape : Shape) (state : State (Unit {0}) View) : Type 0 where
   pub log : List Entry
   pub core : Core shape state.words (map role_of state.views) log
   pub fits : (id : ℕ) (view : View) → get_elem? state.views id ≡ some view → Fits shape log view
+  pub callers : AreCallers shape.readers log
   -- no two tokens are one caller
   pub once : (caller : ℕ) → total (counts caller) (map role_of state.views) ≤ 1
   -- the readers that were made are the first ones; the others have made no call

@@ -22,6 +22,7 @@ use Rattle.nr_core.specs.declared.calls.WriterCall.{WriterCall}
 use Rattle.nr_core.specs.declared.places.Place.TheVariants.{Idle, Leaving, Putting, Reading, Searching}
 use Rattle.nr_core.specs.declared.roles.Desk.{Desk}
 use Rattle.nr_core.specs.declared.roles.Role.TheVariants.{Writer}
+use Rattle.nr_map.specs.Entries.{AreCallers}
 use Rattle.nr_map.specs.Callers.{Caller, Grows, KnowsOwn, Table, opening_map, token}
 use Rattle.nr_map.specs.Spares.{Spare, Took, desk_with}
 use Rattle.nr_map.specs.Plays.{Lacks, ReadsOn, Room, call_at, next_put}
@@ -118,9 +119,10 @@ pub record PutsTo (table : Table) (desk : Desk) (old new : MapSeat) : Type 0 whe
   pub grows : Grows 1 (token old) [] (token new)
   pub marks : new.me.0.marks ≡ old.me.0.marks
 
--- what the writer knows is legal, and has its own entries
+-- what the writer knows is legal, and has the entries of the map's callers, with its own
 pub record Knows (caller : Caller) : Type 0 where
   pub legal : IsLegal (opening_map caller.table) caller.seen
+  pub callers : AreCallers caller.table.shape.readers caller.seen
   pub own : KnowsOwn caller
 
 -- the call has its set, and looks for a slot
@@ -144,6 +146,8 @@ pub record TakesSlot (table : Table) (call : WriterCall) (rows : List Row) (slot
   pub polls : ℕ
   pub took : Took polls spare after
   pub from : IsFrom slot spare
+  -- all polls but the last one found their slots held, each by another reader
+  pub few : polls ≤ table.shape.readers + 1
   pub slots : after.slots ≡ spare.slots
   pub writes : WritesAt table (desk_with after (Putting call rows slot departed 0)) new
   pub grows : Grows polls (token old) [] (token new)
@@ -162,6 +166,7 @@ pub record PublishesSet (table : Table) (call : WriterCall) (rows : List Row) (s
   pub took : Took polls spare mid
   pub word : ℕ
   pub retires : after ≡ record mid { retired = mid.retired ++ unnamed word }
+  pub few : polls ≤ table.shape.readers + 1
   pub slots : after.slots ≡ spare.slots
   -- the set has the next put number, and the slot was never taken before or was retired
   pub slot : ℕ

@@ -6,7 +6,7 @@ ghost use Rattle.nr_model.specs.declared.calls.Reply.TheVariants as reply;
 ghost use Rattle.nr_words.specs.KeyWords.{is_filled, slot_of};
 ghost use Rattle.nr_words.specs.SetWords.{encode};
 ghost use Rattle.nr_core.specs.declared.roles.Desk.{Desk};
-ghost use Rattle.nr_core.specs.declared.roles.Role.TheVariants.{Note, Writer};
+ghost use Rattle.nr_core.specs.declared.roles.Role.TheVariants.{Note as note_role, Writer};
 ghost use Rattle.nr_core.specs.Laws.{IsGivenCall};
 ghost use Rattle.nr_core.specs.States.{key_of};
 ghost use Rattle.nr_core.specs.Steps.{ask_word};
@@ -63,6 +63,21 @@ impl Model for Board {
     ghost view = { λ board. record { id = board.table.shared.table_id; shape = board.shape } };
 
     ghost invariant = { λ board. (board.table.shared.key ≡ board.shape) × (board.table.shared.table_id.words ≡ total_of slot_room (layout board.shape)) × (0 < board.shape.keys) × (board.shape.keys < 2 ^ 32) × IsShape board.shape };
+}
+
+/// What a token has seen, noted in a step that counts once another token takes the note in. So a
+/// note can't be dropped.
+pub struct Note {
+    seat: Seat,
+}
+
+impl Model for Note {
+    ghost use Rattle.atomic_table.specs.declared.shared.Seat.{Seat as TableSeat};
+    ghost use Rattle.nr_map.specs.Views.{View as Knowledge};
+
+    ghost Value = { TableSeat (Unit {0}) Knowledge };
+
+    ghost view = { λ note. note.seat };
 }
 
 // The words at opening: every key a hole, every slot's departures the first count.
@@ -259,24 +274,27 @@ impl Board {
     }
 
     /// A note of what the token has seen. The token stays as it is.
-    pub fn note(&self, seat: &mut Seat) -> Seat
+    pub fn note(&self, seat: &mut Seat) -> Note
         requires { seat.old.table_id ≡ self.now.id }
         ensures same { (seat.new.table_id ≡ seat.old.table_id) × (seat.new.me ≡ seat.old.me) }
         ensures note { (result.table_id ≡ seat.old.table_id) × (result.me ≡ (note_of seat.old.me.0, [])) }
     {
         let words = &self.table.shared;
-        words.split_seat::<Notes>(seat)
+        Note {
+            seat: words.split_seat::<Notes>(seat),
+        }
     }
 
     /// The token takes a note in.
-    pub fn take_note(&self, seat: &mut Seat, note: Seat)
+    pub fn take_note(&self, seat: &mut Seat, note: Note)
         requires own { (seat.old.table_id ≡ self.now.id) × (note.table_id ≡ self.now.id) }
-        requires note { (note.me.0.role ≡ Note) × (note.me.1 ≡ []) }
+        requires note { (note.me.0.role ≡ note_role) × (note.me.1 ≡ []) }
         ensures own { seat.new.table_id ≡ seat.old.table_id }
         ensures took { seat.new.me.0 ≡ with_note seat.old.me.0 note.me.0 }
     {
         let words = &self.table.shared;
-        words.join_seat::<Notes>(seat, note);
+        let Note { seat: told } = note;
+        words.join_seat::<Notes>(seat, told);
     }
 
     /// The token learns the history so far.

@@ -1,5 +1,6 @@
 //! Laws over the definitions alone. Nothing runs here: each function's contract is the law.
 ghost use Rattle.nr_map.specs.ExactPlaces.{DoneIsExact, NoSlotIsExact};
+ghost use Rattle.nr_map.specs.SlotBounds.{NoSlotIsRare, PollsAreFew, RoomForFills, RoomForUpdates};
 ghost use Rattle.nr_map.specs.Rounds.{CallsStay, EntriesAreCallers, RoundsTellAll, SendsOfAll};
 
 /// A caller's calls stay in a history that goes on.
@@ -33,4 +34,25 @@ pub fn no_slot_is_exact()
 /// Where it gathers them before and after a fill or an update that was done, they were fewer.
 pub fn done_is_exact()
     ensures { DoneIsExact }
+{}
+
+/// A fill or an update that is done polls at most one slot more than there are readers.
+pub fn polls_are_few()
+    ensures { PollsAreFew }
+{}
+
+/// One that finds no slot polls no more slots than there are readers, and `held` is at most that.
+/// With a slot for each key, each reader and one more it never comes to that.
+pub fn no_slot_is_rare()
+    ensures { NoSlotIsRare }
+{}
+
+/// So no fill of such a map is answered `NoSlot`.
+pub fn room_for_fills()
+    ensures { RoomForFills }
+{}
+
+/// Nor is an update.
+pub fn room_for_updates()
+    ensures { RoomForUpdates }
 {}

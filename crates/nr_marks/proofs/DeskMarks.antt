@@ -30,7 +30,7 @@ use Rattle.nr_model.specs.declared.calls.Reply.TheVariants as reply
 use Rattle.nr_marks.specs.Puts.{put_count, put_number}
 use Rattle.nr_marks.specs.Marks.{Marks, Past, with_polls}
 use Rattle.nr_marks.specs.PollNotes.{AllHeld, NoRoom}
-use Rattle.nr_marks.specs.Marked.{AllSince, Desked, KnowsMarks, MarkTelling, Marked, Remarked, Sweeping, lives}
+use Rattle.nr_marks.specs.Marked.{AllSince, Desked, KnowsMarks, MarkTelling, Marked, NotesPresent, Remarked, Sweeping, lives}
 use Rattle.nr_marks.proofs.MarksSince.{evolves_writer, marked_writer}
 use Rattle.nr_marks.proofs.PutNumbers.{nil_count, nil_number}
 
@@ -65,16 +65,17 @@ module _ {A : Type 0} (role : A → Role) (marks : A → Marks) where
 
   -- a writer's step, after which its desk and marks are these
   pub writer_step : (shape : Shape) (id : ℕ) (me : A) (operation : Operation) (tells : MarkTelling) (words : List ℕ) (callers : List A) (log : List Entry) → Core shape words (map role callers) log → Marked role marks shape words callers log → get_elem? callers id ≡ some me → (desk desk' : Desk) → role me ≡ Writer desk
-      → (after : Role) (entries : List Entry) → after ≡ Writer desk' → (now : Marks) (news : List Past) → AllSince role marks callers news
+      → (after : Role) (entries : List Entry) → after ≡ Writer desk' → (now : Marks) (news : List Past) → AllSince role marks callers news → NotesPresent role marks callers (marks me).polls now.polls
       → Desked role marks shape (set words (place_of operation) (becomes operation (get_or words (place_of operation) 0))) callers (log ++ entries) desk' now
       → tells (get_or words (place_of operation) 0) after (log ++ entries) now news → Remarked role marks shape words callers log id me operation after entries tells
-  writer_step shape id me operation tells words callers log core m at desk desk' was after entries is now news since own told = record {
+  writer_step shape id me operation tells words callers log core m at desk desk' was after entries is now news since noted own told = record {
     now = now;
     news = news;
     since = since;
     evolves = λ who _ _. evolves_writer role marks me who desk was;
     marked = λ who is_role is_marks. marked_writer role marks shape words (set words (place_of operation) (becomes operation (get_or words (place_of operation) 0))) callers log (log ++ entries) id me who desk desk' core at was (is_role ∙ is) m
         (subst (Desked role marks shape (set words (place_of operation) (becomes operation (get_or words (place_of operation) 0))) callers (log ++ entries) desk') (sym is_marks) own);
+    noted = noted;
     told = told;
   }
 

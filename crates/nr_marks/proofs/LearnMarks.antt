@@ -102,7 +102,7 @@ module _ {A : Type 0} (role : A → Role) (marks : A → Marks) where
     learns_writer desk was words callers log core m once at since after entries ans =
         let own = desk_of role marks shape words callers log id me desk m at was in let words' = set words place (get_or words place 0) in
         let t = refreshed shape words callers log core once id me desk at was own told since in
-        writer_step role marks shape id me (Load place) (WriterLearns shape (marks me) desk told) words callers log core m at desk desk was after entries (ans.0 ∙ was) (marks me) t.0 t.1
+        writer_step role marks shape id me (Load place) (WriterLearns shape (marks me) desk told) words callers log core m at desk desk was after entries (ans.0 ∙ was) (marks me) t.0 t.1 (λ place note here. inl here)
         (desk_stay role marks shape words words' callers log entries desk desk (marks me) (marks me).polls own (λ j _. ap (λ l. get_or l j 0) (set-get_or words place 0)) (subst (QuietEnd log) (sym ans.1) (nothing_ends log)) (λ s. omega arith) own.noted own.sweep)
         (refl, t.2, subst (λ (l : List Entry). Lists desk (marks me) shape (log ++ l)) (sym ans.1) (subst (Lists desk (marks me) shape) (sym (append-nil log)) (listed role marks shape words callers log id me desk core at was own)))
 
@@ -110,7 +110,7 @@ module _ {A : Type 0} (role : A → Role) (marks : A → Marks) where
     pub learns_reader : (reader : ℕ) (grip : Grip) → role me ≡ Reader reader grip → CanMark role marks shape id me told (Load place) (Learns (role me)) (ReaderLearns reader grip (marks me) told)
     learns_reader reader grip was words callers log core m once at since after entries ans =
         reader_step role marks shape id me told (Load place) (Learns (role me)) (ReaderLearns reader grip (marks me) told) words callers log m at reader grip grip was after entries (ans.0 ∙ was)
-        (λ j _. ap (λ l. name_number (get_or l j 0)) (set-get_or words place 0)) (λ k. ap (λ l. put_number (log ++ l) k) ans.1 ∙ nil_number log k) (ap (λ l. put_count (log ++ l)) ans.1 ∙ nil_count log) (marks me) (inl (refl, refl, refl))
+        (λ j _. ap (λ l. name_number (get_or l j 0)) (set-get_or words place 0)) (λ k. ap (λ l. put_number (log ++ l) k) ans.1 ∙ nil_number log k) (ap (λ l. put_count (log ++ l)) ans.1 ∙ nil_count log) (marks me) refl (inl (refl, refl, refl))
         (λ j slot u desk there writes t e. (t.held id reader slot me grip at was e, λ _. e)) (
           refl,
           refl,

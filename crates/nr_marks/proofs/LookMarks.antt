@@ -1,5 +1,5 @@
 -- The writer's steps that leave the words: its looks and its reads. A call that ends with no slot there has none retired either.
-use Rattle.std.proofs.Common.{Bool, List, [], ap, append-nil, arith, cond, false, get_or, length, map, nat_eq, refl, set, subst, sym, ℕ, ◌*◌, ◌++◌, ◌+◌, ◌<◌, ◌∙◌, ◌∷◌, ◌≡◌, ◌≤◌}
+use Rattle.std.proofs.Common.{inl, Bool, List, [], ap, append-nil, arith, cond, false, get_or, length, map, nat_eq, refl, set, subst, sym, ℕ, ◌*◌, ◌++◌, ◌+◌, ◌<◌, ◌∙◌, ◌∷◌, ◌≡◌, ◌≤◌}
 use Rattle.std.proofs.lemmas.Bool.{eqb-true}
 use Rattle.std.specs.Prelude.{Err, Ok, Result, nat_lt}
 use lib.ListN.{get_elem?}
@@ -118,7 +118,7 @@ module _ {A : Type 0} (role : A → Role) (marks : A → Marks) (shape : Shape) 
       let own = desk_of role marks shape words callers log id me desk m at was in let calm = looked_calm role marks shape callers desk call word in
       let there : get_elem? (map role callers) id ≡ some (Writer desk) = at_maps role callers id me at ∙ ap some was in
       let quiet : QuietEnd log entries = subst (QuietEnd log) (sym ans.1) (quiet_end log (call_of call) o.1 calm.2) in
-      writer_step role marks shape id me (Load k) (LooksMarks shape (marks me) desk call) words callers log core m at desk o.0 was after entries ans.0 (with_polls (marks me) []) [] (no_places (Since role marks callers))
+      writer_step role marks shape id me (Load k) (LooksMarks shape (marks me) desk call) words callers log core m at desk o.0 was after entries ans.0 (with_polls (marks me) []) [] (no_places (Since role marks callers)) (λ place note here. absurd (some-ne-none note (sym here)))
       (desk_stay role marks shape words (set words k word) callers log entries desk o.0 (marks me) [] own (λ i _. ap (λ l. get_or l i 0) (set-get_or words k 0)) quiet (λ s. let e = ap (retirements s) calm.0 in omega arith) (no_places (Since role marks callers)) calm.1) (
         refl,
         refl,
@@ -141,7 +141,7 @@ module _ {A : Type 0} (role : A → Role) (marks : A → Marks) (shape : Shape) 
       (λ yes e. let n = decided_none shape desk counts call (set_of shape.bound got') e in let whole = read_whole shape words roles log core (key_of call) slot got p (eqb-true (length got') (2 * get_or got' 0 0 + 1) yes) in
       (n.1, n.2, ap (reply_at shape.bound (call_of call)) (p.full ∙ ap key.Rows (sym whole)) ∙ n.3))
       (λ _ e. absurd (let z : 0 ≡ 1 = ap without e in omega arith)) in
-      writer_step role marks shape id me (Load i) (ReadsOnMarks shape (marks me) desk call slot got) words callers log core m at desk o.0 was after entries ans.0 (marks me) [] (no_places (Since role marks callers))
+      writer_step role marks shape id me (Load i) (ReadsOnMarks shape (marks me) desk call slot got) words callers log core m at desk o.0 was after entries ans.0 (marks me) [] (no_places (Since role marks callers)) (λ place note here. inl here)
       (desk_stay role marks shape words (set words i word) callers log entries desk o.0 (marks me) (marks me).polls own (λ j _. ap (λ l. get_or l j 0) (set-get_or words i 0)) quiet (λ s. let e = ap (retirements s) calm.0 in omega arith) own.noted
       (subst (λ l. Sweeping role marks callers o.0 l o.0.place) (sym none) calm.1)) (
         refl,

@@ -1,5 +1,5 @@
 -- A poll: where it finds its slot held it notes a reader that holds it, which no poll of this call has noted. So at most as many polls as there are readers find their slots held.
-use Rattle.std.proofs.Common.{List, [], ap, append-nil, arith, cond, false, get_or, length, length-append, map, refl, set, subst, sym, ℕ, ⊎_elim, ◌%◌, ◌++◌, ◌+◌, ◌<◌, ◌^◌, ◌∙◌, ◌∷◌, ◌≡◌, ◌≢◌, ◌≤◌}
+use Rattle.std.proofs.Common.{inl, inr, List, [], ap, append-nil, arith, cond, false, get_or, length, length-append, map, refl, set, subst, sym, ℕ, ⊎_elim, ◌%◌, ◌++◌, ◌+◌, ◌<◌, ◌^◌, ◌∙◌, ◌∷◌, ◌≡◌, ◌≢◌, ◌≤◌}
 use Rattle.std.proofs.lemmas.Bool.{eqb-false}
 use Rattle.std.specs.Prelude.{Some, nat_lt}
 use lib.ListN.{get_elem?}
@@ -33,7 +33,7 @@ use Rattle.nr_core.specs.declared.roles.Role.TheVariants.{Note, Reader, Writer}
 use Rattle.nr_core.specs.declared.shape.Shape.{Shape}
 use Rattle.nr_marks.specs.Marks.{Marks, Past, gripped, past, with_polls}
 use Rattle.nr_marks.specs.PollNotes.{Missed, NoRoom}
-use Rattle.nr_marks.specs.Marked.{AllSince, CanMark, KnowsMarks, Once, Remarked, Since, Sweeping, Sweeps, is_caller}
+use Rattle.nr_marks.specs.Marked.{AllSince, CanMark, IsPresent, KnowsMarks, NotesPresent, Once, Remarked, Since, Sweeping, Sweeps, is_caller}
 use Rattle.nr_marks.specs.MarkSteps.{PollTells, PollsMarks}
 use Rattle.nr_marks.proofs.Different.{few_of}
 use Rattle.nr_marks.proofs.ListPlaces.{at_last, at_maps, at_unmap, before, inside, no_places, some_is}
@@ -100,9 +100,9 @@ module _ {A : Type 0} (role : A → Role) (marks : A → Marks) where
         let tells = PollsMarks shape (marks me) known desk call poll in
         let Goal : Type 0 = Remarked role marks shape words callers log id me (Load i) after entries tells in
         let stays : (j : ℕ) → j < shape.keys → get_or words' j 0 ≡ get_or words j 0 = λ j _. ap (λ l. get_or l j 0) (set-get_or words i 0) in
-        let finish : (desk' : Desk) (polls : List Past) → after ≡ Writer desk' → entries ≡ [] → ((s : ℕ) → retirements s desk'.retired ≤ retirements s desk.retired) → AllSince role marks callers polls → Sweeping role marks callers desk' polls desk'.place
+        let finish : (desk' : Desk) (polls : List Past) → after ≡ Writer desk' → entries ≡ [] → ((s : ℕ) → retirements s desk'.retired ≤ retirements s desk.retired) → AllSince role marks callers polls → NotesPresent role marks callers (marks me).polls polls → Sweeping role marks callers desk' polls desk'.place
         → tells word after (log ++ entries) (with_polls (marks me) polls) [] → Goal
-        = λ desk' polls is none fewer since sweep told. writer_step role marks shape id me (Load i) tells words callers log core m at desk desk' was after entries is (with_polls (marks me) polls) [] (no_places (Since role marks callers))
+        = λ desk' polls is none fewer since noted sweep told. writer_step role marks shape id me (Load i) tells words callers log core m at desk desk' was after entries is (with_polls (marks me) polls) [] (no_places (Since role marks callers)) noted
         (desk_stay role marks shape words words' callers log entries desk desk' (marks me) polls own stays (subst (QuietEnd log) (sym none) (nothing_ends log)) fewer since sweep) told in
         let misses : same_count word entry.arrivals ≡ false → (desk' : Desk) → desk'.retired ≡ desk.retired → ((polls : List Past) → Sweeps role marks callers desk' polls (poll + 1) → Sweeping role marks callers desk' polls desk'.place) → after ≡ Writer desk' → entries ≡ [] → Goal
         = λ miss desk' same sweeping is none.
@@ -114,6 +114,7 @@ module _ {A : Type 0} (role : A → Role) (marks : A → Marks) where
         let sweep = noted shape words callers log core once id me desk desk' at was same (marks me).polls poll entry here sweeps f.0 c u y g.1 reads o.3 in let many = sweep.many in
         let since : AllSince role marks callers polls = λ n e there'. ⊎_elim (own.noted n e) (λ (z : (n ≡ length (marks me).polls) × (note ≡ e)). subst (Since role marks callers) z.1
         (record { place = f.0; who = u; there = g.1; grip = y; is = reads; least = omega arith; same = λ _. (refl, refl) })) (at_last (marks me).polls note e n there') in
+        let present : NotesPresent role marks callers (marks me).polls polls = λ n e there'. ⊎_elim inl (λ (z : (n ≡ length (marks me).polls) × (note ≡ e)). inr (subst (IsPresent role marks callers) z.1 (f.0, u, y, g.1, reads, refl))) (at_last (marks me).polls note e n there') in
         let readers : (n : ℕ) (e : Past) → get_elem? polls n ≡ some e → (0 < e.reader) × (e.reader ≤ shape.readers) = λ n e there'. let w = since n e there' in subst (λ r. KnowsMarks role marks shape words callers log r (marks w.who)) w.is (m.each w.place w.who w.there) in
         let few : length polls ≤ shape.readers = few_of (λ (e : Past). e.reader) polls shape.readers sweep.different readers in
         let missed : Missed shape known (marks me).polls slot polls = record {
@@ -125,7 +126,7 @@ module _ {A : Type 0} (role : A → Role) (marks : A → Marks) where
           different = sweep.different;
           few = few;
         } in
-        finish desk' polls is none (λ s. let e = ap (retirements s) same in omega arith) since (sweeping polls sweep) (
+        finish desk' polls is none (λ s. let e = ap (retirements s) same in omega arith) since present (sweeping polls sweep) (
           refl,
           subst (λ b. PollTells b shape (marks me) known desk call poll (log ++ entries) (with_polls (marks me) polls)) (sym miss) (
             refl,
@@ -142,7 +143,7 @@ module _ {A : Type 0} (role : A → Role) (marks : A → Marks) where
         ) in
         by_cases (λ b. same_count word entry.arrivals ≡ b → after ≡ Writer (cond {A = Desk × Step} b (taking_retired desk call rows poll word, Going) (polls_on shape desk call rows poll)).0 → entries ≡ ending (call_of call) (cond {A = Desk × Step} b (taking_retired desk call rows poll word, Going) (polls_on shape desk call rows poll)).1 → Goal)
         (same_count word entry.arrivals)
-        (λ _ hit is none. finish (taking_retired desk call rows poll word) (marks me).polls is none (λ s. let gone = total-remove (λ (y : Retired). only s y.slot) desk.retired poll entry here in omega arith) own.noted tt (refl, subst (λ b. PollTells b shape (marks me) known desk call poll (log ++ entries) (marks me)) (sym hit) refl))
+        (λ _ hit is none. finish (taking_retired desk call rows poll word) (marks me).polls is none (λ s. let gone = total-remove (λ (y : Retired). only s y.slot) desk.retired poll entry here in omega arith) own.noted (λ n e there'. inl there') tt (refl, subst (λ b. PollTells b shape (marks me) known desk call poll (log ++ entries) (marks me)) (sym hit) refl))
         (λ _ miss. by_cases (λ b. after ≡ Writer (cond {A = Desk × Step} b (moved_to desk (Searching call rows (poll + 1)), Going) (moved_to desk Idle, no_slot shape desk)).0 → entries ≡ ending (call_of call) (cond {A = Desk × Step} b (moved_to desk (Searching call rows (poll + 1)), Going) (moved_to desk Idle, no_slot shape desk)).1 → Goal)
         (nat_lt (poll + 1) (length desk.retired))
         (λ _ is none. misses miss (moved_to desk (Searching call rows (poll + 1))) refl (λ polls t. t) is none)

@@ -68,11 +68,11 @@ module _ {A : Type 0} (role : A → Role) (marks : A → Marks) (shape : Shape) 
       → (after : Role) (entries : List Entry) → after ≡ Reader reader y
       → ((key : ℕ) → key < shape.keys → name_number (get_or (set words (place_of operation) (becomes operation (get_or words (place_of operation) 0))) key 0) ≡ name_number (get_or words key 0))
       → ((key : ℕ) → put_number (log ++ entries) key ≡ put_number log key) → put_count (log ++ entries) ≡ put_count log
-      → (now : Marks) → ((gripped y ≡ gripped x) × (now.acts ≡ (marks me).acts) × (now.put ≡ (marks me).put)) ⊎ ((marks me).acts < now.acts)
+      → (now : Marks) → now.polls ≡ (marks me).polls → ((gripped y ≡ gripped x) × (now.acts ≡ (marks me).acts) × (now.put ≡ (marks me).put)) ⊎ ((marks me).acts < now.acts)
       → ((j slot : ℕ) (u : A) (desk : Desk) → get_elem? callers j ≡ some u → role u ≡ Writer desk → Desked role marks shape words callers log desk (marks u) → gripped y ≡ Some slot
       → (get_or (marks u).puts slot 0 ≡ now.put) × (0 < retirements slot desk.retired → gripped x ≡ Some slot))
       → tells (get_or words (place_of operation) 0) after (log ++ entries) now [] → Remarked role marks shape words callers log id me operation after entries tells
-  reader_step operation answers tells words callers log m at reader x y was after entries is names puts many now moves holds told =
+  reader_step operation answers tells words callers log m at reader x y was after entries is names puts many now same_polls moves holds told =
       let evolves : (who : A) → role who ≡ after → marks who ≡ now → Evolves role marks me who = λ who is_role is_marks c z e. let n : reader ≡ c = ap number_of (sym was ∙ e) in let g : gripped x ≡ gripped z = ap (λ r. gripped (grip_of r)) (sym was ∙ e) in (
         y,
         is_role ∙ is ∙ ap (λ (b : ℕ). Reader b y) n,
@@ -86,6 +86,7 @@ module _ {A : Type 0} (role : A → Role) (marks : A → Marks) (shape : Shape) 
         evolves = evolves;
         marked = λ who is_role is_marks. marked_reader role marks shape words (set words (place_of operation) (becomes operation (get_or words (place_of operation) 0))) callers log (log ++ entries) id me who reader x y at was (is_role ∙ is) (evolves who is_role is_marks) names puts many
             (λ j slot u desk there writes t e. let h = holds j slot u desk there writes t e in (h.0 ∙ ap (λ (k : Marks). k.put) (sym is_marks), h.1)) m;
+        noted = λ place note there. inl (ap (λ (l : List Past). get_elem? l place) (sym same_polls) ∙ there);
         told = told;
       }
 
@@ -95,7 +96,7 @@ module _ {A : Type 0} (role : A → Role) (marks : A → Marks) (shape : Shape) 
       → ((words : List ℕ) (roles : List Role) (log : List Entry) → Core shape words roles log → (key : ℕ) → key < shape.keys → name_number (get_or (set words (place_of operation) (becomes operation (get_or words (place_of operation) 0))) key 0) ≡ name_number (get_or words key 0))
       → CanMark role marks shape id me known operation answers (KeepsMarks (marks me))
   same_hold operation answers reader x was told names words callers log core m once at since after entries ans = let a = told words log entries after ans in
-      reader_step operation answers (KeepsMarks (marks me)) words callers log m at reader x a.0 was after entries a.1 (names words (map role callers) log core) a.3 a.4 (marks me) (inl (a.2, refl, refl))
+      reader_step operation answers (KeepsMarks (marks me)) words callers log m at reader x a.0 was after entries a.1 (names words (map role callers) log core) a.3 a.4 (marks me) refl (inl (a.2, refl, refl))
       (λ j slot u desk there writes t e. (t.held id reader slot me x at was (sym a.2 ∙ e), λ _. sym a.2 ∙ e)) (refl, refl)
 
   pub asks_marked : (reader key : ℕ) → key < shape.keys → role me ≡ Reader reader Nothing → CanMark role marks shape id me known (Or key 1) (Asks reader key) (KeepsMarks (marks me))
@@ -115,7 +116,7 @@ module _ {A : Type 0} (role : A → Role) (marks : A → Marks) (shape : Shape) 
   departs_marked reader slot rows sized was words callers log core m once at since after entries ans =
       let i : ℕ = departures shape slot in let x : ℕ = (get_or words i 0 + 1) % 2 ^ 64 in
       reader_step (Add i 1) (Departs reader) (DepartsMarks (marks me)) words callers log m at reader (On slot rows sized) Nothing was after entries ans.0 (λ k l. ap name_number (names_behind words shape.keys i x (omega arith) k l))
-      (λ k. ap (λ l. put_number (log ++ l) k) ans.1 ∙ nil_number log k) (ap (λ l. put_count (log ++ l)) ans.1 ∙ nil_count log) (acted (marks me) (marks me).put) (inr (omega arith)) (λ j s u desk there writes t e. absurd (cc)) (refl, refl)
+      (λ k. ap (λ l. put_number (log ++ l) k) ans.1 ∙ nil_number log k) (ap (λ l. put_count (log ++ l)) ans.1 ∙ nil_count log) (acted (marks me) (marks me).put) refl (inr (omega arith)) (λ j s u desk there writes t e. absurd (cc)) (refl, refl)
 
   pub arrives_marked : (reader key : ℕ) → key < shape.keys → role me ≡ Reader reader Nothing → CanMark role marks shape id me known (Add key ARRIVE) (Arrives shape reader key) (ArrivesMarks (marks me) key)
   arrives_marked reader key near was words callers log core m once at since after entries ans =
@@ -124,7 +125,7 @@ module _ {A : Type 0} (role : A → Role) (marks : A → Marks) (shape : Shape) 
       let finish : (y : Grip) (r : Reply) → is_done r ≡ false → after ≡ Reader reader y → entries ≡ entry reader (model.Find key) r ∷ [] → ((slot : ℕ) → gripped y ≡ Some slot → name_number word ≡ suc slot) → Goal
       = λ y r quiet is is_entries holds. let e = entry reader (model.Find key) r in let numbers : (k : ℕ) → put_number (log ++ entries) k ≡ put_number log k = λ k. ap (λ l. put_number (log ++ l) k) is_entries ∙ quiet_number log e k quiet in
       reader_step (Add key ARRIVE) (Arrives shape reader key) (ArrivesMarks (marks me) key) words callers log m at reader Nothing y was after entries is (λ k _. names_kept words key x (omega arith) (name-bumped word) k)
-      numbers (ap (λ l. put_count (log ++ l)) is_entries ∙ quiet_count log e quiet) now (inr (omega arith))
+      numbers (ap (λ l. put_count (log ++ l)) is_entries ∙ quiet_count log e quiet) now refl (inr (omega arith))
       (λ j slot u desk there writes t on. let names = holds slot on in (
         t.puts key slot near names ∙ sym (numbers key),
         λ l. absurd (let r = rests role marks shape words callers log j u desk slot core there writes l in let b = below-term (λ k. only (suc slot) (name_number (get_or words k 0))) shape.keys key near in

@@ -98,7 +98,7 @@ module _ {A : Type 0} (role : A → Role) (marks : A → Marks) where
         → CanMark role marks shape id me known (Store (content shape slot at) (get_or (encode rows) at 0)) (λ word after entries. (after ≡ Writer (moved_to desk (Putting call rows slot departed (at + 1)))) × (entries ≡ [])) (KeepsMarks (marks me))
     puts_marked call rows slot departed at was words callers log core m once there since after entries ans =
         let i : ℕ = content shape slot at in let x : ℕ = get_or (encode rows) at 0 in let desk' = moved_to desk (Putting call rows slot departed (at + 1)) in let own = desk_of role marks shape words callers log id me desk m there was in
-        writer_step role marks shape id me (Store i x) (KeepsMarks (marks me)) words callers log core m there desk desk' was after entries ans.0 (marks me) [] (no_places (Since role marks callers))
+        writer_step role marks shape id me (Store i x) (KeepsMarks (marks me)) words callers log core m there desk desk' was after entries ans.0 (marks me) [] (no_places (Since role marks callers)) (λ place note here. inl here)
         (desk_stay role marks shape words (set words i x) callers log entries desk desk' (marks me) (marks me).polls own (names_behind words shape.keys i x (omega arith)) (subst (QuietEnd log) (sym ans.1) (nothing_ends log)) (λ s. omega arith) own.noted tt)
         (refl, refl)
 
@@ -118,7 +118,7 @@ module _ {A : Type 0} (role : A → Role) (marks : A → Marks) where
         let no : (i : ℕ) → i ≢ k → puts_at i e ≡ false = λ i ne. ne_eqb (call_key (call_of call)) i (λ z. ne (sym z ∙ key_same call)) in
         let n : ℕ = put_count log in
         let many : put_count (log ++ e ∷ []) ≡ suc n = let z = count_more log e in omega arith in
-        writer_step role marks shape id me (Swap k x) (PublishesMarks (marks me) k slot) words callers log core m there desk desk' was after entries ans.0 (with_name (marks me) k slot n) [] (no_places (Since role marks callers))
+        writer_step role marks shape id me (Swap k x) (PublishesMarks (marks me) k slot) words callers log core m there desk desk' was after entries ans.0 (with_name (marks me) k slot n) [] (no_places (Since role marks callers)) (λ place note here. inl here)
         (subst (λ l. Desked role marks shape words' callers (log ++ l) desk' (with_name (marks me) k slot n)) (sym ans.1)
         (desk_put shape words words' callers log (log ++ e ∷ []) desk desk' (marks me) k slot own near in_range (ap name_number here ∙ name) (λ i ne. ap name_number (other i ne)) (omega arith)
         (λ place reader who grip is_there is on. let l = term_le (holds slot) roles place (Reader reader grip) (at_maps role callers place who is_there ∙ ap some is) in let g = grips_it grip slot on in absurd (omega arith))
@@ -142,7 +142,7 @@ module _ {A : Type 0} (role : A → Role) (marks : A → Marks) where
         let reads = p.1 in let near : k < shape.keys = reads.near in let wide = core.wide in let wide' = own.wide.0 in
         let here : get_or words' k 0 ≡ 0 = get_or-set_same words k 0 0 (omega arith) in
         let other : (i : ℕ) → i ≢ k → get_or words' i 0 ≡ get_or words i 0 = λ i ne. get_or-set_other words k i 0 0 ne in
-        writer_step role marks shape id me (Swap k 0) (UnpublishesMarks (marks me) k) words callers log core m there desk desk' was after entries ans.0 (without_name (marks me) k) [] (no_places (Since role marks callers))
+        writer_step role marks shape id me (Swap k 0) (UnpublishesMarks (marks me) k) words callers log core m there desk desk' was after entries ans.0 (without_name (marks me) k) [] (no_places (Since role marks callers)) (λ place note here. inl here)
         (subst (λ l. Desked role marks shape words' callers (log ++ l) desk' (without_name (marks me) k)) (sym ans.1)
         (desk_keep role marks shape words words' callers log (log ++ e ∷ []) desk desk' (marks me) (set (marks me).names k 0) (marks me).polls own (length-set (marks me).names k 0 ∙ wide')
         (λ i l. dite (ℕ_discrete i k) (λ z. ap (index (set (marks me).names k 0)) z ∙ get_or-set_same (marks me).names k 0 0 (omega arith) ∙ sym (ap name_number here) ∙ ap (λ (y : ℕ). name_number (get_or words' y 0)) (sym z))

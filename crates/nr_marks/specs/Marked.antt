@@ -18,7 +18,7 @@ use Rattle.nr_core.specs.Roles.{is_by, retirements}
 use Rattle.nr_core.specs.Operations.{Operation, place_of, becomes}
 use Rattle.nr_core.specs.Steps.{Telling}
 use Rattle.nr_marks.specs.Puts.{put_count, put_number}
-use Rattle.nr_marks.specs.Marks.{Past, Marks, gripped}
+use Rattle.nr_marks.specs.Marks.{Past, Marks, gripped, past}
 
 -- 1 where the role is that caller's
 abbrev pub is_caller : ℕ → Role → ℕ
@@ -49,6 +49,14 @@ module _ {A : Type 0} (role : A → Role) (marks : A → Marks) where
 
   abbrev pub AllSince : List A → List Past → Type 0
   AllSince callers known = (at : ℕ) (old : Past) → get_elem? known at ≡ some old → Since callers old
+
+  -- the past tells one of the callers as it is
+  abbrev pub IsPresent : List A → Past → Type 0
+  IsPresent callers note = (place : ℕ) × (who : A) × (grip : Grip) × (get_elem? callers place ≡ some who) × (role who ≡ Reader note.reader grip) × (note ≡ past note.reader grip (marks who))
+
+  -- each note that is new among the polls tells a reader as it is, so the reader that it says holds a slot holds it, and has made so many acts
+  abbrev pub NotesPresent : List A → List Past → List Past → Type 0
+  NotesPresent callers polls now = (at : ℕ) (note : Past) → get_elem? now at ≡ some note → (get_elem? polls at ≡ some note) ⊎ IsPresent callers note
 
   -- each caller knows of readers only what is so since then; `pasts` is what it knows of them
   abbrev pub Knowing : (A → List Past) → List A → Type 0
@@ -101,6 +109,7 @@ module _ {A : Type 0} (role : A → Role) (marks : A → Marks) where
     pub since : AllSince callers news
     pub evolves : (who : A) → role who ≡ after → marks who ≡ now → Evolves before who
     pub marked : (who : A) → role who ≡ after → marks who ≡ now → Marked shape (slice_set words (place_of operation) (becomes operation (slice_index words (place_of operation)))) (slice_set callers id who) (log ++ entries)
+    pub noted : NotesPresent callers (marks before).polls now.polls
     pub told : tells (slice_index words (place_of operation)) after (log ++ entries) now news
 
   -- Where the core makes the step that `answers` tells, the caller's marks go along. `known` is what the caller knows of readers.

@@ -1,0 +1,37 @@
+-- How few slots a call polls, and how few it can find held.
+use Rattle.std.specs.Prelude.{◌≡◌, ℕ, ◌+◌, ◌≤◌, List, length, Err}
+use Rattle.nr_model.specs.declared.calls.Call.{Call}
+use Rattle.nr_model.specs.declared.batches.Delta.{Delta}
+use Rattle.nr_model.specs.declared.rows.Row.{Row}
+use Rattle.nr_core.specs.declared.calls.NoSlot.{NoSlot}
+use Rattle.nr_map.specs.declared.answers.FillFault.TheVariants as fill
+use Rattle.nr_map.specs.declared.answers.UpdateFault.TheVariants as update
+use Rattle.nr_map.specs.Answers.{FillsKey, HasNoSlot, Publishes, UpdatesKey}
+use Rattle.nr_map.specs.Callers.{Caller}
+
+-- the map has a slot for each key, each reader and one more
+abbrev pub HasRoomForAll : Caller → Type 0
+HasRoomForAll caller = caller.table.shape.keys + caller.table.shape.readers + 1 ≤ caller.table.shape.slots
+
+-- a call that was done polled at most one slot more than there are readers
+abbrev pub PollsAreFew : Type 0
+PollsAreFew =
+    (steps : ℕ) (call : Call) (rows : List Row) (old new : Caller) (published : Publishes steps old call rows new) →
+    published.polls ≤ old.table.shape.readers + 1
+
+-- a call that found no slot polled no more than there are readers, and each held one; where the map has room for all, it finds one
+abbrev pub NoSlotIsRare : Type 0
+NoSlotIsRare =
+    (steps : ℕ) (call : Call) (counts : NoSlot) (old new : Caller) →
+    HasNoSlot steps old call counts new →
+    (length old.retired ≤ old.table.shape.readers) × (counts.held ≤ old.table.shape.readers) × (HasRoomForAll old → ⊥)
+
+abbrev pub RoomForFills : Type 0
+RoomForFills =
+    (key : ℕ) (rows : List Row) (old new : Caller) (counts : NoSlot) →
+    HasRoomForAll old → FillsKey key rows old new (Err (fill.NoSlot counts)) → ⊥
+
+abbrev pub RoomForUpdates : Type 0
+RoomForUpdates =
+    (bound key : ℕ) (batch : List Delta) (old new : Caller) (counts : NoSlot) →
+    HasRoomForAll old → UpdatesKey bound key batch old new (Err (update.NoSlot counts)) → ⊥
