@@ -31,7 +31,7 @@ use Rattle.nr_core.specs.declared.calls.Refusal.{Refusal}
 use Rattle.nr_core.specs.declared.calls.WriterCall.{WriterCall}
 use Rattle.nr_core.specs.declared.places.Hold.{Hold}
 use Rattle.nr_core.specs.declared.places.Place.{Place}
-use Rattle.nr_core.specs.declared.places.Place.TheVariants.{Idle, Leaving, Putting, Reading, Searching}
+use Rattle.nr_core.specs.declared.places.Place.TheVariants.{Idle, Leaving, Putting, Reading, Searching, Withdrawing}
 use Rattle.nr_core.specs.declared.roles.Role.TheVariants.{Writer}
 use Rattle.nr_core.specs.declared.shape.Shape.{Shape}
 use Rattle.nr_core.specs.declared.places.Hold.TheVariants as hold
@@ -83,6 +83,7 @@ held_untouched state log Go is_core ok s i held_so low here = go state.desk.plac
     go Idle is e = ap Load e
     go (Reading call t got) is e = ap Load e
     go (Leaving k) is e = let near = (at_place (Leaving k) is).1.near in absurd (omega arith)
+    go (Withdrawing k) is e = let near = (at_place (Withdrawing k) is).near in absurd (omega arith)
     go (Searching call rows p) is e = ap Load e
     go (Putting call rows t departed j) is e = let p = at_place (Putting call rows t departed j) is in let near = p.wants.near in let short = p.wants.row_set.1 in let fits = is_core.core.fits.bound in let free = p.nobody in let some_there = held_so.0 in
         by_cases (λ v. let o = cond {A = Operation} v (Store (content state.shape t j) (get_or (encode rows) j 0)) (Swap (key_of call) (naming t departed)) in place_of o ≡ content state.shape s i → o ≡ Load (content state.shape s i)) (nat_le j (2 * length rows))
@@ -109,6 +110,7 @@ inside_words state log Go is_core ok = go state.desk.place refl (place_room stat
     go Idle is room = absurd (no_some (if_not_busy state.desk.place) refuse.NotBusy (ap if_not_busy is) ok)
     go (Reading call slot got) is room = let wide = is_core.core.wide in let near = room.0 in let short = room.1 in omega arith
     go (Leaving k) is room = let wide = is_core.core.wide in let near = room.0 in omega arith
+    go (Withdrawing k) is room = let wide = is_core.core.wide in let near = room.0 in omega arith
     go (Searching call rows poll) is room = let wide = is_core.core.wide in let near = room.1 in omega arith
     go (Putting call rows slot departed index) is room = let wide = is_core.core.wide in let fits = is_core.core.fits.bound in let near = room.0 in let inside = room.2 in
         let short = (taken_set state log is_core call rows slot departed index is).1 in

@@ -40,7 +40,7 @@ asked_no_hole z number e other n = let two : rank z ≡ 1 = ap rank e in let non
 
 -- the list of numbers, where no state's number changes
 pub numbers_more : (shape : Shape) (m m' : PartialMap) (numbers : List ℕ) → ((k : ℕ) → k < shape.keys → number_of (state_of m' k) ≡ number_of (state_of m k)) → AreNumbers shape m numbers → AreNumbers shape m' numbers
-numbers_more shape m m' numbers same t = record { each = t.each; agree = λ k near. t.agree k near ∙ sym (same k near); within = t.within }
+numbers_more shape m m' numbers same t = record { each = t.each; agree = λ k near. t.agree k near ∙ sym (same k near) }
 
 module _ (shape : Shape) where
   pub spells_more : (words words' : List ℕ) (s : ℕ) (m : List Row) → ((i : ℕ) → i ≤ 2 * (bound_of shape) → get_or words' (content shape s i) 0 ≡ get_or words (content shape s i) 0) → SlotSpells shape words s m → SlotSpells shape words' s m

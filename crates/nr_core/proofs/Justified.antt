@@ -32,7 +32,7 @@ use Rattle.nr_core.specs.declared.calls.Step.{Step}
 use Rattle.nr_core.specs.declared.calls.Step.TheVariants.{Ended, Going}
 use Rattle.nr_core.specs.declared.calls.WriterCall.{WriterCall}
 use Rattle.nr_core.specs.declared.places.Place.{Place}
-use Rattle.nr_core.specs.declared.places.Place.TheVariants.{Idle, Leaving, Putting, Reading, Searching}
+use Rattle.nr_core.specs.declared.places.Place.TheVariants.{Idle, Leaving, Putting, Reading, Searching, Withdrawing}
 use Rattle.nr_core.specs.declared.places.Retired.{Retired}
 use Rattle.nr_core.specs.declared.roles.Desk.{Desk}
 use Rattle.nr_core.specs.declared.roles.Role.TheVariants.{Writer}
@@ -97,6 +97,7 @@ go_ending : (state : State) (log : List Entry) (polls : List Poll) → IsCoreSta
     IsWithout counts outcome → (call : WriterCall) × (call_in place ≡ call ∷ []) × Ending state log place (polls_at state polls place) call outcome counts
 go_ending state log polls is_core swept Idle is counts e = absurd (not_going counts e)
 go_ending state log polls is_core swept (Leaving k) is counts e = absurd (not_reply counts reply.Evicted e)
+go_ending state log polls is_core swept (Withdrawing k) is counts e = absurd (not_reply counts reply.Cancelled e)
 go_ending state log polls is_core swept (Putting call rows slot departed index) is counts e = let found = get_or state.words (place_of (going state.shape state.desk (Putting call rows slot departed index))) 0 in
     let Goal : Type 0 = (q : WriterCall) × (call ∷ [] ≡ q ∷ []) × Ending state log (Putting call rows slot departed index) polls q (put_on state.desk call rows slot departed index found) counts in
     by_cases (λ v. IsWithout counts (cond {A = Desk × Step} v (moved_to state.desk (Putting call rows slot departed (index + 1)), Going) (swapped state.desk found, ended reply.Done)) → Goal) (nat_le index (2 * length rows))
@@ -116,7 +117,7 @@ go_ending state log polls is_core swept (Reading call s got) is counts e =
         none = n.0;
         full = n.1;
         free = λ _. refl;
-        done = ap (reply_at (bound_of shape) (call_of call)) (p.full ∙ ap key.Rows (sym set_is)) ∙ n.3;
+        done = ap (reply_at (bound_of shape) (call_of call)) (p.full ∙ ap (key.Rows p.number) (sym set_is)) ∙ n.3 p.number;
         polled = ap (map (λ (poll : Poll). poll.slot)) none_polled ∙ no_polls desk.retired n.2;
       },
     ))

@@ -72,11 +72,10 @@ below_none f zero none = refl
 below_none f (suc n) none = omega (arith, below_none f n (λ k l. none k (omega arith)), none n (omega arith))
 
 -- every key has the first number
-first_numbers : (shape : Shape) → IsShape shape → AreNumbers shape (opening_map shape) (replicate shape.keys shape.first_number)
-first_numbers shape fits = let few = fits.number in record {
+first_numbers : (shape : Shape) → AreNumbers shape (opening_map shape) (replicate shape.keys shape.first_number)
+first_numbers shape = record {
   each = length-replicate shape.keys shape.first_number;
   agree = λ k near. get_or-replicate shape.keys k shape.first_number 0 near ∙ ap number_of (sym (get_or-replicate shape.keys k (key.Hole shape.first_number) (key.Hole 0) near));
-  within = λ k near. omega (arith, get_or-replicate shape.keys k shape.first_number 0 near);
 }
 
 -- the writer, and so many readers
@@ -96,7 +95,7 @@ core_opens shape fits n few = let words = opening_words shape in let slot = shap
       places = λ s near. omega (arith, below_none (λ k. only (suc s) (name_number (get_or words k 0))) shape.keys (λ k l. ap (only (suc s)) (nameless k l) ∙ only-other (suc s) 0 (λ z. omega arith)), no_weight (keeps s) (λ c. refl) n 0, unused-free s 0 (omega arith));
       counts = λ k s near e. absurd (omega (arith, nameless k near));
       knows = λ j u. elim j as (λ v. get_elem? roles v ≡ some u → Knows shape words (map_after shape []) (held roles) u) [
-        | zero ↦ λ e. subst (Knows shape words (map_after shape []) (held roles)) (some-injective (Writer (opening_desk shape)) u e) (record { place = tt; room = omega arith; free = λ s _ near. (nobody_holds s, dep s near); retired = λ i x e. absurd (some-ne-none x (sym e)); numbers = first_numbers shape fits })
+        | zero ↦ λ e. subst (Knows shape words (map_after shape []) (held roles)) (some-injective (Writer (opening_desk shape)) u e) (record { place = tt; room = omega arith; free = λ s _ near. (nobody_holds s, dep s near); retired = λ i x e. absurd (some-ne-none x (sym e)); numbers = first_numbers shape })
         | suc j ↦ λ e. let c = only_readers n 0 j u e in subst (Knows shape words (map_after shape []) (held roles)) c.1 tt
       ];
       one = omega (arith, no_weight is_writer (λ c. refl) n 0);

@@ -6,7 +6,8 @@ use Rattle.std.specs.Prelude.{None, Option, Some}
 use mathlib.Core.Logic.{dite, ∥∥₁_elim}
 use native.Mathlib.Decide.{dec_le}
 use Rattle.nr_model.specs.Histories.{Entry}
-use Rattle.nr_model.specs.Maps.{PartialMap}
+use Rattle.nr_model.specs.Maps.{PartialMap, number_of}
+use Rattle.nr_core.proofs.Numbers.{number_within}
 use Rattle.nr_core.proofs.Counting.{few_retired, fewer_retired, named_inside, names_it}
 use Rattle.nr_core.proofs.Events.{story_core}
 use Rattle.nr_core.proofs.Runs.{run_more, story_state}
@@ -25,7 +26,7 @@ use Rattle.nr_core.specs.Story.{holders, map_after, story_of}
 use Rattle.nr_core.specs.declared.calls.Refusal.{Refusal}
 use Rattle.nr_core.specs.declared.places.Hold.{Hold}
 use Rattle.nr_core.specs.declared.places.Place.{Place}
-use Rattle.nr_core.specs.declared.places.Place.TheVariants.{Idle, Leaving, Putting, Reading, Searching}
+use Rattle.nr_core.specs.declared.places.Place.TheVariants.{Idle, Leaving, Putting, Reading, Searching, Withdrawing}
 use Rattle.nr_core.specs.declared.roles.Grip.{Grip}
 use Rattle.nr_core.specs.declared.roles.Grip.TheVariants.{Nothing, On}
 use Rattle.nr_core.specs.declared.roles.Role.TheVariants.{Reader, Writer}
@@ -91,19 +92,22 @@ place_room state log is_core place is = go place is (subst (AtPlace state.shape 
 
     go : (p : Place) → state.desk.place ≡ p → AtPlace state.shape state.words (map_after state.shape log) (held is_core.roles) state.desk.fresh state.desk.retired p → RoomAt state p
     go Idle e t = tt
-    go (Reading call slot got) e t = let fits = is_core.core.fits.bound in let more = t.more in let shown : ShowsState state.shape state.words (get_or state.words (key_of call) 0) (key.Rows t.rows) = subst (ShowsState state.shape state.words (get_or state.words (key_of call) 0)) t.full (is_core.core.shows (key_of call) t.near) in
+    go (Reading call slot got) e t = let fits = is_core.core.fits.bound in let more = t.more in let shown : ShowsState state.shape state.words (get_or state.words (key_of call) 0) (key.Rows t.number t.rows) = subst (ShowsState state.shape state.words (get_or state.words (key_of call) 0)) t.full (is_core.core.shows (key_of call) t.near) in
         let short = shown.3.0.1 in (inside (key_of call) slot t.near t.names, omega arith)
     go (Leaving k) e t = let named_so = names_it state.shape state.words is_core.roles log is_core.core k t.0 t.1.near t.1.names in (t.1.near, fewer t.0 (inside k t.0 t.1.near t.1.names) (omega arith))
+    go (Withdrawing k) e t = let early = t.early in (t.near, omega (arith, desk.numbers.agree k t.near, ap number_of t.asked))
     go (Searching call rows poll) e t = (t.1, (desk.retired poll (retired_at state.desk poll) (got_at state.desk.retired poll no_retired t.1)).0)
     go (Putting call rows slot departed index) e t = let mine : taken slot state.desk.place ≡ 1 = ap (taken slot) e ∙ only-same slot in (t.wants.near, fewer slot t.inside (omega arith), t.inside)
 
 room_of : (state : State) → Reached state → HasRoom state
-room_of state reached = let log = (story_of state.shape reached.events).history in let is_core = reached_core state reached in record {
+room_of state reached = let log = (story_of state.shape reached.events).history in let is_core = reached_core state reached in let numbers = (is_core.core.knows 0 (Writer state.desk) is_core.fit.writer).numbers in record {
   shape = reached.shape;
   words = is_core.core.wide;
   holds = is_core.fit.size;
   held = hold_room state log is_core;
   few = few_retired state.shape state.words is_core.roles log is_core.core 0 state.desk is_core.fit.writer;
+  numbers = numbers.each;
+  within = number_within state.shape log state.desk.numbers is_core.core.fits is_core.core.legal numbers;
   place = place_room state log is_core state.desk.place refl;
 }
 
@@ -117,6 +121,7 @@ place_prop : (state : State) (place : Place) → IsProp (RoomAt state place)
 place_prop state Idle = hlevel props
 place_prop state (Reading call slot got) = hlevel props
 place_prop state (Leaving k) = hlevel props
+place_prop state (Withdrawing k) = hlevel props
 place_prop state (Searching call rows poll) = hlevel props
 place_prop state (Putting call rows slot departed index) = hlevel props
 

@@ -60,7 +60,7 @@ after_arrive state log r k is_core ok = let shape = state.shape in let words = s
     let o = f.readers i low in let free = is_free o.0 (ap if_holding (sym o.2) ∙ g.1) in
     let there_is : get_elem? roles (suc i) ≡ some (Reader (suc i) Nothing) = o.1 ∙ ap (λ (x : Grip). some (Reader (suc i) x)) free in
     let t = arrives shape (suc i) (suc i) k near words roles log core there_is in let w : ℕ = get_or words k 0 in let words' = set words k ((w + ARRIVE) % 2 ^ 64) in
-    let shown_so : find_reply (state_of (map_after shape log) k) ≡ find_reply (shown state k) = ap find_reply (sym (shown_is state roles log core k near)) in
+    let shown_so : find_reply (state_of (map_after shape log) k) ≡ find_reply (shown state k) = ap find_reply (sym (shown_is state roles log core f.writer k near)) in
     let finish : (x : Grip) (y : Reply) → t.after ≡ Reader (suc i) x → t.entries ≡ entry (suc i) (model.Find k) y ∷ [] → cond (is_filled w) (hold.On (slot_of w) None) hold.Nothing ≡ erased x → ((s : ℕ) (rows : List Row) (b : Bool) → x ≡ On s rows b → y ≡ reply.Rows rows) → IsCoreState (moved state (Arrive r k)) (log ++ told state (Arrive r k))
     = λ x y role es held_so replied.
     let c1 : Core shape words' (set roles (suc i) (Reader (suc i) x)) (log ++ entry (suc i) (model.Find k) y ∷ []) = subst (λ (p : Role × List Entry). Core shape words' (set roles (suc i) p.0) (log ++ p.1)) (λ j. (role j, es j)) t.core in
@@ -91,7 +91,7 @@ after_ask state log r k is_core ok = let shape = state.shape in let words = stat
     let y : Reply = ask_word w in
     let c0 : Core shape words' (set roles (suc i) (Reader (suc i) Nothing)) (log ++ entry (suc i) (model.Ask k) y ∷ []) = subst (λ (p : Role × List Entry). Core shape words' (set roles (suc i) p.0) (log ++ p.1)) (λ j. (t.told.0 j, t.told.1 j)) t.core in
     let c1 : Core shape words' roles (log ++ entry (suc i) (model.Ask k) y ∷ []) = subst (λ (l : List Role). Core shape words' l (log ++ entry (suc i) (model.Ask k) y ∷ [])) (set_again roles (suc i) (Reader (suc i) Nothing) there_is) c0 in
-    let reply_is : y ≡ ask_reply (shown state k) = reply_of shape log (suc i) (model.Ask k) y c1.legal ∙ ap ask_reply (sym (shown_is state roles log core k near)) in
+    let reply_is : y ≡ ask_reply (shown state k) = reply_of shape log (suc i) (model.Ask k) y c1.legal ∙ ap ask_reply (sym (shown_is state roles log core f.writer k near)) in
     record {
       roles = roles;
       core = subst (λ (p : ℕ × Reply). Core shape words' roles (log ++ entry p.0 (model.Ask k) p.1 ∷ [])) (λ j. (number j, reply_is j)) c1;

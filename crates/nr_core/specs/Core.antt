@@ -5,10 +5,9 @@ use lib.ListN.{get_elem?}
 use Rattle.nr_model.specs.declared.rows.Row.{Row}
 use Rattle.nr_model.specs.declared.calls.Reply.TheVariants as reply
 use Rattle.nr_model.specs.declared.states.KeyState.{KeyState}
-use Rattle.nr_model.specs.declared.states.TheConstants.{LAST_NUMBER}
 use Rattle.nr_model.specs.declared.states.KeyState.TheVariants as key
 use Rattle.nr_model.specs.Rows.{IsRowSet}
-use Rattle.nr_model.specs.Maps.{PartialMap, state_of, number_of, reply_at, state_after}
+use Rattle.nr_model.specs.Maps.{PartialMap, state_of, number_of, reply_at, state_after, last_number}
 use Rattle.nr_model.specs.Histories.{Entry, IsLegal}
 use Rattle.nr_core.specs.declared.shape.Shape.{Shape}
 use Rattle.nr_core.specs.declared.calls.WriterCall.{WriterCall}
@@ -34,18 +33,17 @@ use Rattle.nr_core.specs.Story.{call_of, map_after, opening_map}
 abbrev pub Counts : Shape → List ℕ → (ℕ → ℕ) → ℕ → ℕ → Type 0
 Counts shape words holders slot arrivals = arrivals % 2 ^ 40 ≡ (slice_index words (departures shape slot) + holders slot) % 2 ^ 40
 
--- the list has each key's number, and none is past the last one
+-- the list has each key's number
 pub record AreNumbers (shape : Shape) (map : PartialMap) (numbers : List ℕ) : Type 0 where
   pub each : length numbers ≡ shape.keys
   pub agree : (at : ℕ) → at < shape.keys → slice_index numbers at ≡ number_of (state_of map at)
-  pub within : (at : ℕ) → at < shape.keys → slice_index numbers at ≤ LAST_NUMBER
 
 -- the key is asked, and its number is not the last one
 pub record Withdraws (shape : Shape) (map : PartialMap) (at : ℕ) : Type 0 where
   pub near : at < shape.keys
   pub number : ℕ
   pub asked : state_of map at ≡ key.Asked number
-  pub early : number < LAST_NUMBER
+  pub early : number < last_number
 
 module _ (shape : Shape) (words : List ℕ) (map : PartialMap) (holders : ℕ → ℕ) where
   -- the call would be done now, and leave the set at its key

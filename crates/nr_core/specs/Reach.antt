@@ -1,6 +1,6 @@
 -- The states that events lead to, and the room that the next step has there.
 use Rattle.std.specs.Prelude.{◌≡◌, ℕ, ◌*◌, ◌<◌, ◌≤◌, List, length, Some, None}
-use Rattle.nr_model.specs.declared.states.TheConstants.{LAST_NUMBER}
+use Rattle.nr_model.specs.Maps.{last_number}
 use Rattle.nr_core.specs.declared.shape.Shape.{Shape}
 use Rattle.nr_core.specs.declared.places.Hold.{Hold}
 use Rattle.nr_core.specs.declared.places.Hold.TheVariants.{Nothing, On}
@@ -31,7 +31,7 @@ abbrev pub RoomAt : State → Place → Type 0
 RoomAt state Idle = Unit {0}
 RoomAt state (Reading call slot got) = (slot < state.shape.slots) × (length got < slot_room)
 RoomAt state (Leaving at) = (at < state.shape.keys) × (length state.desk.retired < state.shape.slots)
-RoomAt state (Withdrawing at) = (at < state.shape.keys) × (number_at state.desk at < LAST_NUMBER)
+RoomAt state (Withdrawing at) = (at < state.shape.keys) × (number_at state.desk at < last_number)
 RoomAt state (Searching call rows poll) = (poll < length state.desk.retired) × ((retired_at state.desk poll).slot < state.shape.slots)
 RoomAt state (Putting call rows slot departed index) = (key_of call < state.shape.keys) × (length state.desk.retired < state.shape.slots) × (slot < state.shape.slots)
 
@@ -42,5 +42,5 @@ pub record HasRoom (state : State) : Type 0 where
   pub held : (reader : ℕ) → 0 < reader → RoomOf state.shape (hold_of state reader)
   pub few : length state.desk.retired ≤ state.shape.slots
   pub numbers : length state.desk.numbers ≡ state.shape.keys
-  pub within : (at : ℕ) → at < state.shape.keys → number_at state.desk at ≤ LAST_NUMBER
+  pub within : (at : ℕ) → at < state.shape.keys → number_at state.desk at ≤ last_number
   pub place : RoomAt state state.desk.place

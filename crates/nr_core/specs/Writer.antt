@@ -4,9 +4,8 @@ use Rattle.nr_model.specs.declared.rows.Row.{Row}
 use Rattle.nr_model.specs.declared.batches.ApplyFault.{ApplyFault}
 use Rattle.nr_model.specs.declared.calls.Reply.{Reply}
 use Rattle.nr_model.specs.declared.calls.Reply.TheVariants as reply
-use Rattle.nr_model.specs.declared.states.TheConstants.{LAST_NUMBER}
 use Rattle.nr_model.specs.Batches.{applied}
-use Rattle.nr_model.specs.Maps.{applied_reply}
+use Rattle.nr_model.specs.Maps.{applied_reply, last_number}
 use Rattle.nr_core.specs.declared.shape.Shape.{Shape}
 use Rattle.nr_core.specs.declared.calls.WriterCall.{WriterCall}
 use Rattle.nr_core.specs.declared.calls.WriterCall.TheVariants.{Find, Fill, Update, Evict, Cancel}
@@ -48,7 +47,7 @@ abbrev pub fill_asked : Shape → Desk → WriterCall → ℕ → List Row → �
 fill_asked shape desk call number rows asked = (if asked == number then settled shape desk call rows else (moved_to desk Idle, ended reply.Stale))
 
 abbrev pub cancel_asked : Desk → ℕ → ℕ → Desk × Step
-cancel_asked desk key asked = (if nat_lt asked LAST_NUMBER then (moved_to desk (Withdrawing key), Going) else (moved_to desk Idle, ended reply.Worn))
+cancel_asked desk key asked = (if nat_lt asked last_number then (moved_to desk (Withdrawing key), Going) else (moved_to desk Idle, ended reply.Worn))
 
 -- the look, the first step of each call
 abbrev pub looked : Shape → Desk → WriterCall → ℕ → Desk × Step

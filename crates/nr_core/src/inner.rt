@@ -1,6 +1,6 @@
 //! The state of the machine.
 ghost use Rattle.std.specs.Prelude.{◌≡◌, ◌<◌, ◌≤◌, length, IfOk};
-ghost use Rattle.nr_model.specs.declared.states.TheConstants.{LAST_NUMBER};
+ghost use Rattle.nr_model.specs.Maps.{last_number};
 ghost use Rattle.nr_core.specs.States.{opening, hold_of, number_at};
 ghost use Rattle.nr_core.specs.Reach.{HasRoom, RoomOf};
 
@@ -51,7 +51,7 @@ impl Model for Inner {
 impl Inner {
     /// The state in which a map opens, with all the room that its steps need.
     pub fn open(alloc: Global, shape: &Shape) -> Result<Inner, AllocError>
-        requires { shape.now.first_number ≤ LAST_NUMBER }
+        requires { shape.now.first_number ≤ last_number }
         ensures { IfOk result (λ inner. inner ≡ opening shape.now) }
     {
         let layout = Layout {
