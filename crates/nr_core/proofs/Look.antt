@@ -1,5 +1,5 @@
 -- The look, the first step of each call of the writer: by the key's state the call ends, or goes on.
-use Rattle.std.proofs.Common.{Bool, List, [], ap, arith, cond, eq-eqb, false, get_or, nat_eq, ne_eqb, refl, set, subst, suc, sym, true, ℕ, ◌%◌, ◌++◌, ◌+◌, ◌<◌, ◌∙◌, ◌≡◌}
+use Rattle.std.proofs.Common.{List, [], ap, arith, cond, eq-eqb, get_or, nat_eq, ne_eqb, refl, set, subst, suc, sym, ℕ, ◌%◌, ◌++◌, ◌+◌, ◌<◌, ◌∙◌, ◌≡◌}
 use Rattle.std.proofs.lemmas.Bool.{ltb-true}
 use Rattle.std.specs.Prelude.{nat_lt}
 use lib.ListN.{get_elem?}

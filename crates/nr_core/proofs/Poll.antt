@@ -1,5 +1,5 @@
 -- A poll of a retired slot: the slot is taken where nobody holds it, else the call polls the next, or ends with no slot.
-use Rattle.std.proofs.Common.{List, ap, arith, cond, drop, get_or, length, nat_eq, refl, set, subst, suc, sym, take, ℕ, ◌%◌, ◌++◌, ◌+◌, ◌^◌, ◌≡◌, ◌≤◌}
+use Rattle.std.proofs.Common.{List, ap, arith, cond, get_or, length, nat_eq, refl, set, subst, sym, ℕ, ◌%◌, ◌++◌, ◌+◌, ◌^◌, ◌≡◌, ◌≤◌}
 use Rattle.std.proofs.lemmas.Bool.{eqb-true, ltb-true}
 use Rattle.std.specs.Prelude.{nat_lt}
 use lib.ListN.{get_elem?}
@@ -20,7 +20,7 @@ use Rattle.nr_core.specs.declared.calls.Step.{Step}
 use Rattle.nr_core.specs.declared.calls.Step.TheVariants.{Going}
 use Rattle.nr_core.specs.declared.calls.WriterCall.{WriterCall}
 use Rattle.nr_core.specs.declared.places.Place.{Place}
-use Rattle.nr_core.specs.declared.places.Place.TheVariants.{Idle, Putting, Searching}
+use Rattle.nr_core.specs.declared.places.Place.TheVariants.{Idle, Searching}
 use Rattle.nr_core.specs.declared.places.Retired.{Retired}
 use Rattle.nr_core.specs.declared.roles.Desk.{Desk}
 use Rattle.nr_core.specs.declared.roles.Grip.TheVariants.{Nothing, On}

@@ -7,6 +7,7 @@ use mathlib.Core.Logic.{dite, ∥∥₁_elim}
 use native.Mathlib.Decide.{dec_le}
 use Rattle.nr_model.specs.Histories.{Entry}
 use Rattle.nr_model.specs.Maps.{PartialMap, number_of}
+use Rattle.nr_core.proofs.Shown.{shown_is}
 use Rattle.nr_core.proofs.Numbers.{number_within}
 use Rattle.nr_core.proofs.Counting.{few_retired, fewer_retired, named_inside, names_it}
 use Rattle.nr_core.proofs.Events.{story_core}
@@ -21,8 +22,8 @@ use Rattle.nr_core.specs.Refusals.{refusal}
 use Rattle.nr_core.specs.Roles.{held, taken}
 use Rattle.nr_core.specs.Sizes.{IsShape}
 use Rattle.nr_core.specs.Slots.{bound_of, name_number, named, slot_room}
-use Rattle.nr_core.specs.States.{Event, State, hold_of, key_of, no_retired, opening, retired_at}
-use Rattle.nr_core.specs.Story.{holders, map_after, story_of}
+use Rattle.nr_core.specs.States.{Event, State, hold_of, key_of, no_retired, number_at, retired_at}
+use Rattle.nr_core.specs.Story.{holders, map_after, shown, story_of}
 use Rattle.nr_core.specs.declared.calls.Refusal.{Refusal}
 use Rattle.nr_core.specs.declared.places.Hold.{Hold}
 use Rattle.nr_core.specs.declared.places.Place.{Place}
@@ -130,3 +131,16 @@ room_prop state = hlevel (props, hold_prop, place_prop)
 
 pub has_room : (state : State) → ∥ Reached state ∥₁ → HasRoom state
 has_room state reached = ∥∥₁_elim reached (room_prop state) (room_of state)
+
+-- THE NUMBER OF A KEY
+
+number_shown_of : (state : State) → Reached state → (k : ℕ) → k < state.shape.keys → number_at state.desk k ≡ number_of (shown state k)
+number_shown_of state reached k near = let log = (story_of state.shape reached.events).history in let is_core = reached_core state reached in let writer_there = is_core.fit.writer in
+    (is_core.core.knows 0 (Writer state.desk) writer_there).numbers.agree k near ∙ ap number_of (sym (shown_is state is_core.roles log is_core.core writer_there k near))
+
+-- the writer's list tells the number that the words show
+pub number_shown : (state : State) → ∥ Reached state ∥₁ → (k : ℕ) → k < state.shape.keys → number_at state.desk k ≡ number_of (shown state k)
+number_shown state reached k near = ∥∥₁_elim reached (number_prop state k) (λ (r : Reached state). number_shown_of state r k near)
+  where
+    number_prop : (state : State) (k : ℕ) → IsProp (number_at state.desk k ≡ number_of (shown state k))
+    number_prop state k = hlevel props

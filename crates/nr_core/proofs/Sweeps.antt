@@ -1,7 +1,7 @@
 -- The polls of one call: the readers that they find are different.
 -- One reader is noted for each poll that finds its slot held (Notes). No slot is retired during a sweep, so a noted reader holds the noted slot, or none or a named one (keeps_notes);
 -- the next slot that is found held is another, and so is its reader (poll_noted, sweep_more). Every event keeps this (swept_event).
-use Rattle.std.proofs.Common.{List, [], ap, arith, cond, drop, get_or, get_or-set_other, get_or-set_same, inl, inr, length, map, nat_eq, refl, set, subst, suc, sym, take, zero, ℕ, ⊎_elim, ◌%◌, ◌*◌, ◌++◌, ◌+◌, ◌-◌, ◌/◌, ◌<◌, ◌^◌, ◌∙◌, ◌∷◌, ◌≡◌, ◌≢◌, ◌≤◌, ◌⊎◌}
+use Rattle.std.proofs.Common.{List, [], ap, arith, cond, get_or, get_or-set_other, get_or-set_same, inl, inr, length, map, nat_eq, refl, set, subst, suc, sym, take, zero, ℕ, ⊎_elim, ◌%◌, ◌*◌, ◌++◌, ◌+◌, ◌-◌, ◌/◌, ◌<◌, ◌^◌, ◌∙◌, ◌∷◌, ◌≡◌, ◌≢◌, ◌≤◌, ◌⊎◌}
 use Rattle.std.proofs.lemmas.Bool.{eqb-false, eqb-true, ltb-true}
 use Rattle.std.proofs.lemmas.List.{length-append, map-append}
 use Rattle.std.specs.Prelude.{Err, None, Ok, Result, nat_le, nat_lt, ◌&&◌}
