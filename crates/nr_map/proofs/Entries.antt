@@ -1,4 +1,4 @@
--- Whose entries a history has, and that those of readers leave a filled key's set.
+-- Whose entries a history has.
 use Rattle.std.proofs.Common.{◌≡◌, ◌≢◌, ℕ, ◌<◌, ◌≤◌, Bool, cond, List, [], ◌∷◌, ◌++◌, ⊎_elim, ap, refl, arith, ne_eqb, ◌∙◌}
 use Rattle.nr_model.specs.Histories.{Entry, entries_of}
 use Rattle.nr_map.specs.Entries.{AreCallers, IsCallers}
@@ -6,6 +6,10 @@ use Rattle.nr_map.specs.Entries.{AreCallers, IsCallers}
 pub callers_both : (readers : ℕ) (log entries : List Entry) → AreCallers readers log → AreCallers readers entries → AreCallers readers (log ++ entries)
 callers_both readers [] entries before then = then
 callers_both readers (e ∷ log) entries before then = (before.0, callers_both readers log entries before.1 then)
+
+pub callers_before : (readers : ℕ) (log entries : List Entry) → AreCallers readers (log ++ entries) → AreCallers readers log
+callers_before readers [] entries all = tt
+callers_before readers (e ∷ log) entries all = (all.0, callers_before readers log entries all.1)
 
 pub callers_of_more : (readers : ℕ) (log entries : List Entry) → AreCallers readers (log ++ entries) → AreCallers readers entries
 callers_of_more readers [] entries all = all

@@ -22,6 +22,8 @@ pub mod WriterSeats
 pub mod Searching
 pub mod Publishing
 pub mod ReadingOn
+pub mod KeySets
+pub mod Retiring
 pub mod WriterCalls
 pub mod NoSlots
 pub mod SlotBounds

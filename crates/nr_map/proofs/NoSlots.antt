@@ -1,7 +1,6 @@
 -- The exact place of a no-slot.
-use Rattle.std.proofs.Common.{◌≡◌, ℕ, ◌+◌, ◌≤◌, List, length, refl, sym, ap, ◌∙◌, subst, arith}
+use Rattle.std.proofs.Common.{◌≡◌, ℕ, ◌+◌, ◌≤◌, List, [], ◌∷◌, ◌++◌, get_or, inl, inr, ⊎_elim, length, refl, sym, ap, ◌∙◌, subst, arith}
 use Rattle.nr_model.specs.Maps.{filled_count}
-use Rattle.nr_core.specs.Story.{map_after}
 use Rattle.nr_core.specs.declared.places.Retired.{Retired}
 use Rattle.nr_core.specs.declared.shape.Shape.{Shape}
 use Rattle.nr_marks.proofs.ExactPlace.{done_is_exact_lem, no_slot_is_exact_lem}
@@ -9,7 +8,14 @@ use Rattle.nr_marks.specs.Exact.{Took}
 use Rattle.nr_marks.specs.Marks.{Marks, Past}
 use Rattle.nr_marks.specs.Pasts.{AllReaders}
 use Rattle.nr_marks.specs.PollNotes.{AllHeld, Noted}
-use Rattle.nr_map.specs.Callers.{Table}
+use Rattle.nr_marks.proofs.PutNumbers.{count_grows, count_more}
+use Rattle.nr_marks.specs.Puts.{put_count}
+use Rattle.nr_core.specs.Story.{entry, map_after}
+use Rattle.nr_model.specs.declared.calls.Call.{Call}
+use Rattle.nr_model.specs.declared.calls.Reply.TheVariants as reply
+use Rattle.nr_model.specs.declared.rows.Row.{Row}
+use Rattle.nr_map.specs.Answers.{Publishes}
+use Rattle.nr_map.specs.Callers.{Caller, Table}
 use Rattle.nr_map.specs.ExactPlaces.{DoneIsExact, NoSlotIsExact}
 use Rattle.nr_map.specs.Meetings.{desk_seen}
 
@@ -27,7 +33,15 @@ no_slot_lem steps call counts old new after readers all known without learnt gat
     (subst (λ (p : List Retired × Marks). AllHeld p.0 p.1.polls) (λ j. (sym learnt.retired j, sym learnt.marks j)) lacks.polled)
     lists gathered.current (let room = lists.room in omega arith)
 
+-- the number of the set that a call put is none of those before the call
+takes_so : (steps : ℕ) (old : Caller) (call : Call) (rows : List Row) (new : Caller) → Publishes steps old call rows new → Took old.table.shape (desk_seen old) new.marks old.seen
+takes_so steps old call rows new published = ⊎_elim (λ fresh. inl fresh.0)
+    (λ again. let grows = published.gains in
+    let all : put_count new.seen ≡ put_count ((old.seen ++ grows.between) ++ entry old.number call reply.Done ∷ []) = ap put_count grows.seen in
+    let there : get_or new.marks.puts again.2.slot 0 ≡ published.number = ap (λ (s : ℕ). get_or new.marks.puts s 0) again.4 ∙ published.put in
+    inr (again.1, again.2, again.3, omega (arith, count_more (old.seen ++ grows.between) (entry old.number call reply.Done), count_grows old.seen grows.between, published.count))) published.took
+
 pub done_lem : DoneIsExact
 done_lem steps call rows old new after readers gathered published learnt current =
     done_is_exact_lem old.table.shape (desk_seen old) after.retired old.marks after.marks old.seen readers gathered.lists (λ slot. refl) gathered.current current
-    (subst (λ (m : Marks). Took old.table.shape (desk_seen old) m old.seen) (sym learnt.marks) published.takes)
+    (subst (λ (m : Marks). Took old.table.shape (desk_seen old) m old.seen) (sym learnt.marks) (takes_so steps old call rows new published))

@@ -1,10 +1,10 @@
 -- A set is put word by word, and published.
-use Rattle.std.proofs.Common.{◌≡◌, ℕ, ◌+◌, ◌*◌, ◌≤◌, List, [], ◌++◌, Bool, cond, length, refl, sym, ap, ◌∙◌, subst, arith}
+use Rattle.std.proofs.Common.{◌≡◌, ℕ, ◌+◌, ◌*◌, ◌≤◌, List, [], ◌++◌, Bool, cond, get_or, length, refl, sym, ap, ◌∙◌, subst, arith}
 use Rattle.std.proofs.lemmas.Bool.{lt-leb}
 use Rattle.nr_model.specs.declared.calls.Reply.TheVariants as reply
 use Rattle.nr_model.specs.declared.rows.Row.{Row}
 use Rattle.nr_model.specs.Histories.{Entry, IsLegal}
-use Rattle.nr_core.specs.Story.{call_of}
+use Rattle.nr_core.specs.Story.{call_of, ending}
 use Rattle.nr_core.specs.Writer.{ended, moved_to, put_on, swapped, unnamed}
 use Rattle.nr_core.specs.declared.calls.Step.{Step}
 use Rattle.nr_core.specs.declared.calls.Step.TheVariants.{Going}
@@ -16,9 +16,11 @@ use Rattle.nr_core.specs.declared.roles.Role.TheVariants.{Writer}
 use Rattle.nr_map.specs.Callers.{Caller, Grows, Table, opening_map, token}
 use Rattle.nr_map.specs.Entries.{AreCallers}
 use Rattle.nr_map.specs.Spares.{Spare, Took, desk_with}
+use Rattle.nr_marks.specs.Marks.{Marks, Past, with_name, with_polls}
 use Rattle.nr_marks.specs.MarkSteps.{PutsMarks}
+use Rattle.nr_map.specs.Plays.{SwapsOrPuts}
 use Rattle.nr_core.specs.States.{key_of}
-use Rattle.nr_map.specs.WriterSeats.{IsFrom, GoesOn, Knows, LeadsIn, MapSeat, PublishesSet, PutsTo, WritesAt}
+use Rattle.nr_map.specs.WriterSeats.{GoesOn, Knows, LeadsIn, MapSeat, PublishesSet, PutsTo, WritesAt}
 
 -- what the writer knows after a step is legal
 pub knows_after : (steps : ℕ) (old : Caller) (entries : List Entry) (new : Caller) → Grows steps old entries new → Knows new
@@ -39,17 +41,23 @@ put_more table desk call rows slot departed before mid after index so_far puts =
 }
 
 -- the swap that publishes the set
-pub published : (table : Table) (call : WriterCall) (rows : List Row) (spare mid_spare after_spare : Spare) (slot departed polls : ℕ) (before mid after : MapSeat) (found : ℕ) → Took polls spare mid_spare → polls ≤ table.shape.readers + 1 → IsFrom slot spare → mid_spare.slots ≡ spare.slots
+pub published : (table : Table) (call : WriterCall) (rows : List Row) (spare mid_spare after_spare : Spare) (slot departed polls : ℕ) (before mid after : MapSeat) (found : ℕ) → Took slot polls spare mid_spare → polls ≤ table.shape.readers + 1 → mid_spare.slots ≡ spare.slots → mid.me.0.marks ≡ with_polls before.me.0.marks mid.me.0.marks.polls
     → WritesAt table (desk_with mid_spare (Putting call rows slot departed (2 * length rows + 1))) mid → Grows (polls + (2 * length rows + 1)) (token before) [] (token mid) → GoesOn table found mid after
     → after_spare ≡ record mid_spare { retired = mid_spare.retired ++ unnamed found } → PublishesSet table call rows spare after_spare before after
-published table call rows spare mid_spare after_spare slot departed polls before mid after found took few from slots writes grows goes retires =
+published table call rows spare mid_spare after_spare slot departed polls before mid after found took few slots only_polls writes grows goes retires =
     let last : ℕ = 2 * length rows + 1 in let desk = desk_with mid_spare (Putting call rows slot departed last) in
     let told = goes desk writes.role in
     let outcome : put_on desk call rows slot departed last found ≡ (swapped desk found, ended reply.Done) = ap (λ (b : Bool). cond {A = Desk × Step} b (moved_to desk (Putting call rows slot departed (last + 1)), Going) (swapped desk found, ended reply.Done)) (lt-leb last (2 * length rows) (omega arith)) in
     let leads = subst (λ (o : Desk × Step). LeadsIn 1 table (call_of call) o mid after) outcome told.leads in
-    let marks = subst (λ (b : Bool). PutsMarks b mid.me.0.marks (key_of call) slot found after.me.0.role after.me.0.seen after.me.0.marks []) (lt-leb last (2 * length rows) (omega arith)) told.marks in record {
+    let marks = subst (λ (b : Bool). PutsMarks b mid.me.0.marks (key_of call) slot found after.me.0.role after.me.0.seen after.me.0.marks []) (lt-leb last (2 * length rows) (omega arith)) told.marks in
+    let swaps = subst (λ (b : Bool). SwapsOrPuts b table.shape (key_of call) found told.log mid.me.0.marks) (lt-leb last (2 * length rows) (omega arith)) told.finds in
+    let same_names : get_or before.me.0.marks.names (key_of call) 0 ≡ get_or mid.me.0.marks.names (key_of call) 0 = ap (λ (m : Marks). get_or m.names (key_of call) 0) (sym only_polls) in
+    let same_polls : after.me.0.marks.polls ≡ mid.me.0.marks.polls = ap (λ (m : Marks). m.polls) marks.3 in record {
       slot = slot;
-      from = from;
+      log = told.log;
+      seen = told.seen ∙ ap (λ (o : Desk × Step). told.log ++ ending (call_of call) o.1) outcome;
+      swaps = record { state = swaps.state; name = same_names ∙ swaps.name };
+      marks = marks.3 ∙ ap (λ (m : Marks). with_name m (key_of call) slot marks.0) only_polls ∙ ap (λ (l : List Past). with_name (with_polls before.me.0.marks l) (key_of call) slot marks.0) (sym same_polls);
       number = marks.0;
       count = marks.1;
       put = marks.2;

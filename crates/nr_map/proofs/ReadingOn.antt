@@ -8,7 +8,7 @@ use Rattle.nr_words.proofs.SetWordLemmas.{length-row_words, row_words-append, ro
 use Rattle.nr_words.specs.SetWords.{encode, row_words, rows_in}
 use Rattle.nr_core.proofs.Sets.{set_back}
 use Rattle.nr_core.specs.Slots.{content, set_of}
-use Rattle.nr_core.specs.Story.{call_of}
+use Rattle.nr_core.specs.Story.{call_of, ending}
 use Rattle.nr_core.specs.Writer.{decided, moved_to, read_on}
 use Rattle.nr_core.specs.declared.calls.Step.{Step}
 use Rattle.nr_core.specs.declared.calls.Step.TheVariants.{Going}
@@ -17,7 +17,7 @@ use Rattle.nr_core.specs.declared.places.Place.TheVariants.{Reading}
 use Rattle.nr_core.specs.declared.roles.Desk.{Desk}
 use Rattle.nr_map.proofs.Tokens.{grows_both}
 use Rattle.nr_map.specs.Callers.{Table, token}
-use Rattle.nr_map.specs.WriterSeats.{GoesOn, GoesTo, IsReading, LeadsIn, MapSeat, WritesAt}
+use Rattle.nr_map.specs.WriterSeats.{GoesOn, GoesTo, IsReading, KeyHas, LeadsIn, MapSeat, WritesAt}
 
 -- the words of a beginning of the rows
 words_take : (rows : List Row) (n : ℕ) → row_words (take n rows) ≡ take (2 * n) (row_words rows)
@@ -39,6 +39,7 @@ pub record ReadSoFar (table : Table) (desk : Desk) (call : WriterCall) (slot : �
   pub part : rows ≡ take read held
   pub leads : LeadsIn (2 * read + 1) table (call_of call) (read_on table.shape desk call slot (count ∷ row_words rows)) before after
   pub marks : after.me.0.marks ≡ before.me.0.marks
+  pub had : KeyHas table call held (read_on table.shape desk call slot (count ∷ row_words rows)).1 after
 
 module _ (table : Table) (desk : Desk) (call : WriterCall) (slot : ℕ) where
   -- a read that is not the last one
@@ -47,7 +48,7 @@ module _ (table : Table) (desk : Desk) (call : WriterCall) (slot : ℕ) where
 
   -- the first read, of the number of rows
   pub read_count : (before after : MapSeat) (count : ℕ) → WritesAt table (moved_to desk (Reading call slot [])) before → GoesOn table count before after → ReadSoFar table desk call slot before after count [] 0
-  read_count before after count writes goes = let told = goes (moved_to desk (Reading call slot [])) writes.role in let on = told.reads_on in record {
+  read_count before after count writes goes = let told = goes (moved_to desk (Reading call slot [])) writes.role in let on = told.finds in record {
     size = refl;
     held = on.0;
     row_set = on.1;
@@ -55,6 +56,7 @@ module _ (table : Table) (desk : Desk) (call : WriterCall) (slot : ℕ) where
     part = refl;
     leads = told.leads;
     marks = told.marks.0;
+    had = record { log = told.log; seen = told.seen; state = on.4 };
   }
 
   module _ (before mid : MapSeat) (count read : ℕ) (rows : List Row) (so_far : ReadSoFar table desk call slot before mid count rows read) (low : read < count) where
@@ -92,7 +94,7 @@ module _ (table : Table) (desk : Desk) (call : WriterCall) (slot : ℕ) where
       -- a row more
       pub read_more : (second : ℕ) (after : MapSeat) → GoesOn table second half after → ReadSoFar table desk call slot before after count (rows ++ (record { a = first; b = second }) ∷ []) (read + 1)
       read_more second after goes_second =
-          let row : Row = record { a = first; b = second } in let told = goes_second (moved_to desk (Reading call slot longer)) leads_second.writes.role in let on = told.reads_on in
+          let row : Row = record { a = first; b = second } in let told = goes_second (moved_to desk (Reading call slot longer)) leads_second.writes.role in let on = told.finds in
           let words : longer ++ second ∷ [] ≡ count ∷ row_words (rows ++ row ∷ []) = ap (λ (l : List ℕ). count ∷ l) (append_assoc (row_words rows) (first ∷ []) (second ∷ []) ∙ sym (row_words-append rows (row ∷ []))) in
           let begins : count ∷ row_words (rows ++ row ∷ []) ≡ length on.0 ∷ take (2 * (read + 1)) (row_words on.0) = sym words ∙ on.2 ∙ ap (λ (n : ℕ). take n (encode on.0)) (let n : length longer + 1 ≡ suc (2 * (read + 1)) = omega (arith, length-longer) in n) in
           let leads = subst (λ (l : List ℕ). LeadsIn 1 table (call_of call) (read_on table.shape desk call slot l) half after) words told.leads in record {
@@ -108,10 +110,12 @@ module _ (table : Table) (desk : Desk) (call : WriterCall) (slot : ℕ) where
               short = leads.short;
             };
             marks = told.marks.0 ∙ told_first.marks.0 ∙ so_far.marks;
+            had = record { log = told.log; seen = told.seen ∙ ap (λ (l : List ℕ). told.log ++ ending (call_of call) (read_on table.shape desk call slot l).1) words; state = on.4 };
           }
 
   -- the last read has the set
-  pub read_all : (before after : MapSeat) (count read : ℕ) (rows : List Row) → ReadSoFar table desk call slot before after count rows read → read ≡ count → LeadsIn (2 * length rows + 1) table (call_of call) (decided table.shape desk call rows) before after
+  pub read_all : (before after : MapSeat) (count read : ℕ) (rows : List Row) → ReadSoFar table desk call slot before after count rows read → read ≡ count
+      → LeadsIn (2 * length rows + 1) table (call_of call) (decided table.shape desk call rows) before after × KeyHas table call rows (decided table.shape desk call rows).1 after
   read_all before after count read rows so_far all =
       let whole : rows ≡ so_far.held = so_far.part ∙ take_all read so_far.held (let c = so_far.count_is in omega arith) in
       let row_set : IsRowSet table.shape.bound rows = subst (IsRowSet table.shape.bound) (sym whole) so_far.row_set in
@@ -119,8 +123,10 @@ module _ (table : Table) (desk : Desk) (call : WriterCall) (slot : ℕ) where
       let words : count ∷ row_words rows ≡ encode rows = ap (λ (n : ℕ). n ∷ row_words rows) size in
       let last : read_on table.shape desk call slot (encode rows) ≡ decided table.shape desk call (set_of table.shape.bound (encode rows)) = ap (λ (b : Bool). cond {A = Desk × Step} b (decided table.shape desk call (set_of table.shape.bound (encode rows))) (moved_to desk (Reading call slot (encode rows)), Going))
       (eq-eqb (length (encode rows)) (2 * length rows + 1) (omega (arith, length-row_words rows))) in
-      subst (λ (p : ℕ × (Desk × Step)). LeadsIn p.0 table (call_of call) p.1 before after)
-      (λ j. (steps j, (ap (read_on table.shape desk call slot) words ∙ last ∙ ap (decided table.shape desk call) (set_back table.shape.bound rows row_set)) j)) so_far.leads
+      let outcome : read_on table.shape desk call slot (count ∷ row_words rows) ≡ decided table.shape desk call rows = ap (read_on table.shape desk call slot) words ∙ last ∙ ap (decided table.shape desk call) (set_back table.shape.bound rows row_set) in (
+        subst (λ (p : ℕ × (Desk × Step)). LeadsIn p.0 table (call_of call) p.1 before after) (λ j. (steps j, outcome j)) so_far.leads,
+        subst (λ (p : List Row × (Desk × Step)). KeyHas table call p.0 p.1.1 after) (λ j. (sym whole j, outcome j)) so_far.had,
+      )
     where
       steps : 2 * read + 1 ≡ 2 * length rows + 1
       steps = omega (arith, so_far.size)

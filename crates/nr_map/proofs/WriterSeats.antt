@@ -1,7 +1,7 @@
 -- What the writer's steps tell of its seat.
-use Rattle.std.proofs.Common.{◌≡◌, ℕ, [], ap, subst, ◌∙◌}
+use Rattle.std.proofs.Common.{◌≡◌, ℕ, ◌++◌, [], ap, subst, ◌∙◌}
 use Rattle.nr_model.specs.declared.calls.Call.{Call}
-use Rattle.nr_core.specs.Story.{call_of}
+use Rattle.nr_core.specs.Story.{call_of, ending}
 use Rattle.nr_core.specs.Writer.{looked, went}
 use Rattle.nr_core.specs.declared.calls.Step.{Step}
 use Rattle.nr_core.specs.declared.calls.WriterCall.{WriterCall}
@@ -13,7 +13,7 @@ use Rattle.nr_core.specs.declared.shape.Shape.{Shape}
 use Rattle.nr_marks.specs.MarkSteps.{GoesMarks}
 use Rattle.nr_map.proofs.Tokens.{seat_grows}
 use Rattle.nr_map.specs.Callers.{Table, token}
-use Rattle.nr_map.specs.Plays.{Leads, Looked, Put, ReadsOn, Room, Went, call_at, next_put}
+use Rattle.nr_map.specs.Plays.{Finds, Leads, Looked, Put, Room, Went, call_at, next_put}
 use Rattle.nr_map.specs.WriterSeats.{GoesTo, LeadsTo, MapSeat, PutsTo}
 
 -- the desk with its place as it is
@@ -37,7 +37,10 @@ module _ (table : Table) (before after : MapSeat) (same : after.table_id ≡ bef
   pub gone_seat : (desk : Desk) (found : ℕ) → Went desk found before.me.0 after.me.0 → GoesTo table desk found before after
   gone_seat desk found told = record {
     leads = subst (λ (s : Shape). LeadsTo table (call_at desk.place) (went s desk desk.place found) before after) shape_is (leads_seat (call_at desk.place) (went before.me.0.shape desk desk.place found) told.leads);
-    reads_on = subst (λ (s : Shape). ReadsOn s desk.place found) shape_is told.reads_on;
+    log = told.log;
+    seen = told.seen ∙ ap (λ (s : Shape). told.log ++ ending (call_at desk.place) (went s desk desk.place found).1) shape_is;
+    finds = subst (λ (s : Shape). Finds s desk.place found told.log before.me.0.marks) shape_is told.finds;
+    notes = told.notes;
     marks = subst (λ (s : Shape). GoesMarks s before.me.0.marks before.me.0.pasts desk found after.me.0.role after.me.0.seen after.me.0.marks []) shape_is told.marks;
   }
 

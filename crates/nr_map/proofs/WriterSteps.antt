@@ -1,13 +1,13 @@
 -- The writer's steps on the table: the look of each call, and every later step.
-use Rattle.std.proofs.Common.{inl, nat_le, ◌≡◌, ℕ, suc, ◌+◌, ◌-◌, ◌*◌, ◌<◌, ◌≤◌, List, [], ◌++◌, Bool, true, false, cond, map, set, get_or, le-leb, length, take, refl, sym, ap, ◌∙◌, subst, arith, append-nil}
+use Rattle.std.proofs.Common.{eq-eqb, inl, inr, ⊎_elim, nat_le, ◌≡◌, ℕ, suc, ◌+◌, ◌-◌, ◌*◌, ◌<◌, ◌≤◌, List, [], ◌++◌, Bool, true, false, cond, map, set, get_or, le-leb, length, take, refl, sym, ap, ◌∙◌, subst, arith, append-nil}
 use Rattle.std.specs.Prelude.{None, Some}
 use mathlib.Core.Option.{some}
 use lib.ListN.{get_elem?}
 use Rattle.atomic_table.specs.Seated.{TableId}
 use Rattle.atomic_table.specs.Table.{Allows, Me, State, carried_after}
 use Rattle.atomic_table.proofs.Lists.{at_map}
-use Rattle.nr_model.specs.Histories.{Entry}
-use Rattle.nr_model.specs.Maps.{reply_to}
+use Rattle.nr_model.specs.Histories.{Entry, entries_of}
+use Rattle.nr_model.specs.Maps.{reply_to, state_of}
 use Rattle.nr_model.specs.declared.rows.Row.{Row}
 use Rattle.nr_model.specs.declared.calls.Call.{Call}
 use Rattle.nr_model.specs.declared.calls.Reply.TheVariants as reply
@@ -22,7 +22,7 @@ use Rattle.nr_core.specs.Laws.{IsGivenCall}
 use Rattle.nr_core.specs.Operations.{Load, Operation, Store, Swap, becomes, going, place_of}
 use Rattle.nr_core.specs.Refusals.{if_not_busy}
 use Rattle.nr_core.specs.Roles.{held, holds, is_by, is_reader, is_writer, taken}
-use Rattle.nr_core.specs.Slots.{content, naming}
+use Rattle.nr_core.specs.Slots.{content, name_number, naming}
 use Rattle.nr_core.specs.States.{key_of}
 use Rattle.nr_core.specs.Steps.{CanStep, Goes, Looks, Stepped, Telling}
 use Rattle.nr_core.specs.Story.{call_of, ending, ending_at, map_after}
@@ -42,18 +42,20 @@ use Rattle.nr_core.specs.declared.shape.Shape.{Shape}
 use Rattle.nr_marks.proofs.GoMarks.{goes_marked}
 use Rattle.nr_marks.proofs.LookMarks.{looks_marked}
 use Rattle.nr_marks.specs.MarkSteps.{GoesMarks, LooksMarks, PutsMarks, went_marks}
-use Rattle.nr_marks.specs.Marked.{KnowsMarks, MarkTelling, Remarked}
+use Rattle.nr_marks.specs.Marked.{IsPresent, KnowsMarks, MarkTelling, NotesPresent, Remarked}
+use Rattle.nr_core.proofs.Choices.{by_cases}
+use Rattle.nr_map.proofs.Learning.{shows_kind}
 use Rattle.nr_map.proofs.Polled.{PolledAll, go_polled, look_polled}
-use Rattle.nr_marks.specs.Marks.{Marks, Past}
+use Rattle.nr_marks.specs.Marks.{Marks, Past, gripped}
 use Rattle.nr_map.proofs.Lift.{Choice, knows_pasts, lifts}
 use Rattle.nr_map.proofs.Moves.{ActsGo, learned, learning}
-use Rattle.nr_map.specs.Entries.{AreCallers}
+use Rattle.nr_map.specs.Entries.{AreCallers, acts_told, to_depart}
 use Rattle.nr_map.proofs.Room.{room_at}
 use Rattle.nr_map.proofs.Shortage.{Shortage, go_short, lacks_so, look_short}
 use Rattle.nr_map.specs.Callers.{caller_of}
-use Rattle.nr_map.specs.Plays.{Advances, Lacks, Leads, Looked, ReadsOn, Put, Room, Went, call_at, next_put, put_place}
+use Rattle.nr_map.specs.Plays.{Advances, Finds, Lacks, Leads, Looked, NotesTell, Put, SwapsAt, SwapsOrPuts, Room, Went, call_at, next_put, put_place}
 use Rattle.nr_map.specs.Rule.{Fits, Kept, counts, marks_of, role_of}
-use Rattle.nr_map.specs.Views.{View, desk_of, number_of}
+use Rattle.nr_map.specs.Views.{View, desk_of, grip_of, number_of}
 
 -- the writer's own entries are told by 0
 writer_is : (role : Role) (desk : Desk) → role ≡ Writer desk → is_by (number_of role) role ≡ true
@@ -146,17 +148,32 @@ ending_there (Leaving key) step busy = refl
 ending_there (Searching call rows poll) step busy = refl
 ending_there (Putting call rows slot departed index) step busy = refl
 
--- the words of the key's set are read on
-reads_so : (shape : Shape) (words : List ℕ) (roles : List Role) (log : List Entry) → Core shape words roles log → (id : ℕ) (desk : Desk) → get_elem? roles id ≡ some (Writer desk) → (place : Place) → desk.place ≡ place
-    → ReadsOn shape place (get_or words (place_of (going shape desk place)) 0)
-reads_so shape words roles log core id desk there place is = go place (subst (AtPlace shape words (map_after shape log) (held roles) desk.fresh desk.retired) is (core.knows id (Writer desk) there).place)
+-- the words of the key's set are read on, and a swap finds the key's word
+finds_so : (shape : Shape) (words : List ℕ) (roles : List Role) (log : List Entry) → Core shape words roles log → (id : ℕ) (desk : Desk) → get_elem? roles id ≡ some (Writer desk) → (marks : Marks) → ((key : ℕ) → key < shape.keys → get_or marks.names key 0 ≡ name_number (get_or words key 0))
+    → (place : Place) → desk.place ≡ place → Finds shape place (get_or words (place_of (going shape desk place)) 0) log marks
+finds_so shape words roles log core id desk there marks names place is = go place (subst (AtPlace shape words (map_after shape log) (held roles) desk.fresh desk.retired) is (core.knows id (Writer desk) there).place)
   where
-    go : (at : Place) → AtPlace shape words (map_after shape log) (held roles) desk.fresh desk.retired at → ReadsOn shape at (get_or words (place_of (going shape desk at)) 0)
+    swaps : (key : ℕ) → key < shape.keys → SwapsAt shape key (get_or words key 0) log marks
+    swaps key near = record { state = shows_kind shape words (get_or words key 0) (state_of (map_after shape log) key) (core.shows key near); name = names key near }
+
+    go : (at : Place) → AtPlace shape words (map_after shape log) (held roles) desk.fresh desk.retired at → Finds shape at (get_or words (place_of (going shape desk at)) 0) log marks
     go Idle stands = tt
-    go (Reading call slot got) reads = (reads.rows, read_set shape words roles log core (key_of call) slot got reads, read_next shape words roles log core (key_of call) slot got reads ∙ ap (λ (n : ℕ). take n (encode reads.rows)) (let one : suc (length got) ≡ length got + 1 = omega arith in one), reads.more)
-    go (Leaving key) stands = tt
+    go (Reading call slot got) reads = (reads.rows, read_set shape words roles log core (key_of call) slot got reads, read_next shape words roles log core (key_of call) slot got reads ∙ ap (λ (n : ℕ). take n (encode reads.rows)) (let one : suc (length got) ≡ length got + 1 = omega arith in one), reads.more, reads.full)
+    go (Leaving key) stands = swaps key stands.1.near
     go (Searching call rows poll) stands = tt
-    go (Putting call rows slot departed index) stands = tt
+    go (Putting call rows slot departed index) stands =
+        by_cases (λ b. SwapsOrPuts b shape (key_of call) (get_or words (place_of (cond {A = Operation} b (Store (content shape slot index) (get_or (encode rows) index 0)) (Swap (key_of call) (naming slot departed)))) 0) log marks) (nat_le index (2 * length rows))
+        (λ _. tt) (λ _. swaps (key_of call) stands.wants.near)
+
+-- the notes that are new among the polls tell readers as they are
+notes_so : (shape : Shape) (state : State (Unit {0}) View) (kept : Kept shape state) (polls now : List Past) → NotesPresent role_of marks_of state.views polls now → NotesTell kept.log polls now
+notes_so shape state kept polls now present at note there = ⊎_elim inl
+    (λ (p : IsPresent role_of marks_of state.views note). let fits = kept.fits p.0 p.1 p.3 in
+    let acts = fits.acts (let one : is_reader p.1.role ≡ 1 = ap is_reader p.4 in omega arith) in
+    let count : note.count ≡ p.1.marks.acts = ap (λ (n : Past). n.count) p.5 in
+    let slot : to_depart note.slot ≡ to_depart (gripped (grip_of p.1.role)) = ap (λ (n : Past). to_depart n.slot) p.5 ∙ sym (ap (λ r. to_depart (gripped (grip_of r))) p.4) in
+    let mine : acts_told (entries_of kept.log note.reader) ≡ acts_told p.1.mine = ap acts_told (fits.own note.reader (ap (is_by note.reader) p.4 ∙ eq-eqb note.reader note.reader refl)) in
+    inr (omega arith)) (present at note there)
 
 pub goes_so : (shape : Shape) (slots id : ℕ) (me : Me (Unit {0}) View) (desk : Desk) → me.0.role ≡ Writer desk → if_not_busy desk.place ≡ None
     → let operation = going shape desk desk.place in Allows (Kept shape) slots id me (place_of operation) (becomes operation) (λ found after. (other : Desk) → me.0.role ≡ Writer other → Went other found me.0 after.0)
@@ -165,7 +182,7 @@ goes_so shape slots id me desk is busy = let view = me.0 in let tells = Goes sha
     (goes_marked role_of marks_of shape id view view.pasts desk is busy) (knows_pasts shape id view)
     (λ state kept at step marked. let found : ℕ = get_or state.words (place_of operation) 0 in let outcome = went shape desk desk.place found in
     let there : get_elem? (map role_of state.views) id ≡ some (Writer desk) = at_map role_of state.views id view at ∙ ap some is in
-    let sweep = (subst (λ r. KnowsMarks role_of marks_of shape state.words state.views kept.log r view.marks) is (kept.marked.each id view at)).sweep in
+    let own = subst (λ r. KnowsMarks role_of marks_of shape state.words state.views kept.log r view.marks) is (kept.marked.each id view at) in let sweep = own.sweep in
     let short : (counts : NoSlot) → outcome.1 ≡ Ended (writer.NoSlot counts) → Shortage shape kept.log desk c outcome counts × PolledAll shape desk.retired marked.now.polls = λ counts without. (go_short shape state.words (map role_of state.views) kept.log kept.core id desk there counts without, go_polled shape view.marks view.pasts desk found step.after (kept.log ++ step.entries) marked.now marked.news state.views desk.place sweep marked.told (counts, without)) in
     let size = writer_shape shape kept.log view desk is (kept.fits id view at) in
     let entries : step.entries ≡ ending c outcome.1 = step.told.1 ∙ ending_there desk.place outcome.1 busy in
@@ -174,7 +191,10 @@ goes_so shape slots id me desk is busy = let view = me.0 in let tells = Goes sha
     (λ advances other also. let next = learned view step.after (kept.log ++ step.entries) step.entries marked.now marked.news in
     subst (λ (d : Desk). Went d found view next) (same_desk view.role desk other is also) (record {
       leads = subst (λ (s : Shape). Leads c (went s desk desk.place found) view next) (sym size) (leads_so shape id view desk is operation tells notes state kept at step marked no_news c outcome step.told.0 entries short advances);
-      reads_on = subst (λ (s : Shape). ReadsOn s desk.place found) (sym size) (reads_so shape state.words (map role_of state.views) kept.log kept.core id desk there desk.place refl);
+      log = kept.log;
+      seen = ap (λ (l : List Entry). kept.log ++ l) (entries ∙ ap (λ (s : Shape). ending c (went s desk desk.place found).1) (sym size));
+      finds = subst (λ (s : Shape). Finds s desk.place found kept.log view.marks) (sym size) (finds_so shape state.words (map role_of state.views) kept.log kept.core id desk there view.marks own.names desk.place refl);
+      notes = notes_so shape state kept view.marks.polls marked.now.polls marked.noted;
       marks = subst (λ (p : Shape × List Past). GoesMarks p.0 view.marks view.pasts desk found step.after (kept.log ++ step.entries) marked.now p.1) (λ j. (sym size j, no_news j)) marked.told;
     })))
 

@@ -1,5 +1,5 @@
 -- What each call says of its token, by its answer.
-use Rattle.std.specs.Prelude.{◌≡◌, ℕ, ◌+◌, ◌*◌, ◌≤◌, List, [], ◌++◌, length, Result, Ok, Err}
+use Rattle.std.specs.Prelude.{◌≡◌, ℕ, suc, ◌+◌, ◌*◌, ◌≤◌, List, [], ◌∷◌, ◌++◌, length, slice_index, Result, Ok, Err}
 use Rattle.nr_model.specs.declared.rows.Row.{Row}
 use Rattle.nr_model.specs.declared.batches.ApplyFault.TheVariants as fault
 use Rattle.nr_model.specs.declared.batches.Delta.{Delta}
@@ -7,8 +7,10 @@ use Rattle.nr_model.specs.declared.calls.Call.{Call}
 use Rattle.nr_model.specs.declared.calls.Call.TheVariants as model
 use Rattle.nr_model.specs.declared.calls.Reply.TheVariants as reply
 use Rattle.nr_model.specs.Batches.{applied}
-use Rattle.nr_model.specs.Histories.{entries_of}
-use Rattle.nr_core.specs.Writer.{unnamed}
+use Rattle.nr_model.specs.Histories.{Entry, after, entries_of}
+use Rattle.nr_model.specs.Maps.{key_of, state_of}
+use Rattle.nr_model.specs.declared.states.KeyState.TheVariants as states
+use Rattle.nr_core.specs.declared.places.Retired.{Retired}
 use Rattle.nr_core.specs.declared.calls.NoSlot.{NoSlot}
 use Rattle.nr_map.specs.declared.answers.Evict.{Evict}
 use Rattle.nr_map.specs.declared.answers.Evict.TheVariants as evict
@@ -20,12 +22,13 @@ use Rattle.nr_map.specs.declared.answers.Found.{Found}
 use Rattle.nr_map.specs.declared.answers.Found.TheVariants as found
 use Rattle.nr_map.specs.declared.answers.Asked.{Asked}
 use Rattle.nr_map.specs.declared.answers.Asked.TheVariants as asked
-use Rattle.nr_map.specs.Callers.{Caller, Gains, Grows}
+use Rattle.nr_map.specs.Callers.{Caller, Gains, Grows, opening_map}
 use Rattle.nr_map.specs.Plays.{Lacks}
 use Rattle.nr_map.specs.Spares.{Spare, Took, spare_of}
-use Rattle.nr_marks.specs.Exact.{Took as TakesNew}
+use Rattle.nr_marks.specs.Marks.{with_name, with_polls, without_name}
+use Rattle.nr_marks.specs.Puts.{put_count}
 use Rattle.nr_marks.specs.PollNotes.{Noted}
-use Rattle.nr_map.specs.Meetings.{desk_seen}
+use Rattle.nr_map.specs.Polls.{AllHeldThen}
 
 -- a find: on a hole the caller's set stays; else it has all rows of the reply
 abbrev pub FindsKey : ℕ → Caller → List Row → Caller → List Row → Found → Type 0
@@ -43,26 +46,48 @@ AsksKey key old new (asked.Send ticket) = Gains 1 old (model.Ask key) reply.Send
 AsksKey key old new asked.Waiting = Gains 1 old (model.Ask key) reply.Waiting new
 AsksKey key old new asked.Filled = Gains 1 old (model.Ask key) reply.Filled new
 
--- the writer's slots are as they were
-abbrev pub SameSlots : Caller → Caller → Type 0
-SameSlots old new = spare_of new ≡ spare_of old
+-- the writer's slots are as they were, and the call polled none
+abbrev pub SlotsStay : Caller → Caller → Type 0
+SlotsStay old new = (spare_of new ≡ spare_of old) × (new.marks ≡ with_polls old.marks [])
+
+-- the slot that the key named, as the map's words have it, is retired behind the others
+pub record RetiresOne (key : ℕ) (old : Caller) (before after : List Retired) : Type 0 where
+  pub slot : ℕ
+  pub arrivals : ℕ
+  pub named : slice_index old.marks.names key ≡ suc slot
+  pub retires : after ≡ before ++ record { slot = slot; arrivals = arrivals } ∷ []
+
+-- an update and an eviction retire the slot that their key named; a fill's key named none
+abbrev pub Retires : Call → Caller → List Retired → List Retired → Type 0
+Retires (model.Find key) old before after = after ≡ before
+Retires (model.Ask key) old before after = after ≡ before
+Retires (model.Fill key rows) old before after = (slice_index old.marks.names key ≡ 0) × (after ≡ before)
+Retires (model.Update key batch) old before after = RetiresOne key old before after
+Retires (model.Evict key) old before after = RetiresOne key old before after
+
+-- the key had that set, after what the caller had seen and learnt before its own entry
+abbrev pub KeyHad : ℕ → List Row → Caller → List Entry → Type 0
+KeyHad key rows old between = state_of (after (opening_map old.table) (old.seen ++ between)) key ≡ states.Rows rows
 
 -- a find of the writer's own
 abbrev pub LooksAt : ℕ → Caller → List Row → Caller → List Row → Found → Type 0
-LooksAt key old before new rows found.Rows = Gains (2 * length rows + 2) old (model.Find key) (reply.Rows rows) new × SameSlots old new
-LooksAt key old before new rows found.Hole = Gains 1 old (model.Find key) reply.Hole new × SameSlots old new × (rows ≡ before)
+LooksAt key old before new rows found.Rows = Gains (2 * length rows + 2) old (model.Find key) (reply.Rows rows) new × SlotsStay old new
+LooksAt key old before new rows found.Hole = Gains 1 old (model.Find key) reply.Hole new × SlotsStay old new × (rows ≡ before)
 
--- a call that put a set, besides its other steps: by so many polls it took a slot, it put each word and published, and retired what the key named before
+-- a call that put a set, besides its other steps: by so many polls it took a slot, it put each word and named the slot at its key, with the next put number, and retired what the key named before
 pub record Publishes (steps : ℕ) (old : Caller) (call : Call) (rows : List Row) (new : Caller) : Type 0 where
   pub polls : ℕ
+  pub slot : ℕ
   pub mid : Spare
-  pub took : Took polls (spare_of old) mid
+  pub took : Took slot polls (spare_of old) mid
   pub few : polls ≤ old.table.shape.readers + 1
-  pub word : ℕ
-  pub retires : spare_of new ≡ record mid { retired = mid.retired ++ unnamed word }
+  pub fresh : new.fresh ≡ mid.fresh
+  pub retires : Retires call old mid.retired new.retired
+  pub number : ℕ
+  pub count : put_count new.seen ≡ suc number
+  pub put : slice_index new.marks.puts slot ≡ number
+  pub marks : new.marks ≡ with_name (with_polls old.marks new.marks.polls) (key_of call) slot number
   pub gains : Gains (steps + 2 * length rows + 2 + polls) old call reply.Done new
-  -- if there was no free slot, it put its set, with a new number, into one that was retired
-  pub takes : TakesNew old.table.shape (desk_seen old) new.marks old.seen
 
 -- A call that found no slot, after so many other steps and a poll of each retired slot. It is no entry: the writer has learnt readers' entries alone.
 pub record HasNoSlot (steps : ℕ) (old : Caller) (call : Call) (counts : NoSlot) (new : Caller) : Type 0 where
@@ -70,25 +95,27 @@ pub record HasNoSlot (steps : ℕ) (old : Caller) (call : Call) (counts : NoSlot
   pub readers : entries_of grows.between old.number ≡ []
   -- it would be done now, and each slot is a filled key's or was polled
   pub lacks : Lacks call counts new
-  -- no poll noted a reader as it was before what the writer knew of it
+  -- at its poll the noted reader held the slot and had made so many acts, no fewer than the writer knew of
+  pub held : AllHeldThen old.seen new.seen new.marks.polls
   pub noted : Noted old.table.shape old.pasts new.marks.polls
-  pub slots : SameSlots old new
+  pub slots : spare_of new ≡ spare_of old
+  pub marks : new.marks ≡ with_polls old.marks new.marks.polls
 
 abbrev pub FillsKey : ℕ → List Row → Caller → Caller → Result (Unit {0}) FillFault → Type 0
 FillsKey key rows old new (Ok done) = Publishes 1 old (model.Fill key rows) rows new
-FillsKey key rows old new (Err fill.NotAsked) = Gains 1 old (model.Fill key rows) reply.NotAsked new × SameSlots old new
-FillsKey key rows old new (Err fill.Already) = Gains 1 old (model.Fill key rows) reply.Already new × SameSlots old new
+FillsKey key rows old new (Err fill.NotAsked) = Gains 1 old (model.Fill key rows) reply.NotAsked new × SlotsStay old new
+FillsKey key rows old new (Err fill.Already) = Gains 1 old (model.Fill key rows) reply.Already new × SlotsStay old new
 FillsKey key rows old new (Err (fill.NoSlot counts)) = HasNoSlot 1 old (model.Fill key rows) counts new
 
--- an update looks, reads the set of the key, and applies the batch to it
+-- an update looks, reads the set that the key has before the call's entry, and applies the batch to it
 abbrev pub UpdatesKey : ℕ → ℕ → List Delta → Caller → Caller → Result (Unit {0}) UpdateFault → Type 0
-UpdatesKey bound key batch old new (Ok done) = (set left : List Row) × (applied bound set batch ≡ Ok left) × Publishes (2 * length set + 2) old (model.Update key batch) left new
-UpdatesKey bound key batch old new (Err update.Dropped) = Gains 1 old (model.Update key batch) reply.Dropped new × SameSlots old new
-UpdatesKey bound key batch old new (Err update.NoRow) = (set : List Row) × (applied bound set batch ≡ Err fault.NoRow) × Gains (2 * length set + 2) old (model.Update key batch) reply.NoRow new × SameSlots old new
-UpdatesKey bound key batch old new (Err update.TooMany) = (set : List Row) × (applied bound set batch ≡ Err fault.TooMany) × Gains (2 * length set + 2) old (model.Update key batch) reply.TooMany new × SameSlots old new
-UpdatesKey bound key batch old new (Err (update.NoSlot counts)) = (set left : List Row) × (applied bound set batch ≡ Ok left) × HasNoSlot (2 * length set + 2) old (model.Update key batch) counts new
+UpdatesKey bound key batch old new (Ok done) = (set left : List Row) × (applied bound set batch ≡ Ok left) × (published : Publishes (2 * length set + 2) old (model.Update key batch) left new) × KeyHad key set old published.gains.between
+UpdatesKey bound key batch old new (Err update.Dropped) = Gains 1 old (model.Update key batch) reply.Dropped new × SlotsStay old new
+UpdatesKey bound key batch old new (Err update.NoRow) = (set : List Row) × (applied bound set batch ≡ Err fault.NoRow) × (gains : Gains (2 * length set + 2) old (model.Update key batch) reply.NoRow new) × KeyHad key set old gains.between × SlotsStay old new
+UpdatesKey bound key batch old new (Err update.TooMany) = (set : List Row) × (applied bound set batch ≡ Err fault.TooMany) × (gains : Gains (2 * length set + 2) old (model.Update key batch) reply.TooMany new) × KeyHad key set old gains.between × SlotsStay old new
+UpdatesKey bound key batch old new (Err (update.NoSlot counts)) = (set left : List Row) × (applied bound set batch ≡ Ok left) × (without : HasNoSlot (2 * length set + 2) old (model.Update key batch) counts new) × KeyHad key set old without.grows.between
 
 -- an eviction retires the key's slot
 abbrev pub EvictsKey : ℕ → Caller → Caller → Evict → Type 0
-EvictsKey key old new evict.Evicted = Gains 2 old (model.Evict key) reply.Evicted new × (word : ℕ) × (spare_of new ≡ record (spare_of old) { retired = old.retired ++ unnamed word })
-EvictsKey key old new evict.Nothing = Gains 1 old (model.Evict key) reply.Nothing new × SameSlots old new
+EvictsKey key old new evict.Evicted = Gains 2 old (model.Evict key) reply.Evicted new × (new.fresh ≡ old.fresh) × RetiresOne key old old.retired new.retired × (new.marks ≡ without_name (with_polls old.marks []) key)
+EvictsKey key old new evict.Nothing = Gains 1 old (model.Evict key) reply.Nothing new × SlotsStay old new

@@ -12,6 +12,7 @@ pub mod Rounds
 pub mod Pins
 pub mod Opened
 pub mod Spares
+pub mod Polls
 pub mod WriterSeats
 pub mod Searches
 pub mod Answers

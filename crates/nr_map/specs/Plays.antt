@@ -1,5 +1,5 @@
 -- What each kind of step tells its token.
-use Rattle.std.specs.Prelude.{◌≡◌, ℕ, ◌+◌, ◌-◌, ◌*◌, ◌<◌, ◌≤◌, Bool, List, [], ◌∷◌, ◌++◌, length, take, slice_index, true, false}
+use Rattle.std.specs.Prelude.{◌≡◌, ℕ, ◌+◌, ◌-◌, ◌*◌, ◌<◌, ◌≤◌, ◌⊎◌, nat_le, Bool, List, [], ◌∷◌, ◌++◌, length, take, slice_index, true, false}
 use mathlib.Core.Option.{some}
 use lib.ListN.{get_elem?}
 use Rattle.atomic_table.specs.Seated.{TableId}
@@ -9,8 +9,9 @@ use Rattle.nr_model.specs.declared.calls.Call.{Call}
 use Rattle.nr_model.specs.declared.calls.Call.TheVariants as model
 use Rattle.nr_model.specs.declared.calls.Reply.TheVariants as reply
 use Rattle.nr_model.specs.Rows.{IsRowSet}
-use Rattle.nr_model.specs.Histories.{Entry}
-use Rattle.nr_model.specs.Maps.{filled_count, reply_to}
+use Rattle.nr_model.specs.Histories.{Entry, entries_of}
+use Rattle.nr_model.specs.Maps.{filled_count, reply_to, state_of}
+use Rattle.nr_model.specs.declared.states.KeyState.TheVariants as states
 use Rattle.nr_words.specs.KeyWords.{is_filled, slot_of}
 use Rattle.nr_words.specs.SetWords.{encode}
 use Rattle.nr_core.specs.declared.roles.Role.{Role}
@@ -26,15 +27,18 @@ use Rattle.nr_core.specs.declared.places.Place.TheVariants.{Idle, Leaving, Putti
 use Rattle.nr_core.specs.declared.places.Retired.{Retired}
 use Rattle.nr_core.specs.declared.roles.Grip.TheVariants.{Nothing, On}
 use Rattle.nr_core.specs.declared.shape.Shape.{Shape}
-use Rattle.nr_core.specs.Slots.{content}
+use Rattle.nr_core.specs.Slots.{content, name_number}
+use Rattle.nr_core.specs.States.{key_of}
 use Rattle.nr_core.specs.Steps.{ask_word}
 use Rattle.nr_core.specs.Roles.{retirements}
-use Rattle.nr_core.specs.Story.{call_of, ending, entry}
+use Rattle.nr_core.specs.Story.{call_of, ending, entry, map_after}
 use Rattle.nr_core.specs.Writer.{looked, moved_to, went}
 use Rattle.nr_marks.specs.MarkSteps.{GoesMarks, LooksMarks}
-use Rattle.nr_marks.specs.Marks.{acted}
+use Rattle.nr_marks.specs.Marks.{Marks, Past, acted}
 use Rattle.nr_marks.specs.PollNotes.{AllHeld}
 use Rattle.nr_marks.specs.Puts.{put_number}
+use Rattle.nr_map.specs.Entries.{acts_told, to_depart}
+use Rattle.nr_map.specs.Kinds.{kind_of, kind_shown}
 use Rattle.nr_map.specs.Views.{View, number_of, grip_of, is_sized, rows_held, slot_held}
 use Rattle.nr_map.specs.Callers.{Caller, Grows, Rests, caller_of, map_seen}
 
@@ -152,18 +156,35 @@ call_at (Leaving key) = model.Evict key
 call_at (Searching call rows poll) = call_of call
 call_at (Putting call rows slot departures index) = call_of call
 
--- a read of the writer's goes on with the words of the key's set
-abbrev pub ReadsOn : Shape → Place → ℕ → Type 0
-ReadsOn shape Idle found = Unit {0}
-ReadsOn shape (Reading call slot got) found = (rows : List Row) × IsRowSet shape.bound rows × (got ++ found ∷ [] ≡ take (length got + 1) (encode rows)) × (length got ≤ 2 * length rows)
-ReadsOn shape (Leaving key) found = Unit {0}
-ReadsOn shape (Searching call rows poll) found = Unit {0}
-ReadsOn shape (Putting call rows slot departures index) found = Unit {0}
+-- a swap finds the word that shows the key's state, and the writer's lists have the slot that it names
+pub record SwapsAt (shape : Shape) (at found : ℕ) (log : List Entry) (marks : Marks) : Type 0 where
+  pub state : kind_shown found ≡ kind_of (state_of (map_after shape log) at)
+  pub name : slice_index marks.names at ≡ name_number found
 
--- a later step of the call
+-- of the word that a put finds nothing is told
+abbrev pub SwapsOrPuts : Bool → Shape → ℕ → ℕ → List Entry → Marks → Type 0
+SwapsOrPuts true shape at found log marks = Unit {0}
+SwapsOrPuts false shape at found log marks = SwapsAt shape at found log marks
+
+-- what a later step finds after that history: a read goes on with the words of the key's set
+abbrev pub Finds : Shape → Place → ℕ → List Entry → Marks → Type 0
+Finds shape Idle found log marks = Unit {0}
+Finds shape (Reading call slot got) found log marks = (rows : List Row) × IsRowSet shape.bound rows × (got ++ found ∷ [] ≡ take (length got + 1) (encode rows)) × (length got ≤ 2 * length rows) × (state_of (map_after shape log) (key_of call) ≡ states.Rows rows)
+Finds shape (Leaving key) found log marks = SwapsAt shape key found log marks
+Finds shape (Searching call rows poll) found log marks = Unit {0}
+Finds shape (Putting call rows slot departures index) found log marks = SwapsOrPuts (nat_le index (2 * length rows)) shape (key_of call) found log marks
+
+-- each new note among the polls tells a reader as the history so far has it: it arrived at its finds, and departed from what it found but for what it holds
+abbrev pub NotesTell : List Entry → List Past → List Past → Type 0
+NotesTell log polls now = (at : ℕ) (note : Past) → get_elem? now at ≡ some note → (get_elem? polls at ≡ some note) ⊎ (note.count + to_depart note.slot ≡ acts_told (entries_of log note.reader))
+
+-- a later step of the call, and the history before the entry that it may add
 pub record Went (desk : Desk) (found : ℕ) (old new : View) : Type 0 where
   pub leads : Leads (call_at desk.place) (went old.shape desk desk.place found) old new
-  pub reads_on : ReadsOn old.shape desk.place found
+  pub log : List Entry
+  pub seen : new.seen ≡ log ++ ending (call_at desk.place) (went old.shape desk desk.place found).1
+  pub finds : Finds old.shape desk.place found log old.marks
+  pub notes : NotesTell log old.marks.polls new.marks.polls
   pub marks : GoesMarks old.shape old.marks old.pasts desk found new.role new.seen new.marks []
 
 abbrev pub has_looked : WriterCall → Then

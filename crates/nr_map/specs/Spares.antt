@@ -1,5 +1,7 @@
 -- The slots that no key names: those that were never taken, and the retired ones.
 use Rattle.std.specs.Prelude.{◌≡◌, ℕ, ◌+◌, ◌-◌, ◌<◌, ◌≤◌, ◌⊎◌, List, length, remove, Option, Some, None}
+use mathlib.Core.Option.{some}
+use lib.ListN.{get_elem?}
 use Rattle.nr_core.specs.declared.calls.NoSlot.{NoSlot}
 use Rattle.nr_core.specs.declared.places.Place.{Place}
 use Rattle.nr_core.specs.declared.places.Retired.{Retired}
@@ -25,10 +27,10 @@ abbrev pub none_spare : Spare → NoSlot
 none_spare spare = record { live = spare.slots - length spare.retired; held = length spare.retired }
 
 -- a slot was taken, by so many polls: the next that was never taken, or else the retired one at which the last poll was made
-abbrev pub Took : ℕ → Spare → Spare → Type 0
-Took polls old new =
-    ((old.fresh < old.slots) × (polls ≡ 0) × (new.fresh ≡ old.fresh + 1) × (new.retired ≡ old.retired))
-    ⊎ ((old.slots ≤ old.fresh) × (place : ℕ) × (place < length old.retired) × (polls ≡ place + 1) × (new.fresh ≡ old.fresh) × (new.retired ≡ remove old.retired place))
+abbrev pub Took : ℕ → ℕ → Spare → Spare → Type 0
+Took slot polls old new =
+    ((old.fresh < old.slots) × (slot ≡ old.fresh) × (polls ≡ 0) × (new.fresh ≡ old.fresh + 1) × (new.retired ≡ old.retired))
+    ⊎ ((old.slots ≤ old.fresh) × (place : ℕ) × (entry : Retired) × (get_elem? old.retired place ≡ some entry) × (entry.slot ≡ slot) × (polls ≡ place + 1) × (new.fresh ≡ old.fresh) × (new.retired ≡ remove old.retired place))
 
 -- the next slot that was never taken, if there is one
 abbrev pub TakesFresh : Spare → Spare → Option ℕ → Type 0

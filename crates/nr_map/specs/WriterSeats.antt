@@ -6,11 +6,13 @@ use Rattle.atomic_table.specs.declared.shared.Seat.{Seat}
 use Rattle.nr_model.specs.declared.rows.Row.{Row}
 use Rattle.nr_model.specs.declared.calls.Call.{Call}
 use Rattle.nr_model.specs.declared.calls.Reply.TheVariants as reply
-use Rattle.nr_model.specs.Histories.{IsLegal}
+use Rattle.nr_model.specs.Histories.{Entry, IsLegal}
+use Rattle.nr_model.specs.Maps.{state_of}
+use Rattle.nr_model.specs.declared.states.KeyState.TheVariants as states
 use Rattle.nr_words.specs.SetWords.{encode}
 use Rattle.nr_core.specs.Slots.{content}
 use Rattle.nr_core.specs.States.{key_of, retired_at}
-use Rattle.nr_core.specs.Story.{call_of, ending, entry}
+use Rattle.nr_core.specs.Story.{call_of, ending, entry, map_after}
 use Rattle.nr_core.specs.Writer.{moved_to, no_slot, settled, unnamed, went}
 use Rattle.nr_core.specs.declared.calls.NoSlot.{NoSlot}
 use Rattle.nr_core.specs.declared.calls.Step.{Step}
@@ -25,8 +27,10 @@ use Rattle.nr_core.specs.declared.roles.Role.TheVariants.{Writer}
 use Rattle.nr_map.specs.Entries.{AreCallers}
 use Rattle.nr_map.specs.Callers.{Caller, Grows, KnowsOwn, Table, opening_map, token}
 use Rattle.nr_map.specs.Spares.{Spare, Took, desk_with}
-use Rattle.nr_map.specs.Plays.{Lacks, ReadsOn, Room, call_at, next_put}
+use Rattle.nr_map.specs.Plays.{Finds, Lacks, NotesTell, Room, SwapsAt, call_at, next_put}
+use Rattle.nr_map.specs.Polls.{AllHeldThen}
 use Rattle.nr_marks.specs.MarkSteps.{GoesMarks}
+use Rattle.nr_marks.specs.Marks.{with_name, with_polls}
 use Rattle.nr_marks.specs.PollNotes.{Noted}
 use Rattle.nr_marks.specs.Puts.{put_count}
 use Rattle.nr_map.specs.Views.{View}
@@ -107,7 +111,10 @@ LeadsTo = LeadsIn 1
 -- one step from the place in the call
 pub record GoesTo (table : Table) (desk : Desk) (found : ℕ) (old new : MapSeat) : Type 0 where
   pub leads : LeadsTo table (call_at desk.place) (went table.shape desk desk.place found) old new
-  pub reads_on : ReadsOn table.shape desk.place found
+  pub log : List Entry
+  pub seen : new.me.0.seen ≡ log ++ ending (call_at desk.place) (went table.shape desk desk.place found).1
+  pub finds : Finds table.shape desk.place found log old.me.0.marks
+  pub notes : NotesTell log old.me.0.marks.polls new.me.0.marks.polls
   pub marks : GoesMarks table.shape old.me.0.marks old.me.0.pasts desk found new.me.0.role new.me.0.seen new.me.0.marks []
 
 abbrev pub GoesOn : Table → ℕ → MapSeat → MapSeat → Type 0
@@ -133,24 +140,26 @@ pub record Settles (table : Table) (call : WriterCall) (rows : List Row) (spare 
   pub knows : Knows (token seat)
   pub polls : seat.me.0.marks.polls ≡ []
 
+-- the key's set after the history before the step that ended a read-through
+pub record KeyHas (table : Table) (call : WriterCall) (rows : List Row) (step : Step) (seat : MapSeat) : Type 0 where
+  pub log : List Entry
+  pub seen : seat.me.0.seen ≡ log ++ ending (call_of call) step
+  pub state : state_of (map_after table.shape log) (key_of call) ≡ states.Rows rows
+
 -- the search has found each of the first retired slots held
 abbrev pub swept : Shape → Desk → WriterCall → List Row → ℕ → Desk × Step
 swept shape desk call rows polls = (if nat_lt polls (length desk.retired) then (moved_to desk (Searching call rows polls), Going) else (moved_to desk Idle, no_slot shape desk))
 
--- the slot was never taken, or was retired
-abbrev pub IsFrom : ℕ → Spare → Type 0
-IsFrom slot spare = (spare.fresh < spare.slots) ⊎ ((at : ℕ) × (entry : Retired) × (get_elem? spare.retired at ≡ some entry) × (entry.slot ≡ slot))
-
 -- the slot that a call took, with its departures, or there was none
 pub record TakesSlot (table : Table) (call : WriterCall) (rows : List Row) (slot departed : ℕ) (spare after : Spare) (old new : MapSeat) : Type 0 where
   pub polls : ℕ
-  pub took : Took polls spare after
-  pub from : IsFrom slot spare
+  pub took : Took slot polls spare after
   -- all polls but the last one found their slots held, each by another reader
   pub few : polls ≤ table.shape.readers + 1
   pub slots : after.slots ≡ spare.slots
   pub writes : WritesAt table (desk_with after (Putting call rows slot departed 0)) new
   pub grows : Grows polls (token old) [] (token new)
+  pub marks : new.me.0.marks ≡ with_polls old.me.0.marks new.me.0.marks.polls
 
 pub record LacksSlot (table : Table) (call : WriterCall) (counts : NoSlot) (spare after : Spare) (old new : MapSeat) : Type 0 where
   pub same : after ≡ spare
@@ -158,22 +167,28 @@ pub record LacksSlot (table : Table) (call : WriterCall) (counts : NoSlot) (spar
   pub grows : Grows (length spare.retired) (token old) [] (token new)
   pub lacks : Lacks (call_of call) counts (token new)
   pub noted : Noted table.shape old.me.0.pasts new.me.0.marks.polls
+  pub held : AllHeldThen old.me.0.seen new.me.0.seen new.me.0.marks.polls
+  pub marks : new.me.0.marks ≡ with_polls old.me.0.marks new.me.0.marks.polls
 
 -- the set was published: the call's last step is its entry, and the slot that the key named before is retired
 pub record PublishesSet (table : Table) (call : WriterCall) (rows : List Row) (spare after : Spare) (old new : MapSeat) : Type 0 where
   pub polls : ℕ
+  pub slot : ℕ
   pub mid : Spare
-  pub took : Took polls spare mid
+  pub took : Took slot polls spare mid
+  -- the word that the key had
   pub word : ℕ
+  pub log : List Entry
+  pub seen : new.me.0.seen ≡ log ++ entry 0 (call_of call) reply.Done ∷ []
+  pub swaps : SwapsAt table.shape (key_of call) word log old.me.0.marks
   pub retires : after ≡ record mid { retired = mid.retired ++ unnamed word }
   pub few : polls ≤ table.shape.readers + 1
   pub slots : after.slots ≡ spare.slots
-  -- the set has the next put number, and the slot was never taken before or was retired
-  pub slot : ℕ
-  pub from : IsFrom slot spare
+  -- the set has the next put number
   pub number : ℕ
   pub count : put_count new.me.0.seen ≡ suc number
   pub put : slice_index new.me.0.marks.puts slot ≡ number
+  pub marks : new.me.0.marks ≡ with_name (with_polls old.me.0.marks new.me.0.marks.polls) (key_of call) slot number
   pub writes : WritesAt table (desk_with after Idle) new
   pub grows : Grows (2 * length rows + 2 + polls) (token old) (entry 0 (call_of call) reply.Done ∷ []) (token new)
 

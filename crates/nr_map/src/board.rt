@@ -17,7 +17,7 @@ ghost use Rattle.nr_core.specs.Roles.{is_writer};
 ghost use Rattle.nr_core.specs.Sizes.{IsShape};
 ghost use Rattle.nr_map.specs.Views.{rows_held, with_reader, next_reader, opener};
 ghost use Rattle.nr_map.specs.Callers.{Gains, Rests, map_seen, token};
-ghost use Rattle.nr_marks.specs.Marks.{acted};
+ghost use Rattle.nr_marks.specs.Marks.{acted, with_polls};
 ghost use Rattle.nr_marks.specs.Puts.{put_number};
 ghost use Rattle.nr_map.specs.Seats.{IdlesAt, HoldsAt};
 ghost use Rattle.nr_map.specs.Notes.{IsCaller, note_of, with_note};
@@ -198,7 +198,7 @@ impl Board {
         requires given { IsGivenCall self.now.shape.bound call.now }
         requires key { key_of call.now < self.now.shape.keys }
         ensures leads { (desk : Desk) → seat.old.me.0.role ≡ Writer desk → LeadsTo self.now (call_of call.now) (looked self.now.shape desk call.now result) seat.old seat.new }
-        ensures polls { seat.new.me.0.marks.polls ≡ [] }
+        ensures marks { seat.new.me.0.marks ≡ with_polls seat.old.me.0.marks [] }
     {
         self.look_given::<Brand>(seat, call)
     }
@@ -209,7 +209,7 @@ impl Board {
         requires key { key_of call.now < self.now.shape.keys }
         requires call { G.call ≡ call.now }
         ensures leads { (desk : Desk) → seat.old.me.0.role ≡ Writer desk → LeadsTo self.now (call_of call.now) (looked self.now.shape desk call.now result) seat.old seat.new }
-        ensures polls { seat.new.me.0.marks.polls ≡ [] }
+        ensures marks { seat.new.me.0.marks ≡ with_polls seat.old.me.0.marks [] }
     {
         let words = &self.table.shared;
         words.load::<Looks<G>>(seat, call.key() as usize)

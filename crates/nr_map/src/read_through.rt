@@ -4,7 +4,7 @@ ghost use Rattle.nr_core.specs.Story.{call_of};
 ghost use Rattle.nr_core.specs.Writer.{decided, moved_to};
 ghost use Rattle.nr_core.specs.declared.places.Place.TheVariants.{Reading};
 ghost use Rattle.nr_map.specs.Views.{desk_of};
-ghost use Rattle.nr_map.specs.WriterSeats.{LeadsIn, WritesAt};
+ghost use Rattle.nr_map.specs.WriterSeats.{KeyHas, LeadsIn, WritesAt};
 
 use crate::board::Seat;
 use crate::reader_map::ReaderMap;
@@ -18,6 +18,7 @@ impl ReaderMap {
         requires writer { WritesAt self.now (moved_to (desk_of seat.old.me.0.role) (Reading call.now slot [])) seat.old }
         requires slot { slot < self.now.shape.slots }
         ensures leads { LeadsIn (2 * length rows.new + 1) self.now (call_of call.now) (decided self.now.shape (desk_of seat.old.me.0.role) call.now rows.new) seat.old seat.new }
+        ensures had { KeyHas self.now call.now rows.new (decided self.now.shape (desk_of seat.old.me.0.role) call.now rows.new).1 seat.new }
         ensures marks { seat.new.me.0.marks ≡ seat.old.me.0.marks }
     {
         let _ = call;

@@ -28,5 +28,5 @@ load-requires g c = let shared = c.self.inside.table.shared in let about = c.sel
 pub returns : goal.returns
 returns g c = let before = c.args.seat.now in let after = c.load.new.seat in let told = subst (λ (call : WriterCall). (other : Desk) → before.me.0.role ≡ Writer other → Looked other call c.load.result before.me.0 after.me.0) c.requires.call c.load.ensures.2 in record {
   leads = λ desk is. looked_seat c.args.self.now before after c.load.ensures.0 c.requires.writer.writes.own desk c.args.call.now c.load.result (told desk is);
-  polls = ap (λ (m : Marks). m.polls) (told c.requires.writer.desk c.requires.writer.writes.role).marks.0;
+  marks = (told c.requires.writer.desk c.requires.writer.writes.role).marks.0;
 }

@@ -11,19 +11,19 @@ use Rattle.nr_map.proofs.reader_map.ReaderMap.evict_key.Goals as goal
 
 pub returns-then-not-found : goal.returns-then-not-found
 returns-then-not-found c = let told = look_ends c.self.inside.board c.args.self.now c.self.view_is c.args.spare.now c.args.seat.now c.requires.own c.requires.rests (writer.Evict c.args.key) c.look.result c.look.new.seat c.look.ensures.leads
-    reply.Nothing (evict_nothing c.args.self.now.shape (desk_with c.args.spare.now Idle) c.args.key c.look.result (is_empty c.parts-found.result c.look.result c.parts-found.ensures.parts c.if-not-found.true)) in
+    c.look.ensures.marks reply.Nothing (evict_nothing c.args.self.now.shape (desk_with c.args.spare.now Idle) c.args.key c.look.result (is_empty c.parts-found.result c.look.result c.parts-found.ensures.parts c.if-not-found.true)) in
     record { rests = told.0; evicts = told.1 }
 
 pub unpublish-old_word-requires-clause-writer : goal.unpublish-old_word-requires-clause-writer
-unpublish-old_word-requires-clause-writer c = let leads = look_goes c.self.inside.board c.args.self.now c.self.view_is c.args.spare.now c.args.seat.now c.requires.own c.requires.rests (writer.Evict c.args.key) c.look.result c.look.new.seat c.look.ensures.leads (desk_with c.args.spare.now (Leaving c.args.key), Going) (evict_leaves c.args.self.now.shape (desk_with c.args.spare.now Idle) c.args.key c.look.result (is_full c.parts-found.result c.look.result c.parts-found.ensures.parts c.if-not-found.false)) in
+unpublish-old_word-requires-clause-writer c = let leads = look_goes c.self.inside.board c.args.self.now c.self.view_is c.args.spare.now c.args.seat.now c.requires.own c.requires.rests (writer.Evict c.args.key) c.look.result c.look.new.seat c.look.ensures.leads c.look.ensures.marks (desk_with c.args.spare.now (Leaving c.args.key), Going) (evict_leaves c.args.self.now.shape (desk_with c.args.spare.now Idle) c.args.key c.look.result (is_full c.parts-found.result c.look.result c.parts-found.ensures.parts c.if-not-found.false)) in
     subst (λ (t : Table). IsLeaving t c.args.key c.look.new.seat) (sym c.self.view_is) (record { desk = desk_with c.args.spare.now (Leaving c.args.key); writes = leads.writes; place = refl })
 
 pub retire-requires : goal.retire-requires
-retire-requires c = let leads = look_goes c.self.inside.board c.args.self.now c.self.view_is c.args.spare.now c.args.seat.now c.requires.own c.requires.rests (writer.Evict c.args.key) c.look.result c.look.new.seat c.look.ensures.leads (desk_with c.args.spare.now (Leaving c.args.key), Going) (evict_leaves c.args.self.now.shape (desk_with c.args.spare.now Idle) c.args.key c.look.result (is_full c.parts-found.result c.look.result c.parts-found.ensures.parts c.if-not-found.false)) in
+retire-requires c = let leads = look_goes c.self.inside.board c.args.self.now c.self.view_is c.args.spare.now c.args.seat.now c.requires.own c.requires.rests (writer.Evict c.args.key) c.look.result c.look.new.seat c.look.ensures.leads c.look.ensures.marks (desk_with c.args.spare.now (Leaving c.args.key), Going) (evict_leaves c.args.self.now.shape (desk_with c.args.spare.now Idle) c.args.key c.look.result (is_full c.parts-found.result c.look.result c.parts-found.ensures.parts c.if-not-found.false)) in
     omega (arith, leads.writes.room.place, c.requires.rests.slots, ap (λ (t : Table). t.shape.slots) c.requires.own)
 
 pub returns : goal.returns
-returns c = let leads = look_goes c.self.inside.board c.args.self.now c.self.view_is c.args.spare.now c.args.seat.now c.requires.own c.requires.rests (writer.Evict c.args.key) c.look.result c.look.new.seat c.look.ensures.leads (desk_with c.args.spare.now (Leaving c.args.key), Going) (evict_leaves c.args.self.now.shape (desk_with c.args.spare.now Idle) c.args.key c.look.result (is_full c.parts-found.result c.look.result c.parts-found.ensures.parts c.if-not-found.false)) in
+returns c = let leads = look_goes c.self.inside.board c.args.self.now c.self.view_is c.args.spare.now c.args.seat.now c.requires.own c.requires.rests (writer.Evict c.args.key) c.look.result c.look.new.seat c.look.ensures.leads c.look.ensures.marks (desk_with c.args.spare.now (Leaving c.args.key), Going) (evict_leaves c.args.self.now.shape (desk_with c.args.spare.now Idle) c.args.key c.look.result (is_full c.parts-found.result c.look.result c.parts-found.ensures.parts c.if-not-found.false)) in
     let goes = subst (λ (t : Table). GoesOn t c.unpublish-old_word.result c.look.new.seat c.unpublish-old_word.new.seat) c.self.view_is c.unpublish-old_word.ensures in
-    let told = evicted_so c.args.self.now c.args.spare.now c.args.seat.now c.requires.own c.requires.rests c.args.key c.look.new.seat leads c.unpublish-old_word.result c.unpublish-old_word.new.seat goes c.retire.new.self c.retire.ensures in
+    let told = evicted_so c.args.self.now c.args.spare.now c.args.seat.now c.requires.own c.requires.rests c.args.key c.look.new.seat leads c.look.ensures.marks c.unpublish-old_word.result c.unpublish-old_word.new.seat goes c.retire.new.self c.retire.ensures in
     record { rests = told.0; evicts = told.1 }

@@ -43,12 +43,12 @@ returns-then-same_count c = let so_far = c.loop-place.invariant in let spare = c
     let after_is : c.take_retired.new.self ≡ record spare { retired = remove spare.retired place } = c.take_retired.ensures ∙ ap (λ (s : Spare). record s { retired = remove s.retired place }) so_far.0 in
     subst (λ (p : Spare × ℕ). TakesSlot c.args.self.now c.args.call.now c.args.rows.now p.1 found spare p.0 c.args.seat.now c.poll-departures.new.seat) (λ j. (sym after_is j, (get_or (sym list j) place no_retired).slot)) (record {
       polls = place + 1;
-      took = inr (c.requires.none_fresh, place, low, refl, refl, refl);
+      took = inr (c.requires.none_fresh, place, get_or spare.retired place no_retired, at_get spare.retired place low, refl, refl, refl, refl);
       few = let few = so_far.1.few in omega arith;
-      from = inr (place, get_or spare.retired place no_retired, at_get spare.retired place low, refl);
       slots = refl;
       writes = took.0;
       grows = took.1;
+      marks = took.2;
     })
 
 pub loop-place-preserved : goal.loop-place-preserved

@@ -48,5 +48,6 @@ loop-i-preserved c = let desk = desk_of c.args.seat.now.me.0.role in
     let more = read_more c.args.self.now desk c.args.call.now c.args.slot c.args.seat.now c.loop-i.seat c.read_on-count.result c.loop-i.i c.loop-i.rows c.loop-i.invariant c.loop-i-test.true c.read_on-a.result c.read_on-a.new.seat first c.read_on-b.result c.read_on-b.new.seat second in
     subst (λ rows. ReadSoFar c.args.self.now desk c.args.call.now c.args.slot c.args.seat.now c.read_on-b.new.seat c.read_on-count.result rows (c.loop-i.i + 1)) (sym c.push.ensures) more
 
-pub returns-clause-leads : goal.returns-clause-leads
-returns-clause-leads c = read_all c.args.self.now (desk_of c.args.seat.now.me.0.role) c.args.call.now c.args.slot c.args.seat.now c.loop-i.seat c.read_on-count.result c.loop-i.i c.loop-i.rows c.loop-i.invariant (omega (arith, c.loop-i-test.false, c.loop-i.auto.i-end))
+pub returns : goal.returns
+returns c = let read = read_all c.args.self.now (desk_of c.args.seat.now.me.0.role) c.args.call.now c.args.slot c.args.seat.now c.loop-i.seat c.read_on-count.result c.loop-i.i c.loop-i.rows c.loop-i.invariant (omega (arith, c.loop-i-test.false, c.loop-i.auto.i-end)) in
+    record { leads = read.0; had = read.1; marks = c.loop-i.invariant.marks }
