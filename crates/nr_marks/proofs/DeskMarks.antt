@@ -13,7 +13,7 @@ use Rattle.nr_core.proofs.Sums.{below-same, only-is, some_term}
 use Rattle.nr_core.specs.Core.{Core}
 use Rattle.nr_core.specs.Roles.{held, retirements, taken}
 use Rattle.nr_core.specs.Operations.{Operation, becomes, place_of}
-use Rattle.nr_core.specs.Slots.{name_number}
+use Rattle.nr_core.specs.Slots.{bound_of, name_number}
 use Rattle.nr_core.specs.States.{key_of}
 use Rattle.nr_core.specs.Steps.{Telling}
 use Rattle.nr_core.specs.Story.{call_of, ending_at, map_after}
@@ -47,9 +47,9 @@ nothing_ends log = (nil_number log, nil_count log)
 
 -- no slot is to be had where every slot was taken once and none is retired
 pub no_room_left : (shape : Shape) (words : List ℕ) (roles : List Role) (log : List Entry) (id : ℕ) (desk : Desk) (call : WriterCall) → Core shape words roles log → get_elem? roles id ≡ some (Writer desk) → ((slot : ℕ) → taken slot desk.place ≡ 0) → shape.slots ≤ desk.fresh
-    → reply_at shape.bound (call_of call) (state_of (map_after shape log) (key_of call)) ≡ reply.Done → (polls : List Past) → AllHeld desk.retired polls → length polls ≤ shape.readers → NoRoom shape call desk.retired polls log
+    → reply_at (bound_of shape) (call_of call) (state_of (map_after shape log) (key_of call)) ≡ reply.Done → (polls : List Past) → AllHeld desk.retired polls → length polls ≤ shape.readers → NoRoom shape call desk.retired polls log
 no_room_left shape words roles log id desk call core there free full done polls held few = record {
-  done = replies_so shape log (call_of call) ∙ ap (λ (k : ℕ). reply_at shape.bound (call_of call) (state_of (map_after shape log) k)) (key_same call) ∙ done;
+  done = replies_so shape log (call_of call) ∙ ap (λ (k : ℕ). reply_at (bound_of shape) (call_of call) (state_of (map_after shape log) k)) (key_same call) ∙ done;
   slots = slots_are shape words roles log core id desk there full free;
   apart = λ slot. dite (dec_le (retirements slot desk.retired) 1) (λ l. l) (λ l. let near = retired_inside slot (omega arith) in let o = retired_once shape words roles log core id desk there slot near in absurd (omega arith));
   held = held;

@@ -12,7 +12,7 @@ use Rattle.nr_core.specs.Writer.{ended, moved_to, swapped}
 use Rattle.nr_core.specs.declared.calls.Step.{Step}
 use Rattle.nr_core.specs.declared.calls.Step.TheVariants.{Going}
 use Rattle.nr_core.specs.declared.places.Place.{Place}
-use Rattle.nr_core.specs.declared.places.Place.TheVariants.{Idle, Leaving, Putting, Reading, Searching}
+use Rattle.nr_core.specs.declared.places.Place.TheVariants.{Idle, Leaving, Putting, Reading, Searching, Withdrawing}
 use Rattle.nr_core.specs.declared.roles.Desk.{Desk}
 use Rattle.nr_core.specs.declared.roles.Role.{Role}
 use Rattle.nr_core.specs.declared.roles.Role.TheVariants.{Writer}
@@ -23,7 +23,7 @@ use Rattle.nr_marks.specs.Marks.{Marks, Past}
 use Rattle.nr_marks.specs.Marked.{CanMark}
 use Rattle.nr_marks.specs.MarkSteps.{GoesMarks, PutsMarks, went_marks}
 use Rattle.nr_marks.proofs.PollMarks.{polls_marked}
-use Rattle.nr_marks.proofs.SwapMarks.{publishes_marked, puts_marked, unpublishes_marked}
+use Rattle.nr_marks.proofs.SwapMarks.{publishes_marked, puts_marked, unpublishes_marked, withdraws_marked}
 use Rattle.nr_marks.proofs.DeskMarks.{Went}
 use Rattle.nr_marks.proofs.LookMarks.{reads_on_marked}
 
@@ -32,6 +32,7 @@ module _ {A : Type 0} (role : A → Role) (marks : A → Marks) (shape : Shape) 
   goes_at Idle is_at busy = absurd (no_some _ _ refl busy)
   goes_at (Reading call slot got) is_at busy = reads_on_marked role marks shape id me known desk call slot got is_at was
   goes_at (Leaving k) is_at busy = unpublishes_marked role marks shape id me known desk k is_at was
+  goes_at (Withdrawing k) is_at busy = withdraws_marked role marks shape id me known desk k is_at was
   goes_at (Searching call rows poll) is_at busy = polls_marked role marks shape id me known desk call rows poll is_at was
   goes_at (Putting call rows slot departed at) is_at busy = put_on_marked (nat_le at (2 * length rows))
     where

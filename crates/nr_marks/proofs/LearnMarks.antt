@@ -19,7 +19,7 @@ use Rattle.nr_core.specs.Steps.{Learns}
 use Rattle.nr_core.specs.Story.{map_after}
 use Rattle.nr_core.specs.Sums.{below, only}
 use Rattle.nr_core.specs.declared.places.Place.{Place}
-use Rattle.nr_core.specs.declared.places.Place.TheVariants.{Idle, Leaving, Putting, Reading, Searching}
+use Rattle.nr_core.specs.declared.places.Place.TheVariants.{Idle, Leaving, Putting, Reading, Searching, Withdrawing}
 use Rattle.nr_core.specs.declared.places.Retired.{Retired}
 use Rattle.nr_core.specs.declared.roles.Desk.{Desk}
 use Rattle.nr_core.specs.declared.roles.Grip.{Grip}
@@ -50,6 +50,7 @@ not_taken : (shape : Shape) (words : List ℕ) (at : PartialMap) (holders : ℕ 
 not_taken shape words at holders fresh retired slot Idle l t = refl
 not_taken shape words at holders fresh retired slot (Reading a b c) l t = refl
 not_taken shape words at holders fresh retired slot (Leaving a) l t = refl
+not_taken shape words at holders fresh retired slot (Withdrawing a) l t = refl
 not_taken shape words at holders fresh retired slot (Searching a b c) l t = refl
 not_taken shape words at holders fresh retired slot (Putting a b mine c d) l t = dite (ℕ_discrete (only slot mine) 0) (λ z. z) (λ nz. absurd (let same = only-is slot mine (omega arith) in let z : holders slot ≡ 0 = ap holders (sym same) ∙ t.nobody in omega arith))
 

@@ -7,7 +7,7 @@ use lib.Seq.{set-get_or}
 use mathlib.Core.Option.{some, some-ne-none}
 use Rattle.nr_model.specs.Batches.{applied}
 use Rattle.nr_model.specs.Histories.{Entry, is_done}
-use Rattle.nr_model.specs.Maps.{applied_reply, reply_at, state_of}
+use Rattle.nr_model.specs.Maps.{applied_reply, last_number, reply_at, state_of}
 use Rattle.nr_model.specs.declared.batches.ApplyFault.{ApplyFault}
 use Rattle.nr_model.specs.declared.batches.ApplyFault.TheVariants.{NoRow, TooMany}
 use Rattle.nr_model.specs.declared.calls.Call.{Call}
@@ -19,17 +19,17 @@ use Rattle.nr_core.proofs.Without.{decided_none, look_none}
 use Rattle.nr_core.specs.Core.{AtPlace, Reads}
 use Rattle.nr_core.specs.Roles.{held, retirements, taken}
 use Rattle.nr_core.specs.Operations.{Load}
-use Rattle.nr_core.specs.Slots.{content, set_of}
+use Rattle.nr_core.specs.Slots.{bound_of, content, set_of}
 use Rattle.nr_core.specs.States.{key_of}
 use Rattle.nr_core.specs.Steps.{Looks}
 use Rattle.nr_core.specs.Story.{call_of, ending, entry, map_after}
-use Rattle.nr_core.specs.Writer.{decided, ended, looked, moved_to, no_slot, read_on, renewed, settled, taking_fresh}
+use Rattle.nr_core.specs.Writer.{cancel_asked, decided, ended, fill_asked, looked, moved_to, no_slot, read_on, renewed, settled, taking_fresh}
 use Rattle.nr_core.specs.declared.calls.NoSlot.{NoSlot}
 use Rattle.nr_core.specs.declared.calls.Step.{Step}
 use Rattle.nr_core.specs.declared.calls.Step.TheVariants.{Ended, Going}
 use Rattle.nr_core.specs.declared.calls.WriterCall.{WriterCall}
-use Rattle.nr_core.specs.declared.calls.WriterCall.TheVariants.{Evict, Fill, Find, Update}
-use Rattle.nr_core.specs.declared.places.Place.TheVariants.{Idle, Leaving, Reading, Searching}
+use Rattle.nr_core.specs.declared.calls.WriterCall.TheVariants.{Cancel, Evict, Fill, Find, Update}
+use Rattle.nr_core.specs.declared.places.Place.TheVariants.{Idle, Leaving, Reading, Searching, Withdrawing}
 use Rattle.nr_core.specs.declared.places.Retired.{Retired}
 use Rattle.nr_core.specs.declared.roles.Desk.{Desk}
 use Rattle.nr_core.specs.declared.roles.Role.{Role}
@@ -85,10 +85,16 @@ module _ {A : Type 0} (role : A → Role) (marks : A → Marks) where
 
     looked_calm : (call : WriterCall) (word : ℕ) → Calm callers desk (looked shape desk call word)
     looked_calm (Find k) word = by_cases (λ b. Calm callers desk (cond {A = Desk × Step} b (moved_to desk (Reading (Find k) (slot_of word) []), Going) (moved_to desk Idle, ended reply.Hole))) (is_filled word) (λ _. (refl, refl, refl)) (λ _. (refl, tt, refl))
-    looked_calm (Fill k rows) word = by_cases (λ b. Calm callers desk (cond {A = Desk × Step} b (moved_to desk Idle, ended reply.Already) (cond {A = Desk × Step} (has_ask word) (settled shape desk (Fill k rows) rows) (moved_to desk Idle, ended reply.NotAsked)))) (is_filled word) (λ _. (refl, tt, refl))
-        (λ _. by_cases (λ b. Calm callers desk (cond {A = Desk × Step} b (settled shape desk (Fill k rows) rows) (moved_to desk Idle, ended reply.NotAsked))) (has_ask word) (λ _. settled_calm (Fill k rows) rows) (λ _. (refl, tt, refl)))
+    looked_calm (Fill k number rows) word = by_cases (λ b. Calm callers desk (cond {A = Desk × Step} b (moved_to desk Idle, ended reply.Already) (cond {A = Desk × Step} (has_ask word) (fill_asked shape desk (Fill k number rows) number rows (slot_of word)) (moved_to desk Idle, ended reply.NotAsked)))) (is_filled word) (λ _. (refl, tt, refl))
+        (λ _. by_cases (λ b. Calm callers desk (cond {A = Desk × Step} b (fill_asked shape desk (Fill k number rows) number rows (slot_of word)) (moved_to desk Idle, ended reply.NotAsked))) (has_ask word)
+        (λ _. by_cases (λ b. Calm callers desk (cond {A = Desk × Step} b (settled shape desk (Fill k number rows) rows) (moved_to desk Idle, ended reply.Stale))) (nat_eq (slot_of word) number) (λ _. settled_calm (Fill k number rows) rows) (λ _. (refl, tt, refl)))
+        (λ _. (refl, tt, refl)))
     looked_calm (Update k batch) word = by_cases (λ b. Calm callers desk (cond {A = Desk × Step} b (moved_to desk (Reading (Update k batch) (slot_of word) []), Going) (moved_to desk Idle, ended reply.Dropped))) (is_filled word) (λ _. (refl, refl, refl)) (λ _. (refl, tt, refl))
     looked_calm (Evict k) word = by_cases (λ b. Calm callers desk (cond {A = Desk × Step} b (moved_to desk (Leaving k), Going) (moved_to desk Idle, ended reply.Nothing))) (is_filled word) (λ _. (refl, tt, refl)) (λ _. (refl, tt, refl))
+    looked_calm (Cancel k) word = by_cases (λ b. Calm callers desk (cond {A = Desk × Step} b (moved_to desk Idle, ended reply.Nothing) (cond {A = Desk × Step} (has_ask word) (cancel_asked desk k (slot_of word)) (moved_to desk Idle, ended reply.Nothing)))) (is_filled word) (λ _. (refl, tt, refl))
+        (λ _. by_cases (λ b. Calm callers desk (cond {A = Desk × Step} b (cancel_asked desk k (slot_of word)) (moved_to desk Idle, ended reply.Nothing))) (has_ask word)
+        (λ _. by_cases (λ b. Calm callers desk (cond {A = Desk × Step} b (moved_to desk (Withdrawing k), Going) (moved_to desk Idle, ended reply.Worn))) (nat_lt (slot_of word) last_number) (λ _. (refl, tt, refl)) (λ _. (refl, tt, refl)))
+        (λ _. (refl, tt, refl)))
 
     renewed_calm : (call : WriterCall) (new : Result (List Row) ApplyFault) → Calm callers desk (renewed shape desk call new)
     renewed_calm call (Ok rows) = settled_calm call rows
@@ -96,12 +102,13 @@ module _ {A : Type 0} (role : A → Role) (marks : A → Marks) where
 
     decided_calm : (call : WriterCall) (rows : List Row) → Calm callers desk (decided shape desk call rows)
     decided_calm (Find k) rows = (refl, tt, refl)
-    decided_calm (Fill k new) rows = (refl, tt, refl)
-    decided_calm (Update k batch) rows = renewed_calm (Update k batch) (applied shape.bound rows batch)
+    decided_calm (Fill k number new) rows = (refl, tt, refl)
+    decided_calm (Update k batch) rows = renewed_calm (Update k batch) (applied (bound_of shape) rows batch)
     decided_calm (Evict k) rows = (refl, tt, refl)
+    decided_calm (Cancel k) rows = (refl, tt, refl)
 
     read_calm : (call : WriterCall) (slot : ℕ) (got : List ℕ) → Calm callers desk (read_on shape desk call slot got)
-    read_calm call slot got = by_cases (λ b. Calm callers desk (cond {A = Desk × Step} b (decided shape desk call (set_of shape.bound got)) (moved_to desk (Reading call slot got), Going))) (nat_eq (length got) (2 * get_or got 0 0 + 1)) (λ _. decided_calm call (set_of shape.bound got)) (λ _. (refl, refl, refl))
+    read_calm call slot got = by_cases (λ b. Calm callers desk (cond {A = Desk × Step} b (decided shape desk call (set_of (bound_of shape) got)) (moved_to desk (Reading call slot got), Going))) (nat_eq (length got) (2 * get_or got 0 0 + 1)) (λ _. decided_calm call (set_of (bound_of shape) got)) (λ _. (refl, refl, refl))
 
 none_held : (retired : List Retired) → length retired ≡ 0 → AllHeld retired []
 none_held retired none = record { many = sym none; slots = λ at entry e. absurd (let l = inside retired at entry e in omega arith); different = λ reader. omega arith }
@@ -136,10 +143,10 @@ module _ {A : Type 0} (role : A → Role) (marks : A → Marks) (shape : Shape) 
       let roles = map role callers in let there : get_elem? roles id ≡ some (Writer desk) = at_maps role callers id me at ∙ ap some was in
       let p : Reads shape words (map_after shape log) (held roles) (key_of call) slot got = subst (AtPlace shape words (map_after shape log) (held roles) desk.fresh desk.retired) is_at (core.knows id (Writer desk) there).place in
       let quiet : QuietEnd log entries = subst (QuietEnd log) (sym ans.1) (quiet_end log (call_of call) o.1 calm.2) in
-      let NoneThere : Type 0 = (shape.slots ≤ desk.fresh) × (length desk.retired ≡ 0) × (reply_at shape.bound (call_of call) (state_of (map_after shape log) (key_of call)) ≡ reply.Done) in
-      let left : (counts : NoSlot) → o.1 ≡ Ended (writer.NoSlot counts) → NoneThere = λ counts. by_cases (λ b. (cond {A = Desk × Step} b (decided shape desk call (set_of shape.bound got')) (moved_to desk (Reading call slot got'), Going)).1 ≡ Ended (writer.NoSlot counts) → NoneThere) (nat_eq (length got') (2 * get_or got' 0 0 + 1))
-      (λ yes e. let n = decided_none shape desk counts call (set_of shape.bound got') e in let whole = read_whole shape words roles log core (key_of call) slot got p (eqb-true (length got') (2 * get_or got' 0 0 + 1) yes) in
-      (n.1, n.2, ap (reply_at shape.bound (call_of call)) (p.full ∙ ap key.Rows (sym whole)) ∙ n.3))
+      let NoneThere : Type 0 = (shape.slots ≤ desk.fresh) × (length desk.retired ≡ 0) × (reply_at (bound_of shape) (call_of call) (state_of (map_after shape log) (key_of call)) ≡ reply.Done) in
+      let left : (counts : NoSlot) → o.1 ≡ Ended (writer.NoSlot counts) → NoneThere = λ counts. by_cases (λ b. (cond {A = Desk × Step} b (decided shape desk call (set_of (bound_of shape) got')) (moved_to desk (Reading call slot got'), Going)).1 ≡ Ended (writer.NoSlot counts) → NoneThere) (nat_eq (length got') (2 * get_or got' 0 0 + 1))
+      (λ yes e. let n = decided_none shape desk counts call (set_of (bound_of shape) got') e in let whole = read_whole shape words roles log core (key_of call) slot got p (eqb-true (length got') (2 * get_or got' 0 0 + 1) yes) in
+      (n.1, n.2, ap (reply_at (bound_of shape) (call_of call)) (p.full ∙ ap (key.Rows p.number) (sym whole)) ∙ n.3 p.number))
       (λ _ e. absurd (let z : 0 ≡ 1 = ap without e in omega arith)) in
       writer_step role marks shape id me (Load i) (ReadsOnMarks shape (marks me) desk call slot got) words callers log core m at desk o.0 was after entries ans.0 (marks me) [] (no_places (Since role marks callers)) (λ place note here. inl here)
       (desk_stay role marks shape words (set words i word) callers log entries desk o.0 (marks me) (marks me).polls own (λ j _. ap (λ l. get_or l j 0) (set-get_or words i 0)) quiet (λ s. let e = ap (retirements s) calm.0 in omega arith) own.noted

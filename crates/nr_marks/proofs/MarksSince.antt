@@ -12,7 +12,7 @@ use Rattle.nr_core.specs.Roles.{is_reader, is_writer, keeps, retirements}
 use Rattle.nr_core.specs.Slots.{name_number, named}
 use Rattle.nr_core.specs.Sums.{only}
 use Rattle.nr_core.specs.declared.places.Place.{Place}
-use Rattle.nr_core.specs.declared.places.Place.TheVariants.{Idle, Leaving, Putting, Reading, Searching}
+use Rattle.nr_core.specs.declared.places.Place.TheVariants.{Idle, Leaving, Putting, Reading, Searching, Withdrawing}
 use Rattle.nr_core.specs.declared.places.Retired.{Retired}
 use Rattle.nr_core.specs.declared.roles.Desk.{Desk}
 use Rattle.nr_core.specs.declared.roles.Grip.{Grip}
@@ -67,6 +67,7 @@ module _ {A : Type 0} (role : A → Role) (marks : A → Marks) where
   sweeping_frame callers callers' desk mine stay polls Idle t = t
   sweeping_frame callers callers' desk mine stay polls (Reading a b c) t = t
   sweeping_frame callers callers' desk mine stay polls (Leaving a) t = t
+  sweeping_frame callers callers' desk mine stay polls (Withdrawing a) t = t
   sweeping_frame callers callers' desk mine stay polls (Searching a b p) t = record {
     many = t.many;
     slots = t.slots;

@@ -11,14 +11,14 @@ use Rattle.nr_model.specs.Rows.{IsRowSet}
 use Rattle.nr_model.specs.declared.calls.Reply.{Reply}
 use Rattle.nr_model.specs.declared.rows.Row.{Row}
 use Rattle.nr_words.proofs.KeyWordLemmas.{with_ask_is}
-use Rattle.nr_words.specs.KeyWords.{has_ask, is_filled}
+use Rattle.nr_words.specs.KeyWords.{has_ask, is_filled, slot_of}
 use Rattle.nr_words.specs.declared.key_words.TheConstants.{ARRIVE}
 use Rattle.nr_core.proofs.KeyWords.{name-asked, name-bumped}
 use Rattle.nr_core.proofs.Sums.{below-term, only-same}
 use Rattle.nr_core.specs.Core.{Core}
 use Rattle.nr_core.specs.Roles.{retirements}
 use Rattle.nr_core.specs.Operations.{Add, Load, Operation, Or, becomes, place_of}
-use Rattle.nr_core.specs.Slots.{content, departures, name_number}
+use Rattle.nr_core.specs.Slots.{bound_of, content, departures, name_number}
 use Rattle.nr_core.specs.Steps.{Arrives, Asks, Departs, ReadsHeld, Telling, ask_word}
 use Rattle.nr_core.specs.Story.{entry}
 use Rattle.nr_core.specs.Sums.{only}
@@ -39,7 +39,7 @@ use Rattle.nr_marks.proofs.MarksSince.{marked_reader, rests}
 use Rattle.nr_marks.proofs.PutNumbers.{nil_count, nil_number, quiet_count, quiet_number}
 
 -- words of the keys that name the same after a step: on a key's word, behind the keys, by a load
-names_kept : (words : List ℕ) (i x : ℕ) → i < length words → name_number x ≡ name_number (get_or words i 0) → (key : ℕ) → name_number (get_or (set words i x) key 0) ≡ name_number (get_or words key 0)
+pub names_kept : (words : List ℕ) (i x : ℕ) → i < length words → name_number x ≡ name_number (get_or words i 0) → (key : ℕ) → name_number (get_or (set words i x) key 0) ≡ name_number (get_or words key 0)
 names_kept words i x l same key = dite (ℕ_discrete key i)
     (λ e. ap (λ (y : ℕ). name_number (get_or (set words i x) y 0)) e ∙ ap name_number (get_or-set_same words i x 0 l) ∙ same ∙ ap (λ (y : ℕ). name_number (get_or words y 0)) (sym e))
     (λ ne. ap name_number (get_or-set_other words i key x 0 ne))
@@ -47,10 +47,10 @@ names_kept words i x l same key = dite (ℕ_discrete key i)
 pub names_behind : (words : List ℕ) (keys i x : ℕ) → keys ≤ i → (key : ℕ) → key < keys → get_or (set words i x) key 0 ≡ get_or words key 0
 names_behind words keys i x behind key l = get_or-set_other words i key x 0 (λ e. omega arith)
 
-asks_nothing_done : (a b : Bool) → is_done (cond a reply.Filled (cond b reply.Waiting reply.Send)) ≡ false
-asks_nothing_done true b = refl
-asks_nothing_done false true = refl
-asks_nothing_done false false = refl
+asks_nothing_done : (number : ℕ) (a b : Bool) → is_done (cond a reply.Filled (cond b reply.Waiting (reply.Send number))) ≡ false
+asks_nothing_done number true b = refl
+asks_nothing_done number false true = refl
+asks_nothing_done number false false = refl
 
 abbrev number_of : Role → ℕ
 number_of (Writer e) = 0
@@ -101,7 +101,7 @@ module _ {A : Type 0} (role : A → Role) (marks : A → Marks) (shape : Shape) 
 
   pub asks_marked : (reader key : ℕ) → key < shape.keys → role me ≡ Reader reader Nothing → CanMark role marks shape id me known (Or key 1) (Asks reader key) (KeepsMarks (marks me))
   asks_marked reader key near was = same_hold (Or key 1) (Asks reader key) reader Nothing was
-      (λ words log entries after a. let word : ℕ = get_or words key 0 in let e = entry reader (model.Ask key) (ask_word word) in let quiet = asks_nothing_done (is_filled word) (has_ask word) in
+      (λ words log entries after a. let word : ℕ = get_or words key 0 in let e = entry reader (model.Ask key) (ask_word word) in let quiet = asks_nothing_done (slot_of word) (is_filled word) (has_ask word) in
       (Nothing, a.0, refl, (λ k. ap (λ l. put_number (log ++ l) k) a.1 ∙ quiet_number log e k quiet), ap (λ l. put_count (log ++ l)) a.1 ∙ quiet_count log e quiet))
       (λ words roles log core k _. let wide = core.wide in let word : ℕ = get_or words key 0 in names_kept words key (bit_or word 1) (omega arith) (name-asked word (bit_or word 1) (with_ask_is word)) k)
 
@@ -133,6 +133,6 @@ module _ {A : Type 0} (role : A → Role) (marks : A → Marks) (shape : Shape) 
       ))
       (refl, refl) in
       ⊎_elim
-      (λ (t : (slot : ℕ) × (rows : List Row) × (name_number word ≡ suc slot) × (slot < shape.slots) × IsRowSet shape.bound rows × (after ≡ Reader reader (On slot rows false)) × (entries ≡ entry reader (model.Find key) (reply.Rows rows) ∷ [])).
+      (λ (t : (slot : ℕ) × (rows : List Row) × (name_number word ≡ suc slot) × (slot < shape.slots) × IsRowSet (bound_of shape) rows × (after ≡ Reader reader (On slot rows false)) × (entries ≡ entry reader (model.Find key) (reply.Rows rows) ∷ [])).
       finish (On t.0 t.1 false) (reply.Rows t.1) refl t.5 t.6 (λ slot on. t.2 ∙ ap suc (some_is t.0 slot on)))
       (λ (t : (name_number word ≡ 0) × (after ≡ Reader reader Nothing) × (entries ≡ entry reader (model.Find key) reply.Hole ∷ [])). finish Nothing reply.Hole refl t.1 t.2 (λ slot on. absurd (cc))) ans

@@ -33,19 +33,19 @@ module _ {A : Type 0} (role : A → Role) (marks : A → Marks) where
   not_reader me r reader grip none is reads = absurd (let z : is_reader r ≡ 1 = ap is_reader (sym is) ∙ ap is_reader reads in omega arith)
 
   -- the writer is alone, and no key names a slot
-  pub opens_marked : (shape : Shape) (words : List ℕ) (me : A) → role me ≡ Writer opening_desk → marks me ≡ opening_marks shape → ((key : ℕ) → key < shape.keys → name_number (get_or words key 0) ≡ 0) → Marked role marks shape words (me ∷ []) []
+  pub opens_marked : (shape : Shape) (words : List ℕ) (me : A) → role me ≡ Writer (opening_desk shape) → marks me ≡ opening_marks shape → ((key : ℕ) → key < shape.keys → name_number (get_or words key 0) ≡ 0) → Marked role marks shape words (me ∷ []) []
   opens_marked shape words me is are none = record { each = each }
     where
       alone : (place : ℕ) (who : A) → get_elem? (me ∷ []) place ≡ some who → me ≡ who
       alone zero who e = some-injective me who e
       alone (suc place) who e = absurd (some-ne-none who (sym e))
 
-      desked : Desked role marks shape words (me ∷ []) [] opening_desk (opening_marks shape)
+      desked : Desked role marks shape words (me ∷ []) [] (opening_desk shape) (opening_marks shape)
       desked = record {
         wide = (length-replicate shape.keys 0, length-replicate shape.slots 0);
         names = λ key l. zeros shape.keys key ∙ sym (none key l);
         puts = λ key slot l e. absurd (let z = none key l in omega arith);
-        held = λ place reader slot who grip there reads _. absurd (not_reader who (Writer opening_desk) reader grip refl (ap role (sym (alone place who there)) ∙ is) reads);
+        held = λ place reader slot who grip there reads _. absurd (not_reader who (Writer (opening_desk shape)) reader grip refl (ap role (sym (alone place who there)) ∙ is) reads);
         fresh = λ slot l on. absurd (let z = none_named shape words slot none in omega arith);
         apart = λ slot other l m on _ _. absurd (let z = none_named shape words slot none in omega arith);
         noted = no_places (Since role marks (me ∷ []));
@@ -54,7 +54,7 @@ module _ {A : Type 0} (role : A → Role) (marks : A → Marks) where
 
       each : (place : ℕ) (who : A) → get_elem? (me ∷ []) place ≡ some who → KnowsMarks role marks shape words (me ∷ []) [] (role who) (marks who)
       each place who there = subst (λ (u : A). KnowsMarks role marks shape words (me ∷ []) [] (role u) (marks u)) (alone place who there)
-          (subst (λ r. KnowsMarks role marks shape words (me ∷ []) [] r (marks me)) (sym is) (subst (Desked role marks shape words (me ∷ []) [] opening_desk) (sym are) desked))
+          (subst (λ r. KnowsMarks role marks shape words (me ∷ []) [] r (marks me)) (sym is) (subst (Desked role marks shape words (me ∷ []) [] (opening_desk shape)) (sym are) desked))
 
   -- one more caller, who holds nothing
   pub seats_marked : (shape : Shape) (words : List ℕ) (callers : List A) (log : List Entry) (next : A) → ((reader : ℕ) (grip : Grip) → role next ≡ Reader reader grip → gripped grip ≡ None) → Marked role marks shape words callers log

@@ -1,4 +1,4 @@
--- The writer puts a word, publishes and unpublishes: a published slot has the next put number.
+-- The writer puts a word, publishes, unpublishes and withdraws: a published slot has the next put number.
 use Rattle.std.proofs.Common.{List, [], ap, arith, cond, eq-eqb, false, get_or, get_or-set_other, get_or-set_same, inl, inr, length-set, map, ne_eqb, refl, set, subst, suc, sym, true, ℕ, ⊎_elim, ◌++◌, ◌+◌, ◌<◌, ◌∙◌, ◌∷◌, ◌≡◌, ◌≢◌, ◌⊎◌}
 use Rattle.std.specs.Prelude.{Some}
 use lib.ListN.{get_elem?}
@@ -8,23 +8,23 @@ use native.Mathlib.Decide.{ℕ_discrete}
 use Rattle.nr_model.specs.Histories.{Entry}
 use Rattle.nr_model.specs.Maps.{key_of as call_key}
 use Rattle.nr_model.specs.declared.rows.Row.{Row}
-use Rattle.nr_words.specs.KeyWords.{arrivals_of, is_filled, slot_of}
+use Rattle.nr_words.specs.KeyWords.{arrivals_of, hole_word, is_filled, slot_of}
 use Rattle.nr_words.specs.SetWords.{encode}
 use Rattle.nr_core.proofs.Choices.{by_cases}
 use Rattle.nr_core.proofs.Counting.{retired_once}
-use Rattle.nr_core.proofs.KeyWords.{naming_is}
+use Rattle.nr_core.proofs.KeyWords.{name_low, naming_is}
 use Rattle.nr_core.proofs.Settle.{key_same}
-use Rattle.nr_core.proofs.Sums.{below-change, below-term, only-other, only-same, only-suc, only-zero, term_le, total-append}
-use Rattle.nr_core.specs.Core.{AtPlace, Puts}
+use Rattle.nr_core.proofs.Sums.{below-change, below-same, below-term, only-other, only-same, only-suc, only-zero, term_le, total-append}
+use Rattle.nr_core.specs.Core.{AtPlace, Puts, ShowsState, Withdraws}
 use Rattle.nr_core.specs.Roles.{grips, held, holds, retirements, taken}
 use Rattle.nr_core.specs.Operations.{Store, Swap}
 use Rattle.nr_core.specs.Slots.{content, name_number, naming}
-use Rattle.nr_core.specs.States.{key_of}
+use Rattle.nr_core.specs.States.{key_of, number_at}
 use Rattle.nr_core.specs.Story.{call_of, entry, map_after}
 use Rattle.nr_core.specs.Sums.{only, total}
-use Rattle.nr_core.specs.Writer.{moved_to, swapped, unnamed}
+use Rattle.nr_core.specs.Writer.{moved_to, swapped, unnamed, withdrawn}
 use Rattle.nr_core.specs.declared.calls.WriterCall.{WriterCall}
-use Rattle.nr_core.specs.declared.places.Place.TheVariants.{Leaving, Putting}
+use Rattle.nr_core.specs.declared.places.Place.TheVariants.{Leaving, Putting, Withdrawing}
 use Rattle.nr_core.specs.declared.places.Retired.{Retired}
 use Rattle.nr_core.specs.declared.roles.Desk.{Desk}
 use Rattle.nr_core.specs.declared.roles.Grip.{Grip}
@@ -33,6 +33,7 @@ use Rattle.nr_core.specs.declared.roles.Role.{Role}
 use Rattle.nr_core.specs.declared.roles.Role.TheVariants.{Reader, Writer}
 use Rattle.nr_core.specs.declared.shape.Shape.{Shape}
 use Rattle.nr_model.specs.declared.calls.Call.TheVariants as model
+use Rattle.nr_model.specs.declared.states.KeyState.TheVariants as key
 use Rattle.nr_model.specs.declared.calls.Reply.TheVariants as reply
 use Rattle.nr_marks.specs.Puts.{put_count, put_number, puts_at}
 use Rattle.nr_marks.specs.Marks.{Marks, Past, gripped, with_name, without_name}
@@ -40,7 +41,7 @@ use Rattle.nr_marks.specs.Marked.{CanMark, Desked, Since, Sweeping, lives}
 use Rattle.nr_marks.specs.MarkSteps.{KeepsMarks, PublishesMarks, UnpublishesMarks}
 use Rattle.nr_marks.proofs.ListPlaces.{at_maps, no_places, some_is}
 use Rattle.nr_marks.proofs.PutNumbers.{count_more, put_more, quiet_count, quiet_number}
-use Rattle.nr_marks.proofs.ReaderMarks.{names_behind}
+use Rattle.nr_marks.proofs.ReaderMarks.{names_behind, names_kept}
 use Rattle.nr_marks.proofs.DeskMarks.{QuietEnd, desk_keep, desk_of, desk_stay, nothing_ends, writer_step}
 
 unnamed_sum : (s w : ℕ) → retirements s (unnamed w) ≡ only (suc s) (name_number w)
@@ -55,6 +56,10 @@ unnamed_sum s w = by_cases (λ b. total (λ (x : Retired). only s x.slot) (cond 
 pub grips_it : (grip : Grip) (slot : ℕ) → gripped grip ≡ Some slot → grips slot grip ≡ 1
 grips_it Nothing slot e = absurd (cc)
 grips_it (On s rows sized) slot e = ap (only slot) (some_is s slot e) ∙ only-same slot
+
+-- the word of a hole names no slot
+hole_names_none : (number : ℕ) → name_number (hole_word number false) ≡ 0
+hole_names_none number = name_low (hole_word number false) (λ z. omega arith)
 
 abbrev index : List ℕ → ℕ → ℕ
 index l i = get_or l i 0
@@ -133,24 +138,42 @@ module _ {A : Type 0} (role : A → Role) (marks : A → Marks) where
         (n, ap (λ l. put_count (log ++ l)) ans.1 ∙ many, get_or-set_same (marks me).puts slot n 0 (omega arith), refl, refl)
 
     pub unpublishes_marked : (k : ℕ) → desk.place ≡ Leaving k → role me ≡ Writer desk
-        → CanMark role marks shape id me known (Swap k 0) (λ word after entries. (after ≡ Writer (swapped desk word)) × (entries ≡ entry 0 (model.Evict k) reply.Evicted ∷ [])) (UnpublishesMarks (marks me) k)
+        → CanMark role marks shape id me known (Swap k (hole_word (number_at desk k) false)) (λ word after entries. (after ≡ Writer (swapped desk word)) × (entries ≡ entry 0 (model.Evict k) reply.Evicted ∷ [])) (UnpublishesMarks (marks me) k)
     unpublishes_marked k is_at was words callers log core m once there since after entries ans =
-        let word : ℕ = get_or words k 0 in let words' = set words k 0 in let desk' = swapped desk word in let e = entry 0 (model.Evict k) reply.Evicted in
+        let word : ℕ = get_or words k 0 in let x : ℕ = hole_word (number_at desk k) false in let words' = set words k x in let desk' = swapped desk word in let e = entry 0 (model.Evict k) reply.Evicted in
         let own = desk_of role marks shape words callers log id me desk m there was in let roles = map role callers in
         let at' : get_elem? roles id ≡ some (Writer desk) = at_maps role callers id me there ∙ ap some was in
         let p : AtPlace shape words (map_after shape log) (held roles) desk.fresh desk.retired (Leaving k) = subst (AtPlace shape words (map_after shape log) (held roles) desk.fresh desk.retired) is_at (core.knows id (Writer desk) at').place in
         let reads = p.1 in let near : k < shape.keys = reads.near in let wide = core.wide in let wide' = own.wide.0 in
-        let here : get_or words' k 0 ≡ 0 = get_or-set_same words k 0 0 (omega arith) in
-        let other : (i : ℕ) → i ≢ k → get_or words' i 0 ≡ get_or words i 0 = λ i ne. get_or-set_other words k i 0 0 ne in
-        writer_step role marks shape id me (Swap k 0) (UnpublishesMarks (marks me) k) words callers log core m there desk desk' was after entries ans.0 (without_name (marks me) k) [] (no_places (Since role marks callers)) (λ place note here. inl here)
+        let here : name_number (get_or words' k 0) ≡ 0 = ap name_number (get_or-set_same words k x 0 (omega arith)) ∙ hole_names_none (number_at desk k) in
+        let other : (i : ℕ) → i ≢ k → get_or words' i 0 ≡ get_or words i 0 = λ i ne. get_or-set_other words k i x 0 ne in
+        writer_step role marks shape id me (Swap k x) (UnpublishesMarks (marks me) k) words callers log core m there desk desk' was after entries ans.0 (without_name (marks me) k) [] (no_places (Since role marks callers)) (λ place note here. inl here)
         (subst (λ l. Desked role marks shape words' callers (log ++ l) desk' (without_name (marks me) k)) (sym ans.1)
         (desk_keep role marks shape words words' callers log (log ++ e ∷ []) desk desk' (marks me) (set (marks me).names k 0) (marks me).polls own (length-set (marks me).names k 0 ∙ wide')
-        (λ i l. dite (ℕ_discrete i k) (λ z. ap (index (set (marks me).names k 0)) z ∙ get_or-set_same (marks me).names k 0 0 (omega arith) ∙ sym (ap name_number here) ∙ ap (λ (y : ℕ). name_number (get_or words' y 0)) (sym z))
+        (λ i l. dite (ℕ_discrete i k) (λ z. ap (index (set (marks me).names k 0)) z ∙ get_or-set_same (marks me).names k 0 0 (omega arith) ∙ sym here ∙ ap (λ (y : ℕ). name_number (get_or words' y 0)) (sym z))
         (λ ne. get_or-set_other (marks me).names k i 0 0 ne ∙ own.names i l ∙ sym (ap name_number (other i ne))))
-        (λ i s l z. dite (ℕ_discrete i k) (λ y. absurd (let none : name_number (get_or words' i 0) ≡ 0 = ap (λ (y : ℕ). name_number (get_or words' y 0)) y ∙ ap name_number here in omega arith)) (λ ne. ap name_number (sym (other i ne)) ∙ z))
+        (λ i s l z. dite (ℕ_discrete i k) (λ y. absurd (let none : name_number (get_or words' i 0) ≡ 0 = ap (λ (y : ℕ). name_number (get_or words' y 0)) y ∙ here in omega arith)) (λ ne. ap name_number (sym (other i ne)) ∙ z))
         (λ i. quiet_number log e i refl) (quiet_count log e refl)
         (λ s l on. let change = below-change (λ j. only (suc s) (name_number (get_or words' j 0))) (λ j. only (suc s) (name_number (get_or words j 0))) shape.keys k near (λ j ne. ap (λ (y : ℕ). only (suc s) (name_number y)) (other j ne)) in
-        let at_k : only (suc s) (name_number (get_or words' k 0)) ≡ 0 = ap (only (suc s)) (ap name_number here) ∙ only-zero s in
+        let at_k : only (suc s) (name_number (get_or words' k 0)) ≡ 0 = ap (only (suc s)) here ∙ only-zero s in
         let more = total-append (λ (y : Retired). only s y.slot) desk.retired (unnamed word) in let gone = unnamed_sum s word in omega arith)
+        own.noted tt))
+        (refl, refl)
+
+    -- an asked key named no slot, and names none after
+    pub withdraws_marked : (k : ℕ) → desk.place ≡ Withdrawing k → role me ≡ Writer desk
+        → CanMark role marks shape id me known (Swap k (hole_word (number_at desk k + 1) false)) (λ word after entries. (after ≡ Writer (withdrawn desk k)) × (entries ≡ entry 0 (model.Cancel k) reply.Cancelled ∷ [])) (KeepsMarks (marks me))
+    withdraws_marked k is_at was words callers log core m once there since after entries ans =
+        let x : ℕ = hole_word (number_at desk k + 1) false in let words' = set words k x in let desk' = withdrawn desk k in let e = entry 0 (model.Cancel k) reply.Cancelled in
+        let own = desk_of role marks shape words callers log id me desk m there was in let roles = map role callers in
+        let at' : get_elem? roles id ≡ some (Writer desk) = at_maps role callers id me there ∙ ap some was in
+        let p : Withdraws shape (map_after shape log) k = subst (AtPlace shape words (map_after shape log) (held roles) desk.fresh desk.retired) is_at (core.knows id (Writer desk) at').place in let near : k < shape.keys = p.near in let wide = core.wide in
+        let shown : ShowsState shape words (get_or words k 0) (key.Asked p.number) = subst (ShowsState shape words (get_or words k 0)) p.asked (core.shows k near) in
+        let same : (i : ℕ) → name_number (get_or words' i 0) ≡ name_number (get_or words i 0) = names_kept words k x (omega arith) (hole_names_none (number_at desk k + 1) ∙ sym shown.0) in
+        writer_step role marks shape id me (Swap k x) (KeepsMarks (marks me)) words callers log core m there desk desk' was after entries ans.0 (marks me) [] (no_places (Since role marks callers)) (λ place note here. inl here)
+        (subst (λ l. Desked role marks shape words' callers (log ++ l) desk' (marks me)) (sym ans.1)
+        (desk_keep role marks shape words words' callers log (log ++ e ∷ []) desk desk' (marks me) (marks me).names (marks me).polls own own.wide.0
+        (λ i l. own.names i l ∙ sym (same i)) (λ i s l z. sym (same i) ∙ z) (λ i. quiet_number log e i refl) (quiet_count log e refl)
+        (λ s l on. let b = below-same (λ j. only (suc s) (name_number (get_or words' j 0))) (λ j. only (suc s) (name_number (get_or words j 0))) shape.keys (λ j _. ap (only (suc s)) (same j)) in omega arith)
         own.noted tt))
         (refl, refl)

@@ -62,14 +62,14 @@ name_has-is puts number zero l = absurd (omega arith)
 name_has-is puts number (suc slot) l = (slot, refl, only-is number (get_or puts slot 0) l)
 
 shown_empty : (shape : Shape) (words : List ℕ) (w : ℕ) (state : KeyState) → ShowsState shape words w state → name_number w ≡ 0 → is_filled state ≡ false
-shown_empty shape words w key.Hole t e = refl
-shown_empty shape words w key.Asked t e = refl
-shown_empty shape words w (key.Rows rows) t e = absurd (let z = t.1 in omega arith)
+shown_empty shape words w (key.Hole number) t e = refl
+shown_empty shape words w (key.Asked number) t e = refl
+shown_empty shape words w (key.Rows number rows) t e = absurd (let z = t.1 in omega arith)
 
 shown_full : (shape : Shape) (words : List ℕ) (w : ℕ) (state : KeyState) (slot : ℕ) → ShowsState shape words w state → name_number w ≡ suc slot → is_filled state ≡ true
-shown_full shape words w key.Hole slot t e = absurd (let z = t.0 in omega arith)
-shown_full shape words w key.Asked slot t e = absurd (let z = t.0 in omega arith)
-shown_full shape words w (key.Rows rows) slot t e = refl
+shown_full shape words w (key.Hole number) slot t e = absurd (let z = t.0 in omega arith)
+shown_full shape words w (key.Asked number) slot t e = absurd (let z = t.0 in omega arith)
+shown_full shape words w (key.Rows number rows) slot t e = refl
 
 module _ {A : Type 0} (role : A → Role) (marks : A → Marks) (shape : Shape) (words : List ℕ) (callers : List A) (log : List Entry) (id : ℕ) (me : A) (desk : Desk) (core : Core shape words (map role callers) log) (at : get_elem? callers id ≡ some me) (was : role me ≡ Writer desk) (own : Desked role marks shape words callers log desk (marks me)) where
   there : get_elem? (map role callers) id ≡ some (Writer desk)

@@ -6,7 +6,7 @@ use Rattle.nr_core.specs.declared.calls.WriterCall.{WriterCall}
 use Rattle.nr_core.specs.declared.roles.Grip.{Grip}
 use Rattle.nr_core.specs.declared.roles.Desk.{Desk}
 use Rattle.nr_core.specs.declared.places.Place.{Place}
-use Rattle.nr_core.specs.declared.places.Place.TheVariants.{Idle, Reading, Leaving, Searching, Putting}
+use Rattle.nr_core.specs.declared.places.Place.TheVariants.{Idle, Reading, Leaving, Withdrawing, Searching, Putting}
 use Rattle.nr_core.specs.declared.calls.NoSlot.{NoSlot}
 use Rattle.nr_core.specs.declared.calls.Step.{Step}
 use Rattle.nr_core.specs.declared.calls.Step.TheVariants.{Ended}
@@ -25,7 +25,7 @@ use Rattle.nr_marks.specs.Exact.{Lists}
 abbrev pub IsNoSlot : Step → Type 0
 IsNoSlot step = (counts : NoSlot) × (step ≡ Ended (writer.NoSlot counts))
 
--- a request, a read of a hold and a put leave the marks
+-- a request, a read of a hold, a put and a withdrawal leave the marks
 abbrev pub KeepsMarks : Marks → MarkTelling
 KeepsMarks marks word after log now news = (now ≡ marks) × (news ≡ [])
 
@@ -71,6 +71,7 @@ abbrev pub went_marks : Shape → Marks → List Past → Desk → Place → Mar
 went_marks shape marks known desk Idle = KeepsMarks marks
 went_marks shape marks known desk (Reading call slot got) = ReadsOnMarks shape marks desk call slot got
 went_marks shape marks known desk (Leaving at) = UnpublishesMarks marks at
+went_marks shape marks known desk (Withdrawing at) = KeepsMarks marks
 went_marks shape marks known desk (Searching call rows poll) = PollsMarks shape marks known desk call poll
 went_marks shape marks known desk (Putting call rows slot departed index) = PutsMarks (nat_le index (2 * length rows)) marks (key_of call) slot
 

@@ -10,7 +10,7 @@ use Rattle.nr_core.specs.declared.roles.Grip.{Grip}
 use Rattle.nr_core.specs.declared.roles.Desk.{Desk}
 use Rattle.nr_core.specs.declared.places.Retired.{Retired}
 use Rattle.nr_core.specs.declared.places.Place.{Place}
-use Rattle.nr_core.specs.declared.places.Place.TheVariants.{Idle, Reading, Leaving, Searching, Putting}
+use Rattle.nr_core.specs.declared.places.Place.TheVariants.{Idle, Reading, Leaving, Withdrawing, Searching, Putting}
 use Rattle.nr_core.specs.Sums.{total, only}
 use Rattle.nr_core.specs.Slots.{name_number, named}
 use Rattle.nr_core.specs.Core.{Core}
@@ -79,6 +79,7 @@ module _ {A : Type 0} (role : A → Role) (marks : A → Marks) where
   Sweeping callers desk polls Idle = Unit {0}
   Sweeping callers desk polls (Reading call slot got) = polls ≡ []
   Sweeping callers desk polls (Leaving at) = Unit {0}
+  Sweeping callers desk polls (Withdrawing at) = Unit {0}
   Sweeping callers desk polls (Searching call rows poll) = Sweeps callers desk polls poll
   Sweeping callers desk polls (Putting call rows slot departed index) = Unit {0}
 
