@@ -4,8 +4,8 @@ use Rattle.std.specs.List.{count_by}
 use Rattle.std.proofs.lemmas.Bool.{cases_lt}
 use mathlib.Core.Logic.{dite}
 use native.Mathlib.Decide.{ℕ_discrete}
-use Rattle.nr_model.proofs.HistoryLemmas.{count_by-cons, sends_are_filled_lem}
-use Rattle.nr_model.specs.Histories.{Entry, asks, entries_of, fills_key, is_done, is_send}
+use Rattle.nr_model.proofs.HistoryLemmas.{count_by-cons, sends_are_answered_lem}
+use Rattle.nr_model.specs.Histories.{Entry, asks, entries_of, cancels_key, fills_key, is_cancelled, is_done, is_send}
 use Rattle.nr_core.proofs.Histories.{of-append}
 use Rattle.nr_core.proofs.Sums.{below-change, below-first, below-zero}
 use Rattle.nr_core.specs.Sums.{below, total}
@@ -13,6 +13,7 @@ use Rattle.nr_map.proofs.Gathering.{just_calls}
 use Rattle.nr_map.specs.Callers.{Caller}
 use Rattle.nr_map.proofs.Entries.{nobody_else}
 use Rattle.nr_map.specs.Rounds.{CallsStay, EntriesAreCallers, RoundsTellAll, SendsOfAll}
+use Rattle.nr_core.specs.Slots.{bound_of}
 
 pub calls_stay_lem : CallsStay
 calls_stay_lem log later caller goes_on has = let his : List Entry → List Entry = λ l. entries_of l caller.number in record {
@@ -68,4 +69,5 @@ pub sends_of_all_lem : SendsOfAll
 sends_of_all_lem writer readers key knows near = let shape = writer.table.shape in
     let sent = entries_are_callers_lem writer readers (λ e. asks key e.call && is_send e.reply) knows in
     let filled = entries_are_callers_lem writer readers (λ e. fills_key key e.call && is_done e.reply) knows in
-    omega (arith, sends_are_filled_lem shape.keys shape.bound key writer.seen knows.legal near)
+    let cancelled = entries_are_callers_lem writer readers (λ e. cancels_key key e.call && is_cancelled e.reply) knows in
+    omega (arith, sends_are_answered_lem shape.keys (bound_of shape) shape.first_number key writer.seen knows.legal near)

@@ -17,13 +17,15 @@ use Rattle.nr_marks.specs.Exact.{Lists}
 use Rattle.nr_marks.specs.Marks.{Marks, Past, gripped, past, told_by}
 use Rattle.nr_marks.specs.Pasts.{Compared, Current}
 use Rattle.nr_map.proofs.Tokens.{MapSeat}
-use Rattle.nr_map.specs.Callers.{Caller, KnowsOwn, caller_of, token}
+use Rattle.nr_map.specs.Callers.{Caller, KnowsOwn, Table, caller_of, map_seen, token}
 use Rattle.nr_map.specs.Learning.{HearsOf, Learned, LearnsOf}
 use Rattle.nr_map.specs.Meetings.{Gathers, Learns, Meets, desk_seen, how_is}
 use Rattle.nr_map.specs.Notes.{note_of, with_note}
 use Rattle.nr_map.specs.Rounds.{HasCalls, HasHeard, HasJustCalls}
 use Rattle.nr_map.specs.Rule.{StartsWith}
 use Rattle.nr_map.specs.Views.{View, desk_of, grip_of, number_of}
+use Rattle.nr_core.specs.Core.{AreNumbers}
+use Rattle.nr_core.specs.Story.{map_after}
 
 -- a history that begins with what a caller has seen has that caller's calls
 pub begins_with_calls : (log : List Entry) (caller : Caller) → KnowsOwn caller → StartsWith log caller.seen → StartsWith (entries_of log caller.number) caller.mine
@@ -50,6 +52,7 @@ meets_seat seat other joined new note found own is took same learned =
           steps_made = omega (arith, learns.steps_made);
           fresh = learns.fresh;
           retired = learns.retired;
+          numbers = learns.numbers;
           holds = learns.holds;
           marks = learns.marks;
           news = learns.news;
@@ -102,13 +105,22 @@ same_token seat lent id me = λ j. caller_of (id j) (me j).0
 pub learns_seat : (at found : ℕ) (seat new : MapSeat) → new.table_id ≡ seat.table_id → Learned at found seat.me.0 new.me.0 → Learns 1 (token seat) (token new)
 learns_seat at found seat new same learned = subst (λ (id : TableId). Learns 1 (token seat) (caller_of id new.me.0)) (sym same) (learned.learns seat.table_id)
 
+-- the writer's numbers are those of the history that it learnt
+pub learned_numbers : (table : Table) (seat new : MapSeat) (at found : ℕ) → (token seat).table ≡ table → Learned at found seat.me.0 new.me.0 → (desk : Desk) → seat.me.0.role ≡ Writer desk → AreNumbers table.shape (map_seen (token new)) desk.numbers
+learned_numbers table seat new at found own learned desk is = subst (λ (p : Shape × Shape). AreNumbers p.0 (map_after p.1 new.me.0.seen) desk.numbers) (λ j. ((own j).shape, (sym (learned.learns seat.table_id).table j).shape))
+    (subst (λ r. LearnsOf r seat.me.0 new.me.0 learned.news) is learned.of_readers).2
+
+pub heard_numbers : (table : Table) (seat other new : MapSeat) → (token seat).table ≡ table → Meets 3 (token seat) (token other) (token new) → HearsOf seat.me.0 other.me.0 new.me.0 → (desk : Desk) → seat.me.0.role ≡ Writer desk → AreNumbers table.shape (map_seen (token new)) desk.numbers
+heard_numbers table seat other new own meets hears desk is = subst (λ (p : Shape × Shape). AreNumbers p.0 (map_after p.1 new.me.0.seen) desk.numbers) (λ j. ((own j).shape, (sym meets.learns.table j).shape))
+    (subst (λ r. LearnsOf r (with_note seat.me.0 (note_of other.me.0)) new.me.0 hears.0) is hears.2).2
+
 -- the writer, which was between two calls, heard of the reader and the reader of it; each was lent to the other once
-module _ (writer reader heard lent last told : MapSeat) (fresh : ℕ) (retired : List Retired) (number : ℕ) (grip : Grip)
-    (writes : writer.me.0.role ≡ Writer (record { place = Idle; fresh = fresh; retired = retired })) (reads : reader.me.0.role ≡ Reader number grip) (stays : heard.me.0.role ≡ writer.me.0.role)
+module _ (writer reader heard lent last told : MapSeat) (fresh : ℕ) (retired : List Retired) (numbers : List ℕ) (number : ℕ) (grip : Grip)
+    (writes : writer.me.0.role ≡ Writer (record { place = Idle; fresh = fresh; retired = retired; numbers = numbers })) (reads : reader.me.0.role ≡ Reader number grip) (stays : heard.me.0.role ≡ writer.me.0.role)
     (first : (lent.table_id ≡ reader.table_id) × (lent.me ≡ reader.me)) (second : (last.table_id ≡ heard.table_id) × (last.me ≡ heard.me))
     (meets : Meets 3 (token writer) (token reader) (token heard)) (meets_back : Meets 3 (token lent) (token heard) (token told)) (hears : HearsOf writer.me.0 reader.me.0 heard.me.0) (hears_back : HearsOf lent.me.0 heard.me.0 told.me.0) where
   abbrev desk : Desk
-  desk = record { place = Idle; fresh = fresh; retired = retired }
+  desk = record { place = Idle; fresh = fresh; retired = retired; numbers = numbers }
 
   writes_still : heard.me.0.role ≡ Writer desk
   writes_still = stays ∙ writes
@@ -134,7 +146,7 @@ module _ (writer reader heard lent last told : MapSeat) (fresh : ℕ) (retired :
   }
     where
       desk_at : desk ≡ desk_seen (token heard)
-      desk_at = λ j. record { place = Idle; fresh = (desk_of (sym writes_still j)).fresh; retired = (desk_of (sym writes_still j)).retired }
+      desk_at = λ j. record { place = Idle; fresh = (desk_of (sym writes_still j)).fresh; retired = (desk_of (sym writes_still j)).retired; numbers = (desk_of (sym writes_still j)).numbers }
 
   pub gathers_seats : Gathers (token writer) (token reader) (token last) (token told)
   gathers_seats = subst (λ (w : Caller). Gathers (token writer) (token reader) w (token told)) (sym (same_token heard last second.0 second.1)) gathers_heard

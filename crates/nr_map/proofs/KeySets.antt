@@ -16,14 +16,16 @@ use Rattle.nr_map.proofs.Entries.{callers_before, callers_of_more}
 use Rattle.nr_map.specs.Answers.{KeyHad}
 use Rattle.nr_map.specs.Callers.{Caller, Grows, KnowsOwn, Table, opening_map}
 use Rattle.nr_map.specs.Entries.{AreCallers, IsCallers, is_reading}
+use Rattle.nr_core.specs.Slots.{bound_of}
 
 -- a find or a request leaves a filled key
-reading_leaves : (bound : ℕ) (call : Call) (rows : List Row) → is_reading call ≡ true → state_after bound call (states.Rows rows) ≡ states.Rows rows
-reading_leaves bound (model.Find key) rows reads = refl
-reading_leaves bound (model.Ask key) rows reads = refl
-reading_leaves bound (model.Fill key new) rows reads = absurd (cc)
-reading_leaves bound (model.Update key batch) rows reads = absurd (cc)
-reading_leaves bound (model.Evict key) rows reads = absurd (cc)
+reading_leaves : (bound : ℕ) (call : Call) (number : ℕ) (rows : List Row) → is_reading call ≡ true → state_after bound call (states.Rows number rows) ≡ states.Rows number rows
+reading_leaves bound (model.Find key) number rows reads = refl
+reading_leaves bound (model.Ask key) number rows reads = refl
+reading_leaves bound (model.Fill key other new) number rows reads = absurd (cc)
+reading_leaves bound (model.Update key batch) number rows reads = absurd (cc)
+reading_leaves bound (model.Evict key) number rows reads = absurd (cc)
+reading_leaves bound (model.Cancel key) number rows reads = absurd (cc)
 
 -- an entry of a reader, where none is the writer's
 reads_first : (readers : ℕ) (e : Entry) (log : List Entry) → IsCallers readers e → entries_of (e ∷ log) 0 ≡ [] → (is_reading e.call ≡ true) × (entries_of log 0 ≡ [])
@@ -37,14 +39,14 @@ reads_first readers e log is none = ⊎_elim
     entries_skip e log other = ap (λ (b : Bool). cond b (e ∷ entries_of log 0) (entries_of log 0)) (ne_eqb e.caller 0 other)
 
 -- the set stays
-set_stays : (shape : Shape) (key : ℕ) (rows : List Row) (log more : List Entry) → key < shape.keys → AreCallers shape.readers more → entries_of more 0 ≡ [] → state_of (map_after shape log) key ≡ states.Rows rows → state_of (map_after shape (log ++ more)) key ≡ states.Rows rows
-set_stays shape key rows log [] near callers none had = ap (λ (l : List Entry). state_of (map_after shape l) key) (append-nil log) ∙ had
-set_stays shape key rows log (e ∷ more) near callers none had =
+set_stays : (shape : Shape) (key number : ℕ) (rows : List Row) (log more : List Entry) → key < shape.keys → AreCallers shape.readers more → entries_of more 0 ≡ [] → state_of (map_after shape log) key ≡ states.Rows number rows → state_of (map_after shape (log ++ more)) key ≡ states.Rows number rows
+set_stays shape key number rows log [] near callers none had = ap (λ (l : List Entry). state_of (map_after shape l) key) (append-nil log) ∙ had
+set_stays shape key number rows log (e ∷ more) near callers none had =
     let first = reads_first shape.readers e more callers.0 none in
-    let now : state_of (map_after shape (log ++ e ∷ [])) key ≡ states.Rows rows = dite (ℕ_discrete key (key_of e.call))
-    (λ same. ap (state_of (map_after shape (log ++ e ∷ []))) same ∙ state_same shape log e (subst (λ (k : ℕ). k < shape.keys) same near) ∙ ap (state_after shape.bound e.call) (ap (state_of (map_after shape log)) (sym same) ∙ had) ∙ reading_leaves shape.bound e.call rows first.0)
+    let now : state_of (map_after shape (log ++ e ∷ [])) key ≡ states.Rows number rows = dite (ℕ_discrete key (key_of e.call))
+    (λ same. ap (state_of (map_after shape (log ++ e ∷ []))) same ∙ state_same shape log e (subst (λ (k : ℕ). k < shape.keys) same near) ∙ ap (state_after (bound_of shape) e.call) (ap (state_of (map_after shape log)) (sym same) ∙ had) ∙ reading_leaves (bound_of shape) e.call number rows first.0)
     (λ other. state_other shape log e key other ∙ had) in
-    ap (λ (l : List Entry). state_of (map_after shape l) key) (sym (append_assoc log (e ∷ []) more)) ∙ set_stays shape key rows (log ++ e ∷ []) more near callers.1 first.1 now
+    ap (λ (l : List Entry). state_of (map_after shape l) key) (sym (append_assoc log (e ∷ []) more)) ∙ set_stays shape key number rows (log ++ e ∷ []) more near callers.1 first.1 now
 
 -- what a caller learnt between has none of its own entries
 pub none_between : (steps : ℕ) (old : Caller) (entries : List Entry) (new : Caller) → KnowsOwn old → entries_of entries old.number ≡ entries → (grows : Grows steps old entries new) → entries_of grows.between old.number ≡ []
@@ -67,12 +69,12 @@ before_last (x ∷ xs) [] a b is = absurd (omega (arith, ap length is, length-ap
 before_last (x ∷ xs) (y ∷ ys) a b is = λ j. get_or (is j) 0 x ∷ before_last xs ys a b (ap (drop 1) is) j
 
 -- a set that the key had in the middle of a call, it had before the call's entry
-pub had_before : (shape : Shape) (key : ℕ) (rows : List Row) (old mid new : Caller) (steps after_steps : ℕ) (entries mine : List Entry) → old.table.shape ≡ shape → key < shape.keys → mid.number ≡ 0 → KnowsOwn mid → entries_of entries 0 ≡ entries → (then : Grows after_steps mid entries new) → (all : Grows steps old mine new)
-    → (old.seen ++ all.between ≡ mid.seen ++ then.between) → mid.table ≡ old.table → state_of (map_after shape mid.seen) key ≡ states.Rows rows → KeyHad key rows old all.between
-had_before shape key rows old mid new steps after_steps entries mine sized near writes own ours then all same table had =
+pub had_before : (shape : Shape) (key number : ℕ) (rows : List Row) (old mid new : Caller) (steps after_steps : ℕ) (entries mine : List Entry) → old.table.shape ≡ shape → key < shape.keys → mid.number ≡ 0 → KnowsOwn mid → entries_of entries 0 ≡ entries → (then : Grows after_steps mid entries new) → (all : Grows steps old mine new)
+    → (old.seen ++ all.between ≡ mid.seen ++ then.between) → mid.table ≡ old.table → state_of (map_after shape mid.seen) key ≡ states.Rows number rows → KeyHad key rows old all.between
+had_before shape key number rows old mid new steps after_steps entries mine sized near writes own ours then all same table had =
     let none : entries_of then.between 0 ≡ [] = ap (entries_of then.between) (sym writes) ∙ none_between after_steps mid entries new own (ap (entries_of entries) writes ∙ ours) then in
     let readers : mid.table.shape.readers ≡ shape.readers = ap (λ (t : Table). t.shape.readers) table ∙ ap (λ (s : Shape). s.readers) sized in
     let callers : AreCallers shape.readers then.between = callers_of_more shape.readers mid.seen then.between (callers_before shape.readers (mid.seen ++ then.between) entries
     (subst (λ (p : ℕ × List Entry). AreCallers p.0 p.1) (λ j. (readers j, then.seen j)) then.callers)) in
-    let now = set_stays shape key rows mid.seen then.between near callers none had in
-    ap (λ (l : List Entry). state_of (after (opening_map old.table) l) key) same ∙ ap (λ (s : Shape). state_of (map_after s (mid.seen ++ then.between)) key) sized ∙ now
+    let now = set_stays shape key number rows mid.seen then.between near callers none had in
+    (number, ap (λ (l : List Entry). state_of (after (opening_map old.table) l) key) same ∙ ap (λ (s : Shape). state_of (map_after s (mid.seen ++ then.between)) key) sized ∙ now)

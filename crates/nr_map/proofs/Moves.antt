@@ -4,7 +4,6 @@ use mathlib.Core.Option.{some}
 use lib.ListN.{get_elem?}
 use Rattle.atomic_table.specs.Table.{State}
 use Rattle.nr_model.specs.Histories.{Entry, IsLegal, entries_of}
-use Rattle.nr_model.specs.Maps.{opening}
 use Rattle.nr_core.proofs.Histories.{of-append}
 use Rattle.nr_core.proofs.Sums.{total-append}
 use Rattle.nr_core.specs.Roles.{is_by, is_reader, is_writer}
@@ -20,6 +19,7 @@ use Rattle.nr_map.proofs.Lift.{Choice}
 use Rattle.nr_map.proofs.Entries.{callers_both}
 use Rattle.nr_map.specs.Entries.{AreCallers, acts_at, acts_told, to_depart}
 use Rattle.nr_map.specs.Views.{View, grip_of, number_of}
+use Rattle.nr_core.specs.Story.{opening_map}
 
 -- the view after a step that learns the history so far and adds entries; after one that learns nothing
 abbrev pub learned : View → Role → List Entry → List Entry → Marks → List Past → View
@@ -60,7 +60,7 @@ module _ (shape : Shape) (log : List Entry) (view : View) (fits : Fits shape log
   }
 
   module _ (number : number_of after ≡ number_of view.role) (sized : view.shape ≡ shape) where
-    pub learned_advances : (entries : List Entry) (marks : Marks) (news : List Past) → news ≡ [] → is_by (number_of view.role) view.role ≡ true → ((caller : ℕ) → entries_of entries caller ≡ cond (is_by caller view.role) entries []) → IsLegal (opening shape.keys shape.bound) (log ++ entries) → AreCallers shape.readers (log ++ entries)
+    pub learned_advances : (entries : List Entry) (marks : Marks) (news : List Past) → news ≡ [] → is_by (number_of view.role) view.role ≡ true → ((caller : ℕ) → entries_of entries caller ≡ cond (is_by caller view.role) entries []) → IsLegal (opening_map shape) (log ++ entries) → AreCallers shape.readers (log ++ entries)
         → Advances view entries (learned view after (log ++ entries) entries marks news)
     learned_advances entries marks news no_news caller own legal callers id = record {
       table = refl;
@@ -68,7 +68,7 @@ module _ (shape : Shape) (log : List Entry) (view : View) (fits : Fits shape log
       between = fits.begins.rest;
       seen = ap (λ (l : List Entry). l ++ entries) fits.begins.is;
       mine = refl;
-      legal = subst (λ (g : Shape). IsLegal (opening g.keys g.bound) (log ++ entries)) (sym sized) legal;
+      legal = subst (λ (g : Shape). IsLegal (opening_map g) (log ++ entries)) (sym sized) legal;
       own = learned_own entries own (number_of after) (same (number_of after) ∙ ap (λ (n : ℕ). is_by n view.role) number ∙ caller);
       callers = subst (λ (g : Shape). AreCallers g.readers (log ++ entries)) (sym sized) callers;
       steps_made = refl;

@@ -13,7 +13,7 @@ use Rattle.nr_core.specs.declared.calls.Step.{Step}
 use Rattle.nr_core.specs.declared.calls.Step.TheVariants.{Going}
 use Rattle.nr_core.specs.declared.calls.WriterCall.{WriterCall}
 use Rattle.nr_core.specs.declared.places.Place.{Place}
-use Rattle.nr_core.specs.declared.places.Place.TheVariants.{Idle, Leaving, Putting, Reading, Searching}
+use Rattle.nr_core.specs.declared.places.Place.TheVariants.{Idle, Leaving, Putting, Reading, Searching, Withdrawing}
 use Rattle.nr_core.specs.declared.places.Retired.{Retired}
 use Rattle.nr_core.specs.declared.roles.Desk.{Desk}
 use Rattle.nr_core.specs.declared.roles.Role.{Role}
@@ -50,6 +50,7 @@ module _ (shape : Shape) (marks : Marks) (known : List Past) (desk : Desk) (word
   pub go_polled : (views : List View) (place : Place) → Sweeping role_of marks_of views desk marks.polls place → went_marks shape marks known desk place word after log now news → IsNoSlot (went shape desk place word).1 → PolledAll shape desk.retired now.polls
   go_polled views Idle sweep told without = absurd (let is = without.1 in cc)
   go_polled views (Leaving key) sweep told without = absurd (let is = without.1 in cc)
+  go_polled views (Withdrawing key) sweep told without = absurd (let is = without.1 in cc)
   go_polled views (Putting call rows slot departed index) sweep told without =
       by_cases (λ b. IsNoSlot (cond {A = Desk × Step} b (moved_to desk (Putting call rows slot departed (index + 1)), Going) (swapped desk word, ended reply.Done)).1 → PolledAll shape desk.retired now.polls) (nat_le index (2 * length rows))
       (λ _ goes. absurd (let is = goes.1 in cc)) (λ _ ends. absurd (let is = ends.1 in cc)) without

@@ -41,10 +41,10 @@ put_more table desk call rows slot departed before mid after index so_far puts =
 }
 
 -- the swap that publishes the set
-pub published : (table : Table) (call : WriterCall) (rows : List Row) (spare mid_spare after_spare : Spare) (slot departed polls : ℕ) (before mid after : MapSeat) (found : ℕ) → Took slot polls spare mid_spare → polls ≤ table.shape.readers + 1 → mid_spare.slots ≡ spare.slots → mid.me.0.marks ≡ with_polls before.me.0.marks mid.me.0.marks.polls
+pub published : (table : Table) (call : WriterCall) (rows : List Row) (spare mid_spare after_spare : Spare) (slot departed polls : ℕ) (before mid after : MapSeat) (found : ℕ) → Took slot polls spare mid_spare → polls ≤ table.shape.readers + 1 → mid_spare.slots ≡ spare.slots → mid_spare.numbers ≡ spare.numbers → mid.me.0.marks ≡ with_polls before.me.0.marks mid.me.0.marks.polls
     → WritesAt table (desk_with mid_spare (Putting call rows slot departed (2 * length rows + 1))) mid → Grows (polls + (2 * length rows + 1)) (token before) [] (token mid) → GoesOn table found mid after
     → after_spare ≡ record mid_spare { retired = mid_spare.retired ++ unnamed found } → PublishesSet table call rows spare after_spare before after
-published table call rows spare mid_spare after_spare slot departed polls before mid after found took few slots only_polls writes grows goes retires =
+published table call rows spare mid_spare after_spare slot departed polls before mid after found took few slots numbers only_polls writes grows goes retires =
     let last : ℕ = 2 * length rows + 1 in let desk = desk_with mid_spare (Putting call rows slot departed last) in
     let told = goes desk writes.role in
     let outcome : put_on desk call rows slot departed last found ≡ (swapped desk found, ended reply.Done) = ap (λ (b : Bool). cond {A = Desk × Step} b (moved_to desk (Putting call rows slot departed (last + 1)), Going) (swapped desk found, ended reply.Done)) (lt-leb last (2 * length rows) (omega arith)) in
@@ -68,6 +68,7 @@ published table call rows spare mid_spare after_spare slot departed polls before
       word = found;
       retires = retires;
       slots = ap (λ (s : Spare). s.slots) retires ∙ slots;
+      numbers = ap (λ (s : Spare). s.numbers) retires ∙ numbers;
       writes = subst (λ (s : Spare). WritesAt table (desk_with s Idle) after) (sym retires) leads.writes;
       grows = grows_both (polls + (2 * length rows + 1)) 1 (2 * length rows + 2 + polls) (token before) (token mid) _ (token after) (omega arith) grows leads.grows;
     }

@@ -4,7 +4,7 @@ use Rattle.nr_model.specs.declared.calls.Call.TheVariants as model
 use Rattle.nr_model.specs.declared.calls.Reply.TheVariants as reply
 use Rattle.nr_model.specs.Rows.{IsRowSet}
 use Rattle.nr_words.specs.KeyWords.{is_filled, slot_of}
-use Rattle.nr_core.specs.Slots.{content}
+use Rattle.nr_core.specs.Slots.{bound_of, content}
 use Rattle.nr_core.specs.Steps.{ask_word}
 use Rattle.nr_core.specs.declared.roles.Grip.TheVariants.{Nothing, On}
 use Rattle.nr_core.specs.declared.roles.Role.TheVariants.{Reader}
@@ -40,7 +40,7 @@ module _ (table : Table) (before after : MapSeat) (same : after.table_id ≡ bef
       holds = record {
         is = told.hold ∙ (λ j. Reader (sym (ap number_of told.hold) j) (On (sym slot j) (sym rows j) (is_sized (grip_of after.me.0.role))));
         inside = subst (λ (s : ℕ). s < table.shape.slots) (sym slot) holds.holds.inside;
-        row_set = subst (IsRowSet table.shape.bound) (sym rows) holds.holds.row_set;
+        row_set = subst (IsRowSet (bound_of table.shape)) (sym rows) holds.holds.row_set;
       };
       begin_is = holds.begin_is ∙ ap (λ (s : ℕ). content table.shape s 0) (sym slot);
     },

@@ -18,7 +18,7 @@ use Rattle.nr_core.proofs.KeyWords.{names_none, names_one}
 use Rattle.nr_core.proofs.Read.{reads}
 use Rattle.nr_core.specs.Roles.{is_by, is_reader}
 use Rattle.nr_core.specs.Operations.{Add, Load, Or}
-use Rattle.nr_core.specs.Slots.{content, departures, name_number}
+use Rattle.nr_core.specs.Slots.{bound_of, content, departures, name_number}
 use Rattle.nr_core.specs.Steps.{Arrives, Asks, CanStep, Departs, ReadsHeld, ask_word}
 use Rattle.nr_core.specs.Story.{entry}
 use Rattle.nr_core.specs.declared.roles.Grip.{Grip}
@@ -87,7 +87,7 @@ arrives_so shape slots id me key near idle = let view = me.0 in let reader = num
     = λ same told callers acts. learning shape id view (Add key ARRIVE) tells (ArrivesMarks view.marks key) state kept at step marked same sized callers acts (λ next. Arrived key found view next) (reader_is view.role Nothing idle) marked.told.1 told in
     let within = reader_within shape id view Nothing state kept at idle in let acts_are = ap (λ (m : Marks). m.acts) marked.told.0 in
     ⊎_elim
-    (λ (t : (slot : ℕ) × (rows : List Row) × (name_number found ≡ suc slot) × (slot < shape.slots) × IsRowSet shape.bound rows × (step.after ≡ Reader reader (On slot rows false)) × (step.entries ≡ entry reader (model.Find key) (reply.Rows rows) ∷ [])).
+    (λ (t : (slot : ℕ) × (rows : List Row) × (name_number found ≡ suc slot) × (slot < shape.slots) × IsRowSet (bound_of shape) rows × (step.after ≡ Reader reader (On slot rows false)) × (step.entries ≡ entry reader (model.Find key) (reply.Rows rows) ∷ [])).
     let names = names_one found t.0 t.2 in let same : number_of step.after ≡ reader = ap number_of t.5 in let rows_so : rows_held step.after ≡ t.1 = ap rows_held t.5 in let slot_so : slot_held step.after ≡ t.0 = ap slot_held t.5 in
     choose same (entry reader (model.Find key) (reply.Rows (rows_held step.after)) ∷ []) (reader_entry shape.readers reader (model.Find key) _ step.entries t.6 within refl)
     (acts_so view step.after step.entries marked.now None (Some t.0) _ (ap (λ r. gripped (grip_of r)) idle) (ap (λ r. gripped (grip_of r)) t.5) t.6 (omega arith)) (t.6 ∙ ap (λ (rows : List Row). entry reader (model.Find key) (reply.Rows rows) ∷ []) (sym rows_so)) (λ advances. record {
@@ -96,7 +96,7 @@ arrives_so shape slots id me key near idle = let view = me.0 in let reader = num
         record {
           is = t.5 ∙ (λ j. Reader (sym same j) (On (sym slot_so j) (sym rows_so j) (sym (ap (λ r. is_sized (grip_of r)) t.5) j)));
           inside = subst (λ (p : ℕ × Shape). p.0 < p.1.slots) (λ j. (sym slot_so j, sym sized j)) t.3;
-          row_set = subst (λ (p : Shape × List Row). IsRowSet p.0.bound p.1) (λ j. (sym sized j, sym rows_so j)) t.4;
+          row_set = subst (λ (p : Shape × List Row). IsRowSet (bound_of p.0) p.1) (λ j. (sym sized j, sym rows_so j)) t.4;
         },
         slot_so ∙ sym names.1,
         advances,

@@ -7,7 +7,7 @@ use Rattle.nr_model.specs.Rows.{IsRowSet}
 use Rattle.nr_words.proofs.SetWordLemmas.{length-row_words, row_words-append, rows_in-row_words}
 use Rattle.nr_words.specs.SetWords.{encode, row_words, rows_in}
 use Rattle.nr_core.proofs.Sets.{set_back}
-use Rattle.nr_core.specs.Slots.{content, set_of}
+use Rattle.nr_core.specs.Slots.{bound_of, content, set_of}
 use Rattle.nr_core.specs.Story.{call_of, ending}
 use Rattle.nr_core.specs.Writer.{decided, moved_to, read_on}
 use Rattle.nr_core.specs.declared.calls.Step.{Step}
@@ -34,7 +34,7 @@ rows_begin rows held n is = sym (rows_in-row_words rows) ∙ ap rows_in (is ∙ 
 pub record ReadSoFar (table : Table) (desk : Desk) (call : WriterCall) (slot : ℕ) (before after : MapSeat) (count : ℕ) (rows : List Row) (read : ℕ) : Type 0 where
   pub size : length rows ≡ read
   pub held : List Row
-  pub row_set : IsRowSet table.shape.bound held
+  pub row_set : IsRowSet (bound_of table.shape) held
   pub count_is : count ≡ length held
   pub part : rows ≡ take read held
   pub leads : LeadsIn (2 * read + 1) table (call_of call) (read_on table.shape desk call slot (count ∷ row_words rows)) before after
@@ -44,7 +44,7 @@ pub record ReadSoFar (table : Table) (desk : Desk) (call : WriterCall) (slot : �
 module _ (table : Table) (desk : Desk) (call : WriterCall) (slot : ℕ) where
   -- a read that is not the last one
   goes_on : (got : List ℕ) → length got ≢ 2 * get_or got 0 0 + 1 → read_on table.shape desk call slot got ≡ (moved_to desk (Reading call slot got), Going)
-  goes_on got more = ap (λ (b : Bool). cond {A = Desk × Step} b (decided table.shape desk call (set_of table.shape.bound got)) (moved_to desk (Reading call slot got), Going)) (ne_eqb (length got) (2 * get_or got 0 0 + 1) more)
+  goes_on got more = ap (λ (b : Bool). cond {A = Desk × Step} b (decided table.shape desk call (set_of (bound_of table.shape) got)) (moved_to desk (Reading call slot got), Going)) (ne_eqb (length got) (2 * get_or got 0 0 + 1) more)
 
   -- the first read, of the number of rows
   pub read_count : (before after : MapSeat) (count : ℕ) → WritesAt table (moved_to desk (Reading call slot [])) before → GoesOn table count before after → ReadSoFar table desk call slot before after count [] 0
@@ -56,7 +56,7 @@ module _ (table : Table) (desk : Desk) (call : WriterCall) (slot : ℕ) where
     part = refl;
     leads = told.leads;
     marks = told.marks.0;
-    had = record { log = told.log; seen = told.seen; state = on.4 };
+    had = record { log = told.log; seen = told.seen; number = on.4; state = on.5 };
   }
 
   module _ (before mid : MapSeat) (count read : ℕ) (rows : List Row) (so_far : ReadSoFar table desk call slot before mid count rows read) (low : read < count) where
@@ -110,7 +110,7 @@ module _ (table : Table) (desk : Desk) (call : WriterCall) (slot : ℕ) where
               short = leads.short;
             };
             marks = told.marks.0 ∙ told_first.marks.0 ∙ so_far.marks;
-            had = record { log = told.log; seen = told.seen ∙ ap (λ (l : List ℕ). told.log ++ ending (call_of call) (read_on table.shape desk call slot l).1) words; state = on.4 };
+            had = record { log = told.log; seen = told.seen ∙ ap (λ (l : List ℕ). told.log ++ ending (call_of call) (read_on table.shape desk call slot l).1) words; number = on.4; state = on.5 };
           }
 
   -- the last read has the set
@@ -118,12 +118,12 @@ module _ (table : Table) (desk : Desk) (call : WriterCall) (slot : ℕ) where
       → LeadsIn (2 * length rows + 1) table (call_of call) (decided table.shape desk call rows) before after × KeyHas table call rows (decided table.shape desk call rows).1 after
   read_all before after count read rows so_far all =
       let whole : rows ≡ so_far.held = so_far.part ∙ take_all read so_far.held (let c = so_far.count_is in omega arith) in
-      let row_set : IsRowSet table.shape.bound rows = subst (IsRowSet table.shape.bound) (sym whole) so_far.row_set in
+      let row_set : IsRowSet (bound_of table.shape) rows = subst (IsRowSet (bound_of table.shape)) (sym whole) so_far.row_set in
       let size : count ≡ length rows = so_far.count_is ∙ ap length (sym whole) in
       let words : count ∷ row_words rows ≡ encode rows = ap (λ (n : ℕ). n ∷ row_words rows) size in
-      let last : read_on table.shape desk call slot (encode rows) ≡ decided table.shape desk call (set_of table.shape.bound (encode rows)) = ap (λ (b : Bool). cond {A = Desk × Step} b (decided table.shape desk call (set_of table.shape.bound (encode rows))) (moved_to desk (Reading call slot (encode rows)), Going))
+      let last : read_on table.shape desk call slot (encode rows) ≡ decided table.shape desk call (set_of (bound_of table.shape) (encode rows)) = ap (λ (b : Bool). cond {A = Desk × Step} b (decided table.shape desk call (set_of (bound_of table.shape) (encode rows))) (moved_to desk (Reading call slot (encode rows)), Going))
       (eq-eqb (length (encode rows)) (2 * length rows + 1) (omega (arith, length-row_words rows))) in
-      let outcome : read_on table.shape desk call slot (count ∷ row_words rows) ≡ decided table.shape desk call rows = ap (read_on table.shape desk call slot) words ∙ last ∙ ap (decided table.shape desk call) (set_back table.shape.bound rows row_set) in (
+      let outcome : read_on table.shape desk call slot (count ∷ row_words rows) ≡ decided table.shape desk call rows = ap (read_on table.shape desk call slot) words ∙ last ∙ ap (decided table.shape desk call) (set_back (bound_of table.shape) rows row_set) in (
         subst (λ (p : ℕ × (Desk × Step)). LeadsIn p.0 table (call_of call) p.1 before after) (λ j. (steps j, outcome j)) so_far.leads,
         subst (λ (p : List Row × (Desk × Step)). KeyHas table call p.0 p.1.1 after) (λ j. (sym whole j, outcome j)) so_far.had,
       )

@@ -19,7 +19,7 @@ use Rattle.nr_core.proofs.Without.{IsWithout, NoneLeft, decided_none, look_none,
 use Rattle.nr_core.specs.Core.{AtPlace, Core, Reads}
 use Rattle.nr_core.specs.Operations.{going, place_of}
 use Rattle.nr_core.specs.Roles.{held, taken}
-use Rattle.nr_core.specs.Slots.{content, departures, set_of}
+use Rattle.nr_core.specs.Slots.{bound_of, content, departures, set_of}
 use Rattle.nr_core.specs.States.{key_of, retired_at}
 use Rattle.nr_core.specs.Story.{call_of, map_after}
 use Rattle.nr_core.specs.Writer.{decided, ended, looked, moved_to, swapped, went}
@@ -28,7 +28,7 @@ use Rattle.nr_core.specs.declared.calls.Step.{Step}
 use Rattle.nr_core.specs.declared.calls.Step.TheVariants.{Going}
 use Rattle.nr_core.specs.declared.calls.WriterCall.{WriterCall}
 use Rattle.nr_core.specs.declared.places.Place.{Place}
-use Rattle.nr_core.specs.declared.places.Place.TheVariants.{Idle, Leaving, Putting, Reading, Searching}
+use Rattle.nr_core.specs.declared.places.Place.TheVariants.{Idle, Leaving, Putting, Reading, Searching, Withdrawing}
 use Rattle.nr_core.specs.declared.roles.Desk.{Desk}
 use Rattle.nr_core.specs.declared.roles.Role.{Role}
 use Rattle.nr_core.specs.declared.roles.Role.TheVariants.{Writer}
@@ -48,8 +48,8 @@ pub record Shortage (shape : Shape) (log : List Entry) (desk : Desk) (call : Cal
   pub done : reply_to (map_after shape log) call ≡ reply.Done
 
 -- the reply by the state of the call's key
-replies : (shape : Shape) (log : List Entry) (call : WriterCall) → reply_at shape.bound (call_of call) (state_of (map_after shape log) (key_of call)) ≡ reply.Done → reply_to (map_after shape log) (call_of call) ≡ reply.Done
-replies shape log call is = replies_so shape log (call_of call) ∙ ap (λ (k : ℕ). reply_at shape.bound (call_of call) (state_of (map_after shape log) k)) (key_same call) ∙ is
+replies : (shape : Shape) (log : List Entry) (call : WriterCall) → reply_at (bound_of shape) (call_of call) (state_of (map_after shape log) (key_of call)) ≡ reply.Done → reply_to (map_after shape log) (call_of call) ≡ reply.Done
+replies shape log call is = replies_so shape log (call_of call) ∙ ap (λ (k : ℕ). reply_at (bound_of shape) (call_of call) (state_of (map_after shape log) k)) (key_same call) ∙ is
 
 module _ (shape : Shape) (words : List ℕ) (roles : List Role) (log : List Entry) (core : Core shape words roles log) (id : ℕ) (desk : Desk) (there : get_elem? roles id ≡ some (Writer desk)) (counts : NoSlot) where
   pub look_short : (call : WriterCall) → key_of call < shape.keys → let outcome = looked shape desk call (get_or words (key_of call) 0) in IsWithout counts outcome → Shortage shape log desk (call_of call) outcome counts
@@ -65,18 +65,19 @@ module _ (shape : Shape) (words : List ℕ) (roles : List Role) (log : List Entr
   go_short_at : (place : Place) → desk.place ≡ place → let outcome = went shape desk place (get_or words (place_of (going shape desk place)) 0) in IsWithout counts outcome → Shortage shape log desk (call_at place) outcome counts
   go_short_at Idle is without = absurd (not_going counts without)
   go_short_at (Leaving k) is without = absurd (not_reply counts reply.Evicted without)
+  go_short_at (Withdrawing k) is without = absurd (not_reply counts reply.Cancelled without)
   go_short_at (Putting call rows slot departed index) is without = let found = get_or words (place_of (going shape desk (Putting call rows slot departed index))) 0 in
       by_cases (λ v. let outcome = cond {A = Desk × Step} v (moved_to desk (Putting call rows slot departed (index + 1)), Going) (swapped desk found, ended reply.Done) in IsWithout counts outcome → Shortage shape log desk (call_of call) outcome counts) (nat_le index (2 * length rows))
       (λ _ e. absurd (not_going counts e)) (λ _ e. absurd (not_reply counts reply.Done e)) without
   go_short_at (Reading call slot got) is without =
       let reads : Reads shape words (map_after shape log) (held roles) (key_of call) slot got = at_place (Reading call slot got) is in
       let got' : List ℕ = got ++ get_or words (content shape slot (length got)) 0 ∷ [] in
-      by_cases (λ v. let outcome = cond {A = Desk × Step} v (decided shape desk call (set_of shape.bound got')) (moved_to desk (Reading call slot got'), Going) in
+      by_cases (λ v. let outcome = cond {A = Desk × Step} v (decided shape desk call (set_of (bound_of shape) got')) (moved_to desk (Reading call slot got'), Going) in
       (v ≡ true → length got' ≡ 2 * get_or got' 0 0 + 1) → IsWithout counts outcome → Shortage shape log desk (call_of call) outcome counts) (nat_eq (length got') (2 * get_or got' 0 0 + 1))
-      (λ _ whole e. let none = decided_none shape desk counts call (set_of shape.bound got') e in let set_is = read_whole shape words roles log core (key_of call) slot got reads (whole refl) in record {
+      (λ _ whole e. let none = decided_none shape desk counts call (set_of (bound_of shape) got') e in let set_is = read_whole shape words roles log core (key_of call) slot got reads (whole refl) in record {
         none = none.0;
         full = none.1;
-        done = replies shape log call (ap (reply_at shape.bound (call_of call)) (reads.full ∙ ap key.Rows (sym set_is)) ∙ none.3);
+        done = replies shape log call (ap (reply_at (bound_of shape) (call_of call)) (reads.full ∙ ap (key.Rows reads.number) (sym set_is)) ∙ none.3 reads.number);
       })
       (λ _ _ e. absurd (not_going counts e))
       (eqb-true (length got') (2 * get_or got' 0 0 + 1)) without

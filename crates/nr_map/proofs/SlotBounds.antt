@@ -26,7 +26,7 @@ no_slot_is_rare_lem steps call counts old new without =
     (omega arith, omega arith, λ enough. absurd (omega arith))
 
 pub room_for_fills_lem : RoomForFills
-room_for_fills_lem key rows old new counts room without = (no_slot_is_rare_lem 1 _ counts old new without).2 room
+room_for_fills_lem key number rows old new counts room without = (no_slot_is_rare_lem 1 _ counts old new without).2 room
 
 pub room_for_updates_lem : RoomForUpdates
 room_for_updates_lem bound key batch old new counts room updates = (no_slot_is_rare_lem _ _ counts old new updates.3).2 room

@@ -1,6 +1,7 @@
 -- The writer's calls, put together of their steps.
-use Rattle.std.proofs.Common.{inl, inr, ⊎_elim, slice_index, ◌≡◌, ℕ, suc, ◌+◌, ◌*◌, ◌<◌, ◌≤◌, List, [], ◌∷◌, ◌++◌, Bool, true, false, not, cond, length, nat_eq, get_or, refl, sym, ap, ◌∙◌, subst, arith, append-nil, append_assoc}
-use Rattle.std.specs.Prelude.{Result, Ok, Err, nat_lt}
+use Rattle.std.proofs.Common.{Bool, List, [], ap, append-nil, append_assoc, arith, cond, eq-eqb, false, get_or, inl, inr, length, nat_eq, ne_eqb, not, refl, slice_index, subst, suc, sym, true, ℕ, ⊎_elim, ◌*◌, ◌++◌, ◌+◌, ◌<◌, ◌∙◌, ◌∷◌, ◌≡◌, ◌≢◌, ◌≤◌}
+use Rattle.std.proofs.lemmas.Bool.{le-ltb, lt-ltb}
+use Rattle.std.specs.Prelude.{Result, Ok, Err, nat_lt, slice_set}
 use mathlib.Core.Option.{some}
 use lib.ListN.{get_elem?}
 use Rattle.nr_model.specs.declared.calls.Call.{Call}
@@ -11,7 +12,7 @@ use Rattle.nr_model.specs.declared.batches.Delta.{Delta}
 use Rattle.nr_model.specs.declared.rows.Row.{Row}
 use Rattle.nr_model.specs.declared.batches.ApplyFault.{ApplyFault}
 use Rattle.nr_model.specs.Batches.{applied}
-use Rattle.nr_model.specs.Maps.{applied_reply, state_of}
+use Rattle.nr_model.specs.Maps.{applied_reply, last_number, state_of}
 use Rattle.nr_model.specs.declared.states.KeyState.TheVariants as states
 use Rattle.nr_model.specs.Histories.{Entry, IsLegal, entries_of}
 use Rattle.nr_words.specs.declared.key_words.KeyParts.{KeyParts}
@@ -20,13 +21,13 @@ use Rattle.nr_core.proofs.Choices.{by_cases}
 use Rattle.nr_core.proofs.Histories.{of-append}
 use Rattle.nr_core.proofs.Without.{not_reply}
 use Rattle.nr_core.specs.Story.{call_of, ending, entry, map_after}
-use Rattle.nr_core.specs.Writer.{decided, ended, looked, moved_to, no_slot, renewed, settled, taking_fresh, unnamed}
+use Rattle.nr_core.specs.Writer.{cancel_asked, decided, ended, fill_asked, looked, moved_to, no_slot, renewed, settled, taking_fresh, unnamed}
 use Rattle.nr_core.specs.declared.calls.NoSlot.{NoSlot}
 use Rattle.nr_core.specs.declared.calls.Step.{Step}
 use Rattle.nr_core.specs.declared.calls.Step.TheVariants.{Going}
 use Rattle.nr_core.specs.declared.calls.WriterCall.{WriterCall}
-use Rattle.nr_core.specs.declared.calls.WriterCall.TheVariants.{Evict, Fill, Find, Update}
-use Rattle.nr_core.specs.declared.places.Place.TheVariants.{Idle, Leaving, Reading, Searching}
+use Rattle.nr_core.specs.declared.calls.WriterCall.TheVariants.{Cancel, Evict, Fill, Find, Update}
+use Rattle.nr_core.specs.declared.places.Place.TheVariants.{Idle, Leaving, Reading, Searching, Withdrawing}
 use Rattle.nr_core.specs.declared.places.Retired.{Retired}
 use Rattle.nr_core.specs.declared.roles.Desk.{Desk}
 use Rattle.nr_core.specs.declared.roles.Role.TheVariants.{Writer}
@@ -48,6 +49,7 @@ use Rattle.nr_core.proofs.Settle.{key_same}
 use Rattle.nr_core.specs.States.{key_of}
 use Rattle.nr_map.specs.Views.{desk_of, number_of}
 use Rattle.nr_map.specs.WriterSeats.{GoesOn, IsBetween, KeyHas, LacksSlot, LeadsIn, MapSeat, PublishesSet, RestsAt, Settles, WritesAt}
+use Rattle.nr_core.specs.Slots.{bound_of}
 
 -- the writer rests with its slots at its own map
 pub rests_own : (table : Table) (spare : Spare) (seat : MapSeat) → RestsAt table spare seat → RestsAt (token seat).table spare seat
@@ -61,7 +63,7 @@ between_calls table spare seat rests = record { desk = desk_with spare Idle; wri
 
 -- the slots that a resting token shows
 pub spare_shown : (table : Table) (spare : Spare) (seat : MapSeat) → RestsAt table spare seat → spare_of (token seat) ≡ spare
-spare_shown table spare seat rests = λ j. record { slots = (ap (λ (t : Table). t.shape.slots) rests.writes.own ∙ sym rests.slots) j; fresh = ap (λ r. (desk_of r).fresh) rests.writes.role j; retired = ap (λ r. (desk_of r).retired) rests.writes.role j }
+spare_shown table spare seat rests = λ j. record { slots = (ap (λ (t : Table). t.shape.slots) rests.writes.own ∙ sym rests.slots) j; fresh = ap (λ r. (desk_of r).fresh) rests.writes.role j; retired = ap (λ r. (desk_of r).retired) rests.writes.role j; numbers = ap (λ r. (desk_of r).numbers) rests.writes.role j }
 
 settled_quiet : (shape : Shape) (desk : Desk) (call : WriterCall) (rows : List Row) (c : Call) → ending c (settled shape desk call rows).1 ≡ []
 settled_quiet shape desk call rows c = by_cases (λ v. ending c (cond {A = Desk × Step} v (taking_fresh shape desk call rows, Going) (cond {A = Desk × Step} (nat_eq (length desk.retired) 0) (moved_to desk Idle, no_slot shape desk) (moved_to desk (Searching call rows 0), Going))).1 ≡ []) (nat_lt desk.fresh shape.slots)
@@ -108,6 +110,7 @@ module _ (table : Table) (spare : Spare) (before : MapSeat) (rests : RestsAt tab
             took = subst (λ (s : Spare). Took published.slot published.polls s published.mid) (sym (spare_shown table spare before rests)) published.took;
             few = subst (λ (t : Table). published.polls ≤ t.shape.readers + 1) (sym rests.writes.own) published.few;
             fresh = ap (λ (s : Spare). s.fresh) spare_after;
+            numbers = ap (λ (s : Spare). s.numbers) (spare_shown table after_spare after rests_after) ∙ published.numbers ∙ sym (ap (λ (s : Spare). s.numbers) (spare_shown table spare before rests));
             retires = retires_so published.word (token before) published.mid.retired (token after).retired (ap (λ (s : Spare). s.retired) spare_after) map_then call done_then.1
                 (published.swaps.state ∙ ap (λ (t : Table). kind_of (state_of (map_after t.shape published.log) (key_of call))) (sym rests.writes.own)) (same_names ∙ published.swaps.name);
             number = published.number;
@@ -167,6 +170,9 @@ asked_so parts word is asked = ap (λ (p : KeyParts). p.ask) (sym is) ∙ not_fa
 pub unasked_so : (parts : KeyParts) (word : ℕ) → parts ≡ parts_of word → not parts.ask ≡ true → has_ask word ≡ false
 unasked_so parts word is unasked = ap (λ (p : KeyParts). p.ask) (sym is) ∙ not_true parts.ask unasked
 
+pub slot_so : (parts : KeyParts) (word : ℕ) → parts ≡ parts_of word → parts.slot ≡ slot_of word
+slot_so parts word is = ap (λ (p : KeyParts). p.slot) is
+
 -- what a look tells, at the map's own table
 module _ (board table : Table) (board_is : board ≡ table) (spare : Spare) (before : MapSeat) (own : (token before).table ≡ table) (kept : RestsAt (token before).table spare before) (call : WriterCall) (found : ℕ) (after : MapSeat)
     (told : (desk : Desk) → before.me.0.role ≡ Writer desk → LeadsIn 1 board (call_of call) (looked board.shape desk call found) before after) (marks : after.me.0.marks ≡ with_polls before.me.0.marks []) where
@@ -198,15 +204,38 @@ module _ (shape : Shape) (desk : Desk) (key word : ℕ) where
   pub evict_leaves : is_filled word ≡ true → looked shape desk (Evict key) word ≡ (moved_to desk (Leaving key), Going)
   evict_leaves full = ap (λ (b : Bool). cond {A = Desk × Step} b (moved_to desk (Leaving key), Going) (moved_to desk Idle, ended reply.Nothing)) full
 
-  module _ (rows : List Row) where
-    pub fill_already : is_filled word ≡ true → looked shape desk (Fill key rows) word ≡ (moved_to desk Idle, ended reply.Already)
-    fill_already full = ap (λ (b : Bool). cond {A = Desk × Step} b (moved_to desk Idle, ended reply.Already) (cond {A = Desk × Step} (has_ask word) (settled shape desk (Fill key rows) rows) (moved_to desk Idle, ended reply.NotAsked))) full
+  pub cancel_filled : is_filled word ≡ true → looked shape desk (Cancel key) word ≡ (moved_to desk Idle, ended reply.Nothing)
+  cancel_filled full = ap (λ (b : Bool). cond {A = Desk × Step} b (moved_to desk Idle, ended reply.Nothing) (cond {A = Desk × Step} (has_ask word) (cancel_asked desk key (slot_of word)) (moved_to desk Idle, ended reply.Nothing))) full
 
-    pub fill_not_asked : is_filled word ≡ false → has_ask word ≡ false → looked shape desk (Fill key rows) word ≡ (moved_to desk Idle, ended reply.NotAsked)
-    fill_not_asked empty unasked = (λ j. cond {A = Desk × Step} (empty j) (moved_to desk Idle, ended reply.Already) (cond {A = Desk × Step} (unasked j) (settled shape desk (Fill key rows) rows) (moved_to desk Idle, ended reply.NotAsked)))
+  pub cancel_unasked : is_filled word ≡ false → has_ask word ≡ false → looked shape desk (Cancel key) word ≡ (moved_to desk Idle, ended reply.Nothing)
+  cancel_unasked empty unasked = (λ j. cond {A = Desk × Step} (empty j) (moved_to desk Idle, ended reply.Nothing) (cond {A = Desk × Step} (unasked j) (cancel_asked desk key (slot_of word)) (moved_to desk Idle, ended reply.Nothing)))
 
-    pub fill_settles : is_filled word ≡ false → has_ask word ≡ true → looked shape desk (Fill key rows) word ≡ settled shape desk (Fill key rows) rows
-    fill_settles empty asked = (λ j. cond {A = Desk × Step} (empty j) (moved_to desk Idle, ended reply.Already) (cond {A = Desk × Step} (asked j) (settled shape desk (Fill key rows) rows) (moved_to desk Idle, ended reply.NotAsked)))
+  -- of an asked key, by whether its number is the last one
+  cancel_of_asked : is_filled word ≡ false → has_ask word ≡ true → looked shape desk (Cancel key) word ≡ cancel_asked desk key (slot_of word)
+  cancel_of_asked empty asked = (λ j. cond {A = Desk × Step} (empty j) (moved_to desk Idle, ended reply.Nothing) (cond {A = Desk × Step} (asked j) (cancel_asked desk key (slot_of word)) (moved_to desk Idle, ended reply.Nothing)))
+
+  pub cancel_worn : is_filled word ≡ false → has_ask word ≡ true → last_number ≤ slot_of word → looked shape desk (Cancel key) word ≡ (moved_to desk Idle, ended reply.Worn)
+  cancel_worn empty asked last = cancel_of_asked empty asked ∙ ap (λ (b : Bool). cond {A = Desk × Step} b (moved_to desk (Withdrawing key), Going) (moved_to desk Idle, ended reply.Worn)) (le-ltb (slot_of word) last_number last)
+
+  pub cancel_withdraws : is_filled word ≡ false → has_ask word ≡ true → slot_of word < last_number → looked shape desk (Cancel key) word ≡ (moved_to desk (Withdrawing key), Going)
+  cancel_withdraws empty asked early = cancel_of_asked empty asked ∙ ap (λ (b : Bool). cond {A = Desk × Step} b (moved_to desk (Withdrawing key), Going) (moved_to desk Idle, ended reply.Worn)) (lt-ltb (slot_of word) last_number early)
+
+  module _ (number : ℕ) (rows : List Row) where
+    pub fill_already : is_filled word ≡ true → looked shape desk (Fill key number rows) word ≡ (moved_to desk Idle, ended reply.Already)
+    fill_already full = ap (λ (b : Bool). cond {A = Desk × Step} b (moved_to desk Idle, ended reply.Already) (cond {A = Desk × Step} (has_ask word) (fill_asked shape desk (Fill key number rows) number rows (slot_of word)) (moved_to desk Idle, ended reply.NotAsked))) full
+
+    pub fill_not_asked : is_filled word ≡ false → has_ask word ≡ false → looked shape desk (Fill key number rows) word ≡ (moved_to desk Idle, ended reply.NotAsked)
+    fill_not_asked empty unasked = (λ j. cond {A = Desk × Step} (empty j) (moved_to desk Idle, ended reply.Already) (cond {A = Desk × Step} (unasked j) (fill_asked shape desk (Fill key number rows) number rows (slot_of word)) (moved_to desk Idle, ended reply.NotAsked)))
+
+    -- of an asked key, by the number of its request
+    fill_of_asked : is_filled word ≡ false → has_ask word ≡ true → looked shape desk (Fill key number rows) word ≡ fill_asked shape desk (Fill key number rows) number rows (slot_of word)
+    fill_of_asked empty asked = (λ j. cond {A = Desk × Step} (empty j) (moved_to desk Idle, ended reply.Already) (cond {A = Desk × Step} (asked j) (fill_asked shape desk (Fill key number rows) number rows (slot_of word)) (moved_to desk Idle, ended reply.NotAsked)))
+
+    pub fill_stale : is_filled word ≡ false → has_ask word ≡ true → slot_of word ≢ number → looked shape desk (Fill key number rows) word ≡ (moved_to desk Idle, ended reply.Stale)
+    fill_stale empty asked other = fill_of_asked empty asked ∙ ap (λ (b : Bool). cond {A = Desk × Step} b (settled shape desk (Fill key number rows) rows) (moved_to desk Idle, ended reply.Stale)) (ne_eqb (slot_of word) number other)
+
+    pub fill_settles : is_filled word ≡ false → has_ask word ≡ true → slot_of word ≡ number → looked shape desk (Fill key number rows) word ≡ settled shape desk (Fill key number rows) rows
+    fill_settles empty asked own = fill_of_asked empty asked ∙ ap (λ (b : Bool). cond {A = Desk × Step} b (settled shape desk (Fill key number rows) rows) (moved_to desk Idle, ended reply.Stale)) (eq-eqb (slot_of word) number own)
 
   module _ (batch : List Delta) where
     pub update_dropped : is_filled word ≡ false → looked shape desk (Update key batch) word ≡ (moved_to desk Idle, ended reply.Dropped)
@@ -218,7 +247,7 @@ module _ (shape : Shape) (desk : Desk) (key word : ℕ) where
 -- the swap that evicts the key
 pub evicted_so : (table : Table) (spare : Spare) (before : MapSeat) → (token before).table ≡ table → RestsAt (token before).table spare before → (key : ℕ) (mid : MapSeat) → LeadsIn 1 table (model.Evict key) (moved_to (desk_with spare Idle) (Leaving key), Going) before mid → mid.me.0.marks ≡ with_polls before.me.0.marks []
     → (found : ℕ) (after : MapSeat) → GoesOn table found mid after → (after_spare : Spare) → after_spare ≡ record spare { retired = spare.retired ++ unnamed found }
-    → RestsAt (token after).table after_spare after × (Gains 2 (token before) (model.Evict key) reply.Evicted (token after) × ((token after).fresh ≡ (token before).fresh) × RetiresOne key (token before) (token before).retired (token after).retired × (after.me.0.marks ≡ without_name (with_polls before.me.0.marks []) key))
+    → RestsAt (token after).table after_spare after × (Gains 2 (token before) (model.Evict key) reply.Evicted (token after) × ((token after).fresh ≡ (token before).fresh) × ((token after).numbers ≡ (token before).numbers) × RetiresOne key (token before) (token before).retired (token after).retired × (after.me.0.marks ≡ without_name (with_polls before.me.0.marks []) key))
 evicted_so table spare before own kept key mid leads only_polls found after goes after_spare retires =
     let rests_so = rests_here table spare before own kept in let desk = desk_with spare (Leaving key) in let gone = goes desk leads.writes.role in let told = gone.leads in
     let all : LeadsIn 2 table (model.Evict key) (desk_with after_spare Idle, ended reply.Evicted) before after = record {
@@ -233,9 +262,30 @@ evicted_so table spare before own kept key mid leads only_polls found after goes
       (
         ended_so.1,
         ap (λ (s : Spare). s.fresh) slots,
+        ap (λ (s : Spare). s.numbers) slots,
         evicted_one found (token before) (token before).retired (token after).retired (ap (λ (s : Spare). s.retired) slots) (map_after before.me.0.shape gone.log) key legal.1
             (gone.finds.state ∙ ap (λ (t : Table). kind_of (state_of (map_after t.shape gone.log) key)) (sym own)) (ap (λ (m : Marks). get_or m.names key 0) (sym only_polls) ∙ gone.finds.name),
         gone.marks.0 ∙ ap (λ (m : Marks). without_name m key) only_polls,
+      ),
+    )
+
+-- the swap that takes the key's request back
+pub cancelled_so : (table : Table) (spare : Spare) (before : MapSeat) → (token before).table ≡ table → RestsAt (token before).table spare before → (key : ℕ) (mid : MapSeat) → LeadsIn 1 table (model.Cancel key) (moved_to (desk_with spare Idle) (Withdrawing key), Going) before mid → mid.me.0.marks ≡ with_polls before.me.0.marks []
+    → (found : ℕ) (after : MapSeat) → GoesOn table found mid after → (after_spare : Spare) → after_spare ≡ record spare { numbers = slice_set spare.numbers key (slice_index spare.numbers key + 1) }
+    → RestsAt (token after).table after_spare after × (Gains 2 (token before) (model.Cancel key) reply.Cancelled (token after) × (spare_of (token after) ≡ record (spare_of (token before)) { numbers = slice_set (token before).numbers key (slice_index (token before).numbers key + 1) }) × (after.me.0.marks ≡ with_polls before.me.0.marks []))
+cancelled_so table spare before own kept key mid leads only_polls found after goes after_spare renumbers =
+    let rests_so = rests_here table spare before own kept in let gone = goes (desk_with spare (Withdrawing key)) leads.writes.role in let told = gone.leads in
+    let all : LeadsIn 2 table (model.Cancel key) (desk_with after_spare Idle, ended reply.Cancelled) before after = record {
+      writes = subst (λ (s : Spare). WritesAt table (desk_with s Idle) after) (sym renumbers) told.writes;
+      grows = grows_both 1 1 2 (token before) (token mid) _ (token after) (omega arith) leads.grows told.grows;
+      short = λ counts without. absurd (not_reply counts reply.Cancelled without);
+    } in
+    let ended_so = ends table spare before rests_so 2 (model.Cancel key) reply.Cancelled after_spare after (ap (λ (s : Spare). s.slots) renumbers) all in (
+      rests_own table after_spare after ended_so.0,
+      (
+        ended_so.1,
+        spare_shown table after_spare after ended_so.0 ∙ renumbers ∙ ap (λ (s : Spare). record s { numbers = slice_set s.numbers key (slice_index s.numbers key + 1) }) (sym (spare_shown table spare before rests_so)),
+        gone.marks.0 ∙ only_polls,
       ),
     )
 
@@ -277,10 +327,10 @@ module _ (table : Table) (spare : Spare) (before : MapSeat) (own : (token before
     (leads : LeadsIn (2 * length rows + 2) table (model.Update key batch) (decided table.shape (desk_with spare (Reading (Update key batch) slot [])) (Update key batch) rows) before after) (key_has : KeyHas table (Update key batch) rows (decided table.shape (desk_with spare (Reading (Update key batch) slot [])) (Update key batch) rows).1 after)
     (marks : after.me.0.marks ≡ with_polls before.me.0.marks []) where
   -- the map before the update is that of the table
-  own_map : (log : List Entry) → state_of (map_after table.shape log) key ≡ states.Rows rows → state_of (map_after before.me.0.shape log) key ≡ states.Rows rows
-  own_map log had = ap (λ (t : Table). state_of (map_after t.shape log) key) own ∙ had
+  own_map : (log : List Entry) (number : ℕ) → state_of (map_after table.shape log) key ≡ states.Rows number rows → state_of (map_after before.me.0.shape log) key ≡ states.Rows number rows
+  own_map log number had = ap (λ (t : Table). state_of (map_after t.shape log) key) own ∙ had
 
-  pub refused_so : (why : ApplyFault) → applied table.shape.bound rows batch ≡ Err why
+  pub refused_so : (why : ApplyFault) → applied (bound_of table.shape) rows batch ≡ Err why
       → RestsAt (token after).table spare after × ((gains : Gains (2 * length rows + 2) (token before) (model.Update key batch) (applied_reply (Err why)) (token after)) × KeyHad key rows (token before) gains.between × SlotsStay (token before) (token after))
   refused_so why is =
       let rests_so = rests_here table spare before own kept in let desk = desk_with spare (Reading (Update key batch) slot []) in
@@ -288,9 +338,9 @@ module _ (table : Table) (spare : Spare) (before : MapSeat) (own : (token before
       let ended_so = ends table spare before rests_so (2 * length rows + 2) (model.Update key batch) (applied_reply (Err why)) spare after refl all in
       let seen_is = key_has.seen ∙ ap (λ (r : Result (List Row) ApplyFault). key_has.log ++ ending (model.Update key batch) (renewed table.shape desk (Update key batch) r).1) is in
       let log_is = before_last ((token before).seen ++ ended_so.1.between) key_has.log _ _ (sym ended_so.1.seen ∙ seen_is) in
-      (rests_own table spare after ended_so.0, (ended_so.1, ap (λ (l : List Entry). state_of (map_after before.me.0.shape l) key) log_is ∙ own_map key_has.log key_has.state, (same_slots table spare before rests_so after ended_so.0, marks)))
+      (rests_own table spare after ended_so.0, (ended_so.1, (key_has.number, ap (λ (l : List Entry). state_of (map_after before.me.0.shape l) key) log_is ∙ own_map key_has.log key_has.number key_has.state), (same_slots table spare before rests_so after ended_so.0, marks)))
 
-  pub renewed_so : (left : List Row) → applied table.shape.bound rows batch ≡ Ok left → Settles table (Update key batch) left spare after × Grows (2 * length rows + 2) (token before) [] (token after) × (state_of (map_after table.shape after.me.0.seen) key ≡ states.Rows rows)
+  pub renewed_so : (left : List Row) → applied (bound_of table.shape) rows batch ≡ Ok left → Settles table (Update key batch) left spare after × Grows (2 * length rows + 2) (token before) [] (token after) × (state_of (map_after table.shape after.me.0.seen) key ≡ states.Rows key_has.number rows)
   renewed_so left is =
       let rests_so = rests_here table spare before own kept in let desk = desk_with spare (Reading (Update key batch) slot []) in
       let all = subst (λ (r : Result (List Row) ApplyFault). LeadsIn (2 * length rows + 2) table (model.Update key batch) (renewed table.shape desk (Update key batch) r) before after) is leads in
@@ -299,11 +349,11 @@ module _ (table : Table) (spare : Spare) (before : MapSeat) (own : (token before
       ∙ ap (λ (l : List Entry). key_has.log ++ l) (settled_quiet table.shape desk (Update key batch) left (model.Update key batch)) ∙ append-nil key_has.log in
       (settles.0, settles.1, ap (λ (l : List Entry). state_of (map_after table.shape l) key) seen_is ∙ key_has.state)
 
-  module _ (left : List Row) (is : applied table.shape.bound rows batch ≡ Ok left) (near : key < table.shape.keys) (last : MapSeat) (after_spare : Spare) where
+  module _ (left : List Row) (is : applied (bound_of table.shape) rows batch ≡ Ok left) (near : key < table.shape.keys) (last : MapSeat) (after_spare : Spare) where
     -- the key had the set until the update's entry, if it was done, or to the end
     had_still : (steps sum : ℕ) (entries mine : List Entry) (then : Grows steps (token after) entries (token last)) (all : Grows sum (token before) mine (token last)) → entries_of entries 0 ≡ entries → (token before).seen ++ all.between ≡ (token after).seen ++ then.between → KeyHad key rows (token before) all.between
     had_still steps sum entries mine then all ours same = let settled_so = renewed_so left is in let grows = settled_so.1 in
-        had_before table.shape key rows (token before) (token after) (token last) sum steps entries mine (ap (λ (t : Table). t.shape) own) near (grows.number ∙ ap number_of kept.writes.role) grows.own ours then all same grows.table settled_so.2
+        had_before table.shape key key_has.number rows (token before) (token after) (token last) sum steps entries mine (ap (λ (t : Table). t.shape) own) near (grows.number ∙ ap number_of kept.writes.role) grows.own ours then all same grows.table settled_so.2
 
     pub published_had : (sum : ℕ) → (published : PublishesSet table (Update key batch) left spare after_spare after last) → (all : Gains sum (token before) (model.Update key batch) reply.Done (token last)) → KeyHad key rows (token before) all.between
     published_had sum published all = let then = published.grows in had_still _ sum _ _ then all refl (before_last ((token before).seen ++ all.between) ((token after).seen ++ then.between) _ _ (sym all.seen ∙ then.seen))

@@ -1,7 +1,8 @@
 -- What the writer's steps tell of its seat.
-use Rattle.std.proofs.Common.{◌≡◌, ℕ, ◌++◌, [], ap, subst, ◌∙◌}
+use Rattle.std.proofs.Common.{List, [], ap, subst, sym, ℕ, ◌++◌, ◌∙◌, ◌≡◌}
 use Rattle.nr_model.specs.declared.calls.Call.{Call}
-use Rattle.nr_core.specs.Story.{call_of, ending}
+use Rattle.nr_core.specs.Core.{AreNumbers}
+use Rattle.nr_core.specs.Story.{call_of, ending, map_after}
 use Rattle.nr_core.specs.Writer.{looked, went}
 use Rattle.nr_core.specs.declared.calls.Step.{Step}
 use Rattle.nr_core.specs.declared.calls.WriterCall.{WriterCall}
@@ -12,7 +13,7 @@ use Rattle.nr_core.specs.declared.roles.Role.TheVariants.{Writer}
 use Rattle.nr_core.specs.declared.shape.Shape.{Shape}
 use Rattle.nr_marks.specs.MarkSteps.{GoesMarks}
 use Rattle.nr_map.proofs.Tokens.{seat_grows}
-use Rattle.nr_map.specs.Callers.{Table, token}
+use Rattle.nr_map.specs.Callers.{Table, map_seen, token}
 use Rattle.nr_map.specs.Plays.{Finds, Leads, Looked, Put, Room, Went, call_at, next_put}
 use Rattle.nr_map.specs.WriterSeats.{GoesTo, LeadsTo, MapSeat, PutsTo}
 
@@ -24,9 +25,12 @@ module _ (table : Table) (before after : MapSeat) (same : after.table_id ≡ bef
   shape_is : before.me.0.shape ≡ table.shape
   shape_is = ap (λ (t : Table). t.shape) own
 
+  numbers_seat : (numbers : List ℕ) → (token after).table ≡ (token before).table → AreNumbers before.me.0.shape (map_after before.me.0.shape after.me.0.seen) numbers → AreNumbers table.shape (map_seen (token after)) numbers
+  numbers_seat numbers stays listed = subst (λ (p : Shape × Shape). AreNumbers p.0 (map_after p.1 after.me.0.seen) numbers) (λ j. (shape_is j, (sym stays j).shape)) listed
+
   leads_seat : (call : Call) (outcome : Desk × Step) → Leads call outcome before.me.0 after.me.0 → LeadsTo table call outcome before after
   leads_seat call outcome leads = let grows = seat_grows before after _ same leads.advances in record {
-    writes = record { own = grows.table ∙ own; role = leads.role; room = subst (λ (s : Shape). Room s outcome.0) shape_is leads.room };
+    writes = record { own = grows.table ∙ own; role = leads.role; room = subst (λ (s : Shape). Room s outcome.0) shape_is leads.room; numbers = numbers_seat outcome.0.numbers grows.table leads.numbers };
     grows = grows;
     short = λ counts without. leads.short counts without after.table_id;
   }
@@ -46,7 +50,7 @@ module _ (table : Table) (before after : MapSeat) (same : after.table_id ≡ bef
 
   pub put_seat : (desk : Desk) → Put desk before.me.0 after.me.0 → PutsTo table desk before after
   put_seat desk told = let grows = seat_grows before after [] same told.advances in record {
-    writes = record { own = grows.table ∙ own; role = told.role; room = subst (λ (s : Shape). Room s (next_put desk)) shape_is told.room };
+    writes = record { own = grows.table ∙ own; role = told.role; room = subst (λ (s : Shape). Room s (next_put desk)) shape_is told.room; numbers = numbers_seat desk.numbers grows.table told.numbers };
     grows = grows;
     marks = told.marks;
   }

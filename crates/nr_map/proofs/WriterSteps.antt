@@ -17,12 +17,12 @@ use Rattle.nr_core.proofs.Look.{looks}
 use Rattle.nr_core.proofs.ReadThrough.{read_next, read_set}
 use Rattle.nr_core.proofs.Guards.{no_some}
 use Rattle.nr_core.proofs.Sums.{here_after}
-use Rattle.nr_core.specs.Core.{AtPlace, Core}
+use Rattle.nr_core.specs.Core.{AreNumbers, AtPlace, Core}
 use Rattle.nr_core.specs.Laws.{IsGivenCall}
 use Rattle.nr_core.specs.Operations.{Load, Operation, Store, Swap, becomes, going, place_of}
 use Rattle.nr_core.specs.Refusals.{if_not_busy}
 use Rattle.nr_core.specs.Roles.{held, holds, is_by, is_reader, is_writer, taken}
-use Rattle.nr_core.specs.Slots.{content, name_number, naming}
+use Rattle.nr_core.specs.Slots.{bound_of, content, name_number, naming}
 use Rattle.nr_core.specs.States.{key_of}
 use Rattle.nr_core.specs.Steps.{CanStep, Goes, Looks, Stepped, Telling}
 use Rattle.nr_core.specs.Story.{call_of, ending, ending_at, map_after}
@@ -33,7 +33,7 @@ use Rattle.nr_core.specs.declared.calls.Step.TheVariants.{Ended, Going}
 use Rattle.nr_core.specs.declared.calls.WReply.TheVariants as writer
 use Rattle.nr_core.specs.declared.calls.WriterCall.{WriterCall}
 use Rattle.nr_core.specs.declared.places.Place.{Place}
-use Rattle.nr_core.specs.declared.places.Place.TheVariants.{Idle, Leaving, Putting, Reading, Searching}
+use Rattle.nr_core.specs.declared.places.Place.TheVariants.{Idle, Leaving, Putting, Reading, Searching, Withdrawing}
 use Rattle.nr_core.specs.declared.roles.Desk.{Desk}
 use Rattle.nr_core.specs.declared.roles.Role.{Role}
 use Rattle.nr_core.specs.declared.calls.Refusal.TheVariants as refuse
@@ -91,6 +91,9 @@ module _ (shape : Shape) (id : ℕ) (view : View) (desk : Desk) (is : view.role 
   room_after : Room view.shape outcome.0
   room_after = subst (λ (s : Shape). Room s outcome.0) (sym sized) (room_at shape _ (set (map role_of state.views) id step.after) (kept.log ++ step.entries) step.core id outcome.0 there_after)
 
+  numbers_after : AreNumbers view.shape (map_after view.shape (kept.log ++ step.entries)) outcome.0.numbers
+  numbers_after = subst (λ (s : Shape). AreNumbers s (map_after s (kept.log ++ step.entries)) outcome.0.numbers) (sym sized) (step.core.knows id (Writer outcome.0) there_after).numbers
+
   abbrev pub next_view : View
   next_view = learned view step.after (kept.log ++ step.entries) step.entries marked.now marked.news
 
@@ -106,13 +109,13 @@ module _ (shape : Shape) (id : ℕ) (view : View) (desk : Desk) (is : view.role 
       next_view (subst (λ (d : Desk). PolledAll shape d.retired marked.now.polls) (sym desk_is) polled) sized refl role_told
 
   pub leads_so : ((counts : NoSlot) → outcome.1 ≡ Ended (writer.NoSlot counts) → Shortage shape kept.log desk call outcome counts × PolledAll shape desk.retired marked.now.polls) → Advances view (ending call outcome.1) next_view → Leads call outcome view next_view
-  leads_so short advances = record { role = role_told; advances = advances; room = room_after; short = λ counts without. short_after counts without (short counts without).0 (short counts without).1 }
+  leads_so short advances = record { role = role_told; advances = advances; room = room_after; numbers = numbers_after; short = λ counts without. short_after counts without (short counts without).0 (short counts without).1 }
 
   -- the writer's view after the step
   pub writes : (then : View → Type 0) → (Advances view (ending call outcome.1) next_view → then next_view) → Choice shape id view operation tells notes state kept step marked then
   writes then tell = learning shape id view operation tells notes state kept at step marked (ap number_of role_told ∙ sym (ap number_of is)) sized callers_told acts_told_so then (writer_is view.role desk is) no_news (ending call outcome.1) entries_told tell
 
-pub looks_so : (shape : Shape) (slots id : ℕ) (me : Me (Unit {0}) View) (desk : Desk) (call : WriterCall) → me.0.role ≡ Writer desk → desk.place ≡ Idle → IsGivenCall shape.bound call → key_of call < shape.keys
+pub looks_so : (shape : Shape) (slots id : ℕ) (me : Me (Unit {0}) View) (desk : Desk) (call : WriterCall) → me.0.role ≡ Writer desk → desk.place ≡ Idle → IsGivenCall (bound_of shape) call → key_of call < shape.keys
     → Allows (Kept shape) slots id me (key_of call) (λ word. word) (λ found after. (other : Desk) → me.0.role ≡ Writer other → Looked other call found me.0 after.0)
 looks_so shape slots id me desk call is idle given near = let view = me.0 in let tells = Looks shape desk call in let notes = LooksMarks shape view.marks desk call in let operation = Load (key_of call) in
     lifts shape id view operation tells notes slots me.1 (λ found next. (other : Desk) → view.role ≡ Writer other → Looked other call found view next) view.pasts (subst (λ r. CanStep shape id r operation tells) (sym is) (looks shape id desk call idle given near))
@@ -137,6 +140,7 @@ went_quiet : (shape : Shape) (marks : Marks) (known : List Past) (desk : Desk) (
 went_quiet shape marks known desk Idle word after log now news told = told.1
 went_quiet shape marks known desk (Reading call slot got) word after log now news told = told.1
 went_quiet shape marks known desk (Leaving key) word after log now news told = told.1
+went_quiet shape marks known desk (Withdrawing key) word after log now news told = told.1
 went_quiet shape marks known desk (Searching call rows poll) word after log now news told = told.0
 went_quiet shape marks known desk (Putting call rows slot departed index) word after log now news told = put_quiet (nat_le index (2 * length rows)) marks (key_of call) slot word after log now news told
 
@@ -145,6 +149,7 @@ ending_there : (place : Place) (step : Step) → if_not_busy place ≡ None → 
 ending_there Idle step busy = absurd (no_some (Some refuse.NotBusy) refuse.NotBusy refl busy)
 ending_there (Reading call slot got) step busy = refl
 ending_there (Leaving key) step busy = refl
+ending_there (Withdrawing key) step busy = refl
 ending_there (Searching call rows poll) step busy = refl
 ending_there (Putting call rows slot departed index) step busy = refl
 
@@ -158,8 +163,9 @@ finds_so shape words roles log core id desk there marks names place is = go plac
 
     go : (at : Place) → AtPlace shape words (map_after shape log) (held roles) desk.fresh desk.retired at → Finds shape at (get_or words (place_of (going shape desk at)) 0) log marks
     go Idle stands = tt
-    go (Reading call slot got) reads = (reads.rows, read_set shape words roles log core (key_of call) slot got reads, read_next shape words roles log core (key_of call) slot got reads ∙ ap (λ (n : ℕ). take n (encode reads.rows)) (let one : suc (length got) ≡ length got + 1 = omega arith in one), reads.more, reads.full)
+    go (Reading call slot got) reads = (reads.rows, read_set shape words roles log core (key_of call) slot got reads, read_next shape words roles log core (key_of call) slot got reads ∙ ap (λ (n : ℕ). take n (encode reads.rows)) (let one : suc (length got) ≡ length got + 1 = omega arith in one), reads.more, reads.number, reads.full)
     go (Leaving key) stands = swaps key stands.1.near
+    go (Withdrawing key) stands = swaps key stands.near
     go (Searching call rows poll) stands = tt
     go (Putting call rows slot departed index) stands =
         by_cases (λ b. SwapsOrPuts b shape (key_of call) (get_or words (place_of (cond {A = Operation} b (Store (content shape slot index) (get_or (encode rows) index 0)) (Swap (key_of call) (naming slot departed)))) 0) log marks) (nat_le index (2 * length rows))
@@ -214,6 +220,7 @@ put_leads desk call rows slot departed index found old new is low went_so =
       role = leads.role ∙ ap (λ (o : Desk × Step). Writer o.0) outcome ∙ sym (ap Writer next);
       advances = subst (λ (s : Step). Advances old (ending (call_at desk.place) s) new) (ap (λ (o : Desk × Step). o.1) outcome) leads.advances;
       room = subst (Room old.shape) (ap (λ (o : Desk × Step). o.0) outcome ∙ sym next) leads.room;
+      numbers = subst (λ (o : Desk × Step). AreNumbers old.shape (map_after old.shape new.seen) o.0.numbers) outcome leads.numbers;
       marks = (subst (λ (b : Bool). PutsMarks b old.marks (key_of call) slot found new.role new.seen new.marks []) (le-leb index (2 * length rows) low) (subst (λ (p : Place). went_marks old.shape old.marks old.pasts desk p found new.role new.seen new.marks []) is went_so.marks)).0;
     }
 

@@ -1,5 +1,5 @@
 -- What each call says of its token, by its answer.
-use Rattle.std.specs.Prelude.{◌≡◌, ℕ, suc, ◌+◌, ◌*◌, ◌≤◌, List, [], ◌∷◌, ◌++◌, length, slice_index, Result, Ok, Err}
+use Rattle.std.specs.Prelude.{◌≡◌, ℕ, suc, ◌+◌, ◌*◌, ◌≤◌, List, [], ◌∷◌, ◌++◌, length, slice_index, slice_set, Result, Ok, Err}
 use Rattle.nr_model.specs.declared.rows.Row.{Row}
 use Rattle.nr_model.specs.declared.batches.ApplyFault.TheVariants as fault
 use Rattle.nr_model.specs.declared.batches.Delta.{Delta}
@@ -12,6 +12,8 @@ use Rattle.nr_model.specs.Maps.{key_of, state_of}
 use Rattle.nr_model.specs.declared.states.KeyState.TheVariants as states
 use Rattle.nr_core.specs.declared.places.Retired.{Retired}
 use Rattle.nr_core.specs.declared.calls.NoSlot.{NoSlot}
+use Rattle.nr_map.specs.declared.answers.Cancel.{Cancel}
+use Rattle.nr_map.specs.declared.answers.Cancel.TheVariants as cancel
 use Rattle.nr_map.specs.declared.answers.Evict.{Evict}
 use Rattle.nr_map.specs.declared.answers.Evict.TheVariants as evict
 use Rattle.nr_map.specs.declared.answers.FillFault.{FillFault}
@@ -40,13 +42,13 @@ abbrev pub acts_of : Found → ℕ
 acts_of found.Rows = 2
 acts_of found.Hole = 1
 
--- a request: a ticket comes with Send alone, and is the key's
+-- a request: a ticket comes with Send alone, and has the key and the number of the reply
 abbrev pub AsksKey : ℕ → Caller → Caller → Asked → Type 0
-AsksKey key old new (asked.Send ticket) = Gains 1 old (model.Ask key) reply.Send new × (ticket ≡ key)
+AsksKey key old new (asked.Send ticket) = Gains 1 old (model.Ask key) (reply.Send ticket.number) new × (ticket.key ≡ key)
 AsksKey key old new asked.Waiting = Gains 1 old (model.Ask key) reply.Waiting new
 AsksKey key old new asked.Filled = Gains 1 old (model.Ask key) reply.Filled new
 
--- the writer's slots are as they were, and the call polled none
+-- the writer's slots and numbers are as they were, and the call polled none
 abbrev pub SlotsStay : Caller → Caller → Type 0
 SlotsStay old new = (spare_of new ≡ spare_of old) × (new.marks ≡ with_polls old.marks [])
 
@@ -61,13 +63,14 @@ pub record RetiresOne (key : ℕ) (old : Caller) (before after : List Retired) :
 abbrev pub Retires : Call → Caller → List Retired → List Retired → Type 0
 Retires (model.Find key) old before after = after ≡ before
 Retires (model.Ask key) old before after = after ≡ before
-Retires (model.Fill key rows) old before after = (slice_index old.marks.names key ≡ 0) × (after ≡ before)
+Retires (model.Fill key number rows) old before after = (slice_index old.marks.names key ≡ 0) × (after ≡ before)
 Retires (model.Update key batch) old before after = RetiresOne key old before after
 Retires (model.Evict key) old before after = RetiresOne key old before after
+Retires (model.Cancel key) old before after = after ≡ before
 
 -- the key had that set, after what the caller had seen and learnt before its own entry
 abbrev pub KeyHad : ℕ → List Row → Caller → List Entry → Type 0
-KeyHad key rows old between = state_of (after (opening_map old.table) (old.seen ++ between)) key ≡ states.Rows rows
+KeyHad key rows old between = (number : ℕ) × (state_of (after (opening_map old.table) (old.seen ++ between)) key ≡ states.Rows number rows)
 
 -- a find of the writer's own
 abbrev pub LooksAt : ℕ → Caller → List Row → Caller → List Row → Found → Type 0
@@ -82,6 +85,7 @@ pub record Publishes (steps : ℕ) (old : Caller) (call : Call) (rows : List Row
   pub took : Took slot polls (spare_of old) mid
   pub few : polls ≤ old.table.shape.readers + 1
   pub fresh : new.fresh ≡ mid.fresh
+  pub numbers : new.numbers ≡ old.numbers
   pub retires : Retires call old mid.retired new.retired
   pub number : ℕ
   pub count : put_count new.seen ≡ suc number
@@ -101,11 +105,13 @@ pub record HasNoSlot (steps : ℕ) (old : Caller) (call : Call) (counts : NoSlot
   pub slots : spare_of new ≡ spare_of old
   pub marks : new.marks ≡ with_polls old.marks new.marks.polls
 
-abbrev pub FillsKey : ℕ → List Row → Caller → Caller → Result (Unit {0}) FillFault → Type 0
-FillsKey key rows old new (Ok done) = Publishes 1 old (model.Fill key rows) rows new
-FillsKey key rows old new (Err fill.NotAsked) = Gains 1 old (model.Fill key rows) reply.NotAsked new × SlotsStay old new
-FillsKey key rows old new (Err fill.Already) = Gains 1 old (model.Fill key rows) reply.Already new × SlotsStay old new
-FillsKey key rows old new (Err (fill.NoSlot counts)) = HasNoSlot 1 old (model.Fill key rows) counts new
+-- a fill names the number of the request that it answers
+abbrev pub FillsKey : ℕ → ℕ → List Row → Caller → Caller → Result (Unit {0}) FillFault → Type 0
+FillsKey key number rows old new (Ok done) = Publishes 1 old (model.Fill key number rows) rows new
+FillsKey key number rows old new (Err fill.NotAsked) = Gains 1 old (model.Fill key number rows) reply.NotAsked new × SlotsStay old new
+FillsKey key number rows old new (Err fill.Already) = Gains 1 old (model.Fill key number rows) reply.Already new × SlotsStay old new
+FillsKey key number rows old new (Err fill.Stale) = Gains 1 old (model.Fill key number rows) reply.Stale new × SlotsStay old new
+FillsKey key number rows old new (Err (fill.NoSlot counts)) = HasNoSlot 1 old (model.Fill key number rows) counts new
 
 -- an update looks, reads the set that the key has before the call's entry, and applies the batch to it
 abbrev pub UpdatesKey : ℕ → ℕ → List Delta → Caller → Caller → Result (Unit {0}) UpdateFault → Type 0
@@ -117,5 +123,11 @@ UpdatesKey bound key batch old new (Err (update.NoSlot counts)) = (set left : Li
 
 -- an eviction retires the key's slot
 abbrev pub EvictsKey : ℕ → Caller → Caller → Evict → Type 0
-EvictsKey key old new evict.Evicted = Gains 2 old (model.Evict key) reply.Evicted new × (new.fresh ≡ old.fresh) × RetiresOne key old old.retired new.retired × (new.marks ≡ without_name (with_polls old.marks []) key)
+EvictsKey key old new evict.Evicted = Gains 2 old (model.Evict key) reply.Evicted new × (new.fresh ≡ old.fresh) × (new.numbers ≡ old.numbers) × RetiresOne key old old.retired new.retired × (new.marks ≡ without_name (with_polls old.marks []) key)
 EvictsKey key old new evict.Nothing = Gains 1 old (model.Evict key) reply.Nothing new × SlotsStay old new
+
+-- a cancel gives the key the next number; it retires no slot, and no key names another
+abbrev pub CancelsKey : ℕ → Caller → Caller → Cancel → Type 0
+CancelsKey key old new cancel.Cancelled = Gains 2 old (model.Cancel key) reply.Cancelled new × (spare_of new ≡ record (spare_of old) { numbers = slice_set old.numbers key (slice_index old.numbers key + 1) }) × (new.marks ≡ with_polls old.marks [])
+CancelsKey key old new cancel.Nothing = Gains 1 old (model.Cancel key) reply.Nothing new × SlotsStay old new
+CancelsKey key old new cancel.Worn = Gains 1 old (model.Cancel key) reply.Worn new × SlotsStay old new

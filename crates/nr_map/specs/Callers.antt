@@ -4,11 +4,11 @@ use Rattle.atomic_table.specs.Seated.{TableId}
 use Rattle.atomic_table.specs.declared.shared.Seat.{Seat}
 use Rattle.nr_model.specs.declared.calls.Call.{Call}
 use Rattle.nr_model.specs.declared.calls.Reply.{Reply}
-use Rattle.nr_model.specs.Maps.{PartialMap, opening}
+use Rattle.nr_model.specs.Maps.{PartialMap}
 use Rattle.nr_model.specs.Histories.{Entry, IsLegal, after, entries_of}
 use Rattle.nr_core.specs.declared.shape.Shape.{Shape}
 use Rattle.nr_core.specs.declared.places.Retired.{Retired}
-use Rattle.nr_core.specs.Story.{entry}
+use Rattle.nr_core.specs.Story.{entry, opening_map as map_opening}
 use Rattle.nr_marks.specs.Marks.{Marks, Past, gripped}
 use Rattle.nr_map.specs.Entries.{AreCallers}
 use Rattle.nr_map.specs.Views.{View, desk_of, grip_of, number_of}
@@ -32,6 +32,8 @@ pub record Caller : Type 0 where
   -- the writer's slots: how many were ever taken, and those that no key names any more, oldest first
   pub fresh : ℕ
   pub retired : List Retired
+  -- the number of each key, by the writer's list
+  pub numbers : List ℕ
   -- the slot that a reader holds
   pub holds : Option ℕ
   -- put numbers, a reader's acts, and the polls of the writer's last call that found their slots held
@@ -48,6 +50,7 @@ caller_of id view = record {
   steps = view.steps;
   fresh = (desk_of view.role).fresh;
   retired = (desk_of view.role).retired;
+  numbers = (desk_of view.role).numbers;
   holds = gripped (grip_of view.role);
   marks = view.marks;
   pasts = view.pasts;
@@ -58,7 +61,7 @@ token seat = caller_of seat.table_id seat.me.0
 
 -- the map at opening, and after what the caller has seen
 abbrev pub opening_map : Table → PartialMap
-opening_map table = opening table.shape.keys table.shape.bound
+opening_map table = map_opening table.shape
 
 abbrev pub map_seen : Caller → PartialMap
 map_seen caller = after (opening_map caller.table) caller.seen

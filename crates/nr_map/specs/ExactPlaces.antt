@@ -16,6 +16,7 @@ pub record OnlyLearnt (old new : Caller) : Type 0 where
   pub table : new.table ≡ old.table
   pub fresh : new.fresh ≡ old.fresh
   pub retired : new.retired ≡ old.retired
+  pub numbers : new.numbers ≡ old.numbers
   pub marks : new.marks ≡ old.marks
 
 -- the writer's lists are those of the history that it knows, and it has compared each reader with them

@@ -7,9 +7,9 @@ use Rattle.nr_map.specs.declared.answers.KeyKind.{KeyKind}
 use Rattle.nr_map.specs.declared.answers.KeyKind.TheVariants as kind
 
 abbrev pub kind_of : KeyState → KeyKind
-kind_of key.Hole = kind.Hole
-kind_of key.Asked = kind.Asked
-kind_of (key.Rows rows) = kind.Rows
+kind_of (key.Hole number) = kind.Hole
+kind_of (key.Asked number) = kind.Asked
+kind_of (key.Rows number rows) = kind.Rows
 
 abbrev pub kind_shown : ℕ → KeyKind
 kind_shown word = (if is_filled word then kind.Rows else (if has_ask word then kind.Asked else kind.Hole))

@@ -2,6 +2,7 @@
 use Rattle.std.specs.Prelude.{◌≡◌, ℕ, List, [], ◌++◌}
 use Rattle.atomic_table.specs.Seated.{TableId}
 use Rattle.nr_model.specs.Maps.{state_of}
+use Rattle.nr_core.specs.Core.{AreNumbers}
 use Rattle.nr_core.specs.Story.{map_after}
 use Rattle.nr_core.specs.declared.roles.Role.{Role}
 use Rattle.nr_core.specs.declared.roles.Role.TheVariants.{Note, Reader, Writer}
@@ -16,9 +17,9 @@ use Rattle.nr_map.specs.Plays.{Then}
 use Rattle.nr_map.specs.Rule.{StartsWith}
 use Rattle.nr_map.specs.Views.{View}
 
--- what the token learns of readers: the writer how those are that it was told of, a reader whether it is still as it was told
+-- what the token learns: the writer how the readers are that it was told of, and that its lists are those of the history so far; a reader whether it is still as it was told
 abbrev pub LearnsOf : Role → View → View → List Past → Type 0
-LearnsOf (Writer desk) old new news = Refreshed desk.retired old.marks old.told_pasts news × Lists desk old.marks old.shape new.seen
+LearnsOf (Writer desk) old new news = Refreshed desk.retired old.marks old.told_pasts news × Lists desk old.marks old.shape new.seen × AreNumbers old.shape (map_after old.shape new.seen) desk.numbers
 LearnsOf (Reader reader grip) old new news = (news ≡ []) × Compared reader grip old.marks old.told_pasts
 LearnsOf Note old new news = Unit {0}
 

@@ -1,4 +1,5 @@
 pub mod Views
+pub mod Tickets
 pub mod Entries
 pub mod Callers
 pub mod Rule

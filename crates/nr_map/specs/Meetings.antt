@@ -27,9 +27,10 @@ pub record Learns (steps : ℕ) (old new : Caller) : Type 0 where
   -- and of others' only finds and requests of the map's readers, and calls of its writer
   pub callers : AreCallers old.table.shape.readers new.seen
   pub steps_made : new.steps ≡ old.steps + steps
-  -- the writer's slots, a reader's hold, and the marks stay
+  -- the writer's slots and its list of numbers, a reader's hold, and the marks stay
   pub fresh : new.fresh ≡ old.fresh
   pub retired : new.retired ≡ old.retired
+  pub numbers : new.numbers ≡ old.numbers
   pub holds : new.holds ≡ old.holds
   pub marks : new.marks ≡ old.marks
   -- it forgets nothing that it knew of readers
@@ -41,7 +42,7 @@ abbrev pub how_is : Caller → Past
 how_is reader = record { reader = reader.number; count = reader.marks.acts; slot = reader.holds; put = reader.marks.put }
 
 abbrev pub desk_seen : Caller → Desk
-desk_seen writer = record { place = Idle; fresh = writer.fresh; retired = writer.retired }
+desk_seen writer = record { place = Idle; fresh = writer.fresh; retired = writer.retired; numbers = writer.numbers }
 
 -- the history begins with all that the other had seen too, so it has all calls that the other had made
 pub record Meets (steps : ℕ) (old other new : Caller) : Type 0 where

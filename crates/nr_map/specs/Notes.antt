@@ -23,4 +23,4 @@ with_note view note = record view { told = note.seen; told_pasts = note.pasts; s
 
 -- what is left of a note
 abbrev pub spent : View
-spent = note_of (record { role = Note; shape = record { keys = 0; slots = 0; readers = 0; bound = 0; first = 0 }; made = 0; seen = []; told = []; mine = []; steps = 0; marks = no_marks; pasts = []; told_pasts = [] })
+spent = note_of (record { role = Note; shape = record { keys = 0; slots = 0; readers = 0; first_count = 0; first_number = 0 }; made = 0; seen = []; told = []; mine = []; steps = 0; marks = no_marks; pasts = []; told_pasts = [] })

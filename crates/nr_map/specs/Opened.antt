@@ -1,5 +1,5 @@
 -- The tokens of a new map.
-use Rattle.std.specs.Prelude.{◌≡◌, ℕ, ◌+◌, ◌<◌, List, [], All, length, None, Some, slice_get}
+use Rattle.std.specs.Prelude.{◌≡◌, ℕ, ◌+◌, ◌<◌, List, [], All, length, None, Some, replicate, slice_get}
 use Rattle.nr_core.specs.declared.shape.Shape.{Shape}
 use Rattle.atomic_table.specs.declared.shared.Seat.{Seat}
 use Rattle.nr_marks.specs.Marks.{Marks, no_marks, opening_marks}
@@ -8,7 +8,7 @@ use Rattle.nr_map.specs.Views.{View, opener}
 
 -- a token that has made no step and seen nothing
 abbrev pub newcomer : Table → ℕ → Marks → Caller
-newcomer table number marks = record { table = table; number = number; seen = []; mine = []; steps = 0; fresh = 0; retired = []; holds = None; marks = marks; pasts = [] }
+newcomer table number marks = record { table = table; number = number; seen = []; mine = []; steps = 0; fresh = 0; retired = []; numbers = []; holds = None; marks = marks; pasts = [] }
 
 -- the writer's view after it made so many readers
 abbrev pub made_so : Shape → ℕ → View
@@ -21,10 +21,10 @@ pub record Seated (shape : Shape) (table : Table) (seat : Seat (Unit {0}) View) 
   pub count : length readers ≡ made
   pub reads : (place : ℕ) → place < made → slice_get readers place ≡ Some (newcomer table (place + 1) no_marks)
 
--- the map has its sizes; the writer and the readers, in the order of their numbers, are its newcomers
+-- the map has its sizes; the writer and the readers, in the order of their numbers, are its newcomers; each key has the first number
 pub record IsOpened (shape : Shape) (map : Table) (writer : Caller) (readers : List Caller) : Type 0 where
   pub sizes : map.shape ≡ shape
-  pub writes : writer ≡ newcomer map 0 (opening_marks shape)
+  pub writes : writer ≡ record (newcomer map 0 (opening_marks shape)) { numbers = replicate shape.keys shape.first_number }
   pub count : length readers ≡ shape.readers
   pub reads : (place : ℕ) → place < shape.readers → slice_get readers place ≡ Some (newcomer map (place + 1) no_marks)
   pub own : All (λ reader. reader.table ≡ map) readers

@@ -10,7 +10,7 @@ use Rattle.nr_model.specs.declared.calls.Call.TheVariants as model
 use Rattle.nr_model.specs.declared.calls.Reply.TheVariants as reply
 use Rattle.nr_model.specs.Rows.{IsRowSet}
 use Rattle.nr_model.specs.Histories.{Entry, entries_of}
-use Rattle.nr_model.specs.Maps.{filled_count, reply_to, state_of}
+use Rattle.nr_model.specs.Maps.{filled_count, last_number, reply_to, state_of}
 use Rattle.nr_model.specs.declared.states.KeyState.TheVariants as states
 use Rattle.nr_words.specs.KeyWords.{is_filled, slot_of}
 use Rattle.nr_words.specs.SetWords.{encode}
@@ -23,12 +23,13 @@ use Rattle.nr_core.specs.declared.calls.Step.TheVariants.{Ended}
 use Rattle.nr_core.specs.declared.calls.WReply.TheVariants as writer
 use Rattle.nr_core.specs.declared.calls.WriterCall.{WriterCall}
 use Rattle.nr_core.specs.declared.places.Place.{Place}
-use Rattle.nr_core.specs.declared.places.Place.TheVariants.{Idle, Leaving, Putting, Reading, Searching}
+use Rattle.nr_core.specs.declared.places.Place.TheVariants.{Idle, Leaving, Putting, Reading, Searching, Withdrawing}
 use Rattle.nr_core.specs.declared.places.Retired.{Retired}
 use Rattle.nr_core.specs.declared.roles.Grip.TheVariants.{Nothing, On}
 use Rattle.nr_core.specs.declared.shape.Shape.{Shape}
-use Rattle.nr_core.specs.Slots.{content, name_number}
-use Rattle.nr_core.specs.States.{key_of}
+use Rattle.nr_core.specs.Slots.{bound_of, content, name_number}
+use Rattle.nr_core.specs.States.{key_of, number_at}
+use Rattle.nr_core.specs.Core.{AreNumbers}
 use Rattle.nr_core.specs.Steps.{ask_word}
 use Rattle.nr_core.specs.Roles.{retirements}
 use Rattle.nr_core.specs.Story.{call_of, ending, entry, map_after}
@@ -54,7 +55,7 @@ holding role sized = Reader (number_of role) (On (slot_held role) (rows_held rol
 pub record Holds (shape : Shape) (role : Role) : Type 0 where
   pub is : role ≡ holding role (is_sized (grip_of role))
   pub inside : slot_held role < shape.slots
-  pub row_set : IsRowSet shape.bound (rows_held role)
+  pub row_set : IsRowSet (bound_of shape) (rows_held role)
 
 -- one step that learns the history so far, and adds these entries to it
 abbrev pub Advances : View → List Entry → View → Type 0
@@ -108,16 +109,17 @@ departed step before found after = Departed before.0 after.0
 
 -- THE WRITER'S STEPS
 
--- what the writer's place asks: its slots are slots of the map, and there is room to retire one where the call will
-abbrev pub RoomAt : Shape → List Retired → Place → Type 0
-RoomAt shape retired Idle = Unit {0}
-RoomAt shape retired (Reading call slot got) = (slot < shape.slots) × (length got ≤ 2 * shape.bound)
-RoomAt shape retired (Leaving key) = length retired < shape.slots
-RoomAt shape retired (Searching call rows poll) = poll < length retired
-RoomAt shape retired (Putting call rows slot departures index) = (slot < shape.slots) × IsRowSet shape.bound rows × (length retired < shape.slots)
+-- what the writer's place asks: its slots are slots of the map, there is room to retire one where the call will, and the number of a hole fits its bits
+abbrev pub RoomAt : Shape → Desk → Place → Type 0
+RoomAt shape desk Idle = Unit {0}
+RoomAt shape desk (Reading call slot got) = (slot < shape.slots) × (length got ≤ 2 * (bound_of shape))
+RoomAt shape desk (Leaving key) = (key < shape.keys) × (length desk.retired < shape.slots) × (number_at desk key ≤ last_number)
+RoomAt shape desk (Withdrawing key) = (key < shape.keys) × (number_at desk key < last_number)
+RoomAt shape desk (Searching call rows poll) = poll < length desk.retired
+RoomAt shape desk (Putting call rows slot departures index) = (slot < shape.slots) × IsRowSet (bound_of shape) rows × (length desk.retired < shape.slots)
 
 pub record Room (shape : Shape) (desk : Desk) : Type 0 where
-  pub place : RoomAt shape desk.retired desk.place
+  pub place : RoomAt shape desk desk.place
   -- the retired slots are different slots of the map
   pub few : length desk.retired ≤ shape.slots
   pub inside : (at : ℕ) (entry : Retired) → get_elem? desk.retired at ≡ some entry → entry.slot < shape.slots
@@ -141,6 +143,7 @@ pub record Leads (call : Call) (outcome : Desk × CallStep) (old new : View) : T
   pub role : new.role ≡ Writer outcome.0
   pub advances : Advances old (ending call outcome.1) new
   pub room : Room old.shape outcome.0
+  pub numbers : AreNumbers old.shape (map_after old.shape new.seen) outcome.0.numbers
   pub short : (counts : NoSlot) → outcome.1 ≡ Ended (writer.NoSlot counts) → (id : TableId) → Lacks call counts (caller_of id new)
 
 -- a look, which begins the call and its polls
@@ -153,6 +156,7 @@ abbrev pub call_at : Place → Call
 call_at Idle = model.Evict 0
 call_at (Reading call slot got) = call_of call
 call_at (Leaving key) = model.Evict key
+call_at (Withdrawing key) = model.Cancel key
 call_at (Searching call rows poll) = call_of call
 call_at (Putting call rows slot departures index) = call_of call
 
@@ -169,8 +173,9 @@ SwapsOrPuts false shape at found log marks = SwapsAt shape at found log marks
 -- what a later step finds after that history: a read goes on with the words of the key's set
 abbrev pub Finds : Shape → Place → ℕ → List Entry → Marks → Type 0
 Finds shape Idle found log marks = Unit {0}
-Finds shape (Reading call slot got) found log marks = (rows : List Row) × IsRowSet shape.bound rows × (got ++ found ∷ [] ≡ take (length got + 1) (encode rows)) × (length got ≤ 2 * length rows) × (state_of (map_after shape log) (key_of call) ≡ states.Rows rows)
+Finds shape (Reading call slot got) found log marks = (rows : List Row) × IsRowSet (bound_of shape) rows × (got ++ found ∷ [] ≡ take (length got + 1) (encode rows)) × (length got ≤ 2 * length rows) × (number : ℕ) × (state_of (map_after shape log) (key_of call) ≡ states.Rows number rows)
 Finds shape (Leaving key) found log marks = SwapsAt shape key found log marks
+Finds shape (Withdrawing key) found log marks = SwapsAt shape key found log marks
 Finds shape (Searching call rows poll) found log marks = Unit {0}
 Finds shape (Putting call rows slot departures index) found log marks = SwapsOrPuts (nat_le index (2 * length rows)) shape (key_of call) found log marks
 
@@ -198,6 +203,7 @@ abbrev pub put_place : Place → Place
 put_place Idle = Idle
 put_place (Reading call slot got) = Reading call slot got
 put_place (Leaving key) = Leaving key
+put_place (Withdrawing key) = Withdrawing key
 put_place (Searching call rows poll) = Searching call rows poll
 put_place (Putting call rows slot departures index) = Putting call rows slot departures (index + 1)
 
@@ -209,6 +215,7 @@ pub record Put (desk : Desk) (old new : View) : Type 0 where
   pub role : new.role ≡ Writer (next_put desk)
   pub advances : Advances old [] new
   pub room : Room old.shape (next_put desk)
+  pub numbers : AreNumbers old.shape (map_after old.shape new.seen) desk.numbers
   pub marks : new.marks ≡ old.marks
 
 abbrev pub has_put : Then

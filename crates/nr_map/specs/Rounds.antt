@@ -1,7 +1,7 @@
 -- What the writer's history has of all callers after rounds of gathers.
 use Rattle.std.specs.Prelude.{◌≡◌, ℕ, ◌+◌, ◌<◌, Bool, List, [], All, length, slice_index_or}
 use Rattle.std.specs.List.{count_by}
-use Rattle.nr_model.specs.Histories.{Entry, IsLegal, entries_of, fills, sends}
+use Rattle.nr_model.specs.Histories.{Entry, IsLegal, cancels, entries_of, fills, sends}
 use Rattle.nr_model.specs.Laws.{pending}
 use Rattle.nr_model.specs.Maps.{state_of}
 use Rattle.nr_core.specs.Sums.{total}
@@ -45,11 +45,11 @@ EntriesAreCallers =
     KnowsAll writer readers →
     count_by test writer.seen ≡ count_by test writer.mine + total (λ reader. count_by test reader.mine) readers
 
--- so all callers' requests of a key that were answered Send are its fills, and one more where it is asked
+-- so all callers' requests of a key that were answered Send are its fills and its cancels, and one more where it is asked
 abbrev pub SendsOfAll : Type 0
 SendsOfAll =
     (writer : Caller) (readers : List Caller) (key : ℕ) →
     KnowsAll writer readers →
     key < writer.table.shape.keys →
     sends writer.mine key + total (λ reader. sends reader.mine key) readers
-    ≡ fills writer.mine key + total (λ reader. fills reader.mine key) readers + pending (state_of (map_seen writer) key)
+    ≡ fills writer.mine key + total (λ reader. fills reader.mine key) readers + (cancels writer.mine key + total (λ reader. cancels reader.mine key) readers) + pending (state_of (map_seen writer) key)

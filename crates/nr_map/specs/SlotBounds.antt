@@ -28,8 +28,8 @@ NoSlotIsRare =
 
 abbrev pub RoomForFills : Type 0
 RoomForFills =
-    (key : ℕ) (rows : List Row) (old new : Caller) (counts : NoSlot) →
-    HasRoomForAll old → FillsKey key rows old new (Err (fill.NoSlot counts)) → ⊥
+    (key number : ℕ) (rows : List Row) (old new : Caller) (counts : NoSlot) →
+    HasRoomForAll old → FillsKey key number rows old new (Err (fill.NoSlot counts)) → ⊥
 
 abbrev pub RoomForUpdates : Type 0
 RoomForUpdates =

@@ -1,4 +1,4 @@
--- The slots that no key names: those that were never taken, and the retired ones.
+-- What the writer keeps beside the words: the slots that no key names, those that were never taken and the retired ones, and the number of each key.
 use Rattle.std.specs.Prelude.{◌≡◌, ℕ, ◌+◌, ◌-◌, ◌<◌, ◌≤◌, ◌⊎◌, List, length, remove, Option, Some, None}
 use mathlib.Core.Option.{some}
 use lib.ListN.{get_elem?}
@@ -13,14 +13,16 @@ pub record Spare : Type 0 where
   pub slots : ℕ
   pub fresh : ℕ
   pub retired : List Retired
+  -- the number of each key
+  pub numbers : List ℕ
 
 -- the writer's desk with them
 abbrev pub desk_with : Spare → Place → Desk
-desk_with spare place = record { place = place; fresh = spare.fresh; retired = spare.retired }
+desk_with spare place = record { place = place; fresh = spare.fresh; retired = spare.retired; numbers = spare.numbers }
 
 -- those of a writer's token
 abbrev pub spare_of : Caller → Spare
-spare_of caller = record { slots = caller.table.shape.slots; fresh = caller.fresh; retired = caller.retired }
+spare_of caller = record { slots = caller.table.shape.slots; fresh = caller.fresh; retired = caller.retired; numbers = caller.numbers }
 
 -- every slot is retired, or named by a key
 abbrev pub none_spare : Spare → NoSlot

@@ -4,6 +4,7 @@ use Rattle.nr_model.specs.declared.rows.Row.{Row}
 use Rattle.nr_model.specs.Histories.{Entry}
 use Rattle.nr_core.specs.declared.shape.Shape.{Shape}
 use Rattle.nr_core.specs.declared.roles.Desk.{Desk}
+use Rattle.nr_core.specs.declared.places.Place.TheVariants.{Idle}
 use Rattle.nr_core.specs.declared.roles.Role.{Role}
 use Rattle.nr_core.specs.declared.roles.Role.TheVariants.{Writer, Reader, Note}
 use Rattle.nr_core.specs.declared.roles.Grip.{Grip}
@@ -33,11 +34,14 @@ number_of (Writer desk) = 0
 number_of (Reader reader grip) = reader
 number_of Note = 0
 
--- the writer's desk
+-- the writer's desk, and that of who has none
+abbrev pub no_desk : Desk
+no_desk = record { place = Idle; fresh = 0; retired = []; numbers = [] }
+
 abbrev pub desk_of : Role → Desk
 desk_of (Writer desk) = desk
-desk_of (Reader reader grip) = opening_desk
-desk_of Note = opening_desk
+desk_of (Reader reader grip) = no_desk
+desk_of Note = no_desk
 
 -- what a reader holds: the slot, the set that it found there, and whether it has read its size
 abbrev pub grip_of : Role → Grip
@@ -65,7 +69,7 @@ rows_held role = rows_in (grip_of role)
 
 -- the first token is the writer's
 abbrev pub opener : Shape → View
-opener shape = record { role = Writer opening_desk; shape = shape; made = 0; seen = []; told = []; mine = []; steps = 0; marks = opening_marks shape; pasts = []; told_pasts = [] }
+opener shape = record { role = Writer (opening_desk shape); shape = shape; made = 0; seen = []; told = []; mine = []; steps = 0; marks = opening_marks shape; pasts = []; told_pasts = [] }
 
 -- the writer makes the next reader
 abbrev pub with_reader : View → View

@@ -10,8 +10,9 @@ use Rattle.nr_model.specs.Histories.{Entry, IsLegal}
 use Rattle.nr_model.specs.Maps.{state_of}
 use Rattle.nr_model.specs.declared.states.KeyState.TheVariants as states
 use Rattle.nr_words.specs.SetWords.{encode}
+use Rattle.nr_core.specs.Core.{AreNumbers}
 use Rattle.nr_core.specs.Slots.{content}
-use Rattle.nr_core.specs.States.{key_of, retired_at}
+use Rattle.nr_core.specs.States.{key_of, number_at, retired_at}
 use Rattle.nr_core.specs.Story.{call_of, ending, entry, map_after}
 use Rattle.nr_core.specs.Writer.{moved_to, no_slot, settled, unnamed, went}
 use Rattle.nr_core.specs.declared.calls.NoSlot.{NoSlot}
@@ -21,11 +22,11 @@ use Rattle.nr_core.specs.declared.places.Retired.{Retired}
 use Rattle.nr_core.specs.declared.shape.Shape.{Shape}
 use Rattle.nr_core.specs.declared.calls.WReply.TheVariants as writer
 use Rattle.nr_core.specs.declared.calls.WriterCall.{WriterCall}
-use Rattle.nr_core.specs.declared.places.Place.TheVariants.{Idle, Leaving, Putting, Reading, Searching}
+use Rattle.nr_core.specs.declared.places.Place.TheVariants.{Idle, Leaving, Putting, Reading, Searching, Withdrawing}
 use Rattle.nr_core.specs.declared.roles.Desk.{Desk}
 use Rattle.nr_core.specs.declared.roles.Role.TheVariants.{Writer}
 use Rattle.nr_map.specs.Entries.{AreCallers}
-use Rattle.nr_map.specs.Callers.{Caller, Grows, KnowsOwn, Table, opening_map, token}
+use Rattle.nr_map.specs.Callers.{Caller, Grows, KnowsOwn, Table, map_seen, opening_map, token}
 use Rattle.nr_map.specs.Spares.{Spare, Took, desk_with}
 use Rattle.nr_map.specs.Plays.{Finds, Lacks, NotesTell, Room, SwapsAt, call_at, next_put}
 use Rattle.nr_map.specs.Polls.{AllHeldThen}
@@ -38,11 +39,12 @@ use Rattle.nr_map.specs.Views.{View}
 abbrev pub MapSeat : Type 0
 MapSeat = Seat (Unit {0}) View
 
--- the writer's seat, at a desk
+-- the writer's seat, at a desk whose numbers are those of the history that it knows
 pub record WritesAt (table : Table) (desk : Desk) (seat : MapSeat) : Type 0 where
   pub own : (token seat).table ≡ table
   pub role : seat.me.0.role ≡ Writer desk
   pub room : Room table.shape desk
+  pub numbers : AreNumbers table.shape (map_seen (token seat)) desk.numbers
 
 -- between calls
 pub record IsBetween (table : Table) (seat : MapSeat) : Type 0 where
@@ -93,11 +95,19 @@ pub record IsPublishing (table : Table) (key slot departed : ℕ) (seat : MapSea
   pub place : desk.place ≡ Putting call rows slot departed (2 * length rows + 1)
   pub key_is : key ≡ key_of call
 
--- about to evict the key
-pub record IsLeaving (table : Table) (key : ℕ) (seat : MapSeat) : Type 0 where
+-- about to evict the key, whose number is this
+pub record IsLeaving (table : Table) (key number : ℕ) (seat : MapSeat) : Type 0 where
   pub desk : Desk
   pub writes : WritesAt table desk seat
   pub place : desk.place ≡ Leaving key
+  pub number_is : number ≡ number_at desk key
+
+-- about to take the key's request back, after which its number is this
+pub record IsWithdrawing (table : Table) (key number : ℕ) (seat : MapSeat) : Type 0 where
+  pub desk : Desk
+  pub writes : WritesAt table desk seat
+  pub place : desk.place ≡ Withdrawing key
+  pub number_is : number ≡ number_at desk key + 1
 
 -- so many steps of a call, to the desk of the outcome, with the entry of a call that ends there with a reply
 pub record LeadsIn (steps : ℕ) (table : Table) (call : Call) (outcome : Desk × Step) (old new : MapSeat) : Type 0 where
@@ -144,7 +154,8 @@ pub record Settles (table : Table) (call : WriterCall) (rows : List Row) (spare 
 pub record KeyHas (table : Table) (call : WriterCall) (rows : List Row) (step : Step) (seat : MapSeat) : Type 0 where
   pub log : List Entry
   pub seen : seat.me.0.seen ≡ log ++ ending (call_of call) step
-  pub state : state_of (map_after table.shape log) (key_of call) ≡ states.Rows rows
+  pub number : ℕ
+  pub state : state_of (map_after table.shape log) (key_of call) ≡ states.Rows number rows
 
 -- the search has found each of the first retired slots held
 abbrev pub swept : Shape → Desk → WriterCall → List Row → ℕ → Desk × Step
@@ -157,6 +168,7 @@ pub record TakesSlot (table : Table) (call : WriterCall) (rows : List Row) (slot
   -- all polls but the last one found their slots held, each by another reader
   pub few : polls ≤ table.shape.readers + 1
   pub slots : after.slots ≡ spare.slots
+  pub numbers : after.numbers ≡ spare.numbers
   pub writes : WritesAt table (desk_with after (Putting call rows slot departed 0)) new
   pub grows : Grows polls (token old) [] (token new)
   pub marks : new.me.0.marks ≡ with_polls old.me.0.marks new.me.0.marks.polls
@@ -184,6 +196,7 @@ pub record PublishesSet (table : Table) (call : WriterCall) (rows : List Row) (s
   pub retires : after ≡ record mid { retired = mid.retired ++ unnamed word }
   pub few : polls ≤ table.shape.readers + 1
   pub slots : after.slots ≡ spare.slots
+  pub numbers : after.numbers ≡ spare.numbers
   -- the set has the next put number
   pub number : ℕ
   pub count : put_count new.me.0.seen ≡ suc number

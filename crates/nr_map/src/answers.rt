@@ -33,6 +33,8 @@ pub enum FillFault {
     NotAsked,
     #[error("the key is filled")]
     Already,
+    #[error("the request that it answers was taken back")]
+    Stale,
     #[error("no slot is to be had")]
     NoSlot(NoSlot),
 }
@@ -57,6 +59,17 @@ pub enum Evict {
     Evicted,
     /// The key was not filled.
     Nothing,
+}
+
+/// The answer to a cancel.
+#[derive(Clone, Copy, Debug, PartialEq, Eq)]
+pub enum Cancel {
+    /// The key was asked and is a hole now, with the next number.
+    Cancelled,
+    /// The key was not asked.
+    Nothing,
+    /// The key is asked with the last number; its own fill alone ends that.
+    Worn,
 }
 
 /// What a key is, without its rows.

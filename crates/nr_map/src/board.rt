@@ -7,12 +7,13 @@ ghost use Rattle.nr_words.specs.KeyWords.{is_filled, slot_of};
 ghost use Rattle.nr_words.specs.SetWords.{encode};
 ghost use Rattle.nr_core.specs.declared.roles.Desk.{Desk};
 ghost use Rattle.nr_core.specs.declared.roles.Role.TheVariants.{Note as note_role, Writer};
+ghost use Rattle.nr_core.specs.Core.{AreNumbers};
 ghost use Rattle.nr_core.specs.Laws.{IsGivenCall};
 ghost use Rattle.nr_core.specs.States.{key_of};
 ghost use Rattle.nr_core.specs.Steps.{ask_word};
 ghost use Rattle.nr_core.specs.Story.{call_of};
 ghost use Rattle.nr_core.specs.Writer.{looked};
-ghost use Rattle.nr_core.specs.Slots.{content, opening_words};
+ghost use Rattle.nr_core.specs.Slots.{bound_of, content, opening_words};
 ghost use Rattle.nr_core.specs.Roles.{is_writer};
 ghost use Rattle.nr_core.specs.Sizes.{IsShape};
 ghost use Rattle.nr_map.specs.Views.{rows_held, with_reader, next_reader, opener};
@@ -24,7 +25,7 @@ ghost use Rattle.nr_map.specs.Notes.{IsCaller, note_of, with_note};
 ghost use Rattle.nr_map.specs.Kinds.{kind_of, kind_shown};
 ghost use Rattle.nr_map.specs.Learning.{Learned};
 ghost use Rattle.nr_map.specs.Meetings.{Learns};
-ghost use Rattle.nr_map.specs.WriterSeats.{GoesOn, IsBetween, IsReading, IsPolling, IsPutting, IsPublishing, IsLeaving, LeadsTo, PutsTo};
+ghost use Rattle.nr_map.specs.WriterSeats.{GoesOn, IsBetween, IsReading, IsPolling, IsPutting, IsPublishing, IsLeaving, IsWithdrawing, LeadsTo, PutsTo};
 
 use crate::rule::{
     Arrives, Asks, Departs, Given, Goes, Law, Looks, Notes, Puts, Reads, Seats, Sees,
@@ -32,7 +33,7 @@ use crate::rule::{
 use crate::view::View;
 use atomic_table::Table;
 use nr_core::{Shape, WriterCall};
-use nr_words::{ARRIVE, KeyParts, Layout, key_word};
+use nr_words::{ARRIVE, KeyParts, Layout, hole_word, key_word};
 use std::alloc::{AllocError, Global};
 use std::marker::{Brand, Model};
 
@@ -80,9 +81,11 @@ impl Model for Note {
     ghost view = { λ note. note.seat };
 }
 
-// The words at opening: every key a hole, every slot's departures the first count.
+// The words at opening: every key a hole with the first number, every slot's departures the first
+// count.
 fn lay(alloc: Global, shape: &Shape) -> Result<Vec<u64>, AllocError>
-    requires { shape.now.slots ≤ 2 ^ 22 }
+    requires slots { shape.now.slots ≤ 2 ^ 22 }
+    requires number { shape.now.first_number < 2 ^ 22 }
     ensures { IfOk result (λ words. words.items ≡ opening_words shape.now) }
 {
     let layout = Layout {
@@ -90,9 +93,9 @@ fn lay(alloc: Global, shape: &Shape) -> Result<Vec<u64>, AllocError>
         slots: shape.slots,
     };
     let mut slot = [0; SLOT_WORDS];
-    slot[0] = shape.first;
+    slot[0] = shape.first_count;
     let mut words = Vec::with_capacity(alloc, layout.total() as usize)?;
-    words.resize(shape.keys as usize, 0)?;
+    words.resize(shape.keys as usize, hole_word(shape.first_number, false))?;
     for _ in 0..shape.slots {
         words.extend_from_slice(&slot)?;
     }
@@ -195,7 +198,7 @@ impl Board {
     /// The writer looks at the key of a call: its word.
     pub fn look(&self, seat: &mut Seat, call: &WriterCall) -> u64
         requires writer { IsBetween self.now seat.old }
-        requires given { IsGivenCall self.now.shape.bound call.now }
+        requires given { IsGivenCall (bound_of self.now.shape) call.now }
         requires key { key_of call.now < self.now.shape.keys }
         ensures leads { (desk : Desk) → seat.old.me.0.role ≡ Writer desk → LeadsTo self.now (call_of call.now) (looked self.now.shape desk call.now result) seat.old seat.new }
         ensures marks { seat.new.me.0.marks ≡ with_polls seat.old.me.0.marks [] }
@@ -205,7 +208,7 @@ impl Board {
 
     fn look_given<G: Given>(&self, seat: &mut Seat, call: &WriterCall) -> u64
         requires writer { IsBetween self.now seat.old }
-        requires given { IsGivenCall self.now.shape.bound call.now }
+        requires given { IsGivenCall (bound_of self.now.shape) call.now }
         requires key { key_of call.now < self.now.shape.keys }
         requires call { G.call ≡ call.now }
         ensures leads { (desk : Desk) → seat.old.me.0.role ≡ Writer desk → LeadsTo self.now (call_of call.now) (looked self.now.shape desk call.now result) seat.old seat.new }
@@ -263,14 +266,24 @@ impl Board {
         words.swap::<Goes>(seat, key as usize, word)
     }
 
-    /// The writer makes the key a hole: the word as it was.
-    pub fn unpublish(&self, seat: &mut Seat, key: u32) -> u64
-        requires writer { IsLeaving self.now key seat.old }
-        requires key { key < self.now.shape.keys }
+    /// The writer makes the key a hole, which keeps its number: the word as it was.
+    pub fn unpublish(&self, seat: &mut Seat, key: u32, number: u64) -> u64
+        requires { IsLeaving self.now key number seat.old }
         ensures { GoesOn self.now result seat.old seat.new }
     {
         let words = &self.table.shared;
-        words.swap::<Goes>(seat, key as usize, 0)
+        let word = hole_word(number, false);
+        words.swap::<Goes>(seat, key as usize, word)
+    }
+
+    /// The writer takes the key's request back: the key is a hole with the next number.
+    pub fn withdraw(&self, seat: &mut Seat, key: u32, next: u64)
+        requires { IsWithdrawing self.now key next seat.old }
+        ensures { (found : ℕ) × GoesOn self.now found seat.old seat.new }
+    {
+        let words = &self.table.shared;
+        let word = hole_word(next, false);
+        words.swap::<Goes>(seat, key as usize, word);
     }
 
     /// A note of what the token has seen. The token stays as it is.
@@ -316,6 +329,7 @@ impl Board {
         ensures learns { Learns 1 (token seat.old) (token seat.new) }
         ensures role { (seat.new.table_id ≡ seat.old.table_id) × (seat.new.me.0.role ≡ seat.old.me.0.role) }
         ensures state { kind_shown result ≡ kind_of (state_of (map_seen (token seat.new)) key) }
+        ensures numbers { (desk : Desk) → seat.old.me.0.role ≡ Writer desk → AreNumbers self.now.shape (map_seen (token seat.new)) desk.numbers }
     {
         let words = &self.table.shared;
         words.load::<Sees>(seat, key as usize)

@@ -9,12 +9,20 @@
 //! named before is retired with the arrivals that it had, and is free once its departures are as
 //! many.
 //!
+//! A request can be taken back, so that it may be sent anew. Each key has a number, which a cancel
+//! raises; a ticket has the number that its key had, and a fill names it, so that a late answer to
+//! an old request is refused. The word of a key that is not filled has the number in the place of
+//! the slot, and the writer keeps a list of all numbers.
+//!
 //! Each step of a call is one operation on one word, and each call is one entry of one history that
 //! all callers share, at the step that decides its answer.
 #![tactic(auto)]
 
 mod answers;
 mod board;
+#[cfg(test)]
+mod cancel_tests;
+mod cancels;
 pub mod laws;
 mod meetings;
 mod pin;
@@ -34,8 +42,8 @@ mod view;
 mod writer;
 mod writer_calls;
 
-pub use answers::{Asked, Evict, FillFault, Found, KeyKind, UpdateFault};
-pub use nr_core::{MAX_READERS, MAX_SLOTS, NoSlot};
+pub use answers::{Asked, Cancel, Evict, FillFault, Found, KeyKind, UpdateFault};
+pub use nr_core::{MAX_READERS, MAX_SLOTS, NoSlot, Shape};
 pub use pin::Pin;
 pub use reader::Reader;
 pub use reader_map::ReaderMap;

@@ -1,6 +1,9 @@
 //! What one token learns of another: each learns a history that begins with all that both had seen.
 ghost use Rattle.std.specs.Prelude.{◌≡◌, ◌<◌};
-ghost use Rattle.nr_map.specs.Callers.{KnowsOwn, token};
+ghost use Rattle.nr_core.specs.Core.{AreNumbers};
+ghost use Rattle.nr_core.specs.declared.roles.Desk.{Desk};
+ghost use Rattle.nr_core.specs.declared.roles.Role.TheVariants.{Writer as writer_role};
+ghost use Rattle.nr_map.specs.Callers.{KnowsOwn, map_seen, token};
 ghost use Rattle.nr_map.specs.Meetings.{Gathers, Meets, StatesKey};
 ghost use Rattle.nr_map.specs.Learning.{HearsOf};
 ghost use Rattle.nr_map.specs.Notes.{IsCaller};
@@ -71,6 +74,7 @@ impl ReaderMap {
         requires knows { KnowsOwn (token other.old) }
         ensures meets { Meets 3 (token seat.old) (token other.old) (token seat.new) }
         ensures readers { HearsOf seat.old.me.0 other.old.me.0 seat.new.me.0 }
+        ensures numbers { (desk : Desk) → seat.old.me.0.role ≡ writer_role desk → AreNumbers self.now.shape (map_seen (token seat.new)) desk.numbers }
         ensures role { (seat.new.table_id ≡ seat.old.table_id) × (seat.new.me.0.role ≡ seat.old.me.0.role) }
         ensures other { (other.new.table_id ≡ other.old.table_id) × (other.new.me ≡ other.old.me) }
     {

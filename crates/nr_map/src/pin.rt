@@ -69,7 +69,7 @@ impl Pin {
     /// How many rows the set has. Takes no step.
     pub fn len(&self) -> u32
         ensures len { result ≡ length self.now.rows }
-        ensures row_set { IsRowSet self.now.reader.table.shape.bound self.now.rows }
+        ensures row_set { IsRowSet MAX_ROWS self.now.rows }
         ensures holds { IsSome self.now.reader.holds }
     {
         self.count

@@ -1,15 +1,14 @@
 //! The map.
 ghost use Rattle.std.specs.Prelude.{◌≡◌, ◌<◌, ◌⊎◌, ◌↔◌, [], IfOk, IsTrue, Err};
-ghost use Rattle.nr_model.specs.declared.rows.TheConstants.{MAX_ROWS};
 ghost use Rattle.nr_model.specs.declared.seq_map.TheConstants.{MAX_KEYS};
-ghost use Rattle.nr_core.specs.Sizes.{IsShape, IsBadSize};
+ghost use Rattle.nr_core.specs.Sizes.{IsShape, IsBadSize, IsBadShape};
 ghost use Rattle.nr_map.specs.Opened.{IsOpened, Seated};
 
 use crate::board::{Board, Seat};
 use crate::reader::Reader;
 use crate::writer::Writer;
 use nr_core::{MAX_READERS, MAX_SLOTS, Shape};
-use nr_model::{MAX_KEYS, MAX_ROWS, OpenFault};
+use nr_model::{LAST_NUMBER, MAX_KEYS, OpenFault};
 use std::alloc::{AllocError, Global};
 use std::marker::Model;
 
@@ -20,21 +19,18 @@ pub struct ReaderMap {
 }
 
 impl Model for ReaderMap {
-    ghost use Rattle.std.specs.Prelude.{◌≡◌};
-    ghost use Rattle.nr_model.specs.declared.rows.TheConstants.{MAX_ROWS};
     ghost use Rattle.nr_map.specs.Callers.{Table};
 
     ghost Value = { Table };
 
     ghost view = { λ map. map.board };
-
-    ghost invariant = { λ map. map.board.shape.bound ≡ MAX_ROWS };
 }
 
 impl ReaderMap {
     /// A map with its writer and its readers, in the order of their numbers. Refused where a size
     /// is out of its limits: 1 to 65,536 keys, 1 to 131,072 slots and 1 to 1,024 readers; and then
-    /// where there is no memory. Every slot's count of departures begins at `first_count`.
+    /// where there is no memory. Every slot's count of departures begins at `first_count`, and every
+    /// key's number at 0.
     pub fn open(
         alloc: Global,
         keys: u32,
@@ -43,22 +39,32 @@ impl ReaderMap {
         first_count: u64,
     ) -> Result<(ReaderMap, Writer, Vec<Reader>), OpenFault>
         ensures bad_size { (result ≡ Err OpenFault.BadSize) ↔ (IsBadSize MAX_KEYS keys ⊎ IsBadSize MAX_SLOTS slots ⊎ IsBadSize MAX_READERS readers) }
-        ensures ok { IfOk result (λ opened. IsOpened (record { keys = keys; slots = slots; readers = readers; bound = MAX_ROWS; first = first_count }) opened.0 opened.1 opened.2.items) }
+        ensures ok { IfOk result (λ opened. IsOpened (record { keys = keys; slots = slots; readers = readers; first_count = first_count; first_number = 0 }) opened.0 opened.1 opened.2.items) }
     {
-        if is_bad_size(MAX_KEYS, keys)
-            || is_bad_size(MAX_SLOTS, slots)
-            || is_bad_size(MAX_READERS, readers)
-        {
-            return Err(OpenFault::BadSize);
-        }
         let shape = Shape {
             keys,
             slots,
             readers,
-            bound: MAX_ROWS as u32,
-            first: first_count,
+            first_count,
+            first_number: 0,
         };
-        seated(alloc, shape).map_err(|_| OpenFault::Memory)
+        ReaderMap::open_with(alloc, &shape)
+    }
+
+    /// A map of that shape with its tokens. Every key's number begins at `first_number`, 0 to
+    /// 4,194,303. What is out of its limits, as at `open`, is refused first, and then want of
+    /// memory.
+    pub fn open_with(
+        alloc: Global,
+        shape: &Shape,
+    ) -> Result<(ReaderMap, Writer, Vec<Reader>), OpenFault>
+        ensures bad_size { (result ≡ Err OpenFault.BadSize) ↔ IsBadShape shape.now }
+        ensures ok { IfOk result (λ opened. IsOpened shape.now opened.0 opened.1 opened.2.items) }
+    {
+        if is_bad_shape(shape) {
+            return Err(OpenFault::BadSize);
+        }
+        seated(alloc, *shape).map_err(|_| OpenFault::Memory)
     }
 
     /// How many keys the map has. They are numbered from 0.
@@ -83,6 +89,15 @@ impl ReaderMap {
     }
 }
 
+fn is_bad_shape(shape: &Shape) -> bool
+    ensures { IsTrue result ↔ IsBadShape shape.now }
+{
+    is_bad_size(MAX_KEYS, shape.keys)
+        || is_bad_size(MAX_SLOTS, shape.slots)
+        || is_bad_size(MAX_READERS, shape.readers)
+        || shape.first_number > LAST_NUMBER
+}
+
 fn is_bad_size(limit: u32, size: u32) -> bool
     ensures { IsTrue result ↔ IsBadSize limit size }
 {
@@ -93,12 +108,11 @@ fn is_bad_size(limit: u32, size: u32) -> bool
 fn seated(alloc: Global, shape: Shape) -> Result<(ReaderMap, Writer, Vec<Reader>), AllocError>
     requires sizes { IsShape shape }
     requires keys { 0 < shape.keys }
-    requires bound { shape.bound ≡ MAX_ROWS }
     ensures { IfOk result (λ opened. IsOpened shape opened.0 opened.1 opened.2.items) }
 {
     let (board, mut seat) = Board::open(alloc, shape)?;
     let readers = seat_readers(alloc, &board, &mut seat, shape.readers)?;
-    let writer = Writer::of_seat(alloc, seat, shape.slots)?;
+    let writer = Writer::of_seat(alloc, seat, &shape)?;
     Ok((ReaderMap { board }, writer, readers))
 }
 

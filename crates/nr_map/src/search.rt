@@ -32,7 +32,7 @@ impl ReaderMap {
         ensures { TakesFor self.now call.now rows.now spare.old spare.new seat.old seat.new result }
     {
         if let Some(slot) = spare.take_fresh() {
-            let departures = self.board.shape().first;
+            let departures = self.board.shape().first_count;
             return Ok(Taken { slot, departures });
         }
         self.poll_retired(seat, spare, call, rows)

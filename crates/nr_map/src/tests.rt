@@ -86,7 +86,7 @@ fn one_of_two_requests_is_sent(rt: HostRuntime) -> Result<(), Fail> {
         (first, second) == (Told::Send(0), Told::Waiting)
             || (first, second) == (Told::Waiting, Told::Send(0))
     );
-    assert_eq!(rt; map.fill(&mut writer, 0, &rows_of(&[(5, 6)])?), Ok(()));
+    assert_eq!(rt; map.fill(&mut writer, 0, 0, &rows_of(&[(5, 6)])?), Ok(()));
     let mut rows = RowSet::new();
     assert_eq!(rt; map.look(&mut writer, 0, &mut rows), Found::Rows);
     assert!(rt; pairs_are(&rows, &[(5, 6)]));
@@ -110,7 +110,7 @@ fn updates_use_slots_again(rt: HostRuntime) -> Result<(), Fail> {
         return Ok(());
     };
     assert_eq!(rt; spent(map.ask(&mut reader, 0)), Told::Send(0));
-    assert_eq!(rt; map.fill(&mut writer, 0, &rows_of(&[(1, 1)])?), Ok(()));
+    assert_eq!(rt; map.fill(&mut writer, 0, 0, &rows_of(&[(1, 1)])?), Ok(()));
     assert_eq!(rt; map.update(&mut writer, 0, &added(2)?), Ok(()));
     assert_eq!(rt; map.update(&mut writer, 0, &added(3)?), Ok(()));
     let mut rows = RowSet::new();
@@ -128,7 +128,7 @@ fn only_a_requested_key_is_filled(rt: HostRuntime) -> Result<(), Fail> {
     assert_eq!(rt; reader.number(), 1);
     assert_eq!(rt; (map.keys(), map.slots(), map.readers()), (2, 1, 1));
     assert_eq!(rt;
-        map.fill(&mut writer, 0, &rows_of(&[(1, 1)])?),
+        map.fill(&mut writer, 0, 0, &rows_of(&[(1, 1)])?),
         Err(FillFault::NotAsked)
     );
     assert_eq!(rt;
@@ -153,8 +153,8 @@ fn a_filled_key_is_refused(rt: HostRuntime) -> Result<(), Fail> {
     };
     let one = rows_of(&[(1, 1)])?;
     assert_eq!(rt; spent(map.ask(&mut reader, 0)), Told::Send(0));
-    assert_eq!(rt; map.fill(&mut writer, 0, &one), Ok(()));
-    assert_eq!(rt; map.fill(&mut writer, 0, &one), Err(FillFault::Already));
+    assert_eq!(rt; map.fill(&mut writer, 0, 0, &one), Ok(()));
+    assert_eq!(rt; map.fill(&mut writer, 0, 0, &one), Err(FillFault::Already));
     assert_eq!(rt; spent(map.ask(&mut reader, 0)), Told::Filled);
     let lacking = Batch::of(&[Delta {
         plus: false,
@@ -185,17 +185,17 @@ fn a_slot_is_free_again_once_its_key_is_evicted(rt: HostRuntime) -> Result<(), F
     let none = NoSlot { live: 1, held: 0 };
     assert_eq!(rt; spent(map.ask(&mut reader, 0)), Told::Send(0));
     assert_eq!(rt; spent(map.ask(&mut reader, 1)), Told::Send(1));
-    assert_eq!(rt; map.fill(&mut writer, 0, &one), Ok(()));
+    assert_eq!(rt; map.fill(&mut writer, 0, 0, &one), Ok(()));
     assert_eq!(rt;
         map.update(&mut writer, 0, &added(2)?),
         Err(UpdateFault::NoSlot(none))
     );
     assert_eq!(rt;
-        map.fill(&mut writer, 1, &one),
+        map.fill(&mut writer, 1, 0, &one),
         Err(FillFault::NoSlot(none))
     );
     assert_eq!(rt; map.evict(&mut writer, 0), Evict::Evicted);
-    assert_eq!(rt; map.fill(&mut writer, 1, &one), Ok(()));
+    assert_eq!(rt; map.fill(&mut writer, 1, 0, &one), Ok(()));
     let mut rows = RowSet::new();
     assert_eq!(rt; map.look(&mut writer, 1, &mut rows), Found::Rows);
     assert!(rt; pairs_are(&rows, &[(1, 1)]));
@@ -275,7 +275,7 @@ fn write_often(map: &ReaderMap, mut writer: Writer) -> Result<bool, Fail>
         }
         if mark % 4 == 3 {
             let _ = map.evict(&mut writer, 0);
-        } else if map.fill(&mut writer, 0, &marked(mark)?) == Err(FillFault::Already) {
+        } else if map.fill(&mut writer, 0, 0, &marked(mark)?) == Err(FillFault::Already) {
             let _ = map.update(&mut writer, 0, &renewal(&rows, mark)?);
         }
     }
@@ -345,7 +345,7 @@ fn sets_are_found_whole(rt: HostRuntime) -> Result<(), Fail> {
         return Ok(());
     };
     assert_eq!(rt; spent(map.ask(&mut one, 0)), Told::Send(0));
-    assert_eq!(rt; map.fill(&mut writer, 0, &marked(0)?), Ok(()));
+    assert_eq!(rt; map.fill(&mut writer, 0, 0, &marked(0)?), Ok(()));
     let (written, found) = all_at_once(&rt, &map, writer, one, two);
     assert!(rt; written?);
     assert_eq!(rt; found, (true, true));

@@ -10,5 +10,5 @@ impl Model for View {
 
     ghost Value = { Knowledge };
 
-    ghost view = { λ _. opener (record { keys = 0; slots = 0; readers = 0; bound = 0; first = 0 }) };
+    ghost view = { λ _. opener (record { keys = 0; slots = 0; readers = 0; first_count = 0; first_number = 0 }) };
 }

@@ -1,11 +1,13 @@
 //! The writer's token.
-ghost use Rattle.std.specs.Prelude.{◌≡◌, IfOk};
+ghost use Rattle.std.specs.Prelude.{◌≡◌, [], IfOk};
+ghost use Rattle.nr_core.specs.Sizes.{IsShape};
 ghost use Rattle.nr_core.specs.States.{opening_desk};
 ghost use Rattle.nr_core.specs.declared.roles.Role.TheVariants.{Writer as writer_role};
 ghost use Rattle.nr_map.specs.Callers.{KnowsOwn, token};
 
 use crate::board::Seat;
 use crate::spare::Spare;
+use nr_core::Shape;
 use std::alloc::{AllocError, Global};
 use std::marker::Model;
 
@@ -29,14 +31,16 @@ impl Model for Writer {
 }
 
 impl Writer {
-    /// The writer of a new map of so many slots.
-    pub(crate) fn of_seat(alloc: Global, seat: Seat, slots: u32) -> Result<Writer, AllocError>
-        requires role { seat.me.0.role ≡ writer_role opening_desk }
-        requires slots { slots ≡ seat.me.0.shape.slots }
+    /// The writer of a new map of that shape.
+    pub(crate) fn of_seat(alloc: Global, seat: Seat, shape: &Shape) -> Result<Writer, AllocError>
+        requires sizes { IsShape shape.now }
+        requires role { seat.me.0.role ≡ writer_role (opening_desk shape.now) }
+        requires shape { seat.me.0.shape ≡ shape.now }
+        requires new { seat.me.0.seen ≡ [] }
         requires own { KnowsOwn (token seat) }
         ensures { IfOk result (λ writer. writer ≡ token seat) }
     {
-        let spare = Spare::open(alloc, slots)?;
+        let spare = Spare::open(alloc, shape)?;
         Ok(Writer { seat, spare })
     }
 }

@@ -26,16 +26,23 @@ impl ReaderMap {
         self.look_up(&mut writer.seat, &writer.spare, key, rows)
     }
 
-    /// Fills a key that was asked for. Refused where nobody asked, where the key is filled, and
-    /// where it needs a slot and each one is a filled key's or held by a reader. Takes 1 step where
+    /// Fills a key that was asked for, by the number of its request. Refused where nobody asked,
+    /// where the key is filled, where the key was asked with another number (`Stale`), and where it
+    /// needs a slot and each one is a filled key's or held by a reader. Takes 1 step where
     /// it is refused by the key, 2n + 3 and the polls for n rows where it is done, and 1 and a poll
     /// of each retired slot where there is none.
-    pub fn fill(&self, writer: &mut Writer, key: u32, rows: &RowSet) -> Result<(), FillFault>
+    pub fn fill(
+        &self,
+        writer: &mut Writer,
+        key: u32,
+        number: u64,
+        rows: &RowSet,
+    ) -> Result<(), FillFault>
         requires own { writer.old.table ≡ self.now }
         requires key { key < self.now.shape.keys }
-        ensures { FillsKey key rows.now writer.old writer.new result }
+        ensures { FillsKey key number rows.now writer.old writer.new result }
     {
-        self.fill_key(&mut writer.seat, &mut writer.spare, key, rows)
+        self.fill_key(&mut writer.seat, &mut writer.spare, key, number, rows)
     }
 
     /// Applies a batch to the set of a filled key, whole or not at all. Refused where the key is not
@@ -52,7 +59,8 @@ impl ReaderMap {
         self.update_key(&mut writer.seat, &mut writer.spare, key, batch)
     }
 
-    /// Makes a filled key a hole. Takes 2 steps, and 1 where the key is not filled.
+    /// Makes a filled key a hole, which keeps its number. Takes 2 steps, and 1 where the key is not
+    /// filled.
     pub fn evict(&self, writer: &mut Writer, key: u32) -> Evict
         requires own { writer.old.table ≡ self.now }
         requires key { key < self.now.shape.keys }
@@ -83,23 +91,27 @@ impl ReaderMap {
         seat: &mut Seat,
         spare: &mut Spare,
         key: u32,
+        number: u64,
         rows: &RowSet,
     ) -> Result<(), FillFault>
         requires own { (token seat.old).table ≡ self.now }
         requires rests { RestsAt (token seat.old).table spare.old seat.old }
         requires key { key < self.now.shape.keys }
         ensures rests { RestsAt (token seat.new).table spare.new seat.new }
-        ensures fills { FillsKey key rows.now (token seat.old) (token seat.new) result }
+        ensures fills { FillsKey key number rows.now (token seat.old) (token seat.new) result }
     {
         // That it is a row set is known of a set whose length was asked for.
         let _ = rows.len();
-        let call = WriterCall::Fill(key, *rows);
+        let call = WriterCall::Fill(key, number, *rows);
         let found = parts(self.board.look(seat, &call));
         if found.filled {
             return Err(FillFault::Already);
         }
         if !found.ask {
             return Err(FillFault::NotAsked);
+        }
+        if u64::from(found.slot) != number {
+            return Err(FillFault::Stale);
         }
         if let Err(counts) = self.publish(seat, spare, &call, rows) {
             return Err(FillFault::NoSlot(counts));
@@ -150,7 +162,7 @@ impl ReaderMap {
         if !found.filled {
             return Evict::Nothing;
         }
-        let old_word = self.board.unpublish(seat, key);
+        let old_word = self.board.unpublish(seat, key, spare.number(key));
         spare.retire(old_word);
         Evict::Evicted
     }

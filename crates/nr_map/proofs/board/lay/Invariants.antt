@@ -1,6 +1,7 @@
-use Rattle.std.proofs.Common.{replicate, ◌∷◌, ◌++◌, ◌≡◌}
+use Rattle.std.proofs.Common.{false, replicate, ◌++◌, ◌∷◌, ◌≡◌}
 use Rattle.nr_core.specs.Slots.{repeated}
 use Rattle.nr_map.proofs.board.lay.Given as goal
+use Rattle.nr_words.specs.KeyWords.{hole_word}
 
 abbrev pub invariant-loop : goal.invariant-loop
-invariant-loop l = l.words.items ≡ replicate l.shape.keys 0 ++ repeated l.counter (l.shape.first ∷ replicate 31 0)
+invariant-loop l = l.words.items ≡ replicate l.shape.keys (hole_word l.shape.first_number false) ++ repeated l.counter (l.shape.first_count ∷ replicate 31 0)

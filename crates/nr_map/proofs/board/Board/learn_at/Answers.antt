@@ -1,6 +1,6 @@
 use Rattle.std.proofs.Common.{ap, arith, sym, ◌∙◌, ◌<◌}
 use Rattle.nr_core.specs.declared.shape.Shape.{Shape}
-use Rattle.nr_map.proofs.Gathering.{learns_seat}
+use Rattle.nr_map.proofs.Gathering.{learned_numbers, learns_seat}
 use Rattle.nr_map.proofs.Learning.{learns_so}
 use Rattle.nr_map.specs.Callers.{Table}
 use Rattle.nr_map.proofs.board.Board.learn_at.Goals as goal
@@ -18,4 +18,5 @@ returns c = let learned = c.load.ensures.2 in record {
   learns = learns_seat c.args.key c.load.result c.args.seat.now c.load.new.seat c.load.ensures.0 learned;
   role = (c.load.ensures.0, learned.role);
   state = learned.state;
+  numbers = λ desk is. learned_numbers c.args.self.now c.args.seat.now c.load.new.seat c.args.key c.load.result c.requires.own learned desk is;
 }

@@ -13,11 +13,12 @@ use Rattle.nr_map.specs.Callers.{Table}
 use Rattle.nr_map.specs.Plays.{Looked}
 use Rattle.nr_map.specs.Rule.{Kept}
 use Rattle.nr_map.proofs.board.Board.look_given.Goals as goal
+use Rattle.nr_core.specs.Slots.{bound_of}
 
 pub load-requires : goal.load-requires
 load-requires g c = let shared = c.self.inside.table.shared in let about = c.self.invariant in let seat = c.args.seat.now in let writer = c.requires.writer in let call = c.args.call.now in
     let key_is : shared.key ≡ c.args.self.now.shape = about.0 ∙ ap (λ (t : Table). t.shape) c.self.view_is in let near : key_of call < shared.key.keys = omega (arith, c.requires.key, ap (λ (s : Shape). s.keys) key_is) in
-    let given : IsGivenCall shared.key.bound call = subst (λ (s : Shape). IsGivenCall s.bound call) (sym key_is) c.requires.given in
+    let given : IsGivenCall (bound_of shared.key) call = c.requires.given in
     let n : ℕ = shared.table_id.slots in (
       ap (λ (t : Table). t.id) (writer.writes.own ∙ sym c.self.view_is),
       omega (arith, c.key.ensures, ap (λ (s : Shape). s.keys) about.0),

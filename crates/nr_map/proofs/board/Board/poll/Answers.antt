@@ -16,7 +16,7 @@ use Rattle.nr_map.specs.WriterSeats.{IsPolling, MapSeat}
 use Rattle.nr_map.proofs.board.Board.poll.Goals as goal
 
 inside : (table : Table) (slot : ℕ) (seat : MapSeat) → IsPolling table slot seat → slot < table.shape.slots
-inside table slot seat polling = let few = subst (RoomAt table.shape polling.desk.retired) polling.place polling.writes.room.place in
+inside table slot seat polling = let few = subst (RoomAt table.shape polling.desk) polling.place polling.writes.room.place in
     let low = polling.writes.room.inside polling.poll (retired_at polling.desk polling.poll) (at_get polling.desk.retired polling.poll few) in let is = polling.slot_is in omega arith
 
 pub departures-place-requires : goal.departures-place-requires

@@ -16,14 +16,14 @@ use Rattle.nr_map.proofs.board.Board.read.Goals as goal
 
 pub overflow_add-place : goal.overflow_add-place
 overflow_add-place c = let shape = c.self.invariant.4 in let reader = c.requires.reader in let words = length-encode (rows_held c.args.seat.now.me.0.role) in
-    omega (arith, reader.begin_is, c.requires.index, reader.holds.inside, reader.holds.row_set.1, shape.bound, shape.slots, ap (λ (t : Table). t.shape.keys) c.self.view_is, ap (λ (t : Table). t.shape.slots) c.self.view_is, ap (λ (t : Table). t.shape.bound) c.self.view_is)
+    omega (arith, reader.begin_is, c.requires.index, reader.holds.inside, reader.holds.row_set.1, shape.bound, shape.slots, ap (λ (t : Table). t.shape.keys) c.self.view_is, ap (λ (t : Table). t.shape.slots) c.self.view_is)
 
 pub load-requires : goal.load-requires
 load-requires c = let shared = c.self.inside.table.shared in let about = c.self.invariant in let seat = c.args.seat.now in let shape = about.4 in let reader = c.requires.reader in let words = length-encode (rows_held seat.me.0.role) in
     let slot : ℕ = slot_held seat.me.0.role in let index : ℕ = c.args.index in let key_is : shared.key ≡ c.args.self.now.shape = about.0 ∙ ap (λ (t : Table). t.shape) c.self.view_is in
     let place : c.args.begin + c.from.result ≡ content shared.key slot index = omega (arith, reader.begin_is, c.from.ensures, ap (λ (s : Shape). s.keys) key_is) in (
       ap (λ (t : Table). t.id) (reader.own ∙ sym c.self.view_is),
-      omega (arith, reader.begin_is, c.from.ensures, c.requires.index, reader.holds.inside, reader.holds.row_set.1, shape.bound, ap (λ (t : Table). t.shape.keys) c.self.view_is, ap (λ (t : Table). t.shape.slots) c.self.view_is, ap (λ (t : Table). t.shape.bound) c.self.view_is),
+      omega (arith, reader.begin_is, c.from.ensures, c.requires.index, reader.holds.inside, reader.holds.row_set.1, shape.bound, ap (λ (t : Table). t.shape.keys) c.self.view_is, ap (λ (t : Table). t.shape.slots) c.self.view_is),
       subst (λ (at : ℕ). Allows (Kept shared.key) shared.table_id.slots seat.id seat.me at (λ n. n) (read (step shared.table_id.slots at 0 0 none) seat.me)) (sym place)
           (reads_so shared.key shared.table_id.slots seat.id seat.me index reader.holds.is c.requires.index (ap (λ (t : Table). t.shape) reader.own ∙ sym key_is)),
     )

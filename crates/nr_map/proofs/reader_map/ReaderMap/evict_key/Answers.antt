@@ -14,13 +14,13 @@ returns-then-not-found c = let told = look_ends c.self.inside.board c.args.self.
     c.look.ensures.marks reply.Nothing (evict_nothing c.args.self.now.shape (desk_with c.args.spare.now Idle) c.args.key c.look.result (is_empty c.parts-found.result c.look.result c.parts-found.ensures.parts c.if-not-found.true)) in
     record { rests = told.0; evicts = told.1 }
 
-pub unpublish-old_word-requires-clause-writer : goal.unpublish-old_word-requires-clause-writer
-unpublish-old_word-requires-clause-writer c = let leads = look_goes c.self.inside.board c.args.self.now c.self.view_is c.args.spare.now c.args.seat.now c.requires.own c.requires.rests (writer.Evict c.args.key) c.look.result c.look.new.seat c.look.ensures.leads c.look.ensures.marks (desk_with c.args.spare.now (Leaving c.args.key), Going) (evict_leaves c.args.self.now.shape (desk_with c.args.spare.now Idle) c.args.key c.look.result (is_full c.parts-found.result c.look.result c.parts-found.ensures.parts c.if-not-found.false)) in
-    subst (λ (t : Table). IsLeaving t c.args.key c.look.new.seat) (sym c.self.view_is) (record { desk = desk_with c.args.spare.now (Leaving c.args.key); writes = leads.writes; place = refl })
+pub unpublish-old_word-requires : goal.unpublish-old_word-requires
+unpublish-old_word-requires c = let leads = look_goes c.self.inside.board c.args.self.now c.self.view_is c.args.spare.now c.args.seat.now c.requires.own c.requires.rests (writer.Evict c.args.key) c.look.result c.look.new.seat c.look.ensures.leads c.look.ensures.marks (desk_with c.args.spare.now (Leaving c.args.key), Going) (evict_leaves c.args.self.now.shape (desk_with c.args.spare.now Idle) c.args.key c.look.result (is_full c.parts-found.result c.look.result c.parts-found.ensures.parts c.if-not-found.false)) in
+    subst (λ (t : Table). IsLeaving t c.args.key c.number.result c.look.new.seat) (sym c.self.view_is) (record { desk = desk_with c.args.spare.now (Leaving c.args.key); writes = leads.writes; place = refl; number_is = c.number.ensures })
 
 pub retire-requires : goal.retire-requires
 retire-requires c = let leads = look_goes c.self.inside.board c.args.self.now c.self.view_is c.args.spare.now c.args.seat.now c.requires.own c.requires.rests (writer.Evict c.args.key) c.look.result c.look.new.seat c.look.ensures.leads c.look.ensures.marks (desk_with c.args.spare.now (Leaving c.args.key), Going) (evict_leaves c.args.self.now.shape (desk_with c.args.spare.now Idle) c.args.key c.look.result (is_full c.parts-found.result c.look.result c.parts-found.ensures.parts c.if-not-found.false)) in
-    omega (arith, leads.writes.room.place, c.requires.rests.slots, ap (λ (t : Table). t.shape.slots) c.requires.own)
+    omega (arith, leads.writes.room.place.1, c.requires.rests.slots, ap (λ (t : Table). t.shape.slots) c.requires.own)
 
 pub returns : goal.returns
 returns c = let leads = look_goes c.self.inside.board c.args.self.now c.self.view_is c.args.spare.now c.args.seat.now c.requires.own c.requires.rests (writer.Evict c.args.key) c.look.result c.look.new.seat c.look.ensures.leads c.look.ensures.marks (desk_with c.args.spare.now (Leaving c.args.key), Going) (evict_leaves c.args.self.now.shape (desk_with c.args.spare.now Idle) c.args.key c.look.result (is_full c.parts-found.result c.look.result c.parts-found.ensures.parts c.if-not-found.false)) in

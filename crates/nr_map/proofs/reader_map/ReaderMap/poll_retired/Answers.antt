@@ -46,6 +46,7 @@ returns-then-same_count c = let so_far = c.loop-place.invariant in let spare = c
       took = inr (c.requires.none_fresh, place, get_or spare.retired place no_retired, at_get spare.retired place low, refl, refl, refl, refl);
       few = let few = so_far.1.few in omega arith;
       slots = refl;
+      numbers = refl;
       writes = took.0;
       grows = took.1;
       marks = took.2;

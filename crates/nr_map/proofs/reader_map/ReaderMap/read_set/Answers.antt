@@ -11,7 +11,7 @@ use Rattle.nr_map.proofs.reader_map.ReaderMap.read_set.Goals as goal
 pub overflow_cast-i-end : goal.overflow_cast-i-end
 overflow_cast-i-end c = let desk = desk_of c.args.seat.now.me.0.role in let begun = read_count c.args.self.now desk c.args.call.now c.args.slot c.args.seat.now c.read_on-count.new.seat c.read_on-count.result c.requires.writer
     (subst (λ (table : Table). GoesOn table c.read_on-count.result c.args.seat.now c.read_on-count.new.seat) c.self.view_is c.read_on-count.ensures) in
-    omega (arith, begun.count_is, begun.row_set.1, c.self.invariant, ap (λ (t : Table). t.shape.bound) c.self.view_is)
+    omega (arith, begun.count_is, begun.row_set.1)
 
 pub loop-i-init : goal.loop-i-init
 loop-i-init c = let desk = desk_of c.args.seat.now.me.0.role in let begun = read_count c.args.self.now desk c.args.call.now c.args.slot c.args.seat.now c.read_on-count.new.seat c.read_on-count.result c.requires.writer
@@ -32,7 +32,7 @@ read_on-b-requires c = let desk = desk_of c.args.seat.now.me.0.role in
     (reading_second c.args.self.now desk c.args.call.now c.args.slot c.args.seat.now c.loop-i.seat c.read_on-count.result c.loop-i.i c.loop-i.rows c.loop-i.invariant c.loop-i-test.true c.read_on-a.result c.read_on-a.new.seat goes c.content-begin.result begin)
 
 pub push-requires-clause-room : goal.push-requires-clause-room
-push-requires-clause-room c = let so_far = c.loop-i.invariant in omega (arith, so_far.size, so_far.count_is, so_far.row_set.1, c.loop-i-test.true, c.self.invariant, ap (λ (t : Table). t.shape.bound) c.self.view_is)
+push-requires-clause-room c = let so_far = c.loop-i.invariant in omega (arith, so_far.size, so_far.count_is, so_far.row_set.1, c.loop-i-test.true)
 
 pub push-requires-clause-in_order : goal.push-requires-clause-in_order
 push-requires-clause-in_order c = let desk = desk_of c.args.seat.now.me.0.role in

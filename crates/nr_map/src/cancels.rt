@@ -1,0 +1,62 @@
+//! Requests that are taken back, and the numbers that tell them apart.
+ghost use Rattle.std.specs.Prelude.{◌≡◌, ◌<◌, slice_index};
+ghost use Rattle.nr_model.specs.Maps.{number_of, state_of};
+ghost use Rattle.nr_map.specs.Callers.{map_seen, token};
+ghost use Rattle.nr_map.specs.WriterSeats.{RestsAt};
+
+use crate::answers::Cancel;
+use crate::board::Seat;
+use crate::reader_map::ReaderMap;
+use crate::spare::Spare;
+use crate::writer::Writer;
+use nr_core::WriterCall;
+use nr_model::LAST_NUMBER;
+use nr_words::parts;
+
+impl ReaderMap {
+    ghost use Rattle.nr_map.specs.Answers.{CancelsKey};
+
+    /// Takes the request of a key back: an asked key is a hole with the next number, so its next
+    /// request is sent anew, and a late answer to the old one is stale. Nothing happens where the
+    /// key is not asked, and where its number is the last one, 4,194,303 (`Worn`): that request
+    /// stays, and its own fill alone ends it. Takes 2 steps, and 1 where nothing happens.
+    pub fn cancel(&self, writer: &mut Writer, key: u32) -> Cancel
+        requires own { writer.old.table ≡ self.now }
+        requires key { key < self.now.shape.keys }
+        ensures { CancelsKey key writer.old writer.new result }
+    {
+        self.cancel_key(&mut writer.seat, &mut writer.spare, key)
+    }
+
+    /// The number of a key, as the writer's list has it. A request of the key is sent with it, and
+    /// each cancel raises it by one. Takes no step.
+    pub fn number(&self, writer: &Writer, key: u32) -> u64
+        requires own { writer.now.table ≡ self.now }
+        requires key { key < self.now.shape.keys }
+        ensures listed { result ≡ slice_index writer.now.numbers key }
+        ensures number { result ≡ number_of (state_of (map_seen writer.now) key) }
+    {
+        writer.spare.number(key)
+    }
+
+    fn cancel_key(&self, seat: &mut Seat, spare: &mut Spare, key: u32) -> Cancel
+        requires own { (token seat.old).table ≡ self.now }
+        requires rests { RestsAt (token seat.old).table spare.old seat.old }
+        requires key { key < self.now.shape.keys }
+        ensures rests { RestsAt (token seat.new).table spare.new seat.new }
+        ensures cancels { CancelsKey key (token seat.old) (token seat.new) result }
+    {
+        let call = WriterCall::Cancel(key);
+        let found = parts(self.board.look(seat, &call));
+        if found.filled || !found.ask {
+            return Cancel::Nothing;
+        }
+        if u64::from(found.slot) >= LAST_NUMBER {
+            return Cancel::Worn;
+        }
+        let next = spare.number(key) + 1;
+        self.board.withdraw(seat, key, next);
+        spare.renumber(key, next);
+        Cancel::Cancelled
+    }
+}
