@@ -2,7 +2,7 @@
 use Rattle.std.proofs.Common.{List, [], ap, arith, false, get_or, length, map, refl, subst, suc, sym, true, zero, ℕ, ◌*◌, ◌++◌, ◌+◌, ◌-◌, ◌<◌, ◌∙◌, ◌∷◌, ◌≡◌, ◌≤◌}
 use Rattle.std.proofs.Math.Logic.{∥∥₁_map}
 use Rattle.std.proofs.Props.{props}
-use Rattle.std.specs.Prelude.{None, Option, Some}
+use Rattle.std.specs.Prelude.{None, Option, Some, fold}
 use mathlib.Core.Logic.{dite, ∥∥₁_elim}
 use native.Mathlib.Decide.{dec_le}
 use Rattle.nr_model.specs.Histories.{Entry}
@@ -22,7 +22,7 @@ use Rattle.nr_core.specs.Refusals.{refusal}
 use Rattle.nr_core.specs.Roles.{held, taken}
 use Rattle.nr_core.specs.Sizes.{IsShape}
 use Rattle.nr_core.specs.Slots.{bound_of, name_number, named, slot_room}
-use Rattle.nr_core.specs.States.{Event, State, hold_of, key_of, no_retired, number_at, retired_at}
+use Rattle.nr_core.specs.States.{Event, State, hold_of, key_of, no_retired, number_at, opening, retired_at}
 use Rattle.nr_core.specs.Story.{holders, map_after, shown, story_of}
 use Rattle.nr_core.specs.declared.calls.Refusal.{Refusal}
 use Rattle.nr_core.specs.declared.places.Hold.{Hold}
@@ -45,6 +45,13 @@ shape_kept state event = go (refusal state event)
     go : (o : Option Refusal) → (unless o state (moved state event)).shape ≡ state.shape
     go None = refl
     go (Some why) = refl
+
+all_keep_shape : (events : List Event) (state : State) → (fold next state events).shape ≡ state.shape
+all_keep_shape [] state = refl
+all_keep_shape (event ∷ events) state = all_keep_shape events (next state event) ∙ shape_kept state event
+
+pub run_keeps_shape : (shape : Shape) (events : List Event) → (run shape events).shape ≡ shape
+run_keeps_shape shape events = all_keep_shape events (opening shape)
 
 reached_next : (state : State) (event : Event) → IsGiven (bound_of state.shape) event → Reached state → Reached (next state event)
 reached_next state event given reached = let kept = shape_kept state event in record {

@@ -146,6 +146,10 @@ SlotBound = (shape : Shape) (events : List Event) → IsShape shape → AllGiven
     → (length (story_of shape events).polls ≤ shape.readers)
     × ((event : Event) (counts : NoSlot) → IsGiven (bound_of shape) event → EndsWithout (run shape events) event counts → (counts.held ≤ shape.readers) × (shape.slots < shape.keys + shape.readers + 1))
 
--- a run goes on by one event, and the story's states are the run's
+-- a run goes on by one event and keeps its shape, and the story's states are the run's
 abbrev pub RunGoesOn : Type 0
-RunGoesOn = (shape : Shape) (events : List Event) (event : Event) → (run shape (events ++ event ∷ []) ≡ next (run shape events) event) × ((story_of shape events).state ≡ run shape events)
+RunGoesOn =
+    (shape : Shape) (events : List Event) (event : Event) →
+    (run shape (events ++ event ∷ []) ≡ next (run shape events) event)
+    × ((run shape events).shape ≡ shape)
+    × ((story_of shape events).state ≡ run shape events)

@@ -5,6 +5,8 @@ use Rattle.nr_model.specs.declared.batches.Delta.{Delta}
 use Rattle.nr_model.specs.declared.batches.ApplyFault.TheVariants as fault
 use Rattle.nr_model.specs.Rows.{is_ascending, in_order, count_of, IsRowSet}
 use Rattle.nr_model.specs.Batches.{applied, positive_rows, negative_rows}
+use Rattle.nr_model.specs.declared.calls.Call.TheVariants.{Ask, Fill}
+use Rattle.nr_model.specs.declared.calls.Reply.TheVariants as reply
 use Rattle.nr_model.specs.declared.states.KeyState.{KeyState}
 use Rattle.nr_model.specs.declared.states.KeyState.TheVariants.{Hole, Asked, Rows}
 use Rattle.nr_model.specs.Maps.{PartialMap, last_number, opening, state_of, number_of, reply_to, next}
@@ -81,3 +83,12 @@ NumbersCountCancels =
     key < keys →
     (number_of (state_of (after (opening keys bound first_number) history) key) ≡ first_number + cancels history key)
     × (first_number ≤ last_number → number_of (state_of (after (opening keys bound first_number) history) key) ≤ last_number)
+
+-- a request that is sent tells the first number and one more for each cancel before it, and a fill is done under that number alone
+abbrev pub AnswersFitTheirRequests : Type 0
+AnswersFitTheirRequests =
+    (keys bound first_number key number : ℕ) (history : List Entry) (e : Entry) →
+    IsLegal (opening keys bound first_number) (history ++ e ∷ []) →
+    key < keys →
+    ((e.call ≡ Ask key) → (e.reply ≡ reply.Send number) → number ≡ first_number + cancels history key)
+    × ((rows : List Row) → (e.call ≡ Fill key number rows) → (e.reply ≡ reply.Done) → number ≡ first_number + cancels history key)

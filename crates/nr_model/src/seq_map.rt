@@ -62,8 +62,9 @@ impl SeqMap {
         if is_bad_size(MAX_KEYS, keys) || first_number > LAST_NUMBER {
             return Err(OpenFault::BadSize);
         }
-        let states = vec![in alloc; KeyState::Hole(first_number); keys as usize]
-            .map_err(|_| OpenFault::Memory)?;
+        let states = vec![in alloc; KeyState::Hole(first_number); keys as usize].map_err(
+            |_| OpenFault::Memory,
+        )?;
         Ok(SeqMap { states })
     }
 

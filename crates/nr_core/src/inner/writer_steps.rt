@@ -210,7 +210,8 @@ impl Inner {
         ensures new { self.new ≡ moved self.old Go }
     {
         let number = self.number(key) + 1;
-        self.words.swap(self.layout.key(key), hole_word(number, false));
+        self.words
+            .swap(self.layout.key(key), hole_word(number, false));
         self.numbers[key as usize] = number;
         self.end(Reply::Cancelled)
     }
