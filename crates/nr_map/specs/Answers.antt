@@ -40,9 +40,9 @@ abbrev pub acts_of : Found → ℕ
 acts_of found.Rows = 2
 acts_of found.Hole = 1
 
--- a request: a ticket comes with Send alone, and is the key's
+-- a request: a ticket comes with Send alone, and is of the map and the key
 abbrev pub AsksKey : ℕ → Caller → Caller → Asked → Type 0
-AsksKey key old new (asked.Send ticket) = Gains 1 old (model.Ask key) reply.Send new × (ticket ≡ key)
+AsksKey key old new (asked.Send ticket) = Gains 1 old (model.Ask key) reply.Send new × (ticket ≡ record { table = old.table; key = key })
 AsksKey key old new asked.Waiting = Gains 1 old (model.Ask key) reply.Waiting new
 AsksKey key old new asked.Filled = Gains 1 old (model.Ask key) reply.Filled new
 
