@@ -59,7 +59,7 @@ in_order f g (reader ∷ readers) same = omega (arith, below-first g (length rea
 pub entries_are_callers_lem : EntriesAreCallers
 entries_are_callers_lem writer readers test knows =
     let log = writer.seen in let g : ℕ → ℕ = λ caller. count_by test (entries_of log caller) in let n : ℕ = length readers in
-    let all = by_callers test log (suc n) (λ caller beyond. nobody_else writer.table.shape.readers log caller knows.callers (let many = knows.count in omega arith)) in
+    let all = by_callers test log (suc n) (λ caller beyond. nobody_else writer.table.shape log caller knows.callers (let many = knows.count in omega arith)) in
     let of_writer : g 0 ≡ count_by test writer.mine = ap (count_by test) (ap (entries_of log) (sym knows.number) ∙ knows.own) in
     let of_readers = in_order (λ (reader : Caller). count_by test reader.mine) (λ at. g (suc at)) readers
     (λ at other low. ap (count_by test) (ap (entries_of log) (let next : suc at ≡ (get_or readers at other).number = omega (arith, knows.numbers at other low) in next) ∙ knows.each at other low)) in

@@ -11,7 +11,7 @@ use Rattle.nr_core.specs.declared.roles.Desk.{Desk}
 use Rattle.nr_core.specs.declared.roles.Grip.{Grip}
 use Rattle.nr_core.specs.declared.roles.Role.TheVariants.{Reader, Writer}
 use Rattle.nr_core.specs.declared.shape.Shape.{Shape}
-use Rattle.nr_marks.proofs.ExactPlace.{gathered_is_known_lem}
+use Rattle.nr_marks.proofs.ExactPlace.{gathered_is_known}
 use Rattle.nr_marks.proofs.ListPlaces.{at_left}
 use Rattle.nr_marks.specs.Exact.{Lists}
 use Rattle.nr_marks.specs.Marks.{Marks, Past, gripped, past, told_by}
@@ -91,7 +91,7 @@ compares_so writer reader heard told desk number grip writes reads still first s
     let compared = subst (λ r. LearnsOf r asked told second.0) reads second.2 in
     let heard_so = subst (λ r. Compared number grip reader.marks (told_by r heard.marks heard.pasts)) still compared.1 in
     let longer : (at : ℕ) (one : Past) → get_elem? news at ≡ some one → get_elem? heard.pasts at ≡ some one = λ at one is. ap (λ (l : List Past). get_elem? l at) first.1 ∙ at_left news writer.pasts at one is in
-    let known = gathered_is_known_lem desk.retired writer.marks (told_by reader.role reader.marks reader.pasts) news heard.pasts number grip reader.marks 0 (ap (λ r. get_elem? (told_by r reader.marks reader.pasts) 0) reads) learnt.0
+    let known = gathered_is_known desk.retired writer.marks (told_by reader.role reader.marks reader.pasts) news heard.pasts number grip reader.marks 0 (ap (λ r. get_elem? (told_by r reader.marks reader.pasts) 0) reads) learnt.0
     (λ at one is. (at, longer at one is)) heard_so in record {
       known = longer 0 (past number grip reader.marks) known.0;
       current = known.1;

@@ -28,21 +28,21 @@ reading_leaves bound (model.Evict key) number rows reads = absurd (cc)
 reading_leaves bound (model.Cancel key) number rows reads = absurd (cc)
 
 -- an entry of a reader, where none is the writer's
-reads_first : (readers : ℕ) (e : Entry) (log : List Entry) → IsCallers readers e → entries_of (e ∷ log) 0 ≡ [] → (is_reading e.call ≡ true) × (entries_of log 0 ≡ [])
-reads_first readers e log is none = ⊎_elim
+reads_first : (shape : Shape) (e : Entry) (log : List Entry) → IsCallers shape e → entries_of (e ∷ log) 0 ≡ [] → (is_reading e.call ≡ true) × (entries_of log 0 ≡ [])
+reads_first shape e log is none = ⊎_elim
     (λ (writes : e.caller ≡ 0). let here : e ∷ entries_of log 0 ≡ [] = sym (ap (λ (b : Bool). cond b (e ∷ entries_of log 0) (entries_of log 0)) (eq-eqb e.caller 0 writes)) ∙ none in absurd (cc))
     (λ reads. (reads.1, dite (ℕ_discrete e.caller 0)
     (λ writes. let here : e ∷ entries_of log 0 ≡ [] = sym (ap (λ (b : Bool). cond b (e ∷ entries_of log 0) (entries_of log 0)) (eq-eqb e.caller 0 writes)) ∙ none in absurd (cc))
-    (λ other. sym (entries_skip e log other) ∙ none))) is
+    (λ other. sym (entries_skip e log other) ∙ none))) is.1
   where
     entries_skip : (e : Entry) (log : List Entry) → e.caller ≢ 0 → entries_of (e ∷ log) 0 ≡ entries_of log 0
     entries_skip e log other = ap (λ (b : Bool). cond b (e ∷ entries_of log 0) (entries_of log 0)) (ne_eqb e.caller 0 other)
 
 -- the set stays
-set_stays : (shape : Shape) (key number : ℕ) (rows : List Row) (log more : List Entry) → key < shape.keys → AreCallers shape.readers more → entries_of more 0 ≡ [] → state_of (map_after shape log) key ≡ states.Rows number rows → state_of (map_after shape (log ++ more)) key ≡ states.Rows number rows
+set_stays : (shape : Shape) (key number : ℕ) (rows : List Row) (log more : List Entry) → key < shape.keys → AreCallers shape more → entries_of more 0 ≡ [] → state_of (map_after shape log) key ≡ states.Rows number rows → state_of (map_after shape (log ++ more)) key ≡ states.Rows number rows
 set_stays shape key number rows log [] near callers none had = ap (λ (l : List Entry). state_of (map_after shape l) key) (append-nil log) ∙ had
 set_stays shape key number rows log (e ∷ more) near callers none had =
-    let first = reads_first shape.readers e more callers.0 none in
+    let first = reads_first shape e more callers.0 none in
     let now : state_of (map_after shape (log ++ e ∷ [])) key ≡ states.Rows number rows = dite (ℕ_discrete key (key_of e.call))
     (λ same. ap (state_of (map_after shape (log ++ e ∷ []))) same ∙ state_same shape log e (subst (λ (k : ℕ). k < shape.keys) same near) ∙ ap (state_after (bound_of shape) e.call) (ap (state_of (map_after shape log)) (sym same) ∙ had) ∙ reading_leaves (bound_of shape) e.call number rows first.0)
     (λ other. state_other shape log e key other ∙ had) in
@@ -73,8 +73,8 @@ pub had_before : (shape : Shape) (key number : ℕ) (rows : List Row) (old mid n
     → (old.seen ++ all.between ≡ mid.seen ++ then.between) → mid.table ≡ old.table → state_of (map_after shape mid.seen) key ≡ states.Rows number rows → KeyHad key rows old all.between
 had_before shape key number rows old mid new steps after_steps entries mine sized near writes own ours then all same table had =
     let none : entries_of then.between 0 ≡ [] = ap (entries_of then.between) (sym writes) ∙ none_between after_steps mid entries new own (ap (entries_of entries) writes ∙ ours) then in
-    let readers : mid.table.shape.readers ≡ shape.readers = ap (λ (t : Table). t.shape.readers) table ∙ ap (λ (s : Shape). s.readers) sized in
-    let callers : AreCallers shape.readers then.between = callers_of_more shape.readers mid.seen then.between (callers_before shape.readers (mid.seen ++ then.between) entries
-    (subst (λ (p : ℕ × List Entry). AreCallers p.0 p.1) (λ j. (readers j, then.seen j)) then.callers)) in
+    let sizes : mid.table.shape ≡ shape = ap (λ (t : Table). t.shape) table ∙ sized in
+    let callers : AreCallers shape then.between = callers_of_more shape mid.seen then.between (callers_before shape (mid.seen ++ then.between) entries
+    (subst (λ (p : Shape × List Entry). AreCallers p.0 p.1) (λ j. (sizes j, then.seen j)) then.callers)) in
     let now = set_stays shape key number rows mid.seen then.between near callers none had in
     (number, ap (λ (l : List Entry). state_of (after (opening_map old.table) l) key) same ∙ ap (λ (s : Shape). state_of (map_after s (mid.seen ++ then.between)) key) sized ∙ now)

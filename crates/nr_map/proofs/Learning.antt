@@ -69,7 +69,7 @@ module _ (shape : Shape) (slots id : ℕ) (me : Me (Unit {0}) View) (at : ℕ) (
   learns_by notes can_learn tell = let tells = Learns view.role in
       lifts shape id view (Load at) tells notes slots me.1 (λ found next. Learned at found view next) view.told_pasts (learns shape id view.role at) can_learn (λ state kept there. kept.told_pasts id view there)
       (λ state kept there step marked. let found : ℕ = get_or state.words at 0 in let fits = kept.fits id view there in let sized = fits.sized call in
-      let callers : AreCallers shape.readers step.entries = subst (AreCallers shape.readers) (sym step.told.1) tt in
+      let callers : AreCallers shape step.entries = subst (AreCallers shape) (sym step.told.1) tt in
       let next = learned view step.after (kept.log ++ step.entries) step.entries marked.now marked.news in
       let same = still kept.log step.entries step.told.1 in let there_after = here_after (map role_of state.views) id view.role step.after (at_map role_of state.views id view there) in
       let numbers : (desk : Desk) → view.role ≡ Writer desk → AreNumbers shape (map_after shape (kept.log ++ step.entries)) desk.numbers = λ desk is. (step.core.knows id (Writer desk) (there_after ∙ ap some (step.told.0 ∙ is))).numbers in
@@ -85,7 +85,7 @@ module _ (shape : Shape) (slots id : ℕ) (me : Me (Unit {0}) View) (at : ℕ) (
           mine = ap (λ (l : List Entry). view.mine ++ l) step.told.1 ∙ append-nil view.mine;
           legal = subst (λ (g : Shape). IsLegal (opening_map g) (kept.log ++ step.entries)) (sym sized) step.core.legal;
           own = own (number_of step.after) (step.same (number_of step.after) ∙ ap (λ (n : ℕ). is_by n view.role) (ap number_of step.told.0) ∙ caller_is view.role call);
-          callers = subst (λ (p : Shape × List Entry). AreCallers p.0.readers p.1) (λ j. (sym sized j, same j)) kept.callers;
+          callers = subst (λ (p : Shape × List Entry). AreCallers p.0 p.1) (λ j. (sym sized j, same j)) kept.callers;
           steps_made = refl;
           fresh = ap (λ r. (desk_of r).fresh) step.told.0;
           retired = ap (λ r. (desk_of r).retired) step.told.0;

@@ -7,6 +7,7 @@ pub mod Notes
 pub mod Learning
 pub mod Gathering
 pub mod Gathered
+pub mod AllKeys
 pub mod Opens
 pub mod Tokens
 pub mod Rows

@@ -68,7 +68,7 @@ module _ (shape : Shape) (id : ℕ) (view : View) (operation : Operation) (tells
     pub pasts : next.pasts ≡ marked.news ++ view.pasts
     pub told_pasts : next.told_pasts ≡ view.told_pasts
     pub fits : Fits shape (kept.log ++ step.entries) next
-    pub callers : AreCallers shape.readers step.entries
+    pub callers : AreCallers shape step.entries
     pub told : then next
 
   -- whatever the table is, the token has such a view
@@ -92,7 +92,7 @@ module _ (shape : Shape) (id : ℕ) (view : View) (operation : Operation) (tells
             (λ (t : (j ≡ id) × (next ≡ u)). subst (Fits shape log') t.1 choice.fits)
             (λ (t : (j ≢ id) × (get_elem? views j ≡ some u)). other_fits shape kept.log step.entries u (kept.fits j u t.1) (λ caller his. step.own caller ∙ ap (λ y. cond y step.entries []) (apart shape state kept id j view u caller at t.1 t.0 his)))
             (at_set views id j next u e);
-        callers = callers_both shape.readers kept.log step.entries kept.callers choice.callers;
+        callers = callers_both shape kept.log step.entries kept.callers choice.callers;
         once = λ caller. let o = kept.once caller in omega (arith, tally caller);
         made = kept.made;
         readers = omega (arith, kept.readers, step.reader, ap (total is_reader) roles, total-set is_reader (map role_of views) id view.role step.after there);

@@ -3,7 +3,7 @@ use Rattle.std.proofs.Common.{◌≡◌, ℕ, ◌+◌, ◌≤◌, List, [], ◌�
 use Rattle.nr_model.specs.Maps.{filled_count}
 use Rattle.nr_core.specs.declared.places.Retired.{Retired}
 use Rattle.nr_core.specs.declared.shape.Shape.{Shape}
-use Rattle.nr_marks.proofs.ExactPlace.{done_is_exact_lem, no_slot_is_exact_lem}
+use Rattle.nr_marks.specs.MarkLaws.{DoneIsExact as DoneLaw, NoSlotIsExact as NoSlotLaw}
 use Rattle.nr_marks.specs.Exact.{Took}
 use Rattle.nr_marks.specs.Marks.{Marks, Past}
 use Rattle.nr_marks.specs.Pasts.{AllReaders}
@@ -19,14 +19,14 @@ use Rattle.nr_map.specs.Callers.{Caller, Table}
 use Rattle.nr_map.specs.ExactPlaces.{DoneIsExact, NoSlotIsExact}
 use Rattle.nr_map.specs.Meetings.{desk_seen}
 
-pub no_slot_lem : NoSlotIsExact
-no_slot_lem steps call counts old new after readers all known without learnt gathered =
+pub no_slot_lem : NoSlotLaw → NoSlotIsExact
+no_slot_lem law steps call counts old new after readers all known without learnt gathered =
     let shape = after.table.shape in let lacks = without.lacks in let lists = gathered.lists in
     let table : after.table ≡ old.table = learnt.table ∙ without.grows.table in
     let readers_are : shape.readers ≡ old.table.shape.readers = ap (λ (t : Table). t.shape.readers) table in
     let full : shape.slots ≤ after.fresh = let f = lacks.full in let same = learnt.fresh in let slots : shape.slots ≡ new.table.shape.slots = ap (λ (t : Table). t.shape.slots) learnt.table in omega arith in
     let taken_all : filled_count (map_after shape after.seen) + length after.retired ≡ after.fresh = lists.slots (λ slot. refl) in
-    no_slot_is_exact_lem shape (desk_seen after) after.marks after.seen old.pasts readers
+    law shape (desk_seen after) after.marks after.seen old.pasts readers
     (subst (λ (n : ℕ). AllReaders n readers) (sym readers_are) all)
     known
     (subst (λ (p : Shape × List Past). Noted p.0 old.pasts p.1) (λ j. ((sym table j).shape, (sym learnt.marks j).polls)) without.noted)
@@ -41,7 +41,7 @@ takes_so steps old call rows new published = ⊎_elim (λ fresh. inl fresh.0)
     let there : get_or new.marks.puts again.2.slot 0 ≡ published.number = ap (λ (s : ℕ). get_or new.marks.puts s 0) again.4 ∙ published.put in
     inr (again.1, again.2, again.3, omega (arith, count_more (old.seen ++ grows.between) (entry old.number call reply.Done), count_grows old.seen grows.between, published.count))) published.took
 
-pub done_lem : DoneIsExact
-done_lem steps call rows old new after readers gathered published learnt current =
-    done_is_exact_lem old.table.shape (desk_seen old) after.retired old.marks after.marks old.seen readers gathered.lists (λ slot. refl) gathered.current current
+pub done_lem : DoneLaw → DoneIsExact
+done_lem law steps call rows old new after readers gathered published learnt current =
+    law old.table.shape (desk_seen old) after.retired old.marks after.marks old.seen readers gathered.lists (λ slot. refl) gathered.current current
     (subst (λ (m : Marks). Took old.table.shape (desk_seen old) m old.seen) (sym learnt.marks) (takes_so steps old call rows new published))

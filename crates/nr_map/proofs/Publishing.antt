@@ -24,7 +24,7 @@ use Rattle.nr_map.specs.WriterSeats.{GoesOn, Knows, LeadsIn, MapSeat, PublishesS
 
 -- what the writer knows after a step is legal
 pub knows_after : (steps : ℕ) (old : Caller) (entries : List Entry) (new : Caller) → Grows steps old entries new → Knows new
-knows_after steps old entries new grows = record { legal = subst (λ (t : Table). IsLegal (opening_map t) new.seen) (sym grows.table) grows.legal; callers = subst (λ (t : Table). AreCallers t.shape.readers new.seen) (sym grows.table) grows.callers; own = grows.own }
+knows_after steps old entries new grows = record { legal = subst (λ (t : Table). IsLegal (opening_map t) new.seen) (sym grows.table) grows.legal; callers = subst (λ (t : Table). AreCallers t.shape new.seen) (sym grows.table) grows.callers; own = grows.own }
 
 -- so many words are put
 pub record PutSoFar (table : Table) (desk : Desk) (call : WriterCall) (rows : List Row) (slot departed : ℕ) (before after : MapSeat) (index : ℕ) : Type 0 where

@@ -4,6 +4,7 @@ use Rattle.std.specs.Prelude.{None, Option, Some, bit_or}
 use mathlib.Core.Option.{none, some}
 use Rattle.atomic_table.specs.Table.{Allows, Me, State, step}
 use Rattle.nr_model.specs.Histories.{Entry}
+use Rattle.nr_model.specs.Maps.{key_of}
 use Rattle.nr_model.specs.Rows.{IsRowSet}
 use Rattle.nr_model.specs.declared.rows.Row.{Row}
 use Rattle.nr_model.specs.declared.calls.Call.TheVariants as model
@@ -53,8 +54,8 @@ reader_within : (shape : Shape) (id : ℕ) (view : View) (grip : Grip) (state : 
 reader_within shape id view grip state kept at is = (subst (λ r. KnowsMarks role_of marks_of shape state.words state.views kept.log r view.marks) is (kept.marked.each id view at)).1
 
 -- a find or a request is an entry of the reader's
-reader_entry : (readers reader : ℕ) (call : Call) (answer : Reply) (entries : List Entry) → entries ≡ entry reader call answer ∷ [] → reader ≤ readers → is_reading call ≡ true → AreCallers readers entries
-reader_entry readers reader call answer entries is low reads = subst (AreCallers readers) (sym is) (inr (low, reads), tt)
+reader_entry : (shape : Shape) (reader : ℕ) (call : Call) (answer : Reply) (entries : List Entry) → entries ≡ entry reader call answer ∷ [] → key_of call < shape.keys → reader ≤ shape.readers → is_reading call ≡ true → AreCallers shape entries
+reader_entry shape reader call answer entries is near low reads = subst (AreCallers shape) (sym is) ((near, inr (low, reads)), tt)
 
 -- the reader's count, by its hold before and after
 acts_so : (view : View) (after : Role) (entries : List Entry) (marks : Marks) (before now : Option ℕ) (told : List Entry) → gripped (grip_of view.role) ≡ before → gripped (grip_of after) ≡ now → entries ≡ told → marks.acts + to_depart now ≡ view.marks.acts + to_depart before + acts_told told → ActsGo view after entries marks
@@ -67,7 +68,7 @@ asks_so shape slots id me key near idle = let view = me.0 in let reader = number
     (asks_marked role_of marks_of shape id view view.pasts reader key near idle) (knows_pasts shape id view)
     (λ state kept at step marked. let role : step.after ≡ view.role = step.told.0 ∙ sym idle in
     learning shape id view (Or key 1) tells (KeepsMarks view.marks) state kept at step marked (ap number_of role) (reader_shape shape kept.log view Nothing idle (kept.fits id view at))
-    (reader_entry shape.readers reader (model.Ask key) _ step.entries step.told.1 (reader_within shape id view Nothing state kept at idle) refl)
+    (reader_entry shape reader (model.Ask key) _ step.entries step.told.1 near (reader_within shape id view Nothing state kept at idle) refl)
     (acts_so view step.after step.entries marked.now None None _ (ap (λ r. gripped (grip_of r)) idle) (ap (λ r. gripped (grip_of r)) step.told.0) step.told.1 (let same = ap (λ (m : Marks). m.acts) marked.told.0 in omega arith))
     (λ next. Asked key (get_or state.words key 0) view next) (reader_is view.role Nothing idle) marked.told.1
     (entry reader (model.Ask key) (ask_word (get_or state.words key 0)) ∷ []) step.told.1 (λ advances. record { role = role; gains = advances; marks = marked.told.0 }))
@@ -83,13 +84,13 @@ arrives_so shape slots id me key near idle = let view = me.0 in let reader = num
     (arrives_marked role_of marks_of shape id view view.pasts reader key near idle) (knows_pasts shape id view)
     (λ state kept at step marked. let found : ℕ = get_or state.words key 0 in let sized = reader_shape shape kept.log view Nothing idle (kept.fits id view at) in
     let next = learned view step.after (kept.log ++ step.entries) step.entries marked.now marked.news in
-    let choose : number_of step.after ≡ reader → (told : List Entry) → AreCallers shape.readers step.entries → ActsGo view step.after step.entries marked.now → step.entries ≡ told → (Advances view told next → Arrived key found view next) → Choice shape id view (Add key ARRIVE) tells (ArrivesMarks view.marks key) state kept step marked (λ next. Arrived key found view next)
+    let choose : number_of step.after ≡ reader → (told : List Entry) → AreCallers shape step.entries → ActsGo view step.after step.entries marked.now → step.entries ≡ told → (Advances view told next → Arrived key found view next) → Choice shape id view (Add key ARRIVE) tells (ArrivesMarks view.marks key) state kept step marked (λ next. Arrived key found view next)
     = λ same told callers acts. learning shape id view (Add key ARRIVE) tells (ArrivesMarks view.marks key) state kept at step marked same sized callers acts (λ next. Arrived key found view next) (reader_is view.role Nothing idle) marked.told.1 told in
     let within = reader_within shape id view Nothing state kept at idle in let acts_are = ap (λ (m : Marks). m.acts) marked.told.0 in
     ⊎_elim
     (λ (t : (slot : ℕ) × (rows : List Row) × (name_number found ≡ suc slot) × (slot < shape.slots) × IsRowSet (bound_of shape) rows × (step.after ≡ Reader reader (On slot rows false)) × (step.entries ≡ entry reader (model.Find key) (reply.Rows rows) ∷ [])).
     let names = names_one found t.0 t.2 in let same : number_of step.after ≡ reader = ap number_of t.5 in let rows_so : rows_held step.after ≡ t.1 = ap rows_held t.5 in let slot_so : slot_held step.after ≡ t.0 = ap slot_held t.5 in
-    choose same (entry reader (model.Find key) (reply.Rows (rows_held step.after)) ∷ []) (reader_entry shape.readers reader (model.Find key) _ step.entries t.6 within refl)
+    choose same (entry reader (model.Find key) (reply.Rows (rows_held step.after)) ∷ []) (reader_entry shape reader (model.Find key) _ step.entries t.6 near within refl)
     (acts_so view step.after step.entries marked.now None (Some t.0) _ (ap (λ r. gripped (grip_of r)) idle) (ap (λ r. gripped (grip_of r)) t.5) t.6 (omega arith)) (t.6 ∙ ap (λ (rows : List Row). entry reader (model.Find key) (reply.Rows rows) ∷ []) (sym rows_so)) (λ advances. record {
       number = same;
       held = λ _. (
@@ -105,7 +106,7 @@ arrives_so shape slots id me key near idle = let view = me.0 in let reader = num
       marks = marked.told.0;
     }))
     (λ (t : (name_number found ≡ 0) × (step.after ≡ Reader reader Nothing) × (step.entries ≡ entry reader (model.Find key) reply.Hole ∷ [])).
-    choose (ap number_of t.1) (entry reader (model.Find key) reply.Hole ∷ []) (reader_entry shape.readers reader (model.Find key) _ step.entries t.2 within refl)
+    choose (ap number_of t.1) (entry reader (model.Find key) reply.Hole ∷ []) (reader_entry shape reader (model.Find key) _ step.entries t.2 near within refl)
     (acts_so view step.after step.entries marked.now None None _ (ap (λ r. gripped (grip_of r)) idle) (ap (λ r. gripped (grip_of r)) t.1) t.2 (omega arith)) t.2 (λ advances. record {
       number = ap number_of t.1;
       held = λ full. differ (is_filled found) _ full (names_none found t.0);
@@ -121,7 +122,7 @@ reads_so shape slots id me index is low sized = let view = me.0 in let reader = 
     lifts shape id view (Load place) tells (KeepsMarks view.marks) slots me.1 (λ found next. Read place found view next) view.pasts (subst (λ r. CanStep shape id r (Load place) tells) (sym is) (reads shape id reader slot rows sized_so index low))
     (reads_marked role_of marks_of shape id view view.pasts reader slot index rows sized_so is) (knows_pasts shape id view)
     (λ state kept at step marked. let same : number_of step.after ≡ reader = ap number_of step.told.1 in
-    waiting shape id view (Load place) tells (KeepsMarks view.marks) state kept at step marked same sized (subst (AreCallers shape.readers) (sym step.told.2) tt)
+    waiting shape id view (Load place) tells (KeepsMarks view.marks) state kept at step marked same sized (subst (AreCallers shape) (sym step.told.2) tt)
     (acts_so view step.after step.entries marked.now (Some slot) (Some slot) [] (ap (λ r. gripped (grip_of r)) is) (ap (λ r. gripped (grip_of r)) step.told.1) step.told.2 (let same = ap (λ (m : Marks). m.acts) marked.told.0 in omega arith)) (λ next. Read place (get_or state.words place 0) view next) marked.told.1 step.told.2
     (λ waits. record {
       value = let begins : content view.shape slot 0 ≡ content shape slot 0 = ap (λ (s : Shape). content s slot 0) sized in let back : index ≡ place - content view.shape slot 0 = omega arith in
@@ -137,5 +138,5 @@ departs_so shape slots id me is sized = let view = me.0 in let reader = number_o
     let place : ℕ = departures shape slot in let tells = Departs reader in
     lifts shape id view (Add place 1) tells (DepartsMarks view.marks) slots me.1 (λ found next. Departed view next) view.pasts (subst (λ r. CanStep shape id r (Add place 1) tells) (sym is) (departs shape id reader slot rows sized_so))
     (departs_marked role_of marks_of shape id view view.pasts reader slot rows sized_so is) (knows_pasts shape id view)
-    (λ state kept at step marked. waiting shape id view (Add place 1) tells (DepartsMarks view.marks) state kept at step marked (ap number_of step.told.0) sized (subst (AreCallers shape.readers) (sym step.told.1) tt)
+    (λ state kept at step marked. waiting shape id view (Add place 1) tells (DepartsMarks view.marks) state kept at step marked (ap number_of step.told.0) sized (subst (AreCallers shape) (sym step.told.1) tt)
     (acts_so view step.after step.entries marked.now (Some slot) None [] (ap (λ r. gripped (grip_of r)) is) (ap (λ r. gripped (grip_of r)) step.told.0) step.told.1 (let same = ap (λ (m : Marks). m.acts) marked.told.0 in omega arith)) (λ next. Departed view next) marked.told.1 step.told.1 (λ waits. record { role = step.told.0; waits = waits; marks = marked.told.0 }))

@@ -40,7 +40,7 @@ grows_rests m n sum a entries b c is first then = record {
   mine = then.mine ∙ first.mine;
   legal = subst (IsLegal (opening_map a.table)) (sym then.seen) first.legal;
   own = (λ j. entries_of (then.seen j) (then.number j)) ∙ first.own ∙ sym then.mine;
-  callers = subst (AreCallers a.table.shape.readers) (sym then.seen) first.callers;
+  callers = subst (AreCallers a.table.shape) (sym then.seen) first.callers;
   steps_made = omega (arith, first.steps_made, then.steps_made);
   pasts = then.pasts ∙ first.pasts;
 }
@@ -54,7 +54,7 @@ grows_both m n sum a b entries c is first then = record {
   mine = then.mine ∙ ap (λ (l : List Entry). l ++ entries) (first.mine ∙ append-nil a.mine);
   legal = subst (λ (t : Table). IsLegal (opening_map t) c.seen) first.table then.legal;
   own = then.own;
-  callers = subst (λ (t : Table). AreCallers t.shape.readers c.seen) first.table then.callers;
+  callers = subst (λ (t : Table). AreCallers t.shape c.seen) first.table then.callers;
   steps_made = omega (arith, first.steps_made, then.steps_made);
   pasts = then.pasts ∙ first.pasts;
 }

@@ -42,9 +42,9 @@ abbrev pub acts_of : Found → ℕ
 acts_of found.Rows = 2
 acts_of found.Hole = 1
 
--- a request: a ticket comes with Send alone, and has the key and the number of the reply
+-- a request: a ticket comes with Send alone, and has the map, the key and the number of the reply
 abbrev pub AsksKey : ℕ → Caller → Caller → Asked → Type 0
-AsksKey key old new (asked.Send ticket) = Gains 1 old (model.Ask key) (reply.Send ticket.number) new × (ticket.key ≡ key)
+AsksKey key old new (asked.Send ticket) = Gains 1 old (model.Ask key) (reply.Send ticket.number) new × (ticket.table ≡ old.table) × (ticket.key ≡ key)
 AsksKey key old new asked.Waiting = Gains 1 old (model.Ask key) reply.Waiting new
 AsksKey key old new asked.Filled = Gains 1 old (model.Ask key) reply.Filled new
 

@@ -77,7 +77,7 @@ pub record Grows (steps : ℕ) (old : Caller) (entries : List Entry) (new : Call
   -- of the caller's calls the history has just those that it made, each once
   pub own : entries_of new.seen new.number ≡ new.mine
   -- and of others' only finds and requests of the map's readers, and calls of its writer
-  pub callers : AreCallers old.table.shape.readers new.seen
+  pub callers : AreCallers old.table.shape new.seen
   pub steps_made : new.steps ≡ old.steps + steps
   -- it learnt nothing of readers
   pub pasts : new.pasts ≡ old.pasts

@@ -1,10 +1,12 @@
 -- Whose the entries of a history are, and how many acts of a reader they tell.
-use Rattle.std.specs.Prelude.{◌≡◌, ℕ, ◌≤◌, ◌⊎◌, Bool, true, false, List, [], ◌∷◌, Option, Some, None}
+use Rattle.std.specs.Prelude.{◌≡◌, ℕ, ◌<◌, ◌≤◌, ◌⊎◌, Bool, true, false, List, [], ◌∷◌, Option, Some, None}
 use Rattle.nr_model.specs.declared.calls.Call.{Call}
 use Rattle.nr_model.specs.declared.calls.Call.TheVariants.{Find, Ask, Fill, Update, Evict, Cancel}
 use Rattle.nr_model.specs.declared.calls.Reply.{Reply}
 use Rattle.nr_model.specs.declared.calls.Reply.TheVariants as reply
 use Rattle.nr_model.specs.Histories.{Entry}
+use Rattle.nr_model.specs.Maps.{key_of}
+use Rattle.nr_core.specs.declared.shape.Shape.{Shape}
 use Rattle.nr_core.specs.Sums.{total}
 
 -- a find or a request
@@ -16,14 +18,14 @@ is_reading (Update key batch) = false
 is_reading (Evict key) = false
 is_reading (Cancel key) = false
 
--- the entry is the writer's, or a find or a request of one of so many readers
-abbrev pub IsCallers : ℕ → Entry → Type 0
-IsCallers readers entry = (entry.caller ≡ 0) ⊎ ((entry.caller ≤ readers) × (is_reading entry.call ≡ true))
+-- the entry is of a key of the map, and the writer's, or a find or a request of one of the readers
+abbrev pub IsCallers : Shape → Entry → Type 0
+IsCallers shape entry = (key_of entry.call < shape.keys) × ((entry.caller ≡ 0) ⊎ ((entry.caller ≤ shape.readers) × (is_reading entry.call ≡ true)))
 
 -- so is each entry
-abbrev pub AreCallers : ℕ → List Entry → Type 0
-AreCallers readers [] = Unit {0}
-AreCallers readers (entry ∷ log) = IsCallers readers entry × AreCallers readers log
+abbrev pub AreCallers : Shape → List Entry → Type 0
+AreCallers shape [] = Unit {0}
+AreCallers shape (entry ∷ log) = IsCallers shape entry × AreCallers shape log
 
 -- a reader arrives at each find, and departs from each set that it found
 abbrev pub find_acts : Reply → ℕ

@@ -12,6 +12,7 @@ pub mod Learning
 pub mod Rounds
 pub mod Pins
 pub mod Opened
+pub mod Tickets
 pub mod Spares
 pub mod Polls
 pub mod WriterSeats

@@ -1,5 +1,5 @@
 -- A reader that holds a set.
-use Rattle.std.specs.Prelude.{◌≡◌, ℕ, ◌+◌, List, length, Result, Ok, Err}
+use Rattle.std.specs.Prelude.{◌≡◌, ℕ, ◌+◌, List, length, IsSome, None, Result, Ok, Err}
 use Rattle.atomic_table.specs.declared.shared.Seat.{Seat}
 use Rattle.nr_model.specs.declared.rows.Row.{Row}
 use Rattle.nr_model.specs.declared.calls.Call.TheVariants as model
@@ -27,5 +27,5 @@ pub record Pins (seat : Seat (Unit {0}) View) (number begin count : ℕ) : Type 
 
 -- a pin is a find: of a filled key it holds the rows of the reply, whose put number is the key's, and a hole gives the reader back
 abbrev pub PinsKey : ℕ → Caller → Result Pinned Caller → Type 0
-PinsKey key old (Ok pin) = Gains 2 old (model.Find key) (reply.Rows pin.rows) pin.reader × (pin.reader.marks ≡ acted old.marks (put_number pin.reader.seen key))
-PinsKey key old (Err reader) = Gains 1 old (model.Find key) reply.Hole reader × (reader.marks.acts ≡ old.marks.acts + 1)
+PinsKey key old (Ok pin) = Gains 2 old (model.Find key) (reply.Rows pin.rows) pin.reader × (pin.reader.marks ≡ acted old.marks (put_number pin.reader.seen key)) × IsSome pin.reader.holds
+PinsKey key old (Err reader) = Gains 1 old (model.Find key) reply.Hole reader × (reader.marks.acts ≡ old.marks.acts + 1) × (reader.holds ≡ None)

@@ -1,9 +1,9 @@
 -- What the writer's history has of all callers after rounds of gathers.
-use Rattle.std.specs.Prelude.{◌≡◌, ℕ, ◌+◌, ◌<◌, Bool, List, [], All, length, slice_index_or}
+use Rattle.std.specs.Prelude.{◌≡◌, ℕ, ◌+◌, ◌<◌, ◌&&◌, Bool, List, [], All, length, slice_index_or}
 use Rattle.std.specs.List.{count_by}
-use Rattle.nr_model.specs.Histories.{Entry, IsLegal, cancels, entries_of, fills, sends}
+use Rattle.nr_model.specs.Histories.{Entry, IsLegal, asks, cancels, cancels_key, entries_of, fills, fills_key, is_cancelled, is_done, is_send, sends}
 use Rattle.nr_model.specs.Laws.{pending}
-use Rattle.nr_model.specs.Maps.{state_of}
+use Rattle.nr_model.specs.Maps.{key_of, state_of}
 use Rattle.nr_core.specs.Sums.{total}
 use Rattle.nr_map.specs.Callers.{Caller, KnowsOwn, map_seen, opening_map}
 use Rattle.nr_map.specs.Entries.{AreCallers}
@@ -33,7 +33,7 @@ pub record KnowsAll (writer : Caller) (readers : List Caller) : Type 0 where
   pub number : writer.number ≡ 0
   pub own : KnowsOwn writer
   pub legal : IsLegal (opening_map writer.table) writer.seen
-  pub callers : AreCallers writer.table.shape.readers writer.seen
+  pub callers : AreCallers writer.table.shape writer.seen
   pub count : length readers ≡ writer.table.shape.readers
   pub numbers : (at : ℕ) (other : Caller) → at < length readers → (slice_index_or readers at other).number ≡ at + 1
   pub each : All (HasJustCalls writer.seen) readers
@@ -53,3 +53,25 @@ SendsOfAll =
     key < writer.table.shape.keys →
     sends writer.mine key + total (λ reader. sends reader.mine key) readers
     ≡ fills writer.mine key + total (λ reader. fills reader.mine key) readers + (cancels writer.mine key + total (λ reader. cancels reader.mine key) readers) + pending (state_of (map_seen writer) key)
+
+-- a request that was answered Send, a fill that was done, and a cancel that was, of whatever key
+abbrev pub is_sent : Entry → Bool
+is_sent entry = asks (key_of entry.call) entry.call && is_send entry.reply
+
+abbrev pub is_fill : Entry → Bool
+is_fill entry = fills_key (key_of entry.call) entry.call && is_done entry.reply
+
+abbrev pub is_cancel : Entry → Bool
+is_cancel entry = cancels_key (key_of entry.call) entry.call && is_cancelled entry.reply
+
+-- so of all keys: requests answered Send are fills and cancels, and one for each key that is asked
+abbrev pub SendsOfAllKeys : Type 0
+SendsOfAllKeys =
+    (writer : Caller) (readers : List Caller) →
+    KnowsAll writer readers →
+    count_by is_sent writer.mine + total (λ reader. count_by is_sent reader.mine) readers
+    ≡ count_by is_fill writer.mine + total (λ reader. count_by is_fill reader.mine) readers + (count_by is_cancel writer.mine + total (λ reader. count_by is_cancel reader.mine) readers) + total pending (map_seen writer).states
+
+-- a beginning that is at least and at most is equal
+abbrev pub BeginningsMeet : Type 0
+BeginningsMeet = (one other : List Entry) → StartsWith one other → StartsWith other one → one ≡ other

@@ -50,7 +50,7 @@ pub record Kept (shape : Shape) (state : State (Unit {0}) View) : Type 0 where
   pub log : List Entry
   pub core : Core shape state.words (map role_of state.views) log
   pub fits : (id : ℕ) (view : View) → get_elem? state.views id ≡ some view → Fits shape log view
-  pub callers : AreCallers shape.readers log
+  pub callers : AreCallers shape log
   -- no two tokens are one caller
   pub once : (caller : ℕ) → total (counts caller) (map role_of state.views) ≤ 1
   -- the readers that were made are the first ones; the others have made no call

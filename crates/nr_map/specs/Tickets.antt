@@ -1,7 +1,9 @@
--- A request that has to be sent.
+-- What contracts see of a ticket.
 use Rattle.std.specs.Prelude.{ℕ}
+use Rattle.nr_map.specs.Callers.{Table}
 
--- the key that was requested, with the number that it had
-pub record Ticket : Type 0 where
+-- a request that was answered Send, with the number that its key had
+pub record Request : Type 0 where
+  pub table : Table
   pub key : ℕ
   pub number : ℕ

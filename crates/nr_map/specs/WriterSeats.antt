@@ -139,7 +139,7 @@ pub record PutsTo (table : Table) (desk : Desk) (old new : MapSeat) : Type 0 whe
 -- what the writer knows is legal, and has the entries of the map's callers, with its own
 pub record Knows (caller : Caller) : Type 0 where
   pub legal : IsLegal (opening_map caller.table) caller.seen
-  pub callers : AreCallers caller.table.shape.readers caller.seen
+  pub callers : AreCallers caller.table.shape caller.seen
   pub own : KnowsOwn caller
 
 -- the call has its set, and looks for a slot

@@ -272,8 +272,8 @@ impl Board {
         ensures { GoesOn self.now result seat.old seat.new }
     {
         let words = &self.table.shared;
-        let word = hole_word(number, false);
-        words.swap::<Goes>(seat, key as usize, word)
+        let hole = hole_word(number, false);
+        words.swap::<Goes>(seat, key as usize, hole)
     }
 
     /// The writer takes the key's request back: the key is a hole with the next number.
@@ -282,8 +282,8 @@ impl Board {
         ensures { (found : ℕ) × GoesOn self.now found seat.old seat.new }
     {
         let words = &self.table.shared;
-        let word = hole_word(next, false);
-        words.swap::<Goes>(seat, key as usize, word);
+        let hole = hole_word(next, false);
+        words.swap::<Goes>(seat, key as usize, hole);
     }
 
     /// A note of what the token has seen. The token stays as it is.

@@ -1,7 +1,7 @@
 //! Laws over the definitions alone. Nothing runs here: each function's contract is the law.
 ghost use Rattle.nr_map.specs.ExactPlaces.{DoneIsExact, NoSlotIsExact};
 ghost use Rattle.nr_map.specs.SlotBounds.{NoSlotIsRare, PollsAreFew, RoomForFills, RoomForUpdates};
-ghost use Rattle.nr_map.specs.Rounds.{CallsStay, EntriesAreCallers, RoundsTellAll, SendsOfAll};
+ghost use Rattle.nr_map.specs.Rounds.{BeginningsMeet, CallsStay, EntriesAreCallers, RoundsTellAll, SendsOfAll, SendsOfAllKeys};
 
 /// A caller's calls stay in a history that goes on.
 pub fn calls_stay()
@@ -20,21 +20,37 @@ pub fn entries_are_callers()
     ensures { EntriesAreCallers }
 {}
 
-/// All requests of a key that were answered `Send` are its fills, and one more where it is asked.
+/// All requests of a key that were answered `Send` are its fills and its cancels, and one more where
+/// it is asked.
 pub fn sends_of_all()
     ensures { SendsOfAll }
+{}
+
+/// So over all keys the requests that were answered `Send` are the fills that were done and the
+/// requests that were cancelled, and one more for each key that is asked.
+pub fn sends_of_all_keys()
+    ensures { SendsOfAllKeys }
+{}
+
+/// Of two histories each of which begins with the other, both are the same.
+pub fn beginnings_meet()
+    ensures { BeginningsMeet }
 {}
 
 /// Where the writer knows how all readers are, and gathers them again after a call that found no
 /// slot, the filled keys and the different pinned put numbers that no key has are all the slots.
 pub fn no_slot_is_exact()
     ensures { NoSlotIsExact }
-{}
+{
+    nr_marks::laws::no_slot_is_exact();
+}
 
 /// Where it gathers them before and after a fill or an update that was done, they were fewer.
 pub fn done_is_exact()
     ensures { DoneIsExact }
-{}
+{
+    nr_marks::laws::done_is_exact();
+}
 
 /// A fill or an update that is done polls at most one slot more than there are readers.
 pub fn polls_are_few()

@@ -1,5 +1,5 @@
 //! A reader that holds a set, and reads it as often as it likes.
-ghost use Rattle.std.specs.Prelude.{◌≡◌, ◌<◌, length, slice_get, IsSome, None, Some};
+ghost use Rattle.std.specs.Prelude.{◌≡◌, ◌<◌, ◌≤◌, length, slice_get, IsSome, None, Some};
 ghost use Rattle.nr_model.specs.declared.rows.TheConstants.{MAX_ROWS};
 ghost use Rattle.nr_model.specs.Rows.{IsRowSet};
 ghost use Rattle.nr_marks.specs.Marks.{acted};
@@ -69,6 +69,7 @@ impl Pin {
     /// How many rows the set has. Takes no step.
     pub fn len(&self) -> u32
         ensures len { result ≡ length self.now.rows }
+        ensures few { result ≤ MAX_ROWS }
         ensures row_set { IsRowSet MAX_ROWS self.now.rows }
         ensures holds { IsSome self.now.reader.holds }
     {

@@ -75,6 +75,7 @@ impl ReaderMap {
         requires key { key < self.now.shape.keys }
         ensures own { reader.new.table ≡ self.now }
         ensures finds { FindsKey key reader.old rows.old reader.new rows.new result }
+        ensures idle { reader.new.holds ≡ None }
         ensures acts { reader.new.marks.acts ≡ reader.old.marks.acts + acts_of result }
     {
         let word = self.board.arrive(&mut reader.seat, key);
@@ -127,6 +128,7 @@ impl ReaderMap {
         requires key { key < self.now.shape.keys }
         ensures own { reader.new.table ≡ self.now }
         ensures asks { AsksKey key reader.old reader.new result }
+        ensures idle { reader.new.holds ≡ None }
         ensures marks { reader.new.marks ≡ reader.old.marks }
     {
         let found = parts(self.board.ask(&mut reader.seat, key));
@@ -135,7 +137,7 @@ impl ReaderMap {
         } else if found.ask {
             Asked::Waiting
         } else {
-            Asked::Send(Ticket::of(key, u64::from(found.slot)))
+            Asked::Send(Ticket::of(&self.board, key, u64::from(found.slot)))
         }
     }
 }

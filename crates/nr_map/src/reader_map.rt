@@ -130,7 +130,7 @@ fn seat_readers(
     let mut readers = Vec::with_capacity(alloc, count as usize)?;
     for made in 0..count {
         let next = board.seat(seat);
-        readers.push(Reader::of_seat(next, made + 1))?;
+        readers.push_reserved(Reader::of_seat(next, made + 1));
     }
     Ok(readers)
 }

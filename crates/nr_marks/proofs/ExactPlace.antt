@@ -1,21 +1,17 @@
--- The exact place of a no-slot, and the slot bound, for whoever has all tokens in one hand and gathers every reader after each call.
+-- The exact place of a no-slot, for whoever has all tokens in one hand and gathers every reader after each call.
 use Rattle.std.proofs.Common.{List, [], ap, arith, get_or, subst, sym, ℕ, ⊎_elim, ◌<◌, ◌∙◌, ◌≡◌, ◌≤◌}
-use Rattle.std.proofs.lemmas.List.Sums.{count_by-le-length}
 use lib.ListN.{get_elem?}
 use mathlib.Core.Option.{some, some-ne-none}
-use Rattle.nr_model.specs.Histories.{Entry}
-use Rattle.nr_model.specs.Maps.{filled_count, is_filled}
-use Rattle.nr_core.proofs.Histories.{length-now}
 use Rattle.nr_core.proofs.Sums.{at_snoc}
-use Rattle.nr_core.specs.Story.{map_after}
+use Rattle.nr_core.specs.declared.roles.Grip.{Grip}
 use Rattle.nr_core.specs.declared.places.Retired.{Retired}
 use Rattle.nr_core.specs.declared.shape.Shape.{Shape}
 use Rattle.nr_marks.specs.Puts.{put_count}
-use Rattle.nr_marks.specs.Marks.{Past, past}
+use Rattle.nr_marks.specs.Marks.{Marks, Past, past}
 use Rattle.nr_marks.specs.PollNotes.{Missed, Noted}
-use Rattle.nr_marks.specs.Pasts.{Current}
+use Rattle.nr_marks.specs.Pasts.{AllKnown, Compared, Current, Refreshed}
 use Rattle.nr_marks.specs.Exact.{pins}
-use Rattle.nr_marks.specs.MarkLaws.{DoneIsExact, GatheredIsKnown, NoRoomIsRare, NoSlotIsExact}
+use Rattle.nr_marks.specs.MarkLaws.{DoneIsExact, NoSlotIsExact}
 use Rattle.nr_marks.proofs.ByHistory.{strays_by_history}
 use Rattle.nr_marks.proofs.Strays.{Still, all_strays, one_not_stray, strays_most}
 
@@ -44,16 +40,9 @@ done_is_exact_lem shape desk after marks now log readers lists free before curre
     (λ (l : desk.fresh < shape.slots). let a = strays_most desk.retired marks (put_count log) readers lists.tidy before in omega arith)
     (λ (t : (at : ℕ) × (entry : Retired) × (get_elem? desk.retired at ≡ some entry) × (put_count log ≤ get_or now.puts entry.slot 0)). let a = one_not_stray desk.retired marks (put_count log) readers lists.tidy before after now t.0 t.1 current t.2 t.3 in omega arith) took
 
-filled_few : (shape : Shape) (log : List Entry) → filled_count (map_after shape log) ≤ shape.keys
-filled_few shape log = let n = length-now shape log in let c = count_by-le-length is_filled (map_after shape log).states in omega arith
-
--- no more slots are retired than there are readers, so some slot is to be had where there are more than keys and readers
-pub no_room_is_rare_lem : NoRoomIsRare
-no_room_is_rare_lem shape call retired polls log none = let f = filled_few shape log in let s = none.slots in let few = none.few in let many = none.held.many in (omega arith, λ enough. absurd (omega arith))
-
--- The writer was told of a reader as it is, and learnt; then the reader was told what the writer learnt.
-pub gathered_is_known_lem : GatheredIsKnown
-gathered_is_known_lem retired marks told news heard reader grip mine at is fresh hears compared =
+-- The writer learnt how the readers are that it was told of, one of them as it was then; then that reader was told what the writer had learnt, and compared: so the writer knows the reader as it is, and compared it with its lists.
+pub gathered_is_known : (retired : List Retired) (marks : Marks) (told news heard : List Past) (reader : ℕ) (grip : Grip) (mine : Marks) (at : ℕ) → get_elem? told at ≡ some (past reader grip mine) → Refreshed retired marks told news → AllKnown heard news → Compared reader grip mine heard → (get_elem? news at ≡ some (past reader grip mine)) × Current retired marks (past reader grip mine)
+gathered_is_known retired marks told news heard reader grip mine at is fresh hears compared =
     let n = fresh.newer at (past reader grip mine) is in let p : Past = n.0 in let cur = fresh.current at p n.1 in let h = hears at p n.1 in let e = compared h.0 p h.1 n.2 in
     let le = e.0 in let le' = n.3 in let count : p.count ≡ mine.acts = omega arith in let f = e.1 (sym count) in
     let same : p ≡ past reader grip mine = λ i. record { reader = n.2 i; count = count i; slot = sym f.0 i; put = sym f.1 i } in (n.1 ∙ ap some same, subst (Current retired marks) same cur)

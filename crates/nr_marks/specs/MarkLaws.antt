@@ -1,20 +1,17 @@
--- The laws of put numbers and pasts: the exact place of a no-slot, and what a gather makes known.
-use Rattle.std.specs.Prelude.{◌≡◌, ℕ, ◌+◌, ◌<◌, ◌≤◌, List, length}
-use mathlib.Core.Option.{some}
-use lib.ListN.{get_elem?}
+-- The laws of put numbers: the exact place of a no-slot, and how they go on.
+use Rattle.std.specs.Prelude.{◌≡◌, ℕ, ◌+◌, ◌<◌, if◌then◌else◌, List, [], ◌∷◌, ◌++◌, length}
 use Rattle.nr_model.specs.Maps.{filled_count}
 use Rattle.nr_model.specs.Histories.{Entry}
 use Rattle.nr_core.specs.declared.shape.Shape.{Shape}
-use Rattle.nr_core.specs.declared.calls.WriterCall.{WriterCall}
 use Rattle.nr_core.specs.declared.places.Retired.{Retired}
 use Rattle.nr_core.specs.declared.roles.Desk.{Desk}
-use Rattle.nr_core.specs.declared.roles.Grip.{Grip}
 use Rattle.nr_core.specs.Roles.{taken}
 use Rattle.nr_core.specs.Story.{map_after}
 use Rattle.nr_model.specs.Strays.{strays}
-use Rattle.nr_marks.specs.Marks.{Marks, Past, past}
-use Rattle.nr_marks.specs.PollNotes.{AllHeld, NoRoom, Noted}
-use Rattle.nr_marks.specs.Pasts.{AllCurrent, AllKnown, AllReaders, Compared, Current, Refreshed}
+use Rattle.nr_marks.specs.Marks.{Marks, Past}
+use Rattle.nr_marks.specs.PollNotes.{AllHeld, Noted}
+use Rattle.nr_marks.specs.Pasts.{AllCurrent, AllKnown, AllReaders}
+use Rattle.nr_marks.specs.Puts.{put_count, put_number, puts_at, puts_set}
 use Rattle.nr_marks.specs.Exact.{Lists, Took, filled_puts, pins}
 
 -- the filled keys and the different pinned put numbers that no key has
@@ -45,19 +42,9 @@ DoneIsExact =
     Took shape desk now log →
     slots_in_use shape log readers < shape.slots
 
--- a call that ends with no slot finds no more slots retired than there are readers, and never ends so where there are more slots than keys and readers
-abbrev pub NoRoomIsRare : Type 0
-NoRoomIsRare =
-    (shape : Shape) (call : WriterCall) (retired : List Retired) (polls : List Past) (log : List Entry) →
-    NoRoom shape call retired polls log →
-    (length retired ≤ shape.readers) × (shape.keys + shape.readers + 1 ≤ shape.slots → ⊥)
-
--- The writer learnt how the readers are that it was told of, one of them as it was then; then that reader was told what the writer had learnt, and compared: so the writer knows the reader as it is, and compared it with its lists.
-abbrev pub GatheredIsKnown : Type 0
-GatheredIsKnown =
-    (retired : List Retired) (marks : Marks) (told news heard : List Past) (reader : ℕ) (grip : Grip) (mine : Marks) (at : ℕ) →
-    get_elem? told at ≡ some (past reader grip mine) →
-    Refreshed retired marks told news →
-    AllKnown heard news →
-    Compared reader grip mine heard →
-    (get_elem? news at ≡ some (past reader grip mine)) × Current retired marks (past reader grip mine)
+-- with one entry more: how many sets were put, and the number of what was put last for a key
+abbrev pub PutGoesOn : Type 0
+PutGoesOn =
+    (log : List Entry) (entry : Entry) (key : ℕ) →
+    (put_count (log ++ entry ∷ []) ≡ put_count log + puts_set entry)
+    × (put_number (log ++ entry ∷ []) key ≡ (if puts_at key entry then put_count log else put_number log key))
