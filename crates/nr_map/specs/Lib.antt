@@ -1,5 +1,4 @@
 pub mod Views
-pub mod Tickets
 pub mod Entries
 pub mod Callers
 pub mod Rule
