@@ -1,6 +1,6 @@
 //! Requests that are taken back, in worked calls, beside a thread that asks again, and in many
 //! scripts against the sequential model.
-ghost use Rattle.std.specs.Prelude.{◌≡◌, ◌<◌, ◌×◌};
+ghost use Rattle.std.specs.Prelude.{◌≡◌, ◌<◌, IfOk};
 ghost use Rattle.nr_model.specs.Maps.{key_count, key_of};
 
 use crate::{
@@ -186,6 +186,7 @@ fn a_late_answer_is_refused_beside_a_reader_that_asks_again(rt: HostRuntime) -> 
 }
 
 /// Draws that a seed determines.
+#[derive(Drop)]
 struct Dice {
     state: u64,
 }
