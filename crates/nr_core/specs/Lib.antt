@@ -13,3 +13,4 @@ pub mod Steps
 pub mod Accounts
 pub mod Laws
 pub mod Reach
+pub mod StepLaws

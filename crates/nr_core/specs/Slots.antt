@@ -1,5 +1,5 @@
 -- Slots: where their words stand, which slot a key's word names, and which set a slot spells.
-use Rattle.std.specs.Prelude.{◌≡◌, ℕ, suc, zero, ◌+◌, ◌%◌, ◌^◌, false, true, ◌<◌, nat_le, List, [], ◌∷◌, ◌++◌, cond, length, take, drop, replicate, slice_index, Option, Some, None}
+use Rattle.std.specs.Prelude.{◌≡◌, ℕ, suc, zero, ◌+◌, ◌%◌, ◌^◌, false, true, ◌<◌, nat_le, List, [], ◌∷◌, ◌++◌, cond, length, take, drop, replicate, slice_index}
 use Rattle.nr_model.specs.declared.rows.Row.{Row}
 use Rattle.nr_model.specs.Rows.{IsRowSet}
 use Rattle.nr_core.specs.declared.shape.Shape.{Shape}
@@ -8,7 +8,7 @@ use Rattle.nr_words.specs.declared.layout.Layout.{Layout}
 use Rattle.nr_words.specs.declared.set_words.TheConstants.{CONTENT_WORDS}
 use Rattle.nr_words.specs.KeyWords.{key_word, is_filled, slot_of}
 use Rattle.nr_words.specs.Places.{Departures, Content, place_of}
-use Rattle.nr_words.specs.SetWords.{encode, decode}
+use Rattle.nr_words.specs.SetWords.{encode}
 
 -- how many content words a slot has, and where its words stand; a key's word stands at the key's number
 abbrev pub slot_room : ℕ
@@ -51,14 +51,6 @@ unused slot fresh = cond (nat_le fresh slot) 1 0
 -- a slot's content words
 abbrev pub content_words : Shape → List ℕ → ℕ → List ℕ
 content_words shape words slot = take slot_room (drop (content shape slot 0) words)
-
--- the set that words spell, none where they spell none
-abbrev pub rows_or_none : Option (List Row) → List Row
-rows_or_none None = []
-rows_or_none (Some rows) = rows
-
-abbrev pub set_of : ℕ → List ℕ → List Row
-set_of bound words = rows_or_none (decode bound words)
 
 -- the slot's content words are those of the row set
 abbrev pub SlotSpells : Shape → List ℕ → ℕ → List Row → Type 0

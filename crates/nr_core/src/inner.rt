@@ -38,9 +38,10 @@ impl Model for Inner {
 
     ghost view = { λ inner. record {
       shape = record { keys = inner.layout.keys; slots = inner.layout.slots; readers = inner.readers; bound = MAX_ROWS; first = inner.first };
-      words = inner.words;
+      words = inner.words.cells;
       holds = inner.holds.items;
       desk = record { place = inner.place; fresh = inner.fresh; retired = inner.retired.items };
+      made = inner.words.made;
     } };
 
     ghost invariant = { λ inner. inner.layout.slots ≤ vec_capacity inner.retired };

@@ -102,10 +102,12 @@ impl Inner {
     {
         let word = self.words.load(self.layout.content(slot, got.len()));
         let got = got.with(word);
-        if got.is_whole() {
-            self.decide(call, got.set())
-        } else {
-            self.go_to(Place::Reading(call, slot, got))
+        if !got.is_whole() {
+            return self.go_to(Place::Reading(call, slot, got));
+        }
+        match got.set() {
+            Some(rows) => self.decide(call, rows),
+            None => self.go_to(Place::Idle),
         }
     }
 
