@@ -28,7 +28,8 @@ use Rattle.nr_core.specs.declared.operation.Operation.TheVariants.{Load, Store, 
 use Rattle.nr_core.specs.Reach.{RoomAt, RoomOf}
 use Rattle.nr_core.specs.Refusals.{has_key, has_reader, if_busy, if_holding, if_not_busy, if_not_holding, if_unreadable, refusal}
 use Rattle.nr_core.specs.Roles.{held}
-use Rattle.nr_core.specs.Slots.{content, naming, slot_room}
+use Rattle.nr_words.specs.KeyWords.{naming}
+use Rattle.nr_core.specs.Slots.{content, slot_room}
 use Rattle.nr_core.specs.States.{Arrive, Ask, Depart, Event, Go, Read, Start, State, hold_of, key_of, slot_in}
 use Rattle.nr_core.specs.Story.{Story, answering, call_of, map_after, polls_after, shown, told}
 use Rattle.nr_core.specs.Writer.{looked, went}

@@ -26,7 +26,7 @@ use Rattle.nr_core.specs.Roles.{held, taken}
 use Rattle.nr_core.specs.Slots.{content, departures}
 use Rattle.nr_core.specs.States.{Arrive, Ask, Depart, Event, Go, Read, Start, State, key_of, retired_at}
 use Rattle.nr_core.specs.Story.{Poll, Story, call_of, ending, map_after, poll_at, polls_after, polls_at, tell, told}
-use Rattle.nr_core.specs.Writer.{decided, decoded, ended, looked, moved_to, put_on, swapped, went}
+use Rattle.nr_core.specs.Writer.{decoded, ended, looked, moved_to, put_on, swapped, went}
 use Rattle.nr_core.specs.declared.calls.NoSlot.{NoSlot}
 use Rattle.nr_core.specs.declared.calls.Refusal.{Refusal}
 use Rattle.nr_core.specs.declared.calls.Step.{Step}
@@ -37,7 +37,6 @@ use Rattle.nr_core.specs.declared.places.Place.TheVariants.{Idle, Leaving, Putti
 use Rattle.nr_core.specs.declared.places.Retired.{Retired}
 use Rattle.nr_core.specs.declared.roles.Desk.{Desk}
 use Rattle.nr_core.specs.declared.roles.Role.TheVariants.{Writer}
-use Rattle.nr_model.specs.declared.states.KeyState.TheVariants as key
 use Rattle.nr_core.specs.declared.calls.Refusal.TheVariants as refuse
 use Rattle.nr_model.specs.declared.calls.Reply.TheVariants as reply
 use Rattle.nr_core.specs.declared.calls.WReply.TheVariants as writer

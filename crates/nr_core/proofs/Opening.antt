@@ -11,7 +11,8 @@ use Rattle.nr_core.proofs.Sums.{only-other}
 use Rattle.nr_core.specs.Core.{Core, Knows, ShowsState}
 use Rattle.nr_core.specs.Roles.{held, holds, is_reader, is_writer, keeps, readers_from}
 use Rattle.nr_core.specs.Sizes.{IsShape}
-use Rattle.nr_core.specs.Slots.{departures, layout, name_number, opening_words, repeated, slot_room}
+use Rattle.nr_words.specs.Opening.{repeated}
+use Rattle.nr_core.specs.Slots.{departures, layout, name_number, opening_words, slot_room}
 use Rattle.nr_core.specs.States.{opening, opening_desk}
 use Rattle.nr_core.specs.Story.{map_after}
 use Rattle.nr_core.specs.Sums.{below, only, total}

@@ -1,5 +1,5 @@
 -- The set that words spell.
-use Rattle.std.proofs.Common.{List, ap, arith, length, ℕ, ◌≡◌}
+use Rattle.std.proofs.Common.{List, arith, length, ℕ, ◌≡◌}
 use Rattle.std.specs.Prelude.{Some}
 use Rattle.std.proofs.lemmas.List.{take_all}
 use Rattle.nr_model.specs.Rows.{IsRowSet}

@@ -8,7 +8,8 @@ use Rattle.nr_core.specs.declared.places.Place.TheVariants.{Idle, Reading, Leavi
 use Rattle.nr_core.specs.declared.roles.Desk.{Desk}
 use Rattle.nr_words.specs.declared.key_words.TheConstants.{ARRIVE}
 use Rattle.nr_words.specs.SetWords.{encode}
-use Rattle.nr_core.specs.Slots.{departures, content, naming}
+use Rattle.nr_words.specs.KeyWords.{naming}
+use Rattle.nr_core.specs.Slots.{departures, content}
 use Rattle.nr_core.specs.States.{State, Event, Arrive, Read, Depart, Ask, Start, Go, hold_of, slot_in, retired_at, key_of}
 
 -- the word that the operation is on

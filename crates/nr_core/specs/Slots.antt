@@ -1,12 +1,13 @@
 -- Slots: where their words stand, which slot a key's word names, and which set a slot spells.
-use Rattle.std.specs.Prelude.{◌≡◌, ℕ, suc, zero, ◌+◌, ◌%◌, ◌^◌, false, true, ◌<◌, nat_le, List, [], ◌∷◌, ◌++◌, cond, length, take, drop, replicate, slice_index}
+use Rattle.std.specs.Prelude.{◌≡◌, ℕ, suc, ◌+◌, ◌<◌, nat_le, List, cond, length, take, drop, slice_index}
 use Rattle.nr_model.specs.declared.rows.Row.{Row}
 use Rattle.nr_model.specs.Rows.{IsRowSet}
 use Rattle.nr_core.specs.declared.shape.Shape.{Shape}
 use Rattle.nr_core.specs.Sums.{below, only}
 use Rattle.nr_words.specs.declared.layout.Layout.{Layout}
 use Rattle.nr_words.specs.declared.set_words.TheConstants.{CONTENT_WORDS}
-use Rattle.nr_words.specs.KeyWords.{key_word, is_filled, slot_of}
+use Rattle.nr_words.specs.KeyWords.{is_filled, slot_of}
+use Rattle.nr_words.specs.Opening as new_map
 use Rattle.nr_words.specs.Places.{Departures, Content, place_of}
 use Rattle.nr_words.specs.SetWords.{encode}
 
@@ -23,18 +24,9 @@ departures shape slot = place_of slot_room (layout shape) (Departures slot)
 abbrev pub content : Shape → ℕ → ℕ → ℕ
 content shape slot index = place_of slot_room (layout shape) (Content slot index)
 
--- a list over and over
-abbrev pub repeated : {A : Type 0} → ℕ → List A → List A
-repeated zero xs = []
-repeated (suc n) xs = xs ++ repeated n xs
-
 -- the words at opening: every key a hole, every slot's departures the first count
 abbrev pub opening_words : Shape → List ℕ
-opening_words shape = replicate shape.keys 0 ++ repeated shape.slots (shape.first ∷ replicate slot_room 0)
-
--- the word that fills a key with a slot whose departures are these
-abbrev pub naming : ℕ → ℕ → ℕ
-naming slot departed = key_word (record { ask = false; filled = true; slot = slot; arrivals = departed % 2 ^ 40 })
+opening_words shape = new_map.opening_words slot_room (layout shape) shape.first
 
 -- 0 for a word that is not filled, else 1 more than its slot
 abbrev pub name_number : ℕ → ℕ

@@ -1,14 +1,14 @@
 //! The words of a map, and the operations of which each step is one.
-ghost use Rattle.std.specs.Prelude.{◌≡◌, ◌<◌, ◌++◌, [], ◌∷◌, length, replicate, slice_index, IfOk};
+ghost use Rattle.std.specs.Prelude.{◌≡◌, ◌<◌, ◌++◌, [], ◌∷◌, length, slice_index, IfOk};
+ghost use Rattle.nr_words.specs.Opening.{opening_words};
 ghost use Rattle.nr_words.specs.declared.set_words.TheConstants.{CONTENT_WORDS};
 ghost use Rattle.nr_core.specs.Operations.{performed};
 ghost use Rattle.nr_core.specs.declared.operation.Operation.TheVariants.{Load, Add, Or, Store, Swap};
-ghost use Rattle.nr_core.specs.Slots.{repeated};
 
 mod trace;
 
 use crate::operation::Operation;
-use nr_words::{CONTENT_WORDS, Layout};
+use nr_words::{Layout, opening_words};
 use std::alloc::{AllocError, Global};
 use std::marker::Model;
 use trace::Trace;
@@ -32,19 +32,12 @@ impl Words {
     /// The words of a map whose keys are holes, and whose slots begin at the first count.
     pub fn open(alloc: Global, layout: Layout, first: u64) -> Result<Words, AllocError>
         ensures { IfOk result (λ words. words ≡ record {
-          cells = replicate layout.keys 0 ++ repeated layout.slots (first ∷ replicate CONTENT_WORDS 0);
+          cells = opening_words CONTENT_WORDS layout first;
           made = [];
         }) }
     {
-        let mut block = [0; CONTENT_WORDS + 1];
-        block[0] = first;
-        let mut cells = Vec::with_capacity(alloc, layout.total() as usize)?;
-        cells.resize(layout.keys as usize, 0)?;
-        for _slot in 0..layout.slots {
-            cells.extend_from_slice(&block)?;
-        }
         Ok(Words {
-            cells,
+            cells: opening_words(alloc, layout, first)?,
             trace: Trace::new(),
         })
     }

@@ -5,18 +5,18 @@ ghost use Rattle.nr_core.specs.declared.places.Place.TheVariants.{Idle, Reading,
 ghost use Rattle.nr_core.specs.States.{Start, Go};
 ghost use Rattle.nr_core.specs.Machine.{next, moved, found_by, start_answer, go_answer};
 ghost use Rattle.nr_core.specs.Writer.{looked, decided, renewed, read_on, put_on, went, ended, moved_to};
-ghost use Rattle.nr_core.specs.Slots.{naming};
+ghost use Rattle.nr_words.specs.KeyWords.{naming};
 ghost use Rattle.nr_core.specs.Laws.{IsGivenCall};
 ghost use Rattle.nr_core.specs.Reach.{HasRoom};
 
 use crate::calls::{Refusal, Step, WReply, WriterCall};
-use crate::inner::Inner;
+use crate::machine::Machine;
 use crate::places::Place;
 use crate::words_read::WordsRead;
 use nr_model::{ApplyFault, Reply, RowSet};
-use nr_words::{CONTENT_WORDS, KeyParts, encode, key_word, parts};
+use nr_words::{CONTENT_WORDS, encode, naming, parts};
 
-impl Inner {
+impl Machine {
     /// The look: loads the word of the call's key.
     pub fn start(&mut self, call: &WriterCall) -> Result<Step, Refusal>
         requires { HasRoom self.old }
@@ -205,17 +205,4 @@ impl Inner {
         self.place = Place::Idle;
         Step::Ended(WReply::Reply(reply))
     }
-}
-
-/// The word that fills a key with a slot that has so many departures.
-fn naming(slot: u32, departed: u64) -> u64
-    requires { slot < 2 ^ 22 }
-    ensures { result ≡ naming slot departed }
-{
-    key_word(KeyParts {
-        ask: false,
-        filled: true,
-        slot,
-        arrivals: departed % (1 << 40),
-    })
 }

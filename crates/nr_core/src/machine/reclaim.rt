@@ -6,13 +6,13 @@ ghost use Rattle.nr_core.specs.Machine.{moved, found_by};
 ghost use Rattle.nr_core.specs.Writer.{settled, swapped, polled, no_slot};
 ghost use Rattle.nr_core.specs.Reach.{HasRoom};
 
-use crate::calls::{NoSlot, Step, WReply, WriterCall};
-use crate::inner::Inner;
-use crate::places::{Place, Retired};
+use crate::calls::{Step, WReply, WriterCall};
+use crate::machine::Machine;
+use crate::places::Place;
 use nr_model::RowSet;
-use nr_words::{parts, same_count};
+use nr_words::same_count;
 
-impl Inner {
+impl Machine {
     /// The call takes the first free slot for its set. Where none is free it goes on to poll the
     /// retired ones, and where none is retired either it ends.
     pub fn settle(&mut self, call: WriterCall, rows: RowSet) -> Step
@@ -20,11 +20,9 @@ impl Inner {
         ensures answer { result ≡ (settled self.old.shape self.old.desk call rows).1 }
         ensures new { self.new ≡ record self.old { desk = (settled self.old.shape self.old.desk call rows).0 } }
     {
-        if self.fresh < self.layout.slots {
-            self.place = Place::Putting(call, rows, self.fresh, self.first, 0);
-            self.fresh += 1;
-            Step::Going
-        } else if self.retired.is_empty() {
+        if let Some(slot) = self.spare.take_fresh() {
+            self.go_to(Place::Putting(call, rows, slot, self.first, 0))
+        } else if self.spare.retired().is_empty() {
             self.place = Place::Idle;
             self.no_slot()
         } else {
@@ -40,13 +38,12 @@ impl Inner {
         ensures answer { result ≡ (polled self.old.shape self.old.desk call rows poll (found_by self.old Go)).1 }
         ensures new { self.new ≡ moved self.old Go }
     {
-        let retired = self.retired[poll as usize];
+        let retired = self.spare.retired()[poll as usize];
         let departed = self.words.load(self.layout.departures(retired.slot));
         if same_count(departed, retired.arrivals) {
-            self.retired.remove(poll as usize);
-            self.place = Place::Putting(call, rows, retired.slot, departed, 0);
-            Step::Going
-        } else if poll as usize + 1 < self.retired.len() {
+            self.spare.take_retired(poll as usize);
+            self.go_to(Place::Putting(call, rows, retired.slot, departed, 0))
+        } else if poll as usize + 1 < self.spare.retired().len() {
             self.go_to(Place::Searching(call, rows, poll + 1))
         } else {
             self.place = Place::Idle;
@@ -59,10 +56,7 @@ impl Inner {
         requires { length self.now.desk.retired ≤ self.now.shape.slots }
         ensures { result ≡ no_slot self.now.shape self.now.desk }
     {
-        Step::Ended(WReply::NoSlot(NoSlot {
-            live: self.layout.slots - self.retired.len() as u32,
-            held: self.retired.len() as u32,
-        }))
+        Step::Ended(WReply::NoSlot(self.spare.counts()))
     }
 
     /// The call has swapped another word in for that one, whose slot is retired with its arrivals.
@@ -70,13 +64,7 @@ impl Inner {
         requires { length self.old.desk.retired < self.old.shape.slots }
         ensures { self.new ≡ record self.old { desk = swapped self.old.desk word } }
     {
-        let old = parts(word);
-        if old.filled {
-            self.retired.push_reserved(Retired {
-                slot: old.slot,
-                arrivals: old.arrivals,
-            });
-        }
+        self.spare.retire(word);
         self.place = Place::Idle;
     }
 }

@@ -7,10 +7,10 @@ ghost use Rattle.nr_core.specs.Refusals.{refusal, has_reader, has_key};
 ghost use Rattle.nr_core.specs.Reach.{HasRoom};
 
 use crate::calls::{Refusal, WriterCall};
-use crate::inner::Inner;
+use crate::machine::Machine;
 use crate::places::{Hold, Place};
 
-impl Inner {
+impl Machine {
     fn has_reader(&self, reader: u32) -> bool
         ensures { result ≡ has_reader self.now.shape reader }
     {

@@ -5,11 +5,11 @@ ghost use Rattle.nr_core.specs.Machine.{next, arrive_answer, read_answer, depart
 ghost use Rattle.nr_core.specs.Reach.{HasRoom};
 
 use crate::calls::{Arrived, AskReply, Refusal};
-use crate::inner::Inner;
+use crate::machine::Machine;
 use crate::places::Hold;
 use nr_words::{ARRIVE, parts};
 
-impl Inner {
+impl Machine {
     /// Adds one arrival to the key's word. The word that the addition finds says what the reader
     /// holds from then on: the slot that it names, or nothing.
     pub fn arrive(&mut self, reader: u32, key: u32) -> Result<Arrived, Refusal>
