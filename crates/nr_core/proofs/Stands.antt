@@ -106,6 +106,7 @@ pub stands : (story : Story) → IsCoreState story.state story.history → Stand
 stands story is_core = let state = story.state in let shape = state.shape in let core = is_core.core in let roles = is_core.roles in let sums = state_sums state roles is_core.fit in let desk = core.knows 0 (Writer state.desk) is_core.fit.writer in record {
   legal = core.legal;
   shows = shown_is state roles story.history core is_core.fit.writer;
+  numbered = desk.numbers.agree;
   accounted = record {
     placed = λ s near. omega (arith, core.places s near, (sums s).1);
     named_in = named_inside state.shape state.words roles story.history core;

@@ -4,7 +4,7 @@ use Rattle.nr_model.specs.declared.rows.Row.{Row}
 use Rattle.nr_model.specs.declared.calls.Reply.TheVariants as reply
 use Rattle.nr_model.specs.declared.calls.Call.TheVariants as model
 use Rattle.nr_model.specs.Rows.{IsRowSet}
-use Rattle.nr_model.specs.Maps.{PartialMap, state_of, reply_to, filled_count}
+use Rattle.nr_model.specs.Maps.{PartialMap, state_of, number_of, reply_to, filled_count}
 use Rattle.nr_model.specs.Histories.{Entry, IsLegal, entries_of, sends, fills, cancels}
 use Rattle.nr_model.specs.Laws.{pending}
 use Rattle.nr_core.specs.declared.shape.Shape.{Shape}
@@ -19,7 +19,7 @@ use Rattle.nr_core.specs.declared.places.Place.{Place}
 use Rattle.nr_core.specs.declared.places.Place.TheVariants.{Idle, Reading, Leaving, Withdrawing, Searching, Putting}
 use Rattle.nr_words.specs.SetWords.{encode}
 use Rattle.nr_core.specs.Slots.{bound_of, content, slot_room}
-use Rattle.nr_core.specs.States.{State, Event, Arrive, Read, Depart, Ask, Start, Go, word, hold_of}
+use Rattle.nr_core.specs.States.{State, Event, Arrive, Read, Depart, Ask, Start, Go, word, hold_of, number_at}
 use Rattle.nr_core.specs.Refusals.{refusal}
 use Rattle.nr_core.specs.Operations.{place_of, becomes, operation}
 use Rattle.nr_core.specs.declared.operation.Operation.{Operation}
@@ -72,6 +72,8 @@ pub record HoldsFound (story : Story) (reader slot : ℕ) (size : Option ℕ) : 
 pub record Stands (story : Story) : Type 0 where
   pub legal : IsLegal (opening_map story.state.shape) story.history
   pub shows : Shows story.state (map_of story)
+  -- the writer lists each key's number
+  pub numbered : (at : ℕ) → at < story.state.shape.keys → number_at story.state.desk at ≡ number_of (state_of (map_of story) at)
   pub accounted : Accounted story.state
   pub held : (reader slot : ℕ) (size : Option ℕ) → 0 < reader → hold_of story.state reader ≡ On slot size → HoldsFound story reader slot size
   -- each request that was sent was filled or cancelled, once, but the one that is pending

@@ -7,8 +7,9 @@
 ghost use Rattle.nr_core.specs.Laws.{EverySchedule, SlotBound, RunGoesOn};
 ghost use Rattle.nr_core.specs.StepLaws.{ArriveLaw, AskLaw, ReadLaw, DepartLaw, LookLaw, GoLaw, LearnLaw, OpeningLaw, SeatLaw, NoteLaw};
 
-/// Whatever the callers attempt, in any order: the history is legal, the words show its map, each
-/// slot is accounted for, a held slot is not written, and each no-slot is justified.
+/// Whatever the callers attempt, in any order: the history is legal, the words show its map, the
+/// writer lists each key's number, each slot is accounted for, a held slot is not written, and each
+/// no-slot is justified.
 pub fn every_schedule()
     ensures { EverySchedule }
 {}
