@@ -33,5 +33,7 @@ numbers_next shape log e numbers near next t = let map' = map_after shape (log +
       (λ ne. get_or-set_other numbers k j x 0 ne ∙ t.agree j low ∙ ap number_of (sym (state_other shape log e j ne)));
 }
 
-pub number_within : (shape : Shape) (log : List Entry) (numbers : List ℕ) → IsShape shape → IsLegal (opening_map shape) log → AreNumbers shape (map_after shape log) numbers → (at : ℕ) → at < shape.keys → get_or numbers at 0 ≤ last_number
-number_within shape log numbers fits legal t at near = let last = (numbers_count_cancels_lem shape.keys (bound_of shape) shape.first_number at log legal near).1 fits.number in omega (arith, t.agree at near)
+pub number_within : (shape : Shape) (log : List Entry) (numbers : List ℕ) → IsShape shape → IsLegal (opening_map shape) log
+    → AreNumbers shape (map_after shape log) numbers → (at : ℕ) → at < shape.keys → get_or numbers at 0 ≤ last_number
+number_within shape log numbers fits legal t at near =
+    let last = (numbers_count_cancels_lem shape.keys (bound_of shape) shape.first_number at log legal near).1 fits.number in omega (arith, t.agree at near)

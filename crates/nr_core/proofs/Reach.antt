@@ -2,7 +2,7 @@
 use Rattle.std.proofs.Common.{List, [], ap, arith, false, get_or, length, map, refl, subst, suc, sym, true, zero, ℕ, ◌*◌, ◌++◌, ◌+◌, ◌-◌, ◌<◌, ◌∙◌, ◌∷◌, ◌≡◌, ◌≤◌}
 use Rattle.std.proofs.Math.Logic.{∥∥₁_map}
 use Rattle.std.proofs.Props.{props}
-use Rattle.std.specs.Prelude.{None, Option, Some, fold}
+use Rattle.std.specs.Prelude.{None, Option, Some, fold, option_map}
 use mathlib.Core.Logic.{dite, ∥∥₁_elim}
 use native.Mathlib.Decide.{dec_le}
 use Rattle.nr_model.specs.Histories.{Entry}
@@ -33,6 +33,7 @@ use Rattle.nr_core.specs.declared.roles.Grip.TheVariants.{Nothing, On}
 use Rattle.nr_core.specs.declared.roles.Role.TheVariants.{Reader, Writer}
 use Rattle.nr_core.specs.declared.shape.Shape.{Shape}
 use Rattle.nr_core.specs.declared.places.Hold.TheVariants as hold
+use Rattle.nr_model.specs.declared.states.KeyState.{KeyState}
 use Rattle.nr_model.specs.declared.states.KeyState.TheVariants as key
 
 all_given : (bound : ℕ) (events : List Event) (event : Event) → AllGiven bound events → IsGiven bound event → AllGiven bound (events ++ event ∷ [])
@@ -141,13 +142,13 @@ has_room state reached = ∥∥₁_elim reached (room_prop state) (room_of state
 
 -- THE NUMBER OF A KEY
 
-number_shown_of : (state : State) → Reached state → (k : ℕ) → k < state.shape.keys → number_at state.desk k ≡ number_of (shown state k)
+number_shown_of : (state : State) → Reached state → (k : ℕ) → k < state.shape.keys → option_map (λ (z : KeyState). number_of z) (shown state k) ≡ Some (number_at state.desk k)
 number_shown_of state reached k near = let log = (story_of state.shape reached.events).history in let is_core = reached_core state reached in let writer_there = is_core.fit.writer in
-    (is_core.core.knows 0 (Writer state.desk) writer_there).numbers.agree k near ∙ ap number_of (sym (shown_is state is_core.roles log is_core.core writer_there k near))
+    ap (option_map (λ (z : KeyState). number_of z)) (shown_is state is_core.roles log is_core.core writer_there k near) ∙ ap (λ (n : ℕ). Some n) (sym ((is_core.core.knows 0 (Writer state.desk) writer_there).numbers.agree k near))
 
 -- the writer's list tells the number that the words show
-pub number_shown : (state : State) → ∥ Reached state ∥₁ → (k : ℕ) → k < state.shape.keys → number_at state.desk k ≡ number_of (shown state k)
+pub number_shown : (state : State) → ∥ Reached state ∥₁ → (k : ℕ) → k < state.shape.keys → option_map (λ (z : KeyState). number_of z) (shown state k) ≡ Some (number_at state.desk k)
 number_shown state reached k near = ∥∥₁_elim reached (number_prop state k) (λ (r : Reached state). number_shown_of state r k near)
   where
-    number_prop : (state : State) (k : ℕ) → IsProp (number_at state.desk k ≡ number_of (shown state k))
+    number_prop : (state : State) (k : ℕ) → IsProp (option_map (λ (z : KeyState). number_of z) (shown state k) ≡ Some (number_at state.desk k))
     number_prop state k = hlevel props

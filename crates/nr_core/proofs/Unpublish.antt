@@ -25,7 +25,8 @@ use Rattle.nr_core.specs.declared.shape.Shape.{Shape}
 use Rattle.nr_model.specs.declared.calls.Call.TheVariants as model
 use Rattle.nr_model.specs.declared.calls.Reply.TheVariants as reply
 
-pub unpublishes : (shape : Shape) (words : List ℕ) (roles : List Role) (log : List Entry) (core : Core shape words roles log) (id : ℕ) (desk : Desk) → get_elem? roles id ≡ some (Writer desk) → (at : ℕ) → desk.place ≡ Leaving at
+pub unpublishes : (shape : Shape) (words : List ℕ) (roles : List Role) (log : List Entry) (core : Core shape words roles log) (id : ℕ) (desk : Desk)
+    → get_elem? roles id ≡ some (Writer desk) → (at : ℕ) → desk.place ≡ Leaving at
     → Core shape (set words at (hole_word (number_at desk at) false)) (set roles id (Writer (swapped desk (get_or words at 0)))) (log ++ entry 0 (model.Evict at) reply.Evicted ∷ [])
 unpublishes shape words roles log core id desk there at is_at = let known = core.knows id (Writer desk) there in let map = map_after shape log in
     let p : AtPlace shape words map (held roles) desk.fresh desk.retired (Leaving at) = subst (AtPlace shape words map (held roles) desk.fresh desk.retired) is_at known.place in let r = p.1 in

@@ -38,13 +38,16 @@ cancels_early bound k n early = let yes : nat_lt n last_number ≡ true = lt-ltb
 asked_retires_none : (shape : Shape) (words : List ℕ) (w n : ℕ) (l : List Retired) → ShowsState shape words w (key.Asked n) → l ++ unnamed w ≡ l
 asked_retires_none shape words w n l shown = ap (λ b. l ++ cond b (record { slot = slot_of w; arrivals = arrivals_of w } ∷ []) []) (names_none w shown.0) ∙ append-nil l
 
-pub withdraws : (shape : Shape) (words : List ℕ) (roles : List Role) (log : List Entry) (core : Core shape words roles log) (id : ℕ) (desk : Desk) → get_elem? roles id ≡ some (Writer desk) → (at : ℕ) → desk.place ≡ Withdrawing at
+pub withdraws : (shape : Shape) (words : List ℕ) (roles : List Role) (log : List Entry) (core : Core shape words roles log) (id : ℕ) (desk : Desk)
+    → get_elem? roles id ≡ some (Writer desk) → (at : ℕ) → desk.place ≡ Withdrawing at
     → Core shape (set words at (hole_word (number_at desk at + 1) false)) (set roles id (Writer (withdrawn desk at))) (log ++ entry 0 (model.Cancel at) reply.Cancelled ∷ [])
 withdraws shape words roles log core id desk there at is_at = let known = core.knows id (Writer desk) there in let map = map_after shape log in let w = get_or words at 0 in
     let p : Withdraws shape map at = subst (AtPlace shape words map (held roles) desk.fresh desk.retired) is_at known.place in let n = p.number in let early = p.early in
     let listed : number_at desk at ≡ n = known.numbers.agree at p.near ∙ ap number_of p.asked in let x : ℕ = hole_word (number_at desk at + 1) false in let hole = hole_is (number_at desk at + 1) (omega arith) in
-    let c = cancels_early (bound_of shape) at n early in let leaves : state_after (bound_of shape) (model.Cancel at) (state_of map at) ≡ key.Hole (n + 1) = ap (state_after (bound_of shape) (model.Cancel at)) p.asked ∙ c.1 in
-    let shown : ShowsState shape words w (key.Asked n) = subst (ShowsState shape words w) p.asked (core.shows at p.near) in let numbers : List ℕ = set desk.numbers at (number_at desk at + 1) in
+    let c = cancels_early (bound_of shape) at n early in
+    let leaves : state_after (bound_of shape) (model.Cancel at) (state_of map at) ≡ key.Hole (n + 1) = ap (state_after (bound_of shape) (model.Cancel at)) p.asked ∙ c.1 in
+    let shown : ShowsState shape words w (key.Asked n) = subst (ShowsState shape words w) p.asked (core.shows at p.near) in
+    let numbers : List ℕ = set desk.numbers at (number_at desk at + 1) in
     subst (λ (l : List Retired). Core shape (set words at x) (set roles id (Writer (record { place = Idle; fresh = desk.fresh; retired = l; numbers = numbers }))) (log ++ entry 0 (model.Cancel at) reply.Cancelled ∷ [])) (asked_retires_none shape words w n desk.retired shown)
     (swap_step shape words roles log core id desk there at x (model.Cancel at) reply.Cancelled numbers p.near refl (ap (reply_at (bound_of shape) (model.Cancel at)) p.asked ∙ c.0)
     (subst (ShowsState shape words x) (sym leaves) (hole.0, hole.1, hole.2 ∙ ap (λ (m : ℕ). m + 1) listed))

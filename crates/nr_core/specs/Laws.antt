@@ -4,7 +4,7 @@ use Rattle.nr_model.specs.declared.rows.Row.{Row}
 use Rattle.nr_model.specs.declared.calls.Reply.TheVariants as reply
 use Rattle.nr_model.specs.declared.calls.Call.TheVariants as model
 use Rattle.nr_model.specs.Rows.{IsRowSet}
-use Rattle.nr_model.specs.Maps.{PartialMap, state_of, reply_to, filled_count}
+use Rattle.nr_model.specs.Maps.{PartialMap, state_of, number_of, reply_to, filled_count}
 use Rattle.nr_model.specs.Histories.{Entry, IsLegal, entries_of, sends, fills, cancels}
 use Rattle.nr_model.specs.Laws.{pending}
 use Rattle.nr_core.specs.declared.shape.Shape.{Shape}
@@ -19,9 +19,11 @@ use Rattle.nr_core.specs.declared.places.Place.{Place}
 use Rattle.nr_core.specs.declared.places.Place.TheVariants.{Idle, Reading, Leaving, Withdrawing, Searching, Putting}
 use Rattle.nr_words.specs.SetWords.{encode}
 use Rattle.nr_core.specs.Slots.{bound_of, content, slot_room}
-use Rattle.nr_core.specs.States.{State, Event, Arrive, Read, Depart, Ask, Start, Go, word, hold_of}
+use Rattle.nr_core.specs.States.{State, Event, Arrive, Read, Depart, Ask, Start, Go, word, hold_of, number_at}
 use Rattle.nr_core.specs.Refusals.{refusal}
-use Rattle.nr_core.specs.Operations.{Operation, Load, place_of, becomes, operation}
+use Rattle.nr_core.specs.Operations.{place_of, becomes, operation}
+use Rattle.nr_core.specs.declared.operation.Operation.{Operation}
+use Rattle.nr_core.specs.declared.operation.Operation.TheVariants.{Load}
 use Rattle.nr_core.specs.Machine.{next, run, unless, read_answer, start_answer, go_answer}
 use Rattle.nr_core.specs.Story.{Story, Poll, story_of, tell, told, shown, entry, call_of, map_after, opening_map}
 use Rattle.nr_core.specs.Sizes.{IsShape}
@@ -53,7 +55,7 @@ map_of story = map_after story.state.shape story.history
 
 -- the words show the map
 abbrev pub Shows : State → PartialMap → Type 0
-Shows state map = (at : ℕ) → at < state.shape.keys → shown state at ≡ state_of map at
+Shows state map = (at : ℕ) → at < state.shape.keys → shown state at ≡ Some (state_of map at)
 
 -- a reader that holds a slot found there, by the last of its calls, the set whose words its reads give
 pub record HoldsFound (story : Story) (reader slot : ℕ) (size : Option ℕ) : Type 0 where
@@ -70,6 +72,8 @@ pub record HoldsFound (story : Story) (reader slot : ℕ) (size : Option ℕ) : 
 pub record Stands (story : Story) : Type 0 where
   pub legal : IsLegal (opening_map story.state.shape) story.history
   pub shows : Shows story.state (map_of story)
+  -- the writer lists each key's number
+  pub numbered : (at : ℕ) → at < story.state.shape.keys → number_at story.state.desk at ≡ number_of (state_of (map_of story) at)
   pub accounted : Accounted story.state
   pub held : (reader slot : ℕ) (size : Option ℕ) → 0 < reader → hold_of story.state reader ≡ On slot size → HoldsFound story reader slot size
   -- each request that was sent was filled or cancelled, once, but the one that is pending
@@ -118,9 +122,12 @@ pub record IsJustified (story : Story) (event : Event) (counts : NoSlot) : Type 
   pub polled : map (λ (poll : Poll). poll.slot) (tell story event).polls ≡ map (λ (entry : Retired). entry.slot) (tell story event).state.desk.retired
   pub were_held : (index : ℕ) → index < length (tell story event).polls → 0 < length (slice_index_or (tell story event).polls index no_poll).holders
 
--- the words change by one operation on one of them
+-- that operation on one of the words is made, and no other
 abbrev pub Operates : State → Operation → State → Type 0
-Operates state one after = (place_of one < length state.words) × (after.words ≡ slice_set state.words (place_of one) (becomes one (word state (place_of one))))
+Operates state one after =
+    (place_of one < length state.words)
+    × (after.words ≡ slice_set state.words (place_of one) (becomes one (word state (place_of one))))
+    × (after.made ≡ state.made ++ one ∷ [])
 
 -- what one event more does
 pub record Follows (story : Story) (event : Event) : Type 0 where

@@ -1,8 +1,9 @@
 //! The step machine of the reader map, without threads: what the running map does, one atomic
 //! operation on one word a step. Its laws speak of all orders in which the callers' steps can fall.
 //!
-//! A key's word says whether the key is asked or filled, which slot it names, and how many readers
-//! have arrived (`nr_words`). A slot is a departure word and the content words of one row set.
+//! A key's word says whether the key is asked or filled, which slot it names, or which number its
+//! request has, and how many readers have arrived (`nr_words`). A slot is a departure word and the
+//! content words of one row set.
 //!
 //! A reader arrives with one addition to its key's word. It finds the slot that the word names and
 //! is counted there in the same operation (`gripped`), so it holds the slot: it reads the set word by
@@ -11,9 +12,9 @@
 //! The writer never changes a set in place. A call looks at its key (`looked`); where it needs a
 //! slot it takes the next free one, or polls the retired ones, oldest first (`settled`, `polled`).
 //! It puts the set's words into the slot that it took (`put_on`), and publishes with one swap of the
-//! key's word (`swapped`). An eviction swaps in 0. The swap gives back the old word, and with it the
-//! exact count of all that ever arrived at the slot that it named (`unnamed`); no reader can arrive
-//! there any more, and the slot is retired with that count.
+//! key's word (`swapped`). An eviction swaps in the word of a hole with the key's number. The swap
+//! gives back the old word, and with it the exact count of all that ever arrived at the slot that it
+//! named (`unnamed`); no reader can arrive there any more, and the slot is retired with that count.
 //!
 //! A retired slot is taken again where its departures equal its arrivals modulo 2^40 (`polled`):
 //! since a named or retired slot's arrivals are its departures and those that hold it (`Counts`), and
@@ -21,27 +22,37 @@
 //! departures as its arrivals (`naming`), so the count goes on, whatever it was, wrapped or not.
 //! Where each retired slot is held at its poll, the call ends with no slot (`IsJustified`).
 //!
+//! A request is sent with its key's number, and filled by that number alone (`fill_asked`). A cancel
+//! takes it back: one swap puts the word of a hole with the next number there (`withdrawn`), so that
+//! a late answer to the old request fills no newer one. A filled key's word has no room for the
+//! number, so the writer lists the numbers of all keys (`AreNumbers`).
+//!
 //! `Core` (in specs/) says what stands between any two steps, `CanStep` that a caller can make a step
-//! whatever the core state is; each kind of step has one lemma of that form. `EverySchedule` and
-//! `SlotBound` are the laws.
+//! whatever the core state is; each kind of step has one law of that form (`laws`, and StepLaws in
+//! specs/), on which the running map builds. `EverySchedule` and `SlotBound` are the laws of lists of
+//! events. `proofs/Lib.antt` begins with the lemma files that are meant for the crates above.
 #![tactic(auto)]
 
 mod calls;
-mod inner;
 pub mod laws;
 mod machine;
+mod operation;
 mod places;
+mod reached;
 mod roles;
 mod shape;
+mod spare;
 #[cfg(test)]
 mod tests;
 mod words;
 mod words_read;
 
 pub use calls::{Arrived, AskReply, NoSlot, Refusal, Step, WReply, WriterCall};
-pub use machine::Core;
 pub use nr_model::OpenFault;
+pub use operation::Operation;
 pub use places::{Hold, Place, Retired};
+pub use reached::Core;
 pub use roles::{Desk, Grip, Role};
 pub use shape::{MAX_READERS, MAX_SLOTS, Shape};
+pub use spare::Spare;
 pub use words_read::WordsRead;

@@ -1,161 +1,102 @@
-//! The step machine that callers see.
-ghost use Rattle.std.specs.Prelude.{◌≡◌, ◌<◌, ◌↔◌, ◌⊎◌, IfOk, IsTrue, Err};
-ghost use Rattle.nr_model.specs.Maps.{number_of};
-ghost use Rattle.nr_model.specs.declared.seq_map.TheConstants.{MAX_KEYS};
-ghost use Rattle.nr_core.specs.Story.{shown};
-ghost use Rattle.nr_core.specs.States.{opening, number_at, Arrive, Read, Depart, Ask, Start, Go};
-ghost use Rattle.nr_core.specs.Machine.{next, arrive_answer, read_answer, depart_answer, ask_answer, start_answer, go_answer};
-ghost use Rattle.nr_core.specs.Sizes.{IsBadSize, IsBadShape};
+//! The machine in any state, and its steps, each of which is proved from what it needs there.
+ghost use Rattle.std.specs.Prelude.{◌≡◌, ◌<◌, ◌≤◌, length, IfOk};
+ghost use Rattle.nr_model.specs.Maps.{last_number};
+ghost use Rattle.nr_core.specs.States.{opening, hold_of, number_at};
+ghost use Rattle.nr_core.specs.Reach.{HasRoom, RoomOf};
 
-use crate::calls::{Arrived, AskReply, Refusal, Step, WriterCall};
-use crate::inner::Inner;
-use crate::shape::{MAX_READERS, MAX_SLOTS, Shape};
-use nr_model::{LAST_NUMBER, MAX_KEYS, OpenFault};
-use std::alloc::Global;
+mod reader_steps;
+mod reclaim;
+mod refusals;
+mod writer_steps;
+
+use crate::places::{Hold, Place};
+use crate::shape::Shape;
+use crate::spare::Spare;
+use crate::words::Words;
+use nr_words::Layout;
+use std::alloc::{AllocError, Global};
 use std::marker::Model;
 
-/// The machine, in a state to which some steps of its callers lead. A step that is refused changes
-/// nothing; every other one is one operation on one word. No step takes memory.
+/// The words of the map, what the readers 1, 2, .. hold, and where the writer is: its place in its
+/// call, the slots that no key names, and the number of each key.
+///
+/// It may be in any state; its steps ask for the room that they need (`HasRoom`). Within a step its
+/// parts call each other in states to which no steps lead, so that it can't itself keep the fact
+/// that some do. `Core`, around it, keeps it, and has the room by it.
 #[derive(Drop)]
-pub struct Core {
-    inner: Inner,
+pub struct Machine {
+    layout: Layout,
+    readers: u32,
+    first_count: u64,
+    first_number: u64,
+    words: Words,
+    holds: Vec<Hold>,
+    place: Place,
+    spare: Spare,
+    numbers: Vec<u64>,
 }
 
-impl Model for Core {
+impl Model for Machine {
+    ghost use Rattle.std.specs.Prelude.{◌≡◌};
     ghost use Rattle.nr_core.specs.States.{State};
-    ghost use Rattle.nr_core.specs.Reach.{Reached};
 
     ghost Value = { State };
 
-    ghost view = { λ core. core.inner };
+    ghost view = { λ machine. record {
+      shape = record { keys = machine.layout.keys; slots = machine.layout.slots; readers = machine.readers; first_count = machine.first_count; first_number = machine.first_number };
+      words = machine.words.cells;
+      holds = machine.holds.items;
+      desk = record { place = machine.place; fresh = machine.spare.fresh; retired = machine.spare.retired; numbers = machine.numbers.items };
+      made = machine.words.made;
+    } };
 
-    ghost invariant = { λ core. ∥ Reached core.inner ∥₁ };
+    ghost invariant = { λ machine. machine.spare.slots ≡ machine.layout.slots };
 }
 
-impl Core {
-    /// The machine of a map of 1 to 65,536 keys, each a hole, 1 to 131,072 slots, each of which
-    /// starts at the first count, and 1 to 1,024 readers. Other sizes are refused, and then want
-    /// of memory.
-    pub fn open(
-        alloc: Global,
-        keys: u32,
-        slots: u32,
-        readers: u32,
-        first_count: u64,
-    ) -> Result<Core, OpenFault>
-        ensures bad_size { (result ≡ Err OpenFault.BadSize)
-            ↔ (IsBadSize MAX_KEYS keys ⊎ IsBadSize MAX_SLOTS slots ⊎ IsBadSize MAX_READERS readers) }
-        ensures ok { IfOk result (λ core. core ≡ opening (record {
-          keys = keys;
-          slots = slots;
-          readers = readers;
-          first_count = first_count;
-          first_number = 0;
-        })) }
+impl Machine {
+    /// The state in which a map opens, with all the room that its steps need.
+    pub fn open(alloc: Global, shape: &Shape) -> Result<Machine, AllocError>
+        requires { shape.now.first_number ≤ last_number }
+        ensures { IfOk result (λ machine. machine ≡ opening shape.now) }
     {
-        let shape = Shape {
-            keys,
-            slots,
-            readers,
-            first_count,
-            first_number: 0,
+        let layout = Layout {
+            keys: shape.keys,
+            slots: shape.slots,
         };
-        Core::open_with(alloc, &shape)
+        let words = Words::open(alloc, layout, shape.first_count, shape.first_number)?;
+        let holds = vec![in alloc; Hold::Nothing; shape.readers as usize]?;
+        let spare = Spare::open(alloc, shape.slots)?;
+        let numbers = vec![in alloc; shape.first_number; shape.keys as usize]?;
+        Ok(Machine {
+            layout,
+            readers: shape.readers,
+            first_count: shape.first_count,
+            first_number: shape.first_number,
+            words,
+            holds,
+            place: Place::Idle,
+            spare,
+            numbers,
+        })
     }
 
-    /// The machine of a map of that shape. Every key is a hole, whose first request has the first
-    /// number, 0 to 4,194,303. The other sizes are those of `open`; what is out of its limits is
-    /// refused (`BadSize`), and then want of memory (`Memory`).
-    pub fn open_with(alloc: Global, shape: &Shape) -> Result<Core, OpenFault>
-        ensures bad_size { (result ≡ Err OpenFault.BadSize) ↔ IsBadShape shape.now }
-        ensures ok { IfOk result (λ core. core ≡ opening shape.now) }
-    {
-        if is_bad_shape(shape) {
-            return Err(OpenFault::BadSize);
-        }
-        let inner = Inner::open(alloc, shape).map_err(|_| OpenFault::Memory)?;
-        Ok(Core { inner })
-    }
-
-    /// The number that the key's next request is sent with, or was sent with where it is asked or
-    /// filled, by the writer's list. The key is below the number of keys. It is no step.
+    /// The number of the key.
     pub fn number(&self, key: u32) -> u64
-        requires { key < self.now.shape.keys }
-        ensures listed { result ≡ number_at self.now.desk key }
-        ensures shown { result ≡ number_of (shown self.now key) }
+        requires listed { length self.now.desk.numbers ≡ self.now.shape.keys }
+        requires key { key < self.now.shape.keys }
+        ensures { result ≡ number_at self.now.desk key }
     {
-        self.inner.number(key)
+        self.numbers[key as usize]
     }
 
-    /// A reader, from 1, arrives at a key, from 0: one addition to the key's word. It holds the
-    /// key's slot then, or finds a hole. Refused where there is no such reader or key
-    /// (`OutOfRange`), and then where the reader holds a slot (`Holding`).
-    pub fn arrive(&mut self, reader: u32, key: u32) -> Result<Arrived, Refusal>
-        ensures answer { result ≡ arrive_answer self.old reader key }
-        ensures new { self.new ≡ next self.old (Arrive reader key) }
+    /// What the reader holds.
+    fn hold(&self, reader: u32) -> Hold
+        requires room { HasRoom self.now }
+        requires low { 0 < reader }
+        requires high { reader ≤ self.now.shape.readers }
+        ensures value { result ≡ hold_of self.now reader }
+        ensures room { RoomOf self.now.shape result }
     {
-        self.inner.arrive(reader, key)
+        self.holds[reader as usize - 1]
     }
-
-    /// A reader reads a content word of the slot that it holds: one load. Refused where there is no
-    /// such reader (`OutOfRange`), then where it holds nothing (`NotHolding`), and then unless the
-    /// index is 0 or, once word 0 was read in this hold, at most twice that number (`OutOfRange`).
-    pub fn read(&mut self, reader: u32, index: u64) -> Result<u64, Refusal>
-        ensures answer { result ≡ read_answer self.old reader index }
-        ensures new { self.new ≡ next self.old (Read reader index) }
-    {
-        self.inner.read(reader, index)
-    }
-
-    /// A reader leaves the slot that it holds: one addition to the slot's departure word. Refused
-    /// where there is no such reader (`OutOfRange`), and then where it holds nothing (`NotHolding`).
-    pub fn depart(&mut self, reader: u32) -> Result<(), Refusal>
-        ensures answer { result ≡ depart_answer self.old reader }
-        ensures new { self.new ≡ next self.old (Depart reader) }
-    {
-        self.inner.depart(reader)
-    }
-
-    /// A reader asks for a key: one bitwise or on the key's word. Refused where there is no such
-    /// reader or key (`OutOfRange`), and then where the reader holds a slot (`Holding`).
-    pub fn ask(&mut self, reader: u32, key: u32) -> Result<AskReply, Refusal>
-        ensures answer { result ≡ ask_answer self.old reader key }
-        ensures new { self.new ≡ next self.old (Ask reader key) }
-    {
-        self.inner.ask(reader, key)
-    }
-
-    /// The writer begins a call by its look at the key's word: one load. Refused where there is no
-    /// such key (`OutOfRange`), and then where the writer is in a call (`Busy`).
-    pub fn start(&mut self, call: &WriterCall) -> Result<Step, Refusal>
-        ensures answer { result ≡ start_answer self.old call.now }
-        ensures new { self.new ≡ next self.old (Start call.now) }
-    {
-        self.inner.start(call)
-    }
-
-    /// The writer's call makes its next step: a load of a content word or of a departure word, a
-    /// store of a content word, or a swap of the key's word. Refused where the writer is in no call
-    /// (`NotBusy`).
-    pub fn go(&mut self) -> Result<Step, Refusal>
-        ensures answer { result ≡ go_answer self.old }
-        ensures new { self.new ≡ next self.old Go }
-    {
-        self.inner.go()
-    }
-}
-
-fn is_bad_shape(shape: &Shape) -> bool
-    ensures { IsTrue result ↔ IsBadShape shape.now }
-{
-    is_bad_size(MAX_KEYS, shape.keys)
-        || is_bad_size(MAX_SLOTS, shape.slots)
-        || is_bad_size(MAX_READERS, shape.readers)
-        || shape.first_number > LAST_NUMBER
-}
-
-fn is_bad_size(limit: u32, size: u32) -> bool
-    ensures { IsTrue result ↔ IsBadSize limit size }
-{
-    size == 0 || size > limit
 }

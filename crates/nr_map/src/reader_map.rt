@@ -1,7 +1,8 @@
 //! The map.
 ghost use Rattle.std.specs.Prelude.{◌≡◌, ◌<◌, ◌⊎◌, ◌↔◌, [], IfOk, IsTrue, Err};
 ghost use Rattle.nr_model.specs.declared.seq_map.TheConstants.{MAX_KEYS};
-ghost use Rattle.nr_core.specs.Sizes.{IsShape, IsBadSize, IsBadShape};
+ghost use Rattle.nr_model.specs.Sizes.{IsBadSize};
+ghost use Rattle.nr_core.specs.Sizes.{IsShape, IsBadShape};
 ghost use Rattle.nr_map.specs.Opened.{IsOpened, Seated};
 
 use crate::board::{Board, Seat};

@@ -1,5 +1,5 @@
-use Rattle.std.proofs.Common.{false, replicate, ◌++◌, ◌∷◌, ◌≡◌}
-use Rattle.nr_core.specs.Slots.{repeated}
+use Rattle.std.proofs.Common.{replicate, ◌∷◌, ◌++◌, ◌≡◌, false}
+use Rattle.nr_words.specs.Opening.{repeated}
 use Rattle.nr_map.proofs.board.lay.Given as goal
 use Rattle.nr_words.specs.KeyWords.{hole_word}
 
