@@ -1,10 +1,10 @@
 -- How a run ended, and what was told of it, is the end of the program.
 use Rattle.std.proofs.Common.{ℕ, ◌≡◌, ◌≤◌, ◌<◌, List, [], ◌∷◌, length, get_or, refl, Option, Result, Ok, Err, inl, inr, arith}
 use Rattle.std.specs.Prelude.{MatchResult}
-use Rattle.nr_prog.specs.declared.fault.RunFault.{RunFault}
-use Rattle.nr_prog.specs.Output.{AppendsSome}
+use Rattle.nr_lines.specs.declared.fault.RunFault.{RunFault}
+use Rattle.nr_lines.specs.Output.{AppendsSome}
 use Rattle.nr_prog.specs.Program.{EndsRun, line_of}
-use Rattle.nr_prog.specs.Run.{Runs}
+use Rattle.nr_lines.specs.Run.{Runs}
 
 pub run_ends : (text : List (List ℕ) → List ℕ) (limit status : ℕ) (ran : Result (Unit {0}) RunFault) (had left held wrote holds : Option (List ℕ))
     → Runs text limit ran had left held wrote

@@ -1,10 +1,10 @@
 -- What the program writes of a fault.
 use Rattle.std.specs.Prelude.{ℕ, ◌≡◌, ◌⊎◌, List, [], ◌∷◌, ◌++◌, codes, Option, Ok, Err}
-use Rattle.nr_prog.specs.declared.fault.RunFault.{RunFault}
-use Rattle.nr_prog.specs.declared.fault.RunFault.TheVariants as faults
-use Rattle.nr_prog.specs.Lines.{line_feed}
-use Rattle.nr_prog.specs.Output.{AppendsSome}
-use Rattle.nr_prog.specs.Run.{Runs}
+use Rattle.nr_lines.specs.declared.fault.RunFault.{RunFault}
+use Rattle.nr_lines.specs.declared.fault.RunFault.TheVariants as faults
+use Rattle.nr_lines.specs.Lines.{line_feed}
+use Rattle.nr_lines.specs.Output.{AppendsSome}
+use Rattle.nr_lines.specs.Run.{Runs}
 
 -- the line of a fault
 abbrev pub line_of : RunFault → List ℕ

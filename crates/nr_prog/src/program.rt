@@ -1,14 +1,14 @@
 //! The program: what its arguments ask for, and what it tells of a fault.
 ghost use Rattle.std.specs.Prelude.{◌≡◌, ◌≢◌, [], ◌∷◌, map, codes, string_bytes, MatchResult};
 ghost use Rattle.nr_prog.specs.Program.{EndsRun, line_of};
-ghost use Rattle.nr_prog.specs.Output.{AppendsSome};
-ghost use Rattle.nr_prog.specs.Schedule.{schedule_text};
-ghost use Rattle.nr_prog.specs.Script.{script_text};
+ghost use Rattle.nr_lines.specs.Limits.{longest_input};
+ghost use Rattle.nr_lines.specs.Output.{AppendsSome};
+ghost use Rattle.nr_schedule.specs.Machine.{schedule_text};
+ghost use Rattle.nr_script.specs.Machine.{script_text};
 
-use crate::fault::RunFault;
-use crate::output::write_all;
-use crate::script::{INPUT_LIMIT, run};
-use crate::steps::run_steps;
+use nr_lines::{RunFault, write_all};
+use nr_schedule::run_steps;
+use nr_script::run;
 use std::alloc::Global;
 use std::io::{Read, Write};
 use std::sync::Wait;
@@ -27,9 +27,9 @@ pub fn main_with<T: Threads + Wait, R: Read, W: Write>(
     writer: &mut W,
 ) -> u8
     ensures script { args.now ≡ [] →
-        EndsRun script_text INPUT_LIMIT result (R.remaining reader.old) (R.remaining reader.new) (W.contents writer.old) (W.contents writer.new) }
+        EndsRun script_text longest_input result (R.remaining reader.old) (R.remaining reader.new) (W.contents writer.old) (W.contents writer.new) }
     ensures steps { map string_bytes args.now ≡ codes "steps" ∷ [] →
-        EndsRun schedule_text INPUT_LIMIT result (R.remaining reader.old) (R.remaining reader.new) (W.contents writer.old) (W.contents writer.new) }
+        EndsRun schedule_text longest_input result (R.remaining reader.old) (R.remaining reader.new) (W.contents writer.old) (W.contents writer.new) }
     ensures usage { args.now ≢ [] → map string_bytes args.now ≢ codes "steps" ∷ [] → result ≡ 2 }
 {
     let _ = rt;

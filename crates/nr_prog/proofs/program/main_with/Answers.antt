@@ -1,7 +1,7 @@
 use Rattle.std.proofs.Common.{◌≡◌, [], ◌∷◌, codes, sym, ◌∙◌, ap}
 use Rattle.std.proofs.lemmas.Slice.Eq.{bytes_eq-Decides}
-use Rattle.nr_prog.specs.Schedule.{schedule_text}
-use Rattle.nr_prog.specs.Script.{script_text}
+use Rattle.nr_schedule.specs.Machine.{schedule_text}
+use Rattle.nr_script.specs.Machine.{script_text}
 use Rattle.nr_prog.proofs.ProgramLemmas.{run_ends, only_one}
 use Rattle.nr_prog.proofs.program.main_with.Goals as goal
 
