@@ -12,8 +12,8 @@ use Rattle.nr_lines.specs.declared.line.Line.{Line}
 use Rattle.nr_lines.specs.Lines.{line_feed, lines, ended_lines}
 use Rattle.nr_lines.specs.Text.{text, after}
 use Rattle.nr_lines.specs.Input.{pending, unread, allowance, Holds, TakesLine}
-use Rattle.nr_lines.specs.Output.{BeginsWith, AppendsSome, IsReplyFault}
-use Rattle.nr_lines.specs.Run.{Runs, WritesSome}
+use Rattle.nr_lines.specs.Output.{IsCutShort, SendsReply}
+use Rattle.nr_lines.specs.Run.{Runs, ReadWhole}
 use Rattle.nr_lines.proofs.InputLemmas.{unread_none}
 use Rattle.nr_lines.proofs.LineLemmas.{lines-ended, ended_lines-ended, ended_lines-none, lines-some}
 use Rattle.nr_lines.proofs.TextLemmas.{text-append, after-append}
@@ -37,14 +37,11 @@ module _ {S : Type 0} (answer : S → List ℕ → List ℕ × S) (start : S) wh
   unread_taken (Some x) None bs more p = absurd p
   unread_taken (Some x) (Some y) bs more p = p ∙ sym (append_assoc bs more y)
 
-  text_done : (done more : List (List ℕ)) → BeginsWith (text answer start (done ++ more)) (text answer start done)
-  text_done done more = (text answer (after answer start done) more, text-append answer start done more)
-
   -- a line's reply is cut short
   text_cut : (state : S) (done : List (List ℕ)) (line : List ℕ) (more : List (List ℕ)) (sent : List ℕ) → state ≡ after answer start done
-      → BeginsWith ((answer state line).0 ++ line_feed ∷ []) sent
-      → BeginsWith (text answer start (done ++ line ∷ more)) (text answer start done ++ sent)
-  text_cut state done line more sent same (rest, split) =
+      → IsCutShort ((answer state line).0 ++ line_feed ∷ []) sent
+      → IsCutShort (text answer start (done ++ line ∷ more)) (text answer start done ++ sent)
+  text_cut state done line more sent same (rest, split, missing) =
       let one = (answer state line).0 ++ line_feed ∷ [] in
       let others = text answer (answer state line).1 more in (
         rest ++ others,
@@ -53,6 +50,7 @@ module _ {S : Type 0} (answer : S → List ℕ → List ℕ × S) (start : S) wh
             ∙ ap (λ l. text answer start done ++ (l ++ others)) split
             ∙ ap (λ l. text answer start done ++ l) (append_assoc sent rest others)
             ∙ sym (append_assoc (text answer start done) sent (rest ++ others)),
+        rw (length-append rest others) (omega (arith, missing)),
       )
 
   text_more : (state : S) (done : List (List ℕ)) (line : List ℕ) → state ≡ after answer start done
@@ -111,55 +109,46 @@ module _ {S : Type 0} (answer : S → List ℕ → List ℕ × S) (start : S) wh
           ),
         )
 
+    -- the line that was read is one of those that were read whole
+    read_whole : (end : LineEnd) → end ≢ ends.NoLine → TakesLine old new at left line (Ok end)
+        → (taken : List ℕ) × (bytes : List ℕ) × (more : List (List ℕ)) × Consumes had left taken × Holds line bytes × ReadWhole taken left (so_far.done ++ bytes ∷ more)
+    read_whole ends.NoLine some line_taken = absurd (some refl)
+    read_whole ends.LineFeed some (got, consumed, told) =
+        let (bytes, no_feed, split, held, count) = told in
+        let same : (so_far.taken ++ got) ++ pending new ≡ so_far.taken ++ (bytes ++ line_feed ∷ pending new) =
+        append_assoc so_far.taken got (pending new) ∙ ap (λ l. so_far.taken ++ (l ++ pending new)) split
+        ∙ ap (λ l. so_far.taken ++ l) (append_assoc bytes (line_feed ∷ []) (pending new)) in
+        let cut = ap ended_lines same ∙ so_far.ended (bytes ++ line_feed ∷ pending new) ∙ ap (λ l. so_far.done ++ l) (ended_lines-ended bytes (pending new) no_feed) in
+        ((so_far.taken ++ got) ++ pending new, bytes, ended_lines (pending new), whole got consumed, held, inl (sym cut))
+    read_whole ends.InputEnd some (got, consumed, told) =
+        let (no_feed, long, held, count, spent) = told in
+        let cut = so_far.cut got ∙ ap (λ l. so_far.done ++ l) (lines-some got no_feed long) in
+        (so_far.taken ++ got, got, [], whole_none got spent.0 consumed, held, inr (spent.1, sym cut))
+
     -- no memory for a line's reply
-    pub ends_answering : (end : LineEnd) → TakesLine old new at left line (Ok end) → Runs (text answer start) limit (Err faults.Memory) had left held holds
-    ends_answering end (got, consumed, told) =
-        let same = append_assoc so_far.taken got (pending new) in (
-          (so_far.taken ++ got) ++ pending new,
-          text answer start so_far.done,
-          whole got consumed,
-          so_far.appends,
-          inl (subst (λ ls. BeginsWith (text answer start ls) (text answer start so_far.done)) (sym (ap ended_lines same ∙ so_far.ended (got ++ pending new))) (text_done so_far.done _)),
-        )
+    pub ends_answering : (end : LineEnd) → end ≢ ends.NoLine → TakesLine old new at left line (Ok end) → Runs (text answer start) limit (Err faults.Memory) had left held holds
+    ends_answering end some line_taken =
+        let (taken, bytes, more, consumed, line_held, read) = read_whole end some line_taken in
+        (taken, text answer start so_far.done, consumed, so_far.appends, (so_far.done, bytes, more, read, refl))
 
     module _ (next : S) (reply : List ℕ) (last : Option (List ℕ)) (gives : (bytes : List ℕ) → Holds line bytes → answer state bytes ≡ (reply, next)) where
-      -- what was written so far, and a part of the line's reply
-      cut_short : (end : LineEnd) → end ≢ ends.NoLine → TakesLine old new at left line (Ok end)
-          → (sent : List ℕ) → BeginsWith (reply ++ line_feed ∷ []) sent
-          → (taken : List ℕ) × Consumes had left taken × WritesSome (text answer start) taken left (text answer start so_far.done ++ sent)
-      cut_short ends.NoLine some line_taken sent begins = absurd (some refl)
-      cut_short ends.LineFeed some (got, consumed, told) sent begins =
-          let (bytes, no_feed, split, held, count) = told in
-          let same : (so_far.taken ++ got) ++ pending new ≡ so_far.taken ++ (bytes ++ line_feed ∷ pending new) =
-          append_assoc so_far.taken got (pending new) ∙ ap (λ l. so_far.taken ++ (l ++ pending new)) split
-          ∙ ap (λ l. so_far.taken ++ l) (append_assoc bytes (line_feed ∷ []) (pending new)) in
-          let cut = ap ended_lines same ∙ so_far.ended (bytes ++ line_feed ∷ pending new) ∙ ap (λ l. so_far.done ++ l) (ended_lines-ended bytes (pending new) no_feed) in
-          let begins_too = subst (λ (r : List ℕ). BeginsWith (r ++ line_feed ∷ []) sent) (sym (ap (λ p. p.0) (gives bytes held))) begins in (
-            (so_far.taken ++ got) ++ pending new,
-            whole got consumed,
-            inl (subst (λ ls. BeginsWith (text answer start ls) (text answer start so_far.done ++ sent)) (sym cut) (text_cut state so_far.done bytes _ sent so_far.state_is begins_too)),
-          )
-      cut_short ends.InputEnd some (got, consumed, told) sent begins =
-          let (no_feed, long, held, count, spent) = told in
-          let cut = so_far.cut got ∙ ap (λ l. so_far.done ++ l) (lines-some got no_feed long) in
-          let begins_too = subst (λ (r : List ℕ). BeginsWith (r ++ line_feed ∷ []) sent) (sym (ap (λ p. p.0) (gives got held))) begins in (
-            so_far.taken ++ got,
-            whole_none got spent.0 consumed,
-            inr (spent.1, subst (λ ls. BeginsWith (text answer start ls) (text answer start so_far.done ++ sent)) (sym cut) (text_cut state so_far.done got [] sent so_far.state_is begins_too)),
-          )
-
-      -- a line's reply that was cut short
+      -- a line's reply that was cut short, or for whose line feed there was no memory
       pub ends_sending : (end : LineEnd) (fault : RunFault) → end ≢ ends.NoLine → TakesLine old new at left line (Ok end)
-          → IsReplyFault fault × AppendsSome holds last (reply ++ line_feed ∷ [])
-          → Runs (text answer start) limit (Err fault) had left held last
-      ends_sending end faults.Write some line_taken (own, (sent, begins, appends)) =
-          let (taken, consumed, part) = cut_short end some line_taken sent begins in
-          (taken, text answer start so_far.done ++ sent, consumed, Appends-trans _ _ _ (text answer start so_far.done) sent so_far.appends appends, part)
-      ends_sending end faults.Memory some line_taken (own, (sent, begins, appends)) =
-          let (taken, consumed, part) = cut_short end some line_taken sent begins in
-          (taken, text answer start so_far.done ++ sent, consumed, Appends-trans _ _ _ (text answer start so_far.done) sent so_far.appends appends, part)
-      ends_sending end faults.Read some line_taken (own, part) = absurd own
-      ends_sending end faults.TooMuch some line_taken (own, part) = absurd own
+          → SendsReply {X = Unit {0}} holds last reply (Err fault) → Runs (text answer start) limit (Err fault) had left held last
+      ends_sending end faults.Write some line_taken (sent, cut, appends) =
+          let (taken, bytes, more, consumed, line_held, read) = read_whole end some line_taken in
+          let cut_too = subst (λ (r : List ℕ). IsCutShort (r ++ line_feed ∷ []) sent) (sym (ap (λ p. p.0) (gives bytes line_held))) cut in (
+            taken,
+            text answer start so_far.done ++ sent,
+            consumed,
+            Appends-trans _ _ _ (text answer start so_far.done) sent so_far.appends appends,
+            (so_far.done ++ bytes ∷ more, read, text_cut state so_far.done bytes more sent so_far.state_is cut_too),
+          )
+      ends_sending end faults.Memory some line_taken same =
+          let (taken, bytes, more, consumed, line_held, read) = read_whole end some line_taken in
+          (taken, text answer start so_far.done, consumed, rw same so_far.appends, (so_far.done, bytes, more, read, refl))
+      ends_sending end faults.Read some line_taken never = absurd never
+      ends_sending end faults.TooMuch some line_taken never = absurd never
 
       module _ (appends : Appends holds last (reply ++ line_feed ∷ [])) where
         -- the last line of the input was answered

@@ -9,4 +9,4 @@ mod tests;
 pub use nr_lines::RunFault;
 pub use nr_schedule::{laws, run_steps};
 pub use nr_script::{replies, run};
-pub use program::main_with;
+pub use program::{main_of, main_with};

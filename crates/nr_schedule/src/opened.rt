@@ -75,20 +75,20 @@ impl Opened {
                 Ok(StepAnswer::Asked(reply))
             }
             Command::Find { key } => {
-                let key = self.key(*key)?;
+                let key = self.small(*key)?;
                 self.start(&WriterCall::Find(key))
             }
             Command::Fill { key, rows } => {
                 let rows = rows.map_err(|_| StepRefusal::TooMany)?;
-                let key = self.key(*key)?;
+                let key = self.small(*key)?;
                 self.start(&WriterCall::Fill(key, rows))
             }
             Command::Update { key, batch } => {
-                let key = self.key(*key)?;
+                let key = self.small(*key)?;
                 self.start(&WriterCall::Update(key, *batch))
             }
             Command::Evict { key } => {
-                let key = self.key(*key)?;
+                let key = self.small(*key)?;
                 self.start(&WriterCall::Evict(key))
             }
             Command::Go => {
@@ -102,8 +102,8 @@ impl Opened {
         ensures answer { result ≡ arrive_answer self.old reader key }
         ensures new { self.new ≡ next self.old (machine.Arrive reader key) }
     {
-        let reader = self.reader(reader)?;
-        let key = self.key(key)?;
+        let reader = self.small(reader)?;
+        let key = self.small(key)?;
         self.core.arrive(reader, key)
     }
 
@@ -111,7 +111,7 @@ impl Opened {
         ensures answer { result ≡ read_answer self.old reader index }
         ensures new { self.new ≡ next self.old (machine.Read reader index) }
     {
-        let reader = self.reader(reader)?;
+        let reader = self.small(reader)?;
         self.core.read(reader, index)
     }
 
@@ -119,7 +119,7 @@ impl Opened {
         ensures answer { result ≡ depart_answer self.old reader }
         ensures new { self.new ≡ next self.old (machine.Depart reader) }
     {
-        let reader = self.reader(reader)?;
+        let reader = self.small(reader)?;
         self.core.depart(reader)
     }
 
@@ -127,8 +127,8 @@ impl Opened {
         ensures answer { result ≡ ask_answer self.old reader key }
         ensures new { self.new ≡ next self.old (machine.Ask reader key) }
     {
-        let reader = self.reader(reader)?;
-        let key = self.key(key)?;
+        let reader = self.small(reader)?;
+        let key = self.small(key)?;
         self.core.ask(reader, key)
     }
 
@@ -139,23 +139,13 @@ impl Opened {
         Ok(StepAnswer::Writer(step))
     }
 
-    /// A reader's number, unless it is too large for one that the machine has.
-    fn reader(&self, reader: u64) -> Result<u32, Refusal>
-        ensures ok { IfOk result (λ number. number ≡ reader) }
-        ensures err { IfErr result (λ why. (why ≡ Refusal.OutOfRange) × (has_reader self.now.shape reader ≡ false)) }
+    /// The number of a reader or key, unless it is too large for any that the machine has.
+    fn small(&self, number: u64) -> Result<u32, Refusal>
+        ensures ok { IfOk result (λ small. small ≡ number) }
+        ensures err { IfErr result (λ why. (why ≡ Refusal.OutOfRange) × (has_reader self.now.shape number ≡ false) × (has_key self.now.shape number ≡ false)) }
     {
-        // What always holds of the machine shows that it has fewer readers than this.
-        let _ = &self.core;
-        u32::try_from(reader).map_err(|_| Refusal::OutOfRange)
-    }
-
-    /// A key's number, unless it is too large for one that the machine has.
-    fn key(&self, key: u64) -> Result<u32, Refusal>
-        ensures ok { IfOk result (λ number. number ≡ key) }
-        ensures err { IfErr result (λ why. (why ≡ Refusal.OutOfRange) × (has_key self.now.shape key ≡ false)) }
-    {
-        // The same of its keys.
-        let _ = &self.core;
-        u32::try_from(key).map_err(|_| Refusal::OutOfRange)
+        // Nothing at run time: the proof reads here that the machine has few readers and keys.
+        let _limited = &self.core;
+        u32::try_from(number).map_err(|_| Refusal::OutOfRange)
     }
 }

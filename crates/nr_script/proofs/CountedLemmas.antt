@@ -24,7 +24,7 @@ use Rattle.nr_script.specs.declared.pin.Pin.{Pin}
 use Rattle.nr_core.specs.declared.shape.TheConstants.{MAX_READERS}
 use Rattle.nr_script.specs.Counted.{IsCounted, HasPut, NamesFit}
 use Rattle.nr_script.specs.Opened.{pinned}
-use Rattle.nr_model.specs.Strays.{keyed, count_of, one_if_none, one_if_some}
+use Rattle.nr_model.specs.Strays.{keyed, count_of, one_if_none, one_if_some, strays}
 use Rattle.nr_script.proofs.CountLemmas.{keyed-set, own, one_same, one_other, pinned-set, pins_put, strays_same, strays_leave, strays_pin, strays_unpin, strays-le-length, pinned-le-length}
 
 -- whether the key is filled after a call, by the reply and whether it was before
@@ -120,6 +120,12 @@ module _ (map : PartialMap) (puts : List ℕ) (put_count : ℕ) (pins : List (Op
 
   pub few_strays : stray ≤ MAX_READERS
   few_strays = omega (arith, counted.stray_is, counted.few_readers, strays-le-length numbers (pinned pins), pinned-le-length pins)
+
+  -- a script that isn't full has room for one set more
+  pub has_room : (slots : ℕ) (full : Bool) → full ≡ (filled_count map + strays numbers (pinned pins) == slots) → full ≡ false → filled + stray ≤ slots → filled + stray < slots
+  has_room slots full is not_full within =
+      let other = eqb-false (filled_count map + strays numbers (pinned pins)) slots (sym is ∙ not_full) in
+      omega (arith, counted.filled_is, counted.stray_is, other, within)
 
   -- a number in use is not the next one
   not_next : (put : ℕ) → 0 < count_of numbers put + count_of (pinned pins) put → put_count ≢ put
@@ -308,6 +314,10 @@ module _ (map : PartialMap) (puts : List ℕ) (put_count : ℕ) (pins : List (Op
       pub evict_keeps : reply.Evicted ≡ reply_to map call → put ≡ get_or puts key put → IsCounted new puts put_count pins (filled - 1) (stray + one_if_some (count_of (pinned pins) put))
       evict_keeps evicted read =
           let (was, is) = after_reply reply.Evicted evicted in rw (is_new, ← read_here read) (counted_evict was is)
+
+      pub some_filled : reply.Evicted ≡ reply_to map call → 0 < filled
+      some_filled evicted =
+          let (was, is) = after_reply reply.Evicted evicted in omega (arith, counted.filled_is, filled_moved, ap one was, ap one is)
 
       pub other_keeps : (given : Reply) → given ≡ reply_to map call → given ≢ reply.Done → given ≢ reply.Evicted → IsCounted new puts put_count pins filled stray
       other_keeps given is not_done not_evicted = rw is_new (counted_same (same_after given _ _ not_done not_evicted (after_reply given is)))

@@ -34,6 +34,8 @@ abbrev pub NamesFit : Keys → ℕ → Type 0
 NamesFit kinds.Numbered count = Unit {0}
 NamesFit (kinds.Named naming) count = naming.keys ≡ count
 
-pub record IsOpened (keys : Keys) (map : PartialMap) (puts : List ℕ) (put_count : ℕ) (pins : List (Option Pin)) (filled stray : ℕ) : Type 0 where
+pub record IsOpened (keys : Keys) (map : PartialMap) (slots : ℕ) (puts : List ℕ) (put_count : ℕ) (pins : List (Option Pin)) (filled stray : ℕ) : Type 0 where
   pub names : NamesFit keys (key_count map)
   pub counted : IsCounted map puts put_count pins filled stray
+  -- each set has a slot of its own
+  pub within : filled + stray ≤ slots

@@ -1,7 +1,7 @@
 //! A script that was opened: a map, what its readers have pinned, and the slots that are in use.
 ghost use Rattle.std.specs.Prelude.{◌≡◌, ◌<◌, ◌≤◌, ◌+◌, ◌-◌, ◌^◌, ◌==◌, ◌&&◌, length, nat_lt, if◌then◌else◌, IfOk, IfErr, OnOk, Ok, Some, None};
 ghost use Rattle.std.specs.List.{list_any};
-ghost use Rattle.nr_model.specs.Maps.{is_filled, key_count, key_of, reply_to, state_of};
+ghost use Rattle.nr_model.specs.Maps.{key_count, key_of, reply_to, state_of};
 ghost use Rattle.nr_model.specs.Histories.{is_done};
 ghost use Rattle.nr_script.specs.Opened.{answer_opened, answer_call, answer_pin, is_full, has_reader, found_reader, found_key, found_by_reader, found_set, found_no_pin, found_pin, with_found, without_pin, with_pin, pins_after, pinned, pin_has_put};
 ghost use Rattle.nr_model.specs.Strays.{keyed, count_of, one_if_none, one_if_some};
@@ -40,7 +40,7 @@ impl Model for Opened {
 
     ghost view = { λ inside. record { keys = inside.keys; map = inside.map; slots = inside.slots; puts = inside.puts.items; put_count = inside.put_count; pins = inside.pins.items } };
 
-    ghost invariant = { λ inside. IsOpened inside.keys inside.map inside.puts.items inside.put_count inside.pins.items inside.filled inside.strays };
+    ghost invariant = { λ inside. IsOpened inside.keys inside.map inside.slots inside.puts.items inside.put_count inside.pins.items inside.filled inside.strays };
 }
 
 impl Opened {
@@ -153,8 +153,8 @@ impl Opened {
         if self.is_full() && self.would_be_done(call) {
             return Answer::NoSlot;
         }
-        let key = key_of(call);
-        let was_filled = is_filled(&self.map.state(key));
+        let key = call.key();
+        let was_filled = self.map.state(key).is_filled();
         let reply = self.map.call(call);
         let key = key as usize;
         match reply {
@@ -306,24 +306,8 @@ impl Opened {
         requires held { script.pin_of self.now reader ≡ Some pin.now }
         ensures { result ≡ nat_lt 0 (count_of (keyed self.now.map.states self.now.puts) pin.now.put) }
     {
-        is_filled(&self.map.state(pin.key)) && self.puts[pin.key as usize] == pin.put
+        self.map.state(pin.key).is_filled() && self.puts[pin.key as usize] == pin.put
     }
-}
-
-fn key_of(call: &Call) -> u32
-    ensures { result ≡ key_of call.now }
-{
-    match call {
-        Call::Find(key) | Call::Ask(key) | Call::Evict(key) => *key,
-        Call::Fill(key, _) => *key,
-        Call::Update(key, _) => *key,
-    }
-}
-
-fn is_filled(state: &KeyState) -> bool
-    ensures { result ≡ is_filled state.now }
-{
-    matches!(state, KeyState::Rows(_))
 }
 
 /// How many strays there are more when the set of that put number leaves its key: one, if it is

@@ -1,5 +1,5 @@
 //! A script, from a reader to a writer.
-ghost use Rattle.std.specs.Prelude.{◌≡◌, ◌<◌, ◌≤◌, length, IfOk, OnOk, IfErr, Err};
+ghost use Rattle.std.specs.Prelude.{◌≡◌, ◌<◌, ◌≤◌, ◌⊎◌, length, IfOk, OnOk, IfErr, Err};
 ghost use Rattle.nr_lines.specs.Limits.{longest_input};
 ghost use Rattle.nr_lines.specs.Lines.{lines};
 ghost use Rattle.nr_lines.specs.Run.{Runs};
@@ -28,9 +28,14 @@ pub fn replies(alloc: Global, script: &[u8]) -> Result<Vec<u8>, RunFault>
     ensures text { IfOk result (λ text. text.items ≡ script_text (lines script.now)) }
     ensures whole { OnOk result (length script.now ≤ longest_input) }
     ensures too_much { result ≡ Err RunFault.TooMuch → longest_input < length script.now }
+    ensures fault { IfErr result (λ fault. (fault ≡ RunFault.Memory) ⊎ (fault ≡ RunFault.TooMuch)) }
 {
     let mut text = Vec::new(alloc);
     let mut reader = script;
-    run(alloc, &mut reader, &mut text)?;
-    Ok(text)
+    match run(alloc, &mut reader, &mut text) {
+        Ok(()) => Ok(text),
+        Err(RunFault::TooMuch) => Err(RunFault::TooMuch),
+        // Bytes in memory are read without a fault, and a vector takes all bytes unless memory is refused.
+        Err(_) => Err(RunFault::Memory),
+    }
 }

@@ -13,6 +13,7 @@ invariant_of-self c =
     let filled : is_filled (state_of inside.map c.args.key) ≡ true = sym (ap is_filled (c.in-Rows.ensures)) in
     let within : c.args.key < length inside.puts.items = omega (arith, requires.key, counted.a_put_each) in
     record {
+      within = c.self.invariant.within;
       names = c.self.invariant.names;
       counted = counted_pin inside.map inside.puts.items inside.put_count inside.pins.items inside.filled inside.strays counted (c.args.reader - 1)
           (omega (arith, from_one, to_last)) (record { key = c.args.key; rows = c.in-Rows.rows; put = c.index-put.result.now }) free requires.key

@@ -23,4 +23,4 @@ invariant_of-self c =
     let within : c.args.reader - 1 < length inside.pins.items = omega (arith, from_one, to_last) in
     let is : c.strays_ended.result ≡ one_if_none (count_of (pinned (set inside.pins.items (c.args.reader - 1) None)) c.in_ok-pin.pin.put + count_of (keyed inside.map.states inside.puts.items) c.in_ok-pin.pin.put) =
     c.strays_ended.ensures ∙ rw (c.key_has_it-key_has_it.ensures, c.as_slice.ensures.value, ← c.self.view_is) (ended _ _) in
-    rw is (record { names = c.self.invariant.names; counted = counted_unpin inside.map inside.puts.items inside.put_count inside.pins.items inside.filled inside.strays c.self.invariant.counted (c.args.reader - 1) within c.in_ok-pin.pin held })
+    rw is (record { within = omega (arith, c.self.invariant.within); names = c.self.invariant.names; counted = counted_unpin inside.map inside.puts.items inside.put_count inside.pins.items inside.filled inside.strays c.self.invariant.counted (c.args.reader - 1) within c.in_ok-pin.pin held })
