@@ -3,11 +3,11 @@ use Rattle.std.proofs.Common.{List, [], ap, arith, cond, eq-eqb, get_or, ne_eqb,
 use Rattle.std.specs.Prelude.{bit_or}
 use mathlib.Core.Logic.{dite}
 use native.Mathlib.Decide.{ℕ_discrete}
-use Rattle.nr_model.specs.Maps.{ask_reply, asked as asked_state, state_of}
+use Rattle.nr_model.specs.Maps.{ask_reply, asked as asked_state, number_of, state_of}
 use Rattle.nr_model.specs.declared.calls.Reply.{Reply}
 use Rattle.nr_model.specs.declared.states.KeyState.{KeyState}
 use Rattle.nr_words.proofs.KeyWordLemmas.{with_ask_is}
-use Rattle.nr_words.specs.KeyWords.{has_ask}
+use Rattle.nr_words.specs.KeyWords.{has_ask, slot_of}
 use Rattle.nr_core.proofs.Histories.{legal-more, replies_so, state_other, state_same}
 use Rattle.nr_core.proofs.KeyWords.{name-asked, names_none, names_one}
 use Rattle.nr_core.proofs.OnKey.{on_key}
@@ -25,22 +25,27 @@ use Rattle.nr_model.specs.declared.states.KeyState.TheVariants as key
 use Rattle.nr_model.specs.declared.calls.Call.TheVariants as model
 use Rattle.nr_model.specs.declared.calls.Reply.TheVariants as reply
 
-asked_stays : (z : KeyState) → (z ≡ key.Hole → ⊥) → asked_state z ≡ z
-asked_stays key.Hole n = absurd (n refl)
-asked_stays key.Asked n = refl
-asked_stays (key.Rows rows) n = refl
+asked_stays : (z : KeyState) → ((number : ℕ) → z ≡ key.Hole number → ⊥) → asked_state z ≡ z
+asked_stays (key.Hole number) n = absurd (n number refl)
+asked_stays (key.Asked number) n = refl
+asked_stays (key.Rows number rows) n = refl
+
+asked_number : (z : KeyState) → number_of (asked_state z) ≡ number_of z
+asked_number (key.Hole number) = refl
+asked_number (key.Asked number) = refl
+asked_number (key.Rows number rows) = refl
 
 -- an asked word shows the asked state
-shows-asked : (shape : Shape) (words : List ℕ) (w x : ℕ) (state : KeyState) → name_number x ≡ name_number w → x % 2 ≡ 1 → ShowsState shape words w state → ShowsState shape words x (asked_state state)
-shows-asked shape words w x key.Hole n p t = (n ∙ t.0, p)
-shows-asked shape words w x key.Asked n p t = (n ∙ t.0, p)
-shows-asked shape words w x (key.Rows rows) n p t = (t.0, n ∙ t.1, t.2, t.3)
+shows-asked : (shape : Shape) (words : List ℕ) (w x : ℕ) (state : KeyState) → name_number x ≡ name_number w → x % 2 ≡ 1 → slot_of x ≡ slot_of w → ShowsState shape words w state → ShowsState shape words x (asked_state state)
+shows-asked shape words w x (key.Hole number) n p m t = (n ∙ t.0, p, m ∙ t.2)
+shows-asked shape words w x (key.Asked number) n p m t = (n ∙ t.0, p, m ∙ t.2)
+shows-asked shape words w x (key.Rows number rows) n p m t = (t.0, n ∙ t.1, t.2, t.3)
 
 -- the reply of a key's state is that of its word
 asked_word : (shape : Shape) (words : List ℕ) (w : ℕ) (state : KeyState) → ShowsState shape words w state → ask_reply state ≡ ask_word w
-asked_word shape words w key.Hole t = let p = t.1 in sym (ap (λ b. cond b reply.Filled (cond (has_ask w) reply.Waiting reply.Send)) (names_none w t.0) ∙ ap (λ b. cond b reply.Waiting reply.Send) (ne_eqb (w % 2) 1 (λ z. omega arith)))
-asked_word shape words w key.Asked t = sym (ap (λ b. cond b reply.Filled (cond (has_ask w) reply.Waiting reply.Send)) (names_none w t.0) ∙ ap (λ b. cond b reply.Waiting reply.Send) (eq-eqb (w % 2) 1 t.1))
-asked_word shape words w (key.Rows rows) t = sym (ap (λ b. cond b reply.Filled (cond (has_ask w) reply.Waiting reply.Send)) (names_one w t.0 t.1).0)
+asked_word shape words w (key.Hole number) t = let p = t.1 in sym (ap (λ b. cond b reply.Filled (cond (has_ask w) reply.Waiting (reply.Send (slot_of w)))) (names_none w t.0) ∙ ap (λ b. cond b reply.Waiting (reply.Send (slot_of w))) (ne_eqb (w % 2) 1 (λ z. omega arith)) ∙ ap reply.Send t.2)
+asked_word shape words w (key.Asked number) t = sym (ap (λ b. cond b reply.Filled (cond (has_ask w) reply.Waiting (reply.Send (slot_of w)))) (names_none w t.0) ∙ ap (λ b. cond b reply.Waiting (reply.Send (slot_of w))) (eq-eqb (w % 2) 1 t.1))
+asked_word shape words w (key.Rows number rows) t = sym (ap (λ b. cond b reply.Filled (cond (has_ask w) reply.Waiting (reply.Send (slot_of w)))) (names_one w t.0 t.1).0)
 
 pub asks : (shape : Shape) (id reader k : ℕ) → k < shape.keys → CanStep shape id (Reader reader Nothing) (Or k 1) (Asks reader k)
 asks shape id reader k near words roles log core there =
@@ -52,8 +57,9 @@ asks shape id reader k near words roles log core there =
       entries = e ∷ [];
       core = on_key shape words roles log (e ∷ []) core id reader Nothing Nothing k x near there name (legal-more shape log e core.legal (sym (replies_so shape log (model.Ask k))))
           other
-          (λ j n. dite (ℕ_discrete j k) (λ z. ap (state_of (map_after shape (log ++ e ∷ []))) z ∙ same ∙ asked_stays state (λ y. n (ap (state_of map) z ∙ y)) ∙ ap (state_of map) (sym z)) (λ ne. other j ne))
-          (subst (ShowsState shape words x) (sym same) (shows-asked shape words w x state name (omega arith) shown)) tt (λ s _. refl)
+          (λ j. dite (ℕ_discrete j k) (λ z. ap (λ (y : ℕ). number_of (state_of (map_after shape (log ++ e ∷ [])) y)) z ∙ ap number_of same ∙ asked_number state ∙ ap (λ (y : ℕ). number_of (state_of map y)) (sym z)) (λ ne. ap number_of (other j ne)))
+          (λ j n. dite (ℕ_discrete j k) (λ z. ap (state_of (map_after shape (log ++ e ∷ []))) z ∙ same ∙ asked_stays state (λ number y. n number (ap (state_of map) z ∙ y)) ∙ ap (state_of map) (sym z)) (λ ne. other j ne))
+          (subst (ShowsState shape words x) (sym same) (shows-asked shape words w x state name (omega arith) (omega arith) shown)) tt (λ s _. refl)
           (λ s e'. let more = total-set (holds s) roles id (Reader reader Nothing) (Reader reader Nothing) there in omega (arith, core.counts k s near e'));
       same = λ _. refl;
       writer = refl;

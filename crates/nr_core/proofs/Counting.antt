@@ -87,16 +87,16 @@ module _ (shape : Shape) (words : List ℕ) (roles : List Role) (log : List Entr
       none e = below-same (λ s. only (suc s) (name_number w)) (λ _. 0) shape.slots (λ s _. ap (only (suc s)) e ∙ only-zero s) ∙ below-zero shape.slots
 
       go : (z : KeyState) → ShowsState shape words w z → below (λ s. only (suc s) (name_number w)) shape.slots ≡ cond (is_filled_key z) 1 0
-      go key.Hole t = none t.0
-      go key.Asked t = none t.0
-      go (key.Rows rows) t = below-same (λ s. only (suc s) (name_number w)) (λ s. only s t.0) shape.slots (λ s _. ap (only (suc s)) t.1 ∙ only-suc s t.0) ∙ (below-only t.0 shape.slots).0 t.2
+      go (key.Hole number) t = none t.0
+      go (key.Asked number) t = none t.0
+      go (key.Rows number rows) t = below-same (λ s. only (suc s) (name_number w)) (λ s. only s t.0) shape.slots (λ s _. ap (only (suc s)) t.1 ∙ only-suc s t.0) ∙ (below-only t.0 shape.slots).0 t.2
 
   -- each filled key names one slot
   pub named_are_filled : below (named shape words) shape.slots ≡ filled_count (map_after shape log)
   named_are_filled = below-exchanged (λ s k. only (suc s) (name_number (get_or words k 0))) shape.slots shape.keys
       ∙ below-same (λ k. below (λ s. only (suc s) (name_number (get_or words k 0))) shape.slots) (λ k. cond (is_filled_key (state_of (map_after shape log) k)) 1 0) shape.keys one_name
       ∙ ap (below (λ k. cond (is_filled_key (state_of (map_after shape log) k)) 1 0)) (sym (length-now shape log))
-      ∙ sym (count_below is_filled_key key.Hole (map_after shape log).states)
+      ∙ sym (count_below is_filled_key (key.Hole 0) (map_after shape log).states)
 
   -- once every slot was taken, the filled keys and the retired slots are all the slots, where the writer has taken none
   pub slots_are : (id : ℕ) (desk : Desk) → get_elem? roles id ≡ some (Writer desk) → shape.slots ≤ desk.fresh → ((s : ℕ) → taken s desk.place ≡ 0) → filled_count (map_after shape log) + length desk.retired ≡ shape.slots

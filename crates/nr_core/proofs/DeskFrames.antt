@@ -6,7 +6,7 @@ use mathlib.Core.Logic.{dite}
 use mathlib.Core.Option.{some}
 use native.Mathlib.Decide.{ℕ_discrete}
 use Rattle.nr_model.specs.Histories.{Entry, IsLegal}
-use Rattle.nr_model.specs.Maps.{opening as opening_map, state_of}
+use Rattle.nr_model.specs.Maps.{number_of, state_of}
 use Rattle.nr_words.specs.KeyWords.{arrivals_of}
 use Rattle.nr_core.proofs.Frames.{Left, desk_more, shows_more}
 use Rattle.nr_core.proofs.OffKeys.{no_writer}
@@ -14,7 +14,7 @@ use Rattle.nr_core.proofs.Sums.{at_set, below-change, total-set}
 use Rattle.nr_core.specs.Core.{AtDesk, Core, Knows, ShowsState}
 use Rattle.nr_core.specs.Roles.{held, holds, is_reader, is_writer, keeps}
 use Rattle.nr_core.specs.Slots.{content, departures, name_number}
-use Rattle.nr_core.specs.Story.{map_after, shown}
+use Rattle.nr_core.specs.Story.{map_after, opening_map, shown}
 use Rattle.nr_core.specs.Sums.{only}
 use Rattle.nr_core.specs.declared.roles.Desk.{Desk}
 use Rattle.nr_core.specs.declared.roles.Role.{Role}
@@ -23,7 +23,7 @@ use Rattle.nr_core.specs.declared.shape.Shape.{Shape}
 
 -- a writer's step that changes no word: it learns, or decides
 pub desk_step : (shape : Shape) (words : List ℕ) (roles : List Role) (log es : List Entry) (core : Core shape words roles log) (id : ℕ) (desk desk' : Desk) (i : ℕ)
-    → get_elem? roles id ≡ some (Writer desk) → IsLegal (opening_map shape.keys shape.bound) (log ++ es) → ((k : ℕ) → state_of (map_after shape (log ++ es)) k ≡ state_of (map_after shape log) k)
+    → get_elem? roles id ≡ some (Writer desk) → IsLegal (opening_map shape) (log ++ es) → ((k : ℕ) → state_of (map_after shape (log ++ es)) k ≡ state_of (map_after shape log) k)
     → ((s : ℕ) → s < shape.slots → keeps s (Writer desk') ≡ keeps s (Writer desk))
     → AtDesk shape words (map_after shape log) (held roles) desk'
     → Core shape (set words i (get_or words i 0)) (set roles id (Writer desk')) (log ++ es)
@@ -31,7 +31,7 @@ desk_step shape words roles log es core id desk desk' i at legal same keeping ow
     let roles' = set roles id (Writer desk') in let map = map_after shape log in let map' = map_after shape (log ++ es) in
     let still : (s : ℕ) → held roles' s ≡ held roles s = λ s. let t = total-set (holds s) roles id (Writer desk) (Writer desk') at in omega arith in
     let left : (s : ℕ) → Left shape words words map map' (held roles) (held roles') s = λ s. record { contents = λ _ _. refl; nobody = λ z. still s ∙ z; deps = λ _. refl; sum = ap (λ (y : ℕ). (get_or words (departures shape s) 0 + y) % 2 ^ 40) (still s) } in
-    let own' : AtDesk shape words map' (held roles') desk' = desk_more shape words words map map' (held roles) (held roles') (λ _ _. refl) (λ j _. same j) desk' (λ s _ _. left s) own in
+    let own' : AtDesk shape words map' (held roles') desk' = desk_more shape words words map map' (held roles) (held roles') (λ _ _. refl) (λ j _. same j) desk' (λ j. ap number_of (same j)) (λ s _ _. left s) own in
     subst (λ (v : List ℕ). Core shape v roles' (log ++ es)) (sym (set-get_or words i 0)) record {
       fits = core.fits;
       wide = core.wide;
@@ -46,7 +46,7 @@ desk_step shape words roles log es core id desk desk' i at legal same keeping ow
 
 -- a writer's step on a key's word, which may name another slot
 pub rename : (shape : Shape) (words : List ℕ) (roles : List Role) (log es : List Entry) (core : Core shape words roles log) (id : ℕ) (desk desk' : Desk) (k x : ℕ)
-    → k < shape.keys → get_elem? roles id ≡ some (Writer desk) → IsLegal (opening_map shape.keys shape.bound) (log ++ es)
+    → k < shape.keys → get_elem? roles id ≡ some (Writer desk) → IsLegal (opening_map shape) (log ++ es)
     → ((j : ℕ) → j ≢ k → state_of (map_after shape (log ++ es)) j ≡ state_of (map_after shape log) j)
     → ShowsState shape words x (state_of (map_after shape (log ++ es)) k)
     → ((s : ℕ) → s < shape.slots → keeps s (Writer desk') + only (suc s) (name_number x) ≡ keeps s (Writer desk) + only (suc s) (name_number (get_or words k 0)))

@@ -22,7 +22,7 @@ use Rattle.nr_core.specs.Operations.{Load, Operation, Store, Swap, going, operat
 use Rattle.nr_core.specs.Reach.{RoomAt, RoomOf}
 use Rattle.nr_core.specs.Refusals.{has_key, has_reader, if_busy, if_holding, if_not_busy, if_not_holding, if_unreadable, refusal}
 use Rattle.nr_core.specs.Roles.{held}
-use Rattle.nr_core.specs.Slots.{content, naming, slot_room}
+use Rattle.nr_core.specs.Slots.{bound_of, content, naming, slot_room}
 use Rattle.nr_core.specs.States.{Arrive, Ask, Depart, Event, Go, Read, Start, State, hold_of, key_of, slot_in}
 use Rattle.nr_core.specs.Story.{Story, call_of, map_after, polls_after, told}
 use Rattle.nr_core.specs.Writer.{looked, went}
@@ -31,7 +31,7 @@ use Rattle.nr_core.specs.declared.calls.Refusal.{Refusal}
 use Rattle.nr_core.specs.declared.calls.WriterCall.{WriterCall}
 use Rattle.nr_core.specs.declared.places.Hold.{Hold}
 use Rattle.nr_core.specs.declared.places.Place.{Place}
-use Rattle.nr_core.specs.declared.places.Place.TheVariants.{Idle, Leaving, Putting, Reading, Searching}
+use Rattle.nr_core.specs.declared.places.Place.TheVariants.{Idle, Leaving, Putting, Reading, Searching, Withdrawing}
 use Rattle.nr_core.specs.declared.roles.Role.TheVariants.{Writer}
 use Rattle.nr_core.specs.declared.shape.Shape.{Shape}
 use Rattle.nr_core.specs.declared.places.Hold.TheVariants as hold
@@ -46,7 +46,7 @@ told_by state (Start call) c = own_ending (call_of call) (looked state.shape sta
 told_by state Go c = own_ending_at state.desk.place (went state.shape state.desk state.desk.place (found_by state Go)).1 c
 
 -- the set that is put is a row set
-taken_set : (state : State) (log : List Entry) → IsCoreState state log → (call : WriterCall) (rows : List Row) (slot departed index : ℕ) → state.desk.place ≡ Putting call rows slot departed index → IsRowSet state.shape.bound rows
+taken_set : (state : State) (log : List Entry) → IsCoreState state log → (call : WriterCall) (rows : List Row) (slot departed index : ℕ) → state.desk.place ≡ Putting call rows slot departed index → IsRowSet (bound_of state.shape) rows
 taken_set state log is_core call rows slot departed index is =
     let p : Puts state.shape state.words (map_after state.shape log) (held is_core.roles) call rows slot departed index
     = subst (AtPlace state.shape state.words (map_after state.shape log) (held is_core.roles) state.desk.fresh state.desk.retired) is (is_core.core.knows 0 (Writer state.desk) is_core.fit.writer).place in p.wants.row_set
@@ -83,6 +83,7 @@ held_untouched state log Go is_core ok s i held_so low here = go state.desk.plac
     go Idle is e = ap Load e
     go (Reading call t got) is e = ap Load e
     go (Leaving k) is e = let near = (at_place (Leaving k) is).1.near in absurd (omega arith)
+    go (Withdrawing k) is e = let near = (at_place (Withdrawing k) is).near in absurd (omega arith)
     go (Searching call rows p) is e = ap Load e
     go (Putting call rows t departed j) is e = let p = at_place (Putting call rows t departed j) is in let near = p.wants.near in let short = p.wants.row_set.1 in let fits = is_core.core.fits.bound in let free = p.nobody in let some_there = held_so.0 in
         by_cases (λ v. let o = cond {A = Operation} v (Store (content state.shape t j) (get_or (encode rows) j 0)) (Swap (key_of call) (naming t departed)) in place_of o ≡ content state.shape s i → o ≡ Load (content state.shape s i)) (nat_le j (2 * length rows))
@@ -109,6 +110,7 @@ inside_words state log Go is_core ok = go state.desk.place refl (place_room stat
     go Idle is room = absurd (no_some (if_not_busy state.desk.place) refuse.NotBusy (ap if_not_busy is) ok)
     go (Reading call slot got) is room = let wide = is_core.core.wide in let near = room.0 in let short = room.1 in omega arith
     go (Leaving k) is room = let wide = is_core.core.wide in let near = room.0 in omega arith
+    go (Withdrawing k) is room = let wide = is_core.core.wide in let near = room.0 in omega arith
     go (Searching call rows poll) is room = let wide = is_core.core.wide in let near = room.1 in omega arith
     go (Putting call rows slot departed index) is room = let wide = is_core.core.wide in let fits = is_core.core.fits.bound in let near = room.0 in let inside = room.2 in
         let short = (taken_set state log is_core call rows slot departed index is).1 in

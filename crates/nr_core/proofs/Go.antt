@@ -14,6 +14,7 @@ use Rattle.nr_core.proofs.Publish.{publishes}
 use Rattle.nr_core.proofs.Put.{puts}
 use Rattle.nr_core.proofs.Settle.{own_ending}
 use Rattle.nr_core.proofs.Unpublish.{unpublishes}
+use Rattle.nr_core.proofs.Withdraw.{withdraws}
 use Rattle.nr_core.proofs.WriterRead.{reads_on}
 use Rattle.nr_core.specs.Core.{Core}
 use Rattle.nr_core.specs.Operations.{Operation, Store, Swap, becomes, going, place_of}
@@ -26,7 +27,7 @@ use Rattle.nr_core.specs.Writer.{ended, moved_to, swapped, went}
 use Rattle.nr_core.specs.declared.calls.Step.{Step}
 use Rattle.nr_core.specs.declared.calls.Step.TheVariants.{Going}
 use Rattle.nr_core.specs.declared.places.Place.{Place}
-use Rattle.nr_core.specs.declared.places.Place.TheVariants.{Idle, Leaving, Putting, Reading, Searching}
+use Rattle.nr_core.specs.declared.places.Place.TheVariants.{Idle, Leaving, Putting, Reading, Searching, Withdrawing}
 use Rattle.nr_core.specs.declared.roles.Desk.{Desk}
 use Rattle.nr_core.specs.declared.roles.Role.{Role}
 use Rattle.nr_core.specs.declared.roles.Role.TheVariants.{Writer}
@@ -41,6 +42,7 @@ goes_at : (shape : Shape) (words : List ℕ) (roles : List Role) (log : List Ent
 goes_at shape words roles log core id desk there Idle is_at ok = absurd (no_some (Some refuse.NotBusy) refuse.NotBusy refl ok)
 goes_at shape words roles log core id desk there (Reading call slot got) is_at ok = reads_on shape words roles log core id desk there call slot got is_at
 goes_at shape words roles log core id desk there (Leaving k) is_at ok = unpublishes shape words roles log core id desk there k is_at
+goes_at shape words roles log core id desk there (Withdrawing k) is_at ok = withdraws shape words roles log core id desk there k is_at
 goes_at shape words roles log core id desk there (Searching call rows poll) is_at ok = polls shape words roles log core id desk there call rows poll is_at
 goes_at shape words roles log core id desk there (Putting call rows slot departed index) is_at ok =
     by_cases (λ v. let operation = cond {A = Operation} v (Store (content shape slot index) (get_or (encode rows) index 0)) (Swap (key_of call) (naming slot departed)) in let found = get_or words (place_of operation) 0 in
@@ -53,6 +55,7 @@ pub own_ending_at : (place : Place) (step : Step) (caller : ℕ) → entries_of 
 own_ending_at Idle step caller = none_of (nat_eq 0 caller)
 own_ending_at (Reading call slot got) step caller = own_ending (call_of call) step caller
 own_ending_at (Leaving k) step caller = own_ending (model.Evict k) step caller
+own_ending_at (Withdrawing k) step caller = own_ending (model.Cancel k) step caller
 own_ending_at (Searching call rows poll) step caller = own_ending (call_of call) step caller
 own_ending_at (Putting call rows slot departed index) step caller = own_ending (call_of call) step caller
 

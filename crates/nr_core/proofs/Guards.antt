@@ -6,7 +6,7 @@ use Rattle.nr_core.proofs.Choices.{by_cases}
 use Rattle.nr_core.specs.Refusals.{has_reader, if_busy}
 use Rattle.nr_core.specs.declared.calls.Refusal.{Refusal}
 use Rattle.nr_core.specs.declared.places.Place.{Place}
-use Rattle.nr_core.specs.declared.places.Place.TheVariants.{Idle, Leaving, Putting, Reading, Searching}
+use Rattle.nr_core.specs.declared.places.Place.TheVariants.{Idle, Leaving, Putting, Reading, Searching, Withdrawing}
 use Rattle.nr_core.specs.declared.shape.Shape.{Shape}
 use Rattle.nr_core.specs.declared.calls.Refusal.TheVariants as refuse
 
@@ -32,5 +32,6 @@ pub is_idle : (place : Place) → if_busy place ≡ None → place ≡ Idle
 is_idle Idle e = refl
 is_idle (Reading call slot got) e = absurd (no_some (Some refuse.Busy) refuse.Busy refl e)
 is_idle (Leaving k) e = absurd (no_some (Some refuse.Busy) refuse.Busy refl e)
+is_idle (Withdrawing k) e = absurd (no_some (Some refuse.Busy) refuse.Busy refl e)
 is_idle (Searching call rows poll) e = absurd (no_some (Some refuse.Busy) refuse.Busy refl e)
 is_idle (Putting call rows slot departed index) e = absurd (no_some (Some refuse.Busy) refuse.Busy refl e)

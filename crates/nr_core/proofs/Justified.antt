@@ -22,7 +22,7 @@ use Rattle.nr_core.specs.Machine.{answer, found_by, moved, unless}
 use Rattle.nr_core.specs.Operations.{going, place_of}
 use Rattle.nr_core.specs.Refusals.{has_key, if_busy, refusal}
 use Rattle.nr_core.specs.Roles.{held, taken}
-use Rattle.nr_core.specs.Slots.{content, departures, set_of}
+use Rattle.nr_core.specs.Slots.{bound_of, content, departures, set_of}
 use Rattle.nr_core.specs.States.{Arrive, Ask, Depart, Event, Go, Read, Start, State, key_of, retired_at}
 use Rattle.nr_core.specs.Story.{Poll, Story, call_of, ending, map_after, poll_at, polls_after, polls_at, tell, told}
 use Rattle.nr_core.specs.Writer.{decided, ended, looked, moved_to, put_on, swapped, went}
@@ -32,7 +32,7 @@ use Rattle.nr_core.specs.declared.calls.Step.{Step}
 use Rattle.nr_core.specs.declared.calls.Step.TheVariants.{Ended, Going}
 use Rattle.nr_core.specs.declared.calls.WriterCall.{WriterCall}
 use Rattle.nr_core.specs.declared.places.Place.{Place}
-use Rattle.nr_core.specs.declared.places.Place.TheVariants.{Idle, Leaving, Putting, Reading, Searching}
+use Rattle.nr_core.specs.declared.places.Place.TheVariants.{Idle, Leaving, Putting, Reading, Searching, Withdrawing}
 use Rattle.nr_core.specs.declared.places.Retired.{Retired}
 use Rattle.nr_core.specs.declared.roles.Desk.{Desk}
 use Rattle.nr_core.specs.declared.roles.Role.TheVariants.{Writer}
@@ -67,7 +67,7 @@ record Ending (state : State) (log : List Entry) (place : Place) (polls : List P
   pub none : NoneLeft state.shape state.desk outcome counts
   pub full : state.shape.slots ≤ state.desk.fresh
   pub free : (s : ℕ) → taken s place ≡ 0
-  pub done : reply_at state.shape.bound (call_of call) (state_of (map_after state.shape log) (key_of call)) ≡ reply.Done
+  pub done : reply_at (bound_of state.shape) (call_of call) (state_of (map_after state.shape log) (key_of call)) ≡ reply.Done
   pub polled : map (λ (poll : Poll). poll.slot) polls ≡ map (λ (entry : Retired). entry.slot) state.desk.retired
 
 justify : (story : Story) (event : Event) (is_core : IsCoreState story.state story.history) → refusal story.state event ≡ None → Swept (tell story event).state (tell story event).polls → (counts : NoSlot) (call : WriterCall) → call_at story.state event ≡ call ∷ []
@@ -80,7 +80,7 @@ justify story event is_core ok swept counts call is_call outcome desk_is ending 
     let retired_is : (tell story event).state.desk.retired ≡ desk.retired = ap (λ (s : Story). s.state.desk.retired) told_so ∙ ap (λ (d : Desk). d.retired) (desk_is ∙ ending.none.same) in record {
       call = call;
       is_call = is_call;
-      would_be_done = replies_so shape story.history (call_of call) ∙ ap (λ (k : ℕ). reply_at shape.bound (call_of call) (state_of (map_after shape story.history) k)) (key_same call) ∙ ending.done;
+      would_be_done = replies_so shape story.history (call_of call) ∙ ap (λ (k : ℕ). reply_at (bound_of shape) (call_of call) (state_of (map_after shape story.history) k)) (key_same call) ∙ ending.done;
       live = omega (arith, live_is, all_slots);
       all = omega (arith, live_is, held_is, all_slots);
       held = held_is ∙ ap length (sym retired_is);
@@ -97,6 +97,7 @@ go_ending : (state : State) (log : List Entry) (polls : List Poll) → IsCoreSta
     IsWithout counts outcome → (call : WriterCall) × (call_in place ≡ call ∷ []) × Ending state log place (polls_at state polls place) call outcome counts
 go_ending state log polls is_core swept Idle is counts e = absurd (not_going counts e)
 go_ending state log polls is_core swept (Leaving k) is counts e = absurd (not_reply counts reply.Evicted e)
+go_ending state log polls is_core swept (Withdrawing k) is counts e = absurd (not_reply counts reply.Cancelled e)
 go_ending state log polls is_core swept (Putting call rows slot departed index) is counts e = let found = get_or state.words (place_of (going state.shape state.desk (Putting call rows slot departed index))) 0 in
     let Goal : Type 0 = (q : WriterCall) × (call ∷ [] ≡ q ∷ []) × Ending state log (Putting call rows slot departed index) polls q (put_on state.desk call rows slot departed index found) counts in
     by_cases (λ v. IsWithout counts (cond {A = Desk × Step} v (moved_to state.desk (Putting call rows slot departed (index + 1)), Going) (swapped state.desk found, ended reply.Done)) → Goal) (nat_le index (2 * length rows))
@@ -107,16 +108,16 @@ go_ending state log polls is_core swept (Reading call s got) is counts e =
     let p : Reads shape words map_now (held is_core.roles) (key_of call) s got = subst (AtPlace shape words map_now (held is_core.roles) desk.fresh desk.retired) is known.place in
     let got' : List ℕ = got ++ get_or words (content shape s (length got)) 0 ∷ [] in
     let none_polled : polls ≡ [] = subst (AtSweep state polls) is swept.sweep in
-    by_cases (λ v. let outcome = cond {A = Desk × Step} v (decided shape desk call (set_of shape.bound got')) (moved_to desk (Reading call s got'), Going) in
+    by_cases (λ v. let outcome = cond {A = Desk × Step} v (decided shape desk call (set_of (bound_of shape) got')) (moved_to desk (Reading call s got'), Going) in
     (v ≡ true → length got' ≡ 2 * get_or got' 0 0 + 1) → IsWithout counts outcome → (q : WriterCall) × (call ∷ [] ≡ q ∷ []) × Ending state log (Reading call s got) polls q outcome counts) (nat_eq (length got') (2 * get_or got' 0 0 + 1))
-    (λ _ whole e'. let n = decided_none shape desk counts call (set_of shape.bound got') e' in let set_is = read_whole shape words is_core.roles log is_core.core (key_of call) s got p (whole refl) in (
+    (λ _ whole e'. let n = decided_none shape desk counts call (set_of (bound_of shape) got') e' in let set_is = read_whole shape words is_core.roles log is_core.core (key_of call) s got p (whole refl) in (
       call,
       refl,
       record {
         none = n.0;
         full = n.1;
         free = λ _. refl;
-        done = ap (reply_at shape.bound (call_of call)) (p.full ∙ ap key.Rows (sym set_is)) ∙ n.3;
+        done = ap (reply_at (bound_of shape) (call_of call)) (p.full ∙ ap (key.Rows p.number) (sym set_is)) ∙ n.3 p.number;
         polled = ap (map (λ (poll : Poll). poll.slot)) none_polled ∙ no_polls desk.retired n.2;
       },
     ))

@@ -2,7 +2,7 @@
 use Rattle.std.proofs.Common.{ap, arith, cond, eq-eqb, false, ne_eqb, suc, sym, true, ℕ, ◌%◌, ◌*◌, ◌+◌, ◌/◌, ◌<◌, ◌^◌, ◌∙◌, ◌≡◌, ◌≢◌}
 use mathlib.Core.Logic.{dite}
 use native.Mathlib.Decide.{ℕ_discrete}
-use Rattle.nr_words.specs.KeyWords.{arrivals_of, is_filled, slot_of}
+use Rattle.nr_words.specs.KeyWords.{arrivals_of, hole_word, is_filled, slot_of}
 use Rattle.nr_core.specs.Slots.{name_number, naming}
 
 -- an arrival leaves what the word names and asks, and counts one
@@ -40,6 +40,10 @@ name-bumped w = same_name w ((w + 2 ^ 24) % 2 ^ 64) (omega arith) (omega arith)
 
 pub name-asked : (w x : ℕ) → x ≡ 2 * (w / 2) + 1 → name_number x ≡ name_number w
 name-asked w x e = same_name w x (omega arith) (omega arith)
+
+-- the word of a hole: it names nothing, and tells its number
+pub hole_is : (n : ℕ) → n < 2 ^ 22 → (name_number (hole_word n false) ≡ 0) × (hole_word n false % 2 ≡ 0) × (slot_of (hole_word n false) ≡ n)
+hole_is n l = (name_low (hole_word n false) (λ z. omega arith), omega arith, omega arith)
 
 -- the word that a publish writes
 pub naming_is : (t e : ℕ) → t < 2 ^ 22 → (name_number (naming t e) ≡ suc t) × (arrivals_of (naming t e) ≡ e % 2 ^ 40)

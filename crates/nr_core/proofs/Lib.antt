@@ -14,7 +14,9 @@ pub mod Choices
 pub mod Settle
 pub mod Look
 pub mod Swap
+pub mod Numbers
 pub mod Unpublish
+pub mod Withdraw
 pub mod Publish
 pub mod Poll
 pub mod Put

@@ -10,7 +10,7 @@ use Rattle.nr_core.proofs.OnKey.{in_range}
 use Rattle.nr_core.proofs.Sums.{at_set, below-same, below-term, only-same, term_le, terms_le, total-set}
 use Rattle.nr_core.specs.Core.{Core, Knows, ShowsState}
 use Rattle.nr_core.specs.Roles.{held, holds, is_reader, is_writer, keeps}
-use Rattle.nr_core.specs.Slots.{content, departures, name_number, named}
+use Rattle.nr_core.specs.Slots.{bound_of, content, departures, name_number, named}
 use Rattle.nr_core.specs.Story.{map_after}
 use Rattle.nr_core.specs.Sums.{only}
 use Rattle.nr_core.specs.declared.roles.Desk.{Desk}
@@ -22,7 +22,7 @@ use Rattle.nr_core.specs.declared.shape.Shape.{Shape}
 pub off_keys : (shape : Shape) (words : List ℕ) (roles : List Role) (log : List Entry) (core : Core shape words roles log) (id : ℕ) (r r' : Role) (i x : ℕ)
     → shape.keys ≤ i → get_elem? roles id ≡ some r → is_writer r' ≡ is_writer r → is_reader r' ≡ is_reader r
     → ((s : ℕ) → s < shape.slots → keeps s r' ≡ keeps s r)
-    → ((s j : ℕ) → s < shape.slots → j ≤ 2 * shape.bound → 0 < named shape words s → get_or (set words i x) (content shape s j) 0 ≡ get_or words (content shape s j) 0)
+    → ((s j : ℕ) → s < shape.slots → j ≤ 2 * (bound_of shape) → 0 < named shape words s → get_or (set words i x) (content shape s j) 0 ≡ get_or words (content shape s j) 0)
     → ((s : ℕ) → s < shape.slots → 0 < named shape words s → (get_or (set words i x) (departures shape s) 0 + held (set roles id r') s) % 2 ^ 40 ≡ (get_or words (departures shape s) 0 + held roles s) % 2 ^ 40)
     → ((j : ℕ) (u : Role) → j ≢ id → get_elem? roles j ≡ some u → Knows shape words (map_after shape log) (held roles) u → Knows shape (set words i x) (map_after shape log) (held (set roles id r')) u)
     → Knows shape (set words i x) (map_after shape log) (held (set roles id r')) r'
@@ -45,7 +45,7 @@ off_keys shape words roles log core id r r' i x behind at w-same r-same keeping 
 
 -- the others after a writer's step are no writer
 pub no_writer : (shape : Shape) (words : List ℕ) (roles : List Role) (log : List Entry) (core : Core shape words roles log) (words' : List ℕ) (map' : PartialMap) (hold' : ℕ → ℕ) (id : ℕ) (desk : Desk) → get_elem? roles id ≡ some (Writer desk)
-    → ((s i : ℕ) → 0 < held roles s → s < shape.slots → i ≤ 2 * shape.bound → get_or words' (content shape s i) 0 ≡ get_or words (content shape s i) 0)
+    → ((s i : ℕ) → 0 < held roles s → s < shape.slots → i ≤ 2 * (bound_of shape) → get_or words' (content shape s i) 0 ≡ get_or words (content shape s i) 0)
     → (j : ℕ) (u : Role) → j ≢ id → get_elem? roles j ≡ some u → Knows shape words (map_after shape log) (held roles) u → Knows shape words' map' hold' u
 no_writer shape words roles log core words' map' hold' id desk at conts j u = let map = map_after shape log in elim u as (λ v. j ≢ id → get_elem? roles j ≡ some v → Knows shape words map (held roles) v → Knows shape words' map' hold' v) [
   | Writer desk' ↦ λ ne there t. absurd (omega (arith, terms_le is_writer roles id j (Writer desk) (Writer desk') ne at there, core.one))

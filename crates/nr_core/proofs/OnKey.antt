@@ -5,7 +5,7 @@ use mathlib.Core.Logic.{dite}
 use mathlib.Core.Option.{some}
 use native.Mathlib.Decide.{ℕ_discrete}
 use Rattle.nr_model.specs.Histories.{Entry, IsLegal, after}
-use Rattle.nr_model.specs.Maps.{opening as opening_map, state_of}
+use Rattle.nr_model.specs.Maps.{number_of, state_of}
 use Rattle.nr_model.specs.declared.states.KeyState.{KeyState}
 use Rattle.nr_words.specs.KeyWords.{arrivals_of}
 use Rattle.nr_core.proofs.Frames.{Left, desk_more, holding_more, shows_more}
@@ -13,7 +13,7 @@ use Rattle.nr_core.proofs.Sums.{at_set, below-same, below-term, below-terms, onl
 use Rattle.nr_core.specs.Core.{Core, Grips, Knows, ShowsState}
 use Rattle.nr_core.specs.Roles.{grips, held, holds, is_reader, is_writer, keeps}
 use Rattle.nr_core.specs.Slots.{content, departures, name_number, named}
-use Rattle.nr_core.specs.Story.{map_after, shown}
+use Rattle.nr_core.specs.Story.{map_after, opening_map, shown}
 use Rattle.nr_core.specs.Sums.{only, total}
 use Rattle.nr_core.specs.declared.roles.Grip.{Grip}
 use Rattle.nr_core.specs.declared.roles.Role.{Role}
@@ -23,9 +23,9 @@ use Rattle.nr_model.specs.declared.states.KeyState.TheVariants as key
 
 -- a slot that a key names is in range
 pub in_range : (shape : Shape) (words : List ℕ) (w : ℕ) (state : KeyState) (s : ℕ) → ShowsState shape words w state → name_number w ≡ suc s → s < shape.slots
-in_range shape words w key.Hole s t e = absurd (omega (arith, t.0))
-in_range shape words w key.Asked s t e = absurd (omega (arith, t.0))
-in_range shape words w (key.Rows m) s t e = let same = t.1 in let l = t.2 in omega arith
+in_range shape words w (key.Hole number) s t e = absurd (omega (arith, t.0))
+in_range shape words w (key.Asked number) s t e = absurd (omega (arith, t.0))
+in_range shape words w (key.Rows number m) s t e = let same = t.1 in let l = t.2 in omega arith
 
 -- two keys name different slots
 pub apart : (shape : Shape) (words : List ℕ) (roles : List Role) (log : List Entry) → Core shape words roles log → (j k s : ℕ) → j < shape.keys → k < shape.keys → j ≢ k → name_number (get_or words j 0) ≡ suc s → name_number (get_or words k 0) ≢ suc s
@@ -40,15 +40,16 @@ kept_by s roles j u at l = let part = term_le (keeps s) roles j u at in omega ar
 -- a reader's step on a key's word that leaves what the word names
 pub on_key : (shape : Shape) (words : List ℕ) (roles : List Role) (log es : List Entry) (core : Core shape words roles log) (id c : ℕ) (before after : Grip) (k x : ℕ)
     → k < shape.keys → get_elem? roles id ≡ some (Reader c before) → name_number x ≡ name_number (get_or words k 0)
-    → IsLegal (opening_map shape.keys shape.bound) (log ++ es)
+    → IsLegal (opening_map shape) (log ++ es)
     → ((j : ℕ) → j ≢ k → state_of (map_after shape (log ++ es)) j ≡ state_of (map_after shape log) j)
-    → ((j : ℕ) → (state_of (map_after shape log) j ≡ key.Hole → ⊥) → state_of (map_after shape (log ++ es)) j ≡ state_of (map_after shape log) j)
+    → ((j : ℕ) → number_of (state_of (map_after shape (log ++ es)) j) ≡ number_of (state_of (map_after shape log) j))
+    → ((j : ℕ) → ((number : ℕ) → state_of (map_after shape log) j ≡ key.Hole number → ⊥) → state_of (map_after shape (log ++ es)) j ≡ state_of (map_after shape log) j)
     → ShowsState shape words x (state_of (map_after shape (log ++ es)) k)
     → Grips shape words (map_after shape log) (held roles) after
     → ((s : ℕ) → name_number (get_or words k 0) ≢ suc s → grips s after ≡ grips s before)
     → ((s : ℕ) → name_number (get_or words k 0) ≡ suc s → arrivals_of x % 2 ^ 40 ≡ (get_or words (departures shape s) 0 + held (set roles id (Reader c after)) s) % 2 ^ 40)
     → Core shape (set words k x) (set roles id (Reader c after)) (log ++ es)
-on_key shape words roles log es core id c before after k x near at same-name legal states stays shown own quiet counted =
+on_key shape words roles log es core id c before after k x near at same-name legal states same-number stays shown own quiet counted =
     let words' = set words k x in let roles' = set roles id (Reader c after) in let map = map_after shape log in let map' = map_after shape (log ++ es) in
     let wide = core.wide in let fits = core.fits.bound in
     let other : (j : ℕ) → j ≢ k → get_or words' j 0 ≡ get_or words j 0 = λ j ne. get_or-set_other words k j x 0 ne in
@@ -67,7 +68,7 @@ on_key shape words roles log es core id c before after k x near at same-name leg
       sum = ap (λ (p : ℕ × ℕ). (p.0 + p.1) % 2 ^ 40) (λ i. (dep s i, state i));
     } in
     let others : (j : ℕ) (u : Role) → get_elem? roles j ≡ some u → Knows shape words map (held roles) u → Knows shape words' map' (held roles') u = λ j u. elim u as (λ v. get_elem? roles j ≡ some v → Knows shape words map (held roles) v → Knows shape words' map' (held roles') v) [
-      | Writer desk ↦ λ there t. desk_more shape words words' map map' (held roles) (held roles') (λ y _. names y) stays desk (λ s l kept. left s l (kept_by s roles j (Writer desk) there kept)) t
+      | Writer desk ↦ λ there t. desk_more shape words words' map map' (held roles) (held roles') (λ y _. names y) stays desk same-number (λ s l kept. left s l (kept_by s roles j (Writer desk) there kept)) t
       | Reader other y ↦ λ there t. holding_more shape words words' map map' (held roles) (held roles') y (λ s i _ _ _. cont s i) t
       | Note ↦ λ there t. tt
     ] in

@@ -1,19 +1,22 @@
 -- At the opening all that stands between steps stands: every key is a hole, every slot is free.
-use Rattle.std.proofs.Common.{List, [], ap, arith, get_or, length, refl, replicate, subst, suc, sym, zero, ℕ, ◌*◌, ◌++◌, ◌+◌, ◌<◌, ◌∙◌, ◌∷◌, ◌≡◌, ◌≤◌}
+use Rattle.std.proofs.Common.{List, [], ap, arith, false, get_or, length, refl, replicate, subst, suc, sym, zero, ℕ, ◌*◌, ◌++◌, ◌+◌, ◌<◌, ◌∙◌, ◌∷◌, ◌≡◌, ◌≤◌}
 use Rattle.std.proofs.lemmas.List.{get_or-replicate, length-append, length-replicate}
 use lib.ListN.{get_elem?}
 use mathlib.Core.Option.{some, some-injective, some-ne-none}
+use Rattle.nr_model.specs.Maps.{number_of}
 use Rattle.nr_model.specs.declared.states.KeyState.{KeyState}
+use Rattle.nr_words.specs.KeyWords.{hole_word}
 use Rattle.nr_words.specs.Places.{total_of}
 use Rattle.nr_core.proofs.Frames.{unused-free}
+use Rattle.nr_core.proofs.KeyWords.{hole_is}
 use Rattle.nr_core.proofs.StateRoles.{IsCoreState, no_grip, same_grip}
 use Rattle.nr_core.proofs.Sums.{only-other}
-use Rattle.nr_core.specs.Core.{Core, Knows, ShowsState}
+use Rattle.nr_core.specs.Core.{AreNumbers, Core, Knows, ShowsState}
 use Rattle.nr_core.specs.Roles.{held, holds, is_reader, is_writer, keeps}
 use Rattle.nr_core.specs.Sizes.{IsShape}
 use Rattle.nr_core.specs.Slots.{departures, layout, name_number, opening_words, repeated, slot_room}
 use Rattle.nr_core.specs.States.{opening, opening_desk}
-use Rattle.nr_core.specs.Story.{map_after}
+use Rattle.nr_core.specs.Story.{map_after, opening_map}
 use Rattle.nr_core.specs.Sums.{below, only, total}
 use Rattle.nr_core.specs.declared.roles.Grip.TheVariants.{Nothing, On}
 use Rattle.nr_core.specs.declared.roles.Role.{Role}
@@ -44,10 +47,10 @@ only_readers zero i j u e = absurd (some-ne-none u (sym e))
 only_readers (suc n) i zero u e = (suc i, some-injective (Reader (suc i) Nothing) u e)
 only_readers (suc n) i (suc j) u e = only_readers n (suc i) j u e
 
-front : (n : ℕ) (l : List ℕ) (k : ℕ) → k < n → get_or (replicate n 0 ++ l) k 0 ≡ 0
-front zero l k low = absurd (omega arith)
-front (suc n) l zero low = refl
-front (suc n) l (suc k) low = front n l k (omega arith)
+front : (n x : ℕ) (l : List ℕ) (k : ℕ) → k < n → get_or (replicate n x ++ l) k 0 ≡ x
+front zero x l k low = absurd (omega arith)
+front (suc n) x l zero low = refl
+front (suc n) x l (suc k) low = front n x l k (omega arith)
 
 past : (a l : List ℕ) (i j : ℕ) → i ≡ length a + j → get_or (a ++ l) i 0 ≡ get_or l j 0
 past [] l i j e = ap (λ (n : ℕ). get_or l n 0) (omega arith)
@@ -68,23 +71,31 @@ below_none : (f : ℕ → ℕ) (n : ℕ) → ((k : ℕ) → k < n → f k ≡ 0)
 below_none f zero none = refl
 below_none f (suc n) none = omega (arith, below_none f n (λ k l. none k (omega arith)), none n (omega arith))
 
+-- every key has the first number
+first_numbers : (shape : Shape) → AreNumbers shape (opening_map shape) (replicate shape.keys shape.first_number)
+first_numbers shape = record {
+  each = length-replicate shape.keys shape.first_number;
+  agree = λ k near. get_or-replicate shape.keys k shape.first_number 0 near ∙ ap number_of (sym (get_or-replicate shape.keys k (key.Hole shape.first_number) (key.Hole 0) near));
+}
+
 -- the writer, and so many readers
-pub core_opens : (shape : Shape) → IsShape shape → (n : ℕ) → n ≤ shape.readers → Core shape (opening_words shape) (Writer opening_desk ∷ readers_from 0 n) []
-core_opens shape fits n few = let words = opening_words shape in let slot = shape.first ∷ replicate slot_room 0 in let roles = Writer opening_desk ∷ readers_from 0 n in let all = all_readers n 0 in
-    let key_zero : (k : ℕ) → k < shape.keys → get_or words k 0 ≡ 0 = front shape.keys (repeated shape.slots slot) in
-    let wide : length words ≡ total_of slot_room (layout shape) = omega (arith, length-append (replicate shape.keys 0) (repeated shape.slots slot), length-replicate {A = ℕ} shape.keys 0, length-repeated shape.slots slot refl) in
-    let dep : (s : ℕ) → s < shape.slots → get_or words (departures shape s) 0 ≡ shape.first
-    = λ s near. past (replicate shape.keys 0) (repeated shape.slots slot) (departures shape s) (suc slot_room * s) (omega (arith, length-replicate {A = ℕ} shape.keys 0)) ∙ each_slot shape.slots s shape.first (replicate slot_room 0) (suc slot_room * s) refl near refl in
+pub core_opens : (shape : Shape) → IsShape shape → (n : ℕ) → n ≤ shape.readers → Core shape (opening_words shape) (Writer (opening_desk shape) ∷ readers_from 0 n) []
+core_opens shape fits n few = let words = opening_words shape in let slot = shape.first_count ∷ replicate slot_room 0 in let roles = Writer (opening_desk shape) ∷ readers_from 0 n in let all = all_readers n 0 in
+    let hole : ℕ = hole_word shape.first_number false in let few_numbers = fits.number in let is_hole = hole_is shape.first_number (omega arith) in
+    let key_hole : (k : ℕ) → k < shape.keys → get_or words k 0 ≡ hole = front shape.keys hole (repeated shape.slots slot) in
+    let wide : length words ≡ total_of slot_room (layout shape) = omega (arith, length-append (replicate shape.keys hole) (repeated shape.slots slot), length-replicate {A = ℕ} shape.keys hole, length-repeated shape.slots slot refl) in
+    let dep : (s : ℕ) → s < shape.slots → get_or words (departures shape s) 0 ≡ shape.first_count
+    = λ s near. past (replicate shape.keys hole) (repeated shape.slots slot) (departures shape s) (suc slot_room * s) (omega (arith, length-replicate {A = ℕ} shape.keys hole)) ∙ each_slot shape.slots s shape.first_count (replicate slot_room 0) (suc slot_room * s) refl near refl in
     let nobody_holds : (s : ℕ) → held roles s ≡ 0 = λ s. omega (arith, no_weight (holds s) (λ c. refl) n 0) in
-    let nameless : (k : ℕ) → k < shape.keys → name_number (get_or words k 0) ≡ 0 = λ k near. ap name_number (key_zero k near) in record {
+    let nameless : (k : ℕ) → k < shape.keys → name_number (get_or words k 0) ≡ 0 = λ k near. ap name_number (key_hole k near) ∙ is_hole.0 in record {
       fits = fits;
       wide = wide;
       legal = tt;
-      shows = λ k near. subst (λ (p : ℕ × KeyState). ShowsState shape words p.0 p.1) (λ j. (sym (key_zero k near) j, sym (get_or-replicate shape.keys k key.Hole key.Hole near) j)) (refl, refl);
+      shows = λ k near. subst (λ (p : ℕ × KeyState). ShowsState shape words p.0 p.1) (λ j. (sym (key_hole k near) j, sym (get_or-replicate shape.keys k (key.Hole shape.first_number) (key.Hole 0) near) j)) is_hole;
       places = λ s near. omega (arith, below_none (λ k. only (suc s) (name_number (get_or words k 0))) shape.keys (λ k l. ap (only (suc s)) (nameless k l) ∙ only-other (suc s) 0 (λ z. omega arith)), no_weight (keeps s) (λ c. refl) n 0, unused-free s 0 (omega arith));
       counts = λ k s near e. absurd (omega (arith, nameless k near));
       knows = λ j u. elim j as (λ v. get_elem? roles v ≡ some u → Knows shape words (map_after shape []) (held roles) u) [
-        | zero ↦ λ e. subst (Knows shape words (map_after shape []) (held roles)) (some-injective (Writer opening_desk) u e) (record { place = tt; room = omega arith; free = λ s _ near. (nobody_holds s, dep s near); retired = λ i x e. absurd (some-ne-none x (sym e)) })
+        | zero ↦ λ e. subst (Knows shape words (map_after shape []) (held roles)) (some-injective (Writer (opening_desk shape)) u e) (record { place = tt; room = omega arith; free = λ s _ near. (nobody_holds s, dep s near); retired = λ i x e. absurd (some-ne-none x (sym e)); numbers = first_numbers shape })
         | suc j ↦ λ e. let c = only_readers n 0 j u e in subst (Knows shape words (map_after shape []) (held roles)) c.1 tt
       ];
       one = omega (arith, no_weight is_writer (λ c. refl) n 0);
@@ -93,7 +104,7 @@ core_opens shape fits n few = let words = opening_words shape in let slot = shap
 
 pub opening_core : (shape : Shape) → IsShape shape → IsCoreState (opening shape) []
 opening_core shape fits = record {
-  roles = Writer opening_desk ∷ readers_from 0 shape.readers;
+  roles = Writer (opening_desk shape) ∷ readers_from 0 shape.readers;
   core = core_opens shape fits shape.readers (omega arith);
   fit = record {
     size = length-replicate shape.readers hold.Nothing;

@@ -1,5 +1,5 @@
 -- A poll of a retired slot: the slot is taken where nobody holds it, else the call polls the next, or ends with no slot.
-use Rattle.std.proofs.Common.{List, ap, arith, cond, drop, get_or, length, nat_eq, refl, set, subst, suc, sym, take, ℕ, ◌%◌, ◌++◌, ◌+◌, ◌^◌, ◌≡◌, ◌≤◌}
+use Rattle.std.proofs.Common.{List, ap, arith, cond, get_or, length, nat_eq, refl, set, subst, sym, ℕ, ◌%◌, ◌++◌, ◌+◌, ◌^◌, ◌≡◌, ◌≤◌}
 use Rattle.std.proofs.lemmas.Bool.{eqb-true, ltb-true}
 use Rattle.std.specs.Prelude.{nat_lt}
 use lib.ListN.{get_elem?}
@@ -15,12 +15,12 @@ use Rattle.nr_core.specs.Slots.{departures, unused}
 use Rattle.nr_core.specs.States.{no_retired, retired_at}
 use Rattle.nr_core.specs.Story.{call_of, ending, map_after}
 use Rattle.nr_core.specs.Sums.{only, total}
-use Rattle.nr_core.specs.Writer.{moved_to, no_slot, polled}
+use Rattle.nr_core.specs.Writer.{moved_to, no_slot, polled, taking_retired}
 use Rattle.nr_core.specs.declared.calls.Step.{Step}
 use Rattle.nr_core.specs.declared.calls.Step.TheVariants.{Going}
 use Rattle.nr_core.specs.declared.calls.WriterCall.{WriterCall}
 use Rattle.nr_core.specs.declared.places.Place.{Place}
-use Rattle.nr_core.specs.declared.places.Place.TheVariants.{Idle, Putting, Searching}
+use Rattle.nr_core.specs.declared.places.Place.TheVariants.{Idle, Searching}
 use Rattle.nr_core.specs.declared.places.Retired.{Retired}
 use Rattle.nr_core.specs.declared.roles.Desk.{Desk}
 use Rattle.nr_core.specs.declared.roles.Grip.TheVariants.{Nothing, On}
@@ -43,7 +43,7 @@ polls shape words roles log core id desk there call rows poll is_at = let known 
     let here : get_elem? desk.retired poll ≡ some z = got_at desk.retired poll no_retired at_p.1 in let counted = known.retired poll z here in let count = counted.1 in
     let few = core.few in let fits = core.fits.readers in let at_most = total-le (holds slot) is_reader (holds-le slot) roles in
     let keeps_so : (u : ℕ) → keeps u (Writer desk) ≡ unused u desk.fresh + total (λ (x : Retired). only u x.slot) desk.retired + 0 = λ u. ap (λ (y : Place). unused u desk.fresh + total (λ (x : Retired). only u x.slot) desk.retired + taken u y) is_at in
-    let Taken : Desk = record { place = Putting call rows slot found 0; fresh = desk.fresh; retired = take poll desk.retired ++ drop (suc poll) desk.retired } in
+    let Taken : Desk = taking_retired desk call rows poll found in
     let Rest : Desk × Step = cond {A = Desk × Step} (nat_lt (poll + 1) (length desk.retired)) (moved_to desk (Searching call rows (poll + 1)), Going) (moved_to desk Idle, no_slot shape desk) in
     by_cases (λ v. Core shape (set words place found) (set roles id (Writer (cond {A = Desk × Step} v (Taken, Going) Rest).0)) (log ++ ending (call_of call) (cond {A = Desk × Step} v (Taken, Going) Rest).1))
     (nat_eq (found % 2 ^ 40) (z.arrivals % 2 ^ 40))
@@ -54,8 +54,9 @@ polls shape words roles log core id desk there call rows poll is_at = let known 
       room = known.room;
       free = known.free;
       retired = λ j x e. let y = at_remove desk.retired poll j x e in known.retired y.0 x y.1;
+      numbers = known.numbers;
     }))
     (λ no. by_cases (λ v. Core shape (set words place found) (set roles id (Writer (cond {A = Desk × Step} v (moved_to desk (Searching call rows (poll + 1)), Going) (moved_to desk Idle, no_slot shape desk)).0)) (log ++ ending (call_of call) (cond {A = Desk × Step} v (moved_to desk (Searching call rows (poll + 1)), Going) (moved_to desk Idle, no_slot shape desk)).1))
     (nat_lt (poll + 1) (length desk.retired))
-    (λ more. goes_on shape words roles log core id desk there place (moved_to desk (Searching call rows (poll + 1))) (λ u. sym (keeps_so u)) (record { place = (at_p.0, ltb-true (poll + 1) (length desk.retired) more, at_p.2); room = known.room; free = known.free; retired = known.retired }))
+    (λ more. goes_on shape words roles log core id desk there place (moved_to desk (Searching call rows (poll + 1))) (λ u. sym (keeps_so u)) (record { place = (at_p.0, ltb-true (poll + 1) (length desk.retired) more, at_p.2); room = known.room; free = known.free; retired = known.retired; numbers = known.numbers }))
     (λ none. goes_on shape words roles log core id desk there place (moved_to desk Idle) (λ u. sym (keeps_so u)) (idle_desk shape words map (held roles) desk known)))

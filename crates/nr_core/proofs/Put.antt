@@ -13,7 +13,7 @@ use Rattle.nr_core.proofs.OffKeys.{no_writer, off_keys}
 use Rattle.nr_core.proofs.Sums.{only-same, term_le, total-set}
 use Rattle.nr_core.specs.Core.{AtDesk, AtPlace, Core, Puts}
 use Rattle.nr_core.specs.Roles.{held, holds, keeps, taken}
-use Rattle.nr_core.specs.Slots.{content, departures, named, unused}
+use Rattle.nr_core.specs.Slots.{bound_of, content, departures, named, unused}
 use Rattle.nr_core.specs.Story.{map_after}
 use Rattle.nr_core.specs.Sums.{only, total}
 use Rattle.nr_core.specs.Writer.{moved_to}
@@ -36,7 +36,7 @@ puts shape words roles log core id desk there call rows slot departed index is_a
     let once = core.places slot near in let part = term_le (keeps slot) roles id (Writer desk) there in let one = only-same slot in
     let keeps_so : (u : ℕ) → keeps u (Writer desk) ≡ unused u desk.fresh + total (λ (x : Retired). only u x.slot) desk.retired + only u slot = λ u. ap (λ (y : Place). unused u desk.fresh + total (λ (x : Retired). only u x.slot) desk.retired + taken u y) is_at in
     let all_of_it = keeps_so slot in
-    let cont : (s j : ℕ) → s ≢ slot → j ≤ 2 * shape.bound → get_or words' (content shape s j) 0 ≡ get_or words (content shape s j) 0 = λ s j ne low. get_or-set_other words w (content shape s j) x 0 (λ z. ne (omega arith)) in
+    let cont : (s j : ℕ) → s ≢ slot → j ≤ 2 * (bound_of shape) → get_or words' (content shape s j) 0 ≡ get_or words (content shape s j) 0 = λ s j ne low. get_or-set_other words w (content shape s j) x 0 (λ z. ne (omega arith)) in
     let dep : (s : ℕ) → get_or words' (departures shape s) 0 ≡ get_or words (departures shape s) 0 = λ s. get_or-set_other words w (departures shape s) x 0 (λ z. omega arith) in
     let here : get_or words' w 0 ≡ x = get_or-set_same words w x 0 (omega arith) in
     let still : (s : ℕ) → held roles' s ≡ held roles s = λ s. let same = total-set (holds s) roles id (Writer desk) (Writer desk') there in omega arith in
@@ -56,6 +56,7 @@ puts shape words roles log core id desk there call rows slot departed index is_a
       room = mine.room;
       free = free_more shape words words' map map (held roles) (held roles') desk.fresh (λ s near' from. left s (λ z. let u = unused-free slot desk.fresh (omega arith) in omega arith)) mine.free;
       retired = retired_more shape words words' map map (held roles) (held roles') desk.retired (λ s near' listed. left s (λ z. let l' : 0 < total (λ (x : Retired). only slot x.slot) desk.retired = subst (λ (y : ℕ). 0 < total (λ (x : Retired). only y x.slot) desk.retired) z listed in omega arith)) mine.retired;
+      numbers = mine.numbers;
     } in
     off_keys shape words roles log core id (Writer desk) (Writer desk') w x (omega arith) there refl refl (λ s _. sym (keeps_so s))
     (λ s j l low is-named. cont s j (λ z. let n : 0 < named shape words slot = subst (λ (y : ℕ). 0 < named shape words y) z is-named in omega arith) low) (λ s _ _. sum s)

@@ -2,11 +2,13 @@
 use Rattle.std.proofs.Common.{List, [], ap, arith, false, get_or, length, map, refl, subst, suc, sym, true, zero, ℕ, ◌*◌, ◌++◌, ◌+◌, ◌-◌, ◌<◌, ◌∙◌, ◌∷◌, ◌≡◌, ◌≤◌}
 use Rattle.std.proofs.Math.Logic.{∥∥₁_map}
 use Rattle.std.proofs.Props.{props}
-use Rattle.std.specs.Prelude.{None, Option, Some}
+use Rattle.std.specs.Prelude.{None, Option, Some, fold}
 use mathlib.Core.Logic.{dite, ∥∥₁_elim}
 use native.Mathlib.Decide.{dec_le}
 use Rattle.nr_model.specs.Histories.{Entry}
-use Rattle.nr_model.specs.Maps.{PartialMap}
+use Rattle.nr_model.specs.Maps.{PartialMap, number_of}
+use Rattle.nr_core.proofs.Shown.{shown_is}
+use Rattle.nr_core.proofs.Numbers.{number_within}
 use Rattle.nr_core.proofs.Counting.{few_retired, fewer_retired, named_inside, names_it}
 use Rattle.nr_core.proofs.Events.{story_core}
 use Rattle.nr_core.proofs.Runs.{run_more, story_state}
@@ -19,13 +21,13 @@ use Rattle.nr_core.specs.Reach.{HasRoom, Reached, RoomAt, RoomOf}
 use Rattle.nr_core.specs.Refusals.{refusal}
 use Rattle.nr_core.specs.Roles.{held, taken}
 use Rattle.nr_core.specs.Sizes.{IsShape}
-use Rattle.nr_core.specs.Slots.{name_number, named, slot_room}
-use Rattle.nr_core.specs.States.{Event, State, hold_of, key_of, no_retired, opening, retired_at}
-use Rattle.nr_core.specs.Story.{holders, map_after, story_of}
+use Rattle.nr_core.specs.Slots.{bound_of, name_number, named, slot_room}
+use Rattle.nr_core.specs.States.{Event, State, hold_of, key_of, no_retired, number_at, opening, retired_at}
+use Rattle.nr_core.specs.Story.{holders, map_after, shown, story_of}
 use Rattle.nr_core.specs.declared.calls.Refusal.{Refusal}
 use Rattle.nr_core.specs.declared.places.Hold.{Hold}
 use Rattle.nr_core.specs.declared.places.Place.{Place}
-use Rattle.nr_core.specs.declared.places.Place.TheVariants.{Idle, Leaving, Putting, Reading, Searching}
+use Rattle.nr_core.specs.declared.places.Place.TheVariants.{Idle, Leaving, Putting, Reading, Searching, Withdrawing}
 use Rattle.nr_core.specs.declared.roles.Grip.{Grip}
 use Rattle.nr_core.specs.declared.roles.Grip.TheVariants.{Nothing, On}
 use Rattle.nr_core.specs.declared.roles.Role.TheVariants.{Reader, Writer}
@@ -44,16 +46,23 @@ shape_kept state event = go (refusal state event)
     go None = refl
     go (Some why) = refl
 
-reached_next : (state : State) (event : Event) → IsGiven state.shape.bound event → Reached state → Reached (next state event)
+all_keep_shape : (events : List Event) (state : State) → (fold next state events).shape ≡ state.shape
+all_keep_shape [] state = refl
+all_keep_shape (event ∷ events) state = all_keep_shape events (next state event) ∙ shape_kept state event
+
+pub run_keeps_shape : (shape : Shape) (events : List Event) → (run shape events).shape ≡ shape
+run_keeps_shape shape events = all_keep_shape events (opening shape)
+
+reached_next : (state : State) (event : Event) → IsGiven (bound_of state.shape) event → Reached state → Reached (next state event)
 reached_next state event given reached = let kept = shape_kept state event in record {
   events = reached.events ++ event ∷ [];
   shape = subst IsShape (sym kept) reached.shape;
-  given = subst (λ (shape : Shape). AllGiven shape.bound (reached.events ++ event ∷ [])) (sym kept) (all_given state.shape.bound reached.events event reached.given given);
+  given = subst (λ (shape : Shape). AllGiven (bound_of shape) (reached.events ++ event ∷ [])) (sym kept) (all_given (bound_of state.shape) reached.events event reached.given given);
   leads = ap (λ s. next s event) reached.leads ∙ sym (run_more state.shape reached.events event) ∙ ap (λ shape. run shape (reached.events ++ event ∷ [])) (sym kept);
 }
 
 -- an event leads on
-pub leads_on : (state : State) (event : Event) → IsGiven state.shape.bound event → ∥ Reached state ∥₁ → ∥ Reached (next state event) ∥₁
+pub leads_on : (state : State) (event : Event) → IsGiven (bound_of state.shape) event → ∥ Reached state ∥₁ → ∥ Reached (next state event) ∥₁
 leads_on state event given reached = ∥∥₁_map reached (reached_next state event given)
 
 reached_core : (state : State) (reached : Reached state) → IsCoreState state (story_of state.shape reached.events).history
@@ -62,7 +71,7 @@ reached_core state reached = let t = story_core state.shape reached.events reach
 
 -- THE ROOM OF THE NEXT STEP
 
-grip_room : (shape : Shape) (words : List ℕ) (map : PartialMap) (holders : ℕ → ℕ) → 2 * shape.bound < slot_room → (grip : Grip) → Grips shape words map holders grip → RoomOf shape (erased grip)
+grip_room : (shape : Shape) (words : List ℕ) (map : PartialMap) (holders : ℕ → ℕ) → 2 * (bound_of shape) < slot_room → (grip : Grip) → Grips shape words map holders grip → RoomOf shape (erased grip)
 grip_room shape words map holders fits Nothing t = tt
 grip_room shape words map holders fits (On slot rows true) t = let short = t.1.0.1 in (t.0, omega arith)
 grip_room shape words map holders fits (On slot rows false) t = t.0
@@ -91,19 +100,22 @@ place_room state log is_core place is = go place is (subst (AtPlace state.shape 
 
     go : (p : Place) → state.desk.place ≡ p → AtPlace state.shape state.words (map_after state.shape log) (held is_core.roles) state.desk.fresh state.desk.retired p → RoomAt state p
     go Idle e t = tt
-    go (Reading call slot got) e t = let fits = is_core.core.fits.bound in let more = t.more in let shown : ShowsState state.shape state.words (get_or state.words (key_of call) 0) (key.Rows t.rows) = subst (ShowsState state.shape state.words (get_or state.words (key_of call) 0)) t.full (is_core.core.shows (key_of call) t.near) in
+    go (Reading call slot got) e t = let fits = is_core.core.fits.bound in let more = t.more in let shown : ShowsState state.shape state.words (get_or state.words (key_of call) 0) (key.Rows t.number t.rows) = subst (ShowsState state.shape state.words (get_or state.words (key_of call) 0)) t.full (is_core.core.shows (key_of call) t.near) in
         let short = shown.3.0.1 in (inside (key_of call) slot t.near t.names, omega arith)
     go (Leaving k) e t = let named_so = names_it state.shape state.words is_core.roles log is_core.core k t.0 t.1.near t.1.names in (t.1.near, fewer t.0 (inside k t.0 t.1.near t.1.names) (omega arith))
+    go (Withdrawing k) e t = let early = t.early in (t.near, omega (arith, desk.numbers.agree k t.near, ap number_of t.asked))
     go (Searching call rows poll) e t = (t.1, (desk.retired poll (retired_at state.desk poll) (got_at state.desk.retired poll no_retired t.1)).0)
     go (Putting call rows slot departed index) e t = let mine : taken slot state.desk.place ≡ 1 = ap (taken slot) e ∙ only-same slot in (t.wants.near, fewer slot t.inside (omega arith), t.inside)
 
 room_of : (state : State) → Reached state → HasRoom state
-room_of state reached = let log = (story_of state.shape reached.events).history in let is_core = reached_core state reached in record {
+room_of state reached = let log = (story_of state.shape reached.events).history in let is_core = reached_core state reached in let numbers = (is_core.core.knows 0 (Writer state.desk) is_core.fit.writer).numbers in record {
   shape = reached.shape;
   words = is_core.core.wide;
   holds = is_core.fit.size;
   held = hold_room state log is_core;
   few = few_retired state.shape state.words is_core.roles log is_core.core 0 state.desk is_core.fit.writer;
+  numbers = numbers.each;
+  within = number_within state.shape log state.desk.numbers is_core.core.fits is_core.core.legal numbers;
   place = place_room state log is_core state.desk.place refl;
 }
 
@@ -117,6 +129,7 @@ place_prop : (state : State) (place : Place) → IsProp (RoomAt state place)
 place_prop state Idle = hlevel props
 place_prop state (Reading call slot got) = hlevel props
 place_prop state (Leaving k) = hlevel props
+place_prop state (Withdrawing k) = hlevel props
 place_prop state (Searching call rows poll) = hlevel props
 place_prop state (Putting call rows slot departed index) = hlevel props
 
@@ -125,3 +138,16 @@ room_prop state = hlevel (props, hold_prop, place_prop)
 
 pub has_room : (state : State) → ∥ Reached state ∥₁ → HasRoom state
 has_room state reached = ∥∥₁_elim reached (room_prop state) (room_of state)
+
+-- THE NUMBER OF A KEY
+
+number_shown_of : (state : State) → Reached state → (k : ℕ) → k < state.shape.keys → number_at state.desk k ≡ number_of (shown state k)
+number_shown_of state reached k near = let log = (story_of state.shape reached.events).history in let is_core = reached_core state reached in let writer_there = is_core.fit.writer in
+    (is_core.core.knows 0 (Writer state.desk) writer_there).numbers.agree k near ∙ ap number_of (sym (shown_is state is_core.roles log is_core.core writer_there k near))
+
+-- the writer's list tells the number that the words show
+pub number_shown : (state : State) → ∥ Reached state ∥₁ → (k : ℕ) → k < state.shape.keys → number_at state.desk k ≡ number_of (shown state k)
+number_shown state reached k near = ∥∥₁_elim reached (number_prop state k) (λ (r : Reached state). number_shown_of state r k near)
+  where
+    number_prop : (state : State) (k : ℕ) → IsProp (number_at state.desk k ≡ number_of (shown state k))
+    number_prop state k = hlevel props

@@ -30,7 +30,7 @@ reads shape id reader slot rows sized index low words roles log core there = let
       sum = ap (λ (pair : ℕ × ℕ). (pair.0 + pair.1) % 2 ^ 40) (λ j. (get_or (same j) (departures shape t) 0, still t j));
     } in
     let others : (j : ℕ) (u : Role) → j ≢ id → get_elem? roles j ≡ some u → Knows shape words map (held roles) u → Knows shape words' map (held roles') u = λ j u _ _. elim u as (λ v. Knows shape words map (held roles) v → Knows shape words' map (held roles') v) [
-      | Writer desk ↦ λ t. desk_more shape words words' map map (held roles) (held roles') (λ k l. ap (λ (l : List ℕ). name_number (get_or l k 0)) same) (λ _ _. refl) desk (λ y _ _. left y) t
+      | Writer desk ↦ λ t. desk_more shape words words' map map (held roles) (held roles') (λ k l. ap (λ (l : List ℕ). name_number (get_or l k 0)) same) (λ _ _. refl) desk (λ _. refl) (λ y _ _. left y) t
       | Reader other y ↦ λ t. holding_more shape words words' map map (held roles) (held roles') y (λ a j _ _ low. (left a).contents j low) t
       | Note ↦ λ t. tt
     ] in

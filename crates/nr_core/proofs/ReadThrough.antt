@@ -9,7 +9,7 @@ use Rattle.nr_words.specs.SetWords.{encode}
 use Rattle.nr_core.proofs.Sets.{set_back}
 use Rattle.nr_core.specs.Core.{Core, Reads, ShowsState}
 use Rattle.nr_core.specs.Roles.{held}
-use Rattle.nr_core.specs.Slots.{SlotSpells, content, name_number, set_of}
+use Rattle.nr_core.specs.Slots.{SlotSpells, bound_of, content, name_number, set_of}
 use Rattle.nr_core.specs.Story.{map_after}
 use Rattle.nr_core.specs.declared.roles.Role.{Role}
 use Rattle.nr_core.specs.declared.shape.Shape.{Shape}
@@ -22,7 +22,7 @@ module _ (shape : Shape) (words : List ℕ) (roles : List Role) (log : List Entr
   spelt_there : (slot : ℕ) × (name_number (get_or words k 0) ≡ suc slot) × (slot < shape.slots) × SlotSpells shape words slot reads.rows
   spelt_there = subst (ShowsState shape words (get_or words k 0)) reads.full (core.shows k reads.near)
 
-  pub read_set : IsRowSet shape.bound reads.rows
+  pub read_set : IsRowSet (bound_of shape) reads.rows
   read_set = spelt_there.3.0
 
   pub read_word : get_or words (content shape s (length got)) 0 ≡ get_or (encode reads.rows) (length got) 0
@@ -40,6 +40,6 @@ module _ (shape : Shape) (words : List ℕ) (roles : List Role) (log : List Entr
   read_first = ap (λ (l : List ℕ). get_or l 0 0) read_next
 
   -- the last read has the set
-  pub read_whole : length got_next ≡ 2 * get_or got_next 0 0 + 1 → set_of shape.bound got_next ≡ reads.rows
+  pub read_whole : length got_next ≡ 2 * get_or got_next 0 0 + 1 → set_of (bound_of shape) got_next ≡ reads.rows
   read_whole whole = let size = length-row_words reads.rows in let all_got : got_next ≡ encode reads.rows = read_next ∙ take_all (suc (length got)) (encode reads.rows) (omega (arith, whole, read_first, length-got_next)) in
-      ap (set_of shape.bound) all_got ∙ set_back shape.bound reads.rows read_set
+      ap (set_of (bound_of shape)) all_got ∙ set_back (bound_of shape) reads.rows read_set

@@ -6,7 +6,7 @@ use lib.ListN.{get_elem?}
 use mathlib.Core.Option.{some}
 use Rattle.nr_model.proofs.LawLemmas.{legal_goes_on_lem}
 use Rattle.nr_model.specs.Histories.{Entry, IsLegal, entries_of}
-use Rattle.nr_model.specs.Maps.{ask_reply, find_reply, key_of as call_key, opening as opening_map, reply_at, state_of}
+use Rattle.nr_model.specs.Maps.{ask_reply, find_reply, key_of as call_key, reply_at, state_of}
 use Rattle.nr_model.specs.Rows.{IsRowSet}
 use Rattle.nr_model.specs.declared.calls.Call.{Call}
 use Rattle.nr_model.specs.declared.calls.Reply.{Reply}
@@ -29,10 +29,10 @@ use Rattle.nr_core.proofs.Sums.{set_again}
 use Rattle.nr_core.specs.Core.{Core}
 use Rattle.nr_core.specs.Machine.{moved, read_hold}
 use Rattle.nr_core.specs.Refusals.{has_key, has_reader, if_beyond, if_holding, if_not_holding, if_unreadable, refusal}
-use Rattle.nr_core.specs.Slots.{content, departures, name_number}
+use Rattle.nr_core.specs.Slots.{bound_of, content, departures, name_number}
 use Rattle.nr_core.specs.States.{Arrive, Ask, Depart, Read, State, slot_in}
 use Rattle.nr_core.specs.Steps.{ask_word}
-use Rattle.nr_core.specs.Story.{entry, map_after, shown, told}
+use Rattle.nr_core.specs.Story.{entry, map_after, opening_map, shown, told}
 use Rattle.nr_core.specs.declared.places.Hold.{Hold}
 use Rattle.nr_core.specs.declared.roles.Grip.{Grip}
 use Rattle.nr_core.specs.declared.roles.Grip.TheVariants.{Nothing, On}
@@ -49,8 +49,8 @@ is_free Nothing e = refl
 is_free (On s rows b) e = absurd (no_some (Some refuse.Holding) refuse.Holding refl e)
 
 -- the reply of an entry that was added legally
-reply_of : (shape : Shape) (log : List Entry) (c : ℕ) (call : Call) (y : Reply) → IsLegal (opening_map shape.keys shape.bound) (log ++ entry c call y ∷ []) → y ≡ reply_at shape.bound call (state_of (map_after shape log) (call_key call))
-reply_of shape log c call y legal = ((legal_goes_on_lem (opening_map shape.keys shape.bound) log (entry c call y)).1.1 legal).1 ∙ replies_so shape log call
+reply_of : (shape : Shape) (log : List Entry) (c : ℕ) (call : Call) (y : Reply) → IsLegal (opening_map shape) (log ++ entry c call y ∷ []) → y ≡ reply_at (bound_of shape) call (state_of (map_after shape log) (call_key call))
+reply_of shape log c call y legal = ((legal_goes_on_lem (opening_map shape) log (entry c call y)).1.1 legal).1 ∙ replies_so shape log call
 
 pub after_arrive : (state : State) (log : List Entry) (r k : ℕ) → IsCoreState state log → refusal state (Arrive r k) ≡ None → IsCoreState (moved state (Arrive r k)) (log ++ told state (Arrive r k))
 after_arrive state log r k is_core ok = let shape = state.shape in let words = state.words in let roles = is_core.roles in let core = is_core.core in let f = is_core.fit in
@@ -60,7 +60,7 @@ after_arrive state log r k is_core ok = let shape = state.shape in let words = s
     let o = f.readers i low in let free = is_free o.0 (ap if_holding (sym o.2) ∙ g.1) in
     let there_is : get_elem? roles (suc i) ≡ some (Reader (suc i) Nothing) = o.1 ∙ ap (λ (x : Grip). some (Reader (suc i) x)) free in
     let t = arrives shape (suc i) (suc i) k near words roles log core there_is in let w : ℕ = get_or words k 0 in let words' = set words k ((w + ARRIVE) % 2 ^ 64) in
-    let shown_so : find_reply (state_of (map_after shape log) k) ≡ find_reply (shown state k) = ap find_reply (sym (shown_is state roles log core k near)) in
+    let shown_so : find_reply (state_of (map_after shape log) k) ≡ find_reply (shown state k) = ap find_reply (sym (shown_is state roles log core f.writer k near)) in
     let finish : (x : Grip) (y : Reply) → t.after ≡ Reader (suc i) x → t.entries ≡ entry (suc i) (model.Find k) y ∷ [] → cond (is_filled w) (hold.On (slot_of w) None) hold.Nothing ≡ erased x → ((s : ℕ) (rows : List Row) (b : Bool) → x ≡ On s rows b → y ≡ reply.Rows rows) → IsCoreState (moved state (Arrive r k)) (log ++ told state (Arrive r k))
     = λ x y role es held_so replied.
     let c1 : Core shape words' (set roles (suc i) (Reader (suc i) x)) (log ++ entry (suc i) (model.Find k) y ∷ []) = subst (λ (p : Role × List Entry). Core shape words' (set roles (suc i) p.0) (log ++ p.1)) (λ j. (role j, es j)) t.core in
@@ -74,7 +74,7 @@ after_arrive state log r k is_core ok = let shape = state.shape in let words = s
           (λ s rows b is. (k, entries_of log (suc i), of-append (suc i) log (entry (suc i) (model.Find k) y ∷ []) ∙ ap (λ (l : List Entry). entries_of log (suc i) ++ l) (one_same (suc i) (suc i) (model.Find k) y refl ∙ ap (λ (a : Reply). entry (suc i) (model.Find k) a ∷ []) (replied s rows b is)))));
     } in
     ⊎_elim
-    (λ (a : (s : ℕ) × (rows : List Row) × (name_number w ≡ suc s) × (s < shape.slots) × IsRowSet shape.bound rows × (t.after ≡ Reader (suc i) (On s rows false)) × (t.entries ≡ entry (suc i) (model.Find k) (reply.Rows rows) ∷ [])).
+    (λ (a : (s : ℕ) × (rows : List Row) × (name_number w ≡ suc s) × (s < shape.slots) × IsRowSet (bound_of shape) rows × (t.after ≡ Reader (suc i) (On s rows false)) × (t.entries ≡ entry (suc i) (model.Find k) (reply.Rows rows) ∷ [])).
     let n = names_one w a.0 a.2 in finish (On a.0 a.1 false) (reply.Rows a.1) a.5 a.6 (ap (λ v. cond v (hold.On (slot_of w) None) hold.Nothing) n.0 ∙ ap (λ (s : ℕ). hold.On s None) n.1) (λ s rows b is. ap reply.Rows (same_rows a.0 s a.1 rows false b is)))
     (λ (a : (name_number w ≡ 0) × (t.after ≡ Reader (suc i) Nothing) × (t.entries ≡ entry (suc i) (model.Find k) reply.Hole ∷ [])).
     finish Nothing reply.Hole a.1 a.2 (ap (λ v. cond v (hold.On (slot_of w) None) hold.Nothing) (names_none w a.0)) (λ s rows b is. absurd (no_grip s rows b is)))
@@ -91,7 +91,7 @@ after_ask state log r k is_core ok = let shape = state.shape in let words = stat
     let y : Reply = ask_word w in
     let c0 : Core shape words' (set roles (suc i) (Reader (suc i) Nothing)) (log ++ entry (suc i) (model.Ask k) y ∷ []) = subst (λ (p : Role × List Entry). Core shape words' (set roles (suc i) p.0) (log ++ p.1)) (λ j. (t.told.0 j, t.told.1 j)) t.core in
     let c1 : Core shape words' roles (log ++ entry (suc i) (model.Ask k) y ∷ []) = subst (λ (l : List Role). Core shape words' l (log ++ entry (suc i) (model.Ask k) y ∷ [])) (set_again roles (suc i) (Reader (suc i) Nothing) there_is) c0 in
-    let reply_is : y ≡ ask_reply (shown state k) = reply_of shape log (suc i) (model.Ask k) y c1.legal ∙ ap ask_reply (sym (shown_is state roles log core k near)) in
+    let reply_is : y ≡ ask_reply (shown state k) = reply_of shape log (suc i) (model.Ask k) y c1.legal ∙ ap ask_reply (sym (shown_is state roles log core f.writer k near)) in
     record {
       roles = roles;
       core = subst (λ (p : ℕ × Reply). Core shape words' roles (log ++ entry p.0 (model.Ask k) p.1 ∷ [])) (λ j. (number j, reply_is j)) c1;

@@ -21,6 +21,7 @@ use Rattle.nr_core.specs.Laws.{AllGiven, EndsWithout, EverySchedule, IsGiven, Sl
 use Rattle.nr_core.specs.Machine.{moved, unless}
 use Rattle.nr_core.specs.Refusals.{refusal}
 use Rattle.nr_core.specs.Sizes.{IsShape}
+use Rattle.nr_core.specs.Slots.{bound_of}
 use Rattle.nr_core.specs.States.{Event, State}
 use Rattle.nr_core.specs.Story.{Poll, Story, beginning, polls_after, story_of, tell}
 use Rattle.nr_core.specs.declared.calls.NoSlot.{NoSlot}
@@ -36,12 +37,12 @@ swept_tell story event is_core swept =
       | Some why ↦ λ _. swept
     ] in go (refusal story.state event) refl
 
-all_swept : (events : List Event) (story : Story) → AllGiven story.state.shape.bound events → IsCoreState story.state story.history → Swept story.state story.polls → Swept (fold tell story events).state (fold tell story events).polls
+all_swept : (events : List Event) (story : Story) → AllGiven (bound_of story.state.shape) events → IsCoreState story.state story.history → Swept story.state story.polls → Swept (fold tell story events).state (fold tell story events).polls
 all_swept [] story given is_core swept = swept
 all_swept (event ∷ events) story given is_core swept = let t = after_tell story event given.0 is_core in
-    all_swept events (tell story event) (subst (λ s. AllGiven s.bound events) (sym t.1) given.1) t.0 (swept_tell story event is_core swept)
+    all_swept events (tell story event) (subst (λ s. AllGiven (bound_of s) events) (sym t.1) given.1) t.0 (swept_tell story event is_core swept)
 
-swept_story : (shape : Shape) (events : List Event) → IsShape shape → AllGiven shape.bound events → Swept (story_of shape events).state (story_of shape events).polls
+swept_story : (shape : Shape) (events : List Event) → IsShape shape → AllGiven (bound_of shape) events → Swept (story_of shape events).state (story_of shape events).polls
 swept_story shape events fits given = all_swept events (beginning shape) given (opening_core shape fits) (record { few = omega arith; sweep = tt; held = λ i low. absurd (omega arith) })
 
 pub every_schedule_lem : EverySchedule
@@ -66,6 +67,6 @@ slot_bound_lem shape events fits given = let t = story_core shape events fits gi
   subst (λ (s : Shape). length story.polls ≤ s.readers) t.1 swept.few,
   λ event counts one ends.
       subst (λ (s : Shape). (counts.held ≤ s.readers) × (s.slots < s.keys + s.readers + 1)) t.1
-      (few_held story event t.0 swept (swept_tell story event t.0 swept) (after_tell story event (subst (λ (s : Shape). IsGiven s.bound event) (sym t.1) one) t.0).1 counts
+      (few_held story event t.0 swept (swept_tell story event t.0 swept) (after_tell story event (subst (λ (s : Shape). IsGiven (bound_of s) event) (sym t.1) one) t.0).1 counts
       (subst (λ (s : State). EndsWithout s event counts) (sym (story_state shape events)) ends)),
 )

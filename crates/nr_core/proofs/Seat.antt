@@ -22,7 +22,7 @@ seated shape words roles log role core no_writer few no_hold no_keep own = let r
     let still : (s : ℕ) → held roles' s ≡ held roles s = λ s. omega (arith, total-append (holds s) roles (role ∷ []), no_hold s) in
     let left : (s : ℕ) → Left shape words words map map (held roles) (held roles') s = λ s. record { contents = λ _ _. refl; nobody = λ z. still s ∙ z; deps = λ _. refl; sum = ap (λ (y : ℕ). (get_or words (departures shape s) 0 + y) % 2 ^ 40) (still s) } in
     let others : (u : Role) → Knows shape words map (held roles) u → Knows shape words map (held roles') u = λ u. elim u as (λ v. Knows shape words map (held roles) v → Knows shape words map (held roles') v) [
-      | Writer desk ↦ λ t. desk_more shape words words map map (held roles) (held roles') (λ _ _. refl) (λ _ _. refl) desk (λ s _ _. left s) t
+      | Writer desk ↦ λ t. desk_more shape words words map map (held roles) (held roles') (λ _ _. refl) (λ _ _. refl) desk (λ _. refl) (λ s _ _. left s) t
       | Reader reader grip ↦ λ t. holding_more shape words words map map (held roles) (held roles') grip (λ _ _ _ _ _. refl) t
       | Note ↦ λ t. tt
     ] in

@@ -7,7 +7,7 @@ use mathlib.Core.Logic.{dite}
 use mathlib.Core.Option.{some}
 use native.Mathlib.Decide.{dec_le, ℕ_discrete}
 use Rattle.nr_model.specs.Histories.{Entry, IsLegal, entries_of}
-use Rattle.nr_model.specs.Maps.{PartialMap, key_of as call_key, opening as opening_map, reply_at, state_after, state_of}
+use Rattle.nr_model.specs.Maps.{PartialMap, key_of as call_key, reply_at, state_after, state_of}
 use Rattle.nr_model.specs.declared.calls.Call.{Call}
 use Rattle.nr_model.specs.declared.calls.Reply.{Reply}
 use Rattle.nr_model.specs.declared.rows.Row.{Row}
@@ -19,16 +19,16 @@ use Rattle.nr_core.proofs.OffKeys.{none_of}
 use Rattle.nr_core.proofs.Sums.{only-other, only-same}
 use Rattle.nr_core.specs.Core.{AtDesk, Core, Wants}
 use Rattle.nr_core.specs.Roles.{held, keeps}
-use Rattle.nr_core.specs.Slots.{unused}
+use Rattle.nr_core.specs.Slots.{bound_of, unused}
 use Rattle.nr_core.specs.States.{key_of}
-use Rattle.nr_core.specs.Story.{call_of, ending, entry, map_after}
+use Rattle.nr_core.specs.Story.{call_of, ending, entry, map_after, opening_map}
 use Rattle.nr_core.specs.Sums.{only}
-use Rattle.nr_core.specs.Writer.{moved_to, no_slot, settled}
+use Rattle.nr_core.specs.Writer.{moved_to, no_slot, settled, taking_fresh}
 use Rattle.nr_core.specs.declared.calls.Step.{Step}
 use Rattle.nr_core.specs.declared.calls.Step.TheVariants.{Ended, Going}
 use Rattle.nr_core.specs.declared.calls.WriterCall.{WriterCall}
-use Rattle.nr_core.specs.declared.calls.WriterCall.TheVariants.{Evict, Fill, Find, Update}
-use Rattle.nr_core.specs.declared.places.Place.TheVariants.{Idle, Putting, Searching}
+use Rattle.nr_core.specs.declared.calls.WriterCall.TheVariants.{Cancel, Evict, Fill, Find, Update}
+use Rattle.nr_core.specs.declared.places.Place.TheVariants.{Idle, Searching}
 use Rattle.nr_core.specs.declared.roles.Desk.{Desk}
 use Rattle.nr_core.specs.declared.roles.Role.{Role}
 use Rattle.nr_core.specs.declared.roles.Role.TheVariants.{Writer}
@@ -45,9 +45,10 @@ unused-next s f = dite (dec_le (f + 1) s)
 
 pub key_same : (call : WriterCall) → call_key (call_of call) ≡ key_of call
 key_same (Find k) = refl
-key_same (Fill k rows) = refl
+key_same (Fill k number rows) = refl
 key_same (Update k batch) = refl
 key_same (Evict k) = refl
+key_same (Cancel k) = refl
 
 pub own_ending : (call : Call) (s : Step) (b : ℕ) → entries_of (ending call s) b ≡ cond (nat_eq 0 b) (ending call s) []
 own_ending call Going b = none_of (nat_eq 0 b)
@@ -55,40 +56,41 @@ own_ending call (Ended (writer.Reply y)) b = refl
 own_ending call (Ended (writer.NoSlot n)) b = none_of (nat_eq 0 b)
 
 pub idle_desk : (shape : Shape) (words : List ℕ) (map : PartialMap) (hold : ℕ → ℕ) (desk : Desk) → AtDesk shape words map hold desk → AtDesk shape words map hold (moved_to desk Idle)
-idle_desk shape words map hold desk t = record { place = tt; room = t.room; free = t.free; retired = t.retired }
+idle_desk shape words map hold desk t = record { place = tt; room = t.room; free = t.free; retired = t.retired; numbers = t.numbers }
 
 module _ (shape : Shape) (words : List ℕ) (map : PartialMap) (hold : ℕ → ℕ) (desk : Desk) (call : WriterCall) (rows : List Row) where
   settle_desk : AtDesk shape words map hold (moved_to desk Idle) → Wants shape words map hold call rows → AtDesk shape words map hold (settled shape desk call rows).0
   settle_desk t wants = by_cases (λ v. AtDesk shape words map hold (cond {A = Desk × Step} v
-      (record { place = Putting call rows desk.fresh shape.first 0; fresh = desk.fresh + 1; retired = desk.retired }, Going)
+      (taking_fresh shape desk call rows, Going)
       (cond {A = Desk × Step} (nat_eq (length desk.retired) 0) (moved_to desk Idle, no_slot shape desk) (moved_to desk (Searching call rows 0), Going))).0) (nat_lt desk.fresh shape.slots)
       (λ yes. let l : desk.fresh < shape.slots = ltb-true desk.fresh shape.slots yes in let f = t.free desk.fresh (omega arith) l in record {
         place = record { wants = wants; inside = l; nobody = f.0; counted = f.1; within = omega arith; put = λ j low. absurd (omega arith) };
         room = omega arith;
         free = λ s from near. t.free s (omega arith) near;
         retired = t.retired;
+        numbers = t.numbers;
       })
       (λ no. let full : shape.slots ≤ desk.fresh = ltb-false desk.fresh shape.slots no in by_cases (λ v. AtDesk shape words map hold (cond {A = Desk × Step} v (moved_to desk Idle, no_slot shape desk) (moved_to desk (Searching call rows 0), Going)).0) (nat_eq (length desk.retired) 0)
       (λ _. t)
-      (λ some_there. let n : length desk.retired ≢ 0 = eqb-false (length desk.retired) 0 some_there in record { place = (wants, omega arith, full); room = t.room; free = t.free; retired = t.retired }))
+      (λ some_there. let n : length desk.retired ≢ 0 = eqb-false (length desk.retired) 0 some_there in record { place = (wants, omega arith, full); room = t.room; free = t.free; retired = t.retired; numbers = t.numbers }))
 
   settle_keeps : (s : ℕ) → keeps s (Writer (settled shape desk call rows).0) ≡ keeps s (Writer (moved_to desk Idle))
   settle_keeps s = by_cases (λ v. keeps s (Writer (cond {A = Desk × Step} v
-      (record { place = Putting call rows desk.fresh shape.first 0; fresh = desk.fresh + 1; retired = desk.retired }, Going)
+      (taking_fresh shape desk call rows, Going)
       (cond {A = Desk × Step} (nat_eq (length desk.retired) 0) (moved_to desk Idle, no_slot shape desk) (moved_to desk (Searching call rows 0), Going))).0) ≡ keeps s (Writer (moved_to desk Idle))) (nat_lt desk.fresh shape.slots)
       (λ yes. let u = unused-next s desk.fresh in omega arith)
       (λ no. by_cases (λ v. keeps s (Writer (cond {A = Desk × Step} v (moved_to desk Idle, no_slot shape desk) (moved_to desk (Searching call rows 0), Going)).0) ≡ keeps s (Writer (moved_to desk Idle))) (nat_eq (length desk.retired) 0) (λ _. refl) (λ _. refl))
 
   settle_quiet : (c : Call) → ending c (settled shape desk call rows).1 ≡ []
   settle_quiet c = by_cases (λ v. ending c (cond {A = Desk × Step} v
-      (record { place = Putting call rows desk.fresh shape.first 0; fresh = desk.fresh + 1; retired = desk.retired }, Going)
+      (taking_fresh shape desk call rows, Going)
       (cond {A = Desk × Step} (nat_eq (length desk.retired) 0) (moved_to desk Idle, no_slot shape desk) (moved_to desk (Searching call rows 0), Going))).1 ≡ []) (nat_lt desk.fresh shape.slots)
       (λ yes. refl)
       (λ no. by_cases (λ v. ending c (cond {A = Desk × Step} v (moved_to desk Idle, no_slot shape desk) (moved_to desk (Searching call rows 0), Going)).1 ≡ []) (nat_eq (length desk.retired) 0) (λ _. refl) (λ _. refl))
 
 module _ (shape : Shape) (words : List ℕ) (roles : List Role) (log : List Entry) (core : Core shape words roles log) (id : ℕ) (desk : Desk) (there : get_elem? roles id ≡ some (Writer desk)) (place : ℕ) where
   -- a step on a word that stays, which ends the call with a reply and changes no state
-  pub ends : (desk' : Desk) (c : Call) (y : Reply) → call_key c < shape.keys → reply_at shape.bound c (state_of (map_after shape log) (call_key c)) ≡ y → state_after shape.bound c (state_of (map_after shape log) (call_key c)) ≡ state_of (map_after shape log) (call_key c)
+  pub ends : (desk' : Desk) (c : Call) (y : Reply) → call_key c < shape.keys → reply_at (bound_of shape) c (state_of (map_after shape log) (call_key c)) ≡ y → state_after (bound_of shape) c (state_of (map_after shape log) (call_key c)) ≡ state_of (map_after shape log) (call_key c)
       → ((s : ℕ) → keeps s (Writer desk') ≡ keeps s (Writer desk)) → AtDesk shape words (map_after shape log) (held roles) desk' → Core shape (set words place (get_or words place 0)) (set roles id (Writer desk')) (log ++ entry 0 c y ∷ [])
   ends desk' c y near replies stays same own = desk_step shape words roles log (entry 0 c y ∷ []) core id desk desk' place there (legal-more shape log (entry 0 c y) core.legal (sym (replies_so shape log c ∙ replies)))
       (λ j. dite (ℕ_discrete j (call_key c)) (λ e. ap (state_of (map_after shape (log ++ entry 0 c y ∷ []))) e ∙ state_same shape log (entry 0 c y) near ∙ stays ∙ ap (state_of (map_after shape log)) (sym e)) (λ ne. state_other shape log (entry 0 c y) j ne))
@@ -96,7 +98,7 @@ module _ (shape : Shape) (words : List ℕ) (roles : List Role) (log : List Entr
 
   -- a step on a word that stays, after which the call goes on or has no slot
   pub goes_on : (desk' : Desk) → ((s : ℕ) → keeps s (Writer desk') ≡ keeps s (Writer desk)) → AtDesk shape words (map_after shape log) (held roles) desk' → Core shape (set words place (get_or words place 0)) (set roles id (Writer desk')) (log ++ [])
-  goes_on desk' same own = desk_step shape words roles log [] core id desk desk' place there (subst (IsLegal (opening_map shape.keys shape.bound)) (sym (append-nil log)) core.legal) (λ j. ap (λ l. state_of (map_after shape l) j) (append-nil log)) (λ s _. same s) own
+  goes_on desk' same own = desk_step shape words roles log [] core id desk desk' place there (subst (IsLegal (opening_map shape)) (sym (append-nil log)) core.legal) (λ j. ap (λ l. state_of (map_after shape l) j) (append-nil log)) (λ s _. same s) own
 
   -- a call that finds a slot for its set, or polls, or has none
   pub settles : (call : WriterCall) (rows : List Row) → ((s : ℕ) → keeps s (Writer (moved_to desk Idle)) ≡ keeps s (Writer desk)) → Wants shape words (map_after shape log) (held roles) call rows

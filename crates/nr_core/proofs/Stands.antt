@@ -6,7 +6,7 @@ use lib.ListN.{get_elem?}
 use mathlib.Core.Logic.{dite}
 use mathlib.Core.Option.{some}
 use native.Mathlib.Decide.{dec_le}
-use Rattle.nr_model.proofs.HistoryLemmas.{sends_are_filled_lem}
+use Rattle.nr_model.proofs.HistoryLemmas.{sends_are_answered_lem}
 use Rattle.nr_model.specs.Maps.{PartialMap}
 use Rattle.nr_model.specs.declared.rows.Row.{Row}
 use Rattle.nr_words.proofs.SetWordLemmas.{length-row_words}
@@ -21,13 +21,13 @@ use Rattle.nr_core.specs.Laws.{HoldsFound, Stands, map_of}
 use Rattle.nr_core.specs.Machine.{answer, found_by, read_answer}
 use Rattle.nr_core.specs.Refusals.{has_reader, if_beyond, if_unreadable, refusal}
 use Rattle.nr_core.specs.Roles.{held, holds, taken}
-use Rattle.nr_core.specs.Slots.{content, departures, unused}
+use Rattle.nr_core.specs.Slots.{bound_of, content, departures, unused}
 use Rattle.nr_core.specs.States.{Read, State, hold_of, no_retired, slot_in}
 use Rattle.nr_core.specs.Story.{Story}
 use Rattle.nr_core.specs.declared.calls.Refusal.{Refusal}
 use Rattle.nr_core.specs.declared.places.Hold.{Hold}
 use Rattle.nr_core.specs.declared.places.Place.{Place}
-use Rattle.nr_core.specs.declared.places.Place.TheVariants.{Idle, Leaving, Putting, Reading, Searching}
+use Rattle.nr_core.specs.declared.places.Place.TheVariants.{Idle, Leaving, Putting, Reading, Searching, Withdrawing}
 use Rattle.nr_core.specs.declared.places.Retired.{Retired}
 use Rattle.nr_core.specs.declared.roles.Grip.{Grip}
 use Rattle.nr_core.specs.declared.roles.Grip.TheVariants.{Nothing, On}
@@ -40,6 +40,7 @@ taken_nobody : (shape : Shape) (words : List ℕ) (map : PartialMap) (hold : ℕ
 taken_nobody shape words map hold fresh l s Idle t mine = absurd (omega arith)
 taken_nobody shape words map hold fresh l s (Reading call u got) t mine = absurd (omega arith)
 taken_nobody shape words map hold fresh l s (Leaving k) t mine = absurd (omega arith)
+taken_nobody shape words map hold fresh l s (Withdrawing k) t mine = absurd (omega arith)
 taken_nobody shape words map hold fresh l s (Searching call rows p) t mine = absurd (omega arith)
 taken_nobody shape words map hold fresh l s (Putting call rows u departed i) t mine = ap hold (sym (only-is s u mine)) ∙ t.nobody
 
@@ -103,7 +104,7 @@ holder story is_core r s n low e = let state = story.state in let size = is_core
 pub stands : (story : Story) → IsCoreState story.state story.history → Stands story
 stands story is_core = let state = story.state in let shape = state.shape in let core = is_core.core in let roles = is_core.roles in let sums = state_sums state roles is_core.fit in let desk = core.knows 0 (Writer state.desk) is_core.fit.writer in record {
   legal = core.legal;
-  shows = shown_is state roles story.history core;
+  shows = shown_is state roles story.history core is_core.fit.writer;
   accounted = record {
     placed = λ s near. omega (arith, core.places s near, (sums s).1);
     named_count = λ k s near e. core.counts k s near e ∙ ap (λ (n : ℕ). (get_or state.words (departures shape s) 0 + n) % 2 ^ 40) (sums s).0;
@@ -112,5 +113,5 @@ stands story is_core = let state = story.state in let shape = state.shape in let
         (λ l. let u : unused s state.desk.fresh ≡ 0 = ap (λ b. cond {A = ℕ} b 1 0) (lt-leb state.desk.fresh s (omega arith)) in taken_nobody shape state.words (map_of story) (held roles) state.desk.fresh state.desk.retired s state.desk.place desk.place (omega arith));
   };
   held = λ r s n low e. holding story is_core r s n low e;
-  sent = λ k near. sends_are_filled_lem shape.keys shape.bound k story.history core.legal near;
+  sent = λ k near. sends_are_answered_lem shape.keys (bound_of shape) shape.first_number k story.history core.legal near;
 }

@@ -21,7 +21,7 @@ use Rattle.nr_core.specs.declared.calls.Step.{Step}
 use Rattle.nr_core.specs.declared.calls.Step.TheVariants.{Ended, Going}
 use Rattle.nr_core.specs.declared.places.Hold.{Hold}
 use Rattle.nr_core.specs.declared.places.Place.{Place}
-use Rattle.nr_core.specs.declared.places.Place.TheVariants.{Idle, Leaving, Putting, Reading, Searching}
+use Rattle.nr_core.specs.declared.places.Place.TheVariants.{Idle, Leaving, Putting, Reading, Searching, Withdrawing}
 use Rattle.nr_core.specs.declared.roles.Desk.{Desk}
 use Rattle.nr_core.specs.declared.roles.Grip.{Grip}
 use Rattle.nr_core.specs.declared.roles.Grip.TheVariants.{Nothing, On}
@@ -140,6 +140,7 @@ pub ending_at_other : (p : Place) (state : Step) (j : ℕ) → entries_of (endin
 ending_at_other Idle s j = refl
 ending_at_other (Reading call t got) s j = ending_other (call_of call) s j
 ending_at_other (Leaving k) s j = ending_other (model.Evict k) s j
+ending_at_other (Withdrawing k) s j = ending_other (model.Cancel k) s j
 ending_at_other (Searching call rows p) s j = ending_other (call_of call) s j
 ending_at_other (Putting call rows t departed i) s j = ending_other (call_of call) s j
 

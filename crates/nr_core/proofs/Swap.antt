@@ -13,9 +13,9 @@ use Rattle.nr_core.proofs.Frames.{Left, free_more, retired_more}
 use Rattle.nr_core.proofs.Histories.{legal-more, replies_so, state_other, state_same}
 use Rattle.nr_core.proofs.OnKey.{in_range}
 use Rattle.nr_core.proofs.Sums.{at_snoc, only-suc, only-zero, total-append, total-set}
-use Rattle.nr_core.specs.Core.{AtDesk, Core, ShowsState}
+use Rattle.nr_core.specs.Core.{AreNumbers, AtDesk, Core, ShowsState}
 use Rattle.nr_core.specs.Roles.{held, holds, taken}
-use Rattle.nr_core.specs.Slots.{content, departures, name_number}
+use Rattle.nr_core.specs.Slots.{bound_of, content, departures, name_number}
 use Rattle.nr_core.specs.Story.{entry, map_after, shown}
 use Rattle.nr_core.specs.Sums.{only, total}
 use Rattle.nr_core.specs.Writer.{swapped, unnamed}
@@ -39,15 +39,16 @@ unnamed_at l w i x = by_cases (λ v. get_elem? (l ++ cond v (record { slot = slo
     (λ _ e. inl (subst (λ (y : List Retired). get_elem? y i ≡ some x) (append-nil l) e))
 
 -- another word is swapped in for a key's word
-pub swap_step : (shape : Shape) (words : List ℕ) (roles : List Role) (log : List Entry) (core : Core shape words roles log) (id : ℕ) (desk : Desk) → get_elem? roles id ≡ some (Writer desk) → (k x : ℕ) (c : Call) (y : Reply) → k < shape.keys → call_key c ≡ k
-    → reply_at shape.bound c (state_of (map_after shape log) k) ≡ y → ShowsState shape words x (state_after shape.bound c (state_of (map_after shape log) k))
+pub swap_step : (shape : Shape) (words : List ℕ) (roles : List Role) (log : List Entry) (core : Core shape words roles log) (id : ℕ) (desk : Desk) → get_elem? roles id ≡ some (Writer desk) → (k x : ℕ) (c : Call) (y : Reply) (numbers : List ℕ) → k < shape.keys → call_key c ≡ k
+    → reply_at (bound_of shape) c (state_of (map_after shape log) k) ≡ y → ShowsState shape words x (state_after (bound_of shape) c (state_of (map_after shape log) k))
     → ((s : ℕ) → taken s desk.place ≡ only (suc s) (name_number x))
     → ((s : ℕ) → name_number x ≡ suc s → arrivals_of x % 2 ^ 40 ≡ (get_or words (departures shape s) 0 + held roles s) % 2 ^ 40)
-    → Core shape (set words k x) (set roles id (Writer (swapped desk (get_or words k 0)))) (log ++ entry 0 c y ∷ [])
-swap_step shape words roles log core id desk is_there k x c y near at_k replies shown took counted =
-    let w : ℕ = get_or words k 0 in let desk' = swapped desk w in let map = map_after shape log in let e = entry 0 c y in let map' = map_after shape (log ++ e ∷ []) in let words' = set words k x in let roles' = set roles id (Writer desk') in let t = core.knows id (Writer desk) is_there in
+    → AreNumbers shape (map_after shape (log ++ entry 0 c y ∷ [])) numbers
+    → Core shape (set words k x) (set roles id (Writer (record (swapped desk (get_or words k 0)) { numbers = numbers }))) (log ++ entry 0 c y ∷ [])
+swap_step shape words roles log core id desk is_there k x c y numbers near at_k replies shown took counted listed =
+    let w : ℕ = get_or words k 0 in let desk' : Desk = record (swapped desk w) { numbers = numbers } in let map = map_after shape log in let e = entry 0 c y in let map' = map_after shape (log ++ e ∷ []) in let words' = set words k x in let roles' = set roles id (Writer desk') in let t = core.knows id (Writer desk) is_there in
     let near' : call_key c < shape.keys = subst (λ (j : ℕ). j < shape.keys) (sym at_k) near in
-    let same : state_of map' k ≡ state_after shape.bound c (state_of map k) = subst (λ (j : ℕ). state_of map' j ≡ state_after shape.bound c (state_of map j)) at_k (state_same shape log e near') in
+    let same : state_of map' k ≡ state_after (bound_of shape) c (state_of map k) = subst (λ (j : ℕ). state_of map' j ≡ state_after (bound_of shape) c (state_of map j)) at_k (state_same shape log e near') in
     let still : (s : ℕ) → held roles' s ≡ held roles s = λ s. let y = total-set (holds s) roles id (Writer desk) (Writer desk') is_there in omega arith in
     let dep : (s : ℕ) → get_or words' (departures shape s) 0 ≡ get_or words (departures shape s) 0 = λ s. get_or-set_other words k (departures shape s) x 0 (λ z. omega arith) in
     let sum : (s : ℕ) → (get_or words' (departures shape s) 0 + held roles' s) % 2 ^ 40 ≡ (get_or words (departures shape s) 0 + held roles s) % 2 ^ 40 = λ s. ap (λ (pair : ℕ × ℕ). (pair.0 + pair.1) % 2 ^ 40) (λ i. (dep s i, still s i)) in
@@ -63,8 +64,9 @@ swap_step shape words roles log core id desk is_there k x c y near at_k replies 
             ap (λ (n : ℕ). n % 2 ^ 40) (sym new.1) ∙ core.counts k z.slot near new.0 ∙ sym (sum z.slot),
           ))
           (unnamed_at desk.retired w i z at_i);
+      numbers = listed;
     } in
-    rename shape words roles log (e ∷ []) core id desk desk' k x near is_there (legal-more shape log e core.legal (sym (replies_so shape log c ∙ ap (λ (j : ℕ). reply_at shape.bound c (state_of map j)) at_k ∙ replies)))
+    rename shape words roles log (e ∷ []) core id desk desk' k x near is_there (legal-more shape log e core.legal (sym (replies_so shape log c ∙ ap (λ (j : ℕ). reply_at (bound_of shape) c (state_of map j)) at_k ∙ replies)))
     (λ j ne. state_other shape log e j (λ z. ne (z ∙ at_k)))
     (subst (ShowsState shape words x) (sym same) shown)
     (λ s l. let a = total-append (λ (z : Retired). only s z.slot) desk.retired (unnamed w) in let b = unnamed_sum s w in let c' = took s in omega arith)

@@ -1,7 +1,7 @@
 -- The polls of one call: the readers that they find are different.
 -- One reader is noted for each poll that finds its slot held (Notes). No slot is retired during a sweep, so a noted reader holds the noted slot, or none or a named one (keeps_notes);
 -- the next slot that is found held is another, and so is its reader (poll_noted, sweep_more). Every event keeps this (swept_event).
-use Rattle.std.proofs.Common.{List, [], ap, arith, cond, drop, get_or, get_or-set_other, get_or-set_same, inl, inr, length, map, nat_eq, refl, set, subst, suc, sym, take, zero, ℕ, ⊎_elim, ◌%◌, ◌*◌, ◌++◌, ◌+◌, ◌-◌, ◌/◌, ◌<◌, ◌^◌, ◌∙◌, ◌∷◌, ◌≡◌, ◌≢◌, ◌≤◌, ◌⊎◌}
+use Rattle.std.proofs.Common.{List, [], ap, arith, cond, get_or, get_or-set_other, get_or-set_same, inl, inr, length, map, nat_eq, refl, set, subst, suc, sym, take, zero, ℕ, ⊎_elim, ◌%◌, ◌*◌, ◌++◌, ◌+◌, ◌-◌, ◌/◌, ◌<◌, ◌^◌, ◌∙◌, ◌∷◌, ◌≡◌, ◌≢◌, ◌≤◌, ◌⊎◌}
 use Rattle.std.proofs.lemmas.Bool.{eqb-false, eqb-true, ltb-true}
 use Rattle.std.proofs.lemmas.List.{length-append, map-append}
 use Rattle.std.specs.Prelude.{Err, None, Ok, Result, nat_le, nat_lt, ◌&&◌}
@@ -12,7 +12,7 @@ use mathlib.Core.Option.{some, some-injective, some-ne-none}
 use native.Mathlib.Decide.{ℕ_discrete}
 use Rattle.nr_model.specs.Batches.{applied}
 use Rattle.nr_model.specs.Histories.{Entry}
-use Rattle.nr_model.specs.Maps.{state_of}
+use Rattle.nr_model.specs.Maps.{last_number, state_of}
 use Rattle.nr_model.specs.declared.batches.ApplyFault.{ApplyFault}
 use Rattle.nr_model.specs.declared.rows.Row.{Row}
 use Rattle.nr_words.specs.KeyWords.{has_ask, is_filled, slot_of}
@@ -30,18 +30,18 @@ use Rattle.nr_core.specs.Machine.{moved, read_hold}
 use Rattle.nr_core.specs.Operations.{going, place_of}
 use Rattle.nr_core.specs.Refusals.{has_key, has_reader, if_holding, if_not_holding, if_unreadable, refusal}
 use Rattle.nr_core.specs.Roles.{held}
-use Rattle.nr_core.specs.Slots.{content, name_number, set_of}
+use Rattle.nr_core.specs.Slots.{bound_of, content, name_number, set_of}
 use Rattle.nr_core.specs.States.{Arrive, Ask, Depart, Event, Go, Read, Start, State, hold_of, key_of, no_retired, retired_at, slot_in}
 use Rattle.nr_core.specs.Story.{Poll, holders_from, is_on, map_after, poll_at, polls_after}
 use Rattle.nr_core.specs.Sums.{only, total}
-use Rattle.nr_core.specs.Writer.{decided, ended, looked, moved_to, no_slot, read_on, renewed, settled, swapped, went}
+use Rattle.nr_core.specs.Writer.{cancel_asked, decided, ended, fill_asked, looked, moved_to, no_slot, read_on, renewed, settled, swapped, taking_fresh, taking_retired, went}
 use Rattle.nr_core.specs.declared.calls.Step.{Step}
 use Rattle.nr_core.specs.declared.calls.Step.TheVariants.{Going}
 use Rattle.nr_core.specs.declared.calls.WriterCall.{WriterCall}
-use Rattle.nr_core.specs.declared.calls.WriterCall.TheVariants.{Evict, Fill, Find, Update}
+use Rattle.nr_core.specs.declared.calls.WriterCall.TheVariants.{Cancel, Evict, Fill, Find, Update}
 use Rattle.nr_core.specs.declared.places.Hold.{Hold}
 use Rattle.nr_core.specs.declared.places.Place.{Place}
-use Rattle.nr_core.specs.declared.places.Place.TheVariants.{Idle, Leaving, Putting, Reading, Searching}
+use Rattle.nr_core.specs.declared.places.Place.TheVariants.{Idle, Leaving, Putting, Reading, Searching, Withdrawing}
 use Rattle.nr_core.specs.declared.places.Retired.{Retired}
 use Rattle.nr_core.specs.declared.roles.Desk.{Desk}
 use Rattle.nr_core.specs.declared.roles.Role.TheVariants.{Writer}
@@ -71,6 +71,7 @@ abbrev pub AtSweep : State → List Poll → Place → Type 0
 AtSweep state polls Idle = Unit {0}
 AtSweep state polls (Reading call s got) = polls ≡ []
 AtSweep state polls (Leaving k) = Unit {0}
+AtSweep state polls (Withdrawing k) = Unit {0}
 AtSweep state polls (Searching call rows p) = Notes state polls p
 AtSweep state polls (Putting call rows s departed i) = Unit {0}
 
@@ -174,6 +175,7 @@ reader_swept state words hs polls step s = record { few = s.few; sweep = go stat
     go Idle t = tt
     go (Reading call u got) t = t
     go (Leaving k) t = tt
+    go (Withdrawing k) t = tt
     go (Searching call rows p) t = keeps_notes state words hs polls p step t
     go (Putting call rows u departed i) t = tt
 
@@ -197,7 +199,7 @@ module _ (shape : Shape) (words : List ℕ) (hs : List Hold) where
   Good polls o = AtSweep (with_desk o.0) polls o.0.place
 
   settle_good : (desk : Desk) (call : WriterCall) (rows : List Row) (polls : List Poll) → polls ≡ [] → Good polls (settled shape desk call rows)
-  settle_good desk call rows polls none = by_cases (λ v. Good polls (cond {A = Desk × Step} v (record { place = Putting call rows desk.fresh shape.first 0; fresh = desk.fresh + 1; retired = desk.retired }, Going)
+  settle_good desk call rows polls none = by_cases (λ v. Good polls (cond {A = Desk × Step} v (taking_fresh shape desk call rows, Going)
       (cond {A = Desk × Step} (nat_eq (length desk.retired) 0) (moved_to desk Idle, no_slot shape desk) (moved_to desk (Searching call rows 0), Going)))) (nat_lt desk.fresh shape.slots) (λ _. tt)
       (λ _. by_cases (λ v. Good polls (cond {A = Desk × Step} v (moved_to desk Idle, no_slot shape desk) (moved_to desk (Searching call rows 0), Going))) (nat_eq (length desk.retired) 0) (λ _. tt) (λ _. no_notes (moved_to desk (Searching call rows 0)) polls none))
 
@@ -205,21 +207,29 @@ module _ (shape : Shape) (words : List ℕ) (hs : List Hold) where
   look_good desk (Find k) w = by_cases (λ v. Good [] (cond {A = Desk × Step} v (moved_to desk (Reading (Find k) (slot_of w) []), Going) (moved_to desk Idle, ended reply.Hole))) (is_filled w) (λ _. refl) (λ _. tt)
   look_good desk (Update k b) w = by_cases (λ v. Good [] (cond {A = Desk × Step} v (moved_to desk (Reading (Update k b) (slot_of w) []), Going) (moved_to desk Idle, ended reply.Dropped))) (is_filled w) (λ _. refl) (λ _. tt)
   look_good desk (Evict k) w = by_cases (λ v. Good [] (cond {A = Desk × Step} v (moved_to desk (Leaving k), Going) (moved_to desk Idle, ended reply.Nothing))) (is_filled w) (λ _. tt) (λ _. tt)
-  look_good desk (Fill k rows) w = by_cases (λ v. Good [] (cond {A = Desk × Step} v (moved_to desk Idle, ended reply.Already) (cond {A = Desk × Step} (has_ask w) (settled shape desk (Fill k rows) rows) (moved_to desk Idle, ended reply.NotAsked)))) (is_filled w) (λ _. tt)
-      (λ _. by_cases (λ v. Good [] (cond {A = Desk × Step} v (settled shape desk (Fill k rows) rows) (moved_to desk Idle, ended reply.NotAsked))) (has_ask w) (λ _. settle_good desk (Fill k rows) rows [] refl) (λ _. tt))
+  look_good desk (Fill k number rows) w = let call = Fill k number rows in let F : Desk × Step = fill_asked shape desk call number rows (slot_of w) in
+      by_cases (λ v. Good [] (cond {A = Desk × Step} v (moved_to desk Idle, ended reply.Already) (cond {A = Desk × Step} (has_ask w) F (moved_to desk Idle, ended reply.NotAsked)))) (is_filled w) (λ _. tt)
+      (λ _. by_cases (λ v. Good [] (cond {A = Desk × Step} v F (moved_to desk Idle, ended reply.NotAsked))) (has_ask w)
+      (λ _. by_cases (λ v. Good [] (cond {A = Desk × Step} v (settled shape desk call rows) (moved_to desk Idle, ended reply.Stale))) (nat_eq (slot_of w) number) (λ _. settle_good desk call rows [] refl) (λ _. tt))
+      (λ _. tt))
+  look_good desk (Cancel k) w = by_cases (λ v. Good [] (cond {A = Desk × Step} v (moved_to desk Idle, ended reply.Nothing) (cond {A = Desk × Step} (has_ask w) (cancel_asked desk k (slot_of w)) (moved_to desk Idle, ended reply.Nothing)))) (is_filled w) (λ _. tt)
+      (λ _. by_cases (λ v. Good [] (cond {A = Desk × Step} v (cancel_asked desk k (slot_of w)) (moved_to desk Idle, ended reply.Nothing))) (has_ask w)
+      (λ _. by_cases (λ v. Good [] (cond {A = Desk × Step} v (moved_to desk (Withdrawing k), Going) (moved_to desk Idle, ended reply.Worn))) (nat_lt (slot_of w) last_number) (λ _. tt) (λ _. tt))
+      (λ _. tt))
 
   decided_good : (desk : Desk) (call : WriterCall) (rows : List Row) (polls : List Poll) → polls ≡ [] → Good polls (decided shape desk call rows)
   decided_good desk (Find k) rows polls none = tt
-  decided_good desk (Fill k new) rows polls none = tt
+  decided_good desk (Fill k number new) rows polls none = tt
   decided_good desk (Evict k) rows polls none = tt
-  decided_good desk (Update k b) rows polls none = go (applied shape.bound rows b)
+  decided_good desk (Cancel k) rows polls none = tt
+  decided_good desk (Update k b) rows polls none = go (applied (bound_of shape) rows b)
     where
       go : (a : Result (List Row) ApplyFault) → Good polls (renewed shape desk (Update k b) a)
       go (Ok new) = settle_good desk (Update k b) new polls none
       go (Err f) = tt
 
   read_good : (desk : Desk) (call : WriterCall) (s : ℕ) (got : List ℕ) (polls : List Poll) → polls ≡ [] → Good polls (read_on shape desk call s got)
-  read_good desk call s got polls none = by_cases (λ v. Good polls (cond {A = Desk × Step} v (decided shape desk call (set_of shape.bound got)) (moved_to desk (Reading call s got), Going))) (nat_eq (length got) (2 * get_or got 0 0 + 1)) (λ _. decided_good desk call (set_of shape.bound got) polls none) (λ _. none)
+  read_good desk call s got polls none = by_cases (λ v. Good polls (cond {A = Desk × Step} v (decided shape desk call (set_of (bound_of shape) got)) (moved_to desk (Reading call s got), Going))) (nat_eq (length got) (2 * get_or got 0 0 + 1)) (λ _. decided_good desk call (set_of (bound_of shape) got) polls none) (λ _. none)
 
 got_or : (l : List Hold) (j : ℕ) (x : Hold) → get_elem? l j ≡ some x → (get_or l j hold.Nothing ≡ x) × (j < length l)
 got_or [] j x e = absurd (some-ne-none x (sym e))
@@ -246,17 +256,18 @@ has_holder x = 0 < length x.holders
 -- the writer's step after its look
 go_swept : (state : State) (log : List Entry) (polls : List Poll) → IsCoreState state log → Swept state polls → (p : Place) → state.desk.place ≡ p → (w : ℕ) → w ≡ get_or state.words (place_of (going state.shape state.desk p)) 0 → (words : List ℕ)
     → let desk' = (went state.shape state.desk p w).0 in Swept (record { shape = state.shape; words = words; holds = state.holds; desk = desk' })
-    (elim p as (λ _. List Poll) [ Idle ↦ polls | Reading call s got ↦ polls | Leaving k ↦ polls | Searching call rows i ↦ cond (nat_eq (w % 2 ^ 40) ((retired_at state.desk i).arrivals % 2 ^ 40)) polls (polls ++ poll_at state i ∷ []) | Putting call rows s e i ↦ polls ])
+    (elim p as (λ _. List Poll) [ Idle ↦ polls | Reading call s got ↦ polls | Leaving k ↦ polls | Withdrawing k ↦ polls | Searching call rows i ↦ cond (nat_eq (w % 2 ^ 40) ((retired_at state.desk i).arrivals % 2 ^ 40)) polls (polls ++ poll_at state i ∷ []) | Putting call rows s e i ↦ polls ])
 go_swept state log polls is_core s Idle is w w_is words = record { few = s.few; sweep = subst (λ (p : Place). AtSweep (with_desk state.shape words state.holds state.desk) polls p) (sym is) tt; held = s.held }
 go_swept state log polls is_core s (Reading call t got) is w w_is words = record { few = s.few; sweep = read_good state.shape words state.holds state.desk call t (got ++ w ∷ []) polls (subst (AtSweep state polls) is s.sweep); held = s.held }
 go_swept state log polls is_core s (Leaving k) is w w_is words = record { few = s.few; sweep = tt; held = s.held }
+go_swept state log polls is_core s (Withdrawing k) is w w_is words = record { few = s.few; sweep = tt; held = s.held }
 go_swept state log polls is_core s (Putting call rows t e i) is w w_is words = record { few = s.few; sweep = by_cases (λ v. Good state.shape words state.holds polls (cond {A = Desk × Step} v (moved_to state.desk (Putting call rows t e (i + 1)), Going) (swapped state.desk w, ended reply.Done))) (nat_le i (2 * length rows)) (λ _. tt) (λ _. tt); held = s.held }
 go_swept state log polls is_core sw (Searching call rows p) is w w_is words =
     let shape = state.shape in let desk = state.desk in let z = get_or desk.retired p no_retired in let s = z.slot in let n : Notes state polls p = subst (AtSweep state polls) is sw.sweep in
     let known = is_core.core.knows 0 (Writer desk) is_core.fit.writer in
     let at_p : AtPlace shape state.words (map_after shape log) (held is_core.roles) desk.fresh desk.retired (Searching call rows p) = subst (AtPlace shape state.words (map_after shape log) (held is_core.roles) desk.fresh desk.retired) is known.place in let within = at_p.1 in
     let count = (known.retired p z (got_at desk.retired p no_retired within)).1 in
-    let Taken : Desk = record { place = Putting call rows s w 0; fresh = desk.fresh; retired = take p desk.retired ++ drop (suc p) desk.retired } in
+    let Taken : Desk = taking_retired desk call rows p w in
     let Rest : Desk × Step = cond {A = Desk × Step} (nat_lt (p + 1) (length desk.retired)) (moved_to desk (Searching call rows (p + 1)), Going) (moved_to desk Idle, no_slot shape desk) in
     by_cases (λ v. Swept (with_desk shape words state.holds (cond {A = Desk × Step} v (Taken, Going) Rest).0) (cond v polls (polls ++ poll_at state p ∷ []))) (nat_eq (w % 2 ^ 40) (z.arrivals % 2 ^ 40))
     (λ _. record { few = sw.few; sweep = tt; held = sw.held })

@@ -3,7 +3,7 @@ use Rattle.std.proofs.Common.{List, [], ap, arith, cond, false, length, nat_eq, 
 use Rattle.std.proofs.lemmas.Bool.{eqb-true, ltb-false}
 use Rattle.std.specs.Prelude.{Err, Ok, Result, nat_lt}
 use Rattle.nr_model.specs.Batches.{applied}
-use Rattle.nr_model.specs.Maps.{applied_reply, fill_reply, reply_at}
+use Rattle.nr_model.specs.Maps.{applied_reply, cancel_reply, fill_reply, last_number, reply_at}
 use Rattle.nr_model.specs.declared.batches.ApplyFault.{ApplyFault}
 use Rattle.nr_model.specs.declared.calls.Reply.{Reply}
 use Rattle.nr_model.specs.declared.rows.Row.{Row}
@@ -13,15 +13,16 @@ use Rattle.nr_core.proofs.Choices.{by_cases}
 use Rattle.nr_core.proofs.KeyWords.{names_one}
 use Rattle.nr_core.specs.Core.{ShowsState}
 use Rattle.nr_core.specs.Machine.{answer}
+use Rattle.nr_core.specs.Slots.{bound_of}
 use Rattle.nr_core.specs.States.{retired_at}
 use Rattle.nr_core.specs.Story.{call_of}
-use Rattle.nr_core.specs.Writer.{decided, ended, looked, moved_to, no_slot, polled, polls_on, renewed, settled, taking_fresh, taking_retired}
+use Rattle.nr_core.specs.Writer.{cancel_asked, decided, ended, fill_asked, looked, moved_to, no_slot, polled, polls_on, renewed, settled, taking_fresh, taking_retired}
 use Rattle.nr_core.specs.declared.calls.NoSlot.{NoSlot}
 use Rattle.nr_core.specs.declared.calls.Step.{Step}
 use Rattle.nr_core.specs.declared.calls.Step.TheVariants.{Ended, Going}
 use Rattle.nr_core.specs.declared.calls.WriterCall.{WriterCall}
-use Rattle.nr_core.specs.declared.calls.WriterCall.TheVariants.{Evict, Fill, Find, Update}
-use Rattle.nr_core.specs.declared.places.Place.TheVariants.{Idle, Leaving, Reading, Searching}
+use Rattle.nr_core.specs.declared.calls.WriterCall.TheVariants.{Cancel, Evict, Fill, Find, Update}
+use Rattle.nr_core.specs.declared.places.Place.TheVariants.{Idle, Leaving, Reading, Searching, Withdrawing}
 use Rattle.nr_core.specs.declared.roles.Desk.{Desk}
 use Rattle.nr_core.specs.declared.shape.Shape.{Shape}
 use Rattle.nr_model.specs.declared.states.KeyState.TheVariants as key
@@ -64,41 +65,54 @@ module _ (shape : Shape) (desk : Desk) (counts : NoSlot) where
 
   -- a look ends so at a fill of an asked key alone
   pub look_none : (call : WriterCall) (w : ℕ) → IsWithout counts (looked shape desk call w)
-      → NoneLeft shape desk (looked shape desk call w) counts × (shape.slots ≤ desk.fresh) × (length desk.retired ≡ 0) × ((state : KeyState) (words : List ℕ) → ShowsState shape words w state → reply_at shape.bound (call_of call) state ≡ reply.Done)
+      → NoneLeft shape desk (looked shape desk call w) counts × (shape.slots ≤ desk.fresh) × (length desk.retired ≡ 0) × ((state : KeyState) (words : List ℕ) → ShowsState shape words w state → reply_at (bound_of shape) (call_of call) state ≡ reply.Done)
   look_none (Find k) w = by_cases (λ v. let o = cond {A = Desk × Step} v (moved_to desk (Reading (Find k) (slot_of w) []), Going) (moved_to desk Idle, ended reply.Hole) in
-      IsWithout counts o → NoneLeft shape desk o counts × (shape.slots ≤ desk.fresh) × (length desk.retired ≡ 0) × ((state : KeyState) (words : List ℕ) → ShowsState shape words w state → reply_at shape.bound (model.Find k) state ≡ reply.Done)) (is_filled w)
+      IsWithout counts o → NoneLeft shape desk o counts × (shape.slots ≤ desk.fresh) × (length desk.retired ≡ 0) × ((state : KeyState) (words : List ℕ) → ShowsState shape words w state → reply_at (bound_of shape) (model.Find k) state ≡ reply.Done)) (is_filled w)
       (λ _ e. absurd (not_going counts e)) (λ _ e. absurd (not_reply counts reply.Hole e))
   look_none (Update k batch) w = by_cases (λ v. let o = cond {A = Desk × Step} v (moved_to desk (Reading (Update k batch) (slot_of w) []), Going) (moved_to desk Idle, ended reply.Dropped) in
-      IsWithout counts o → NoneLeft shape desk o counts × (shape.slots ≤ desk.fresh) × (length desk.retired ≡ 0) × ((state : KeyState) (words : List ℕ) → ShowsState shape words w state → reply_at shape.bound (model.Update k batch) state ≡ reply.Done)) (is_filled w)
+      IsWithout counts o → NoneLeft shape desk o counts × (shape.slots ≤ desk.fresh) × (length desk.retired ≡ 0) × ((state : KeyState) (words : List ℕ) → ShowsState shape words w state → reply_at (bound_of shape) (model.Update k batch) state ≡ reply.Done)) (is_filled w)
       (λ _ e. absurd (not_going counts e)) (λ _ e. absurd (not_reply counts reply.Dropped e))
   look_none (Evict k) w = by_cases (λ v. let o = cond {A = Desk × Step} v (moved_to desk (Leaving k), Going) (moved_to desk Idle, ended reply.Nothing) in
-      IsWithout counts o → NoneLeft shape desk o counts × (shape.slots ≤ desk.fresh) × (length desk.retired ≡ 0) × ((state : KeyState) (words : List ℕ) → ShowsState shape words w state → reply_at shape.bound (model.Evict k) state ≡ reply.Done)) (is_filled w)
+      IsWithout counts o → NoneLeft shape desk o counts × (shape.slots ≤ desk.fresh) × (length desk.retired ≡ 0) × ((state : KeyState) (words : List ℕ) → ShowsState shape words w state → reply_at (bound_of shape) (model.Evict k) state ≡ reply.Done)) (is_filled w)
       (λ _ e. absurd (not_going counts e)) (λ _ e. absurd (not_reply counts reply.Nothing e))
-  look_none (Fill k rows) w = by_cases (λ v. is_filled w ≡ v → let o = cond {A = Desk × Step} v (moved_to desk Idle, ended reply.Already) (cond {A = Desk × Step} (has_ask w) (settled shape desk (Fill k rows) rows) (moved_to desk Idle, ended reply.NotAsked)) in
-      IsWithout counts o → NoneLeft shape desk o counts × (shape.slots ≤ desk.fresh) × (length desk.retired ≡ 0) × ((state : KeyState) (words : List ℕ) → ShowsState shape words w state → reply_at shape.bound (model.Fill k rows) state ≡ reply.Done)) (is_filled w)
+  look_none (Fill k number rows) w = by_cases (λ v. is_filled w ≡ v → let o = cond {A = Desk × Step} v (moved_to desk Idle, ended reply.Already) (cond {A = Desk × Step} (has_ask w) (fill_asked shape desk (Fill k number rows) number rows (slot_of w)) (moved_to desk Idle, ended reply.NotAsked)) in
+      IsWithout counts o → NoneLeft shape desk o counts × (shape.slots ≤ desk.fresh) × (length desk.retired ≡ 0) × ((state : KeyState) (words : List ℕ) → ShowsState shape words w state → fill_reply number state ≡ reply.Done)) (is_filled w)
       (λ _ _ e. absurd (not_reply counts reply.Already e))
-      (λ unfilled _. by_cases (λ v. let o = cond {A = Desk × Step} v (settled shape desk (Fill k rows) rows) (moved_to desk Idle, ended reply.NotAsked) in
-      IsWithout counts o → NoneLeft shape desk o counts × (shape.slots ≤ desk.fresh) × (length desk.retired ≡ 0) × ((state : KeyState) (words : List ℕ) → ShowsState shape words w state → reply_at shape.bound (model.Fill k rows) state ≡ reply.Done)) (has_ask w)
-      (λ asked e. let n = settle_none (Fill k rows) rows e in (n.0, n.1, n.2, λ state words shows. asked_state_of state words shows unfilled asked))
+      (λ unfilled _. by_cases (λ v. let o = cond {A = Desk × Step} v (fill_asked shape desk (Fill k number rows) number rows (slot_of w)) (moved_to desk Idle, ended reply.NotAsked) in
+      IsWithout counts o → NoneLeft shape desk o counts × (shape.slots ≤ desk.fresh) × (length desk.retired ≡ 0) × ((state : KeyState) (words : List ℕ) → ShowsState shape words w state → fill_reply number state ≡ reply.Done)) (has_ask w)
+      (λ asked. by_cases (λ v. let o = cond {A = Desk × Step} v (settled shape desk (Fill k number rows) rows) (moved_to desk Idle, ended reply.Stale) in
+      IsWithout counts o → NoneLeft shape desk o counts × (shape.slots ≤ desk.fresh) × (length desk.retired ≡ 0) × ((state : KeyState) (words : List ℕ) → ShowsState shape words w state → fill_reply number state ≡ reply.Done)) (nat_eq (slot_of w) number)
+      (λ own e. let n = settle_none (Fill k number rows) rows e in (n.0, n.1, n.2, λ state words shows. asked_state_of state words shows unfilled asked own))
+      (λ _ e. absurd (not_reply counts reply.Stale e)))
       (λ _ e. absurd (not_reply counts reply.NotAsked e)))
       refl
     where
-      asked_state_of : (state : KeyState) (words : List ℕ) → ShowsState shape words w state → is_filled w ≡ false → has_ask w ≡ true → fill_reply state ≡ reply.Done
-      asked_state_of key.Hole words shows unfilled asked = let odd : w % 2 ≡ 1 = eqb-true (w % 2) 1 asked in let even = shows.1 in absurd (omega arith)
-      asked_state_of key.Asked words shows unfilled asked = refl
-      asked_state_of (key.Rows rows') words shows unfilled asked = absurd (let n : 1 ≡ 0 = ap (λ v. cond {A = ℕ} v 1 0) (sym (names_one w shows.0 shows.1).0 ∙ unfilled) in omega arith)
+      asked_state_of : (state : KeyState) (words : List ℕ) → ShowsState shape words w state → is_filled w ≡ false → has_ask w ≡ true → nat_eq (slot_of w) number ≡ true → fill_reply number state ≡ reply.Done
+      asked_state_of (key.Hole n) words shows unfilled asked own = let odd : w % 2 ≡ 1 = eqb-true (w % 2) 1 asked in let even = shows.1 in absurd (omega arith)
+      asked_state_of (key.Asked n) words shows unfilled asked own = ap (λ v. cond {A = Reply} v reply.Done reply.Stale) (ap (λ (m : ℕ). nat_eq m number) (sym shows.2) ∙ own)
+      asked_state_of (key.Rows n rows') words shows unfilled asked own = absurd (let n : 1 ≡ 0 = ap (λ v. cond {A = ℕ} v 1 0) (sym (names_one w shows.0 shows.1).0 ∙ unfilled) in omega arith)
+  look_none (Cancel k) w = by_cases (λ v. let o = cond {A = Desk × Step} v (moved_to desk Idle, ended reply.Nothing) (cond {A = Desk × Step} (has_ask w) (cancel_asked desk k (slot_of w)) (moved_to desk Idle, ended reply.Nothing)) in
+      IsWithout counts o → NoneLeft shape desk o counts × (shape.slots ≤ desk.fresh) × (length desk.retired ≡ 0) × ((state : KeyState) (words : List ℕ) → ShowsState shape words w state → cancel_reply state ≡ reply.Done)) (is_filled w)
+      (λ _ e. absurd (not_reply counts reply.Nothing e))
+      (λ _. by_cases (λ v. let o = cond {A = Desk × Step} v (cancel_asked desk k (slot_of w)) (moved_to desk Idle, ended reply.Nothing) in
+      IsWithout counts o → NoneLeft shape desk o counts × (shape.slots ≤ desk.fresh) × (length desk.retired ≡ 0) × ((state : KeyState) (words : List ℕ) → ShowsState shape words w state → cancel_reply state ≡ reply.Done)) (has_ask w)
+      (λ _. by_cases (λ v. let o = cond {A = Desk × Step} v (moved_to desk (Withdrawing k), Going) (moved_to desk Idle, ended reply.Worn) in
+      IsWithout counts o → NoneLeft shape desk o counts × (shape.slots ≤ desk.fresh) × (length desk.retired ≡ 0) × ((state : KeyState) (words : List ℕ) → ShowsState shape words w state → cancel_reply state ≡ reply.Done)) (nat_lt (slot_of w) last_number)
+      (λ _ e. absurd (not_going counts e)) (λ _ e. absurd (not_reply counts reply.Worn e)))
+      (λ _ e. absurd (not_reply counts reply.Nothing e)))
 
   -- a last read ends so where an update has a new set
   pub decided_none : (call : WriterCall) (rows : List Row) → IsWithout counts (decided shape desk call rows)
-      → NoneLeft shape desk (decided shape desk call rows) counts × (shape.slots ≤ desk.fresh) × (length desk.retired ≡ 0) × (reply_at shape.bound (call_of call) (key.Rows rows) ≡ reply.Done)
+      → NoneLeft shape desk (decided shape desk call rows) counts × (shape.slots ≤ desk.fresh) × (length desk.retired ≡ 0) × ((number : ℕ) → reply_at (bound_of shape) (call_of call) (key.Rows number rows) ≡ reply.Done)
   decided_none (Find k) rows e = absurd (not_reply counts (reply.Rows rows) e)
-  decided_none (Fill k new) rows e = absurd (not_going counts e)
+  decided_none (Fill k number new) rows e = absurd (not_going counts e)
   decided_none (Evict k) rows e = absurd (not_going counts e)
-  decided_none (Update k batch) rows e = go (applied shape.bound rows batch) refl e
+  decided_none (Cancel k) rows e = absurd (not_going counts e)
+  decided_none (Update k batch) rows e = go (applied (bound_of shape) rows batch) refl e
     where
-      go : (a : Result (List Row) ApplyFault) → applied shape.bound rows batch ≡ a → IsWithout counts (renewed shape desk (Update k batch) a)
-          → NoneLeft shape desk (renewed shape desk (Update k batch) a) counts × (shape.slots ≤ desk.fresh) × (length desk.retired ≡ 0) × (applied_reply a ≡ reply.Done)
-      go (Ok new) is e' = let n = settle_none (Update k batch) new e' in (n.0, n.1, n.2, refl)
+      go : (a : Result (List Row) ApplyFault) → applied (bound_of shape) rows batch ≡ a → IsWithout counts (renewed shape desk (Update k batch) a)
+          → NoneLeft shape desk (renewed shape desk (Update k batch) a) counts × (shape.slots ≤ desk.fresh) × (length desk.retired ≡ 0) × ((number : ℕ) → applied_reply a ≡ reply.Done)
+      go (Ok new) is e' = let n = settle_none (Update k batch) new e' in (n.0, n.1, n.2, λ number. refl)
       go (Err why) is e' = absurd (not_reply counts (applied_reply (Err why)) e')
 
   -- the last poll of a search

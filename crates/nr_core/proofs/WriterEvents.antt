@@ -12,6 +12,7 @@ use Rattle.nr_core.specs.Laws.{IsGivenCall}
 use Rattle.nr_core.specs.Machine.{moved}
 use Rattle.nr_core.specs.Operations.{Load, going, place_of}
 use Rattle.nr_core.specs.Refusals.{has_key, if_busy, refusal}
+use Rattle.nr_core.specs.Slots.{bound_of}
 use Rattle.nr_core.specs.States.{Go, Start, State, key_of}
 use Rattle.nr_core.specs.Steps.{Goes, Looks}
 use Rattle.nr_core.specs.Story.{call_of, ending, ending_at, told}
@@ -20,7 +21,7 @@ use Rattle.nr_core.specs.declared.calls.WriterCall.{WriterCall}
 use Rattle.nr_core.specs.declared.roles.Role.TheVariants.{Writer}
 use Rattle.nr_core.specs.declared.calls.Refusal.TheVariants as refuse
 
-pub after_start : (state : State) (log : List Entry) (call : WriterCall) → IsGivenCall state.shape.bound call → IsCoreState state log → refusal state (Start call) ≡ None → IsCoreState (moved state (Start call)) (log ++ told state (Start call))
+pub after_start : (state : State) (log : List Entry) (call : WriterCall) → IsGivenCall (bound_of state.shape) call → IsCoreState state log → refusal state (Start call) ≡ None → IsCoreState (moved state (Start call)) (log ++ told state (Start call))
 after_start state log call given is_core ok = let shape = state.shape in let words = state.words in let roles = is_core.roles in let f = is_core.fit in
     let g = guard (has_key shape (key_of call)) (if_busy state.desk.place) refuse.OutOfRange ok in let o = looked shape state.desk call (get_or words (key_of call) 0) in
     let step = looks shape 0 state.desk call (is_idle state.desk.place g.1) given (ltb-true (key_of call) shape.keys g.0) words roles log is_core.core f.writer in record {

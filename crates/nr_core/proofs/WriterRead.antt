@@ -7,7 +7,7 @@ use mathlib.Core.Option.{some}
 use Rattle.nr_model.proofs.LawLemmas.{batch_moves_rows_lem}
 use Rattle.nr_model.specs.Batches.{applied}
 use Rattle.nr_model.specs.Histories.{Entry}
-use Rattle.nr_model.specs.Maps.{applied_reply, reply_at, rows_or, state_after, state_of}
+use Rattle.nr_model.specs.Maps.{applied_reply, number_of, reply_at, rows_or, state_after, state_of}
 use Rattle.nr_model.specs.Rows.{IsRowSet}
 use Rattle.nr_model.specs.declared.batches.ApplyFault.{ApplyFault}
 use Rattle.nr_model.specs.declared.rows.Row.{Row}
@@ -19,7 +19,7 @@ use Rattle.nr_core.proofs.ReadThrough.{length-got_next, read_first, read_next, r
 use Rattle.nr_core.proofs.Settle.{ends, goes_on, idle_desk, settles}
 use Rattle.nr_core.specs.Core.{AtDesk, AtPlace, Core, Reads}
 use Rattle.nr_core.specs.Roles.{held, keeps, taken}
-use Rattle.nr_core.specs.Slots.{content, set_of, unused}
+use Rattle.nr_core.specs.Slots.{bound_of, content, set_of, unused}
 use Rattle.nr_core.specs.States.{key_of}
 use Rattle.nr_core.specs.Story.{call_of, ending, map_after}
 use Rattle.nr_core.specs.Sums.{only, total}
@@ -27,7 +27,7 @@ use Rattle.nr_core.specs.Writer.{decided, moved_to, read_on, renewed}
 use Rattle.nr_core.specs.declared.calls.Step.{Step}
 use Rattle.nr_core.specs.declared.calls.Step.TheVariants.{Going}
 use Rattle.nr_core.specs.declared.calls.WriterCall.{WriterCall}
-use Rattle.nr_core.specs.declared.calls.WriterCall.TheVariants.{Evict, Fill, Find, Update}
+use Rattle.nr_core.specs.declared.calls.WriterCall.TheVariants.{Cancel, Evict, Fill, Find, Update}
 use Rattle.nr_core.specs.declared.places.Place.{Place}
 use Rattle.nr_core.specs.declared.places.Place.TheVariants.{Idle, Reading}
 use Rattle.nr_core.specs.declared.places.Retired.{Retired}
@@ -39,25 +39,26 @@ use Rattle.nr_model.specs.declared.states.KeyState.TheVariants as key
 use Rattle.nr_model.specs.declared.calls.Call.TheVariants as model
 use Rattle.nr_model.specs.declared.calls.Reply.TheVariants as reply
 
-decide_all : (shape : Shape) (words : List ℕ) (roles : List Role) (log : List Entry) (core : Core shape words roles log) (id : ℕ) (desk : Desk) (there : get_elem? roles id ≡ some (Writer desk)) (place : ℕ) (call : WriterCall) (rows : List Row) → key_of call < shape.keys → state_of (map_after shape log) (key_of call) ≡ key.Rows rows → IsRowSet shape.bound rows
+decide_all : (shape : Shape) (words : List ℕ) (roles : List Role) (log : List Entry) (core : Core shape words roles log) (id : ℕ) (desk : Desk) (there : get_elem? roles id ≡ some (Writer desk)) (place : ℕ) (call : WriterCall) (rows : List Row) → key_of call < shape.keys → (number : ℕ) → state_of (map_after shape log) (key_of call) ≡ key.Rows number rows → IsRowSet (bound_of shape) rows
     → ((u : ℕ) → keeps u (Writer (moved_to desk Idle)) ≡ keeps u (Writer desk)) → AtDesk shape words (map_after shape log) (held roles) (moved_to desk Idle)
     → Core shape (set words place (get_or words place 0)) (set roles id (Writer (decided shape desk call rows).0)) (log ++ ending (call_of call) (decided shape desk call rows).1)
-decide_all shape words roles log core id desk there place (Find k) rows near full row_set same idle = ends shape words roles log core id desk there place (moved_to desk Idle) (model.Find k) (reply.Rows rows) near (ap (reply_at shape.bound (model.Find k)) full) refl same idle
-decide_all shape words roles log core id desk there place (Fill k new) rows near full row_set same idle = goes_on shape words roles log core id desk there place (moved_to desk Idle) same idle
-decide_all shape words roles log core id desk there place (Evict k) rows near full row_set same idle = goes_on shape words roles log core id desk there place (moved_to desk Idle) same idle
-decide_all shape words roles log core id desk there place (Update k batch) rows near full row_set same idle = let call = Update k batch in let c = model.Update k batch in let z = state_of (map_after shape log) k in
-    let go : (a : Result (List Row) ApplyFault) → applied shape.bound rows batch ≡ a → Core shape (set words place (get_or words place 0)) (set roles id (Writer (renewed shape desk call a).0)) (log ++ ending c (renewed shape desk call a).1)
-    = λ a. elim a as (λ v. applied shape.bound rows batch ≡ v → Core shape (set words place (get_or words place 0)) (set roles id (Writer (renewed shape desk call v).0)) (log ++ ending c (renewed shape desk call v).1)) [
+decide_all shape words roles log core id desk there place (Find k) rows near number full row_set same idle = ends shape words roles log core id desk there place (moved_to desk Idle) (model.Find k) (reply.Rows rows) near (ap (reply_at (bound_of shape) (model.Find k)) full) refl same idle
+decide_all shape words roles log core id desk there place (Fill k asked new) rows near number full row_set same idle = goes_on shape words roles log core id desk there place (moved_to desk Idle) same idle
+decide_all shape words roles log core id desk there place (Evict k) rows near number full row_set same idle = goes_on shape words roles log core id desk there place (moved_to desk Idle) same idle
+decide_all shape words roles log core id desk there place (Cancel k) rows near number full row_set same idle = goes_on shape words roles log core id desk there place (moved_to desk Idle) same idle
+decide_all shape words roles log core id desk there place (Update k batch) rows near number full row_set same idle = let call = Update k batch in let c = model.Update k batch in let z = state_of (map_after shape log) k in
+    let go : (a : Result (List Row) ApplyFault) → applied (bound_of shape) rows batch ≡ a → Core shape (set words place (get_or words place 0)) (set roles id (Writer (renewed shape desk call a).0)) (log ++ ending c (renewed shape desk call a).1)
+    = λ a. elim a as (λ v. applied (bound_of shape) rows batch ≡ v → Core shape (set words place (get_or words place 0)) (set roles id (Writer (renewed shape desk call v).0)) (log ++ ending c (renewed shape desk call v).1)) [
       | Ok new ↦ λ is. settles shape words roles log core id desk there place call new same (record {
         near = near;
-        row_set = (batch_moves_rows_lem shape.bound rows new batch row_set.0 is).0;
-        no_hole = not_hole z rows full;
-        done = ap (reply_at shape.bound c) full ∙ ap applied_reply is;
-        leaves = ap (state_after shape.bound c) full ∙ ap (λ (r : Result (List Row) ApplyFault). key.Rows (rows_or r rows)) is;
+        row_set = (batch_moves_rows_lem (bound_of shape) rows new batch row_set.0 is).0;
+        no_hole = not_hole z number rows full;
+        done = ap (reply_at (bound_of shape) c) full ∙ ap applied_reply is;
+        leaves = ap (state_after (bound_of shape) c) full ∙ ap (λ (r : Result (List Row) ApplyFault). key.Rows number (rows_or r rows)) is ∙ ap (λ (m : ℕ). key.Rows m new) (sym (ap number_of full));
       })
-      | Err f ↦ λ is. ends shape words roles log core id desk there place (moved_to desk Idle) c (applied_reply (Err f)) near (ap (reply_at shape.bound c) full ∙ ap applied_reply is)
-          (ap (state_after shape.bound c) full ∙ ap (λ (r : Result (List Row) ApplyFault). key.Rows (rows_or r rows)) is ∙ sym full) same idle
-    ] in go (applied shape.bound rows batch) refl
+      | Err f ↦ λ is. ends shape words roles log core id desk there place (moved_to desk Idle) c (applied_reply (Err f)) near (ap (reply_at (bound_of shape) c) full ∙ ap applied_reply is)
+          (ap (state_after (bound_of shape) c) full ∙ ap (λ (r : Result (List Row) ApplyFault). key.Rows number (rows_or r rows)) is ∙ sym full) same idle
+    ] in go (applied (bound_of shape) rows batch) refl
 
 pub reads_on : (shape : Shape) (words : List ℕ) (roles : List Role) (log : List Entry) (core : Core shape words roles log) (id : ℕ) (desk : Desk) → get_elem? roles id ≡ some (Writer desk) → (call : WriterCall) (slot : ℕ) (got : List ℕ) → desk.place ≡ Reading call slot got
     → let place = content shape slot (length got) in let o = read_on shape desk call slot (got ++ get_or words place 0 ∷ []) in
@@ -71,14 +72,15 @@ reads_on shape words roles log core id desk there call slot got is_at = let know
     let keeps_so : (u : ℕ) → keeps u (Writer (moved_to desk Idle)) ≡ keeps u (Writer desk) = λ u. ap (λ (y : Place). unused u desk.fresh + total (λ (x : Retired). only u x.slot) desk.retired + taken u y) (sym is_at) in
     let idle = idle_desk shape words map (held roles) desk known in let size = length-row_words reading.rows in
     let Good : Desk × Step → Type 0 = λ o. Core shape (set words place found) (set roles id (Writer o.0)) (log ++ ending (call_of call) o.1) in
-    by_cases (λ v. Good (cond {A = Desk × Step} v (decided shape desk call (set_of shape.bound got')) (moved_to desk (Reading call slot got'), Going))) (nat_eq (length got') (2 * get_or got' 0 0 + 1))
+    by_cases (λ v. Good (cond {A = Desk × Step} v (decided shape desk call (set_of (bound_of shape) got')) (moved_to desk (Reading call slot got'), Going))) (nat_eq (length got') (2 * get_or got' 0 0 + 1))
     (λ yes. let whole : length got' ≡ 2 * get_or got' 0 0 + 1 = eqb-true (length got') (2 * get_or got' 0 0 + 1) yes in
     subst (λ (l : List Row). Good (decided shape desk call l)) (sym (read_whole shape words roles log core (key_of call) slot got reading whole))
-    (decide_all shape words roles log core id desk there place call reading.rows reading.near reading.full (read_set shape words roles log core (key_of call) slot got reading) keeps_so idle))
+    (decide_all shape words roles log core id desk there place call reading.rows reading.near reading.number reading.full (read_set shape words roles log core (key_of call) slot got reading) keeps_so idle))
     (λ no. let unfinished : length got' ≢ 2 * get_or got' 0 0 + 1 = eqb-false (length got') (2 * get_or got' 0 0 + 1) no in let more = reading.more in
     let same_len : suc (length got) ≡ length got' = omega arith in goes_on shape words roles log core id desk there place (moved_to desk (Reading call slot got')) keeps_so (record {
-      place = record { near = reading.near; names = reading.names; rows = reading.rows; full = reading.full; part = read_next shape words roles log core (key_of call) slot got reading ∙ ap (λ (n : ℕ). take n (encode reading.rows)) same_len; more = omega arith };
+      place = record { near = reading.near; names = reading.names; number = reading.number; rows = reading.rows; full = reading.full; part = read_next shape words roles log core (key_of call) slot got reading ∙ ap (λ (n : ℕ). take n (encode reading.rows)) same_len; more = omega arith };
       room = known.room;
       free = known.free;
       retired = known.retired;
+      numbers = known.numbers;
     }))

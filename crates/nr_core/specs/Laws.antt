@@ -5,35 +5,35 @@ use Rattle.nr_model.specs.declared.calls.Reply.TheVariants as reply
 use Rattle.nr_model.specs.declared.calls.Call.TheVariants as model
 use Rattle.nr_model.specs.Rows.{IsRowSet}
 use Rattle.nr_model.specs.Maps.{PartialMap, state_of, reply_to, filled_count}
-use Rattle.nr_model.specs.Maps.{opening as opening_map}
-use Rattle.nr_model.specs.Histories.{Entry, IsLegal, entries_of, sends, fills}
+use Rattle.nr_model.specs.Histories.{Entry, IsLegal, entries_of, sends, fills, cancels}
 use Rattle.nr_model.specs.Laws.{pending}
 use Rattle.nr_core.specs.declared.shape.Shape.{Shape}
 use Rattle.nr_core.specs.declared.calls.NoSlot.{NoSlot}
 use Rattle.nr_core.specs.declared.calls.WriterCall.{WriterCall}
-use Rattle.nr_core.specs.declared.calls.WriterCall.TheVariants.{Find, Fill, Update, Evict}
+use Rattle.nr_core.specs.declared.calls.WriterCall.TheVariants.{Find, Fill, Update, Evict, Cancel}
 use Rattle.nr_core.specs.declared.calls.WReply.TheVariants as writer
 use Rattle.nr_core.specs.declared.calls.Step.TheVariants.{Ended}
 use Rattle.nr_core.specs.declared.places.Hold.TheVariants.{On}
 use Rattle.nr_core.specs.declared.places.Retired.{Retired}
 use Rattle.nr_core.specs.declared.places.Place.{Place}
-use Rattle.nr_core.specs.declared.places.Place.TheVariants.{Idle, Reading, Leaving, Searching, Putting}
+use Rattle.nr_core.specs.declared.places.Place.TheVariants.{Idle, Reading, Leaving, Withdrawing, Searching, Putting}
 use Rattle.nr_words.specs.SetWords.{encode}
-use Rattle.nr_core.specs.Slots.{content, slot_room}
+use Rattle.nr_core.specs.Slots.{bound_of, content, slot_room}
 use Rattle.nr_core.specs.States.{State, Event, Arrive, Read, Depart, Ask, Start, Go, word, hold_of}
 use Rattle.nr_core.specs.Refusals.{refusal}
 use Rattle.nr_core.specs.Operations.{Operation, Load, place_of, becomes, operation}
 use Rattle.nr_core.specs.Machine.{next, run, unless, read_answer, start_answer, go_answer}
-use Rattle.nr_core.specs.Story.{Story, Poll, story_of, tell, told, shown, entry, call_of, map_after}
+use Rattle.nr_core.specs.Story.{Story, Poll, story_of, tell, told, shown, entry, call_of, map_after, opening_map}
 use Rattle.nr_core.specs.Sizes.{IsShape}
 use Rattle.nr_core.specs.Accounts.{Accounted}
 
 -- the sets that fills bring are row sets
 abbrev pub IsGivenCall : ℕ → WriterCall → Type 0
 IsGivenCall bound (Find at) = Unit {0}
-IsGivenCall bound (Fill at rows) = IsRowSet bound rows
+IsGivenCall bound (Fill at number rows) = IsRowSet bound rows
 IsGivenCall bound (Update at batch) = Unit {0}
 IsGivenCall bound (Evict at) = Unit {0}
+IsGivenCall bound (Cancel at) = Unit {0}
 
 abbrev pub IsGiven : ℕ → Event → Type 0
 IsGiven bound (Arrive reader at) = Unit {0}
@@ -61,19 +61,19 @@ pub record HoldsFound (story : Story) (reader slot : ℕ) (size : Option ℕ) : 
   pub rows : List Row
   pub before : List Entry
   pub found : entries_of story.history reader ≡ before ++ entry reader (model.Find at) (reply.Rows rows) ∷ []
-  pub row_set : IsRowSet story.state.shape.bound rows
+  pub row_set : IsRowSet (bound_of story.state.shape) rows
   pub spelt : (index : ℕ) → index < length (encode rows) → word story.state (content story.state.shape slot index) ≡ slice_index (encode rows) index
   pub known : (size ≡ None) ⊎ (size ≡ Some (length rows))
   pub reads : (index : ℕ) → refusal story.state (Read reader index) ≡ None → read_answer story.state reader index ≡ Ok (slice_index (encode rows) index)
 
 -- what stands between any two steps
 pub record Stands (story : Story) : Type 0 where
-  pub legal : IsLegal (opening_map story.state.shape.keys story.state.shape.bound) story.history
+  pub legal : IsLegal (opening_map story.state.shape) story.history
   pub shows : Shows story.state (map_of story)
   pub accounted : Accounted story.state
   pub held : (reader slot : ℕ) (size : Option ℕ) → 0 < reader → hold_of story.state reader ≡ On slot size → HoldsFound story reader slot size
-  -- each request that was sent was filled once, but the one that is pending
-  pub sent : (at : ℕ) → at < story.state.shape.keys → sends story.history at ≡ fills story.history at + pending (state_of (map_of story) at)
+  -- each request that was sent was filled or cancelled, once, but the one that is pending
+  pub sent : (at : ℕ) → at < story.state.shape.keys → sends story.history at ≡ fills story.history at + cancels story.history at + pending (state_of (map_of story) at)
 
 -- whose attempt an event is
 abbrev pub caller_of : Event → ℕ
@@ -89,6 +89,7 @@ abbrev pub call_in : Place → List WriterCall
 call_in Idle = []
 call_in (Reading call slot got) = call ∷ []
 call_in (Leaving at) = Evict at ∷ []
+call_in (Withdrawing at) = Cancel at ∷ []
 call_in (Searching call rows poll) = call ∷ []
 call_in (Putting call rows slot departed index) = call ∷ []
 
@@ -136,15 +137,19 @@ pub record Follows (story : Story) (event : Event) : Type 0 where
 
 -- the theorem on every schedule
 abbrev pub EverySchedule : Type 0
-EverySchedule = (shape : Shape) (events : List Event) → IsShape shape → AllGiven shape.bound events
-    → Stands (story_of shape events) × ((event : Event) → IsGiven shape.bound event → Follows (story_of shape events) event)
+EverySchedule = (shape : Shape) (events : List Event) → IsShape shape → AllGiven (bound_of shape) events
+    → Stands (story_of shape events) × ((event : Event) → IsGiven (bound_of shape) event → Follows (story_of shape events) event)
 
 -- at most as many polls of a call as there are readers find their slots held; so a call that ends with no slot has no more retired slots than readers, and none does in a map with a slot for each key, each reader and one more
 abbrev pub SlotBound : Type 0
-SlotBound = (shape : Shape) (events : List Event) → IsShape shape → AllGiven shape.bound events
+SlotBound = (shape : Shape) (events : List Event) → IsShape shape → AllGiven (bound_of shape) events
     → (length (story_of shape events).polls ≤ shape.readers)
-    × ((event : Event) (counts : NoSlot) → IsGiven shape.bound event → EndsWithout (run shape events) event counts → (counts.held ≤ shape.readers) × (shape.slots < shape.keys + shape.readers + 1))
+    × ((event : Event) (counts : NoSlot) → IsGiven (bound_of shape) event → EndsWithout (run shape events) event counts → (counts.held ≤ shape.readers) × (shape.slots < shape.keys + shape.readers + 1))
 
--- a run goes on by one event, and the story's states are the run's
+-- a run goes on by one event and keeps its shape, and the story's states are the run's
 abbrev pub RunGoesOn : Type 0
-RunGoesOn = (shape : Shape) (events : List Event) (event : Event) → (run shape (events ++ event ∷ []) ≡ next (run shape events) event) × ((story_of shape events).state ≡ run shape events)
+RunGoesOn =
+    (shape : Shape) (events : List Event) (event : Event) →
+    (run shape (events ++ event ∷ []) ≡ next (run shape events) event)
+    × ((run shape events).shape ≡ shape)
+    × ((story_of shape events).state ≡ run shape events)

@@ -79,7 +79,7 @@ abbrev pub arrived_at : ℕ → Arrived
 arrived_at found = (if is_filled found then arrived.Held else arrived.Hole)
 
 abbrev pub asked_at : ℕ → AskReply
-asked_at found = (if is_filled found then Filled else (if has_ask found then Waiting else Send))
+asked_at found = (if is_filled found then Filled else (if has_ask found then Waiting else Send (slot_of found)))
 
 abbrev pub arrive_answer : State → ℕ → ℕ → Result Arrived Refusal
 arrive_answer state reader key = answer (refusal state (Arrive reader key)) (arrived_at (found_by state (Arrive reader key)))

@@ -1,13 +1,14 @@
 -- The one operation on one word that each event is.
-use Rattle.std.specs.Prelude.{ℕ, ◌+◌, ◌*◌, ◌%◌, ◌^◌, nat_le, if◌then◌else◌, bit_or, length, slice_index}
+use Rattle.std.specs.Prelude.{ℕ, ◌+◌, ◌*◌, ◌%◌, ◌^◌, nat_le, if◌then◌else◌, false, bit_or, length, slice_index}
 use Rattle.nr_core.specs.declared.shape.Shape.{Shape}
 use Rattle.nr_core.specs.declared.places.Place.{Place}
-use Rattle.nr_core.specs.declared.places.Place.TheVariants.{Idle, Reading, Leaving, Searching, Putting}
+use Rattle.nr_core.specs.declared.places.Place.TheVariants.{Idle, Reading, Leaving, Withdrawing, Searching, Putting}
 use Rattle.nr_core.specs.declared.roles.Desk.{Desk}
 use Rattle.nr_words.specs.declared.key_words.TheConstants.{ARRIVE}
+use Rattle.nr_words.specs.KeyWords.{hole_word}
 use Rattle.nr_words.specs.SetWords.{encode}
 use Rattle.nr_core.specs.Slots.{departures, content, naming}
-use Rattle.nr_core.specs.States.{State, Event, Arrive, Read, Depart, Ask, Start, Go, hold_of, slot_in, retired_at, key_of}
+use Rattle.nr_core.specs.States.{State, Event, Arrive, Read, Depart, Ask, Start, Go, hold_of, slot_in, retired_at, number_at, key_of}
 
 -- a load, an addition, a bitwise or, a store, a swap of a word at a place
 pub data Operation : Type 0 where
@@ -36,7 +37,8 @@ becomes (Swap place word) found = word
 abbrev pub going : Shape → Desk → Place → Operation
 going shape desk Idle = Load 0
 going shape desk (Reading call slot got) = Load (content shape slot (length got))
-going shape desk (Leaving key) = Swap key 0
+going shape desk (Leaving key) = Swap key (hole_word (number_at desk key) false)
+going shape desk (Withdrawing key) = Swap key (hole_word (number_at desk key + 1) false)
 going shape desk (Searching call rows poll) = Load (departures shape (retired_at desk poll).slot)
 going shape desk (Putting call rows slot departed index) =
     (if nat_le index (2 * length rows) then Store (content shape slot index) (slice_index (encode rows) index) else Swap (key_of call) (naming slot departed))

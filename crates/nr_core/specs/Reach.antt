@@ -1,13 +1,14 @@
 -- The states that events lead to, and the room that the next step has there.
 use Rattle.std.specs.Prelude.{◌≡◌, ℕ, ◌*◌, ◌<◌, ◌≤◌, List, length, Some, None}
+use Rattle.nr_model.specs.Maps.{last_number}
 use Rattle.nr_core.specs.declared.shape.Shape.{Shape}
 use Rattle.nr_core.specs.declared.places.Hold.{Hold}
 use Rattle.nr_core.specs.declared.places.Hold.TheVariants.{Nothing, On}
 use Rattle.nr_core.specs.declared.places.Place.{Place}
-use Rattle.nr_core.specs.declared.places.Place.TheVariants.{Idle, Reading, Leaving, Searching, Putting}
+use Rattle.nr_core.specs.declared.places.Place.TheVariants.{Idle, Reading, Leaving, Withdrawing, Searching, Putting}
 use Rattle.nr_words.specs.Places.{total_of}
-use Rattle.nr_core.specs.Slots.{layout, slot_room}
-use Rattle.nr_core.specs.States.{State, Event, key_of, hold_of, retired_at}
+use Rattle.nr_core.specs.Slots.{bound_of, layout, slot_room}
+use Rattle.nr_core.specs.States.{State, Event, key_of, hold_of, retired_at, number_at}
 use Rattle.nr_core.specs.Machine.{run}
 use Rattle.nr_core.specs.Sizes.{IsShape}
 use Rattle.nr_core.specs.Laws.{AllGiven}
@@ -16,7 +17,7 @@ use Rattle.nr_core.specs.Laws.{AllGiven}
 pub record Reached (state : State) : Type 0 where
   pub events : List Event
   pub shape : IsShape state.shape
-  pub given : AllGiven state.shape.bound events
+  pub given : AllGiven (bound_of state.shape) events
   pub leads : state ≡ run state.shape events
 
 -- the words that a hold lets its reader read are a slot's
@@ -30,6 +31,7 @@ abbrev pub RoomAt : State → Place → Type 0
 RoomAt state Idle = Unit {0}
 RoomAt state (Reading call slot got) = (slot < state.shape.slots) × (length got < slot_room)
 RoomAt state (Leaving at) = (at < state.shape.keys) × (length state.desk.retired < state.shape.slots)
+RoomAt state (Withdrawing at) = (at < state.shape.keys) × (number_at state.desk at < last_number)
 RoomAt state (Searching call rows poll) = (poll < length state.desk.retired) × ((retired_at state.desk poll).slot < state.shape.slots)
 RoomAt state (Putting call rows slot departed index) = (key_of call < state.shape.keys) × (length state.desk.retired < state.shape.slots) × (slot < state.shape.slots)
 
@@ -39,4 +41,6 @@ pub record HasRoom (state : State) : Type 0 where
   pub holds : length state.holds ≡ state.shape.readers
   pub held : (reader : ℕ) → 0 < reader → RoomOf state.shape (hold_of state reader)
   pub few : length state.desk.retired ≤ state.shape.slots
+  pub numbers : length state.desk.numbers ≡ state.shape.keys
+  pub within : (at : ℕ) → at < state.shape.keys → number_at state.desk at ≤ last_number
   pub place : RoomAt state state.desk.place

@@ -6,7 +6,7 @@ use Rattle.nr_core.specs.declared.calls.Refusal.TheVariants.{Holding, NotHolding
 use Rattle.nr_core.specs.declared.places.Hold.{Hold}
 use Rattle.nr_core.specs.declared.places.Hold.TheVariants.{Nothing, On}
 use Rattle.nr_core.specs.declared.places.Place.{Place}
-use Rattle.nr_core.specs.declared.places.Place.TheVariants.{Idle, Reading, Leaving, Searching, Putting}
+use Rattle.nr_core.specs.declared.places.Place.TheVariants.{Idle, Reading, Leaving, Withdrawing, Searching, Putting}
 use Rattle.nr_core.specs.States.{State, Event, Arrive, Read, Depart, Ask, Start, Go, hold_of, key_of}
 
 -- the readers are 1, 2, .., the keys 0, 1, ..
@@ -40,6 +40,7 @@ abbrev pub if_busy : Place → Option Refusal
 if_busy Idle = None
 if_busy (Reading call slot got) = Some Busy
 if_busy (Leaving key) = Some Busy
+if_busy (Withdrawing key) = Some Busy
 if_busy (Searching call rows poll) = Some Busy
 if_busy (Putting call rows slot departed index) = Some Busy
 
@@ -47,6 +48,7 @@ abbrev pub if_not_busy : Place → Option Refusal
 if_not_busy Idle = Some NotBusy
 if_not_busy (Reading call slot got) = None
 if_not_busy (Leaving key) = None
+if_not_busy (Withdrawing key) = None
 if_not_busy (Searching call rows poll) = None
 if_not_busy (Putting call rows slot departed index) = None
 

@@ -6,7 +6,7 @@ use Rattle.nr_core.specs.declared.roles.Grip.{Grip}
 use Rattle.nr_core.specs.declared.roles.Grip.TheVariants.{Nothing, On}
 use Rattle.nr_core.specs.declared.places.Retired.{Retired}
 use Rattle.nr_core.specs.declared.places.Place.{Place}
-use Rattle.nr_core.specs.declared.places.Place.TheVariants.{Idle, Reading, Leaving, Searching, Putting}
+use Rattle.nr_core.specs.declared.places.Place.TheVariants.{Idle, Reading, Leaving, Withdrawing, Searching, Putting}
 use Rattle.nr_core.specs.Sums.{total, only}
 use Rattle.nr_core.specs.Slots.{unused}
 
@@ -45,6 +45,7 @@ abbrev pub taken : ℕ → Place → ℕ
 taken slot Idle = 0
 taken slot (Reading call named got) = 0
 taken slot (Leaving at) = 0
+taken slot (Withdrawing at) = 0
 taken slot (Searching call rows poll) = 0
 taken slot (Putting call rows mine departed index) = only slot mine
 

@@ -1,14 +1,19 @@
 -- Slots: where their words stand, which slot a key's word names, and which set a slot spells.
 use Rattle.std.specs.Prelude.{◌≡◌, ℕ, suc, zero, ◌+◌, ◌%◌, ◌^◌, false, true, ◌<◌, nat_le, List, [], ◌∷◌, ◌++◌, cond, length, take, drop, replicate, slice_index, Option, Some, None}
 use Rattle.nr_model.specs.declared.rows.Row.{Row}
+use Rattle.nr_model.specs.declared.rows.TheConstants.{MAX_ROWS}
 use Rattle.nr_model.specs.Rows.{IsRowSet}
 use Rattle.nr_core.specs.declared.shape.Shape.{Shape}
 use Rattle.nr_core.specs.Sums.{below, only}
 use Rattle.nr_words.specs.declared.layout.Layout.{Layout}
 use Rattle.nr_words.specs.declared.set_words.TheConstants.{CONTENT_WORDS}
-use Rattle.nr_words.specs.KeyWords.{key_word, is_filled, slot_of}
+use Rattle.nr_words.specs.KeyWords.{hole_word, key_word, is_filled, slot_of}
 use Rattle.nr_words.specs.Places.{Departures, Content, place_of}
 use Rattle.nr_words.specs.SetWords.{encode, decode}
+
+-- how many rows a key may have
+abbrev pub bound_of : Shape → ℕ
+bound_of shape = MAX_ROWS
 
 -- how many content words a slot has, and where its words stand; a key's word stands at the key's number
 abbrev pub slot_room : ℕ
@@ -28,9 +33,9 @@ abbrev pub repeated : {A : Type 0} → ℕ → List A → List A
 repeated zero xs = []
 repeated (suc n) xs = xs ++ repeated n xs
 
--- the words at opening: every key a hole, every slot's departures the first count
+-- the words at opening: every key a hole with the first number, every slot's departures the first count
 abbrev pub opening_words : Shape → List ℕ
-opening_words shape = replicate shape.keys 0 ++ repeated shape.slots (shape.first ∷ replicate slot_room 0)
+opening_words shape = replicate shape.keys (hole_word shape.first_number false) ++ repeated shape.slots (shape.first_count ∷ replicate slot_room 0)
 
 -- the word that fills a key with a slot whose departures are these
 abbrev pub naming : ℕ → ℕ → ℕ
@@ -63,4 +68,4 @@ set_of bound words = rows_or_none (decode bound words)
 -- the slot's content words are those of the row set
 abbrev pub SlotSpells : Shape → List ℕ → ℕ → List Row → Type 0
 SlotSpells shape words slot rows =
-    IsRowSet shape.bound rows × ((index : ℕ) → index < length (encode rows) → slice_index words (content shape slot index) ≡ slice_index (encode rows) index)
+    IsRowSet (bound_of shape) rows × ((index : ℕ) → index < length (encode rows) → slice_index words (content shape slot index) ≡ slice_index (encode rows) index)

@@ -2,7 +2,7 @@
 use Rattle.std.specs.Prelude.{ℕ, ◌-◌, List, [], replicate, slice_index, slice_index_or}
 use Rattle.nr_core.specs.declared.shape.Shape.{Shape}
 use Rattle.nr_core.specs.declared.calls.WriterCall.{WriterCall}
-use Rattle.nr_core.specs.declared.calls.WriterCall.TheVariants.{Find, Fill, Update, Evict}
+use Rattle.nr_core.specs.declared.calls.WriterCall.TheVariants.{Find, Fill, Update, Evict, Cancel}
 use Rattle.nr_core.specs.declared.places.Hold.{Hold}
 use Rattle.nr_core.specs.declared.places.Hold.TheVariants.{Nothing, On}
 use Rattle.nr_core.specs.declared.places.Place.TheVariants.{Idle}
@@ -17,12 +17,12 @@ pub record State : Type 0 where
   pub holds : List Hold
   pub desk : Desk
 
--- the writer is in no call, and every slot is free
-abbrev pub opening_desk : Desk
-opening_desk = record { place = Idle; fresh = 0; retired = [] }
+-- the writer is in no call, every slot is free, and each key has the first number
+abbrev pub opening_desk : Shape → Desk
+opening_desk shape = record { place = Idle; fresh = 0; retired = []; numbers = replicate shape.keys shape.first_number }
 
 abbrev pub opening : Shape → State
-opening shape = record { shape = shape; words = opening_words shape; holds = replicate shape.readers Nothing; desk = opening_desk }
+opening shape = record { shape = shape; words = opening_words shape; holds = replicate shape.readers Nothing; desk = opening_desk shape }
 
 -- one attempt of one caller; readers are counted from 1
 pub data Event : Type 0 where
@@ -51,9 +51,14 @@ no_retired = record { slot = 0; arrivals = 0 }
 abbrev pub retired_at : Desk → ℕ → Retired
 retired_at desk place = slice_index_or desk.retired place no_retired
 
+-- the number of a key, by the writer's list
+abbrev pub number_at : Desk → ℕ → ℕ
+number_at desk key = slice_index desk.numbers key
+
 -- the key of a call
 abbrev pub key_of : WriterCall → ℕ
 key_of (Find key) = key
-key_of (Fill key rows) = key
+key_of (Fill key number rows) = key
 key_of (Update key batch) = key
 key_of (Evict key) = key
+key_of (Cancel key) = key

@@ -14,9 +14,9 @@ use Rattle.nr_core.specs.declared.roles.Role.{Role}
 use Rattle.nr_core.specs.declared.roles.Role.TheVariants.{Writer, Reader}
 use Rattle.nr_core.specs.declared.roles.Grip.TheVariants.{Nothing, On}
 use Rattle.nr_core.specs.declared.roles.Desk.{Desk}
-use Rattle.nr_words.specs.KeyWords.{is_filled, has_ask}
+use Rattle.nr_words.specs.KeyWords.{is_filled, has_ask, slot_of}
 use Rattle.nr_words.specs.SetWords.{encode}
-use Rattle.nr_core.specs.Slots.{name_number}
+use Rattle.nr_core.specs.Slots.{bound_of, name_number}
 use Rattle.nr_core.specs.Operations.{Operation, place_of, becomes}
 use Rattle.nr_core.specs.Writer.{looked, went}
 use Rattle.nr_core.specs.Story.{entry, call_of, ending, ending_at}
@@ -46,12 +46,12 @@ CanStep shape id role operation tells =
 -- an arrive finds the key's set, and holds its slot, or finds a hole
 abbrev pub Arrives : Shape → ℕ → ℕ → Telling
 Arrives shape reader at word after entries =
-    ((slot : ℕ) × (rows : List Row) × (name_number word ≡ suc slot) × (slot < shape.slots) × IsRowSet shape.bound rows × (after ≡ Reader reader (On slot rows false)) × (entries ≡ entry reader (model.Find at) (reply.Rows rows) ∷ []))
+    ((slot : ℕ) × (rows : List Row) × (name_number word ≡ suc slot) × (slot < shape.slots) × IsRowSet (bound_of shape) rows × (after ≡ Reader reader (On slot rows false)) × (entries ≡ entry reader (model.Find at) (reply.Rows rows) ∷ []))
     ⊎ ((name_number word ≡ 0) × (after ≡ Reader reader Nothing) × (entries ≡ entry reader (model.Find at) reply.Hole ∷ []))
 
 -- the reply that a key's word gives to a request
 abbrev pub ask_word : ℕ → Reply
-ask_word word = (if is_filled word then reply.Filled else (if has_ask word then reply.Waiting else reply.Send))
+ask_word word = (if is_filled word then reply.Filled else (if has_ask word then reply.Waiting else reply.Send (slot_of word)))
 
 abbrev pub Asks : ℕ → ℕ → Telling
 Asks reader at word after entries = (after ≡ Reader reader Nothing) × (entries ≡ entry reader (model.Ask at) (ask_word word) ∷ [])

@@ -6,41 +6,45 @@ use Rattle.nr_model.specs.declared.calls.Reply.{Reply}
 use Rattle.nr_model.specs.declared.states.KeyState.{KeyState}
 use Rattle.nr_model.specs.declared.states.KeyState.TheVariants as key
 use Rattle.nr_model.specs.Maps.{PartialMap, find_reply, ask_reply}
-use Rattle.nr_model.specs.Maps.{opening as opening_map}
+use Rattle.nr_model.specs.Maps.{opening as map_opening}
 use Rattle.nr_model.specs.Histories.{Entry, after}
 use Rattle.nr_core.specs.declared.shape.Shape.{Shape}
 use Rattle.nr_core.specs.declared.calls.WriterCall.{WriterCall}
-use Rattle.nr_core.specs.declared.calls.WriterCall.TheVariants.{Find, Fill, Update, Evict}
+use Rattle.nr_core.specs.declared.calls.WriterCall.TheVariants.{Find, Fill, Update, Evict, Cancel}
 use Rattle.nr_core.specs.declared.calls.WReply.TheVariants as writer
 use Rattle.nr_core.specs.declared.calls.Step.{Step}
 use Rattle.nr_core.specs.declared.calls.Step.TheVariants.{Going, Ended}
 use Rattle.nr_core.specs.declared.places.Hold.{Hold}
 use Rattle.nr_core.specs.declared.places.Hold.TheVariants.{Nothing, On}
 use Rattle.nr_core.specs.declared.places.Place.{Place}
-use Rattle.nr_core.specs.declared.places.Place.TheVariants.{Idle, Reading, Leaving, Searching, Putting}
+use Rattle.nr_core.specs.declared.places.Place.TheVariants.{Idle, Reading, Leaving, Withdrawing, Searching, Putting}
 use Rattle.nr_words.specs.KeyWords.{is_filled, has_ask, slot_of, same_count}
-use Rattle.nr_core.specs.Slots.{content_words, set_of}
-use Rattle.nr_core.specs.States.{State, Event, Arrive, Read, Depart, Ask, Start, Go, opening, word, retired_at}
+use Rattle.nr_core.specs.Slots.{bound_of, content_words, set_of}
+use Rattle.nr_core.specs.States.{State, Event, Arrive, Read, Depart, Ask, Start, Go, opening, word, retired_at, number_at}
 use Rattle.nr_core.specs.Refusals.{refusal}
 use Rattle.nr_core.specs.Writer.{looked, went}
 use Rattle.nr_core.specs.Machine.{found_by, unless, next}
 
--- the map that a history leaves
-abbrev pub map_after : Shape → List Entry → PartialMap
-map_after shape history = after (opening_map shape.keys shape.bound) history
+-- the map at opening, and the map that a history leaves
+abbrev pub opening_map : Shape → PartialMap
+opening_map shape = map_opening shape.keys (bound_of shape) shape.first_number
 
--- the key's state that its word shows, with the slot that it names
+abbrev pub map_after : Shape → List Entry → PartialMap
+map_after shape history = after (opening_map shape) history
+
+-- the key's state that its word shows, with the slot that it names; a filled key's number stands in the writer's list alone
 abbrev pub shown : State → ℕ → KeyState
 shown state at =
     (if is_filled (word state at)
-    then key.Rows (set_of state.shape.bound (content_words state.shape state.words (slot_of (word state at))))
-    else (if has_ask (word state at) then key.Asked else key.Hole))
+    then key.Rows (number_at state.desk at) (set_of (bound_of state.shape) (content_words state.shape state.words (slot_of (word state at))))
+    else (if has_ask (word state at) then key.Asked (slot_of (word state at)) else key.Hole (slot_of (word state at))))
 
 abbrev pub call_of : WriterCall → Call
 call_of (Find at) = model.Find at
-call_of (Fill at rows) = model.Fill at rows
+call_of (Fill at number rows) = model.Fill at number rows
 call_of (Update at batch) = model.Update at batch
 call_of (Evict at) = model.Evict at
+call_of (Cancel at) = model.Cancel at
 
 abbrev pub entry : ℕ → Call → Reply → Entry
 entry caller call reply = record { caller = caller; call = call; reply = reply }
@@ -56,6 +60,7 @@ abbrev pub ending_at : Place → Step → List Entry
 ending_at Idle step = []
 ending_at (Reading call slot got) step = ending (call_of call) step
 ending_at (Leaving at) step = ending (model.Evict at) step
+ending_at (Withdrawing at) step = ending (model.Cancel at) step
 ending_at (Searching call rows poll) step = ending (call_of call) step
 ending_at (Putting call rows slot departed index) step = ending (call_of call) step
 
@@ -93,6 +98,7 @@ abbrev pub polls_at : State → List Poll → Place → List Poll
 polls_at state polls Idle = polls
 polls_at state polls (Reading call slot got) = polls
 polls_at state polls (Leaving at) = polls
+polls_at state polls (Withdrawing at) = polls
 polls_at state polls (Searching call rows poll) = (if same_count (found_by state Go) (retired_at state.desk poll).arrivals then polls else polls ++ poll_at state poll ∷ [])
 polls_at state polls (Putting call rows slot departed index) = polls
 

@@ -10,9 +10,10 @@ use nr_model::{Batch, Reply, RowSet};
 #[derive(Clone, Copy, Debug)]
 pub enum WriterCall {
     Find(u32),
-    Fill(u32, RowSet),
+    Fill(u32, u64, RowSet),
     Update(u32, Batch),
     Evict(u32),
+    Cancel(u32),
 }
 
 /// Why a step is refused. A refused step changes nothing.
@@ -37,10 +38,10 @@ pub enum Arrived {
     Hole,
 }
 
-/// The answer to a request.
+/// The answer to a request. One that is to be sent has the key's number, by which it is filled.
 #[derive(Clone, Copy, Debug, PartialEq, Eq)]
 pub enum AskReply {
-    Send,
+    Send(u64),
     Waiting,
     Filled,
 }
@@ -73,9 +74,10 @@ impl WriterCall {
     {
         match self {
             WriterCall::Find(key) => *key,
-            WriterCall::Fill(key, _) => *key,
+            WriterCall::Fill(key, _, _) => *key,
             WriterCall::Update(key, _) => *key,
             WriterCall::Evict(key) => *key,
+            WriterCall::Cancel(key) => *key,
         }
     }
 
@@ -83,7 +85,7 @@ impl WriterCall {
     pub(crate) fn given(&self)
         ensures { IsGivenCall MAX_ROWS self.now }
     {
-        if let WriterCall::Fill(_, rows) = self {
+        if let WriterCall::Fill(_, _, rows) = self {
             let _ = rows.len();
         }
     }

@@ -13,7 +13,7 @@ pub fn slot_bound()
     ensures { SlotBound }
 {}
 
-/// A run goes on by one event, and the states that a story tells are the run's.
+/// A run goes on by one event and keeps its shape, and the states that a story tells are the run's.
 pub fn run_goes_on()
     ensures { RunGoesOn }
 {}

@@ -1,16 +1,16 @@
 //! The step machine that callers see.
-ghost use Rattle.std.specs.Prelude.{◌≡◌, ◌↔◌, ◌⊎◌, IfOk, IsTrue, Err};
-ghost use Rattle.nr_model.specs.declared.rows.TheConstants.{MAX_ROWS};
+ghost use Rattle.std.specs.Prelude.{◌≡◌, ◌<◌, ◌↔◌, ◌⊎◌, IfOk, IsTrue, Err};
+ghost use Rattle.nr_model.specs.Maps.{number_of};
 ghost use Rattle.nr_model.specs.declared.seq_map.TheConstants.{MAX_KEYS};
-ghost use Rattle.nr_core.specs.States.{opening, Arrive, Read, Depart, Ask, Start, Go};
+ghost use Rattle.nr_core.specs.Story.{shown};
+ghost use Rattle.nr_core.specs.States.{opening, number_at, Arrive, Read, Depart, Ask, Start, Go};
 ghost use Rattle.nr_core.specs.Machine.{next, arrive_answer, read_answer, depart_answer, ask_answer, start_answer, go_answer};
-ghost use Rattle.nr_core.specs.Sizes.{IsBadSize};
+ghost use Rattle.nr_core.specs.Sizes.{IsBadSize, IsBadShape};
 
 use crate::calls::{Arrived, AskReply, Refusal, Step, WriterCall};
 use crate::inner::Inner;
-use crate::shape::{MAX_READERS, MAX_SLOTS};
-use nr_model::{MAX_KEYS, OpenFault};
-use nr_words::Layout;
+use crate::shape::{MAX_READERS, MAX_SLOTS, Shape};
+use nr_model::{LAST_NUMBER, MAX_KEYS, OpenFault};
 use std::alloc::Global;
 use std::marker::Model;
 
@@ -49,21 +49,42 @@ impl Core {
           keys = keys;
           slots = slots;
           readers = readers;
-          bound = MAX_ROWS;
-          first = first_count;
+          first_count = first_count;
+          first_number = 0;
         })) }
     {
-        if is_bad_size(MAX_KEYS, keys)
-            || is_bad_size(MAX_SLOTS, slots)
-            || is_bad_size(MAX_READERS, readers)
-        {
+        let shape = Shape {
+            keys,
+            slots,
+            readers,
+            first_count,
+            first_number: 0,
+        };
+        Core::open_with(alloc, &shape)
+    }
+
+    /// The machine of a map of that shape. Every key is a hole, whose first request has the first
+    /// number, 0 to 4,194,303. The other sizes are those of `open`; what is out of its limits is
+    /// refused (`BadSize`), and then want of memory (`Memory`).
+    pub fn open_with(alloc: Global, shape: &Shape) -> Result<Core, OpenFault>
+        ensures bad_size { (result ≡ Err OpenFault.BadSize) ↔ IsBadShape shape.now }
+        ensures ok { IfOk result (λ core. core ≡ opening shape.now) }
+    {
+        if is_bad_shape(shape) {
             return Err(OpenFault::BadSize);
         }
-        let layout = Layout { keys, slots };
-        let inner = Inner::open(alloc, layout, readers, first_count).map_err(
-            |_| OpenFault::Memory,
-        )?;
+        let inner = Inner::open(alloc, shape).map_err(|_| OpenFault::Memory)?;
         Ok(Core { inner })
+    }
+
+    /// The number that the key's next request is sent with, or was sent with where it is asked or
+    /// filled, by the writer's list. The key is below the number of keys. It is no step.
+    pub fn number(&self, key: u32) -> u64
+        requires { key < self.now.shape.keys }
+        ensures listed { result ≡ number_at self.now.desk key }
+        ensures shown { result ≡ number_of (shown self.now key) }
+    {
+        self.inner.number(key)
     }
 
     /// A reader, from 1, arrives at a key, from 0: one addition to the key's word. It holds the
@@ -122,6 +143,15 @@ impl Core {
     {
         self.inner.go()
     }
+}
+
+fn is_bad_shape(shape: &Shape) -> bool
+    ensures { IsTrue result ↔ IsBadShape shape.now }
+{
+    is_bad_size(MAX_KEYS, shape.keys)
+        || is_bad_size(MAX_SLOTS, shape.slots)
+        || is_bad_size(MAX_READERS, shape.readers)
+        || shape.first_number > LAST_NUMBER
 }
 
 fn is_bad_size(limit: u32, size: u32) -> bool

@@ -25,6 +25,8 @@ pub enum Place {
     Reading(WriterCall, u32, WordsRead),
     /// The key is evicted next.
     Leaving(u32),
+    /// The key's request is cancelled next.
+    Withdrawing(u32),
     /// The call looks for a slot for the set, and polls the retired slot at this place next.
     Searching(WriterCall, RowSet, u32),
     /// The call puts the set into the slot, whose departures are these, and puts this word next.

@@ -10,12 +10,14 @@ pub enum Grip {
     On(u32, RowSet, bool),
 }
 
-/// The writer's place in its call, how many slots were ever taken, and the retired ones, oldest
-/// first. Slots are taken in their order, so the free ones are those from `fresh` on.
+/// The writer's place in its call, how many slots were ever taken, the retired ones, oldest first,
+/// and the number of each key. Slots are taken in their order, so the free ones are those from
+/// `fresh` on.
 pub struct Desk {
     pub place: Place,
     pub fresh: u32,
     pub retired: LinkedList<Retired>,
+    pub numbers: LinkedList<u64>,
 }
 
 /// A caller. A note only looks on: it holds no slot.

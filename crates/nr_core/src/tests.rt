@@ -1,7 +1,7 @@
 //! Schedules as calls of the machine, with the answers that they must give.
 use super::{
-    Arrived, AskReply, Core, MAX_READERS, MAX_SLOTS, NoSlot, OpenFault, Refusal, Step, WReply,
-    WriterCall,
+    Arrived, AskReply, Core, MAX_READERS, MAX_SLOTS, NoSlot, OpenFault, Refusal, Shape, Step,
+    WReply, WriterCall,
 };
 use nr_model::{Batch, Delta, MAX_KEYS, Reply, Row, RowSet};
 use std::alloc::Global;
@@ -19,16 +19,18 @@ enum Line {
     Go,
 }
 
-/// What the machine answers. `Says("-")` is a step after which the writer's call goes on.
+/// What the machine answers. `Says("-")` is a step after which the writer's call goes on, and
+/// `Sends` a request that is to be sent with that number.
 #[derive(Clone, Copy, Debug, PartialEq, Eq)]
 enum Told {
     Says(&'static str),
+    Sends(u64),
     Word(u64),
     Without(NoSlot),
 }
 
 use Line::{Arrive, Ask, Depart, Go, Read, Start};
-use Told::{Says, Without, Word};
+use Told::{Says, Sends, Without, Word};
 
 fn answer(core: &mut Core, line: &Line) -> Told {
     match line {
@@ -46,7 +48,7 @@ fn answer(core: &mut Core, line: &Line) -> Told {
             Err(why) => refused(why),
         },
         Ask(reader, key) => match core.ask(*reader, *key) {
-            Ok(AskReply::Send) => Says("send"),
+            Ok(AskReply::Send(number)) => Sends(number),
             Ok(AskReply::Waiting) => Says("waiting"),
             Ok(AskReply::Filled) => Says("filled"),
             Err(why) => refused(why),
@@ -77,6 +79,9 @@ fn replied(reply: &Reply) -> &'static str {
         Reply::TooMany => "too-many",
         Reply::Evicted => "evicted",
         Reply::Nothing => "nothing",
+        Reply::Stale => "stale",
+        Reply::Cancelled => "cancelled",
+        Reply::Worn => "worn",
         _ => "a reader's",
     }
 }
@@ -135,9 +140,14 @@ fn minus(a: u64, b: u64) -> Delta {
     }
 }
 
+/// A fill of key 0 as long as none of its requests was cancelled.
 fn fill(rows: &[Row]) -> Result<Line, Fail> {
+    fill_as(0, rows)
+}
+
+fn fill_as(number: u64, rows: &[Row]) -> Result<Line, Fail> {
     let set = RowSet::of(rows).map_err(|_| "too many rows")?;
-    Ok(Start(WriterCall::Fill(0, set)))
+    Ok(Start(WriterCall::Fill(0, number, set)))
 }
 
 fn update(delta: Delta) -> Result<Line, Fail> {
@@ -149,7 +159,7 @@ fn update(delta: Delta) -> Result<Line, Fail> {
 fn a_held_slot_outlives_its_eviction(rt: HostRuntime) -> Result<(), Fail> {
     let mut core = opened(rt.alloc(), 3, 1, 0)?;
     let lines = [
-        (Ask(1, 0), Says("send")),
+        (Ask(1, 0), Sends(0)),
         (fill(&[row(5, 6)])?, Says("-")),
         (Go, Says("-")),
         (Go, Says("-")),
@@ -172,7 +182,7 @@ fn a_held_slot_outlives_its_eviction(rt: HostRuntime) -> Result<(), Fail> {
 fn counts_wrap(rt: HostRuntime) -> Result<(), Fail> {
     let mut core = opened(rt.alloc(), 1, 2, 1_099_511_627_775)?;
     let lines = [
-        (Ask(1, 0), Says("send")),
+        (Ask(1, 0), Sends(0)),
         (fill(&[row(5, 6)])?, Says("-")),
         (Go, Says("-")),
         (Go, Says("-")),
@@ -181,7 +191,7 @@ fn counts_wrap(rt: HostRuntime) -> Result<(), Fail> {
         (Arrive(1, 0), Says("held")),
         (Start(WriterCall::Evict(0)), Says("-")),
         (Go, Says("evicted")),
-        (Ask(2, 0), Says("send")),
+        (Ask(2, 0), Sends(0)),
         (fill(&[row(7, 8)])?, Says("-")),
         (Go, Without(NoSlot { live: 0, held: 1 })),
         (Read(1, 0), Word(1)),
@@ -206,7 +216,7 @@ fn counts_wrap(rt: HostRuntime) -> Result<(), Fail> {
 fn a_fill_is_found_from_its_publish_on(rt: HostRuntime) -> Result<(), Fail> {
     let mut core = opened(rt.alloc(), 3, 2, 0)?;
     let lines = [
-        (Ask(1, 0), Says("send")),
+        (Ask(1, 0), Sends(0)),
         (fill(&[row(4, 4)])?, Says("-")),
         (Arrive(2, 0), Says("hole")),
         (Go, Says("-")),
@@ -224,7 +234,7 @@ fn a_fill_is_found_from_its_publish_on(rt: HostRuntime) -> Result<(), Fail> {
 fn one_slot_serves_one_key(rt: HostRuntime) -> Result<(), Fail> {
     let mut core = opened(rt.alloc(), 1, 1, 0)?;
     let updates = [
-        (Ask(1, 0), Says("send")),
+        (Ask(1, 0), Sends(0)),
         (fill(&[row(4, 4)])?, Says("-")),
         (Go, Says("-")),
         (Go, Says("-")),
@@ -267,7 +277,7 @@ fn one_slot_serves_one_key(rt: HostRuntime) -> Result<(), Fail> {
 fn updates_pass_by_a_held_slot(rt: HostRuntime) -> Result<(), Fail> {
     let mut core = opened(rt.alloc(), 3, 1, 0)?;
     let filled = [
-        (Ask(1, 0), Says("send")),
+        (Ask(1, 0), Sends(0)),
         (fill(&[])?, Says("-")),
         (Go, Says("-")),
         (Go, Says("done")),
@@ -309,7 +319,7 @@ fn calls_end_where_nothing_is_to_do(rt: HostRuntime) -> Result<(), Fail> {
         (fill(&[row(1, 1)])?, Says("not-asked")),
         (update(plus(1, 1))?, Says("dropped")),
         (Start(WriterCall::Evict(0)), Says("nothing")),
-        (Ask(1, 0), Says("send")),
+        (Ask(1, 0), Sends(0)),
         (Ask(1, 0), Says("waiting")),
         (update(plus(1, 1))?, Says("dropped")),
         (fill(&[row(1, 1); 15])?, Says("-")),
@@ -349,7 +359,7 @@ fn a_range_is_refused_first_and_an_index_last(rt: HostRuntime) -> Result<(), Fai
     ];
     runs(&rt, &mut core, &empty_handed);
     let holding = [
-        (Ask(1, 0), Says("send")),
+        (Ask(1, 0), Sends(0)),
         (fill(&[])?, Says("-")),
         (Start(WriterCall::Find(0)), Says("busy")),
         (Start(WriterCall::Find(1)), Says("out-of-range")),
@@ -388,6 +398,84 @@ fn sizes_have_their_limits(rt: HostRuntime) -> Result<(), Fail> {
     let mut core = Core::open(rt.alloc(), 65_536, 131_072, 1_024, u64::MAX).map_err(
         |_| "not opened",
     )?;
-    assert_eq!(rt; core.ask(1_024, 65_535), Ok(AskReply::Send));
+    assert_eq!(rt; core.ask(1_024, 65_535), Ok(AskReply::Send(0)));
+    Ok(())
+}
+
+/// A map of one key, 3 slots and that many readers, whose first request has that number.
+fn numbered(first_number: u64, readers: u32) -> Shape {
+    Shape {
+        keys: 1,
+        slots: 3,
+        readers,
+        first_count: 0,
+        first_number,
+    }
+}
+
+#[test]
+fn a_first_number_has_its_limit(rt: HostRuntime) -> Result<(), Fail> {
+    let over = Core::open_with(rt.alloc(), &numbered(4_194_304, 1));
+    assert!(rt; matches!(&over, Err(OpenFault::BadSize)));
+    let last = Core::open_with(rt.alloc(), &numbered(4_194_303, 1)).map_err(|_| "not opened")?;
+    assert_eq!(rt; last.number(0), 4_194_303);
+    let unread = Shape {
+        readers: 0,
+        ..numbered(0, 1)
+    };
+    let unread = Core::open_with(rt.alloc(), &unread);
+    assert!(rt; matches!(&unread, Err(OpenFault::BadSize)));
+    Ok(())
+}
+
+#[test]
+fn a_late_answer_fills_no_newer_request(rt: HostRuntime) -> Result<(), Fail> {
+    let mut core = opened(rt.alloc(), 3, 2, 0)?;
+    let lines = [
+        (Ask(1, 0), Sends(0)),
+        (Start(WriterCall::Cancel(0)), Says("-")),
+        (Ask(2, 0), Says("waiting")),
+        (Go, Says("cancelled")),
+        (Ask(2, 0), Sends(1)),
+        (fill_as(0, &[row(5, 6)])?, Says("stale")),
+        (fill_as(1, &[row(5, 6)])?, Says("-")),
+        (Go, Says("-")),
+        (Go, Says("-")),
+        (Go, Says("-")),
+        (Go, Says("done")),
+        (Start(WriterCall::Cancel(0)), Says("nothing")),
+    ];
+    runs(&rt, &mut core, &lines);
+    Ok(())
+}
+
+#[test]
+fn the_last_number_cannot_be_cancelled(rt: HostRuntime) -> Result<(), Fail> {
+    let mut core = Core::open_with(rt.alloc(), &numbered(4_194_302, 1)).map_err(|_| "not opened")?;
+    assert_eq!(rt; core.number(0), 4_194_302);
+    let lines = [
+        (Ask(1, 0), Sends(4_194_302)),
+        (Start(WriterCall::Cancel(0)), Says("-")),
+        (Go, Says("cancelled")),
+        (Start(WriterCall::Cancel(0)), Says("nothing")),
+        (Ask(1, 0), Sends(4_194_303)),
+        (fill_as(4_194_302, &[row(1, 1)])?, Says("stale")),
+        (fill_as(u64::MAX, &[row(1, 1)])?, Says("stale")),
+        (Start(WriterCall::Cancel(0)), Says("worn")),
+        (Ask(1, 0), Says("waiting")),
+        (fill_as(4_194_303, &[row(1, 1)])?, Says("-")),
+        (Go, Says("-")),
+        (Go, Says("-")),
+        (Go, Says("-")),
+        (Go, Says("done")),
+        (Start(WriterCall::Evict(0)), Says("-")),
+        (Go, Says("evicted")),
+        (fill_as(0, &[])?, Says("not-asked")),
+        (Ask(1, 0), Sends(4_194_303)),
+        (fill_as(4_194_303, &[row(2, 2)])?, Says("-")),
+    ];
+    runs(&rt, &mut core, &lines);
+    goes(&rt, &mut core, 3);
+    runs(&rt, &mut core, &[(Go, Says("done"))]);
     Ok(())
 }

@@ -1,10 +1,11 @@
 //! The words of a map, and the operations of which each step is one.
-ghost use Rattle.std.specs.Prelude.{◌≡◌, ◌<◌, ◌++◌, ◌∷◌, length, replicate, slice_index, slice_set, IfOk};
+ghost use Rattle.std.specs.Prelude.{◌≡◌, ◌<◌, ◌^◌, ◌++◌, ◌∷◌, false, length, replicate, slice_index, slice_set, IfOk};
 ghost use Rattle.nr_words.specs.declared.set_words.TheConstants.{CONTENT_WORDS};
+ghost use Rattle.nr_words.specs.KeyWords.{hole_word};
 ghost use Rattle.nr_core.specs.Operations.{Add, Or, Store, Swap, becomes};
 ghost use Rattle.nr_core.specs.Slots.{repeated};
 
-use nr_words::{CONTENT_WORDS, Layout};
+use nr_words::{CONTENT_WORDS, Layout, hole_word};
 use std::alloc::{AllocError, Global};
 use std::marker::Model;
 
@@ -23,15 +24,22 @@ impl Model for Words {
 }
 
 impl Words {
-    /// The words of a map whose keys are holes, and whose slots begin at the first count.
-    pub fn open(alloc: Global, layout: Layout, first: u64) -> Result<Words, AllocError>
+    /// The words of a map whose keys are holes with the first number, and whose slots begin at the
+    /// first count.
+    pub fn open(
+        alloc: Global,
+        layout: Layout,
+        first_count: u64,
+        first_number: u64,
+    ) -> Result<Words, AllocError>
+        requires { first_number < 2 ^ 22 }
         ensures { IfOk result (λ words.
-            words ≡ replicate layout.keys 0 ++ repeated layout.slots (first ∷ replicate CONTENT_WORDS 0)) }
+            words ≡ replicate layout.keys (hole_word first_number false) ++ repeated layout.slots (first_count ∷ replicate CONTENT_WORDS 0)) }
     {
         let mut block = [0; CONTENT_WORDS + 1];
-        block[0] = first;
+        block[0] = first_count;
         let mut cells = Vec::with_capacity(alloc, layout.total() as usize)?;
-        cells.resize(layout.keys as usize, 0)?;
+        cells.resize(layout.keys as usize, hole_word(first_number, false))?;
         for _slot in 0..layout.slots {
             cells.extend_from_slice(&block)?;
         }

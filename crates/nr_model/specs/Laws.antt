@@ -1,14 +1,16 @@
 -- The laws that functions of the module `laws` show.
-use Rattle.std.specs.Prelude.{ℕ, ◌≡◌, ◌+◌, ◌<◌, ◌↔◌, List, [], ◌∷◌, ◌++◌, length, IsTrue, Ok, Err}
+use Rattle.std.specs.Prelude.{ℕ, ◌≡◌, ◌+◌, ◌<◌, ◌≤◌, ◌↔◌, List, [], ◌∷◌, ◌++◌, length, IsTrue, Ok, Err}
 use Rattle.nr_model.specs.declared.rows.Row.{Row}
 use Rattle.nr_model.specs.declared.batches.Delta.{Delta}
 use Rattle.nr_model.specs.declared.batches.ApplyFault.TheVariants as fault
 use Rattle.nr_model.specs.Rows.{is_ascending, in_order, count_of, IsRowSet}
 use Rattle.nr_model.specs.Batches.{applied, positive_rows, negative_rows}
+use Rattle.nr_model.specs.declared.calls.Call.TheVariants.{Ask, Fill}
+use Rattle.nr_model.specs.declared.calls.Reply.TheVariants as reply
 use Rattle.nr_model.specs.declared.states.KeyState.{KeyState}
 use Rattle.nr_model.specs.declared.states.KeyState.TheVariants.{Hole, Asked, Rows}
-use Rattle.nr_model.specs.Maps.{PartialMap, opening, state_of, reply_to, next}
-use Rattle.nr_model.specs.Histories.{Entry, after, IsLegal, sends, fills}
+use Rattle.nr_model.specs.Maps.{PartialMap, last_number, opening, state_of, number_of, reply_to, next}
+use Rattle.nr_model.specs.Histories.{Entry, after, IsLegal, sends, fills, cancels}
 
 -- a list in order has the same rows as before, ascending
 abbrev pub OrderKeepsRows : Type 0
@@ -61,14 +63,32 @@ LegalBegins =
 
 -- 1 where the key is asked
 abbrev pub pending : KeyState → ℕ
-pending Hole = 0
-pending Asked = 1
-pending (Rows rows) = 0
+pending (Hole n) = 0
+pending (Asked n) = 1
+pending (Rows n rows) = 0
 
--- each request that was sent was filled once, but the one that is pending
-abbrev pub SendsAreFilled : Type 0
-SendsAreFilled =
-    (keys bound key : ℕ) (history : List Entry) →
-    IsLegal (opening keys bound) history →
+-- each request that was sent was filled or cancelled once, but the one that is pending
+abbrev pub SendsAreAnswered : Type 0
+SendsAreAnswered =
+    (keys bound first_number key : ℕ) (history : List Entry) →
+    IsLegal (opening keys bound first_number) history →
     key < keys →
-    sends history key ≡ fills history key + pending (state_of (after (opening keys bound) history) key)
+    sends history key ≡ fills history key + cancels history key + pending (state_of (after (opening keys bound first_number) history) key)
+
+-- a key's number is the first number and one more for each cancel; it never passes the last one
+abbrev pub NumbersCountCancels : Type 0
+NumbersCountCancels =
+    (keys bound first_number key : ℕ) (history : List Entry) →
+    IsLegal (opening keys bound first_number) history →
+    key < keys →
+    (number_of (state_of (after (opening keys bound first_number) history) key) ≡ first_number + cancels history key)
+    × (first_number ≤ last_number → number_of (state_of (after (opening keys bound first_number) history) key) ≤ last_number)
+
+-- a request that is sent tells the first number and one more for each cancel before it, and a fill is done under that number alone
+abbrev pub AnswersFitTheirRequests : Type 0
+AnswersFitTheirRequests =
+    (keys bound first_number key number : ℕ) (history : List Entry) (e : Entry) →
+    IsLegal (opening keys bound first_number) (history ++ e ∷ []) →
+    key < keys →
+    ((e.call ≡ Ask key) → (e.reply ≡ reply.Send number) → number ≡ first_number + cancels history key)
+    × ((rows : List Row) → (e.call ≡ Fill key number rows) → (e.reply ≡ reply.Done) → number ≡ first_number + cancels history key)

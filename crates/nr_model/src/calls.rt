@@ -12,12 +12,14 @@ pub enum Call {
     Find(u32),
     /// Requests the rows of a key that is missing.
     Ask(u32),
-    /// Answers a request with the key's rows.
-    Fill(u32, RowSet),
+    /// Answers the request of that number with the key's rows.
+    Fill(u32, u64, RowSet),
     /// Applies a batch to the key's rows.
     Update(u32, Batch),
     /// Makes the key missing again.
     Evict(u32),
+    /// Takes the request of the key back.
+    Cancel(u32),
 }
 
 impl Call {
@@ -26,8 +28,8 @@ impl Call {
         ensures { result ≡ key_of self.now }
     {
         match self {
-            Call::Find(key) | Call::Ask(key) | Call::Evict(key) => *key,
-            Call::Fill(key, _) => *key,
+            Call::Find(key) | Call::Ask(key) | Call::Evict(key) | Call::Cancel(key) => *key,
+            Call::Fill(key, _, _) => *key,
             Call::Update(key, _) => *key,
         }
     }
@@ -40,8 +42,8 @@ pub enum Reply {
     Rows(RowSet),
     /// To a find: the key is not filled.
     Hole,
-    /// To a request: nobody asked before, so the caller sends the upquery.
-    Send,
+    /// To a request: nobody asked before, so the caller sends the upquery, with that number.
+    Send(u64),
     /// To a request: an upquery is under way.
     Waiting,
     /// To a request: the key is filled.
@@ -50,6 +52,8 @@ pub enum Reply {
     Done,
     /// To a fill: nobody asked for the key.
     NotAsked,
+    /// To a fill: it answers a request of another number, which was cancelled.
+    Stale,
     /// To a fill: the key is filled.
     Already,
     /// To an update: the key is not filled, so the batch is dropped.
@@ -60,6 +64,10 @@ pub enum Reply {
     TooMany,
     /// To an eviction: the key was filled and is a hole now.
     Evicted,
-    /// To an eviction: the key was not filled.
+    /// To an eviction: the key was not filled. To a cancel: the key was not asked for.
     Nothing,
+    /// To a cancel: the request is taken back, and the key's next request gets the next number.
+    Cancelled,
+    /// To a cancel: the request has the last number, so it stays until its own fill.
+    Worn,
 }

@@ -1,5 +1,5 @@
 //! Laws over the definitions alone. Nothing runs here: each function's contract is the law.
-ghost use Rattle.nr_model.specs.Laws.{OrderKeepsRows, CountsDecide, OrderedStay, BatchMovesRows, BatchLacksRow, LegalGoesOn, LegalBegins, SendsAreFilled};
+ghost use Rattle.nr_model.specs.Laws.{OrderKeepsRows, CountsDecide, OrderedStay, BatchMovesRows, BatchLacksRow, LegalGoesOn, LegalBegins, SendsAreAnswered, NumbersCountCancels, AnswersFitTheirRequests};
 
 /// A list in order has the same rows as before, ascending.
 pub fn order_keeps_rows()
@@ -36,7 +36,18 @@ pub fn legal_begins()
     ensures { LegalBegins }
 {}
 
-/// Each request that was sent was filled once, but the one that is pending.
-pub fn sends_are_filled()
-    ensures { SendsAreFilled }
+/// Each request that was sent was filled or cancelled once, but the one that is pending.
+pub fn sends_are_answered()
+    ensures { SendsAreAnswered }
+{}
+
+/// A key's number is the first number and one more for each cancel; it never passes the last one.
+pub fn numbers_count_cancels()
+    ensures { NumbersCountCancels }
+{}
+
+/// A request that is sent tells the first number and one more for each cancel before it, and a
+/// fill is done under that number alone: an answer to a request that was cancelled never fills.
+pub fn answers_fit_their_requests()
+    ensures { AnswersFitTheirRequests }
 {}

@@ -19,4 +19,4 @@ pub use calls::{Call, Reply};
 pub use rows::{MAX_ROWS, Row, RowSet, TooMany};
 pub use seq_map::{MAX_KEYS, OpenFault, SeqMap};
 pub use sizes::is_bad_size;
-pub use states::KeyState;
+pub use states::{KeyState, LAST_NUMBER};

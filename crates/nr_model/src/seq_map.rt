@@ -1,12 +1,12 @@
 //! The partial map that one caller uses.
-ghost use Rattle.std.specs.Prelude.{◌≡◌, ◌≤◌, ◌<◌, ◌↔◌, ℕ, length, IfOk, Err};
-ghost use Rattle.nr_model.specs.Maps.{opening, state_of, reply_to, next, key_of, key_count};
+ghost use Rattle.std.specs.Prelude.{◌≡◌, ◌≤◌, ◌<◌, ◌↔◌, ◌⊎◌, ℕ, length, IfOk, Err};
+ghost use Rattle.nr_model.specs.Maps.{last_number, opening, state_of, reply_to, next, key_of, key_count};
 ghost use Rattle.nr_model.specs.Sizes.{IsBadSize};
 
 use crate::calls::{Call, Reply};
 use crate::rows::MAX_ROWS;
 use crate::sizes::is_bad_size;
-use crate::states::KeyState;
+use crate::states::{KeyState, LAST_NUMBER};
 use std::alloc::Global;
 use std::marker::Model;
 use thiserror::Error;
@@ -44,16 +44,27 @@ impl Model for SeqMap {
 }
 
 impl SeqMap {
-    /// A map of so many keys, each a hole. Refused unless there are 1 to 65,536, and then where
-    /// there is no memory.
+    /// A map of so many keys, each a hole with ask number 0. Refused unless there are 1 to 65,536,
+    /// and then where there is no memory.
     pub fn open(alloc: Global, keys: u32) -> Result<SeqMap, OpenFault>
         ensures bad_size { (result ≡ Err OpenFault.BadSize) ↔ IsBadSize MAX_KEYS keys }
-        ensures ok { IfOk result (λ map. map ≡ opening keys MAX_ROWS) }
+        ensures ok { IfOk result (λ map. map ≡ opening keys MAX_ROWS 0) }
     {
-        if is_bad_size(MAX_KEYS, keys) {
+        SeqMap::open_with(alloc, keys, 0)
+    }
+
+    /// A map of so many keys, each a hole with the first ask number. Refused unless there are 1 to
+    /// 65,536 keys and the number is at most 4,194,303, and then where there is no memory.
+    pub fn open_with(alloc: Global, keys: u32, first_number: u64) -> Result<SeqMap, OpenFault>
+        ensures bad_size { (result ≡ Err OpenFault.BadSize) ↔ (IsBadSize MAX_KEYS keys ⊎ (last_number < first_number)) }
+        ensures ok { IfOk result (λ map. map ≡ opening keys MAX_ROWS first_number) }
+    {
+        if is_bad_size(MAX_KEYS, keys) || first_number > LAST_NUMBER {
             return Err(OpenFault::BadSize);
         }
-        let states = vec![in alloc; KeyState::Hole; keys as usize].map_err(|_| OpenFault::Memory)?;
+        let states = vec![in alloc; KeyState::Hole(first_number); keys as usize].map_err(
+            |_| OpenFault::Memory,
+        )?;
         Ok(SeqMap { states })
     }
 
@@ -85,9 +96,10 @@ impl SeqMap {
         match call {
             Call::Find(_) => state.find(),
             Call::Ask(_) => state.ask(),
-            Call::Fill(_, rows) => state.fill(rows),
+            Call::Fill(_, number, rows) => state.fill(*number, rows),
             Call::Update(_, batch) => state.update(batch),
             Call::Evict(_) => state.evict(),
+            Call::Cancel(_) => state.cancel(),
         }
     }
 }

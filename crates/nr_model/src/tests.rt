@@ -1,6 +1,6 @@
 use super::{
-    ApplyFault, Batch, BatchFault, Call, Delta, KeyState, MAX_KEYS, OpenFault, Reply, Row, RowSet,
-    SeqMap, TooMany, is_bad_size,
+    ApplyFault, Batch, BatchFault, Call, Delta, KeyState, LAST_NUMBER, MAX_KEYS, OpenFault, Reply,
+    Row, RowSet, SeqMap, TooMany, is_bad_size,
 };
 use std::test::Fail;
 
@@ -118,7 +118,28 @@ fn sizes_have_their_limits(rt: HostRuntime) -> Result<(), Fail> {
     );
     let map = SeqMap::open(rt.alloc(), MAX_KEYS).map_err(|_| "not opened")?;
     assert_eq!(rt; map.keys(), 65_536);
-    assert!(rt; matches!(&map.state(65_535), KeyState::Hole));
+    assert!(rt; matches!(&map.state(65_535), KeyState::Hole(0)));
+    Ok(())
+}
+
+#[test]
+fn first_numbers_have_their_limit(rt: HostRuntime) -> Result<(), Fail> {
+    assert_eq!(rt; LAST_NUMBER, 4_194_303);
+    assert!(rt;
+        matches!(
+            &SeqMap::open_with(rt.alloc(), 1, 4_194_304),
+            Err(OpenFault::BadSize)
+        )
+    );
+    assert!(rt;
+        matches!(
+            &SeqMap::open_with(rt.alloc(), 0, 4_194_303),
+            Err(OpenFault::BadSize)
+        )
+    );
+    let map = SeqMap::open_with(rt.alloc(), 1, 4_194_303).map_err(|_| "not opened")?;
+    assert!(rt; matches!(&map.state(0), KeyState::Hole(4_194_303)));
+    assert_eq!(rt; map.state(0).number(), 4_194_303);
     Ok(())
 }
 
@@ -127,26 +148,47 @@ fn a_key_is_asked_filled_updated_and_evicted(rt: HostRuntime) -> Result<(), Fail
     let mut map = SeqMap::open(rt.alloc(), 2).map_err(|_| "not opened")?;
     let set = set_of(&[row(1, 1)])?;
     let batch = batch_of(&[plus(2, 2)])?;
-    assert!(rt; matches!(&map.call(&Call::Fill(1, set)), Reply::NotAsked));
+    assert!(rt; matches!(&map.call(&Call::Fill(1, 0, set)), Reply::NotAsked));
     assert!(rt; matches!(&map.call(&Call::Update(1, batch)), Reply::Dropped));
-    assert_eq!(rt; Call::Fill(1, set).key(), 1);
-    assert!(rt; matches!(&map.call(&Call::Ask(1)), Reply::Send));
+    assert_eq!(rt; Call::Fill(1, 0, set).key(), 1);
+    assert!(rt; matches!(&map.call(&Call::Ask(1)), Reply::Send(0)));
     assert!(rt; !map.state(1).is_filled());
     assert!(rt; matches!(&map.call(&Call::Ask(1)), Reply::Waiting));
     assert!(rt; matches!(&map.call(&Call::Evict(1)), Reply::Nothing));
     assert!(rt; matches!(&map.call(&Call::Find(1)), Reply::Hole));
-    assert!(rt; matches!(&map.call(&Call::Fill(1, set)), Reply::Done));
+    assert!(rt; matches!(&map.call(&Call::Fill(1, 0, set)), Reply::Done));
     assert!(rt; matches!(&map.call(&Call::Ask(1)), Reply::Filled));
-    assert!(rt; matches!(&map.call(&Call::Fill(1, set)), Reply::Already));
+    assert!(rt; matches!(&map.call(&Call::Fill(1, 0, set)), Reply::Already));
     assert!(rt; matches!(&map.call(&Call::Update(1, batch)), Reply::Done));
     let Reply::Rows(rows) = map.call(&Call::Find(1)) else {
         return Err("the key was not found".into());
     };
     assert_eq!(rt; rows.len(), 2);
-    assert!(rt; matches!(&map.state(1), KeyState::Rows(_)));
+    assert!(rt; matches!(&map.state(1), KeyState::Rows(0, _)));
     assert!(rt; map.state(1).is_filled());
-    assert!(rt; matches!(&map.state(0), KeyState::Hole));
+    assert!(rt; matches!(&map.state(0), KeyState::Hole(0)));
     assert!(rt; matches!(&map.call(&Call::Evict(1)), Reply::Evicted));
     assert!(rt; matches!(&map.call(&Call::Find(1)), Reply::Hole));
+    Ok(())
+}
+
+#[test]
+fn a_request_is_cancelled_until_its_number_is_worn(rt: HostRuntime) -> Result<(), Fail> {
+    let mut map = SeqMap::open_with(rt.alloc(), 1, 4_194_302).map_err(|_| "not opened")?;
+    let late = Call::Fill(0, 4_194_302, set_of(&[row(1, 1)])?);
+    let answer = Call::Fill(0, 4_194_303, set_of(&[row(1, 1)])?);
+    assert!(rt; matches!(&map.call(&Call::Ask(0)), Reply::Send(4_194_302)));
+    assert!(rt; matches!(&map.call(&Call::Cancel(0)), Reply::Cancelled));
+    assert!(rt; matches!(&map.call(&Call::Cancel(0)), Reply::Nothing));
+    assert!(rt; matches!(&map.call(&Call::Ask(0)), Reply::Send(4_194_303)));
+    assert!(rt; matches!(&map.call(&late), Reply::Stale));
+    assert!(rt; matches!(&map.call(&Call::Cancel(0)), Reply::Worn));
+    assert!(rt; matches!(&map.call(&Call::Ask(0)), Reply::Waiting));
+    assert!(rt; matches!(&map.call(&answer), Reply::Done));
+    assert!(rt; matches!(&map.call(&Call::Cancel(0)), Reply::Nothing));
+    assert!(rt; matches!(&map.call(&Call::Evict(0)), Reply::Evicted));
+    assert!(rt; matches!(&map.call(&Call::Fill(0, 0, RowSet::new())), Reply::NotAsked));
+    assert!(rt; matches!(&map.call(&Call::Ask(0)), Reply::Send(4_194_303)));
+    assert!(rt; matches!(&map.call(&answer), Reply::Done));
     Ok(())
 }

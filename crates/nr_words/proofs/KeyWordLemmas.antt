@@ -7,7 +7,7 @@ use Rattle.std.specs.Int.{from_bool}
 use Rattle.std.specs.Int.Bits.{or_zero_r}
 use Rattle.nr_words.specs.declared.key_words.KeyParts.{KeyParts}
 use Rattle.nr_words.specs.KeyWords.{key_word, has_ask, is_filled, slot_of, arrivals_of, parts_of, with_arrival, with_ask}
-use Rattle.nr_words.specs.Laws.{ArrivalCountsOne, AskSetsFlag, ReadersKeepNames}
+use Rattle.nr_words.specs.Laws.{ArrivalCountsOne, AskSetsFlag, ReadersKeepNames, ReadersKeepNumbers}
 
 -- BY SHIFTS AND MASKS
 
@@ -93,3 +93,8 @@ pub readers_keep_names_lem : ReadersKeepNames
 readers_keep_names_lem word =
     let name = λ (parts : KeyParts). (if parts.filled then Some parts.slot else None) in
     (ap name (arrival_counts_one_lem word), ap name (ask_sets_flag_lem word))
+
+pub readers_keep_numbers_lem : ReadersKeepNumbers
+readers_keep_numbers_lem word =
+    let number = λ (parts : KeyParts). (if parts.filled then None else Some parts.slot) in
+    (ap number (arrival_counts_one_lem word), ap number (ask_sets_flag_lem word))

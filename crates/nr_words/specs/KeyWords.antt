@@ -1,4 +1,4 @@
--- What a key's word says: whether the key is asked, whether it is filled, which slot it names, and how many readers have arrived, modulo 2^40.
+-- What a key's word says: whether the key is asked, whether it is filled, which slot it names or, where it is not filled, its ask number, and how many readers have arrived, modulo 2^40.
 use Rattle.std.specs.Prelude.{ℕ, ◌+◌, ◌*◌, ◌/◌, ◌%◌, ◌^◌, ◌==◌, Bool, true, false, if◌then◌else◌, bit_or, Option, Some, None}
 use Rattle.std.specs.Int.{from_bool}
 use Rattle.nr_words.specs.declared.key_words.KeyParts.{KeyParts}
@@ -11,6 +11,10 @@ key_word parts = from_bool parts.ask + 2 * from_bool parts.filled + 4 * parts.sl
 -- the word that fills a key with a slot whose departures are these: its arrivals begin there, so that nobody holds the slot
 abbrev pub naming : ℕ → ℕ → ℕ
 naming slot departed = key_word (record { ask = false; filled = true; slot = slot; arrivals = departed % 2 ^ 40 })
+
+-- the word of a key without rows, asked or not, that has the number: nobody has arrived yet
+abbrev pub hole_word : ℕ → Bool → ℕ
+hole_word number ask = key_word (record { ask = ask; filled = false; slot = number; arrivals = 0 })
 
 -- the parts of a word
 abbrev pub has_ask : ℕ → Bool
@@ -31,6 +35,10 @@ parts_of word = record { ask = has_ask word; filled = is_filled word; slot = slo
 -- the slot that a word names, if it is filled
 abbrev pub name_of : ℕ → Option ℕ
 name_of word = (if is_filled word then Some (slot_of word) else None)
+
+-- the ask number that a word carries, if it is not filled
+abbrev pub number_in : ℕ → Option ℕ
+number_in word = (if is_filled word then None else Some (slot_of word))
 
 -- the word after one more reader has arrived
 abbrev pub with_arrival : ℕ → ℕ

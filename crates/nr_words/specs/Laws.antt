@@ -3,7 +3,7 @@ use Rattle.std.specs.Prelude.{◌≡◌, ℕ, ◌+◌, ◌*◌, ◌%◌, ◌^◌
 use Rattle.nr_model.specs.declared.rows.Row.{Row}
 use Rattle.nr_model.specs.Rows.{IsRowSet}
 use Rattle.nr_words.specs.declared.layout.Layout.{Layout}
-use Rattle.nr_words.specs.KeyWords.{parts_of, arrivals_of, name_of, with_arrival, with_ask}
+use Rattle.nr_words.specs.KeyWords.{parts_of, arrivals_of, name_of, number_in, with_arrival, with_ask}
 use Rattle.nr_words.specs.SetWords.{Spells, row_count, decode}
 use Rattle.nr_words.specs.Places.{Word, HasWord, place_of, total_of}
 
@@ -18,6 +18,10 @@ AskSetsFlag = (word : ℕ) → parts_of (with_ask word) ≡ record (parts_of wor
 -- neither an arrival nor a request changes what the word names
 abbrev pub ReadersKeepNames : Type 0
 ReadersKeepNames = (word : ℕ) → (name_of (with_arrival word) ≡ name_of word) × (name_of (with_ask word) ≡ name_of word)
+
+-- neither an arrival nor a request changes the ask number that the word carries
+abbrev pub ReadersKeepNumbers : Type 0
+ReadersKeepNumbers = (word : ℕ) → (number_in (with_arrival word) ≡ number_in word) × (number_in (with_ask word) ≡ number_in word)
 
 -- words decode to a row set exactly where they begin with what encode makes of it
 abbrev pub DecodeUndoesEncode : Type 0

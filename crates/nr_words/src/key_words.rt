@@ -1,7 +1,8 @@
 //! A key's word: bit 0 says that the key is asked, bit 1 that it is filled, bits 2 to 23 are the
-//! slot that it names, and bits 24 to 63 count the readers that arrived, modulo 2^40.
-ghost use Rattle.std.specs.Prelude.{◌≡◌, ◌<◌, ◌^◌};
-ghost use Rattle.nr_words.specs.KeyWords.{key_word, naming, parts_of, same_count};
+//! slot that it names or, where it isn't filled, its ask number, and bits 24 to 63 count the readers
+//! that arrived, modulo 2^40.
+ghost use Rattle.std.specs.Prelude.{◌≡◌, ◌<◌, ◌^◌, false};
+ghost use Rattle.nr_words.specs.KeyWords.{hole_word, key_word, naming, parts_of, same_count};
 
 /// What one more arrival adds to a key's word.
 pub const ARRIVE: u64 = 1 << ARRIVALS_SHIFT;
@@ -17,7 +18,7 @@ const SLOT_MASK: u64 = (1 << 22) - 1;
 
 const ARRIVALS_SHIFT: u32 = 24;
 
-/// What a key's word packs. The slot says nothing of a key that isn't filled, and `ask` says
+/// What a key's word packs. `slot` is the ask number of a key that isn't filled, and `ask` says
 /// nothing of one that is.
 #[derive(Clone, Copy, Debug, PartialEq, Eq)]
 pub struct KeyParts {
@@ -38,6 +39,21 @@ pub fn key_word(parts: KeyParts) -> u64
         | (u64::from(parts.slot) << SLOT_SHIFT)
         | (u64::from(parts.filled) << FILLED_SHIFT)
         | u64::from(parts.ask)
+}
+
+/// The word of a key that isn't filled, asked for or not: its ask number, below 2^22, and no
+/// arrivals.
+pub fn hole_word(number: u64, ask: bool) -> u64
+    requires { number < 2 ^ 22 }
+    ensures word { result ≡ hole_word number ask }
+    ensures comes_back { parts_of result ≡ record { ask = ask; filled = false; slot = number; arrivals = 0 } }
+{
+    key_word(KeyParts {
+        ask,
+        filled: false,
+        slot: number as u32,
+        arrivals: 0,
+    })
 }
 
 /// The word that fills a key with a slot below 2^22 whose departures are these. Its arrivals begin

@@ -1,5 +1,5 @@
 //! Laws over the definitions alone. Nothing runs here: each function's contract is the law.
-ghost use Rattle.nr_words.specs.Laws.{ArrivalCountsOne, AskSetsFlag, ReadersKeepNames, DecodeUndoesEncode, DecodeReadsWhatCounts, PlacesDiffer, PlacesAreBelowTotal};
+ghost use Rattle.nr_words.specs.Laws.{ArrivalCountsOne, AskSetsFlag, ReadersKeepNames, ReadersKeepNumbers, DecodeUndoesEncode, DecodeReadsWhatCounts, PlacesDiffer, PlacesAreBelowTotal};
 
 /// An arrival changes the arrivals alone, by one modulo 2^40.
 pub fn arrival_counts_one()
@@ -14,6 +14,11 @@ pub fn ask_sets_flag()
 /// Neither an arrival nor a request changes what the word names.
 pub fn readers_keep_names()
     ensures { ReadersKeepNames }
+{}
+
+/// Neither an arrival nor a request changes the ask number that the word carries.
+pub fn readers_keep_numbers()
+    ensures { ReadersKeepNumbers }
 {}
 
 /// Words decode to a row set exactly where they begin with what encode makes of it.

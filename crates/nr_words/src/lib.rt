@@ -11,7 +11,7 @@ mod set_words;
 #[cfg(test)]
 mod tests;
 
-pub use key_words::{ARRIVE, COUNTS, KeyParts, key_word, naming, parts, same_count};
+pub use key_words::{ARRIVE, COUNTS, KeyParts, hole_word, key_word, naming, parts, same_count};
 pub use layout::Layout;
 pub use opening::opening_words;
 pub use set_words::{CONTENT_WORDS, decode, encode};

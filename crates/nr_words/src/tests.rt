@@ -1,8 +1,8 @@
 ghost use Rattle.std.specs.Prelude.{◌<◌, ◌^◌};
 
 use super::{
-    ARRIVE, CONTENT_WORDS, KeyParts, Layout, decode, encode, key_word, naming, opening_words,
-    parts, same_count,
+    ARRIVE, CONTENT_WORDS, KeyParts, Layout, decode, encode, hole_word, key_word, naming,
+    opening_words, parts, same_count,
 };
 use nr_model::{Row, RowSet};
 use std::process::Abort;
@@ -46,6 +46,14 @@ fn an_arrival_wraps_the_count_alone(rt: HostRuntime) {
     assert_eq!(rt; ARRIVE, 16777216);
     assert_eq!(rt; 18446744073692774402u64.wrapping_add(ARRIVE), 2);
     assert_packs(&rt, false, true, 0, 0, 2);
+}
+
+#[test]
+fn holes_carry_their_numbers(rt: HostRuntime) {
+    assert_eq!(rt; hole_word(0, false), 0);
+    assert_eq!(rt; hole_word(3, true), 13);
+    assert_eq!(rt; hole_word(4194303, false), 16777212);
+    assert_packs(&rt, false, false, 4194303, 0, 16777212);
 }
 
 #[test]
@@ -113,13 +121,19 @@ fn layouts_place_each_word(rt: HostRuntime) {
 }
 
 #[test]
-fn a_new_map_has_holes_and_first_counts(rt: HostRuntime) -> Result<(), Fail> {
+fn a_new_map_has_holes_with_first_numbers_and_slots_with_first_counts(
+    rt: HostRuntime,
+) -> Result<(), Fail> {
     let layout = Layout { keys: 2, slots: 3 };
-    let words = opening_words(rt.alloc(), layout, 7).map_err(|_| "no memory")?;
+    let words = opening_words(rt.alloc(), layout, 7, 3).map_err(|_| "no memory")?;
     assert_eq!(rt; words.len(), 98);
     for (place, word) in words.iter().enumerate() {
-        let is_departures = place == 2 || place == 34 || place == 66;
-        assert_eq!(rt; *word, if is_departures { 7 } else { 0 });
+        let expected = match place {
+            0 | 1 => 12,
+            2 | 34 | 66 => 7,
+            _ => 0,
+        };
+        assert_eq!(rt; *word, expected);
     }
     Ok(())
 }

@@ -94,6 +94,6 @@ fn asked_at(word: u64) -> AskReply
     } else if found.ask {
         AskReply::Waiting
     } else {
-        AskReply::Send
+        AskReply::Send(u64::from(found.slot))
     }
 }

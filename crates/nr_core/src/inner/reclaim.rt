@@ -21,7 +21,7 @@ impl Inner {
         ensures new { self.new ≡ record self.old { desk = (settled self.old.shape self.old.desk call rows).0 } }
     {
         if self.fresh < self.layout.slots {
-            self.place = Place::Putting(call, rows, self.fresh, self.first, 0);
+            self.place = Place::Putting(call, rows, self.fresh, self.first_count, 0);
             self.fresh += 1;
             Step::Going
         } else if self.retired.is_empty() {

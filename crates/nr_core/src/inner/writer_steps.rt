@@ -1,11 +1,11 @@
 //! The steps of the writer: each is one operation on one word.
 ghost use Rattle.std.specs.Prelude.{◌≡◌, ◌<◌, ◌≤◌, ◌*◌, ◌^◌, ◌∷◌, ◌++◌, [], length};
 ghost use Rattle.nr_model.specs.declared.rows.TheConstants.{MAX_ROWS};
-ghost use Rattle.nr_core.specs.declared.places.Place.TheVariants.{Idle, Reading, Leaving, Searching, Putting};
+ghost use Rattle.nr_core.specs.declared.places.Place.TheVariants.{Idle, Reading, Leaving, Withdrawing, Searching, Putting};
 ghost use Rattle.nr_core.specs.States.{Start, Go};
 ghost use Rattle.nr_core.specs.Machine.{next, moved, found_by, start_answer, go_answer};
 ghost use Rattle.nr_core.specs.Writer.{looked, decided, renewed, read_on, put_on, went, ended, moved_to};
-ghost use Rattle.nr_core.specs.Slots.{naming};
+ghost use Rattle.nr_core.specs.Slots.{bound_of, naming};
 ghost use Rattle.nr_core.specs.Laws.{IsGivenCall};
 ghost use Rattle.nr_core.specs.Reach.{HasRoom};
 
@@ -13,8 +13,8 @@ use crate::calls::{Refusal, Step, WReply, WriterCall};
 use crate::inner::Inner;
 use crate::places::Place;
 use crate::words_read::WordsRead;
-use nr_model::{ApplyFault, Reply, RowSet};
-use nr_words::{CONTENT_WORDS, KeyParts, encode, key_word, parts};
+use nr_model::{ApplyFault, LAST_NUMBER, Reply, RowSet};
+use nr_words::{CONTENT_WORDS, KeyParts, encode, hole_word, key_word, parts};
 
 impl Inner {
     /// The look: loads the word of the call's key.
@@ -22,7 +22,7 @@ impl Inner {
         requires { HasRoom self.old }
         ensures answer { result ≡ start_answer self.old call.now }
         ensures new { self.new ≡ next self.old (Start call.now) }
-        ensures given { IsGivenCall self.old.shape.bound call.now }
+        ensures given { IsGivenCall (bound_of self.old.shape) call.now }
     {
         call.given();
         self.may_start(call)?;
@@ -41,6 +41,7 @@ impl Inner {
             Place::Idle => Err(Refusal::NotBusy),
             Place::Reading(call, slot, got) => Ok(self.read_on(call, slot, got)),
             Place::Leaving(key) => Ok(self.unpublish(key)),
+            Place::Withdrawing(key) => Ok(self.withdraw(key)),
             Place::Searching(call, rows, poll) => Ok(self.poll(call, rows, poll)),
             Place::Putting(call, rows, slot, departed, index) => {
                 if index as usize <= 2 * rows.len() {
@@ -67,13 +68,15 @@ impl Inner {
                     self.end(Reply::Hole)
                 }
             }
-            WriterCall::Fill(_, rows) => {
+            WriterCall::Fill(_, number, rows) => {
                 if found.filled {
                     self.end(Reply::Already)
-                } else if found.ask {
-                    self.settle(call, rows)
-                } else {
+                } else if !found.ask {
                     self.end(Reply::NotAsked)
+                } else if u64::from(found.slot) != number {
+                    self.end(Reply::Stale)
+                } else {
+                    self.settle(call, rows)
                 }
             }
             WriterCall::Update(_, _) => {
@@ -88,6 +91,15 @@ impl Inner {
                     self.go_to(Place::Leaving(key))
                 } else {
                     self.end(Reply::Nothing)
+                }
+            }
+            WriterCall::Cancel(key) => {
+                if found.filled || !found.ask {
+                    self.end(Reply::Nothing)
+                } else if u64::from(found.slot) < LAST_NUMBER {
+                    self.go_to(Place::Withdrawing(key))
+                } else {
+                    self.end(Reply::Worn)
                 }
             }
         }
@@ -111,7 +123,6 @@ impl Inner {
 
     /// Where the call goes from its last read, which completes the set. Only finds and updates read.
     fn decide(&mut self, call: WriterCall, rows: RowSet) -> Step
-        requires bound { self.old.shape.bound ≡ MAX_ROWS }
         requires few { length self.old.desk.retired ≤ self.old.shape.slots }
         ensures answer { result ≡ (decided self.old.shape self.old.desk call rows).1 }
         ensures new { self.new ≡ record self.old { desk = (decided self.old.shape self.old.desk call rows).0 } }
@@ -119,7 +130,9 @@ impl Inner {
         match call {
             WriterCall::Find(_) => self.end(Reply::Rows(rows)),
             WriterCall::Update(_, batch) => self.renew(call, rows.applied(&batch)),
-            WriterCall::Fill(_, _) | WriterCall::Evict(_) => self.go_to(Place::Idle),
+            WriterCall::Fill(_, _, _) | WriterCall::Evict(_) | WriterCall::Cancel(_) => {
+                self.go_to(Place::Idle)
+            }
         }
     }
 
@@ -174,16 +187,33 @@ impl Inner {
         Step::Ended(WReply::Reply(Reply::Done))
     }
 
-    /// Swaps in the word of a hole. The slot that the old word named is retired.
+    /// Swaps in the word of a hole with the key's number. The slot that the old word named is
+    /// retired.
     fn unpublish(&mut self, key: u32) -> Step
         requires place { self.old.desk.place ≡ Leaving key }
         requires room { HasRoom self.old }
         ensures answer { result ≡ (went self.old.shape self.old.desk self.old.desk.place (found_by self.old Go)).1 }
         ensures new { self.new ≡ moved self.old Go }
     {
-        let word = self.words.swap(self.layout.key(key), 0);
+        let hole = hole_word(self.number(key), false);
+        let word = self.words.swap(self.layout.key(key), hole);
         self.retire(word);
         Step::Ended(WReply::Reply(Reply::Evicted))
+    }
+
+    /// Swaps in the word of a hole with the next number, so that an answer to the request that is
+    /// taken back fills no later one. The old word names no slot.
+    fn withdraw(&mut self, key: u32) -> Step
+        requires place { self.old.desk.place ≡ Withdrawing key }
+        requires room { HasRoom self.old }
+        ensures answer { result ≡ (went self.old.shape self.old.desk self.old.desk.place (found_by self.old Go)).1 }
+        ensures new { self.new ≡ moved self.old Go }
+    {
+        let number = self.number(key) + 1;
+        self.words
+            .swap(self.layout.key(key), hole_word(number, false));
+        self.numbers[key as usize] = number;
+        self.end(Reply::Cancelled)
     }
 
     /// The call goes on from another place.

@@ -1,4 +1,5 @@
-use Rattle.std.proofs.Common.{◌≡◌, ◌∙◌, ℕ, zero, suc, ◌+◌, ◌++◌, List, ap, sym, append_assoc, append-nil, add-one, replicate}
+use Rattle.std.proofs.Common.{false, ◌≡◌, ◌∙◌, ℕ, zero, suc, ◌+◌, ◌++◌, List, ap, sym, append_assoc, append-nil, add-one, replicate}
+use Rattle.nr_words.specs.KeyWords.{hole_word}
 use Rattle.nr_core.specs.Slots.{repeated}
 use Rattle.nr_core.proofs.words.Words.open.Goals as goal
 
@@ -11,4 +12,4 @@ with_one_more : {A : Type 0} (before : List A) (n : ℕ) (xs cells more : List A
 with_one_more before n xs cells more e f = rw (f, e, add-one, append_assoc) (ap (λ rest. before ++ rest) (sym (repeated_more n xs)))
 
 pub loop-slot-preserved : goal.loop-slot-preserved
-loop-slot-preserved c = with_one_more (replicate c.args.layout.keys 0) _ _ _ _ c.loop-slot.invariant c.in_ok-extend_from_slice.ensures.items
+loop-slot-preserved c = with_one_more (replicate c.args.layout.keys (hole_word c.args.first_number false)) _ _ _ _ c.loop-slot.invariant c.in_ok-extend_from_slice.ensures.items
