@@ -1,11 +1,1 @@
-mod CountLemmas
-mod CountedLemmas
-mod InputLemmas
-mod KeptLemmas
-mod LineLemmas
 mod ProgramLemmas
-mod RunLemmas
-mod ScheduleLemmas
-mod SpellingLemmas
-mod TextLemmas
-mod WordLemmas

@@ -1,0 +1,4 @@
+mod InputLemmas
+mod LineLemmas
+mod RunLemmas
+mod TextLemmas

@@ -1,8 +1,0 @@
-use Rattle.nr_prog.specs.declared.command.TheConstants.{KEPT_ROWS}
-use Rattle.nr_prog.specs.Grammar.{row}
-use Rattle.nr_prog.specs.Words.{words_left}
-use Rattle.nr_prog.proofs.KeptLemmas.{Keeps}
-use Rattle.nr_prog.proofs.command.set.Given as goal
-
-abbrev pub invariant-loop-word : goal.invariant-loop-word
-invariant-loop-word l = Keeps row KEPT_ROWS (words_left l.fn.words) (words_left l.word-iterator) l.kept l.len

@@ -1,5 +1,0 @@
-use Rattle.nr_prog.proofs.ScheduleLemmas.{schedule_runs_lem}
-use Rattle.nr_prog.proofs.laws.schedule_runs.Goals as goal
-
-pub returns : goal.returns
-returns c = schedule_runs_lem

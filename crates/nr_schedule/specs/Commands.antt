@@ -1,0 +1,54 @@
+-- The grammar of schedules: what each line commands.
+use Rattle.std.specs.Prelude.{ℕ, if◌then◌else◌, List, [], ◌∷◌, Option, Some, None, codes, option_and_then, option_map}
+use Rattle.std.specs.Str.{bytes_eq}
+use Rattle.nr_schedule.specs.declared.command.Command.{Command}
+use Rattle.nr_schedule.specs.declared.command.Command.TheVariants.{Open, Arrive, Read, Depart, Ask, Find, Fill, Update, Evict, Go}
+use Rattle.nr_text.specs.Grammar.{number, row, delta, each, set_of, batch_of}
+use Rattle.nr_text.specs.Opening.{opening}
+
+-- a number alone, and two numbers
+abbrev pub one_number : (ℕ → Command) → List (List ℕ) → Option Command
+one_number command (word ∷ []) = option_map command (number word)
+one_number command other = None
+
+abbrev pub two_numbers : (ℕ → ℕ → Command) → List (List ℕ) → Option Command
+two_numbers command (first ∷ second ∷ []) = option_and_then (λ a. option_map (λ b. command a b) (number second)) (number first)
+two_numbers command other = None
+
+-- a key and rows
+abbrev pub filling : List (List ℕ) → Option Command
+filling [] = None
+filling (word ∷ more) = option_and_then (λ key. option_map (λ rows. Fill key (set_of rows)) (each row more)) (number word)
+
+-- a key and signed rows
+abbrev pub updating : List (List ℕ) → Option Command
+updating [] = None
+updating (word ∷ more) = option_and_then (λ key. option_map (λ batch. Update key batch) (option_and_then batch_of (each delta more))) (number word)
+
+-- a call of the writer
+abbrev pub by_writer : List (List ℕ) → Option Command
+by_writer [] = None
+by_writer (name ∷ more) =
+    if bytes_eq name (codes "find") then one_number Find more
+    else if bytes_eq name (codes "fill") then filling more
+    else if bytes_eq name (codes "update") then updating more
+    else if bytes_eq name (codes "evict") then one_number Evict more
+    else None
+
+-- the name alone
+abbrev pub alone : Command → List (List ℕ) → Option Command
+alone command [] = Some command
+alone command other = None
+
+-- the command that a line's words spell
+abbrev pub command : List (List ℕ) → Option Command
+command [] = None
+command (name ∷ more) =
+    if bytes_eq name (codes "open") then option_map Open (opening more)
+    else if bytes_eq name (codes "arrive") then two_numbers Arrive more
+    else if bytes_eq name (codes "read") then two_numbers Read more
+    else if bytes_eq name (codes "depart") then one_number Depart more
+    else if bytes_eq name (codes "ask") then two_numbers Ask more
+    else if bytes_eq name (codes "writer") then by_writer more
+    else if bytes_eq name (codes "go") then alone Go more
+    else None

@@ -1,0 +1,58 @@
+-- How the answers to a schedule's lines are spelled.
+use Rattle.std.specs.Prelude.{ℕ, List, ◌∷◌, ◌++◌, codes, Result, Ok, Err}
+use Rattle.std.specs.Fmt.{decimal}
+use Rattle.nr_core.specs.declared.calls.Arrived.{Arrived}
+use Rattle.nr_core.specs.declared.calls.Arrived.TheVariants as arrived
+use Rattle.nr_core.specs.declared.calls.AskReply.{AskReply}
+use Rattle.nr_core.specs.declared.calls.AskReply.TheVariants as asked
+use Rattle.nr_core.specs.declared.calls.Step.{Step}
+use Rattle.nr_core.specs.declared.calls.Step.TheVariants.{Going, Ended}
+use Rattle.nr_core.specs.declared.calls.WReply.TheVariants as ended
+use Rattle.nr_core.specs.declared.calls.Refusal.{Refusal}
+use Rattle.nr_core.specs.declared.calls.Refusal.TheVariants.{Holding, NotHolding, Busy, NotBusy, OutOfRange}
+use Rattle.nr_schedule.specs.declared.answer.StepAnswer.{StepAnswer}
+use Rattle.nr_schedule.specs.declared.answer.StepAnswer.TheVariants as answer
+use Rattle.nr_schedule.specs.declared.answer.StepRefusal.{StepRefusal}
+use Rattle.nr_schedule.specs.declared.answer.StepRefusal.TheVariants as refusal
+use Rattle.nr_text.specs.Spelling.{spelled_reply}
+
+abbrev pub spelled_arrived : Arrived → List ℕ
+spelled_arrived arrived.Held = codes "held"
+spelled_arrived arrived.Hole = codes "hole"
+
+abbrev pub spelled_asked : AskReply → List ℕ
+spelled_asked asked.Send = codes "send"
+spelled_asked asked.Waiting = codes "waiting"
+spelled_asked asked.Filled = codes "filled"
+
+-- the writer's call goes on, or has ended: with no slot, the live number and the held number
+abbrev pub spelled_step : Step → List ℕ
+spelled_step Going = codes "-"
+spelled_step (Ended (ended.Reply reply)) = spelled_reply reply
+spelled_step (Ended (ended.NoSlot counts)) = codes "no-slot" ++ 32 ∷ (decimal counts.live ++ 32 ∷ decimal counts.held)
+
+abbrev pub spelled_answer : StepAnswer → List ℕ
+spelled_answer answer.Ok = codes "ok"
+spelled_answer (answer.Arrived found) = spelled_arrived found
+spelled_answer (answer.Word word) = decimal word
+spelled_answer (answer.Asked reply) = spelled_asked reply
+spelled_answer (answer.Writer step) = spelled_step step
+
+-- the machine's refusals
+abbrev pub spelled_refused : Refusal → List ℕ
+spelled_refused Holding = codes "holding"
+spelled_refused NotHolding = codes "not-holding"
+spelled_refused Busy = codes "busy"
+spelled_refused NotBusy = codes "not-busy"
+spelled_refused OutOfRange = codes "out-of-range"
+
+abbrev pub spelled_refusal : StepRefusal → List ℕ
+spelled_refusal refusal.Bad = codes "bad"
+spelled_refusal refusal.Closed = codes "closed"
+spelled_refusal refusal.TooMany = codes "too-many"
+spelled_refusal (refusal.Refused why) = spelled_refused why
+
+-- an answer, or why there is none
+abbrev pub spelled : Result StepAnswer StepRefusal → List ℕ
+spelled (Ok answer) = spelled_answer answer
+spelled (Err why) = spelled_refusal why

@@ -1,0 +1,105 @@
+//! What a line of a schedule is answered.
+ghost use Rattle.std.specs.Prelude.{◌≡◌, OnOk, IfErr, string_bytes};
+ghost use Rattle.nr_schedule.specs.Spelling.{spelled};
+
+use nr_core::{Arrived, AskReply, NoSlot, Refusal, Step, WReply};
+use nr_lines::RunFault;
+use nr_text::ReplyWord;
+use std::fmt;
+use std::fmt::Write;
+
+/// The answer to a command that isn't refused.
+#[derive(Clone, Copy)]
+pub(crate) enum StepAnswer {
+    Ok,
+    Arrived(Arrived),
+    Word(u64),
+    Asked(AskReply),
+    Writer(Step),
+}
+
+/// Why a line is refused, in the order in which that is tried.
+#[derive(Clone, Copy)]
+pub(crate) enum StepRefusal {
+    Bad,
+    Closed,
+    TooMany,
+    Refused(Refusal),
+}
+
+impl From<Refusal> for StepRefusal {
+    ghost use Rattle.std.specs.Prelude.{◌≡◌};
+    ghost use Rattle.nr_schedule.specs.declared.answer.StepRefusal.TheVariants.{Refused};
+
+    ghost from_gives = { λ why refusal. refusal ≡ Refused why };
+
+    fn from(why: Refusal) -> StepRefusal {
+        StepRefusal::Refused(why)
+    }
+}
+
+/// What a line, or a part of it, comes to where the run goes on: what it asks for, or a refusal.
+pub(crate) type Tried<T> = Result<Result<T, StepRefusal>, RunFault>;
+
+/// Sets the text to what a line is answered, or why it is refused.
+pub(crate) fn write_step(
+    said: &Result<StepAnswer, StepRefusal>,
+    reply: &mut String,
+) -> Result<(), RunFault>
+    ensures written { OnOk result (string_bytes reply.new ≡ spelled said.now) }
+    ensures fault { IfErr result (λ fault. fault ≡ RunFault.Memory) }
+{
+    reply.clear();
+    let written = match said {
+        Ok(answer) => write!(reply, "{answer}"),
+        Err(refusal) => write!(reply, "{refusal}"),
+    };
+    written.map_err(|_| RunFault::Memory)
+}
+
+impl fmt::Display for StepAnswer {
+    ghost use Rattle.std.specs.Prelude.{Some};
+    ghost use Rattle.nr_schedule.specs.Spelling.{spelled_answer};
+
+    ghost output = { λ answer. Some (spelled_answer answer) };
+
+    fn fmt<W: fmt::Write>(&self, f: &mut fmt::Formatter<W>) -> fmt::Result {
+        match self {
+            StepAnswer::Ok => f.write_str("ok"),
+            StepAnswer::Arrived(Arrived::Held) => f.write_str("held"),
+            StepAnswer::Arrived(Arrived::Hole) => f.write_str("hole"),
+            StepAnswer::Word(word) => write!(f, "{word}"),
+            StepAnswer::Asked(AskReply::Send) => f.write_str("send"),
+            StepAnswer::Asked(AskReply::Waiting) => f.write_str("waiting"),
+            StepAnswer::Asked(AskReply::Filled) => f.write_str("filled"),
+            StepAnswer::Writer(Step::Going) => f.write_str("-"),
+            StepAnswer::Writer(Step::Ended(WReply::Reply(reply))) => {
+                let reply = ReplyWord(reply);
+                write!(f, "{reply}")
+            }
+            StepAnswer::Writer(Step::Ended(WReply::NoSlot(NoSlot { live, held }))) => {
+                write!(f, "no-slot {live} {held}")
+            }
+        }
+    }
+}
+
+impl fmt::Display for StepRefusal {
+    ghost use Rattle.std.specs.Prelude.{Some};
+    ghost use Rattle.nr_schedule.specs.Spelling.{spelled_refusal};
+
+    ghost output = { λ refusal. Some (spelled_refusal refusal) };
+
+    fn fmt<W: fmt::Write>(&self, f: &mut fmt::Formatter<W>) -> fmt::Result {
+        f.write_str(match self {
+            StepRefusal::Bad => "bad",
+            StepRefusal::Closed => "closed",
+            StepRefusal::TooMany => "too-many",
+            StepRefusal::Refused(Refusal::Holding) => "holding",
+            StepRefusal::Refused(Refusal::NotHolding) => "not-holding",
+            StepRefusal::Refused(Refusal::Busy) => "busy",
+            StepRefusal::Refused(Refusal::NotBusy) => "not-busy",
+            StepRefusal::Refused(Refusal::OutOfRange) => "out-of-range",
+        })
+    }
+}

@@ -1,0 +1,127 @@
+//! What a line of a schedule commands.
+ghost use Rattle.std.specs.Prelude.{◌≡◌, ℕ, option_map};
+ghost use Rattle.nr_schedule.specs.declared.command.Command.{Command};
+ghost use Rattle.nr_schedule.specs.Commands.{command, by_writer, filling, updating, one_number, two_numbers};
+ghost use Rattle.nr_text.specs.Grammar.{words};
+ghost use Rattle.nr_text.specs.Words.{words_left};
+
+use nr_model::{Batch, RowSet, TooMany};
+use nr_text::{Opening, Words, batch, number, set};
+
+/// What a line of a schedule asks for, where it fits the grammar. Its numbers may be out of range.
+#[derive(Drop)]
+pub(crate) enum Command {
+    Open(Opening),
+    Arrive {
+        reader: u64,
+        key: u64,
+    },
+    Read {
+        reader: u64,
+        index: u64,
+    },
+    Depart {
+        reader: u64,
+    },
+    Ask {
+        reader: u64,
+        key: u64,
+    },
+    /// This and the next three begin a call of the writer.
+    Find {
+        key: u64,
+    },
+    Fill {
+        key: u64,
+        rows: Result<RowSet, TooMany>,
+    },
+    Update {
+        key: u64,
+        batch: Batch,
+    },
+    Evict {
+        key: u64,
+    },
+    Go,
+}
+
+/// The command of a line, or none where it doesn't fit the grammar.
+pub(crate) fn parse(line: &[u8]) -> Option<Command>
+    ensures { result ≡ command (words line.now) }
+{
+    let mut words = Words::new(line);
+    let name = words.next()?;
+    if name == b"open".as_slice() {
+        let opening = Opening::parse(words)?;
+        return Some(Command::Open(opening));
+    }
+    if name == b"arrive".as_slice() {
+        let (reader, key) = two_numbers(words)?;
+        return Some(Command::Arrive { reader, key });
+    }
+    if name == b"read".as_slice() {
+        let (reader, index) = two_numbers(words)?;
+        return Some(Command::Read { reader, index });
+    }
+    if name == b"depart".as_slice() {
+        let reader = one_number(words)?;
+        return Some(Command::Depart { reader });
+    }
+    if name == b"ask".as_slice() {
+        let (reader, key) = two_numbers(words)?;
+        return Some(Command::Ask { reader, key });
+    }
+    if name == b"writer".as_slice() {
+        return by_writer(words);
+    }
+    if name == b"go".as_slice() && words.next().is_none() {
+        return Some(Command::Go);
+    }
+    None
+}
+
+fn by_writer(mut words: Words<'_>) -> Option<Command>
+    ensures { result ≡ by_writer (words_left words.entry) }
+{
+    let name = words.next()?;
+    if name == b"find".as_slice() {
+        let key = one_number(words)?;
+        return Some(Command::Find { key });
+    }
+    if name == b"fill".as_slice() {
+        let key = number(words.next()?)?;
+        let rows = set(words)?;
+        return Some(Command::Fill { key, rows });
+    }
+    if name == b"update".as_slice() {
+        let key = number(words.next()?)?;
+        let batch = batch(words)?;
+        return Some(Command::Update { key, batch });
+    }
+    if name == b"evict".as_slice() {
+        let key = one_number(words)?;
+        return Some(Command::Evict { key });
+    }
+    None
+}
+
+fn one_number(mut words: Words<'_>) -> Option<u64>
+    ensures { (made : ℕ → Command) → one_number made (words_left words.entry) ≡ option_map made result }
+{
+    let word = words.next()?;
+    if words.next().is_some() {
+        return None;
+    }
+    number(word)
+}
+
+fn two_numbers(mut words: Words<'_>) -> Option<(u64, u64)>
+    ensures { (made : ℕ → ℕ → Command) → two_numbers made (words_left words.entry) ≡ option_map (λ found. made found.0 found.1) result }
+{
+    let first = words.next()?;
+    let second = words.next()?;
+    if words.next().is_some() {
+        return None;
+    }
+    Some((number(first)?, number(second)?))
+}

@@ -1,0 +1,151 @@
+//! A schedule's machine once it is opened: the step machine, for numbers of any size.
+ghost use Rattle.std.specs.Prelude.{◌≡◌, true, false, IfOk, IfErr};
+ghost use Rattle.nr_core.specs.Machine.{next, arrive_answer, read_answer, depart_answer, ask_answer};
+ghost use Rattle.nr_core.specs.Refusals.{has_reader, has_key};
+ghost use Rattle.nr_text.specs.Opening.{is_in_limits};
+ghost use Rattle.nr_schedule.specs.Opened.{answer_opened, start, opened};
+
+use crate::answer::{StepAnswer, StepRefusal};
+use crate::command::Command;
+use nr_core::{Arrived, AskReply, Core, Refusal, WriterCall};
+use nr_lines::RunFault;
+use nr_text::Opening;
+use std::alloc::Global;
+use std::marker::Model;
+
+/// The step machine of an opened schedule.
+#[derive(Drop)]
+pub(crate) struct Opened {
+    core: Core,
+}
+
+impl Model for Opened {
+    ghost use Rattle.nr_core.specs.States.{State};
+    ghost use Rattle.nr_schedule.specs.Opened.{IsLimited};
+
+    ghost Value = { State };
+
+    ghost view = { λ schedule. schedule.core };
+
+    ghost invariant = { λ schedule. IsLimited schedule.core.shape };
+}
+
+impl Opened {
+    ghost use Rattle.nr_core.specs.States as machine;
+
+    /// The machine that an opening within the limits opens.
+    pub(crate) fn open(alloc: Global, opening: &Opening) -> Result<Opened, RunFault>
+        requires { is_in_limits opening.now ≡ true }
+        ensures ok { IfOk result (λ schedule. schedule ≡ opened opening.now) }
+        ensures fault { IfErr result (λ fault. fault ≡ RunFault.Memory) }
+    {
+        let core = Core::open(
+            alloc,
+            opening.keys as u32,
+            opening.slots as u32,
+            opening.readers as u32,
+            opening.first_count,
+        );
+        match core {
+            Ok(core) => Ok(Opened { core }),
+            Err(_) => Err(RunFault::Memory),
+        }
+    }
+
+    /// The answer to a command, or the first refusal that fits.
+    pub(crate) fn answer(&mut self, command: &Command) -> Result<StepAnswer, StepRefusal>
+        ensures { answer_opened self.old command.now ≡ (result, self.new) }
+    {
+        match command {
+            Command::Open(_) => Err(StepRefusal::Bad),
+            Command::Arrive { reader, key } => {
+                let found = self.arrive(*reader, *key)?;
+                Ok(StepAnswer::Arrived(found))
+            }
+            Command::Read { reader, index } => {
+                let word = self.read(*reader, *index)?;
+                Ok(StepAnswer::Word(word))
+            }
+            Command::Depart { reader } => {
+                self.depart(*reader)?;
+                Ok(StepAnswer::Ok)
+            }
+            Command::Ask { reader, key } => {
+                let reply = self.ask(*reader, *key)?;
+                Ok(StepAnswer::Asked(reply))
+            }
+            Command::Find { key } => {
+                let key = self.small(*key)?;
+                self.start(&WriterCall::Find(key))
+            }
+            Command::Fill { key, rows } => {
+                let rows = rows.map_err(|_| StepRefusal::TooMany)?;
+                let key = self.small(*key)?;
+                self.start(&WriterCall::Fill(key, rows))
+            }
+            Command::Update { key, batch } => {
+                let key = self.small(*key)?;
+                self.start(&WriterCall::Update(key, *batch))
+            }
+            Command::Evict { key } => {
+                let key = self.small(*key)?;
+                self.start(&WriterCall::Evict(key))
+            }
+            Command::Go => {
+                let step = self.core.go()?;
+                Ok(StepAnswer::Writer(step))
+            }
+        }
+    }
+
+    fn arrive(&mut self, reader: u64, key: u64) -> Result<Arrived, Refusal>
+        ensures answer { result ≡ arrive_answer self.old reader key }
+        ensures new { self.new ≡ next self.old (machine.Arrive reader key) }
+    {
+        let reader = self.small(reader)?;
+        let key = self.small(key)?;
+        self.core.arrive(reader, key)
+    }
+
+    fn read(&mut self, reader: u64, index: u64) -> Result<u64, Refusal>
+        ensures answer { result ≡ read_answer self.old reader index }
+        ensures new { self.new ≡ next self.old (machine.Read reader index) }
+    {
+        let reader = self.small(reader)?;
+        self.core.read(reader, index)
+    }
+
+    fn depart(&mut self, reader: u64) -> Result<(), Refusal>
+        ensures answer { result ≡ depart_answer self.old reader }
+        ensures new { self.new ≡ next self.old (machine.Depart reader) }
+    {
+        let reader = self.small(reader)?;
+        self.core.depart(reader)
+    }
+
+    fn ask(&mut self, reader: u64, key: u64) -> Result<AskReply, Refusal>
+        ensures answer { result ≡ ask_answer self.old reader key }
+        ensures new { self.new ≡ next self.old (machine.Ask reader key) }
+    {
+        let reader = self.small(reader)?;
+        let key = self.small(key)?;
+        self.core.ask(reader, key)
+    }
+
+    fn start(&mut self, call: &WriterCall) -> Result<StepAnswer, StepRefusal>
+        ensures { start self.old call.now ≡ (result, self.new) }
+    {
+        let step = self.core.start(call)?;
+        Ok(StepAnswer::Writer(step))
+    }
+
+    /// The number of a reader or key, unless it is too large for any that the machine has.
+    fn small(&self, number: u64) -> Result<u32, Refusal>
+        ensures ok { IfOk result (λ small. small ≡ number) }
+        ensures err { IfErr result (λ why. (why ≡ Refusal.OutOfRange) × (has_reader self.now.shape number ≡ false) × (has_key self.now.shape number ≡ false)) }
+    {
+        // Nothing at run time: the proof reads here that the machine has few readers and keys.
+        let _limited = &self.core;
+        u32::try_from(number).map_err(|_| Refusal::OutOfRange)
+    }
+}

@@ -1,0 +1,41 @@
+//! A script, from a reader to a writer.
+ghost use Rattle.std.specs.Prelude.{◌≡◌, ◌<◌, ◌≤◌, ◌⊎◌, length, IfOk, OnOk, IfErr, Err};
+ghost use Rattle.nr_lines.specs.Limits.{longest_input};
+ghost use Rattle.nr_lines.specs.Lines.{lines};
+ghost use Rattle.nr_lines.specs.Run.{Runs};
+ghost use Rattle.nr_script.specs.Machine.{script_text};
+
+use crate::machine::ScriptMachine;
+use nr_lines::{INPUT_LIMIT, RunFault, serve};
+use std::alloc::Global;
+use std::io::{Read, Write};
+
+/// Answers each line of a script by one line, before it reads on, over a map of its own.
+///
+/// Ends early where a read fails, where a write fails or takes nothing, where memory is refused for
+/// the map that a line opens or for a reply, and where the input is over 268,435,456 bytes.
+pub fn run<R: Read, W: Write>(alloc: Global, reader: &mut R, writer: &mut W) -> Result<(), RunFault>
+    ensures { Runs script_text longest_input result (R.remaining reader.old) (R.remaining reader.new) (W.contents writer.old) (W.contents writer.new) }
+{
+    let mut machine = ScriptMachine::new();
+    serve(alloc, INPUT_LIMIT, &mut machine, reader, writer)
+}
+
+/// The replies to a script that lies in memory.
+///
+/// Refused where memory is, and where the script is over 268,435,456 bytes.
+pub fn replies(alloc: Global, script: &[u8]) -> Result<Vec<u8>, RunFault>
+    ensures text { IfOk result (λ text. text.items ≡ script_text (lines script.now)) }
+    ensures whole { OnOk result (length script.now ≤ longest_input) }
+    ensures too_much { result ≡ Err RunFault.TooMuch → longest_input < length script.now }
+    ensures fault { IfErr result (λ fault. (fault ≡ RunFault.Memory) ⊎ (fault ≡ RunFault.TooMuch)) }
+{
+    let mut text = Vec::new(alloc);
+    let mut reader = script;
+    match run(alloc, &mut reader, &mut text) {
+        Ok(()) => Ok(text),
+        Err(RunFault::TooMuch) => Err(RunFault::TooMuch),
+        // Bytes in memory are read without a fault, and a vector takes all bytes unless memory is refused.
+        Err(_) => Err(RunFault::Memory),
+    }
+}

@@ -1,0 +1,3 @@
+mod KeptLemmas
+mod SpellingLemmas
+mod WordLemmas

@@ -1,0 +1,4 @@
+pub mod Grammar
+pub mod Opening
+pub mod Spelling
+pub mod Words

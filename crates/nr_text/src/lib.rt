@@ -1,0 +1,13 @@
+//! The grammar that scripts and schedules share: words, numbers, rows, signed rows and opening lines,
+//! and how the map's replies are spelled.
+#![tactic(auto)]
+
+mod opening;
+mod rows;
+mod spelling;
+mod words;
+
+pub use opening::Opening;
+pub use rows::{batch, set};
+pub use spelling::ReplyWord;
+pub use words::{Words, number};

@@ -1,0 +1,54 @@
+//! What an opening line asks for.
+ghost use Rattle.std.specs.Prelude.{◌≡◌};
+
+use crate::words::{Words, number};
+use nr_core::{MAX_READERS, MAX_SLOTS};
+use nr_model::MAX_KEYS;
+
+/// How many keys, slots and readers a map is to have, and the count at which each slot starts.
+#[derive(Clone, Copy)]
+pub struct Opening {
+    pub keys: u64,
+    pub slots: u64,
+    pub readers: u64,
+    pub first_count: u64,
+}
+
+impl Opening {
+    ghost use Rattle.nr_text.specs.Opening.{opening, is_in_limits};
+    ghost use Rattle.nr_text.specs.Words.{words_left};
+
+    /// The opening that three numbers or four spell.
+    pub fn parse(mut words: Words<'_>) -> Option<Opening>
+        ensures { result ≡ opening (words_left words.entry) }
+    {
+        let keys = words.next()?;
+        let slots = words.next()?;
+        let readers = words.next()?;
+        let first_count = words.next();
+        if words.next().is_some() {
+            return None;
+        }
+        Some(Opening {
+            keys: number(keys)?,
+            slots: number(slots)?,
+            readers: number(readers)?,
+            first_count: match first_count {
+                None => 0,
+                Some(word) => number(word)?,
+            },
+        })
+    }
+
+    /// A map may have these sizes.
+    pub fn is_in_limits(&self) -> bool
+        ensures { result ≡ is_in_limits self.now }
+    {
+        0 < self.keys
+            && self.keys <= u64::from(MAX_KEYS)
+            && 0 < self.slots
+            && self.slots <= u64::from(MAX_SLOTS)
+            && 0 < self.readers
+            && self.readers <= u64::from(MAX_READERS)
+    }
+}
