@@ -1,5 +1,5 @@
 //! Each call that takes memory is made once more where it was refused, so these tests pass as well
-//! where any one allocation fails (`rt try --test --fail-alloc N`, for each N from 1 on).
+//! where any one request for memory is refused (tests/refused_memory refuses each in turn).
 ghost use Rattle.std.specs.Prelude.{◌<◌, ◌≤◌};
 ghost use Rattle.nr_names.specs.declared.table.TheConstants.{MAX_KEYS};
 
