@@ -10,4 +10,4 @@ pub use shared::Names;
 pub use table::NameTable;
 
 #[cfg(test)]
-mod tests;
+mod refused_memory;

@@ -1,5 +1,8 @@
 //! Each call that takes memory is made once more where it was refused, so these tests pass as well
-//! where any one allocation fails (`rt try --test --fail-alloc N`, for each N from 1 on).
+//! where any one request for memory is refused (tests/refused_memory refuses each in turn).
+ghost use Rattle.std.specs.Prelude.{◌<◌, ◌≤◌};
+ghost use Rattle.nr_names.specs.declared.table.TheConstants.{MAX_KEYS};
+
 use super::{NameFault, NameTable, Names};
 use std::alloc::Global;
 use std::process::Abort;
@@ -67,6 +70,15 @@ fn names_have_at_most_255_bytes(rt: HostRuntime) -> Result<(), Fail> {
     Ok(())
 }
 
+fn opened_shared(alloc: Global, keys: u32) -> Result<Names, NameFault>
+    requires { (0 < keys) × (keys ≤ MAX_KEYS) }
+{
+    match Names::open(alloc, keys) {
+        Err(NameFault::Memory) => Names::open(alloc, keys),
+        opened => opened,
+    }
+}
+
 fn interned_shared(rt: &impl Wait, names: &Names, name: &str) -> Result<u32, NameFault> {
     match names.intern(rt, name) {
         Err(NameFault::Memory) => names.intern(rt, name),
@@ -74,12 +86,25 @@ fn interned_shared(rt: &impl Wait, names: &Names, name: &str) -> Result<u32, Nam
     }
 }
 
+// Reads a name that has the number over a text that is another.
+fn read_shared_over(
+    rt: &(impl Wait + Abort),
+    names: &Names,
+    number: u32,
+    text: &mut String,
+    before: &str,
+) {
+    let mut reply = names.name(rt, number, text);
+    if reply == Err(NameFault::Memory) {
+        assert_eq!(rt; text.as_str(), before);
+        reply = names.name(rt, number, text);
+    }
+    assert_eq!(rt; reply, Ok(()));
+}
+
 #[test]
 fn a_shared_table_gives_numbers(rt: HostRuntime) -> Result<(), Fail> {
-    let names = match Names::open(rt.alloc(), 2) {
-        Err(NameFault::Memory) => Names::open(rt.alloc(), 2)?,
-        opened => opened?,
-    };
+    let names = opened_shared(rt.alloc(), 2)?;
     let mut text = String::new(rt.alloc());
     let (here, there) = join(
         &rt,
@@ -88,14 +113,60 @@ fn a_shared_table_gives_numbers(rt: HostRuntime) -> Result<(), Fail> {
     );
     assert_eq!(rt; here, Ok(0));
     assert_eq!(rt; there, Ok(0));
+    assert_eq!(rt; names.name(&rt, 1, &mut text), Err(NameFault::NoName));
     assert_eq!(rt; interned_shared(&rt, &names, "b"), Ok(1));
     assert_eq!(rt; names.intern(&rt, "c"), Err(NameFault::Full));
-    if names.name(&rt, 0, &mut text) == Err(NameFault::Memory) {
-        assert_eq!(rt; text.as_str(), "");
-        assert_eq!(rt; names.name(&rt, 0, &mut text), Ok(()));
-    }
+    assert_eq!(rt; names.intern(&rt, "a"), Ok(0));
+    read_shared_over(&rt, &names, 0, &mut text, "");
     assert_eq!(rt; text.as_str(), "a");
+    read_shared_over(&rt, &names, 1, &mut text, "a");
+    assert_eq!(rt; text.as_str(), "b");
     assert_eq!(rt; names.name(&rt, 2, &mut text), Err(NameFault::NoName));
+    assert_eq!(rt; text.as_str(), "b");
     assert_eq!(rt; names.intern(&rt, ""), Err(NameFault::Empty));
+    Ok(())
+}
+
+const WORDS: [&str; 5] = ["ant", "bee", "cow", "dog", "elk"];
+
+// What each word was answered, in the order of the words.
+type Answers = [Result<u32, NameFault>; 5];
+
+fn forwards(rt: &impl Wait, names: &Names) -> Answers {
+    let mut answers = [Err(NameFault::NoName); 5];
+    for i in 0..5 {
+        answers[i] = interned_shared(rt, names, WORDS[i]);
+    }
+    answers
+}
+
+fn backwards(rt: &impl Wait, names: &Names) -> Answers {
+    let mut answers = [Err(NameFault::NoName); 5];
+    for i in 0..5 {
+        answers[4 - i] = interned_shared(rt, names, WORDS[4 - i]);
+    }
+    answers
+}
+
+// Two threads intern the same words, one of them from the end, so either may find a word new.
+#[test]
+fn threads_agree_on_names_and_numbers(rt: HostRuntime) -> Result<(), Fail> {
+    let names = opened_shared(rt.alloc(), 5)?;
+    let (here, there) = join(&rt, || forwards(&rt, &names), || backwards(&rt, &names));
+    assert_eq!(rt; here, there);
+    let mut text = String::new(rt.alloc());
+    let mut named = [false; 5];
+    for i in 0..5 {
+        let number = here[i].expect(&rt, "a word that fits has a number");
+        assert!(rt; number < 5, "numbers have no gaps");
+        assert!(rt; !named[number as usize], "no two words share a number");
+        named[number as usize] = true;
+        let before = if i == 0 { "" } else { WORDS[i - 1] };
+        read_shared_over(&rt, &names, number, &mut text, before);
+        assert_eq!(rt; text.as_str(), WORDS[i]);
+        assert_eq!(rt; names.intern(&rt, WORDS[i]), Ok(number));
+    }
+    assert_eq!(rt; names.intern(&rt, "fox"), Err(NameFault::Full));
+    assert_eq!(rt; names.name(&rt, 5, &mut text), Err(NameFault::NoName));
     Ok(())
 }
