@@ -12,7 +12,7 @@ use Rattle.nr_core.proofs.KeyWords.{bumped, name-bumped}
 use Rattle.nr_core.proofs.OnKey.{on_key}
 use Rattle.nr_core.proofs.Sums.{only-other, only-same, total-set}
 use Rattle.nr_core.specs.Core.{ShowsState}
-use Rattle.nr_core.specs.Operations.{Add}
+use Rattle.nr_core.specs.declared.operation.Operation.TheVariants.{Add}
 use Rattle.nr_core.specs.Roles.{holds}
 use Rattle.nr_core.specs.Slots.{name_number}
 use Rattle.nr_core.specs.Steps.{Arrives, CanStep, Stepped}

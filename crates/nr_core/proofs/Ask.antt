@@ -13,7 +13,7 @@ use Rattle.nr_core.proofs.KeyWords.{name-asked, names_none, names_one}
 use Rattle.nr_core.proofs.OnKey.{on_key}
 use Rattle.nr_core.proofs.Sums.{total-set}
 use Rattle.nr_core.specs.Core.{ShowsState}
-use Rattle.nr_core.specs.Operations.{Or}
+use Rattle.nr_core.specs.declared.operation.Operation.TheVariants.{Or}
 use Rattle.nr_core.specs.Roles.{holds}
 use Rattle.nr_core.specs.Slots.{name_number}
 use Rattle.nr_core.specs.Steps.{Asks, CanStep, ask_word}

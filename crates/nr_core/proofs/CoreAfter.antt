@@ -2,7 +2,8 @@
 use Rattle.std.proofs.Common.{List, get_or, set, subst, ℕ, ◌++◌, ◌≡◌}
 use Rattle.nr_model.specs.Histories.{Entry, after}
 use Rattle.nr_core.specs.Core.{Core}
-use Rattle.nr_core.specs.Operations.{Operation, becomes, operation, place_of}
+use Rattle.nr_core.specs.Operations.{becomes, operation, place_of}
+use Rattle.nr_core.specs.declared.operation.Operation.{Operation}
 use Rattle.nr_core.specs.Steps.{Stepped, Telling}
 use Rattle.nr_core.specs.declared.roles.Role.{Role}
 use Rattle.nr_core.specs.declared.shape.Shape.{Shape}

@@ -9,7 +9,7 @@ use Rattle.nr_core.proofs.Frames.{Left, desk_more, holding_more}
 use Rattle.nr_core.proofs.OffKeys.{none_of, off_keys}
 use Rattle.nr_core.proofs.Sums.{only-other, only-same, total-set}
 use Rattle.nr_core.specs.Core.{Knows}
-use Rattle.nr_core.specs.Operations.{Add}
+use Rattle.nr_core.specs.declared.operation.Operation.TheVariants.{Add}
 use Rattle.nr_core.specs.Roles.{held, holds, is_by}
 use Rattle.nr_core.specs.Slots.{content, departures, name_number}
 use Rattle.nr_core.specs.Steps.{CanStep, Departs}

@@ -3,7 +3,11 @@ use Rattle.std.proofs.Common.{List, [], ap, append-nil, arith, cond, get_or, len
 use Rattle.std.proofs.lemmas.Bool.{eqb-true, leb-true, ltb-true}
 use Rattle.std.specs.Prelude.{None, Option, Some, nat_le, ◌&&◌}
 use Rattle.nr_model.specs.Histories.{Entry, entries_of}
+use Rattle.nr_model.specs.Maps.{ask_reply, find_reply}
 use Rattle.nr_model.specs.Rows.{IsRowSet}
+use Rattle.nr_model.specs.declared.calls.Call.{Call}
+use Rattle.nr_model.specs.declared.calls.Reply.{Reply}
+use Rattle.nr_model.specs.declared.states.KeyState.{KeyState}
 use Rattle.nr_model.specs.declared.rows.Row.{Row}
 use Rattle.nr_words.specs.SetWords.{encode}
 use Rattle.nr_core.proofs.Choices.{by_cases}
@@ -18,13 +22,16 @@ use Rattle.nr_core.proofs.StateRoles.{IsCoreState}
 use Rattle.nr_core.specs.Core.{AtDesk, AtPlace, Puts}
 use Rattle.nr_core.specs.Laws.{EndsWithout, Follows, IsJustified, caller_of}
 use Rattle.nr_core.specs.Machine.{found_by, moved, unless}
-use Rattle.nr_core.specs.Operations.{Load, Operation, Store, Swap, going, operation, place_of}
+use Rattle.nr_core.specs.Operations.{going, operation, place_of}
+use Rattle.nr_core.specs.declared.operation.Operation.{Operation}
+use Rattle.nr_core.specs.declared.operation.Operation.TheVariants.{Load, Store, Swap}
 use Rattle.nr_core.specs.Reach.{RoomAt, RoomOf}
 use Rattle.nr_core.specs.Refusals.{has_key, has_reader, if_busy, if_holding, if_not_busy, if_not_holding, if_unreadable, refusal}
 use Rattle.nr_core.specs.Roles.{held}
-use Rattle.nr_core.specs.Slots.{content, naming, slot_room}
+use Rattle.nr_words.specs.KeyWords.{naming}
+use Rattle.nr_core.specs.Slots.{content, slot_room}
 use Rattle.nr_core.specs.States.{Arrive, Ask, Depart, Event, Go, Read, Start, State, hold_of, key_of, slot_in}
-use Rattle.nr_core.specs.Story.{Story, call_of, map_after, polls_after, told}
+use Rattle.nr_core.specs.Story.{Story, answering, call_of, map_after, polls_after, shown, told}
 use Rattle.nr_core.specs.Writer.{looked, went}
 use Rattle.nr_core.specs.declared.calls.NoSlot.{NoSlot}
 use Rattle.nr_core.specs.declared.calls.Refusal.{Refusal}
@@ -36,12 +43,17 @@ use Rattle.nr_core.specs.declared.roles.Role.TheVariants.{Writer}
 use Rattle.nr_core.specs.declared.shape.Shape.{Shape}
 use Rattle.nr_core.specs.declared.places.Hold.TheVariants as hold
 use Rattle.nr_core.specs.declared.calls.Refusal.TheVariants as refuse
+use Rattle.nr_model.specs.declared.calls.Call.TheVariants as model
+
+own_answering : (caller : ℕ) (call : Call) (reply : KeyState → Reply) (shows : Option KeyState) (c : ℕ) → entries_of (answering caller call reply shows) c ≡ cond (nat_eq caller c) (answering caller call reply shows) []
+own_answering caller call reply None c = none_of (nat_eq caller c)
+own_answering caller call reply (Some state) c = refl
 
 told_by : (state : State) (event : Event) (c : ℕ) → entries_of (told state event) c ≡ cond (nat_eq (caller_of event) c) (told state event) []
-told_by state (Arrive r k) c = refl
+told_by state (Arrive r k) c = own_answering r (model.Find k) find_reply (shown state k) c
 told_by state (Read r i) c = none_of (nat_eq r c)
 told_by state (Depart r) c = none_of (nat_eq r c)
-told_by state (Ask r k) c = refl
+told_by state (Ask r k) c = own_answering r (model.Ask k) ask_reply (shown state k) c
 told_by state (Start call) c = own_ending (call_of call) (looked state.shape state.desk call (found_by state (Start call))).1 c
 told_by state Go c = own_ending_at state.desk.place (went state.shape state.desk state.desk.place (found_by state Go)).1 c
 
@@ -118,7 +130,7 @@ inside_words state log Go is_core ok = go state.desk.place refl (place_room stat
 
 pub follows : (story : Story) (event : Event) → IsCoreState story.state story.history → ((counts : NoSlot) → EndsWithout story.state event counts → IsJustified story event counts) → Follows story event
 follows story event is_core justified = record {
-  one_operation = λ ok. (inside_words story.state story.history event is_core ok, ap (λ (o : Option Refusal). (unless o story.state (moved story.state event)).words) ok);
+  one_operation = λ ok. (inside_words story.state story.history event is_core ok, ap (λ (o : Option Refusal). (unless o story.state (moved story.state event)).words) ok, ap (λ (o : Option Refusal). (unless o story.state (moved story.state event)).made) ok);
   refused = λ why. stays (refusal story.state event) why;
   untouched = λ ok r s i n low is low_i here. held_untouched story.state story.history event is_core ok s i (holder story is_core r s n low is) low_i here;
   own = λ c. of-append c story.history (unless (refusal story.state event) [] (told story.state event)) ∙ ap (λ (l : List Entry). entries_of story.history c ++ l) (mine (refusal story.state event) c);

@@ -16,9 +16,12 @@ use Rattle.nr_core.proofs.Settle.{own_ending}
 use Rattle.nr_core.proofs.Unpublish.{unpublishes}
 use Rattle.nr_core.proofs.WriterRead.{reads_on}
 use Rattle.nr_core.specs.Core.{Core}
-use Rattle.nr_core.specs.Operations.{Operation, Store, Swap, becomes, going, place_of}
+use Rattle.nr_core.specs.Operations.{becomes, going, place_of}
+use Rattle.nr_core.specs.declared.operation.Operation.{Operation}
+use Rattle.nr_core.specs.declared.operation.Operation.TheVariants.{Store, Swap}
 use Rattle.nr_core.specs.Refusals.{if_not_busy}
-use Rattle.nr_core.specs.Slots.{content, naming}
+use Rattle.nr_words.specs.KeyWords.{naming}
+use Rattle.nr_core.specs.Slots.{content}
 use Rattle.nr_core.specs.States.{key_of}
 use Rattle.nr_core.specs.Steps.{CanStep, Goes}
 use Rattle.nr_core.specs.Story.{call_of, ending, ending_at}

@@ -6,6 +6,7 @@ use Rattle.std.specs.Prelude.{Err, None, Ok, Option, Result, Some, nat_le}
 use Rattle.nr_model.specs.Histories.{Entry}
 use Rattle.nr_model.specs.Maps.{reply_at, state_of}
 use Rattle.nr_words.specs.KeyWords.{same_count}
+use Rattle.nr_words.specs.SetWords.{decode}
 use Rattle.nr_core.proofs.Choices.{by_cases}
 use Rattle.nr_core.proofs.Counting.{slots_are}
 use Rattle.nr_core.proofs.Guards.{guard, is_idle}
@@ -22,10 +23,10 @@ use Rattle.nr_core.specs.Machine.{answer, found_by, moved, unless}
 use Rattle.nr_core.specs.Operations.{going, place_of}
 use Rattle.nr_core.specs.Refusals.{has_key, if_busy, refusal}
 use Rattle.nr_core.specs.Roles.{held, taken}
-use Rattle.nr_core.specs.Slots.{content, departures, set_of}
+use Rattle.nr_core.specs.Slots.{content, departures}
 use Rattle.nr_core.specs.States.{Arrive, Ask, Depart, Event, Go, Read, Start, State, key_of, retired_at}
 use Rattle.nr_core.specs.Story.{Poll, Story, call_of, ending, map_after, poll_at, polls_after, polls_at, tell, told}
-use Rattle.nr_core.specs.Writer.{decided, ended, looked, moved_to, put_on, swapped, went}
+use Rattle.nr_core.specs.Writer.{decoded, ended, looked, moved_to, put_on, swapped, went}
 use Rattle.nr_core.specs.declared.calls.NoSlot.{NoSlot}
 use Rattle.nr_core.specs.declared.calls.Refusal.{Refusal}
 use Rattle.nr_core.specs.declared.calls.Step.{Step}
@@ -36,7 +37,6 @@ use Rattle.nr_core.specs.declared.places.Place.TheVariants.{Idle, Leaving, Putti
 use Rattle.nr_core.specs.declared.places.Retired.{Retired}
 use Rattle.nr_core.specs.declared.roles.Desk.{Desk}
 use Rattle.nr_core.specs.declared.roles.Role.TheVariants.{Writer}
-use Rattle.nr_model.specs.declared.states.KeyState.TheVariants as key
 use Rattle.nr_core.specs.declared.calls.Refusal.TheVariants as refuse
 use Rattle.nr_model.specs.declared.calls.Reply.TheVariants as reply
 use Rattle.nr_core.specs.declared.calls.WReply.TheVariants as writer
@@ -107,16 +107,16 @@ go_ending state log polls is_core swept (Reading call s got) is counts e =
     let p : Reads shape words map_now (held is_core.roles) (key_of call) s got = subst (AtPlace shape words map_now (held is_core.roles) desk.fresh desk.retired) is known.place in
     let got' : List ℕ = got ++ get_or words (content shape s (length got)) 0 ∷ [] in
     let none_polled : polls ≡ [] = subst (AtSweep state polls) is swept.sweep in
-    by_cases (λ v. let outcome = cond {A = Desk × Step} v (decided shape desk call (set_of shape.bound got')) (moved_to desk (Reading call s got'), Going) in
+    by_cases (λ v. let outcome = cond {A = Desk × Step} v (decoded shape desk call (decode shape.bound got')) (moved_to desk (Reading call s got'), Going) in
     (v ≡ true → length got' ≡ 2 * get_or got' 0 0 + 1) → IsWithout counts outcome → (q : WriterCall) × (call ∷ [] ≡ q ∷ []) × Ending state log (Reading call s got) polls q outcome counts) (nat_eq (length got') (2 * get_or got' 0 0 + 1))
-    (λ _ whole e'. let n = decided_none shape desk counts call (set_of shape.bound got') e' in let set_is = read_whole shape words is_core.roles log is_core.core (key_of call) s got p (whole refl) in (
+    (λ _ whole e'. let set_is = read_whole shape words is_core.roles log is_core.core (key_of call) s got p (whole refl) in let n = decided_none shape desk counts call p.rows (subst (λ o. IsWithout counts (decoded shape desk call o)) set_is e') in (
       call,
       refl,
       record {
-        none = n.0;
+        none = subst (λ o. NoneLeft shape desk (decoded shape desk call o) counts) (sym set_is) n.0;
         full = n.1;
         free = λ _. refl;
-        done = ap (reply_at shape.bound (call_of call)) (p.full ∙ ap key.Rows (sym set_is)) ∙ n.3;
+        done = ap (reply_at shape.bound (call_of call)) p.full ∙ n.3;
         polled = ap (map (λ (poll : Poll). poll.slot)) none_polled ∙ no_polls desk.retired n.2;
       },
     ))

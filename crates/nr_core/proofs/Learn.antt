@@ -7,7 +7,7 @@ use Rattle.nr_model.specs.Histories.{Entry}
 use Rattle.nr_core.proofs.OffKeys.{none_of}
 use Rattle.nr_core.proofs.Sums.{set_again}
 use Rattle.nr_core.specs.Core.{Core}
-use Rattle.nr_core.specs.Operations.{Load}
+use Rattle.nr_core.specs.declared.operation.Operation.TheVariants.{Load}
 use Rattle.nr_core.specs.Roles.{is_by}
 use Rattle.nr_core.specs.Steps.{CanStep, Learns}
 use Rattle.nr_core.specs.declared.roles.Role.{Role}

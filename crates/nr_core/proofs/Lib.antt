@@ -1,43 +1,46 @@
-pub mod Sums
-pub mod KeyWords
-pub mod Histories
-pub mod Frames
-pub mod OnKey
+-- For the crates above: the laws of the steps (`src/laws.rt` says each of them), and what they share, of sums, histories, key words, sets read through, calls that end with no slot, and slots counted.
 pub mod Arrive
 pub mod Ask
-pub mod OffKeys
 pub mod Read
 pub mod Depart
-pub mod Learn
-pub mod DeskFrames
-pub mod Choices
-pub mod Settle
 pub mod Look
-pub mod Swap
-pub mod Unpublish
-pub mod Publish
-pub mod Poll
-pub mod Put
+pub mod Go
+pub mod Learn
+pub mod Opening
+pub mod Seat
+pub mod Choices
+pub mod Sums
+pub mod Histories
+pub mod KeyWords
+pub mod Frames
+pub mod Settle
+pub mod Guards
 pub mod Sets
 pub mod ReadThrough
-pub mod WriterRead
-pub mod Guards
-pub mod Go
-pub mod Seat
-pub mod Shown
-pub mod CoreAfter
-pub mod StateRoles
-pub mod ReaderEvents
-pub mod WriterEvents
-pub mod Opening
-pub mod Events
-pub mod Bound
-pub mod Sweeps
-pub mod Stands
-pub mod Follows
-pub mod Counting
-pub mod Runs
-pub mod Reach
 pub mod Without
-pub mod Justified
-pub mod Schedules
+pub mod Counting
+-- This crate's own.
+mod Walks
+mod OnKey
+mod OffKeys
+mod DeskFrames
+mod Swap
+mod Unpublish
+mod Publish
+mod Poll
+mod Put
+mod WriterRead
+mod Shown
+mod CoreAfter
+mod StateRoles
+mod ReaderEvents
+mod WriterEvents
+mod Events
+mod Bound
+mod Sweeps
+mod Stands
+mod Follows
+mod Runs
+mod Reach
+mod Justified
+mod Schedules

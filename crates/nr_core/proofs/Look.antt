@@ -13,7 +13,7 @@ use Rattle.nr_core.proofs.KeyWords.{names_none, names_one}
 use Rattle.nr_core.proofs.Settle.{ends, goes_on, idle_desk, key_same, own_ending, settles}
 use Rattle.nr_core.specs.Core.{AtDesk, Core, ShowsState}
 use Rattle.nr_core.specs.Laws.{IsGivenCall}
-use Rattle.nr_core.specs.Operations.{Load}
+use Rattle.nr_core.specs.declared.operation.Operation.TheVariants.{Load}
 use Rattle.nr_core.specs.Roles.{held, keeps, taken}
 use Rattle.nr_core.specs.Slots.{name_number, unused}
 use Rattle.nr_core.specs.States.{key_of}

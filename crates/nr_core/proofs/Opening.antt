@@ -9,9 +9,10 @@ use Rattle.nr_core.proofs.Frames.{unused-free}
 use Rattle.nr_core.proofs.StateRoles.{IsCoreState, no_grip, same_grip}
 use Rattle.nr_core.proofs.Sums.{only-other}
 use Rattle.nr_core.specs.Core.{Core, Knows, ShowsState}
-use Rattle.nr_core.specs.Roles.{held, holds, is_reader, is_writer, keeps}
+use Rattle.nr_core.specs.Roles.{held, holds, is_reader, is_writer, keeps, readers_from}
 use Rattle.nr_core.specs.Sizes.{IsShape}
-use Rattle.nr_core.specs.Slots.{departures, layout, name_number, opening_words, repeated, slot_room}
+use Rattle.nr_words.specs.Opening.{repeated}
+use Rattle.nr_core.specs.Slots.{departures, layout, name_number, opening_words, slot_room}
 use Rattle.nr_core.specs.States.{opening, opening_desk}
 use Rattle.nr_core.specs.Story.{map_after}
 use Rattle.nr_core.specs.Sums.{below, only, total}
@@ -21,10 +22,6 @@ use Rattle.nr_core.specs.declared.roles.Role.TheVariants.{Reader, Writer}
 use Rattle.nr_core.specs.declared.shape.Shape.{Shape}
 use Rattle.nr_core.specs.declared.places.Hold.TheVariants as hold
 use Rattle.nr_model.specs.declared.states.KeyState.TheVariants as key
-
-abbrev pub readers_from : ℕ → ℕ → List Role
-readers_from i zero = []
-readers_from i (suc n) = Reader (suc i) Nothing ∷ readers_from (suc i) n
 
 no_weight : (g : Role → ℕ) → ((c : ℕ) → g (Reader c Nothing) ≡ 0) → (n i : ℕ) → total g (readers_from i n) ≡ 0
 no_weight g none zero i = refl

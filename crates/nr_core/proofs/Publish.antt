@@ -12,7 +12,8 @@ use Rattle.nr_core.proofs.Sums.{only-suc}
 use Rattle.nr_core.proofs.Swap.{swap_step}
 use Rattle.nr_core.specs.Core.{AtPlace, Core, Puts, ShowsState}
 use Rattle.nr_core.specs.Roles.{held, taken}
-use Rattle.nr_core.specs.Slots.{departures, naming}
+use Rattle.nr_words.specs.KeyWords.{naming}
+use Rattle.nr_core.specs.Slots.{departures}
 use Rattle.nr_core.specs.States.{key_of}
 use Rattle.nr_core.specs.Story.{call_of, entry, map_after}
 use Rattle.nr_core.specs.Sums.{only}

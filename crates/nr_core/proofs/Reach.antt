@@ -20,7 +20,7 @@ use Rattle.nr_core.specs.Refusals.{refusal}
 use Rattle.nr_core.specs.Roles.{held, taken}
 use Rattle.nr_core.specs.Sizes.{IsShape}
 use Rattle.nr_core.specs.Slots.{name_number, named, slot_room}
-use Rattle.nr_core.specs.States.{Event, State, hold_of, key_of, no_retired, opening, retired_at}
+use Rattle.nr_core.specs.States.{Event, State, hold_of, key_of, no_retired, retired_at}
 use Rattle.nr_core.specs.Story.{holders, map_after, story_of}
 use Rattle.nr_core.specs.declared.calls.Refusal.{Refusal}
 use Rattle.nr_core.specs.declared.places.Hold.{Hold}

@@ -1,15 +1,16 @@
 -- What the writer reads of the slot that a key names is the key's set, word by word.
 use Rattle.std.proofs.Common.{List, [], ap, arith, get_or, length, subst, suc, sym, take, ℕ, ◌*◌, ◌++◌, ◌+◌, ◌<◌, ◌∙◌, ◌∷◌, ◌≡◌}
 use Rattle.std.proofs.lemmas.List.{length-append, take_all}
+use Rattle.std.specs.Prelude.{Some}
 use lib.Seq.{take-suc}
 use Rattle.nr_model.specs.Histories.{Entry}
 use Rattle.nr_model.specs.Rows.{IsRowSet}
 use Rattle.nr_words.proofs.SetWordLemmas.{length-row_words}
-use Rattle.nr_words.specs.SetWords.{encode}
+use Rattle.nr_words.specs.SetWords.{decode, encode}
 use Rattle.nr_core.proofs.Sets.{set_back}
 use Rattle.nr_core.specs.Core.{Core, Reads, ShowsState}
 use Rattle.nr_core.specs.Roles.{held}
-use Rattle.nr_core.specs.Slots.{SlotSpells, content, name_number, set_of}
+use Rattle.nr_core.specs.Slots.{SlotSpells, content, name_number}
 use Rattle.nr_core.specs.Story.{map_after}
 use Rattle.nr_core.specs.declared.roles.Role.{Role}
 use Rattle.nr_core.specs.declared.shape.Shape.{Shape}
@@ -40,6 +41,6 @@ module _ (shape : Shape) (words : List ℕ) (roles : List Role) (log : List Entr
   read_first = ap (λ (l : List ℕ). get_or l 0 0) read_next
 
   -- the last read has the set
-  pub read_whole : length got_next ≡ 2 * get_or got_next 0 0 + 1 → set_of shape.bound got_next ≡ reads.rows
+  pub read_whole : length got_next ≡ 2 * get_or got_next 0 0 + 1 → decode shape.bound got_next ≡ Some reads.rows
   read_whole whole = let size = length-row_words reads.rows in let all_got : got_next ≡ encode reads.rows = read_next ∙ take_all (suc (length got)) (encode reads.rows) (omega (arith, whole, read_first, length-got_next)) in
-      ap (set_of shape.bound) all_got ∙ set_back shape.bound reads.rows read_set
+      ap (decode shape.bound) all_got ∙ set_back shape.bound reads.rows read_set

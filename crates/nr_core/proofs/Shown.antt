@@ -1,6 +1,7 @@
 -- The words of a core state show the map after its history.
 use Rattle.std.proofs.Common.{List, [], ap, arith, cond, drop, eq-eqb, get_or, length, ne_eqb, refl, suc, take, ℕ, ◌%◌, ◌*◌, ◌+◌, ◌-◌, ◌<◌, ◌∙◌, ◌∷◌, ◌≡◌, ◌≤◌}
 use Rattle.std.proofs.lemmas.List.{get_or-drop, get_or-take, length-drop, length-take-le}
+use Rattle.std.specs.Prelude.{Option, Some, option_map}
 use Rattle.nr_model.specs.Histories.{Entry}
 use Rattle.nr_model.specs.Maps.{state_of}
 use Rattle.nr_model.specs.declared.rows.Row.{Row}
@@ -8,11 +9,11 @@ use Rattle.nr_model.specs.declared.states.KeyState.{KeyState}
 use Rattle.nr_words.proofs.SetWordLemmas.{length-row_words}
 use Rattle.nr_words.specs.KeyWords.{has_ask, is_filled, slot_of}
 use Rattle.nr_words.specs.Places.{total_of}
-use Rattle.nr_words.specs.SetWords.{encode}
+use Rattle.nr_words.specs.SetWords.{decode, encode}
 use Rattle.nr_core.proofs.KeyWords.{names_none, names_one}
-use Rattle.nr_core.proofs.Sets.{set_of_begins}
+use Rattle.nr_core.proofs.Sets.{decodes_begins}
 use Rattle.nr_core.specs.Core.{Core, ShowsState}
-use Rattle.nr_core.specs.Slots.{SlotSpells, content, content_words, layout, set_of, slot_room}
+use Rattle.nr_core.specs.Slots.{SlotSpells, content, content_words, layout, slot_room}
 use Rattle.nr_core.specs.States.{State}
 use Rattle.nr_core.specs.Story.{map_after, shown}
 use Rattle.nr_core.specs.declared.roles.Role.{Role}
@@ -24,22 +25,22 @@ begins_with [] l fits same = refl
 begins_with (x ∷ m) [] fits same = absurd (omega arith)
 begins_with (x ∷ m) (y ∷ l) fits same = λ k. same 0 (omega arith) k ∷ begins_with m l (omega arith) (λ i low. same (suc i) (omega arith)) k
 
-spelt_set : (shape : Shape) (words : List ℕ) (s : ℕ) (rows : List Row) → 2 * shape.bound < slot_room → length words ≡ total_of slot_room (layout shape) → s < shape.slots → SlotSpells shape words s rows → set_of shape.bound (content_words shape words s) ≡ rows
+spelt_set : (shape : Shape) (words : List ℕ) (s : ℕ) (rows : List Row) → 2 * shape.bound < slot_room → length words ≡ total_of slot_room (layout shape) → s < shape.slots → SlotSpells shape words s rows → decode shape.bound (content_words shape words s) ≡ Some rows
 spelt_set shape words s rows fits wide near sp = let short = sp.0.1 in let size = length-row_words rows in
     let c : ℕ = content shape s 0 in
     let d1 : length (drop c words) ≡ length words - c = length-drop c words in
     let d2 : length (take slot_room (drop c words)) ≡ slot_room = length-take-le slot_room (drop c words) (omega arith) in
-    set_of_begins shape.bound (content_words shape words s) rows sp.0 (begins_with (encode rows) (content_words shape words s) (omega arith)
+    decodes_begins shape.bound (content_words shape words s) rows sp.0 (begins_with (encode rows) (content_words shape words s) (omega arith)
     (λ i low. get_or-take slot_room (drop c words) i 0 (omega arith) ∙ get_or-drop c words i 0 ∙ ap (λ (n : ℕ). get_or words n 0) (place_is i) ∙ sp.1 i low))
   where
     place_is : (i : ℕ) → content shape s 0 + i ≡ content shape s i
     place_is i = omega arith
 
-pub shown_is : (state : State) (roles : List Role) (log : List Entry) → Core state.shape state.words roles log → (k : ℕ) → k < state.shape.keys → shown state k ≡ state_of (map_after state.shape log) k
+pub shown_is : (state : State) (roles : List Role) (log : List Entry) → Core state.shape state.words roles log → (k : ℕ) → k < state.shape.keys → shown state k ≡ Some (state_of (map_after state.shape log) k)
 shown_is state roles log core k near = let shape = state.shape in let words = state.words in let w = get_or words k 0 in let z = state_of (map_after shape log) k in
-    let B : KeyState = key.Rows (set_of shape.bound (content_words shape words (slot_of w))) in let C : KeyState = cond (has_ask w) key.Asked key.Hole in
-    let go : (z : KeyState) → ShowsState shape words w z → cond (is_filled w) B C ≡ z = λ z. elim z as (λ v. ShowsState shape words w v → cond (is_filled w) B C ≡ v) [
-      | key.Hole ↦ λ t. let even = t.1 in ap (λ b. cond b B C) (names_none w t.0) ∙ ap (λ b. cond b key.Asked key.Hole) (ne_eqb (w % 2) 1 (λ z. omega arith))
-      | key.Asked ↦ λ t. ap (λ b. cond b B C) (names_none w t.0) ∙ ap (λ b. cond b key.Asked key.Hole) (eq-eqb (w % 2) 1 t.1)
-      | key.Rows rows ↦ λ t. let n = names_one w t.0 t.1 in ap (λ b. cond b B C) n.0 ∙ ap (λ (s : ℕ). key.Rows (set_of shape.bound (content_words shape words s))) n.1 ∙ ap key.Rows (spelt_set shape words t.0 rows core.fits.bound core.wide t.2 t.3)
+    let Given : ℕ → Option KeyState = λ s. option_map (λ rows. key.Rows rows) (decode shape.bound (content_words shape words s)) in let B : Option KeyState = Given (slot_of w) in let C : Option KeyState = Some (cond (has_ask w) key.Asked key.Hole) in
+    let go : (z : KeyState) → ShowsState shape words w z → cond (is_filled w) B C ≡ Some z = λ z. elim z as (λ v. ShowsState shape words w v → cond (is_filled w) B C ≡ Some v) [
+      | key.Hole ↦ λ t. let even = t.1 in ap (λ b. cond b B C) (names_none w t.0) ∙ ap (λ b. Some (cond {A = KeyState} b key.Asked key.Hole)) (ne_eqb (w % 2) 1 (λ z. omega arith))
+      | key.Asked ↦ λ t. ap (λ b. cond b B C) (names_none w t.0) ∙ ap (λ b. Some (cond {A = KeyState} b key.Asked key.Hole)) (eq-eqb (w % 2) 1 t.1)
+      | key.Rows rows ↦ λ t. let n = names_one w t.0 t.1 in ap (λ b. cond b B C) n.0 ∙ ap Given n.1 ∙ ap (option_map (λ rows. key.Rows rows)) (spelt_set shape words t.0 rows core.fits.bound core.wide t.2 t.3)
     ] in go z (core.shows k near)

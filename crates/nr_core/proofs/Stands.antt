@@ -11,6 +11,7 @@ use Rattle.nr_model.specs.Maps.{PartialMap}
 use Rattle.nr_model.specs.declared.rows.Row.{Row}
 use Rattle.nr_words.proofs.SetWordLemmas.{length-row_words}
 use Rattle.nr_words.specs.SetWords.{encode}
+use Rattle.nr_core.proofs.Counting.{named_inside}
 use Rattle.nr_core.proofs.Guards.{guard}
 use Rattle.nr_core.proofs.Reach.{none_beyond}
 use Rattle.nr_core.proofs.Shown.{shown_is}
@@ -106,6 +107,8 @@ stands story is_core = let state = story.state in let shape = state.shape in let
   shows = shown_is state roles story.history core;
   accounted = record {
     placed = λ s near. omega (arith, core.places s near, (sums s).1);
+    named_in = named_inside state.shape state.words roles story.history core;
+    retired_in = λ i low. (desk.retired i (get_or state.desk.retired i no_retired) (got_at state.desk.retired i no_retired low)).0;
     named_count = λ k s near e. core.counts k s near e ∙ ap (λ (n : ℕ). (get_or state.words (departures shape s) 0 + n) % 2 ^ 40) (sums s).0;
     retired_count = λ i low. let x = get_or state.desk.retired i no_retired in (desk.retired i x (got_at state.desk.retired i no_retired low)).1 ∙ ap (λ (n : ℕ). (get_or state.words (departures shape x.slot) 0 + n) % 2 ^ 40) (sums x.slot).0;
     unheld = λ s near mine. sym (sums s).0 ∙ dite (dec_le state.desk.fresh s) (λ l. (desk.free s l near).0)

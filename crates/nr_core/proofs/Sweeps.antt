@@ -4,7 +4,7 @@
 use Rattle.std.proofs.Common.{List, [], ap, arith, cond, drop, get_or, get_or-set_other, get_or-set_same, inl, inr, length, map, nat_eq, refl, set, subst, suc, sym, take, zero, ℕ, ⊎_elim, ◌%◌, ◌*◌, ◌++◌, ◌+◌, ◌-◌, ◌/◌, ◌<◌, ◌^◌, ◌∙◌, ◌∷◌, ◌≡◌, ◌≢◌, ◌≤◌, ◌⊎◌}
 use Rattle.std.proofs.lemmas.Bool.{eqb-false, eqb-true, ltb-true}
 use Rattle.std.proofs.lemmas.List.{length-append, map-append}
-use Rattle.std.specs.Prelude.{Err, None, Ok, Result, nat_le, nat_lt, ◌&&◌}
+use Rattle.std.specs.Prelude.{Err, None, Ok, Option, Result, Some, nat_le, nat_lt, ◌&&◌}
 use lib.ListN.{get_elem?}
 use lib.Seq.{take-suc}
 use mathlib.Core.Logic.{dite}
@@ -30,11 +30,13 @@ use Rattle.nr_core.specs.Machine.{moved, read_hold}
 use Rattle.nr_core.specs.Operations.{going, place_of}
 use Rattle.nr_core.specs.Refusals.{has_key, has_reader, if_holding, if_not_holding, if_unreadable, refusal}
 use Rattle.nr_core.specs.Roles.{held}
-use Rattle.nr_core.specs.Slots.{content, name_number, set_of}
+use Rattle.nr_core.specs.Slots.{content, name_number}
 use Rattle.nr_core.specs.States.{Arrive, Ask, Depart, Event, Go, Read, Start, State, hold_of, key_of, no_retired, retired_at, slot_in}
 use Rattle.nr_core.specs.Story.{Poll, holders_from, is_on, map_after, poll_at, polls_after}
 use Rattle.nr_core.specs.Sums.{only, total}
-use Rattle.nr_core.specs.Writer.{decided, ended, looked, moved_to, no_slot, read_on, renewed, settled, swapped, went}
+use Rattle.nr_core.specs.Writer.{decided, decoded, ended, looked, moved_to, no_slot, read_on, renewed, settled, swapped, went}
+use Rattle.nr_words.specs.SetWords.{decode}
+use Rattle.nr_core.specs.declared.operation.Operation.{Operation}
 use Rattle.nr_core.specs.declared.calls.Step.{Step}
 use Rattle.nr_core.specs.declared.calls.Step.TheVariants.{Going}
 use Rattle.nr_core.specs.declared.calls.WriterCall.{WriterCall}
@@ -80,10 +82,10 @@ pub record Swept (state : State) (polls : List Poll) : Type 0 where
   pub held : (i : ℕ) → i < length polls → 0 < length (get_or polls i (record { slot = 0; holders = [] })).holders
 
 -- a reader's step keeps a sweep: who comes to hold a slot holds one that is named
-keeps_notes : (state : State) (words : List ℕ) (hs : List Hold) (polls : List Poll) (p : ℕ)
+keeps_notes : (state : State) (words : List ℕ) (hs : List Hold) (made : List Operation) (polls : List Poll) (p : ℕ)
     → ((c u : ℕ) → 0 < on u (get_or hs c hold.Nothing) → (0 < holds_at state c u) ⊎ (retirements_of state u ≡ 0))
-    → Notes state polls p → Notes (record { shape = state.shape; words = words; holds = hs; desk = state.desk }) polls p
-keeps_notes state words hs polls p step n = record {
+    → Notes state polls p → Notes (record { shape = state.shape; words = words; holds = hs; desk = state.desk; made = made }) polls p
+keeps_notes state words hs made polls p step n = record {
   notes = n.notes;
   size = n.size;
   polled = n.polled;
@@ -167,14 +169,15 @@ sweep_more state log polls p c is_core within near n here desk same =
 
 -- EVERY EVENT KEEPS A SWEEP
 
-reader_swept : (state : State) (words : List ℕ) (hs : List Hold) (polls : List Poll) → ((c u : ℕ) → 0 < on u (get_or hs c hold.Nothing) → (0 < holds_at state c u) ⊎ (retirements_of state u ≡ 0)) → Swept state polls → Swept (record { shape = state.shape; words = words; holds = hs; desk = state.desk }) polls
-reader_swept state words hs polls step s = record { few = s.few; sweep = go state.desk.place s.sweep; held = s.held }
+reader_swept : (state : State) (words : List ℕ) (hs : List Hold) (made : List Operation) (polls : List Poll) → ((c u : ℕ) → 0 < on u (get_or hs c hold.Nothing) → (0 < holds_at state c u) ⊎ (retirements_of state u ≡ 0))
+    → Swept state polls → Swept (record { shape = state.shape; words = words; holds = hs; desk = state.desk; made = made }) polls
+reader_swept state words hs made polls step s = record { few = s.few; sweep = go state.desk.place s.sweep; held = s.held }
   where
-    go : (p : Place) → AtSweep state polls p → AtSweep (record { shape = state.shape; words = words; holds = hs; desk = state.desk }) polls p
+    go : (p : Place) → AtSweep state polls p → AtSweep (record { shape = state.shape; words = words; holds = hs; desk = state.desk; made = made }) polls p
     go Idle t = tt
     go (Reading call u got) t = t
     go (Leaving k) t = tt
-    go (Searching call rows p) t = keeps_notes state words hs polls p step t
+    go (Searching call rows p) t = keeps_notes state words hs made polls p step t
     go (Putting call rows u departed i) t = tt
 
 other_reader : (state : State) (i : ℕ) (x : Hold) → i < length state.holds → ((u : ℕ) → 0 < on u x → 0 < holds_at state i u) → (c u : ℕ) → 0 < on u (get_or (set state.holds i x) c hold.Nothing) → (0 < holds_at state c u) ⊎ (retirements_of state u ≡ 0)
@@ -186,9 +189,9 @@ read_same : (i w u : ℕ) (x : Hold) → on u (read_hold i w x) ≡ on u x
 read_same i w u hold.Nothing = refl
 read_same i w u (hold.On s n) = refl
 
-module _ (shape : Shape) (words : List ℕ) (hs : List Hold) where
+module _ (shape : Shape) (words : List ℕ) (hs : List Hold) (made : List Operation) where
   abbrev with_desk : Desk → State
-  with_desk desk = record { shape = shape; words = words; holds = hs; desk = desk }
+  with_desk desk = record { shape = shape; words = words; holds = hs; desk = desk; made = made }
 
   no_notes : (desk : Desk) (polls : List Poll) → polls ≡ [] → Notes (with_desk desk) polls 0
   no_notes desk polls none = subst (λ (l : List Poll). Notes (with_desk desk) l 0) (sym none) (record { notes = []; size = refl; polled = refl; slots = refl; which = λ i s c e. absurd (some-ne-none (s, c) (sym e)); noted = λ i s c e. absurd (some-ne-none (s, c) (sym e)); distinct = λ c. omega arith })
@@ -218,8 +221,12 @@ module _ (shape : Shape) (words : List ℕ) (hs : List Hold) where
       go (Ok new) = settle_good desk (Update k b) new polls none
       go (Err f) = tt
 
+  decoded_good : (desk : Desk) (call : WriterCall) (found : Option (List Row)) (polls : List Poll) → polls ≡ [] → Good polls (decoded shape desk call found)
+  decoded_good desk call None polls none = tt
+  decoded_good desk call (Some rows) polls none = decided_good desk call rows polls none
+
   read_good : (desk : Desk) (call : WriterCall) (s : ℕ) (got : List ℕ) (polls : List Poll) → polls ≡ [] → Good polls (read_on shape desk call s got)
-  read_good desk call s got polls none = by_cases (λ v. Good polls (cond {A = Desk × Step} v (decided shape desk call (set_of shape.bound got)) (moved_to desk (Reading call s got), Going))) (nat_eq (length got) (2 * get_or got 0 0 + 1)) (λ _. decided_good desk call (set_of shape.bound got) polls none) (λ _. none)
+  read_good desk call s got polls none = by_cases (λ v. Good polls (cond {A = Desk × Step} v (decoded shape desk call (decode shape.bound got)) (moved_to desk (Reading call s got), Going))) (nat_eq (length got) (2 * get_or got 0 0 + 1)) (λ _. decoded_good desk call (decode shape.bound got) polls none) (λ _. none)
 
 got_or : (l : List Hold) (j : ℕ) (x : Hold) → get_elem? l j ≡ some x → (get_or l j hold.Nothing ≡ x) × (j < length l)
 got_or [] j x e = absurd (some-ne-none x (sym e))
@@ -244,21 +251,21 @@ abbrev has_holder : Poll → Type 0
 has_holder x = 0 < length x.holders
 
 -- the writer's step after its look
-go_swept : (state : State) (log : List Entry) (polls : List Poll) → IsCoreState state log → Swept state polls → (p : Place) → state.desk.place ≡ p → (w : ℕ) → w ≡ get_or state.words (place_of (going state.shape state.desk p)) 0 → (words : List ℕ)
-    → let desk' = (went state.shape state.desk p w).0 in Swept (record { shape = state.shape; words = words; holds = state.holds; desk = desk' })
+go_swept : (state : State) (log : List Entry) (polls : List Poll) → IsCoreState state log → Swept state polls → (p : Place) → state.desk.place ≡ p → (w : ℕ) → w ≡ get_or state.words (place_of (going state.shape state.desk p)) 0 → (words : List ℕ) (made : List Operation)
+    → let desk' = (went state.shape state.desk p w).0 in Swept (record { shape = state.shape; words = words; holds = state.holds; desk = desk'; made = made })
     (elim p as (λ _. List Poll) [ Idle ↦ polls | Reading call s got ↦ polls | Leaving k ↦ polls | Searching call rows i ↦ cond (nat_eq (w % 2 ^ 40) ((retired_at state.desk i).arrivals % 2 ^ 40)) polls (polls ++ poll_at state i ∷ []) | Putting call rows s e i ↦ polls ])
-go_swept state log polls is_core s Idle is w w_is words = record { few = s.few; sweep = subst (λ (p : Place). AtSweep (with_desk state.shape words state.holds state.desk) polls p) (sym is) tt; held = s.held }
-go_swept state log polls is_core s (Reading call t got) is w w_is words = record { few = s.few; sweep = read_good state.shape words state.holds state.desk call t (got ++ w ∷ []) polls (subst (AtSweep state polls) is s.sweep); held = s.held }
-go_swept state log polls is_core s (Leaving k) is w w_is words = record { few = s.few; sweep = tt; held = s.held }
-go_swept state log polls is_core s (Putting call rows t e i) is w w_is words = record { few = s.few; sweep = by_cases (λ v. Good state.shape words state.holds polls (cond {A = Desk × Step} v (moved_to state.desk (Putting call rows t e (i + 1)), Going) (swapped state.desk w, ended reply.Done))) (nat_le i (2 * length rows)) (λ _. tt) (λ _. tt); held = s.held }
-go_swept state log polls is_core sw (Searching call rows p) is w w_is words =
+go_swept state log polls is_core s Idle is w w_is words made = record { few = s.few; sweep = subst (λ (p : Place). AtSweep (with_desk state.shape words state.holds made state.desk) polls p) (sym is) tt; held = s.held }
+go_swept state log polls is_core s (Reading call t got) is w w_is words made = record { few = s.few; sweep = read_good state.shape words state.holds made state.desk call t (got ++ w ∷ []) polls (subst (AtSweep state polls) is s.sweep); held = s.held }
+go_swept state log polls is_core s (Leaving k) is w w_is words made = record { few = s.few; sweep = tt; held = s.held }
+go_swept state log polls is_core s (Putting call rows t e i) is w w_is words made = record { few = s.few; sweep = by_cases (λ v. Good state.shape words state.holds made polls (cond {A = Desk × Step} v (moved_to state.desk (Putting call rows t e (i + 1)), Going) (swapped state.desk w, ended reply.Done))) (nat_le i (2 * length rows)) (λ _. tt) (λ _. tt); held = s.held }
+go_swept state log polls is_core sw (Searching call rows p) is w w_is words made =
     let shape = state.shape in let desk = state.desk in let z = get_or desk.retired p no_retired in let s = z.slot in let n : Notes state polls p = subst (AtSweep state polls) is sw.sweep in
     let known = is_core.core.knows 0 (Writer desk) is_core.fit.writer in
     let at_p : AtPlace shape state.words (map_after shape log) (held is_core.roles) desk.fresh desk.retired (Searching call rows p) = subst (AtPlace shape state.words (map_after shape log) (held is_core.roles) desk.fresh desk.retired) is known.place in let within = at_p.1 in
     let count = (known.retired p z (got_at desk.retired p no_retired within)).1 in
     let Taken : Desk = record { place = Putting call rows s w 0; fresh = desk.fresh; retired = take p desk.retired ++ drop (suc p) desk.retired } in
     let Rest : Desk × Step = cond {A = Desk × Step} (nat_lt (p + 1) (length desk.retired)) (moved_to desk (Searching call rows (p + 1)), Going) (moved_to desk Idle, no_slot shape desk) in
-    by_cases (λ v. Swept (with_desk shape words state.holds (cond {A = Desk × Step} v (Taken, Going) Rest).0) (cond v polls (polls ++ poll_at state p ∷ []))) (nat_eq (w % 2 ^ 40) (z.arrivals % 2 ^ 40))
+    by_cases (λ v. Swept (with_desk shape words state.holds made (cond {A = Desk × Step} v (Taken, Going) Rest).0) (cond v polls (polls ++ poll_at state p ∷ []))) (nat_eq (w % 2 ^ 40) (z.arrivals % 2 ^ 40))
     (λ _. record { few = sw.few; sweep = tt; held = sw.held })
     (λ no. let miss : w % 2 ^ 40 ≢ z.arrivals % 2 ^ 40 = eqb-false (w % 2 ^ 40) (z.arrivals % 2 ^ 40) no in
     let held_there : 0 < total (on s) state.holds = omega (arith, (state_sums state is_core.roles is_core.fit s).0) in
@@ -267,7 +274,7 @@ go_swept state log polls is_core sw (Searching call rows p) is w w_is words =
     let more = sweep_more state log polls p who.0 is_core within (omega arith) n here desk refl in let few = more.1 in let polled = n.polled in
     record {
       few = omega (arith, length-append polls (poll_at state p ∷ []));
-      sweep = by_cases (λ v. Good shape words state.holds (polls ++ poll_at state p ∷ []) (cond {A = Desk × Step} v (moved_to desk (Searching call rows (p + 1)), Going) (moved_to desk Idle, no_slot shape desk))) (nat_lt (p + 1) (length desk.retired))
+      sweep = by_cases (λ v. Good shape words state.holds made (polls ++ poll_at state p ∷ []) (cond {A = Desk × Step} v (moved_to desk (Searching call rows (p + 1)), Going) (moved_to desk Idle, no_slot shape desk))) (nat_lt (p + 1) (length desk.retired))
           (λ _. let m = more.0 in record { notes = m.notes; size = m.size; polled = m.polled; slots = m.slots; which = m.which; noted = m.noted; distinct = m.distinct }) (λ _. tt);
       held = all_more has_holder polls (poll_at state p) (record { slot = 0; holders = [] }) sw.held (some_holder s state.holds 1 held_there);
     })
@@ -275,13 +282,13 @@ go_swept state log polls is_core sw (Searching call rows p) is w w_is words =
 pub swept_event : (state : State) (log : List Entry) (polls : List Poll) (event : Event) → IsCoreState state log → Swept state polls → refusal state event ≡ None → Swept (moved state event) (polls_after state polls event)
 swept_event state log polls (Arrive r k) is_core s ok =
     let g = guard (has_reader state.shape r && has_key state.shape k) (if_holding (hold_of state r)) refuse.OutOfRange ok in let b = both (has_reader state.shape r) (has_key state.shape k) g.0 in let i = reader_in state.shape r b.0 in let lo = i.0 in let hi = i.1 in let size = is_core.fit.size in
-    reader_swept state (moved state (Arrive r k)).words (moved state (Arrive r k)).holds polls (arrive_step state log is_core r k (omega arith) (ltb-true k state.shape.keys b.1)) s
-swept_event state log polls (Ask r k) is_core s ok = reader_swept state (moved state (Ask r k)).words state.holds polls (λ c u more. inl more) s
+    reader_swept state (moved state (Arrive r k)).words (moved state (Arrive r k)).holds (moved state (Arrive r k)).made polls (arrive_step state log is_core r k (omega arith) (ltb-true k state.shape.keys b.1)) s
+swept_event state log polls (Ask r k) is_core s ok = reader_swept state (moved state (Ask r k)).words state.holds (moved state (Ask r k)).made polls (λ c u more. inl more) s
 swept_event state log polls (Read r p) is_core s ok =
     let g = guard (has_reader state.shape r) (if_unreadable p (hold_of state r)) refuse.OutOfRange ok in let i = reader_in state.shape r g.0 in let lo = i.0 in let hi = i.1 in let size = is_core.fit.size in let w = get_or state.words (content state.shape (slot_in (hold_of state r)) p) 0 in
-    reader_swept state (moved state (Read r p)).words (moved state (Read r p)).holds polls (other_reader state (r - 1) (read_hold p w (hold_of state r)) (omega arith) (λ u more. omega (arith, read_same p w u (hold_of state r)))) s
+    reader_swept state (moved state (Read r p)).words (moved state (Read r p)).holds (moved state (Read r p)).made polls (other_reader state (r - 1) (read_hold p w (hold_of state r)) (omega arith) (λ u more. omega (arith, read_same p w u (hold_of state r)))) s
 swept_event state log polls (Depart r) is_core s ok =
     let g = guard (has_reader state.shape r) (if_not_holding (hold_of state r)) refuse.OutOfRange ok in let i = reader_in state.shape r g.0 in let lo = i.0 in let hi = i.1 in let size = is_core.fit.size in
-    reader_swept state (moved state (Depart r)).words (moved state (Depart r)).holds polls (other_reader state (r - 1) hold.Nothing (omega arith) (λ u more. absurd (omega arith))) s
-swept_event state log polls (Start call) is_core s ok = record { few = omega arith; sweep = look_good state.shape (moved state (Start call)).words state.holds state.desk call (get_or state.words (key_of call) 0); held = λ i low. absurd (omega arith) }
-swept_event state log polls Go is_core s ok = go_swept state log polls is_core s state.desk.place refl (get_or state.words (place_of (going state.shape state.desk state.desk.place)) 0) refl (moved state Go).words
+    reader_swept state (moved state (Depart r)).words (moved state (Depart r)).holds (moved state (Depart r)).made polls (other_reader state (r - 1) hold.Nothing (omega arith) (λ u more. absurd (omega arith))) s
+swept_event state log polls (Start call) is_core s ok = record { few = omega arith; sweep = look_good state.shape (moved state (Start call)).words state.holds (moved state (Start call)).made state.desk call (get_or state.words (key_of call) 0); held = λ i low. absurd (omega arith) }
+swept_event state log polls Go is_core s ok = go_swept state log polls is_core s state.desk.place refl (get_or state.words (place_of (going state.shape state.desk state.desk.place)) 0) refl (moved state Go).words (moved state Go).made

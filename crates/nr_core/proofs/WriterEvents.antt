@@ -10,7 +10,8 @@ use Rattle.nr_core.proofs.Look.{looks}
 use Rattle.nr_core.proofs.StateRoles.{IsCoreState, ending_at_other, ending_other, fit_writer, found_writer}
 use Rattle.nr_core.specs.Laws.{IsGivenCall}
 use Rattle.nr_core.specs.Machine.{moved}
-use Rattle.nr_core.specs.Operations.{Load, going, place_of}
+use Rattle.nr_core.specs.Operations.{going, place_of}
+use Rattle.nr_core.specs.declared.operation.Operation.TheVariants.{Load}
 use Rattle.nr_core.specs.Refusals.{has_key, if_busy, refusal}
 use Rattle.nr_core.specs.States.{Go, Start, State, key_of}
 use Rattle.nr_core.specs.Steps.{Goes, Looks}

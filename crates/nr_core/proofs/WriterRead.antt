@@ -1,7 +1,7 @@
 -- The writer reads a word of the slot that its key names; the last read decides its find or update.
 use Rattle.std.proofs.Common.{List, [], ap, arith, cond, get_or, length, nat_eq, refl, set, subst, suc, sym, take, ℕ, ◌*◌, ◌++◌, ◌+◌, ◌<◌, ◌∙◌, ◌∷◌, ◌≡◌, ◌≢◌}
 use Rattle.std.proofs.lemmas.Bool.{eqb-false, eqb-true}
-use Rattle.std.specs.Prelude.{Err, Ok, Result}
+use Rattle.std.specs.Prelude.{Err, Ok, Option, Result}
 use lib.ListN.{get_elem?}
 use mathlib.Core.Option.{some}
 use Rattle.nr_model.proofs.LawLemmas.{batch_moves_rows_lem}
@@ -12,18 +12,18 @@ use Rattle.nr_model.specs.Rows.{IsRowSet}
 use Rattle.nr_model.specs.declared.batches.ApplyFault.{ApplyFault}
 use Rattle.nr_model.specs.declared.rows.Row.{Row}
 use Rattle.nr_words.proofs.SetWordLemmas.{length-row_words}
-use Rattle.nr_words.specs.SetWords.{encode}
+use Rattle.nr_words.specs.SetWords.{decode, encode}
 use Rattle.nr_core.proofs.Choices.{by_cases}
 use Rattle.nr_core.proofs.Frames.{not_hole}
 use Rattle.nr_core.proofs.ReadThrough.{length-got_next, read_first, read_next, read_set, read_whole}
 use Rattle.nr_core.proofs.Settle.{ends, goes_on, idle_desk, settles}
 use Rattle.nr_core.specs.Core.{AtDesk, AtPlace, Core, Reads}
 use Rattle.nr_core.specs.Roles.{held, keeps, taken}
-use Rattle.nr_core.specs.Slots.{content, set_of, unused}
+use Rattle.nr_core.specs.Slots.{content, unused}
 use Rattle.nr_core.specs.States.{key_of}
 use Rattle.nr_core.specs.Story.{call_of, ending, map_after}
 use Rattle.nr_core.specs.Sums.{only, total}
-use Rattle.nr_core.specs.Writer.{decided, moved_to, read_on, renewed}
+use Rattle.nr_core.specs.Writer.{decided, decoded, moved_to, read_on, renewed}
 use Rattle.nr_core.specs.declared.calls.Step.{Step}
 use Rattle.nr_core.specs.declared.calls.Step.TheVariants.{Going}
 use Rattle.nr_core.specs.declared.calls.WriterCall.{WriterCall}
@@ -71,9 +71,9 @@ reads_on shape words roles log core id desk there call slot got is_at = let know
     let keeps_so : (u : ℕ) → keeps u (Writer (moved_to desk Idle)) ≡ keeps u (Writer desk) = λ u. ap (λ (y : Place). unused u desk.fresh + total (λ (x : Retired). only u x.slot) desk.retired + taken u y) (sym is_at) in
     let idle = idle_desk shape words map (held roles) desk known in let size = length-row_words reading.rows in
     let Good : Desk × Step → Type 0 = λ o. Core shape (set words place found) (set roles id (Writer o.0)) (log ++ ending (call_of call) o.1) in
-    by_cases (λ v. Good (cond {A = Desk × Step} v (decided shape desk call (set_of shape.bound got')) (moved_to desk (Reading call slot got'), Going))) (nat_eq (length got') (2 * get_or got' 0 0 + 1))
+    by_cases (λ v. Good (cond {A = Desk × Step} v (decoded shape desk call (decode shape.bound got')) (moved_to desk (Reading call slot got'), Going))) (nat_eq (length got') (2 * get_or got' 0 0 + 1))
     (λ yes. let whole : length got' ≡ 2 * get_or got' 0 0 + 1 = eqb-true (length got') (2 * get_or got' 0 0 + 1) yes in
-    subst (λ (l : List Row). Good (decided shape desk call l)) (sym (read_whole shape words roles log core (key_of call) slot got reading whole))
+    subst (λ (o : Option (List Row)). Good (decoded shape desk call o)) (sym (read_whole shape words roles log core (key_of call) slot got reading whole))
     (decide_all shape words roles log core id desk there place call reading.rows reading.near reading.full (read_set shape words roles log core (key_of call) slot got reading) keeps_so idle))
     (λ no. let unfinished : length got' ≢ 2 * get_or got' 0 0 + 1 = eqb-false (length got') (2 * get_or got' 0 0 + 1) no in let more = reading.more in
     let same_len : suc (length got) ≡ length got' = omega arith in goes_on shape words roles log core id desk there place (moved_to desk (Reading call slot got')) keeps_so (record {

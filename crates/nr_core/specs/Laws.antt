@@ -22,7 +22,9 @@ use Rattle.nr_words.specs.SetWords.{encode}
 use Rattle.nr_core.specs.Slots.{content, slot_room}
 use Rattle.nr_core.specs.States.{State, Event, Arrive, Read, Depart, Ask, Start, Go, word, hold_of}
 use Rattle.nr_core.specs.Refusals.{refusal}
-use Rattle.nr_core.specs.Operations.{Operation, Load, place_of, becomes, operation}
+use Rattle.nr_core.specs.Operations.{place_of, becomes, operation}
+use Rattle.nr_core.specs.declared.operation.Operation.{Operation}
+use Rattle.nr_core.specs.declared.operation.Operation.TheVariants.{Load}
 use Rattle.nr_core.specs.Machine.{next, run, unless, read_answer, start_answer, go_answer}
 use Rattle.nr_core.specs.Story.{Story, Poll, story_of, tell, told, shown, entry, call_of, map_after}
 use Rattle.nr_core.specs.Sizes.{IsShape}
@@ -53,7 +55,7 @@ map_of story = map_after story.state.shape story.history
 
 -- the words show the map
 abbrev pub Shows : State → PartialMap → Type 0
-Shows state map = (at : ℕ) → at < state.shape.keys → shown state at ≡ state_of map at
+Shows state map = (at : ℕ) → at < state.shape.keys → shown state at ≡ Some (state_of map at)
 
 -- a reader that holds a slot found there, by the last of its calls, the set whose words its reads give
 pub record HoldsFound (story : Story) (reader slot : ℕ) (size : Option ℕ) : Type 0 where
@@ -117,9 +119,12 @@ pub record IsJustified (story : Story) (event : Event) (counts : NoSlot) : Type 
   pub polled : map (λ (poll : Poll). poll.slot) (tell story event).polls ≡ map (λ (entry : Retired). entry.slot) (tell story event).state.desk.retired
   pub were_held : (index : ℕ) → index < length (tell story event).polls → 0 < length (slice_index_or (tell story event).polls index no_poll).holders
 
--- the words change by one operation on one of them
+-- that operation on one of the words is made, and no other
 abbrev pub Operates : State → Operation → State → Type 0
-Operates state one after = (place_of one < length state.words) × (after.words ≡ slice_set state.words (place_of one) (becomes one (word state (place_of one))))
+Operates state one after =
+    (place_of one < length state.words)
+    × (after.words ≡ slice_set state.words (place_of one) (becomes one (word state (place_of one))))
+    × (after.made ≡ state.made ++ one ∷ [])
 
 -- what one event more does
 pub record Follows (story : Story) (event : Event) : Type 0 where

@@ -2,6 +2,7 @@ pub mod Sums
 pub mod Slots
 pub mod Sizes
 pub mod States
+pub mod Spares
 pub mod Refusals
 pub mod Operations
 pub mod Writer
@@ -13,3 +14,4 @@ pub mod Steps
 pub mod Accounts
 pub mod Laws
 pub mod Reach
+pub mod StepLaws

@@ -1,5 +1,5 @@
 -- The machine: the state after an event, the answer to it, and the run of a list of events.
-use Rattle.std.specs.Prelude.{ℕ, ◌-◌, ◌==◌, if◌then◌else◌, List, slice_set, fold, Option, Some, None, Result, Ok, Err}
+use Rattle.std.specs.Prelude.{ℕ, ◌-◌, ◌==◌, if◌then◌else◌, List, [], ◌∷◌, ◌++◌, slice_set, fold, Option, Some, None, Result, Ok, Err}
 use Rattle.nr_core.specs.declared.shape.Shape.{Shape}
 use Rattle.nr_core.specs.declared.calls.WriterCall.{WriterCall}
 use Rattle.nr_core.specs.declared.calls.Refusal.{Refusal}
@@ -49,13 +49,14 @@ desk_after state Go found = (went state.shape state.desk state.desk.place found)
 abbrev pub found_by : State → Event → ℕ
 found_by state event = word state (place_of (operation state event))
 
--- the state after an event that is not refused
+-- the state after an event that is not refused: one operation more was made, on one word
 abbrev pub moved : State → Event → State
 moved state event = record {
   shape = state.shape;
   words = slice_set state.words (place_of (operation state event)) (becomes (operation state event) (found_by state event));
   holds = holds_after state event (found_by state event);
   desk = desk_after state event (found_by state event);
+  made = state.made ++ operation state event ∷ [];
 }
 
 abbrev pub unless : {A : Type 0} → Option Refusal → A → A → A

@@ -1,22 +1,18 @@
 -- The one operation on one word that each event is.
-use Rattle.std.specs.Prelude.{ℕ, ◌+◌, ◌*◌, ◌%◌, ◌^◌, nat_le, if◌then◌else◌, bit_or, length, slice_index}
+use Rattle.std.specs.Prelude.{ℕ, ◌+◌, ◌*◌, ◌%◌, ◌^◌, nat_le, if◌then◌else◌, List, [], ◌∷◌, ◌++◌, bit_or, length, slice_index, slice_set}
+use Rattle.nr_core.specs.declared.operation.Operation.{Operation}
+use Rattle.nr_core.specs.declared.operation.Operation.TheVariants.{Load, Add, Or, Store, Swap}
 use Rattle.nr_core.specs.declared.shape.Shape.{Shape}
 use Rattle.nr_core.specs.declared.places.Place.{Place}
 use Rattle.nr_core.specs.declared.places.Place.TheVariants.{Idle, Reading, Leaving, Searching, Putting}
 use Rattle.nr_core.specs.declared.roles.Desk.{Desk}
 use Rattle.nr_words.specs.declared.key_words.TheConstants.{ARRIVE}
 use Rattle.nr_words.specs.SetWords.{encode}
-use Rattle.nr_core.specs.Slots.{departures, content, naming}
+use Rattle.nr_words.specs.KeyWords.{naming}
+use Rattle.nr_core.specs.Slots.{departures, content}
 use Rattle.nr_core.specs.States.{State, Event, Arrive, Read, Depart, Ask, Start, Go, hold_of, slot_in, retired_at, key_of}
 
--- a load, an addition, a bitwise or, a store, a swap of a word at a place
-pub data Operation : Type 0 where
-  Load : (place : ℕ) → Operation
-  Add : (place amount : ℕ) → Operation
-  Or : (place bits : ℕ) → Operation
-  Store : (place word : ℕ) → Operation
-  Swap : (place word : ℕ) → Operation
-
+-- the word that the operation is on
 abbrev pub place_of : Operation → ℕ
 place_of (Load place) = place
 place_of (Add place amount) = place
@@ -31,6 +27,18 @@ becomes (Add place amount) found = (found + amount) % 2 ^ 64
 becomes (Or place bits) found = bit_or found bits
 becomes (Store place word) found = word
 becomes (Swap place word) found = word
+
+-- the words, and the operations that were made on them, oldest first
+pub record Memory : Type 0 where
+  pub cells : List ℕ
+  pub made : List Operation
+
+-- one operation more, on one word
+abbrev pub performed : Memory → Operation → Memory
+performed memory one = record {
+  cells = slice_set memory.cells (place_of one) (becomes one (slice_index memory.cells (place_of one)));
+  made = memory.made ++ one ∷ [];
+}
 
 -- the next operation of the writer's call at a place
 abbrev pub going : Shape → Desk → Place → Operation

@@ -1,5 +1,5 @@
 -- The roles of callers: whose a role is, which slots it holds, and which slots it keeps.
-use Rattle.std.specs.Prelude.{ℕ, ◌+◌, ◌==◌, List, Bool, false}
+use Rattle.std.specs.Prelude.{ℕ, suc, zero, ◌+◌, ◌==◌, List, [], ◌∷◌, Bool, false}
 use Rattle.nr_core.specs.declared.roles.Role.{Role}
 use Rattle.nr_core.specs.declared.roles.Role.TheVariants.{Writer, Reader, Note}
 use Rattle.nr_core.specs.declared.roles.Grip.{Grip}
@@ -56,3 +56,8 @@ abbrev pub keeps : ℕ → Role → ℕ
 keeps slot (Writer desk) = unused slot desk.fresh + retirements slot desk.retired + taken slot desk.place
 keeps slot (Reader reader grip) = 0
 keeps slot Note = 0
+
+-- so many readers that hold nothing, from one number on
+abbrev pub readers_from : ℕ → ℕ → List Role
+readers_from before zero = []
+readers_from before (suc more) = Reader (suc before) Nothing ∷ readers_from (suc before) more

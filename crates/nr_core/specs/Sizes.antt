@@ -1,5 +1,5 @@
--- The sizes of a map: those for which its words have room, and those that an opening refuses.
-use Rattle.std.specs.Prelude.{ℕ, ◌≡◌, ◌*◌, ◌^◌, ◌≤◌, ◌<◌, ◌⊎◌}
+-- The sizes for which a map's words have room.
+use Rattle.std.specs.Prelude.{◌*◌, ◌^◌, ◌≤◌, ◌<◌}
 use Rattle.nr_core.specs.declared.shape.Shape.{Shape}
 use Rattle.nr_core.specs.Slots.{slot_room}
 
@@ -8,7 +8,3 @@ pub record IsShape (shape : Shape) : Type 0 where
   pub bound : 2 * shape.bound < slot_room
   pub slots : shape.slots ≤ 2 ^ 22
   pub readers : shape.readers < 2 ^ 40
-
--- none at all, or more than the limit
-abbrev pub IsBadSize : ℕ → ℕ → Type 0
-IsBadSize limit size = (size ≡ 0) ⊎ (limit < size)

@@ -1,14 +1,15 @@
 -- Slots: where their words stand, which slot a key's word names, and which set a slot spells.
-use Rattle.std.specs.Prelude.{◌≡◌, ℕ, suc, zero, ◌+◌, ◌%◌, ◌^◌, false, true, ◌<◌, nat_le, List, [], ◌∷◌, ◌++◌, cond, length, take, drop, replicate, slice_index, Option, Some, None}
+use Rattle.std.specs.Prelude.{◌≡◌, ℕ, suc, ◌+◌, ◌<◌, nat_le, List, cond, length, take, drop, slice_index}
 use Rattle.nr_model.specs.declared.rows.Row.{Row}
 use Rattle.nr_model.specs.Rows.{IsRowSet}
 use Rattle.nr_core.specs.declared.shape.Shape.{Shape}
 use Rattle.nr_core.specs.Sums.{below, only}
 use Rattle.nr_words.specs.declared.layout.Layout.{Layout}
 use Rattle.nr_words.specs.declared.set_words.TheConstants.{CONTENT_WORDS}
-use Rattle.nr_words.specs.KeyWords.{key_word, is_filled, slot_of}
+use Rattle.nr_words.specs.KeyWords.{is_filled, slot_of}
+use Rattle.nr_words.specs.Opening as new_map
 use Rattle.nr_words.specs.Places.{Departures, Content, place_of}
-use Rattle.nr_words.specs.SetWords.{encode, decode}
+use Rattle.nr_words.specs.SetWords.{encode}
 
 -- how many content words a slot has, and where its words stand; a key's word stands at the key's number
 abbrev pub slot_room : ℕ
@@ -23,18 +24,9 @@ departures shape slot = place_of slot_room (layout shape) (Departures slot)
 abbrev pub content : Shape → ℕ → ℕ → ℕ
 content shape slot index = place_of slot_room (layout shape) (Content slot index)
 
--- a list over and over
-abbrev pub repeated : {A : Type 0} → ℕ → List A → List A
-repeated zero xs = []
-repeated (suc n) xs = xs ++ repeated n xs
-
 -- the words at opening: every key a hole, every slot's departures the first count
 abbrev pub opening_words : Shape → List ℕ
-opening_words shape = replicate shape.keys 0 ++ repeated shape.slots (shape.first ∷ replicate slot_room 0)
-
--- the word that fills a key with a slot whose departures are these
-abbrev pub naming : ℕ → ℕ → ℕ
-naming slot departed = key_word (record { ask = false; filled = true; slot = slot; arrivals = departed % 2 ^ 40 })
+opening_words shape = new_map.opening_words slot_room (layout shape) shape.first
 
 -- 0 for a word that is not filled, else 1 more than its slot
 abbrev pub name_number : ℕ → ℕ
@@ -51,14 +43,6 @@ unused slot fresh = cond (nat_le fresh slot) 1 0
 -- a slot's content words
 abbrev pub content_words : Shape → List ℕ → ℕ → List ℕ
 content_words shape words slot = take slot_room (drop (content shape slot 0) words)
-
--- the set that words spell, none where they spell none
-abbrev pub rows_or_none : Option (List Row) → List Row
-rows_or_none None = []
-rows_or_none (Some rows) = rows
-
-abbrev pub set_of : ℕ → List ℕ → List Row
-set_of bound words = rows_or_none (decode bound words)
 
 -- the slot's content words are those of the row set
 abbrev pub SlotSpells : Shape → List ℕ → ℕ → List Row → Type 0

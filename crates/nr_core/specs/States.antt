@@ -8,21 +8,23 @@ use Rattle.nr_core.specs.declared.places.Hold.TheVariants.{Nothing, On}
 use Rattle.nr_core.specs.declared.places.Place.TheVariants.{Idle}
 use Rattle.nr_core.specs.declared.places.Retired.{Retired}
 use Rattle.nr_core.specs.declared.roles.Desk.{Desk}
+use Rattle.nr_core.specs.declared.operation.Operation.{Operation}
 use Rattle.nr_core.specs.Slots.{opening_words}
 
--- the words in their layout, what the readers 1, 2, .. hold, and the writer's desk
+-- the words in their layout, what the readers 1, 2, .. hold, the writer's desk, and the operations that were made on the words, oldest first
 pub record State : Type 0 where
   pub shape : Shape
   pub words : List ℕ
   pub holds : List Hold
   pub desk : Desk
+  pub made : List Operation
 
 -- the writer is in no call, and every slot is free
 abbrev pub opening_desk : Desk
 opening_desk = record { place = Idle; fresh = 0; retired = [] }
 
 abbrev pub opening : Shape → State
-opening shape = record { shape = shape; words = opening_words shape; holds = replicate shape.readers Nothing; desk = opening_desk }
+opening shape = record { shape = shape; words = opening_words shape; holds = replicate shape.readers Nothing; desk = opening_desk; made = [] }
 
 -- one attempt of one caller; readers are counted from 1
 pub data Event : Type 0 where

@@ -17,7 +17,8 @@ use Rattle.nr_core.specs.declared.roles.Desk.{Desk}
 use Rattle.nr_words.specs.KeyWords.{is_filled, has_ask}
 use Rattle.nr_words.specs.SetWords.{encode}
 use Rattle.nr_core.specs.Slots.{name_number}
-use Rattle.nr_core.specs.Operations.{Operation, place_of, becomes}
+use Rattle.nr_core.specs.Operations.{place_of, becomes}
+use Rattle.nr_core.specs.declared.operation.Operation.{Operation}
 use Rattle.nr_core.specs.Writer.{looked, went}
 use Rattle.nr_core.specs.Story.{entry, call_of, ending, ending_at}
 use Rattle.nr_core.specs.Roles.{is_by, is_writer, is_reader}

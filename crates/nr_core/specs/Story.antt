@@ -1,5 +1,5 @@
 -- What a list of events tells: the history of its calls, and the polls of the writer's call in flight.
-use Rattle.std.specs.Prelude.{ℕ, ◌+◌, ◌==◌, Bool, false, if◌then◌else◌, List, [], ◌∷◌, ◌++◌, fold}
+use Rattle.std.specs.Prelude.{ℕ, ◌+◌, ◌==◌, Bool, false, if◌then◌else◌, List, [], ◌∷◌, ◌++◌, fold, Option, Some, None, option_map}
 use Rattle.nr_model.specs.declared.calls.Call.{Call}
 use Rattle.nr_model.specs.declared.calls.Call.TheVariants as model
 use Rattle.nr_model.specs.declared.calls.Reply.{Reply}
@@ -19,7 +19,8 @@ use Rattle.nr_core.specs.declared.places.Hold.TheVariants.{Nothing, On}
 use Rattle.nr_core.specs.declared.places.Place.{Place}
 use Rattle.nr_core.specs.declared.places.Place.TheVariants.{Idle, Reading, Leaving, Searching, Putting}
 use Rattle.nr_words.specs.KeyWords.{is_filled, has_ask, slot_of, same_count}
-use Rattle.nr_core.specs.Slots.{content_words, set_of}
+use Rattle.nr_words.specs.SetWords.{decode}
+use Rattle.nr_core.specs.Slots.{content_words}
 use Rattle.nr_core.specs.States.{State, Event, Arrive, Read, Depart, Ask, Start, Go, opening, word, retired_at}
 use Rattle.nr_core.specs.Refusals.{refusal}
 use Rattle.nr_core.specs.Writer.{looked, went}
@@ -29,12 +30,12 @@ use Rattle.nr_core.specs.Machine.{found_by, unless, next}
 abbrev pub map_after : Shape → List Entry → PartialMap
 map_after shape history = after (opening_map shape.keys shape.bound) history
 
--- the key's state that its word shows, with the slot that it names
-abbrev pub shown : State → ℕ → KeyState
+-- the key's state that its word shows, with the slot that it names; none where the slot's content words spell no set
+abbrev pub shown : State → ℕ → Option KeyState
 shown state at =
     (if is_filled (word state at)
-    then key.Rows (set_of state.shape.bound (content_words state.shape state.words (slot_of (word state at))))
-    else (if has_ask (word state at) then key.Asked else key.Hole))
+    then option_map (λ rows. key.Rows rows) (decode state.shape.bound (content_words state.shape state.words (slot_of (word state at))))
+    else Some (if has_ask (word state at) then key.Asked else key.Hole))
 
 abbrev pub call_of : WriterCall → Call
 call_of (Find at) = model.Find at
@@ -44,6 +45,11 @@ call_of (Evict at) = model.Evict at
 
 abbrev pub entry : ℕ → Call → Reply → Entry
 entry caller call reply = record { caller = caller; call = call; reply = reply }
+
+-- the entry of a call that is answered by the state that its key shows; a key that shows none answers nothing
+abbrev pub answering : ℕ → Call → (KeyState → Reply) → Option KeyState → List Entry
+answering caller call reply None = []
+answering caller call reply (Some state) = entry caller call (reply state) ∷ []
 
 -- a call of the writer takes effect where it ends with a reply; no slot is none
 abbrev pub ending : Call → Step → List Entry
@@ -61,10 +67,10 @@ ending_at (Putting call rows slot departed index) step = ending (call_of call) s
 
 -- the calls that take effect in an event that is not refused: a find at its arrive, a request at its ask
 abbrev pub told : State → Event → List Entry
-told state (Arrive reader at) = entry reader (model.Find at) (find_reply (shown state at)) ∷ []
+told state (Arrive reader at) = answering reader (model.Find at) find_reply (shown state at)
 told state (Read reader index) = []
 told state (Depart reader) = []
-told state (Ask reader at) = entry reader (model.Ask at) (ask_reply (shown state at)) ∷ []
+told state (Ask reader at) = answering reader (model.Ask at) ask_reply (shown state at)
 told state (Start call) = ending (call_of call) (looked state.shape state.desk call (found_by state (Start call))).1
 told state Go = ending_at state.desk.place (went state.shape state.desk state.desk.place (found_by state Go)).1
 

@@ -1,5 +1,5 @@
 -- The writer's call: where each of its steps takes it, by the word that the step finds.
-use Rattle.std.specs.Prelude.{ℕ, ◌+◌, ◌-◌, ◌*◌, ◌==◌, nat_lt, nat_le, if◌then◌else◌, List, [], ◌∷◌, ◌++◌, length, slice_index, remove, Result, Ok, Err}
+use Rattle.std.specs.Prelude.{ℕ, ◌+◌, ◌-◌, ◌*◌, ◌==◌, nat_lt, nat_le, if◌then◌else◌, List, [], ◌∷◌, ◌++◌, length, slice_index, remove, Option, Some, None, Result, Ok, Err}
 use Rattle.nr_model.specs.declared.rows.Row.{Row}
 use Rattle.nr_model.specs.declared.batches.ApplyFault.{ApplyFault}
 use Rattle.nr_model.specs.declared.calls.Reply.{Reply}
@@ -17,7 +17,7 @@ use Rattle.nr_core.specs.declared.places.Place.TheVariants.{Idle, Reading, Leavi
 use Rattle.nr_core.specs.declared.places.Retired.{Retired}
 use Rattle.nr_core.specs.declared.roles.Desk.{Desk}
 use Rattle.nr_words.specs.KeyWords.{is_filled, has_ask, slot_of, arrivals_of, same_count}
-use Rattle.nr_core.specs.Slots.{set_of}
+use Rattle.nr_words.specs.SetWords.{decode}
 use Rattle.nr_core.specs.States.{retired_at}
 
 -- the desk with the writer at another place of its call
@@ -65,10 +65,15 @@ decided shape desk (Fill key new) rows = (moved_to desk Idle, Going)
 decided shape desk (Update key batch) rows = renewed shape desk (Update key batch) (applied shape.bound rows batch)
 decided shape desk (Evict key) rows = (moved_to desk Idle, Going)
 
+-- the same, of what the words that were read spell: words that spell no set say nothing, and the call is given up
+abbrev pub decoded : Shape → Desk → WriterCall → Option (List Row) → Desk × Step
+decoded shape desk call None = (moved_to desk Idle, Going)
+decoded shape desk call (Some rows) = decided shape desk call rows
+
 -- a read, after which the call has read these words of the slot
 abbrev pub read_on : Shape → Desk → WriterCall → ℕ → List ℕ → Desk × Step
 read_on shape desk call slot got =
-    (if length got == 2 * slice_index got 0 + 1 then decided shape desk call (set_of shape.bound got) else (moved_to desk (Reading call slot got), Going))
+    (if length got == 2 * slice_index got 0 + 1 then decoded shape desk call (decode shape.bound got) else (moved_to desk (Reading call slot got), Going))
 
 -- the desk after the retired slot at a place was taken for the set, whose departures were found
 abbrev pub taking_retired : Desk → WriterCall → List Row → ℕ → ℕ → Desk

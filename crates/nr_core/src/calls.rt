@@ -79,12 +79,13 @@ impl WriterCall {
         }
     }
 
-    /// The set that a fill brings is a row set.
+    /// Tells a proof that the set which a fill brings is a row set, as its type says of it. Nothing
+    /// else comes of the call.
     pub(crate) fn given(&self)
         ensures { IsGivenCall MAX_ROWS self.now }
     {
         if let WriterCall::Fill(_, rows) = self {
-            let _ = rows.len();
+            rows.len();
         }
     }
 }

@@ -1,5 +1,11 @@
 //! Laws over the definitions alone. Nothing runs here: each function's contract is the law.
+//!
+//! The first three are about lists of events. The others are the laws of the steps, which speak of
+//! any list of callers, so that a map of running callers builds on them. Each is of one form
+//! (`CanStep`): whatever the core state is, a caller of that role can make that operation, then the
+//! core state stands again, and this is what the operation told the caller.
 ghost use Rattle.nr_core.specs.Laws.{EverySchedule, SlotBound, RunGoesOn};
+ghost use Rattle.nr_core.specs.StepLaws.{ArriveLaw, AskLaw, ReadLaw, DepartLaw, LookLaw, GoLaw, LearnLaw, OpeningLaw, SeatLaw, NoteLaw};
 
 /// Whatever the callers attempt, in any order: the history is legal, the words show its map, each
 /// slot is accounted for, a held slot is not written, and each no-slot is justified.
@@ -16,4 +22,55 @@ pub fn slot_bound()
 /// A run goes on by one event, and the states that a story tells are the run's.
 pub fn run_goes_on()
     ensures { RunGoesOn }
+{}
+
+/// A reader that holds nothing arrives at a key, and its find is an entry.
+pub fn arrives()
+    ensures { ArriveLaw }
+{}
+
+/// A reader that holds nothing asks for a key, and its request is an entry.
+pub fn asks()
+    ensures { AskLaw }
+{}
+
+/// A reader that holds a slot reads a word of its set.
+pub fn reads()
+    ensures { ReadLaw }
+{}
+
+/// A reader that holds a slot departs.
+pub fn departs()
+    ensures { DepartLaw }
+{}
+
+/// The writer begins a call by its look, which may be its end and an entry.
+pub fn looks()
+    ensures { LookLaw }
+{}
+
+/// The writer's call makes its next step, of whichever kind: a read, a poll, a put, a publish or an
+/// unpublish. A call that ends with a reply is an entry.
+pub fn goes()
+    ensures { GoLaw }
+{}
+
+/// Any caller loads a word, and only learns.
+pub fn learns()
+    ensures { LearnLaw }
+{}
+
+/// The words at opening are a core state of the writer and up to all readers.
+pub fn opens()
+    ensures { OpeningLaw }
+{}
+
+/// A reader that holds nothing joins, where there is room for one more.
+pub fn seats()
+    ensures { SeatLaw }
+{}
+
+/// A note joins.
+pub fn notes()
+    ensures { NoteLaw }
 {}

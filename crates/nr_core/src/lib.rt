@@ -22,26 +22,31 @@
 //! Where each retired slot is held at its poll, the call ends with no slot (`IsJustified`).
 //!
 //! `Core` (in specs/) says what stands between any two steps, `CanStep` that a caller can make a step
-//! whatever the core state is; each kind of step has one lemma of that form. `EverySchedule` and
-//! `SlotBound` are the laws.
+//! whatever the core state is; each kind of step has one law of that form (`laws`, and StepLaws in
+//! specs/), on which the running map builds. `EverySchedule` and `SlotBound` are the laws of lists of
+//! events. `proofs/Lib.antt` begins with the lemma files that are meant for the crates above.
 #![tactic(auto)]
 
 mod calls;
-mod inner;
 pub mod laws;
 mod machine;
+mod operation;
 mod places;
+mod reached;
 mod roles;
 mod shape;
+mod spare;
 #[cfg(test)]
 mod tests;
 mod words;
 mod words_read;
 
 pub use calls::{Arrived, AskReply, NoSlot, Refusal, Step, WReply, WriterCall};
-pub use machine::Core;
 pub use nr_model::OpenFault;
+pub use operation::Operation;
 pub use places::{Hold, Place, Retired};
+pub use reached::Core;
 pub use roles::{Desk, Grip, Role};
 pub use shape::{MAX_READERS, MAX_SLOTS, Shape};
+pub use spare::Spare;
 pub use words_read::WordsRead;

@@ -1,131 +1,94 @@
-//! The step machine that callers see.
-ghost use Rattle.std.specs.Prelude.{◌≡◌, ◌↔◌, ◌⊎◌, IfOk, IsTrue, Err};
+//! The machine in any state, and its steps, each of which is proved from what it needs there.
+ghost use Rattle.std.specs.Prelude.{◌≡◌, ◌<◌, ◌≤◌, IfOk};
 ghost use Rattle.nr_model.specs.declared.rows.TheConstants.{MAX_ROWS};
-ghost use Rattle.nr_model.specs.declared.seq_map.TheConstants.{MAX_KEYS};
-ghost use Rattle.nr_core.specs.States.{opening, Arrive, Read, Depart, Ask, Start, Go};
-ghost use Rattle.nr_core.specs.Machine.{next, arrive_answer, read_answer, depart_answer, ask_answer, start_answer, go_answer};
-ghost use Rattle.nr_core.specs.Sizes.{IsBadSize};
+ghost use Rattle.nr_core.specs.States.{opening, hold_of};
+ghost use Rattle.nr_core.specs.Reach.{HasRoom, RoomOf};
 
-use crate::calls::{Arrived, AskReply, Refusal, Step, WriterCall};
-use crate::inner::Inner;
-use crate::shape::{MAX_READERS, MAX_SLOTS};
-use nr_model::{MAX_KEYS, OpenFault};
+mod reader_steps;
+mod reclaim;
+mod refusals;
+mod writer_steps;
+
+use crate::places::{Hold, Place};
+use crate::spare::Spare;
+use crate::words::Words;
 use nr_words::Layout;
-use std::alloc::Global;
+use std::alloc::{AllocError, Global};
 use std::marker::Model;
 
-/// The machine, in a state to which some steps of its callers lead. A step that is refused changes
-/// nothing; every other one is one operation on one word. No step takes memory.
+/// The words of the map, what the readers 1, 2, .. hold, and where the writer is: its place in its
+/// call, and the slots that no key names.
+///
+/// It may be in any state; its steps ask for the room that they need (`HasRoom`). Within a step its
+/// parts call each other in states to which no steps lead, so that it can't itself keep the fact
+/// that some do. `Core`, around it, keeps it, and has the room by it.
 #[derive(Drop)]
-pub struct Core {
-    inner: Inner,
+pub struct Machine {
+    layout: Layout,
+    readers: u32,
+    first: u64,
+    words: Words,
+    holds: Vec<Hold>,
+    place: Place,
+    spare: Spare,
 }
 
-impl Model for Core {
+impl Model for Machine {
+    ghost use Rattle.std.specs.Prelude.{◌≡◌};
+    ghost use Rattle.nr_model.specs.declared.rows.TheConstants.{MAX_ROWS};
     ghost use Rattle.nr_core.specs.States.{State};
-    ghost use Rattle.nr_core.specs.Reach.{Reached};
 
     ghost Value = { State };
 
-    ghost view = { λ core. core.inner };
+    ghost view = { λ machine. record {
+      shape = record { keys = machine.layout.keys; slots = machine.layout.slots; readers = machine.readers; bound = MAX_ROWS; first = machine.first };
+      words = machine.words.cells;
+      holds = machine.holds.items;
+      desk = record { place = machine.place; fresh = machine.spare.fresh; retired = machine.spare.retired };
+      made = machine.words.made;
+    } };
 
-    ghost invariant = { λ core. ∥ Reached core.inner ∥₁ };
+    ghost invariant = { λ machine. machine.spare.slots ≡ machine.layout.slots };
 }
 
-impl Core {
-    /// The machine of a map of 1 to 65,536 keys, each a hole, 1 to 131,072 slots, each of which
-    /// starts at the first count, and 1 to 1,024 readers. Other sizes are refused, and then want
-    /// of memory.
+impl Machine {
+    /// The state in which a map opens, with all the room that its steps need.
     pub fn open(
         alloc: Global,
-        keys: u32,
-        slots: u32,
+        layout: Layout,
         readers: u32,
-        first_count: u64,
-    ) -> Result<Core, OpenFault>
-        ensures bad_size { (result ≡ Err OpenFault.BadSize)
-            ↔ (IsBadSize MAX_KEYS keys ⊎ IsBadSize MAX_SLOTS slots ⊎ IsBadSize MAX_READERS readers) }
-        ensures ok { IfOk result (λ core. core ≡ opening (record {
-          keys = keys;
-          slots = slots;
+        first: u64,
+    ) -> Result<Machine, AllocError>
+        ensures { IfOk result (λ machine. machine ≡ opening (record {
+          keys = layout.keys;
+          slots = layout.slots;
           readers = readers;
           bound = MAX_ROWS;
-          first = first_count;
+          first = first;
         })) }
     {
-        if is_bad_size(MAX_KEYS, keys)
-            || is_bad_size(MAX_SLOTS, slots)
-            || is_bad_size(MAX_READERS, readers)
-        {
-            return Err(OpenFault::BadSize);
-        }
-        let layout = Layout { keys, slots };
-        let inner = Inner::open(alloc, layout, readers, first_count).map_err(
-            |_| OpenFault::Memory,
-        )?;
-        Ok(Core { inner })
+        let words = Words::open(alloc, layout, first)?;
+        let holds = vec![in alloc; Hold::Nothing; readers as usize]?;
+        let spare = Spare::open(alloc, layout.slots)?;
+        Ok(Machine {
+            layout,
+            readers,
+            first,
+            words,
+            holds,
+            place: Place::Idle,
+            spare,
+        })
     }
 
-    /// A reader, from 1, arrives at a key, from 0: one addition to the key's word. It holds the
-    /// key's slot then, or finds a hole. Refused where there is no such reader or key
-    /// (`OutOfRange`), and then where the reader holds a slot (`Holding`).
-    pub fn arrive(&mut self, reader: u32, key: u32) -> Result<Arrived, Refusal>
-        ensures answer { result ≡ arrive_answer self.old reader key }
-        ensures new { self.new ≡ next self.old (Arrive reader key) }
+    /// What the reader holds.
+    fn hold(&self, reader: u32) -> Hold
+        requires room { HasRoom self.now }
+        requires low { 0 < reader }
+        requires high { reader ≤ self.now.shape.readers }
+        ensures value { result ≡ hold_of self.now reader }
+        ensures room { RoomOf self.now.shape result }
     {
-        self.inner.arrive(reader, key)
+        self.holds[reader as usize - 1]
     }
-
-    /// A reader reads a content word of the slot that it holds: one load. Refused where there is no
-    /// such reader (`OutOfRange`), then where it holds nothing (`NotHolding`), and then unless the
-    /// index is 0 or, once word 0 was read in this hold, at most twice that number (`OutOfRange`).
-    pub fn read(&mut self, reader: u32, index: u64) -> Result<u64, Refusal>
-        ensures answer { result ≡ read_answer self.old reader index }
-        ensures new { self.new ≡ next self.old (Read reader index) }
-    {
-        self.inner.read(reader, index)
-    }
-
-    /// A reader leaves the slot that it holds: one addition to the slot's departure word. Refused
-    /// where there is no such reader (`OutOfRange`), and then where it holds nothing (`NotHolding`).
-    pub fn depart(&mut self, reader: u32) -> Result<(), Refusal>
-        ensures answer { result ≡ depart_answer self.old reader }
-        ensures new { self.new ≡ next self.old (Depart reader) }
-    {
-        self.inner.depart(reader)
-    }
-
-    /// A reader asks for a key: one bitwise or on the key's word. Refused where there is no such
-    /// reader or key (`OutOfRange`), and then where the reader holds a slot (`Holding`).
-    pub fn ask(&mut self, reader: u32, key: u32) -> Result<AskReply, Refusal>
-        ensures answer { result ≡ ask_answer self.old reader key }
-        ensures new { self.new ≡ next self.old (Ask reader key) }
-    {
-        self.inner.ask(reader, key)
-    }
-
-    /// The writer begins a call by its look at the key's word: one load. Refused where there is no
-    /// such key (`OutOfRange`), and then where the writer is in a call (`Busy`).
-    pub fn start(&mut self, call: &WriterCall) -> Result<Step, Refusal>
-        ensures answer { result ≡ start_answer self.old call.now }
-        ensures new { self.new ≡ next self.old (Start call.now) }
-    {
-        self.inner.start(call)
-    }
-
-    /// The writer's call makes its next step: a load of a content word or of a departure word, a
-    /// store of a content word, or a swap of the key's word. Refused where the writer is in no call
-    /// (`NotBusy`).
-    pub fn go(&mut self) -> Result<Step, Refusal>
-        ensures answer { result ≡ go_answer self.old }
-        ensures new { self.new ≡ next self.old Go }
-    {
-        self.inner.go()
-    }
-}
-
-fn is_bad_size(limit: u32, size: u32) -> bool
-    ensures { IsTrue result ↔ IsBadSize limit size }
-{
-    size == 0 || size > limit
 }

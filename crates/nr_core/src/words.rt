@@ -1,57 +1,64 @@
 //! The words of a map, and the operations of which each step is one.
-ghost use Rattle.std.specs.Prelude.{◌≡◌, ◌<◌, ◌++◌, ◌∷◌, length, replicate, slice_index, slice_set, IfOk};
+ghost use Rattle.std.specs.Prelude.{◌≡◌, ◌<◌, ◌++◌, [], ◌∷◌, length, slice_index, IfOk};
+ghost use Rattle.nr_words.specs.Opening.{opening_words};
 ghost use Rattle.nr_words.specs.declared.set_words.TheConstants.{CONTENT_WORDS};
-ghost use Rattle.nr_core.specs.Operations.{Add, Or, Store, Swap, becomes};
-ghost use Rattle.nr_core.specs.Slots.{repeated};
+ghost use Rattle.nr_core.specs.Operations.{performed};
+ghost use Rattle.nr_core.specs.declared.operation.Operation.TheVariants.{Load, Add, Or, Store, Swap};
 
-use nr_words::{CONTENT_WORDS, Layout};
+mod trace;
+
+use crate::operation::Operation;
+use nr_words::{Layout, opening_words};
 use std::alloc::{AllocError, Global};
 use std::marker::Model;
+use trace::Trace;
 
-/// The words of a map, in their layout.
+/// The words of a map, in their layout. Contracts see the operations that were made on them, too.
 #[derive(Drop)]
 pub struct Words {
     cells: Vec<u64>,
+    trace: Trace,
 }
 
 impl Model for Words {
-    ghost use Rattle.std.specs.Prelude.{List, ℕ};
+    ghost use Rattle.nr_core.specs.Operations.{Memory};
 
-    ghost Value = { List ℕ };
+    ghost Value = { Memory };
 
-    ghost view = { λ words. words.cells.items };
+    ghost view = { λ words. record { cells = words.cells.items; made = words.trace.made } };
 }
 
 impl Words {
     /// The words of a map whose keys are holes, and whose slots begin at the first count.
     pub fn open(alloc: Global, layout: Layout, first: u64) -> Result<Words, AllocError>
-        ensures { IfOk result (λ words.
-            words ≡ replicate layout.keys 0 ++ repeated layout.slots (first ∷ replicate CONTENT_WORDS 0)) }
+        ensures { IfOk result (λ words. words ≡ record {
+          cells = opening_words CONTENT_WORDS layout first;
+          made = [];
+        }) }
     {
-        let mut block = [0; CONTENT_WORDS + 1];
-        block[0] = first;
-        let mut cells = Vec::with_capacity(alloc, layout.total() as usize)?;
-        cells.resize(layout.keys as usize, 0)?;
-        for _slot in 0..layout.slots {
-            cells.extend_from_slice(&block)?;
-        }
-        Ok(Words { cells })
+        Ok(Words {
+            cells: opening_words(alloc, layout, first)?,
+            trace: Trace::new(),
+        })
     }
 
     /// The word at the place.
-    pub fn load(&self, place: u64) -> u64
-        requires { place < length self.now }
-        ensures { result ≡ slice_index self.now place }
+    pub fn load(&mut self, place: u64) -> u64
+        requires { place < length self.old.cells }
+        ensures found { result ≡ slice_index self.old.cells place }
+        ensures new { self.new ≡ performed self.old (Load place) }
     {
+        self.note(Operation::Load(place));
         self.cells[place as usize]
     }
 
     /// Adds to the word, which wraps, and answers what it was.
     pub fn fetch_add(&mut self, place: u64, amount: u64) -> u64
-        requires { place < length self.old }
-        ensures found { result ≡ slice_index self.old place }
-        ensures new { self.new ≡ slice_set self.old place (becomes (Add place amount) result) }
+        requires { place < length self.old.cells }
+        ensures found { result ≡ slice_index self.old.cells place }
+        ensures new { self.new ≡ performed self.old (Add place amount) }
     {
+        self.note(Operation::Add(place, amount));
         let word = self.cells[place as usize];
         self.cells[place as usize] = word.wrapping_add(amount);
         word
@@ -59,10 +66,11 @@ impl Words {
 
     /// Sets bits of the word, and answers what it was.
     pub fn fetch_or(&mut self, place: u64, bits: u64) -> u64
-        requires { place < length self.old }
-        ensures found { result ≡ slice_index self.old place }
-        ensures new { self.new ≡ slice_set self.old place (becomes (Or place bits) result) }
+        requires { place < length self.old.cells }
+        ensures found { result ≡ slice_index self.old.cells place }
+        ensures new { self.new ≡ performed self.old (Or place bits) }
     {
+        self.note(Operation::Or(place, bits));
         let word = self.cells[place as usize];
         self.cells[place as usize] = word | bits;
         word
@@ -70,20 +78,29 @@ impl Words {
 
     /// Writes the word.
     pub fn store(&mut self, place: u64, word: u64)
-        requires { place < length self.old }
-        ensures { self.new ≡ slice_set self.old place word }
+        requires { place < length self.old.cells }
+        ensures { self.new ≡ performed self.old (Store place word) }
     {
+        self.note(Operation::Store(place, word));
         self.cells[place as usize] = word;
     }
 
     /// Writes the word, and answers what it was.
     pub fn swap(&mut self, place: u64, word: u64) -> u64
-        requires { place < length self.old }
-        ensures found { result ≡ slice_index self.old place }
-        ensures new { self.new ≡ slice_set self.old place (becomes (Swap place word) result) }
+        requires { place < length self.old.cells }
+        ensures found { result ≡ slice_index self.old.cells place }
+        ensures new { self.new ≡ performed self.old (Swap place word) }
     {
+        self.note(Operation::Swap(place, word));
         let found = self.cells[place as usize];
         self.cells[place as usize] = word;
         found
+    }
+
+    /// Notes the operation, which is made next.
+    fn note(&mut self, operation: Operation)
+        ensures { self.new ≡ record self.old { made = self.old.made ++ operation ∷ [] } }
+    {
+        self.trace = self.trace.then(&operation);
     }
 }

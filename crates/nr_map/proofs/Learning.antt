@@ -9,7 +9,7 @@ use Rattle.nr_words.specs.KeyWords.{has_ask, is_filled}
 use Rattle.nr_core.proofs.KeyWords.{names_none, names_one}
 use Rattle.nr_core.proofs.Learn.{learns}
 use Rattle.nr_core.specs.Core.{ShowsState}
-use Rattle.nr_core.specs.Operations.{Load}
+use Rattle.nr_core.specs.declared.operation.Operation.TheVariants.{Load}
 use Rattle.nr_core.specs.Roles.{is_by, is_reader, is_writer}
 use Rattle.nr_core.specs.Steps.{Learns}
 use Rattle.nr_core.specs.Story.{map_after}

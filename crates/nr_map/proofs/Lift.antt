@@ -10,7 +10,8 @@ use Rattle.nr_core.proofs.Histories.{of-append}
 use Rattle.nr_core.proofs.Sums.{total-set, term_le, terms_le, at_set}
 use Rattle.nr_core.specs.Core.{Core}
 use Rattle.nr_core.specs.Roles.{is_by, is_reader, is_writer}
-use Rattle.nr_core.specs.Operations.{Operation, becomes, place_of}
+use Rattle.nr_core.specs.Operations.{becomes, place_of}
+use Rattle.nr_core.specs.declared.operation.Operation.{Operation}
 use Rattle.nr_core.specs.Steps.{CanStep, Stepped, Telling}
 use Rattle.nr_core.specs.Sums.{total}
 use Rattle.nr_core.specs.declared.roles.Role.{Role}

@@ -8,7 +8,7 @@ use Rattle.nr_model.specs.Maps.{opening}
 use Rattle.nr_core.proofs.Histories.{of-append}
 use Rattle.nr_core.proofs.Sums.{total-append}
 use Rattle.nr_core.specs.Roles.{is_by, is_reader, is_writer}
-use Rattle.nr_core.specs.Operations.{Operation}
+use Rattle.nr_core.specs.declared.operation.Operation.{Operation}
 use Rattle.nr_core.specs.Steps.{Stepped, Telling}
 use Rattle.nr_core.specs.declared.roles.Role.{Role}
 use Rattle.nr_core.specs.declared.shape.Shape.{Shape}

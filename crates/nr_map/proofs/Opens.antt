@@ -9,7 +9,8 @@ use Rattle.nr_core.proofs.Opening.{core_opens}
 use Rattle.nr_core.specs.Core.{ShowsState}
 use Rattle.nr_core.specs.Roles.{is_by}
 use Rattle.nr_core.specs.Sizes.{IsShape}
-use Rattle.nr_core.specs.Slots.{name_number, opening_words, repeated}
+use Rattle.nr_words.specs.Opening.{repeated}
+use Rattle.nr_core.specs.Slots.{name_number, opening_words}
 use Rattle.nr_core.specs.declared.shape.Shape.{Shape}
 use Rattle.nr_marks.proofs.ListPlaces.{no_places}
 use Rattle.nr_marks.proofs.SeatMarks.{opens_marked}

@@ -18,7 +18,7 @@ use Rattle.nr_core.proofs.Depart.{departs}
 use Rattle.nr_core.proofs.KeyWords.{names_none, names_one}
 use Rattle.nr_core.proofs.Read.{reads}
 use Rattle.nr_core.specs.Roles.{is_by, is_reader}
-use Rattle.nr_core.specs.Operations.{Add, Load, Or}
+use Rattle.nr_core.specs.declared.operation.Operation.TheVariants.{Add, Load, Or}
 use Rattle.nr_core.specs.Slots.{content, departures, name_number}
 use Rattle.nr_core.specs.Steps.{Arrives, Asks, CanStep, Departs, ReadsHeld, ask_word}
 use Rattle.nr_core.specs.Story.{entry}

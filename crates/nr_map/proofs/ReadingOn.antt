@@ -5,11 +5,11 @@ use Rattle.std.proofs.lemmas.List.{take_all}
 use Rattle.nr_model.specs.declared.rows.Row.{Row}
 use Rattle.nr_model.specs.Rows.{IsRowSet}
 use Rattle.nr_words.proofs.SetWordLemmas.{length-row_words, row_words-append, rows_in-row_words}
-use Rattle.nr_words.specs.SetWords.{encode, row_words, rows_in}
+use Rattle.nr_words.specs.SetWords.{decode, encode, row_words, rows_in}
 use Rattle.nr_core.proofs.Sets.{set_back}
-use Rattle.nr_core.specs.Slots.{content, set_of}
+use Rattle.nr_core.specs.Slots.{content}
 use Rattle.nr_core.specs.Story.{call_of, ending}
-use Rattle.nr_core.specs.Writer.{decided, moved_to, read_on}
+use Rattle.nr_core.specs.Writer.{decided, decoded, moved_to, read_on}
 use Rattle.nr_core.specs.declared.calls.Step.{Step}
 use Rattle.nr_core.specs.declared.calls.Step.TheVariants.{Going}
 use Rattle.nr_core.specs.declared.calls.WriterCall.{WriterCall}
@@ -44,7 +44,7 @@ pub record ReadSoFar (table : Table) (desk : Desk) (call : WriterCall) (slot : �
 module _ (table : Table) (desk : Desk) (call : WriterCall) (slot : ℕ) where
   -- a read that is not the last one
   goes_on : (got : List ℕ) → length got ≢ 2 * get_or got 0 0 + 1 → read_on table.shape desk call slot got ≡ (moved_to desk (Reading call slot got), Going)
-  goes_on got more = ap (λ (b : Bool). cond {A = Desk × Step} b (decided table.shape desk call (set_of table.shape.bound got)) (moved_to desk (Reading call slot got), Going)) (ne_eqb (length got) (2 * get_or got 0 0 + 1) more)
+  goes_on got more = ap (λ (b : Bool). cond {A = Desk × Step} b (decoded table.shape desk call (decode table.shape.bound got)) (moved_to desk (Reading call slot got), Going)) (ne_eqb (length got) (2 * get_or got 0 0 + 1) more)
 
   -- the first read, of the number of rows
   pub read_count : (before after : MapSeat) (count : ℕ) → WritesAt table (moved_to desk (Reading call slot [])) before → GoesOn table count before after → ReadSoFar table desk call slot before after count [] 0
@@ -121,9 +121,9 @@ module _ (table : Table) (desk : Desk) (call : WriterCall) (slot : ℕ) where
       let row_set : IsRowSet table.shape.bound rows = subst (IsRowSet table.shape.bound) (sym whole) so_far.row_set in
       let size : count ≡ length rows = so_far.count_is ∙ ap length (sym whole) in
       let words : count ∷ row_words rows ≡ encode rows = ap (λ (n : ℕ). n ∷ row_words rows) size in
-      let last : read_on table.shape desk call slot (encode rows) ≡ decided table.shape desk call (set_of table.shape.bound (encode rows)) = ap (λ (b : Bool). cond {A = Desk × Step} b (decided table.shape desk call (set_of table.shape.bound (encode rows))) (moved_to desk (Reading call slot (encode rows)), Going))
+      let last : read_on table.shape desk call slot (encode rows) ≡ decoded table.shape desk call (decode table.shape.bound (encode rows)) = ap (λ (b : Bool). cond {A = Desk × Step} b (decoded table.shape desk call (decode table.shape.bound (encode rows))) (moved_to desk (Reading call slot (encode rows)), Going))
       (eq-eqb (length (encode rows)) (2 * length rows + 1) (omega (arith, length-row_words rows))) in
-      let outcome : read_on table.shape desk call slot (count ∷ row_words rows) ≡ decided table.shape desk call rows = ap (read_on table.shape desk call slot) words ∙ last ∙ ap (decided table.shape desk call) (set_back table.shape.bound rows row_set) in (
+      let outcome : read_on table.shape desk call slot (count ∷ row_words rows) ≡ decided table.shape desk call rows = ap (read_on table.shape desk call slot) words ∙ last ∙ ap (decoded table.shape desk call) (set_back table.shape.bound rows row_set) in (
         subst (λ (p : ℕ × (Desk × Step)). LeadsIn p.0 table (call_of call) p.1 before after) (λ j. (steps j, outcome j)) so_far.leads,
         subst (λ (p : List Row × (Desk × Step)). KeyHas table call p.0 p.1.1 after) (λ j. (sym whole j, outcome j)) so_far.had,
       )

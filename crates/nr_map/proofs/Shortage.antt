@@ -10,6 +10,7 @@ use Rattle.nr_model.specs.Maps.{filled_count, reply_at, reply_to, state_of}
 use Rattle.nr_model.specs.declared.calls.Call.{Call}
 use Rattle.nr_model.specs.declared.calls.Reply.TheVariants as reply
 use Rattle.nr_model.specs.declared.states.KeyState.TheVariants as key
+use Rattle.nr_words.specs.SetWords.{decode}
 use Rattle.nr_core.proofs.Choices.{by_cases}
 use Rattle.nr_core.proofs.Counting.{slots_are}
 use Rattle.nr_core.proofs.Histories.{replies_so}
@@ -19,10 +20,10 @@ use Rattle.nr_core.proofs.Without.{IsWithout, NoneLeft, decided_none, look_none,
 use Rattle.nr_core.specs.Core.{AtPlace, Core, Reads}
 use Rattle.nr_core.specs.Operations.{going, place_of}
 use Rattle.nr_core.specs.Roles.{held, taken}
-use Rattle.nr_core.specs.Slots.{content, departures, set_of}
+use Rattle.nr_core.specs.Slots.{content, departures}
 use Rattle.nr_core.specs.States.{key_of, retired_at}
 use Rattle.nr_core.specs.Story.{call_of, map_after}
-use Rattle.nr_core.specs.Writer.{decided, ended, looked, moved_to, swapped, went}
+use Rattle.nr_core.specs.Writer.{decided, decoded, ended, looked, moved_to, swapped, went}
 use Rattle.nr_core.specs.declared.calls.NoSlot.{NoSlot}
 use Rattle.nr_core.specs.declared.calls.Step.{Step}
 use Rattle.nr_core.specs.declared.calls.Step.TheVariants.{Going}
@@ -71,12 +72,12 @@ module _ (shape : Shape) (words : List ℕ) (roles : List Role) (log : List Entr
   go_short_at (Reading call slot got) is without =
       let reads : Reads shape words (map_after shape log) (held roles) (key_of call) slot got = at_place (Reading call slot got) is in
       let got' : List ℕ = got ++ get_or words (content shape slot (length got)) 0 ∷ [] in
-      by_cases (λ v. let outcome = cond {A = Desk × Step} v (decided shape desk call (set_of shape.bound got')) (moved_to desk (Reading call slot got'), Going) in
+      by_cases (λ v. let outcome = cond {A = Desk × Step} v (decoded shape desk call (decode shape.bound got')) (moved_to desk (Reading call slot got'), Going) in
       (v ≡ true → length got' ≡ 2 * get_or got' 0 0 + 1) → IsWithout counts outcome → Shortage shape log desk (call_of call) outcome counts) (nat_eq (length got') (2 * get_or got' 0 0 + 1))
-      (λ _ whole e. let none = decided_none shape desk counts call (set_of shape.bound got') e in let set_is = read_whole shape words roles log core (key_of call) slot got reads (whole refl) in record {
-        none = none.0;
+      (λ _ whole e. let set_is = read_whole shape words roles log core (key_of call) slot got reads (whole refl) in let none = decided_none shape desk counts call reads.rows (subst (λ o. IsWithout counts (decoded shape desk call o)) set_is e) in record {
+        none = subst (λ o. NoneLeft shape desk (decoded shape desk call o) counts) (sym set_is) none.0;
         full = none.1;
-        done = replies shape log call (ap (reply_at shape.bound (call_of call)) (reads.full ∙ ap key.Rows (sym set_is)) ∙ none.3);
+        done = replies shape log call (ap (reply_at shape.bound (call_of call)) reads.full ∙ none.3);
       })
       (λ _ _ e. absurd (not_going counts e))
       (eqb-true (length got') (2 * get_or got' 0 0 + 1)) without

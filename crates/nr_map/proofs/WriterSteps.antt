@@ -20,10 +20,13 @@ use Rattle.nr_core.proofs.Settle.{key_same}
 use Rattle.nr_core.proofs.Sums.{here_after}
 use Rattle.nr_core.specs.Core.{AtPlace, Core}
 use Rattle.nr_core.specs.Laws.{IsGivenCall}
-use Rattle.nr_core.specs.Operations.{Load, Operation, Store, Swap, becomes, going, place_of}
+use Rattle.nr_core.specs.Operations.{becomes, going, place_of}
+use Rattle.nr_core.specs.declared.operation.Operation.{Operation}
+use Rattle.nr_core.specs.declared.operation.Operation.TheVariants.{Load, Store, Swap}
 use Rattle.nr_core.specs.Refusals.{if_not_busy}
 use Rattle.nr_core.specs.Roles.{held, holds, is_by, is_reader, is_writer, taken}
-use Rattle.nr_core.specs.Slots.{content, name_number, naming}
+use Rattle.nr_words.specs.KeyWords.{naming}
+use Rattle.nr_core.specs.Slots.{content, name_number}
 use Rattle.nr_core.specs.States.{key_of}
 use Rattle.nr_core.specs.Steps.{CanStep, Goes, Looks, Stepped, Telling}
 use Rattle.nr_core.specs.Story.{call_of, ending, ending_at, map_after}

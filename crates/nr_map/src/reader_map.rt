@@ -2,7 +2,8 @@
 ghost use Rattle.std.specs.Prelude.{◌≡◌, ◌<◌, ◌⊎◌, ◌↔◌, [], IfOk, IsTrue, Err};
 ghost use Rattle.nr_model.specs.declared.rows.TheConstants.{MAX_ROWS};
 ghost use Rattle.nr_model.specs.declared.seq_map.TheConstants.{MAX_KEYS};
-ghost use Rattle.nr_core.specs.Sizes.{IsShape, IsBadSize};
+ghost use Rattle.nr_model.specs.Sizes.{IsBadSize};
+ghost use Rattle.nr_core.specs.Sizes.{IsShape};
 ghost use Rattle.nr_map.specs.Opened.{IsOpened, Seated};
 
 use crate::board::{Board, Seat};

@@ -12,7 +12,8 @@ use Rattle.nr_core.proofs.Settle.{key_same}
 use Rattle.nr_core.proofs.Sums.{below-same, only-is, some_term}
 use Rattle.nr_core.specs.Core.{Core}
 use Rattle.nr_core.specs.Roles.{held, retirements, taken}
-use Rattle.nr_core.specs.Operations.{Operation, becomes, place_of}
+use Rattle.nr_core.specs.Operations.{becomes, place_of}
+use Rattle.nr_core.specs.declared.operation.Operation.{Operation}
 use Rattle.nr_core.specs.Slots.{name_number}
 use Rattle.nr_core.specs.States.{key_of}
 use Rattle.nr_core.specs.Steps.{Telling}

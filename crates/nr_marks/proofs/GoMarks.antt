@@ -2,9 +2,12 @@
 use Rattle.std.proofs.Common.{Bool, List, cond, false, get_or, length, refl, true, ℕ, ◌*◌, ◌+◌, ◌≡◌}
 use Rattle.std.specs.Prelude.{None, nat_le}
 use Rattle.nr_words.specs.SetWords.{encode}
-use Rattle.nr_core.specs.Operations.{Operation, Store, Swap, going}
+use Rattle.nr_core.specs.Operations.{going}
+use Rattle.nr_core.specs.declared.operation.Operation.{Operation}
+use Rattle.nr_core.specs.declared.operation.Operation.TheVariants.{Store, Swap}
 use Rattle.nr_core.specs.Refusals.{if_not_busy}
-use Rattle.nr_core.specs.Slots.{content, naming}
+use Rattle.nr_words.specs.KeyWords.{naming}
+use Rattle.nr_core.specs.Slots.{content}
 use Rattle.nr_core.specs.States.{key_of}
 use Rattle.nr_core.specs.Steps.{Goes}
 use Rattle.nr_core.specs.Story.{call_of, ending}

@@ -13,7 +13,7 @@ use Rattle.nr_core.proofs.Counting.{retired_once}
 use Rattle.nr_core.proofs.Sums.{only-is, some_term, term_le}
 use Rattle.nr_core.specs.Core.{AtPlace, Core, Grips}
 use Rattle.nr_core.specs.Roles.{held, holds, retirements, taken}
-use Rattle.nr_core.specs.Operations.{Load}
+use Rattle.nr_core.specs.declared.operation.Operation.TheVariants.{Load}
 use Rattle.nr_core.specs.Slots.{name_number, unused}
 use Rattle.nr_core.specs.Steps.{Learns}
 use Rattle.nr_core.specs.Story.{map_after}

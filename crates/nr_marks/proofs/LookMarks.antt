@@ -1,7 +1,7 @@
 -- The writer's steps that leave the words: its looks and its reads. A call that ends with no slot there has none retired either.
 use Rattle.std.proofs.Common.{inl, Bool, List, [], ap, append-nil, arith, cond, false, get_or, length, map, nat_eq, refl, set, subst, sym, ℕ, ◌*◌, ◌++◌, ◌+◌, ◌<◌, ◌∙◌, ◌∷◌, ◌≡◌, ◌≤◌}
 use Rattle.std.proofs.lemmas.Bool.{eqb-true}
-use Rattle.std.specs.Prelude.{Err, Ok, Result, nat_lt}
+use Rattle.std.specs.Prelude.{Err, None, Ok, Option, Result, Some, nat_lt}
 use lib.ListN.{get_elem?}
 use lib.Seq.{set-get_or}
 use mathlib.Core.Option.{some, some-ne-none}
@@ -13,17 +13,18 @@ use Rattle.nr_model.specs.declared.batches.ApplyFault.TheVariants.{NoRow, TooMan
 use Rattle.nr_model.specs.declared.calls.Call.{Call}
 use Rattle.nr_model.specs.declared.rows.Row.{Row}
 use Rattle.nr_words.specs.KeyWords.{has_ask, is_filled, slot_of}
+use Rattle.nr_words.specs.SetWords.{decode}
 use Rattle.nr_core.proofs.Choices.{by_cases}
 use Rattle.nr_core.proofs.ReadThrough.{read_whole}
 use Rattle.nr_core.proofs.Without.{decided_none, look_none}
 use Rattle.nr_core.specs.Core.{AtPlace, Reads}
 use Rattle.nr_core.specs.Roles.{held, retirements, taken}
-use Rattle.nr_core.specs.Operations.{Load}
-use Rattle.nr_core.specs.Slots.{content, set_of}
+use Rattle.nr_core.specs.declared.operation.Operation.TheVariants.{Load}
+use Rattle.nr_core.specs.Slots.{content}
 use Rattle.nr_core.specs.States.{key_of}
 use Rattle.nr_core.specs.Steps.{Looks}
 use Rattle.nr_core.specs.Story.{call_of, ending, entry, map_after}
-use Rattle.nr_core.specs.Writer.{decided, ended, looked, moved_to, no_slot, read_on, renewed, settled, taking_fresh}
+use Rattle.nr_core.specs.Writer.{decided, decoded, ended, looked, moved_to, no_slot, read_on, renewed, settled, taking_fresh}
 use Rattle.nr_core.specs.declared.calls.NoSlot.{NoSlot}
 use Rattle.nr_core.specs.declared.calls.Step.{Step}
 use Rattle.nr_core.specs.declared.calls.Step.TheVariants.{Ended, Going}
@@ -100,8 +101,12 @@ module _ {A : Type 0} (role : A → Role) (marks : A → Marks) where
     decided_calm (Update k batch) rows = renewed_calm (Update k batch) (applied shape.bound rows batch)
     decided_calm (Evict k) rows = (refl, tt, refl)
 
+    decoded_calm : (call : WriterCall) (found : Option (List Row)) → Calm callers desk (decoded shape desk call found)
+    decoded_calm call None = (refl, tt, refl)
+    decoded_calm call (Some rows) = decided_calm call rows
+
     read_calm : (call : WriterCall) (slot : ℕ) (got : List ℕ) → Calm callers desk (read_on shape desk call slot got)
-    read_calm call slot got = by_cases (λ b. Calm callers desk (cond {A = Desk × Step} b (decided shape desk call (set_of shape.bound got)) (moved_to desk (Reading call slot got), Going))) (nat_eq (length got) (2 * get_or got 0 0 + 1)) (λ _. decided_calm call (set_of shape.bound got)) (λ _. (refl, refl, refl))
+    read_calm call slot got = by_cases (λ b. Calm callers desk (cond {A = Desk × Step} b (decoded shape desk call (decode shape.bound got)) (moved_to desk (Reading call slot got), Going))) (nat_eq (length got) (2 * get_or got 0 0 + 1)) (λ _. decoded_calm call (decode shape.bound got)) (λ _. (refl, refl, refl))
 
 none_held : (retired : List Retired) → length retired ≡ 0 → AllHeld retired []
 none_held retired none = record { many = sym none; slots = λ at entry e. absurd (let l = inside retired at entry e in omega arith); different = λ reader. omega arith }
@@ -137,9 +142,9 @@ module _ {A : Type 0} (role : A → Role) (marks : A → Marks) (shape : Shape) 
       let p : Reads shape words (map_after shape log) (held roles) (key_of call) slot got = subst (AtPlace shape words (map_after shape log) (held roles) desk.fresh desk.retired) is_at (core.knows id (Writer desk) there).place in
       let quiet : QuietEnd log entries = subst (QuietEnd log) (sym ans.1) (quiet_end log (call_of call) o.1 calm.2) in
       let NoneThere : Type 0 = (shape.slots ≤ desk.fresh) × (length desk.retired ≡ 0) × (reply_at shape.bound (call_of call) (state_of (map_after shape log) (key_of call)) ≡ reply.Done) in
-      let left : (counts : NoSlot) → o.1 ≡ Ended (writer.NoSlot counts) → NoneThere = λ counts. by_cases (λ b. (cond {A = Desk × Step} b (decided shape desk call (set_of shape.bound got')) (moved_to desk (Reading call slot got'), Going)).1 ≡ Ended (writer.NoSlot counts) → NoneThere) (nat_eq (length got') (2 * get_or got' 0 0 + 1))
-      (λ yes e. let n = decided_none shape desk counts call (set_of shape.bound got') e in let whole = read_whole shape words roles log core (key_of call) slot got p (eqb-true (length got') (2 * get_or got' 0 0 + 1) yes) in
-      (n.1, n.2, ap (reply_at shape.bound (call_of call)) (p.full ∙ ap key.Rows (sym whole)) ∙ n.3))
+      let left : (counts : NoSlot) → o.1 ≡ Ended (writer.NoSlot counts) → NoneThere = λ counts. by_cases (λ b. (cond {A = Desk × Step} b (decoded shape desk call (decode shape.bound got')) (moved_to desk (Reading call slot got'), Going)).1 ≡ Ended (writer.NoSlot counts) → NoneThere) (nat_eq (length got') (2 * get_or got' 0 0 + 1))
+      (λ yes e. let whole = read_whole shape words roles log core (key_of call) slot got p (eqb-true (length got') (2 * get_or got' 0 0 + 1) yes) in
+      let n = decided_none shape desk counts call p.rows (subst (λ o. (decoded shape desk call o).1 ≡ Ended (writer.NoSlot counts)) whole e) in (n.1, n.2, ap (reply_at shape.bound (call_of call)) p.full ∙ n.3))
       (λ _ e. absurd (let z : 0 ≡ 1 = ap without e in omega arith)) in
       writer_step role marks shape id me (Load i) (ReadsOnMarks shape (marks me) desk call slot got) words callers log core m at desk o.0 was after entries ans.0 (marks me) [] (no_places (Since role marks callers)) (λ place note here. inl here)
       (desk_stay role marks shape words (set words i word) callers log entries desk o.0 (marks me) (marks me).polls own (λ j _. ap (λ l. get_or l j 0) (set-get_or words i 0)) quiet (λ s. let e = ap (retirements s) calm.0 in omega arith) own.noted

@@ -14,7 +14,7 @@ use Rattle.nr_core.proofs.Choices.{by_cases}
 use Rattle.nr_core.proofs.Sums.{got_at, only-is, only-le, only-other, only-same, some_term, term_le, terms_le, total-append, total-remove}
 use Rattle.nr_core.specs.Core.{AtPlace, Core}
 use Rattle.nr_core.specs.Roles.{held, holds, retirements, taken}
-use Rattle.nr_core.specs.Operations.{Load}
+use Rattle.nr_core.specs.declared.operation.Operation.TheVariants.{Load}
 use Rattle.nr_core.specs.Slots.{departures}
 use Rattle.nr_core.specs.States.{no_retired, retired_at}
 use Rattle.nr_core.specs.Story.{call_of, ending, map_after}

@@ -17,7 +17,9 @@ use Rattle.nr_core.proofs.KeyWords.{name-asked, name-bumped}
 use Rattle.nr_core.proofs.Sums.{below-term, only-same}
 use Rattle.nr_core.specs.Core.{Core}
 use Rattle.nr_core.specs.Roles.{retirements}
-use Rattle.nr_core.specs.Operations.{Add, Load, Operation, Or, becomes, place_of}
+use Rattle.nr_core.specs.Operations.{becomes, place_of}
+use Rattle.nr_core.specs.declared.operation.Operation.{Operation}
+use Rattle.nr_core.specs.declared.operation.Operation.TheVariants.{Add, Load, Or}
 use Rattle.nr_core.specs.Slots.{content, departures, name_number}
 use Rattle.nr_core.specs.Steps.{Arrives, Asks, Departs, ReadsHeld, Telling, ask_word}
 use Rattle.nr_core.specs.Story.{entry}

@@ -17,8 +17,9 @@ use Rattle.nr_core.proofs.Settle.{key_same}
 use Rattle.nr_core.proofs.Sums.{below-change, below-term, only-other, only-same, only-suc, only-zero, term_le, total-append}
 use Rattle.nr_core.specs.Core.{AtPlace, Puts}
 use Rattle.nr_core.specs.Roles.{grips, held, holds, retirements, taken}
-use Rattle.nr_core.specs.Operations.{Store, Swap}
-use Rattle.nr_core.specs.Slots.{content, name_number, naming}
+use Rattle.nr_core.specs.declared.operation.Operation.TheVariants.{Store, Swap}
+use Rattle.nr_words.specs.KeyWords.{naming}
+use Rattle.nr_core.specs.Slots.{content, name_number}
 use Rattle.nr_core.specs.States.{key_of}
 use Rattle.nr_core.specs.Story.{call_of, entry, map_after}
 use Rattle.nr_core.specs.Sums.{only, total}

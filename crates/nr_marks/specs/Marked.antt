@@ -15,7 +15,8 @@ use Rattle.nr_core.specs.Sums.{total, only}
 use Rattle.nr_core.specs.Slots.{name_number, named}
 use Rattle.nr_core.specs.Core.{Core}
 use Rattle.nr_core.specs.Roles.{is_by, retirements}
-use Rattle.nr_core.specs.Operations.{Operation, place_of, becomes}
+use Rattle.nr_core.specs.Operations.{place_of, becomes}
+use Rattle.nr_core.specs.declared.operation.Operation.{Operation}
 use Rattle.nr_core.specs.Steps.{Telling}
 use Rattle.nr_marks.specs.Puts.{put_count, put_number}
 use Rattle.nr_marks.specs.Marks.{Past, Marks, gripped, past}

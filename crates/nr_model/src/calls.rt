@@ -1,4 +1,7 @@
 //! The calls of a partial map, and their replies.
+ghost use Rattle.std.specs.Prelude.{◌≡◌};
+ghost use Rattle.nr_model.specs.Maps.{key_of};
+
 use crate::batches::Batch;
 use crate::rows::RowSet;
 
@@ -15,6 +18,19 @@ pub enum Call {
     Update(u32, Batch),
     /// Makes the key missing again.
     Evict(u32),
+}
+
+impl Call {
+    /// The key of the call.
+    pub fn key(&self) -> u32
+        ensures { result ≡ key_of self.now }
+    {
+        match self {
+            Call::Find(key) | Call::Ask(key) | Call::Evict(key) => *key,
+            Call::Fill(key, _) => *key,
+            Call::Update(key, _) => *key,
+        }
+    }
 }
 
 /// The answer to a call.

@@ -9,6 +9,7 @@ pub mod laws;
 mod pile;
 mod rows;
 mod seq_map;
+mod sizes;
 mod states;
 #[cfg(test)]
 mod tests;
@@ -17,4 +18,5 @@ pub use batches::{ApplyFault, Batch, BatchFault, Delta, MAX_DELTAS};
 pub use calls::{Call, Reply};
 pub use rows::{MAX_ROWS, Row, RowSet, TooMany};
 pub use seq_map::{MAX_KEYS, OpenFault, SeqMap};
+pub use sizes::is_bad_size;
 pub use states::KeyState;

@@ -1,9 +1,11 @@
 //! The partial map that one caller uses.
-ghost use Rattle.std.specs.Prelude.{◌≡◌, ◌≤◌, ◌<◌, ◌↔◌, ◌⊎◌, ℕ, length, IfOk, Err};
+ghost use Rattle.std.specs.Prelude.{◌≡◌, ◌≤◌, ◌<◌, ◌↔◌, ℕ, length, IfOk, Err};
 ghost use Rattle.nr_model.specs.Maps.{opening, state_of, reply_to, next, key_of, key_count};
+ghost use Rattle.nr_model.specs.Sizes.{IsBadSize};
 
 use crate::calls::{Call, Reply};
 use crate::rows::MAX_ROWS;
+use crate::sizes::is_bad_size;
 use crate::states::KeyState;
 use std::alloc::Global;
 use std::marker::Model;
@@ -45,10 +47,10 @@ impl SeqMap {
     /// A map of so many keys, each a hole. Refused unless there are 1 to 65,536, and then where
     /// there is no memory.
     pub fn open(alloc: Global, keys: u32) -> Result<SeqMap, OpenFault>
-        ensures bad_size { (result ≡ Err OpenFault.BadSize) ↔ ((keys ≡ 0) ⊎ (MAX_KEYS < keys)) }
+        ensures bad_size { (result ≡ Err OpenFault.BadSize) ↔ IsBadSize MAX_KEYS keys }
         ensures ok { IfOk result (λ map. map ≡ opening keys MAX_ROWS) }
     {
-        if keys == 0 || keys > MAX_KEYS {
+        if is_bad_size(MAX_KEYS, keys) {
             return Err(OpenFault::BadSize);
         }
         let states = vec![in alloc; KeyState::Hole; keys as usize].map_err(|_| OpenFault::Memory)?;
@@ -79,12 +81,13 @@ impl SeqMap {
         ensures reply { result ≡ reply_to self.old call.now }
         ensures new { self.new ≡ next self.old call.now }
     {
+        let state = &mut self.states[call.key() as usize];
         match call {
-            Call::Find(key) => self.states[*key as usize].find(),
-            Call::Ask(key) => self.states[*key as usize].ask(),
-            Call::Fill(key, rows) => self.states[*key as usize].fill(rows),
-            Call::Update(key, batch) => self.states[*key as usize].update(batch),
-            Call::Evict(key) => self.states[*key as usize].evict(),
+            Call::Find(_) => state.find(),
+            Call::Ask(_) => state.ask(),
+            Call::Fill(_, rows) => state.fill(rows),
+            Call::Update(_, batch) => state.update(batch),
+            Call::Evict(_) => state.evict(),
         }
     }
 }

@@ -1,6 +1,6 @@
 //! The state of one key, and what each call makes of it.
 ghost use Rattle.std.specs.Prelude.{◌≡◌};
-ghost use Rattle.nr_model.specs.Maps.{find_reply, ask_reply, fill_reply, update_reply, evict_reply, asked, filled, updated, evicted};
+ghost use Rattle.nr_model.specs.Maps.{find_reply, ask_reply, fill_reply, update_reply, evict_reply, asked, filled, updated, evicted, is_filled};
 
 use crate::batches::{ApplyFault, Batch};
 use crate::calls::Reply;
@@ -15,6 +15,13 @@ pub enum KeyState {
 }
 
 impl KeyState {
+    /// Whether the key has rows.
+    pub fn is_filled(&self) -> bool
+        ensures { result ≡ is_filled self.now }
+    {
+        matches!(self, KeyState::Rows(_))
+    }
+
     pub(crate) fn find(&self) -> Reply
         ensures { result ≡ find_reply self.now }
     {

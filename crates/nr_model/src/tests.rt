@@ -1,6 +1,6 @@
 use super::{
     ApplyFault, Batch, BatchFault, Call, Delta, KeyState, MAX_KEYS, OpenFault, Reply, Row, RowSet,
-    SeqMap, TooMany,
+    SeqMap, TooMany, is_bad_size,
 };
 use std::test::Fail;
 
@@ -105,6 +105,10 @@ fn missing_rows_are_told_before_too_many(rt: HostRuntime) -> Result<(), Fail> {
 
 #[test]
 fn sizes_have_their_limits(rt: HostRuntime) -> Result<(), Fail> {
+    assert!(rt; is_bad_size(3, 0));
+    assert!(rt; !is_bad_size(3, 1));
+    assert!(rt; !is_bad_size(3, 3));
+    assert!(rt; is_bad_size(3, 4));
     assert!(rt; matches!(&SeqMap::open(rt.alloc(), 0), Err(OpenFault::BadSize)));
     assert!(rt;
         matches!(
@@ -125,7 +129,9 @@ fn a_key_is_asked_filled_updated_and_evicted(rt: HostRuntime) -> Result<(), Fail
     let batch = batch_of(&[plus(2, 2)])?;
     assert!(rt; matches!(&map.call(&Call::Fill(1, set)), Reply::NotAsked));
     assert!(rt; matches!(&map.call(&Call::Update(1, batch)), Reply::Dropped));
+    assert_eq!(rt; Call::Fill(1, set).key(), 1);
     assert!(rt; matches!(&map.call(&Call::Ask(1)), Reply::Send));
+    assert!(rt; !map.state(1).is_filled());
     assert!(rt; matches!(&map.call(&Call::Ask(1)), Reply::Waiting));
     assert!(rt; matches!(&map.call(&Call::Evict(1)), Reply::Nothing));
     assert!(rt; matches!(&map.call(&Call::Find(1)), Reply::Hole));
@@ -138,6 +144,7 @@ fn a_key_is_asked_filled_updated_and_evicted(rt: HostRuntime) -> Result<(), Fail
     };
     assert_eq!(rt; rows.len(), 2);
     assert!(rt; matches!(&map.state(1), KeyState::Rows(_)));
+    assert!(rt; map.state(1).is_filled());
     assert!(rt; matches!(&map.state(0), KeyState::Hole));
     assert!(rt; matches!(&map.call(&Call::Evict(1)), Reply::Evicted));
     assert!(rt; matches!(&map.call(&Call::Find(1)), Reply::Hole));

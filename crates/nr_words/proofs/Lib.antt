@@ -3,3 +3,4 @@ pub mod SetWordLemmas
 pub mod WordLoops
 pub mod OrderLemmas
 pub mod PlaceLemmas
+pub mod OpeningLemmas

@@ -1,4 +1,5 @@
 pub mod KeyWords
 pub mod SetWords
 pub mod Places
+pub mod Opening
 pub mod Laws

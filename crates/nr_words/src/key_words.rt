@@ -1,10 +1,13 @@
 //! A key's word: bit 0 says that the key is asked, bit 1 that it is filled, bits 2 to 23 are the
 //! slot that it names, and bits 24 to 63 count the readers that arrived, modulo 2^40.
 ghost use Rattle.std.specs.Prelude.{◌≡◌, ◌<◌, ◌^◌};
-ghost use Rattle.nr_words.specs.KeyWords.{key_word, parts_of, same_count};
+ghost use Rattle.nr_words.specs.KeyWords.{key_word, naming, parts_of, same_count};
 
 /// What one more arrival adds to a key's word.
 pub const ARRIVE: u64 = 1 << ARRIVALS_SHIFT;
+
+/// A key's word counts arrivals modulo this.
+pub const COUNTS: u64 = 1 << 40;
 
 const FILLED_SHIFT: u32 = 1;
 
@@ -13,9 +16,6 @@ const SLOT_SHIFT: u32 = 2;
 const SLOT_MASK: u64 = (1 << 22) - 1;
 
 const ARRIVALS_SHIFT: u32 = 24;
-
-/// The bits of a count that a key's word has room for.
-const COUNT_MASK: u64 = (1 << 40) - 1;
 
 /// What a key's word packs. The slot says nothing of a key that isn't filled, and `ask` says
 /// nothing of one that is.
@@ -40,6 +40,20 @@ pub fn key_word(parts: KeyParts) -> u64
         | u64::from(parts.ask)
 }
 
+/// The word that fills a key with a slot below 2^22 whose departures are these. Its arrivals begin
+/// there, modulo 2^40, so that by the counts nobody holds the slot.
+pub fn naming(slot: u32, departed: u64) -> u64
+    requires { slot < 2 ^ 22 }
+    ensures { result ≡ naming slot departed }
+{
+    key_word(KeyParts {
+        ask: false,
+        filled: true,
+        slot,
+        arrivals: departed % COUNTS,
+    })
+}
+
 /// The parts of any word.
 pub fn parts(word: u64) -> KeyParts
     ensures parts { result ≡ parts_of word }
@@ -61,5 +75,5 @@ pub fn parts(word: u64) -> KeyParts
 pub fn same_count(arrivals: u64, departures: u64) -> bool
     ensures { result ≡ same_count arrivals departures }
 {
-    arrivals & COUNT_MASK == departures & COUNT_MASK
+    arrivals % COUNTS == departures % COUNTS
 }

@@ -1,6 +1,9 @@
 ghost use Rattle.std.specs.Prelude.{◌<◌, ◌^◌};
 
-use super::{ARRIVE, CONTENT_WORDS, KeyParts, Layout, decode, encode, key_word, parts, same_count};
+use super::{
+    ARRIVE, CONTENT_WORDS, KeyParts, Layout, decode, encode, key_word, naming, opening_words,
+    parts, same_count,
+};
 use nr_model::{Row, RowSet};
 use std::process::Abort;
 use std::test::Fail;
@@ -43,6 +46,13 @@ fn an_arrival_wraps_the_count_alone(rt: HostRuntime) {
     assert_eq!(rt; ARRIVE, 16777216);
     assert_eq!(rt; 18446744073692774402u64.wrapping_add(ARRIVE), 2);
     assert_packs(&rt, false, true, 0, 0, 2);
+}
+
+#[test]
+fn arrivals_begin_at_the_departures(rt: HostRuntime) {
+    assert_eq!(rt; naming(5, 3), 50331670);
+    assert_eq!(rt; naming(5, 1099511627779), 50331670);
+    assert_eq!(rt; naming(0, 1099511627775), 18446744073692774402);
 }
 
 #[test]
@@ -100,4 +110,16 @@ fn layouts_place_each_word(rt: HostRuntime) {
         slots: 131072,
     };
     assert_eq!(rt; largest.total(), 4259840);
+}
+
+#[test]
+fn a_new_map_has_holes_and_first_counts(rt: HostRuntime) -> Result<(), Fail> {
+    let layout = Layout { keys: 2, slots: 3 };
+    let words = opening_words(rt.alloc(), layout, 7).map_err(|_| "no memory")?;
+    assert_eq!(rt; words.len(), 98);
+    for (place, word) in words.iter().enumerate() {
+        let is_departures = place == 2 || place == 34 || place == 66;
+        assert_eq!(rt; *word, if is_departures { 7 } else { 0 });
+    }
+    Ok(())
 }

@@ -1,5 +1,5 @@
 use Rattle.std.proofs.Common.{List, ap, append_assoc, replicate, ℕ, ◌++◌, ◌∙◌, ◌∷◌}
-use Rattle.nr_core.specs.Slots.{repeated}
+use Rattle.nr_words.specs.Opening.{repeated}
 use Rattle.nr_map.proofs.Opens.{repeated-more}
 use Rattle.nr_map.proofs.board.lay.Goals as goal
 

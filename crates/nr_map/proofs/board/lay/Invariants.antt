@@ -1,5 +1,5 @@
 use Rattle.std.proofs.Common.{replicate, ◌∷◌, ◌++◌, ◌≡◌}
-use Rattle.nr_core.specs.Slots.{repeated}
+use Rattle.nr_words.specs.Opening.{repeated}
 use Rattle.nr_map.proofs.board.lay.Given as goal
 
 abbrev pub invariant-loop : goal.invariant-loop

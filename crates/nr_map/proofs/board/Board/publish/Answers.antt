@@ -2,8 +2,11 @@ use Rattle.std.proofs.Common.{Bool, ap, arith, cond, get_or, length, refl, subst
 use Rattle.std.proofs.lemmas.Bool.{lt-leb}
 use Rattle.atomic_table.specs.Table.{Allows, Me}
 use Rattle.nr_words.specs.SetWords.{encode}
-use Rattle.nr_core.specs.Operations.{Operation, Store, Swap, becomes, going, place_of}
-use Rattle.nr_core.specs.Slots.{content, naming}
+use Rattle.nr_core.specs.Operations.{becomes, going, place_of}
+use Rattle.nr_core.specs.declared.operation.Operation.{Operation}
+use Rattle.nr_core.specs.declared.operation.Operation.TheVariants.{Store, Swap}
+use Rattle.nr_words.specs.KeyWords.{naming}
+use Rattle.nr_core.specs.Slots.{content}
 use Rattle.nr_core.specs.States.{key_of}
 use Rattle.nr_core.specs.declared.places.Place.TheVariants.{Putting}
 use Rattle.nr_core.specs.declared.roles.Desk.{Desk}

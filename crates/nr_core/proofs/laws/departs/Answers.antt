@@ -1,0 +1,5 @@
+use Rattle.nr_core.proofs.Depart.{departs}
+use Rattle.nr_core.proofs.laws.departs.Goals as goal
+
+pub returns : goal.returns
+returns c = departs

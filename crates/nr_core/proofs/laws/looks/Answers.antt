@@ -1,0 +1,5 @@
+use Rattle.nr_core.proofs.Look.{looks}
+use Rattle.nr_core.proofs.laws.looks.Goals as goal
+
+pub returns : goal.returns
+returns c = looks

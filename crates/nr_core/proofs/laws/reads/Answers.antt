@@ -1,0 +1,5 @@
+use Rattle.nr_core.proofs.Read.{reads}
+use Rattle.nr_core.proofs.laws.reads.Goals as goal
+
+pub returns : goal.returns
+returns c = reads

@@ -1,9 +1,0 @@
-use Rattle.nr_core.specs.States.{Start}
-use Rattle.nr_core.proofs.Reach.{has_room, leads_on}
-use Rattle.nr_core.proofs.machine.Core.start.Goals as goal
-
-pub start-requires : goal.start-requires
-start-requires c = has_room c.self.inside.inner c.self.invariant
-
-pub invariant_of-self : goal.invariant_of-self
-invariant_of-self c = rw c.start.ensures.new (leads_on c.self.inside.inner (Start c.args.call.now) c.start.ensures.given c.self.invariant)

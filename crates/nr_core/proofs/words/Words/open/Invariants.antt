@@ -1,6 +1,0 @@
-use Rattle.std.proofs.Common.{◌≡◌, ◌++◌, replicate}
-use Rattle.nr_core.specs.Slots.{repeated}
-use Rattle.nr_core.proofs.words.Words.open.Given as goal
-
-abbrev pub invariant-loop-slot : goal.invariant-loop-slot
-invariant-loop-slot l = l.cells.items ≡ replicate l.fn.layout.keys 0 ++ repeated l._slot l.block

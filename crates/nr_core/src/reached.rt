@@ -1,0 +1,126 @@
+//! The step machine that callers see.
+ghost use Rattle.std.specs.Prelude.{◌≡◌, ◌↔◌, ◌⊎◌, IfOk, Err};
+ghost use Rattle.nr_model.specs.declared.rows.TheConstants.{MAX_ROWS};
+ghost use Rattle.nr_model.specs.declared.seq_map.TheConstants.{MAX_KEYS};
+ghost use Rattle.nr_core.specs.States.{opening, Arrive, Read, Depart, Ask, Start, Go};
+ghost use Rattle.nr_core.specs.Machine.{next, arrive_answer, read_answer, depart_answer, ask_answer, start_answer, go_answer};
+ghost use Rattle.nr_model.specs.Sizes.{IsBadSize};
+
+use crate::calls::{Arrived, AskReply, Refusal, Step, WriterCall};
+use crate::machine::Machine;
+use crate::shape::{MAX_READERS, MAX_SLOTS};
+use nr_model::{MAX_KEYS, OpenFault, is_bad_size};
+use nr_words::Layout;
+use std::alloc::Global;
+use std::marker::Model;
+
+/// The machine, in a state to which some steps of its callers lead. A step that is refused changes
+/// nothing and makes no operation; every other one makes one operation on one word, and contracts
+/// see which (`made`). No step takes memory.
+#[derive(Drop)]
+pub struct Core {
+    machine: Machine,
+}
+
+impl Model for Core {
+    ghost use Rattle.nr_core.specs.States.{State};
+    ghost use Rattle.nr_core.specs.Reach.{Reached};
+
+    ghost Value = { State };
+
+    ghost view = { λ core. core.machine };
+
+    ghost invariant = { λ core. ∥ Reached core.machine ∥₁ };
+}
+
+impl Core {
+    /// The machine of a map of 1 to 65,536 keys, each a hole, 1 to 131,072 slots, each of which
+    /// starts at the first count, and 1 to 1,024 readers. Other sizes are refused, and then want
+    /// of memory.
+    pub fn open(
+        alloc: Global,
+        keys: u32,
+        slots: u32,
+        readers: u32,
+        first_count: u64,
+    ) -> Result<Core, OpenFault>
+        ensures bad_size { (result ≡ Err OpenFault.BadSize)
+            ↔ (IsBadSize MAX_KEYS keys ⊎ IsBadSize MAX_SLOTS slots ⊎ IsBadSize MAX_READERS readers) }
+        ensures ok { IfOk result (λ core. core ≡ opening (record {
+          keys = keys;
+          slots = slots;
+          readers = readers;
+          bound = MAX_ROWS;
+          first = first_count;
+        })) }
+    {
+        if is_bad_size(MAX_KEYS, keys)
+            || is_bad_size(MAX_SLOTS, slots)
+            || is_bad_size(MAX_READERS, readers)
+        {
+            return Err(OpenFault::BadSize);
+        }
+        let layout = Layout { keys, slots };
+        let machine = Machine::open(alloc, layout, readers, first_count).map_err(
+            |_| OpenFault::Memory,
+        )?;
+        Ok(Core { machine })
+    }
+
+    /// A reader, from 1, arrives at a key, from 0: one addition to the key's word. It holds the
+    /// key's slot then, or finds a hole. Refused where there is no such reader or key
+    /// (`OutOfRange`), and then where the reader holds a slot (`Holding`).
+    pub fn arrive(&mut self, reader: u32, key: u32) -> Result<Arrived, Refusal>
+        ensures answer { result ≡ arrive_answer self.old reader key }
+        ensures new { self.new ≡ next self.old (Arrive reader key) }
+    {
+        self.machine.arrive(reader, key)
+    }
+
+    /// A reader reads a content word of the slot that it holds: one load. Refused where there is no
+    /// such reader (`OutOfRange`), then where it holds nothing (`NotHolding`), and then unless the
+    /// index is 0 or, once word 0 was read in this hold, at most twice that number (`OutOfRange`).
+    pub fn read(&mut self, reader: u32, index: u64) -> Result<u64, Refusal>
+        ensures answer { result ≡ read_answer self.old reader index }
+        ensures new { self.new ≡ next self.old (Read reader index) }
+    {
+        self.machine.read(reader, index)
+    }
+
+    /// A reader leaves the slot that it holds: one addition to the slot's departure word. Refused
+    /// where there is no such reader (`OutOfRange`), and then where it holds nothing (`NotHolding`).
+    pub fn depart(&mut self, reader: u32) -> Result<(), Refusal>
+        ensures answer { result ≡ depart_answer self.old reader }
+        ensures new { self.new ≡ next self.old (Depart reader) }
+    {
+        self.machine.depart(reader)
+    }
+
+    /// A reader asks for a key: one bitwise or on the key's word. Refused where there is no such
+    /// reader or key (`OutOfRange`), and then where the reader holds a slot (`Holding`).
+    pub fn ask(&mut self, reader: u32, key: u32) -> Result<AskReply, Refusal>
+        ensures answer { result ≡ ask_answer self.old reader key }
+        ensures new { self.new ≡ next self.old (Ask reader key) }
+    {
+        self.machine.ask(reader, key)
+    }
+
+    /// The writer begins a call by its look at the key's word: one load. Refused where there is no
+    /// such key (`OutOfRange`), and then where the writer is in a call (`Busy`).
+    pub fn start(&mut self, call: &WriterCall) -> Result<Step, Refusal>
+        ensures answer { result ≡ start_answer self.old call.now }
+        ensures new { self.new ≡ next self.old (Start call.now) }
+    {
+        self.machine.start(call)
+    }
+
+    /// The writer's call makes its next step: a load of a content word or of a departure word, a
+    /// store of a content word, or a swap of the key's word. Refused where the writer is in no call
+    /// (`NotBusy`).
+    pub fn go(&mut self) -> Result<Step, Refusal>
+        ensures answer { result ≡ go_answer self.old }
+        ensures new { self.new ≡ next self.old Go }
+    {
+        self.machine.go()
+    }
+}
