@@ -17,6 +17,7 @@ mod answers;
 mod board;
 pub mod laws;
 mod meetings;
+mod only_proved;
 mod pin;
 #[cfg(test)]
 mod pin_tests;
@@ -25,7 +26,6 @@ mod read_through;
 mod reader;
 mod reader_map;
 mod rule;
-mod search;
 mod spare;
 #[cfg(test)]
 mod tests;

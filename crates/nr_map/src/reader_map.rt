@@ -10,7 +10,7 @@ use crate::board::{Board, Seat};
 use crate::reader::Reader;
 use crate::writer::Writer;
 use nr_core::{MAX_READERS, MAX_SLOTS, Shape};
-use nr_model::{MAX_KEYS, MAX_ROWS, OpenFault};
+use nr_model::{MAX_KEYS, MAX_ROWS, OpenFault, is_bad_size};
 use std::alloc::{AllocError, Global};
 use std::marker::Model;
 
@@ -82,12 +82,6 @@ impl ReaderMap {
     {
         self.board.shape().readers
     }
-}
-
-fn is_bad_size(limit: u32, size: u32) -> bool
-    ensures { IsTrue result ↔ IsBadSize limit size }
-{
-    size == 0 || size > limit
 }
 
 // A map of those sizes, with its tokens.
