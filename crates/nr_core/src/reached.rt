@@ -1,5 +1,5 @@
 //! The step machine that callers see.
-ghost use Rattle.std.specs.Prelude.{◌≡◌, ◌<◌, ◌↔◌, ◌⊎◌, IfOk, IsTrue, Err, Some, option_map};
+ghost use Rattle.std.specs.Prelude.{◌≡◌, ◌<◌, ◌↔◌, ◌⊎◌, IfOk, Err, Some, option_map};
 ghost use Rattle.nr_model.specs.Maps.{number_of};
 ghost use Rattle.nr_model.specs.declared.seq_map.TheConstants.{MAX_KEYS};
 ghost use Rattle.nr_core.specs.Sizes.{IsBadShape};
@@ -10,8 +10,8 @@ ghost use Rattle.nr_model.specs.Sizes.{IsBadSize};
 
 use crate::calls::{Arrived, AskReply, Refusal, Step, WriterCall};
 use crate::machine::Machine;
-use crate::shape::{MAX_READERS, MAX_SLOTS, Shape};
-use nr_model::{LAST_NUMBER, MAX_KEYS, OpenFault, is_bad_size};
+use crate::shape::Shape;
+use nr_model::OpenFault;
 use std::alloc::Global;
 use std::marker::Model;
 
@@ -72,7 +72,7 @@ impl Core {
         ensures bad_size { (result ≡ Err OpenFault.BadSize) ↔ IsBadShape shape.now }
         ensures ok { IfOk result (λ core. core ≡ opening shape.now) }
     {
-        if is_bad_shape(shape) {
+        if shape.is_bad() {
             return Err(OpenFault::BadSize);
         }
         let machine = Machine::open(alloc, shape).map_err(|_| OpenFault::Memory)?;
@@ -146,13 +146,4 @@ impl Core {
     {
         self.machine.go()
     }
-}
-
-fn is_bad_shape(shape: &Shape) -> bool
-    ensures { IsTrue result ↔ IsBadShape shape.now }
-{
-    is_bad_size(MAX_KEYS, shape.keys)
-        || is_bad_size(MAX_SLOTS, shape.slots)
-        || is_bad_size(MAX_READERS, shape.readers)
-        || shape.first_number > LAST_NUMBER
 }

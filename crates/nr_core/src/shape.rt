@@ -1,4 +1,7 @@
 //! The sizes of a map.
+ghost use Rattle.std.specs.Prelude.{◌↔◌, IsTrue};
+
+use nr_model::{LAST_NUMBER, MAX_KEYS, is_bad_size};
 
 /// The largest number of slots of a map.
 pub const MAX_SLOTS: u32 = 131_072;
@@ -15,4 +18,19 @@ pub struct Shape {
     pub readers: u32,
     pub first_count: u64,
     pub first_number: u64,
+}
+
+impl Shape {
+    ghost use Rattle.nr_core.specs.Sizes.{IsBadShape};
+
+    /// Whether an opening refuses the shape: a number of keys, slots or readers is out of its
+    /// limits, or the first number is over 4,194,303.
+    pub fn is_bad(&self) -> bool
+        ensures { IsTrue result ↔ IsBadShape self.now }
+    {
+        is_bad_size(MAX_KEYS, self.keys)
+            || is_bad_size(MAX_SLOTS, self.slots)
+            || is_bad_size(MAX_READERS, self.readers)
+            || self.first_number > LAST_NUMBER
+    }
 }

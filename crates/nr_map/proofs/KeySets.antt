@@ -31,9 +31,12 @@ reading_leaves bound (model.Cancel key) number rows reads = absurd (cc)
 reads_first : (shape : Shape) (e : Entry) (log : List Entry) → IsCallers shape e → entries_of (e ∷ log) 0 ≡ [] → (is_reading e.call ≡ true) × (entries_of log 0 ≡ [])
 reads_first shape e log is none = ⊎_elim
     (λ (writes : e.caller ≡ 0). let here : e ∷ entries_of log 0 ≡ [] = sym (ap (λ (b : Bool). cond b (e ∷ entries_of log 0) (entries_of log 0)) (eq-eqb e.caller 0 writes)) ∙ none in absurd (cc))
-    (λ reads. (reads.1, dite (ℕ_discrete e.caller 0)
-    (λ writes. let here : e ∷ entries_of log 0 ≡ [] = sym (ap (λ (b : Bool). cond b (e ∷ entries_of log 0) (entries_of log 0)) (eq-eqb e.caller 0 writes)) ∙ none in absurd (cc))
-    (λ other. sym (entries_skip e log other) ∙ none))) is.1
+    (λ reads. (
+      reads.1,
+      dite (ℕ_discrete e.caller 0)
+          (λ writes. let here : e ∷ entries_of log 0 ≡ [] = sym (ap (λ (b : Bool). cond b (e ∷ entries_of log 0) (entries_of log 0)) (eq-eqb e.caller 0 writes)) ∙ none in absurd (cc))
+          (λ other. sym (entries_skip e log other) ∙ none),
+    )) is.1
   where
     entries_skip : (e : Entry) (log : List Entry) → e.caller ≢ 0 → entries_of (e ∷ log) 0 ≡ entries_of log 0
     entries_skip e log other = ap (λ (b : Bool). cond b (e ∷ entries_of log 0) (entries_of log 0)) (ne_eqb e.caller 0 other)

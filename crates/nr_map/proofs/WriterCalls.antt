@@ -139,7 +139,6 @@ module _ (table : Table) (spare : Spare) (before : MapSeat) (rests : RestsAt tab
             marks = lacking.marks ∙ ap (λ (m : Marks). with_polls m after.me.0.marks.polls) only_polls;
           },
         )
-
       where
         held_since : {note : Past} → HeldThen mid.me.0.seen after.me.0.seen note → HeldThen before.me.0.seen after.me.0.seen note
         held_since held = let begun = grows_from steps (token before) [] (token mid) grows in record {

@@ -3,7 +3,7 @@ use Rattle.std.specs.Prelude.{List, Result, Ok, Err}
 use Rattle.nr_model.specs.declared.rows.Row.{Row}
 use Rattle.nr_core.specs.declared.calls.NoSlot.{NoSlot}
 use Rattle.nr_core.specs.declared.calls.WriterCall.{WriterCall}
-use Rattle.nr_map.specs.declared.search.Taken.{Taken}
+use Rattle.nr_map.specs.declared.publish.Taken.{Taken}
 use Rattle.nr_map.specs.Callers.{Table}
 use Rattle.nr_map.specs.Spares.{Spare}
 use Rattle.nr_map.specs.WriterSeats.{LacksSlot, MapSeat, PublishesSet, TakesSlot}

@@ -25,6 +25,7 @@ mod cancel_tests;
 mod cancels;
 pub mod laws;
 mod meetings;
+mod only_proved;
 mod pin;
 #[cfg(test)]
 mod pin_tests;
@@ -33,7 +34,6 @@ mod read_through;
 mod reader;
 mod reader_map;
 mod rule;
-mod search;
 mod spare;
 #[cfg(test)]
 mod tests;

@@ -7,6 +7,7 @@ ghost use Rattle.nr_map.specs.Views.{desk_of};
 ghost use Rattle.nr_map.specs.WriterSeats.{KeyHas, LeadsIn, WritesAt};
 
 use crate::board::Seat;
+use crate::only_proved::only_proved;
 use crate::reader_map::ReaderMap;
 use nr_core::WriterCall;
 use nr_model::{Row, RowSet};
@@ -21,7 +22,7 @@ impl ReaderMap {
         ensures had { KeyHas self.now call.now rows.new (decided self.now.shape (desk_of seat.old.me.0.role) call.now rows.new).1 seat.new }
         ensures marks { seat.new.me.0.marks ≡ seat.old.me.0.marks }
     {
-        let _ = call;
+        only_proved(call);
         let begin = self.board.content(slot);
         let count = self.board.read_on(seat, begin, 0);
         rows.clear();

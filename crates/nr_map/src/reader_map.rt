@@ -1,5 +1,5 @@
 //! The map.
-ghost use Rattle.std.specs.Prelude.{◌≡◌, ◌<◌, ◌⊎◌, ◌↔◌, [], IfOk, IsTrue, Err};
+ghost use Rattle.std.specs.Prelude.{◌≡◌, ◌<◌, ◌⊎◌, ◌↔◌, [], IfOk, Err};
 ghost use Rattle.nr_model.specs.declared.seq_map.TheConstants.{MAX_KEYS};
 ghost use Rattle.nr_model.specs.Sizes.{IsBadSize};
 ghost use Rattle.nr_core.specs.Sizes.{IsShape, IsBadShape};
@@ -8,8 +8,8 @@ ghost use Rattle.nr_map.specs.Opened.{IsOpened, Seated};
 use crate::board::{Board, Seat};
 use crate::reader::Reader;
 use crate::writer::Writer;
-use nr_core::{MAX_READERS, MAX_SLOTS, Shape};
-use nr_model::{LAST_NUMBER, MAX_KEYS, OpenFault};
+use nr_core::Shape;
+use nr_model::OpenFault;
 use std::alloc::{AllocError, Global};
 use std::marker::Model;
 
@@ -62,7 +62,7 @@ impl ReaderMap {
         ensures bad_size { (result ≡ Err OpenFault.BadSize) ↔ IsBadShape shape.now }
         ensures ok { IfOk result (λ opened. IsOpened shape.now opened.0 opened.1 opened.2.items) }
     {
-        if is_bad_shape(shape) {
+        if shape.is_bad() {
             return Err(OpenFault::BadSize);
         }
         seated(alloc, *shape).map_err(|_| OpenFault::Memory)
@@ -88,21 +88,6 @@ impl ReaderMap {
     {
         self.board.shape().readers
     }
-}
-
-fn is_bad_shape(shape: &Shape) -> bool
-    ensures { IsTrue result ↔ IsBadShape shape.now }
-{
-    is_bad_size(MAX_KEYS, shape.keys)
-        || is_bad_size(MAX_SLOTS, shape.slots)
-        || is_bad_size(MAX_READERS, shape.readers)
-        || shape.first_number > LAST_NUMBER
-}
-
-fn is_bad_size(limit: u32, size: u32) -> bool
-    ensures { IsTrue result ↔ IsBadSize limit size }
-{
-    size == 0 || size > limit
 }
 
 // A map of those sizes, with its tokens.

@@ -6,6 +6,7 @@ ghost use Rattle.nr_map.specs.WriterSeats.{RestsAt};
 
 use crate::answers::{Evict, FillFault, Found, UpdateFault};
 use crate::board::Seat;
+use crate::only_proved::only_proved;
 use crate::reader_map::ReaderMap;
 use crate::spare::Spare;
 use crate::writer::Writer;
@@ -13,6 +14,8 @@ use nr_core::WriterCall;
 use nr_model::{ApplyFault, Batch, RowSet};
 use nr_words::parts;
 
+// A writer's type says that it stands between two calls, and in the midst of one it doesn't. So each
+// public call lends the writer's seat and slots, one by one, to a function of its own.
 impl ReaderMap {
     ghost use Rattle.nr_map.specs.Answers.{LooksAt, FillsKey, UpdatesKey, EvictsKey};
 
@@ -76,7 +79,7 @@ impl ReaderMap {
         ensures rests { RestsAt (token seat.new).table spare.now seat.new }
         ensures looks { LooksAt key (token seat.old) rows.old (token seat.new) rows.new result }
     {
-        let _ = spare;
+        only_proved(spare);
         let call = WriterCall::Find(key);
         let found = parts(self.board.look(seat, &call));
         if !found.filled {
@@ -100,8 +103,8 @@ impl ReaderMap {
         ensures rests { RestsAt (token seat.new).table spare.new seat.new }
         ensures fills { FillsKey key number rows.now (token seat.old) (token seat.new) result }
     {
-        // That it is a row set is known of a set whose length was asked for.
-        let _ = rows.len();
+        // That a set is a row set is known once its length was asked for.
+        only_proved(rows.len());
         let call = WriterCall::Fill(key, number, *rows);
         let found = parts(self.board.look(seat, &call));
         if found.filled {
