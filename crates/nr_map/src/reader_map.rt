@@ -3,6 +3,7 @@ ghost use Rattle.std.specs.Prelude.{◌≡◌, ◌<◌, ◌⊎◌, ◌↔◌, []
 ghost use Rattle.nr_model.specs.declared.seq_map.TheConstants.{MAX_KEYS};
 ghost use Rattle.nr_model.specs.Sizes.{IsBadSize};
 ghost use Rattle.nr_core.specs.Sizes.{IsShape, IsBadShape};
+ghost use Rattle.nr_core.specs.declared.shape.TheConstants.{MAX_READERS, MAX_SLOTS};
 ghost use Rattle.nr_map.specs.Opened.{IsOpened, Seated};
 
 use crate::board::{Board, Seat};
