@@ -13,7 +13,7 @@ ghost use Rattle.nr_core.specs.States.{key_of};
 ghost use Rattle.nr_core.specs.Steps.{ask_word};
 ghost use Rattle.nr_core.specs.Story.{call_of};
 ghost use Rattle.nr_core.specs.Writer.{looked};
-ghost use Rattle.nr_core.specs.Slots.{bound_of, content, opening_words};
+ghost use Rattle.nr_core.specs.Slots.{bound_of, content};
 ghost use Rattle.nr_core.specs.Roles.{is_writer};
 ghost use Rattle.nr_core.specs.Sizes.{IsShape};
 ghost use Rattle.nr_map.specs.Views.{rows_held, with_reader, next_reader, opener};
@@ -33,15 +33,9 @@ use crate::rule::{
 use crate::view::View;
 use atomic_table::Table;
 use nr_core::{Shape, WriterCall};
-use nr_words::{ARRIVE, KeyParts, Layout, hole_word, key_word};
+use nr_words::{ARRIVE, Layout, hole_word, naming, opening_words};
 use std::alloc::{AllocError, Global};
 use std::marker::{Brand, Model};
-
-/// The words of a slot: its departures and its content.
-const SLOT_WORDS: usize = 32;
-
-/// A key's word counts arrivals modulo this.
-const COUNTS: u64 = 1 << 40;
 
 pub type Seat = atomic_table::Seat<(), View>;
 
@@ -81,27 +75,6 @@ impl Model for Note {
     ghost view = { λ note. note.seat };
 }
 
-// The words at opening: every key a hole with the first number, every slot's departures the first
-// count.
-fn lay(alloc: Global, shape: &Shape) -> Result<Vec<u64>, AllocError>
-    requires slots { shape.now.slots ≤ 2 ^ 22 }
-    requires number { shape.now.first_number < 2 ^ 22 }
-    ensures { IfOk result (λ words. words.items ≡ opening_words shape.now) }
-{
-    let layout = Layout {
-        keys: shape.keys,
-        slots: shape.slots,
-    };
-    let mut slot = [0; SLOT_WORDS];
-    slot[0] = shape.first_count;
-    let mut words = Vec::with_capacity(alloc, layout.total() as usize)?;
-    words.resize(shape.keys as usize, hole_word(shape.first_number, false))?;
-    for _ in 0..shape.slots {
-        words.extend_from_slice(&slot)?;
-    }
-    Ok(words)
-}
-
 impl Board {
     /// The table with the writer's token.
     pub fn open(alloc: Global, shape: Shape) -> Result<(Board, Seat), AllocError>
@@ -110,7 +83,11 @@ impl Board {
         ensures board { IfOk result (λ opened. opened.0.shape ≡ shape) }
         ensures seat { IfOk result (λ opened. (opened.1.table_id ≡ opened.0.id) × (opened.1.me.0 ≡ opener shape)) }
     {
-        let words = lay(alloc, &shape)?;
+        let layout = Layout {
+            keys: shape.keys,
+            slots: shape.slots,
+        };
+        let words = opening_words(alloc, layout, shape.first_count, shape.first_number)?;
         let (table, seat) = Table::of_words(alloc, &words, &shape)?;
         Ok((Board { table, shape }, seat))
     }
@@ -257,12 +234,7 @@ impl Board {
         ensures { GoesOn self.now result seat.old seat.new }
     {
         let words = &self.table.shared;
-        let word = key_word(KeyParts {
-            ask: false,
-            filled: true,
-            slot,
-            arrivals: departed % COUNTS,
-        });
+        let word = naming(slot, departed);
         words.swap::<Goes>(seat, key as usize, word)
     }
 

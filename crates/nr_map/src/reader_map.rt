@@ -9,7 +9,7 @@ use crate::board::{Board, Seat};
 use crate::reader::Reader;
 use crate::writer::Writer;
 use nr_core::{MAX_READERS, MAX_SLOTS, Shape};
-use nr_model::{LAST_NUMBER, MAX_KEYS, OpenFault};
+use nr_model::{LAST_NUMBER, MAX_KEYS, OpenFault, is_bad_size};
 use std::alloc::{AllocError, Global};
 use std::marker::Model;
 
@@ -97,12 +97,6 @@ fn is_bad_shape(shape: &Shape) -> bool
         || is_bad_size(MAX_SLOTS, shape.slots)
         || is_bad_size(MAX_READERS, shape.readers)
         || shape.first_number > LAST_NUMBER
-}
-
-fn is_bad_size(limit: u32, size: u32) -> bool
-    ensures { IsTrue result ↔ IsBadSize limit size }
-{
-    size == 0 || size > limit
 }
 
 // A map of those sizes, with its tokens.
