@@ -1,4 +1,4 @@
--- The table at opening keeps the rule; its words are laid out slot by slot.
+-- The table at opening keeps the rule.
 use Rattle.std.proofs.Common.{Bool, List, [], ap, append-nil, append_assoc, arith, cond, false, get_or, ne_eqb, refl, replicate, subst, suc, sym, true, zero, ℕ, ◌++◌, ◌+◌, ◌<◌, ◌∙◌, ◌∷◌, ◌≡◌, ◌≤◌}
 use mathlib.Core.Option.{some, some-injective, some-ne-none}
 use lib.ListN.{get_elem?}
@@ -9,7 +9,6 @@ use Rattle.nr_core.proofs.Opening.{core_opens}
 use Rattle.nr_core.specs.Core.{AreNumbers, ShowsState}
 use Rattle.nr_core.specs.Roles.{is_by}
 use Rattle.nr_core.specs.Sizes.{IsShape}
-use Rattle.nr_words.specs.Opening.{repeated}
 use Rattle.nr_core.specs.Slots.{name_number, opening_words}
 use Rattle.nr_core.specs.declared.shape.Shape.{Shape}
 use Rattle.nr_marks.proofs.ListPlaces.{no_places}
@@ -51,8 +50,3 @@ opens_so shape fits = let view = opener shape in
 -- each key has the first number
 pub numbers_open : (shape : Shape) → IsShape shape → AreNumbers shape (map_after shape []) (replicate shape.keys shape.first_number)
 numbers_open shape fits = ((core_opens shape fits 0 (omega arith)).knows 0 (Writer (opening_desk shape)) refl).numbers
-
--- one block more
-pub repeated-more : {A : Type 0} (n : ℕ) (block : List A) → repeated n block ++ block ≡ repeated (n + 1) block
-repeated-more zero block = sym (append-nil block)
-repeated-more (suc n) block = append_assoc block (repeated n block) block ∙ ap (λ (l : List _). block ++ l) (repeated-more n block) ∙ ap (λ (k : ℕ). repeated k block) (let next : suc (n + 1) ≡ suc n + 1 = omega arith in next)
