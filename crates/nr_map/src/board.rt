@@ -234,7 +234,8 @@ impl Board {
         ensures { GoesOn self.now result seat.old seat.new }
     {
         let words = &self.table.shared;
-        words.swap::<Goes>(seat, key as usize, naming(slot, departed))
+        let word = naming(slot, departed);
+        words.swap::<Goes>(seat, key as usize, word)
     }
 
     /// The writer makes the key a hole, which keeps its number: the word as it was.

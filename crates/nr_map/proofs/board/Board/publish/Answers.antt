@@ -20,8 +20,8 @@ use Rattle.nr_map.specs.Rule.{Kept}
 use Rattle.nr_map.specs.Views.{View}
 use Rattle.nr_map.proofs.board.Board.publish.Goals as goal
 
-pub naming-requires : goal.naming-requires
-naming-requires c = let publishing = c.requires.writer in let room = subst (RoomAt c.args.self.now.shape publishing.desk) publishing.place publishing.writes.room.place in
+pub naming-word-requires : goal.naming-word-requires
+naming-word-requires c = let publishing = c.requires.writer in let room = subst (RoomAt c.args.self.now.shape publishing.desk) publishing.place publishing.writes.room.place in
     let shape = c.self.invariant.4 in omega (arith, room.0, shape.slots, ap (λ (t : Table). t.shape.slots) c.self.view_is)
 
 pub swap-requires : goal.swap-requires
