@@ -10,9 +10,11 @@ use nr_model::{Batch, Reply, RowSet};
 #[derive(Clone, Copy, Debug)]
 pub enum WriterCall {
     Find(u32),
+    /// The number is that of the request which the rows answer.
     Fill(u32, u64, RowSet),
     Update(u32, Batch),
     Evict(u32),
+    /// The key's request is taken back.
     Cancel(u32),
 }
 

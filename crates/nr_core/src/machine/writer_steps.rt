@@ -1,10 +1,9 @@
 //! The steps of the writer: each is one operation on one word.
 ghost use Rattle.std.specs.Prelude.{◌≡◌, ◌<◌, ◌≤◌, ◌*◌, ◌∷◌, ◌++◌, [], length};
-ghost use Rattle.nr_model.specs.declared.rows.TheConstants.{MAX_ROWS};
 ghost use Rattle.nr_core.specs.declared.places.Place.TheVariants.{Idle, Reading, Leaving, Withdrawing, Searching, Putting};
 ghost use Rattle.nr_core.specs.States.{Start, Go};
 ghost use Rattle.nr_core.specs.Machine.{next, moved, found_by, start_answer, go_answer};
-ghost use Rattle.nr_core.specs.Writer.{looked, decided, renewed, read_on, put_on, went, ended, moved_to};
+ghost use Rattle.nr_core.specs.Writer.{looked, fill_asked, cancel_asked, decided, renewed, read_on, put_on, went, ended, moved_to};
 ghost use Rattle.nr_core.specs.Slots.{bound_of};
 ghost use Rattle.nr_words.specs.KeyWords.{naming};
 ghost use Rattle.nr_core.specs.Laws.{IsGivenCall};
@@ -72,12 +71,10 @@ impl Machine {
             WriterCall::Fill(_, number, rows) => {
                 if found.filled {
                     self.end(Reply::Already)
-                } else if !found.ask {
-                    self.end(Reply::NotAsked)
-                } else if u64::from(found.slot) != number {
-                    self.end(Reply::Stale)
+                } else if found.ask {
+                    self.fill_asked(call, number, rows, u64::from(found.slot))
                 } else {
-                    self.settle(call, rows)
+                    self.end(Reply::NotAsked)
                 }
             }
             WriterCall::Update(_, _) => {
@@ -95,14 +92,38 @@ impl Machine {
                 }
             }
             WriterCall::Cancel(key) => {
-                if found.filled || !found.ask {
-                    self.end(Reply::Nothing)
-                } else if u64::from(found.slot) < LAST_NUMBER {
-                    self.go_to(Place::Withdrawing(key))
+                if found.ask && !found.filled {
+                    self.cancel_asked(key, u64::from(found.slot))
                 } else {
-                    self.end(Reply::Worn)
+                    self.end(Reply::Nothing)
                 }
             }
+        }
+    }
+
+    /// Where a fill goes whose key is asked with that number: it answers the request of its own
+    /// number alone.
+    fn fill_asked(&mut self, call: WriterCall, number: u64, rows: RowSet, asked: u64) -> Step
+        requires { length self.old.desk.retired ≤ self.old.shape.slots }
+        ensures answer { result ≡ (fill_asked self.old.shape self.old.desk call number rows asked).1 }
+        ensures new { self.new ≡ record self.old { desk = (fill_asked self.old.shape self.old.desk call number rows asked).0 } }
+    {
+        if asked == number {
+            self.settle(call, rows)
+        } else {
+            self.end(Reply::Stale)
+        }
+    }
+
+    /// Where a cancel goes whose key is asked with that number: the last one is not taken back.
+    fn cancel_asked(&mut self, key: u32, asked: u64) -> Step
+        ensures answer { result ≡ (cancel_asked self.old.desk key asked).1 }
+        ensures new { self.new ≡ record self.old { desk = (cancel_asked self.old.desk key asked).0 } }
+    {
+        if asked < LAST_NUMBER {
+            self.go_to(Place::Withdrawing(key))
+        } else {
+            self.end(Reply::Worn)
         }
     }
 
