@@ -1,7 +1,6 @@
 -- An opened schedule is the run of the events that its lines spell.
 use Rattle.std.proofs.Common.{ℕ, ◌≡◌, true, false, Bool, List, [], ◌∷◌, ◌++◌, length, Option, None, Some, Ok, Err, refl, sym, ◌∙◌, ap, arith}
 use Rattle.std.specs.Prelude.{fold, nat_le, if◌then◌else◌, option_map, option_and_then, codes}
-use Rattle.std.specs.List.{flat_map}
 use Rattle.std.proofs.lemmas.List.Sums.{fold-append}
 use borrow.Author.Tests.{leb-true}
 use Rattle.std.proofs.lemmas.Bool.Decides.{nat_tests}
@@ -14,18 +13,18 @@ use Rattle.nr_core.specs.Machine.{next}
 use Rattle.nr_core.specs.Laws.{AllGiven}
 use Rattle.nr_schedule.specs.declared.command.Command.{Command}
 use Rattle.nr_schedule.specs.declared.command.Command.TheVariants as commands
-use Rattle.nr_schedule.specs.Commands.{command, one_number, two_numbers, alone, filling, updating, by_writer}
+use Rattle.nr_schedule.specs.Commands.{command, one_number, two_numbers, alone, filling, filling_as, updating, by_writer}
 use Rattle.nr_text.specs.Grammar.{words, number, row, delta, each, set_of, batch_of}
 use Rattle.nr_text.specs.Opening.{opening, is_in_limits}
 use Rattle.nr_text.specs.declared.opening.Opening.{Opening}
 use Rattle.nr_core.specs.Sizes.{IsShape}
 use Rattle.nr_schedule.specs.Machine.{answer, answer_command}
-use Rattle.nr_schedule.specs.Opened.{opened, shape_of}
-use Rattle.nr_schedule.specs.ScheduleRuns.{fill_event, event_of, event_if, line_event, ScheduleRuns}
+use Rattle.nr_schedule.specs.Opened.{number_now, opened, shape_of}
+use Rattle.nr_schedule.specs.ScheduleRuns.{fill_event, event_of, event_if, line_event, events, ScheduleRuns}
 use Rattle.nr_lines.specs.Plain.{is_plain, or_bad}
 use Rattle.nr_lines.specs.Text.{after}
 
-command_steps : (state : machine.State) (tried : Option Command) → (answer_command (Some state) tried).1 ≡ Some (fold next state (event_if tried))
+command_steps : (state : machine.State) (tried : Option Command) → (answer_command (Some state) tried).1 ≡ Some (fold next state (event_if state tried))
 command_steps state None = refl
 command_steps state (Some (commands.Open opening)) = refl
 command_steps state (Some (commands.Arrive reader key)) = refl
@@ -35,107 +34,124 @@ command_steps state (Some (commands.Ask reader key)) = refl
 command_steps state (Some (commands.Find key)) = refl
 command_steps state (Some (commands.Fill key (Ok rows))) = refl
 command_steps state (Some (commands.Fill key (Err e))) = refl
+command_steps state (Some (commands.FillAs key number (Ok rows))) = refl
+command_steps state (Some (commands.FillAs key number (Err e))) = refl
 command_steps state (Some (commands.Update key batch)) = refl
 command_steps state (Some (commands.Evict key)) = refl
+command_steps state (Some (commands.Cancel key)) = refl
 command_steps state (Some commands.Go) = refl
 
-line_steps : (state : machine.State) (line : List ℕ) → (or_bad answer (Some state) line).1 ≡ Some (fold next state (line_event line))
+line_steps : (state : machine.State) (line : List ℕ) → (or_bad answer (Some state) line).1 ≡ Some (fold next state (line_event state line))
 line_steps state line =
-    elim (is_plain line) as (λ plain. (if plain then answer (Some state) line else (codes "bad", Some state)).1 ≡ Some (fold next state (if plain then event_if (command (words line)) else [])))
+    elim (is_plain line) as (λ plain. (if plain then answer (Some state) line else (codes "bad", Some state)).1 ≡ Some (fold next state (if plain then event_if state (command (words line)) else [])))
     [ true ↦ command_steps state (command (words line)) | false ↦ refl ]
 
-lines_run : (lines : List (List ℕ)) (state : machine.State) → after (or_bad answer) (Some state) lines ≡ Some (fold next state (flat_map line_event lines))
+lines_run : (lines : List (List ℕ)) (state : machine.State) → after (or_bad answer) (Some state) lines ≡ Some (fold next state (events state lines))
 lines_run [] state = refl
 lines_run (line ∷ more) state =
     rw (line_steps state line)
-    (lines_run more (fold next state (line_event line)) ∙ ap Some (sym (fold-append next state (line_event line) (flat_map line_event more))))
+    (lines_run more (fold next state (line_event state line)) ∙ ap Some (sym (fold-append next state (line_event state line) (events (fold next state (line_event state line)) more))))
 
 given_more : (bound : ℕ) (front back : List machine.Event) → AllGiven bound front → AllGiven bound back → AllGiven bound (front ++ back)
 given_more bound [] back front_given back_given = back_given
 given_more bound (event ∷ front) back (given, more) back_given = (given, given_more bound front back more back_given)
 
--- the events of a command, if there is one, bring row sets
-record Gives (tried : Option Command) : Type 0 where
-  sets : AllGiven MAX_ROWS (event_if tried)
-
-gives_none : Gives None
-gives_none = record { sets = tt }
-
-either_gives : (test : Bool) (first second : Option Command) → Gives first → Gives second → Gives (if test then first else second)
-either_gives true first second given other = given
-either_gives false first second given other = other
-
-mapped_gives : {A : Type 0} (made : A → Command) (spelled : Option A) → ((found : A) → AllGiven MAX_ROWS (event_of (made found))) → Gives (option_map made spelled)
-mapped_gives made None given = gives_none
-mapped_gives made (Some found) given = record { sets = given found }
-
-chained_gives : {A : Type 0} (made : A → Option Command) (spelled : Option A) → ((found : A) → Gives (made found)) → Gives (option_and_then made spelled)
-chained_gives made None given = gives_none
-chained_gives made (Some found) given = given found
-
-one_gives : (made : ℕ → Command) (line : List (List ℕ)) → ((n : ℕ) → AllGiven MAX_ROWS (event_of (made n))) → Gives (one_number made line)
-one_gives made [] given = gives_none
-one_gives made (word ∷ []) given = mapped_gives made (number word) given
-one_gives made (word ∷ second ∷ more) given = gives_none
-
-two_give : (made : ℕ → ℕ → Command) (line : List (List ℕ)) → ((n m : ℕ) → AllGiven MAX_ROWS (event_of (made n m))) → Gives (two_numbers made line)
-two_give made [] given = gives_none
-two_give made (first ∷ []) given = gives_none
-two_give made (first ∷ second ∷ []) given =
-    chained_gives (λ n. option_map (λ m. made n m) (number second)) (number first) (λ n. mapped_gives (made n) (number second) (given n))
-two_give made (first ∷ second ∷ third ∷ more) given = gives_none
-
-alone_gives : (made : Command) (line : List (List ℕ)) → AllGiven MAX_ROWS (event_of made) → Gives (alone made line)
-alone_gives made [] given = record { sets = given }
-alone_gives made (word ∷ more) given = gives_none
-
-set_given : (key : ℕ) (rows : List Row) (few : Bool) → nat_le (length rows) MAX_ROWS ≡ few
-    → AllGiven MAX_ROWS (fill_event key (if few then Ok (in_order rows) else Err (record {})))
-set_given key rows true few =
+set_given : (key number : ℕ) (rows : List Row) (few : Bool) → nat_le (length rows) MAX_ROWS ≡ few
+    → AllGiven MAX_ROWS (fill_event key number (if few then Ok (in_order rows) else Err (record {})))
+set_given key number rows true few =
     let ordered = order_keeps_rows_lem rows in
     ((ordered.0, omega (arith, ordered.1, leb-true _ _ few)), tt)
-set_given key rows false few = tt
+set_given key number rows false few = tt
 
-filling_gives : (line : List (List ℕ)) → Gives (filling line)
-filling_gives [] = gives_none
-filling_gives (word ∷ more) =
-    chained_gives (λ key. option_map (λ rows. commands.Fill key (set_of rows)) (each row more)) (number word)
-    (λ key. mapped_gives (λ rows. commands.Fill key (set_of rows)) (each row more) (λ rows. set_given key rows (nat_le (length rows) MAX_ROWS) refl))
+module _ (state : machine.State) where
+  -- the events of a command, if there is one, bring row sets
+  record Gives (tried : Option Command) : Type 0 where
+    sets : AllGiven MAX_ROWS (event_if state tried)
 
-updating_gives : (line : List (List ℕ)) → Gives (updating line)
-updating_gives [] = gives_none
-updating_gives (word ∷ more) =
-    chained_gives (λ key. option_map (λ batch. commands.Update key batch) (option_and_then batch_of (each delta more))) (number word)
-    (λ key. mapped_gives (λ batch. commands.Update key batch) (option_and_then batch_of (each delta more)) (λ batch. (tt, tt)))
+  gives_none : Gives None
+  gives_none = record { sets = tt }
 
-writer_gives : (line : List (List ℕ)) → Gives (by_writer line)
-writer_gives [] = gives_none
-writer_gives (name ∷ more) =
-    either_gives _ _ _ (one_gives commands.Find more (λ n. (tt, tt)))
-    (either_gives _ _ _ (filling_gives more)
-    (either_gives _ _ _ (updating_gives more) (either_gives _ _ _ (one_gives commands.Evict more (λ n. (tt, tt))) gives_none)))
+  either_gives : (test : Bool) (first second : Option Command) → Gives first → Gives second → Gives (if test then first else second)
+  either_gives true first second given other = given
+  either_gives false first second given other = other
 
-command_gives : (line : List (List ℕ)) → Gives (command line)
-command_gives [] = gives_none
-command_gives (name ∷ more) =
-    either_gives _ _ _ (mapped_gives commands.Open (opening more) (λ _. tt))
-    (either_gives _ _ _ (two_give commands.Arrive more (λ n m. (tt, tt)))
-    (either_gives _ _ _ (two_give commands.Read more (λ n m. (tt, tt)))
-    (either_gives _ _ _ (one_gives commands.Depart more (λ n. (tt, tt)))
-    (either_gives _ _ _ (two_give commands.Ask more (λ n m. (tt, tt)))
-    (either_gives _ _ _ (writer_gives more) (either_gives _ _ _ (alone_gives commands.Go more (tt, tt)) gives_none))))))
+  mapped_gives : {A : Type 0} (made : A → Command) (spelled : Option A) → ((found : A) → AllGiven MAX_ROWS (event_of state (made found))) → Gives (option_map made spelled)
+  mapped_gives made None given = gives_none
+  mapped_gives made (Some found) given = record { sets = given found }
 
-line_gives : (line : List ℕ) (plain : Bool) → AllGiven MAX_ROWS (if plain then event_if (command (words line)) else [])
-line_gives line true = (command_gives (words line)).sets
-line_gives line false = tt
+  chained_gives : {A : Type 0} (made : A → Option Command) (spelled : Option A) → ((found : A) → Gives (made found)) → Gives (option_and_then made spelled)
+  chained_gives made None given = gives_none
+  chained_gives made (Some found) given = given found
 
-lines_give : (lines : List (List ℕ)) → AllGiven MAX_ROWS (flat_map line_event lines)
-lines_give [] = tt
-lines_give (line ∷ more) = given_more MAX_ROWS (line_event line) (flat_map line_event more) (line_gives line (is_plain line)) (lines_give more)
+  one_gives : (made : ℕ → Command) (line : List (List ℕ)) → ((n : ℕ) → AllGiven MAX_ROWS (event_of state (made n))) → Gives (one_number made line)
+  one_gives made [] given = gives_none
+  one_gives made (word ∷ []) given = mapped_gives made (number word) given
+  one_gives made (word ∷ second ∷ more) given = gives_none
+
+  two_give : (made : ℕ → ℕ → Command) (line : List (List ℕ)) → ((n m : ℕ) → AllGiven MAX_ROWS (event_of state (made n m))) → Gives (two_numbers made line)
+  two_give made [] given = gives_none
+  two_give made (first ∷ []) given = gives_none
+  two_give made (first ∷ second ∷ []) given =
+      chained_gives (λ n. option_map (λ m. made n m) (number second)) (number first) (λ n. mapped_gives (made n) (number second) (given n))
+  two_give made (first ∷ second ∷ third ∷ more) given = gives_none
+
+  alone_gives : (made : Command) (line : List (List ℕ)) → AllGiven MAX_ROWS (event_of state made) → Gives (alone made line)
+  alone_gives made [] given = record { sets = given }
+  alone_gives made (word ∷ more) given = gives_none
+
+  filling_gives : (line : List (List ℕ)) → Gives (filling line)
+  filling_gives [] = gives_none
+  filling_gives (word ∷ more) =
+      chained_gives (λ key. option_map (λ rows. commands.Fill key (set_of rows)) (each row more)) (number word)
+      (λ key. mapped_gives (λ rows. commands.Fill key (set_of rows)) (each row more) (λ rows. set_given key (number_now state key) rows (nat_le (length rows) MAX_ROWS) refl))
+
+  filling_as_gives : (line : List (List ℕ)) → Gives (filling_as line)
+  filling_as_gives [] = gives_none
+  filling_as_gives (word ∷ []) = gives_none
+  filling_as_gives (word ∷ spelled ∷ more) =
+      chained_gives (λ key. option_and_then (λ n. option_map (λ rows. commands.FillAs key n (set_of rows)) (each row more)) (number spelled)) (number word)
+      (λ key. chained_gives (λ n. option_map (λ rows. commands.FillAs key n (set_of rows)) (each row more)) (number spelled)
+      (λ n. mapped_gives (λ rows. commands.FillAs key n (set_of rows)) (each row more) (λ rows. set_given key n rows (nat_le (length rows) MAX_ROWS) refl)))
+
+  updating_gives : (line : List (List ℕ)) → Gives (updating line)
+  updating_gives [] = gives_none
+  updating_gives (word ∷ more) =
+      chained_gives (λ key. option_map (λ batch. commands.Update key batch) (option_and_then batch_of (each delta more))) (number word)
+      (λ key. mapped_gives (λ batch. commands.Update key batch) (option_and_then batch_of (each delta more)) (λ batch. (tt, tt)))
+
+  writer_gives : (line : List (List ℕ)) → Gives (by_writer line)
+  writer_gives [] = gives_none
+  writer_gives (name ∷ more) =
+      either_gives _ _ _ (one_gives commands.Find more (λ n. (tt, tt)))
+      (either_gives _ _ _ (filling_gives more)
+      (either_gives _ _ _ (filling_as_gives more)
+      (either_gives _ _ _ (updating_gives more)
+      (either_gives _ _ _ (one_gives commands.Evict more (λ n. (tt, tt)))
+      (either_gives _ _ _ (one_gives commands.Cancel more (λ n. (tt, tt))) gives_none)))))
+
+  command_gives : (line : List (List ℕ)) → Gives (command line)
+  command_gives [] = gives_none
+  command_gives (name ∷ more) =
+      either_gives _ _ _ (mapped_gives commands.Open (opening more) (λ _. tt))
+      (either_gives _ _ _ (two_give commands.Arrive more (λ n m. (tt, tt)))
+      (either_gives _ _ _ (two_give commands.Read more (λ n m. (tt, tt)))
+      (either_gives _ _ _ (one_gives commands.Depart more (λ n. (tt, tt)))
+      (either_gives _ _ _ (two_give commands.Ask more (λ n m. (tt, tt)))
+      (either_gives _ _ _ (writer_gives more) (either_gives _ _ _ (alone_gives commands.Go more (tt, tt)) gives_none))))))
+
+  line_gives : (line : List ℕ) (plain : Bool) → AllGiven MAX_ROWS (if plain then event_if state (command (words line)) else [])
+  line_gives line true = (command_gives (words line)).sets
+  line_gives line false = tt
+
+lines_give : (lines : List (List ℕ)) (state : machine.State) → AllGiven MAX_ROWS (events state lines)
+lines_give [] state = tt
+lines_give (line ∷ more) state =
+    let after_line = fold next state (line_event state line) in
+    given_more MAX_ROWS (line_event state line) (events after_line more) (line_gives state line (is_plain line)) (lines_give more after_line)
 
 -- sizes within their limits are a map's
 is_shape : (opening : Opening) → is_in_limits opening ≡ true → IsShape (shape_of opening)
-is_shape opening limits = record { bound = omega arith; slots = grind (arith, nat_tests); readers = grind (arith, nat_tests) }
+is_shape opening limits = record { bound = omega arith; slots = grind (arith, nat_tests); readers = grind (arith, nat_tests); number = grind (arith, nat_tests) }
 
 pub schedule_runs_lem : ScheduleRuns
-schedule_runs_lem opening lines limits = (is_shape opening limits, lines_give lines, lines_run lines (opened opening))
+schedule_runs_lem opening lines limits = (is_shape opening limits, lines_give lines (opened opening), lines_run lines (opened opening))

@@ -2,7 +2,7 @@
 use Rattle.std.specs.Prelude.{ℕ, if◌then◌else◌, List, [], ◌∷◌, Option, Some, None, codes, option_and_then, option_map}
 use Rattle.std.specs.Str.{bytes_eq}
 use Rattle.nr_schedule.specs.declared.command.Command.{Command}
-use Rattle.nr_schedule.specs.declared.command.Command.TheVariants.{Open, Arrive, Read, Depart, Ask, Find, Fill, Update, Evict, Go}
+use Rattle.nr_schedule.specs.declared.command.Command.TheVariants.{Open, Arrive, Read, Depart, Ask, Find, Fill, FillAs, Update, Evict, Cancel, Go}
 use Rattle.nr_text.specs.Grammar.{number, row, delta, each, set_of, batch_of}
 use Rattle.nr_text.specs.Opening.{opening}
 
@@ -20,6 +20,12 @@ abbrev pub filling : List (List ℕ) → Option Command
 filling [] = None
 filling (word ∷ more) = option_and_then (λ key. option_map (λ rows. Fill key (set_of rows)) (each row more)) (number word)
 
+-- a key, the number of its request, and rows
+abbrev pub filling_as : List (List ℕ) → Option Command
+filling_as (word ∷ spelled ∷ more) =
+    option_and_then (λ key. option_and_then (λ n. option_map (λ rows. FillAs key n (set_of rows)) (each row more)) (number spelled)) (number word)
+filling_as other = None
+
 -- a key and signed rows
 abbrev pub updating : List (List ℕ) → Option Command
 updating [] = None
@@ -31,8 +37,10 @@ by_writer [] = None
 by_writer (name ∷ more) =
     if bytes_eq name (codes "find") then one_number Find more
     else if bytes_eq name (codes "fill") then filling more
+    else if bytes_eq name (codes "fill-as") then filling_as more
     else if bytes_eq name (codes "update") then updating more
     else if bytes_eq name (codes "evict") then one_number Evict more
+    else if bytes_eq name (codes "cancel") then one_number Cancel more
     else None
 
 -- the name alone

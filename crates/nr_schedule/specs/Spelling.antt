@@ -21,7 +21,7 @@ spelled_arrived arrived.Held = codes "held"
 spelled_arrived arrived.Hole = codes "hole"
 
 abbrev pub spelled_asked : AskReply → List ℕ
-spelled_asked asked.Send = codes "send"
+spelled_asked (asked.Send number) = codes "send"
 spelled_asked asked.Waiting = codes "waiting"
 spelled_asked asked.Filled = codes "filled"
 

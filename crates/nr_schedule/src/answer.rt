@@ -69,7 +69,7 @@ impl fmt::Display for StepAnswer {
             StepAnswer::Arrived(Arrived::Held) => f.write_str("held"),
             StepAnswer::Arrived(Arrived::Hole) => f.write_str("hole"),
             StepAnswer::Word(word) => write!(f, "{word}"),
-            StepAnswer::Asked(AskReply::Send) => f.write_str("send"),
+            StepAnswer::Asked(AskReply::Send(_)) => f.write_str("send"),
             StepAnswer::Asked(AskReply::Waiting) => f.write_str("waiting"),
             StepAnswer::Asked(AskReply::Filled) => f.write_str("filled"),
             StepAnswer::Writer(Step::Going) => f.write_str("-"),

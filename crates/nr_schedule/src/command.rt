@@ -27,7 +27,7 @@ pub(crate) enum Command {
         reader: u64,
         key: u64,
     },
-    /// This and the next three begin a call of the writer.
+    /// This and the next five begin a call of the writer.
     Find {
         key: u64,
     },
@@ -35,11 +35,19 @@ pub(crate) enum Command {
         key: u64,
         rows: Result<RowSet, TooMany>,
     },
+    FillAs {
+        key: u64,
+        number: u64,
+        rows: Result<RowSet, TooMany>,
+    },
     Update {
         key: u64,
         batch: Batch,
     },
     Evict {
+        key: u64,
+    },
+    Cancel {
         key: u64,
     },
     Go,
@@ -93,6 +101,14 @@ fn by_writer(mut words: Words<'_>) -> Option<Command>
         let rows = set(words)?;
         return Some(Command::Fill { key, rows });
     }
+    if name == b"fill-as".as_slice() {
+        let word = words.next()?;
+        let spelled = words.next()?;
+        let key = number(word)?;
+        let number = number(spelled)?;
+        let rows = set(words)?;
+        return Some(Command::FillAs { key, number, rows });
+    }
     if name == b"update".as_slice() {
         let key = number(words.next()?)?;
         let batch = batch(words)?;
@@ -101,6 +117,10 @@ fn by_writer(mut words: Words<'_>) -> Option<Command>
     if name == b"evict".as_slice() {
         let key = one_number(words)?;
         return Some(Command::Evict { key });
+    }
+    if name == b"cancel".as_slice() {
+        let key = one_number(words)?;
+        return Some(Command::Cancel { key });
     }
     None
 }

@@ -1,14 +1,15 @@
 //! A schedule's machine once it is opened: the step machine, for numbers of any size.
-ghost use Rattle.std.specs.Prelude.{◌≡◌, true, false, IfOk, IfErr};
+ghost use Rattle.std.specs.Prelude.{◌≡◌, true, false, IfOk, IfErr, MatchOption};
 ghost use Rattle.nr_core.specs.Machine.{next, arrive_answer, read_answer, depart_answer, ask_answer};
 ghost use Rattle.nr_core.specs.Refusals.{has_reader, has_key};
 ghost use Rattle.nr_text.specs.Opening.{is_in_limits};
-ghost use Rattle.nr_schedule.specs.Opened.{answer_opened, start, opened};
+ghost use Rattle.nr_schedule.specs.Opened.{answer_opened, number_now, start, start_fill, opened};
 
 use crate::answer::{StepAnswer, StepRefusal};
 use crate::command::Command;
-use nr_core::{Arrived, AskReply, Core, Refusal, WriterCall};
+use nr_core::{Arrived, AskReply, Core, Refusal, Shape, WriterCall};
 use nr_lines::RunFault;
+use nr_model::{RowSet, TooMany};
 use nr_text::Opening;
 use std::alloc::Global;
 use std::marker::Model;
@@ -17,17 +18,19 @@ use std::marker::Model;
 #[derive(Drop)]
 pub(crate) struct Opened {
     core: Core,
+    keys: u32,
 }
 
 impl Model for Opened {
     ghost use Rattle.nr_core.specs.States.{State};
+    ghost use Rattle.std.specs.Prelude.{◌≡◌};
     ghost use Rattle.nr_schedule.specs.Opened.{IsLimited};
 
     ghost Value = { State };
 
     ghost view = { λ schedule. schedule.core };
 
-    ghost invariant = { λ schedule. IsLimited schedule.core.shape };
+    ghost invariant = { λ schedule. (schedule.keys ≡ schedule.core.shape.keys) × IsLimited schedule.core.shape };
 }
 
 impl Opened {
@@ -39,15 +42,16 @@ impl Opened {
         ensures ok { IfOk result (λ schedule. schedule ≡ opened opening.now) }
         ensures fault { IfErr result (λ fault. fault ≡ RunFault.Memory) }
     {
-        let core = Core::open(
-            alloc,
-            opening.keys as u32,
-            opening.slots as u32,
-            opening.readers as u32,
-            opening.first_count,
-        );
-        match core {
-            Ok(core) => Ok(Opened { core }),
+        let keys = opening.keys as u32;
+        let shape = Shape {
+            keys,
+            slots: opening.slots as u32,
+            readers: opening.readers as u32,
+            first_count: opening.first_count,
+            first_number: opening.first_number,
+        };
+        match Core::open_with(alloc, &shape) {
+            Ok(core) => Ok(Opened { core, keys }),
             Err(_) => Err(RunFault::Memory),
         }
     }
@@ -78,11 +82,8 @@ impl Opened {
                 let key = self.small(*key)?;
                 self.start(&WriterCall::Find(key))
             }
-            Command::Fill { key, rows } => {
-                let rows = rows.map_err(|_| StepRefusal::TooMany)?;
-                let key = self.small(*key)?;
-                self.start(&WriterCall::Fill(key, rows))
-            }
+            Command::Fill { key, rows } => self.fill(*key, None, rows),
+            Command::FillAs { key, number, rows } => self.fill(*key, Some(*number), rows),
             Command::Update { key, batch } => {
                 let key = self.small(*key)?;
                 self.start(&WriterCall::Update(key, *batch))
@@ -90,6 +91,10 @@ impl Opened {
             Command::Evict { key } => {
                 let key = self.small(*key)?;
                 self.start(&WriterCall::Evict(key))
+            }
+            Command::Cancel { key } => {
+                let key = self.small(*key)?;
+                self.start(&WriterCall::Cancel(key))
             }
             Command::Go => {
                 let step = self.core.go()?;
@@ -132,11 +137,42 @@ impl Opened {
         self.core.ask(reader, key)
     }
 
+    /// A fill that answers the request of that number, or else of the key's number as it stands.
+    fn fill(
+        &mut self,
+        key: u64,
+        number: Option<u64>,
+        rows: &Result<RowSet, TooMany>,
+    ) -> Result<StepAnswer, StepRefusal>
+        ensures { MatchOption number
+            (start_fill self.old key (number_now self.old key) rows.now ≡ (result, self.new))
+            (λ number. start_fill self.old key number rows.now ≡ (result, self.new)) }
+    {
+        let rows = rows.map_err(|_| StepRefusal::TooMany)?;
+        let key = self.small(key)?;
+        let number = match number {
+            Some(number) => number,
+            None => self.number(key),
+        };
+        self.start(&WriterCall::Fill(key, number, rows))
+    }
+
     fn start(&mut self, call: &WriterCall) -> Result<StepAnswer, StepRefusal>
         ensures { start self.old call.now ≡ (result, self.new) }
     {
         let step = self.core.start(call)?;
         Ok(StepAnswer::Writer(step))
+    }
+
+    /// The number of a key's requests as it stands, and 0 of a key that isn't there.
+    fn number(&self, key: u32) -> u64
+        ensures { result ≡ number_now self.now key }
+    {
+        if key < self.keys {
+            self.core.number(key)
+        } else {
+            0
+        }
     }
 
     /// The number of a reader or key, unless it is too large for any that the machine has.

@@ -1,6 +1,6 @@
 -- Each command keeps the counts of an opened script right: a fill, an update, an eviction, any other call, a pin and its end.
 use Rattle.std.proofs.Common.{◌≡◌, ◌≢◌, ℕ, zero, suc, ◌+◌, ◌-◌, ◌<◌, ◌≤◌, Bool, true, false, List, [], ◌∷◌, length, set, get_or, replicate, Option, None, Some, Result, Ok, Err, ⊎_elim, refl, sym, ap, subst, ◌∙◌, arith, length-set}
-use Rattle.std.specs.Prelude.{◌==◌, ◌&&◌, nat_lt}
+use Rattle.std.specs.Prelude.{◌==◌, ◌&&◌, nat_lt, if◌then◌else◌}
 use Rattle.std.proofs.lemmas.Bool.{cases_eq, cases_lt, lt-ltb, le-ltb, eqb-true, eqb-false}
 use Rattle.std.proofs.lemmas.List.{set-get_or, get_or-set_same, get_or-set_other, length-replicate}
 use Rattle.std.proofs.lemmas.Option.{slice_get_read, get_or_from_slice_get}
@@ -9,7 +9,7 @@ use Rattle.nr_model.specs.declared.rows.Row.{Row}
 use Rattle.nr_model.specs.declared.batches.ApplyFault.{ApplyFault}
 use Rattle.nr_model.specs.declared.batches.ApplyFault.TheVariants as fault
 use Rattle.nr_model.specs.declared.calls.Call.{Call}
-use Rattle.nr_model.specs.declared.calls.Call.TheVariants.{Find, Ask, Fill, Update, Evict}
+use Rattle.nr_model.specs.declared.calls.Call.TheVariants.{Find, Ask, Fill, Update, Evict, Cancel}
 use Rattle.nr_model.specs.declared.calls.Reply.{Reply}
 use Rattle.nr_model.specs.declared.calls.Reply.TheVariants as reply
 use Rattle.nr_model.specs.declared.states.KeyState.{KeyState}
@@ -17,7 +17,7 @@ use Rattle.nr_model.specs.declared.states.KeyState.TheVariants.{Hole, Asked, Row
 use Rattle.nr_model.specs.declared.rows.TheConstants.{MAX_ROWS}
 use Rattle.nr_model.specs.declared.seq_map.TheConstants.{MAX_KEYS}
 use Rattle.nr_model.specs.Batches.{applied}
-use Rattle.nr_model.specs.Maps.{PartialMap, opening, key_count, key_of, state_of, reply_at, state_after, reply_to, next, filled_count, is_filled, applied_reply}
+use Rattle.nr_model.specs.Maps.{PartialMap, opening, key_count, key_of, state_of, reply_at, state_after, reply_to, next, filled_count, is_filled, last_number, applied_reply}
 use Rattle.nr_model.proofs.HistoryLemmas.{one, state_of-next_same, state_of-next_other}
 use Rattle.nr_script.specs.declared.keys.Keys.{Keys}
 use Rattle.nr_script.specs.declared.pin.Pin.{Pin}
@@ -38,15 +38,18 @@ same_after reply.Done was is not_done not_evicted after = absurd (not_done refl)
 same_after reply.Evicted was is not_done not_evicted after = absurd (not_evicted refl)
 same_after (reply.Rows rows) was is not_done not_evicted after = after
 same_after reply.Hole was is not_done not_evicted after = after
-same_after reply.Send was is not_done not_evicted after = after
+same_after (reply.Send n) was is not_done not_evicted after = after
 same_after reply.Waiting was is not_done not_evicted after = after
 same_after reply.Filled was is not_done not_evicted after = after
 same_after reply.NotAsked was is not_done not_evicted after = after
+same_after reply.Stale was is not_done not_evicted after = after
 same_after reply.Already was is not_done not_evicted after = after
 same_after reply.Dropped was is not_done not_evicted after = after
 same_after reply.NoRow was is not_done not_evicted after = after
 same_after reply.TooMany was is not_done not_evicted after = after
 same_after reply.Nothing was is not_done not_evicted after = after
+same_after reply.Cancelled was is not_done not_evicted after = after
+same_after reply.Worn was is not_done not_evicted after = after
 
 after_update : (left : Result (List Row) ApplyFault) → FilledAfter (applied_reply left) true true
 after_update (Ok rows) = refl
@@ -54,21 +57,26 @@ after_update (Err fault.NoRow) = refl
 after_update (Err fault.TooMany) = refl
 
 filled_after : (bound : ℕ) (call : Call) (state : KeyState) → FilledAfter (reply_at bound call state) (is_filled state) (is_filled (state_after bound call state))
-filled_after bound (Find key) Hole = refl
-filled_after bound (Find key) Asked = refl
-filled_after bound (Find key) (Rows rows) = refl
-filled_after bound (Ask key) Hole = refl
-filled_after bound (Ask key) Asked = refl
-filled_after bound (Ask key) (Rows rows) = refl
-filled_after bound (Fill key new) Hole = refl
-filled_after bound (Fill key new) Asked = refl
-filled_after bound (Fill key new) (Rows rows) = refl
-filled_after bound (Update key batch) Hole = refl
-filled_after bound (Update key batch) Asked = refl
-filled_after bound (Update key batch) (Rows rows) = after_update (applied bound rows batch)
-filled_after bound (Evict key) Hole = refl
-filled_after bound (Evict key) Asked = refl
-filled_after bound (Evict key) (Rows rows) = (refl, refl)
+filled_after bound (Find key) (Hole n) = refl
+filled_after bound (Find key) (Asked n) = refl
+filled_after bound (Find key) (Rows n rows) = refl
+filled_after bound (Ask key) (Hole n) = refl
+filled_after bound (Ask key) (Asked n) = refl
+filled_after bound (Ask key) (Rows n rows) = refl
+filled_after bound (Fill key number new) (Hole n) = refl
+filled_after bound (Fill key number new) (Asked n) =
+    elim (n == number) as (λ same. FilledAfter (if same then reply.Done else reply.Stale) false (is_filled (if same then Rows n new else Asked n))) [ true ↦ refl | false ↦ refl ]
+filled_after bound (Fill key number new) (Rows n rows) = refl
+filled_after bound (Update key batch) (Hole n) = refl
+filled_after bound (Update key batch) (Asked n) = refl
+filled_after bound (Update key batch) (Rows n rows) = after_update (applied bound rows batch)
+filled_after bound (Evict key) (Hole n) = refl
+filled_after bound (Evict key) (Asked n) = refl
+filled_after bound (Evict key) (Rows n rows) = (refl, refl)
+filled_after bound (Cancel key) (Hole n) = refl
+filled_after bound (Cancel key) (Asked n) =
+    elim (nat_lt n last_number) as (λ more. FilledAfter (if more then reply.Cancelled else reply.Worn) false (is_filled (if more then Hole (n + 1) else Asked n))) [ true ↦ refl | false ↦ refl ]
+filled_after bound (Cancel key) (Rows n rows) = refl
 
 abbrev pub was_filled : PartialMap → Call → Bool
 was_filled map call = is_filled (state_of map (key_of call))
@@ -98,7 +106,7 @@ get_or_within (p ∷ pins) (suc reader) pin held = let more = get_or_within pins
 -- a filled key's put number is among those of the keys
 pub has_put : (map : PartialMap) (puts : List ℕ) (key put : ℕ) → length puts ≡ key_count map → key < key_count map → HasPut map puts key put → 0 < count_of (keyed map.states puts) put
 has_put map puts key put same within has =
-    let moved = keyed-set map.states puts key Hole Hole 0 put same within in
+    let moved = keyed-set map.states puts key (Hole 0) (Hole 0) 0 put same within in
     let here : own (state_of map key) (get_or puts key 0) put ≡ 1 = own_filled (state_of map key) (get_or puts key 0) put has.filled ∙ ap (λ n. one (n == put)) has.number ∙ one_same put in
     omega (arith, moved, here)
 
@@ -141,10 +149,10 @@ module _ (map : PartialMap) (puts : List ℕ) (put_count : ℕ) (pins : List (Op
 
     moved : (number put : ℕ) → count_of (numbers_after number) put + own (state_of map (key_of call)) put_at put
         ≡ count_of numbers put + own (state_after map.bound call (state_of map (key_of call))) number put
-    moved number put = keyed-set map.states puts (key_of call) (state_after map.bound call (state_of map (key_of call))) Hole number put counted.a_put_each within
+    moved number put = keyed-set map.states puts (key_of call) (state_after map.bound call (state_of map (key_of call))) (Hole 0) number put counted.a_put_each within
 
     filled_moved : filled_count (next map call) + one (was_filled map call) ≡ filled_count map + one (is_filled_after map call)
-    filled_moved = sum_by-set (λ s. one (is_filled s)) map.states (key_of call) (state_after map.bound call (state_of map (key_of call))) Hole within
+    filled_moved = sum_by-set (λ s. one (is_filled s)) map.states (key_of call) (state_after map.bound call (state_of map (key_of call))) (Hole 0) within
 
     keys_stay : key_count (next map call) ≡ key_count map
     keys_stay = length-set map.states (key_of call) (state_after map.bound call (state_of map (key_of call)))
@@ -403,10 +411,10 @@ module _ (map : PartialMap) (puts : List ℕ) (put_count : ℕ) (pins : List (Op
     pub some_end : reader < length pins → one_if_none (count_of (pinned (set pins reader None)) pin.put + count_of numbers pin.put) ≤ stray
     some_end within = omega (arith, counted.stray_is, strays_unpin numbers pins reader pin within held)
 
-keyed-holes : (keys : ℕ) (puts : List ℕ) → keyed (replicate keys Hole) puts ≡ []
-keyed-holes zero puts = refl
-keyed-holes (suc keys) [] = refl
-keyed-holes (suc keys) (put ∷ puts) = keyed-holes keys puts
+keyed-holes : (keys number : ℕ) (puts : List ℕ) → keyed (replicate keys (Hole number)) puts ≡ []
+keyed-holes zero number puts = refl
+keyed-holes (suc keys) number [] = refl
+keyed-holes (suc keys) number (put ∷ puts) = keyed-holes keys number puts
 
 pinned-none : (readers : ℕ) → pinned (replicate readers None) ≡ []
 pinned-none zero = refl
@@ -417,21 +425,21 @@ none_held zero reader = refl
 none_held (suc readers) zero = refl
 none_held (suc readers) (suc reader) = none_held readers reader
 
-filled-holes : (keys : ℕ) → filled_count (opening keys 0) ≡ 0
-filled-holes zero = refl
-filled-holes (suc keys) = filled-holes keys
+filled-holes : (keys number : ℕ) → filled_count (opening keys 0 number) ≡ 0
+filled-holes zero number = refl
+filled-holes (suc keys) number = filled-holes keys number
 
 -- a script as it is opened
-pub counted_opening : (keys readers : ℕ) → keys ≤ MAX_KEYS → readers ≤ MAX_READERS → IsCounted (opening keys MAX_ROWS) (replicate keys 0) 0 (replicate readers None) 0 0
-counted_opening keys readers few_keys few_readers =
-    let no_keys = keyed-holes keys (replicate keys 0) in
+pub counted_opening : (keys readers number : ℕ) → keys ≤ MAX_KEYS → readers ≤ MAX_READERS → IsCounted (opening keys MAX_ROWS number) (replicate keys 0) 0 (replicate readers None) 0 0
+counted_opening keys readers number few_keys few_readers =
+    let no_keys = keyed-holes keys number (replicate keys 0) in
     let no_pins = pinned-none readers in
     record {
       rows_bound = refl;
-      few_keys = omega (arith, few_keys, length-replicate keys Hole);
+      few_keys = omega (arith, few_keys, length-replicate keys (Hole number));
       few_readers = omega (arith, few_readers, length-replicate {A = Option Pin} readers None);
-      a_put_each = length-replicate keys 0 ∙ sym (length-replicate keys Hole);
-      filled_is = sym (filled-holes keys);
+      a_put_each = length-replicate keys 0 ∙ sym (length-replicate keys (Hole number));
+      filled_is = sym (filled-holes keys number);
       stray_is = rw (no_keys, no_pins) refl;
       once = λ put. rw no_keys (omega arith);
       fresh = λ put above. rw (no_keys, no_pins) refl;

@@ -10,7 +10,7 @@ use Rattle.nr_model.specs.declared.calls.Call.{Call}
 use Rattle.nr_model.specs.declared.calls.Call.TheVariants as calls
 use Rattle.nr_model.specs.declared.calls.Reply.{Reply}
 use Rattle.nr_model.specs.declared.calls.Reply.TheVariants as reply
-use Rattle.nr_model.specs.Maps.{PartialMap, opening, key_count, key_of, state_of, reply_to, next, filled_count}
+use Rattle.nr_model.specs.Maps.{PartialMap, opening, key_count, key_of, state_of, number_of, reply_to, next, filled_count}
 use Rattle.nr_model.specs.Histories.{is_done}
 use Rattle.nr_names.specs.declared.faults.NameFault.{NameFault}
 use Rattle.nr_names.specs.declared.faults.NameFault.TheVariants as names
@@ -20,7 +20,7 @@ use Rattle.nr_script.specs.declared.keys.Keys.{Keys}
 use Rattle.nr_script.specs.declared.keys.Keys.TheVariants as kinds
 use Rattle.nr_script.specs.declared.pin.Pin.{Pin}
 use Rattle.nr_script.specs.declared.command.Command.{Command}
-use Rattle.nr_script.specs.declared.command.Command.TheVariants.{Open, Find, Ask, Fill, Update, Evict, Look, Pin as PinKey, Show, Unpin}
+use Rattle.nr_script.specs.declared.command.Command.TheVariants.{Open, Find, Ask, Fill, FillAs, Update, Evict, Cancel, Look, Pin as PinKey, Show, Unpin}
 use Rattle.nr_script.specs.declared.answer.Answer.{Answer}
 use Rattle.nr_script.specs.declared.answer.Answer.TheVariants as answers
 use Rattle.nr_script.specs.declared.answer.Refusal.{Refusal}
@@ -154,20 +154,23 @@ pins_after script reader pin = record script { pins = slice_set script.pins (rea
 
 -- a reader pins the set of a key, if the key has one
 abbrev pub answer_pin : Opened → ℕ → ℕ → KeyState → Outcome
-answer_pin script reader key states.Hole = (Ok (answers.Reply reply.Hole), script)
-answer_pin script reader key states.Asked = (Ok (answers.Reply reply.Hole), script)
-answer_pin script reader key (states.Rows rows) =
+answer_pin script reader key (states.Hole n) = (Ok (answers.Reply reply.Hole), script)
+answer_pin script reader key (states.Asked n) = (Ok (answers.Reply reply.Hole), script)
+answer_pin script reader key (states.Rows n rows) =
     (Ok answers.Ok, pins_after script reader (Some (record { key = key; rows = rows; put = slice_index script.puts key })))
 
--- each command of an opened script
+-- each command of an opened script; a fill that names no number has that of its key as it stands
 abbrev pub answer_opened : Opened → Command → Outcome
 answer_opened script (Open named sizes) = (Err refusals.Bad, script)
 answer_opened script (Find reader word) = with_found (found_by_reader script reader word) (λ key after. without_pin after reader (answer_call after (calls.Find key)))
 answer_opened script (Ask reader word) = with_found (found_by_reader script reader word) (λ key after. without_pin after reader (answer_call after (calls.Ask key)))
 answer_opened script (Fill word set) =
-    with_found (found_key script word) (λ key after. with_found (found_set set, after) (λ rows fits. answer_call after (calls.Fill key rows)))
+    with_found (found_key script word) (λ key after. with_found (found_set set, after) (λ rows fits. answer_call after (calls.Fill key (number_of (state_of after.map key)) rows)))
+answer_opened script (FillAs word number set) =
+    with_found (found_key script word) (λ key after. with_found (found_set set, after) (λ rows fits. answer_call after (calls.Fill key number rows)))
 answer_opened script (Update word batch) = with_found (found_key script word) (λ key after. answer_call after (calls.Update key batch))
 answer_opened script (Evict word) = with_found (found_key script word) (λ key after. answer_call after (calls.Evict key))
+answer_opened script (Cancel word) = with_found (found_key script word) (λ key after. answer_call after (calls.Cancel key))
 answer_opened script (Look word) = with_found (found_key script word) (λ key after. answer_call after (calls.Find key))
 answer_opened script (PinKey reader word) =
     with_found (found_by_reader script reader word) (λ key after. without_pin after reader (answer_pin after reader key (state_of after.map key)))
@@ -181,4 +184,4 @@ keys_opened false count = kinds.Numbered
 
 abbrev pub opened : Bool → Opening → Opened
 opened named sizes =
-    record { keys = keys_opened named sizes.keys; map = opening sizes.keys MAX_ROWS; slots = sizes.slots; puts = replicate sizes.keys 0; put_count = 0; pins = replicate sizes.readers None }
+    record { keys = keys_opened named sizes.keys; map = opening sizes.keys MAX_ROWS sizes.first_number; slots = sizes.slots; puts = replicate sizes.keys 0; put_count = 0; pins = replicate sizes.readers None }

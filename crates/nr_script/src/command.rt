@@ -2,7 +2,7 @@
 ghost use Rattle.std.specs.Prelude.{◌≡◌, List, ℕ, option_map};
 ghost use Rattle.std.specs.List.{list_all};
 ghost use Rattle.nr_script.specs.declared.command.Command.{Command};
-ghost use Rattle.nr_script.specs.Commands.{command, is_name_byte, key, reader_and_key, key_alone, reader_alone, filling, updating};
+ghost use Rattle.nr_script.specs.Commands.{command, is_name_byte, key, reader_and_key, key_alone, reader_alone, filling, filling_as, updating};
 ghost use Rattle.nr_text.specs.Grammar.{words, number};
 ghost use Rattle.nr_text.specs.Words.{words_left};
 
@@ -68,11 +68,19 @@ pub(crate) enum Command<'a> {
         key: KeyWord<'a>,
         rows: Result<RowSet, TooMany>,
     },
+    FillAs {
+        key: KeyWord<'a>,
+        number: u64,
+        rows: Result<RowSet, TooMany>,
+    },
     Update {
         key: KeyWord<'a>,
         batch: Batch,
     },
     Evict {
+        key: KeyWord<'a>,
+    },
+    Cancel {
         key: KeyWord<'a>,
     },
     Look {
@@ -118,12 +126,19 @@ pub(crate) fn parse(line: &[u8]) -> Option<Command<'_>>
     if name == b"fill".as_slice() {
         return filling(words);
     }
+    if name == b"fill-as".as_slice() {
+        return filling_as(words);
+    }
     if name == b"update".as_slice() {
         return updating(words);
     }
     if name == b"evict".as_slice() {
         let key = key_alone(words)?;
         return Some(Command::Evict { key });
+    }
+    if name == b"cancel".as_slice() {
+        let key = key_alone(words)?;
+        return Some(Command::Cancel { key });
     }
     if name == b"look".as_slice() {
         let key = key_alone(words)?;
@@ -196,6 +211,17 @@ fn filling(mut words: Words<'_>) -> Option<Command<'_>>
     let key = key(words.next()?)?;
     let rows = set(words)?;
     Some(Command::Fill { key, rows })
+}
+
+fn filling_as(mut words: Words<'_>) -> Option<Command<'_>>
+    ensures { result ≡ filling_as (words_left words.entry) }
+{
+    let word = words.next()?;
+    let spelled = words.next()?;
+    let key = key(word)?;
+    let number = number(spelled)?;
+    let rows = set(words)?;
+    Some(Command::FillAs { key, number, rows })
 }
 
 fn updating(mut words: Words<'_>) -> Option<Command<'_>>

@@ -55,7 +55,7 @@ impl Opened {
     {
         let count = sizes.keys as u32;
         let keys = Keys::open(alloc, named, count)?;
-        let Ok(map) = SeqMap::open(alloc, count) else {
+        let Ok(map) = SeqMap::open_with(alloc, count, sizes.first_number) else {
             return Err(RunFault::Memory);
         };
         let Ok(puts) = vec![in alloc; 0; sizes.keys as usize] else {
@@ -94,7 +94,14 @@ impl Opened {
                 Err(refusal) => Ok(Err(refusal)),
             },
             Command::Fill { key, rows } => match self.key(key)? {
-                Ok(key) => Ok(self.fill(key, rows)),
+                Ok(key) => {
+                    let number = self.map.state(key).number();
+                    Ok(self.fill(key, number, rows))
+                }
+                Err(refusal) => Ok(Err(refusal)),
+            },
+            Command::FillAs { key, number, rows } => match self.key(key)? {
+                Ok(key) => Ok(self.fill(key, *number, rows)),
                 Err(refusal) => Ok(Err(refusal)),
             },
             Command::Update { key, batch } => match self.key(key)? {
@@ -103,6 +110,10 @@ impl Opened {
             },
             Command::Evict { key } => match self.key(key)? {
                 Ok(key) => Ok(Ok(self.call(&Call::Evict(key)))),
+                Err(refusal) => Ok(Err(refusal)),
+            },
+            Command::Cancel { key } => match self.key(key)? {
+                Ok(key) => Ok(Ok(self.call(&Call::Cancel(key)))),
                 Err(refusal) => Ok(Err(refusal)),
             },
             Command::Look { key } => match self.key(key)? {
@@ -130,15 +141,20 @@ impl Opened {
         Ok(self.call(call))
     }
 
-    /// A fill, unless there are too many rows.
-    fn fill(&mut self, key: u32, rows: &Result<RowSet, TooMany>) -> Result<Answer, Refusal>
+    /// A fill that answers the request of that number, unless there are too many rows.
+    fn fill(
+        &mut self,
+        key: u32,
+        number: u64,
+        rows: &Result<RowSet, TooMany>,
+    ) -> Result<Answer, Refusal>
         requires key { key < key_count self.old.map }
         requires puts { self.old.put_count < u64.MAX }
-        ensures answer { with_found (found_set rows.now, self.old) (λ rows fits. answer_call fits (Call.Fill key rows)) ≡ (result, self.new) }
+        ensures answer { with_found (found_set rows.now, self.old) (λ rows fits. answer_call fits (Call.Fill key number rows)) ≡ (result, self.new) }
         ensures puts { self.new.put_count ≤ self.old.put_count + 1 }
     {
         match rows {
-            Ok(rows) => Ok(self.call(&Call::Fill(key, *rows))),
+            Ok(rows) => Ok(self.call(&Call::Fill(key, number, *rows))),
             Err(_) => Err(Refusal::TooMany),
         }
     }
@@ -189,12 +205,15 @@ impl Opened {
         ensures { result ≡ is_done (reply_to self.now.map call.now) }
     {
         match call {
-            Call::Fill(key, _) => matches!(self.map.state(*key), KeyState::Asked),
-            Call::Update(key, batch) => match self.map.state(*key) {
-                KeyState::Rows(rows) => rows.applied(batch).is_ok(),
-                KeyState::Hole | KeyState::Asked => false,
+            Call::Fill(key, number, _) => match self.map.state(*key) {
+                KeyState::Asked(asked) => asked == *number,
+                KeyState::Hole(_) | KeyState::Rows(_, _) => false,
             },
-            Call::Find(_) | Call::Ask(_) | Call::Evict(_) => false,
+            Call::Update(key, batch) => match self.map.state(*key) {
+                KeyState::Rows(_, rows) => rows.applied(batch).is_ok(),
+                KeyState::Hole(_) | KeyState::Asked(_) => false,
+            },
+            Call::Find(_) | Call::Ask(_) | Call::Evict(_) | Call::Cancel(_) => false,
         }
     }
 
@@ -270,7 +289,7 @@ impl Opened {
         ensures puts { self.new.put_count ≡ self.old.put_count }
     {
         self.check_no_pin(reader)?;
-        let KeyState::Rows(rows) = self.map.state(key) else {
+        let KeyState::Rows(_, rows) = self.map.state(key) else {
             return Ok(Answer::Reply(Reply::Hole));
         };
         let put = self.puts[key as usize];

@@ -3,22 +3,24 @@ ghost use Rattle.std.specs.Prelude.{◌≡◌};
 
 use crate::words::{Words, number};
 use nr_core::{MAX_READERS, MAX_SLOTS};
-use nr_model::MAX_KEYS;
+use nr_model::{LAST_NUMBER, MAX_KEYS};
 
-/// How many keys, slots and readers a map is to have, and the count at which each slot starts.
+/// How many keys, slots and readers a map is to have, the count at which each slot starts, and the
+/// number at which each key's requests start.
 #[derive(Clone, Copy)]
 pub struct Opening {
     pub keys: u64,
     pub slots: u64,
     pub readers: u64,
     pub first_count: u64,
+    pub first_number: u64,
 }
 
 impl Opening {
     ghost use Rattle.nr_text.specs.Opening.{opening, is_in_limits};
     ghost use Rattle.nr_text.specs.Words.{words_left};
 
-    /// The opening that three numbers or four spell.
+    /// The opening that three to five numbers spell. The last two are 0 where they are left out.
     pub fn parse(mut words: Words<'_>) -> Option<Opening>
         ensures { result ≡ opening (words_left words.entry) }
     {
@@ -26,6 +28,7 @@ impl Opening {
         let slots = words.next()?;
         let readers = words.next()?;
         let first_count = words.next();
+        let first_number = words.next();
         if words.next().is_some() {
             return None;
         }
@@ -34,6 +37,10 @@ impl Opening {
             slots: number(slots)?,
             readers: number(readers)?,
             first_count: match first_count {
+                None => 0,
+                Some(word) => number(word)?,
+            },
+            first_number: match first_number {
                 None => 0,
                 Some(word) => number(word)?,
             },
@@ -50,5 +57,6 @@ impl Opening {
             && self.slots <= u64::from(MAX_SLOTS)
             && 0 < self.readers
             && self.readers <= u64::from(MAX_READERS)
+            && self.first_number <= LAST_NUMBER
     }
 }

@@ -20,17 +20,20 @@ impl fmt::Display for ReplyWord<'_> {
                 write!(f, "{rows}")
             }
             Reply::Hole => f.write_str("hole"),
-            Reply::Send => f.write_str("send"),
+            Reply::Send(_) => f.write_str("send"),
             Reply::Waiting => f.write_str("waiting"),
             Reply::Filled => f.write_str("filled"),
             Reply::Done => f.write_str("done"),
             Reply::NotAsked => f.write_str("not-asked"),
+            Reply::Stale => f.write_str("stale"),
             Reply::Already => f.write_str("already"),
             Reply::Dropped => f.write_str("dropped"),
             Reply::NoRow => f.write_str("no-row"),
             Reply::TooMany => f.write_str("too-many"),
             Reply::Evicted => f.write_str("evicted"),
             Reply::Nothing => f.write_str("nothing"),
+            Reply::Cancelled => f.write_str("cancelled"),
+            Reply::Worn => f.write_str("worn"),
         }
     }
 }

@@ -237,7 +237,47 @@ const REFUSALS_IN_THEIR_ORDER: Lines = &[
     ("read 1 2", "out-of-range"),
 ];
 
-const SCHEDULES: [Lines; 7] = [
+const A_LATE_FILL_IS_STALE: Lines = &[
+    ("open 1 3 2", "ok"),
+    ("ask 1 0", "send"),
+    ("writer cancel 0", "-"),
+    ("ask 2 0", "waiting"),
+    ("go", "cancelled"),
+    ("ask 2 0", "send"),
+    ("writer fill-as 0 0 5:6", "stale"),
+    ("writer fill-as 0 1 5:6", "-"),
+    ("go", "-"),
+    ("go", "-"),
+    ("go", "-"),
+    ("go", "done"),
+];
+
+const A_WORN_REQUEST_STAYS: Lines = &[
+    ("open 1 1 1 0 4194304", "bad"),
+    ("open 1 1 1 0 4194303", "ok"),
+    ("writer cancel 0", "nothing"),
+    ("writer cancel 0 0", "bad"),
+    ("writer cancel 1", "out-of-range"),
+    ("writer fill-as 0", "bad"),
+    (
+        "writer fill-as 1 0 1:1 2:1 3:1 4:1 5:1 6:1 7:1 8:1 9:1 10:1 11:1 12:1 13:1 14:1 15:1 16:1",
+        "too-many",
+    ),
+    ("writer fill-as 1 0", "out-of-range"),
+    ("writer fill-as 4294967296 0", "out-of-range"),
+    ("writer fill-as 0 4194303", "not-asked"),
+    ("ask 1 0", "send"),
+    ("writer cancel 0", "worn"),
+    ("ask 1 0", "waiting"),
+    ("writer fill-as 0 8388607", "stale"),
+    ("writer fill 0", "-"),
+    ("writer cancel 0", "busy"),
+    ("go", "-"),
+    ("go", "done"),
+    ("writer cancel 0", "nothing"),
+];
+
+const SCHEDULES: [Lines; 9] = [
     EVICTED_SET_STAYS_WHILE_IT_IS_HELD,
     COUNTS_WRAP,
     A_FILL_SHOWS_WHEN_IT_IS_DONE,
@@ -245,6 +285,8 @@ const SCHEDULES: [Lines; 7] = [
     A_HELD_SLOT_IS_POLLED_AND_LEFT,
     REPLIES_AT_THE_LOOK,
     REFUSALS_IN_THEIR_ORDER,
+    A_LATE_FILL_IS_STALE,
+    A_WORN_REQUEST_STAYS,
 ];
 
 #[test]

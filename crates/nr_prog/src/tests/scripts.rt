@@ -189,13 +189,15 @@ const REFUSALS_IN_THEIR_ORDER: Lines = &[
     ("find 9 apple", "closed"),
     ("find 9 18446744073709551616", "closed"),
     ("fill 0 1", "bad"),
-    ("cancel 0", "bad"),
+    ("cancel 0", "closed"),
+    ("fill-as 0 0", "closed"),
     ("open 1 0 1", "bad"),
     ("open 1 131073 1", "bad"),
     ("open 1 1 0", "bad"),
     ("open 1 1 1025", "bad"),
     ("open 1 1", "bad"),
-    ("open 1 1 1 0 0", "bad"),
+    ("open 1 1 1 0 4194304", "bad"),
+    ("open 1 1 1 0 0 0 0", "bad"),
     ("show 1", "closed"),
     ("open 65536 131072 1024 18446744073709551615", "ok"),
     ("open 1 1 1", "bad"),
@@ -294,7 +296,51 @@ const A_REFUSED_LINE_KEEPS_ITS_NAME: Lines = &[
     ("open-named 1 1 1", "bad"),
 ];
 
-const SCRIPTS: [Lines; 20] = [
+const A_CANCELLED_REQUEST_IS_ASKED_ANEW: Lines = &[
+    ("open 1 3 1 0 4194302", "ok"),
+    ("ask 1 0", "send"),
+    ("cancel 0", "cancelled"),
+    ("cancel 0", "nothing"),
+    ("ask 1 0", "send"),
+    ("fill-as 0 4194302 1:1", "stale"),
+    ("cancel 0", "worn"),
+    ("ask 1 0", "waiting"),
+    ("fill-as 0 4194303 1:1", "done"),
+    ("evict 0", "evicted"),
+    ("fill-as 0 0", "not-asked"),
+    ("ask 1 0", "send"),
+    ("fill 0 2:2", "done"),
+];
+
+const A_LATE_FILL_IS_STALE: Lines = &[
+    ("open-named 2 1 1 0 0", "ok"),
+    ("cancel a 0", "bad"),
+    ("cancel", "bad"),
+    ("fill-as a", "bad"),
+    ("fill-as a x", "bad"),
+    ("fill-as a 18446744073709551616", "bad"),
+    (
+        "fill-as a 0 1:1 2:1 3:1 4:1 5:1 6:1 7:1 8:1 9:1 10:1 11:1 12:1 13:1 14:1 15:1 16:1",
+        "too-many",
+    ),
+    ("fill-as a 9 1:1", "not-asked"),
+    ("cancel b", "nothing"),
+    ("cancel c", "full"),
+    ("ask 1 a", "send"),
+    ("fill-as a 18446744073709551615 1:1", "stale"),
+    ("fill-as a 4194304 1:1", "stale"),
+    ("fill-as a 0 1:1", "done"),
+    ("fill-as a 9 1:1", "already"),
+    ("cancel a", "nothing"),
+    ("ask 1 b", "send"),
+    ("fill-as b 1 2:2", "stale"),
+    ("fill-as b 0 2:2", "no-slot"),
+    ("cancel b", "cancelled"),
+    ("fill b 2:2", "not-asked"),
+    ("look a", "rows 1:1"),
+];
+
+const SCRIPTS: [Lines; 22] = [
     EMPTY_INPUT,
     FIRST_PATH,
     UNASKED_KEYS_TAKE_NOTHING,
@@ -315,6 +361,8 @@ const SCRIPTS: [Lines; 20] = [
     NAMED_KEYS,
     A_LONG_NAME_IS_REFUSED,
     A_REFUSED_LINE_KEEPS_ITS_NAME,
+    A_CANCELLED_REQUEST_IS_ASKED_ANEW,
+    A_LATE_FILL_IS_STALE,
 ];
 
 /// The front of a text that answers as many lines as the input's front has ended.

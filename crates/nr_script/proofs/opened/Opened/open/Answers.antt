@@ -10,7 +10,7 @@ invariant_of-result c =
     let sizes = c.args.sizes.now in
     rw (c.in-Ok.ensures.ok, c.in-Ok-vec.ensures.items_if_clones_equal (λ y e. e), c.in-Ok-vec-2.ensures.items_if_clones_equal (λ y e. search rules))
     (record {
-      names = subst (NamesFit c.in_ok-keys.keys) (sym (length-replicate sizes.keys Hole)) c.in_ok-keys.ensures.fits;
+      names = subst (NamesFit c.in_ok-keys.keys) (sym (length-replicate sizes.keys (Hole sizes.first_number))) c.in_ok-keys.ensures.fits;
       within = omega arith;
-      counted = counted_opening sizes.keys sizes.readers c.requires.keys.1 c.requires.readers;
+      counted = counted_opening sizes.keys sizes.readers sizes.first_number c.requires.keys.1 c.requires.readers;
     })
