@@ -20,7 +20,7 @@ use Rattle.nr_map.specs.Rule.{Kept}
 use Rattle.nr_map.specs.Views.{View}
 use Rattle.nr_map.proofs.board.Board.publish.Goals as goal
 
-pub naming-requires : goal.key_word-word-requires-clause-slot
+pub naming-requires : goal.naming-requires
 naming-requires c = let publishing = c.requires.writer in let room = subst (RoomAt c.args.self.now.shape publishing.desk.retired) publishing.place publishing.writes.room.place in
     let shape = c.self.invariant.4 in omega (arith, room.0, shape.slots, ap (λ (t : Table). t.shape.slots) c.self.view_is)
 
@@ -35,7 +35,7 @@ swap-requires c = let shared = c.self.inside.table.shared in let about = c.self.
     (goes_so shared.key n seat.id seat.me at (desk_at seat.me.0.role publishing.desk (Putting call rows slot c.args.departed last) publishing.writes.role publishing.place) refl) in (
       ap (λ (t : Table). t.id) (publishing.writes.own ∙ sym c.self.view_is),
       omega (arith, c.requires.key, ap (λ (s : Shape). s.keys) about.0, ap (λ (t : Table). t.shape.keys) c.self.view_is),
-      subst (λ (p : ℕ × ℕ). Allows (Kept shared.key) n seat.id seat.me p.0 (λ _. p.1) told) (λ j. (sym publishing.key_is j, sym c.key_word-word.ensures.word j)) allows,
+      subst (λ (p : ℕ × ℕ). Allows (Kept shared.key) n seat.id seat.me p.0 (λ _. p.1) told) (λ j. (sym publishing.key_is j, sym c.naming.ensures j)) allows,
     )
 
 pub returns : goal.returns
