@@ -34,6 +34,8 @@ mod read_through;
 mod reader;
 mod reader_map;
 mod rule;
+#[cfg(test)]
+mod slot_tests;
 mod spare;
 #[cfg(test)]
 mod tests;

@@ -3,18 +3,19 @@ ghost use Rattle.std.specs.Prelude.{◌≡◌, ◌<◌};
 
 use crate::{Asked, Evict, FillFault, Found, NoSlot, Reader, ReaderMap, UpdateFault, Writer};
 use nr_model::{Batch, Delta, OpenFault, Row, RowSet};
+use std::sync::atomic::{AtomicBool, Ordering};
 use std::test::Fail;
 use std::thread::{Threads, join};
 
 /// An answer to a request, whose ticket was spent.
 #[derive(Clone, Copy, Debug, PartialEq, Eq)]
-enum Told {
+pub enum Told {
     Send(u32),
     Waiting,
     Filled,
 }
 
-fn spent(asked: Asked) -> Told {
+pub fn spent(asked: Asked) -> Told {
     match asked {
         Asked::Send(ticket) => Told::Send(ticket.into_key()),
         Asked::Waiting => Told::Waiting,
@@ -22,7 +23,7 @@ fn spent(asked: Asked) -> Told {
     }
 }
 
-fn rows_of(pairs: &[(u64, u64)]) -> Result<RowSet, Fail> {
+pub fn rows_of(pairs: &[(u64, u64)]) -> Result<RowSet, Fail> {
     let mut rows = RowSet::new();
     for (a, b) in pairs {
         let mut batch = [Delta {
@@ -34,7 +35,7 @@ fn rows_of(pairs: &[(u64, u64)]) -> Result<RowSet, Fail> {
     Ok(rows)
 }
 
-fn pairs_are(rows: &RowSet, pairs: &[(u64, u64)]) -> bool {
+pub fn pairs_are(rows: &RowSet, pairs: &[(u64, u64)]) -> bool {
     rows.len() == pairs.len()
         && (0..pairs.len()).all(|i| rows.get(i)
             == Some(Row {
@@ -220,7 +221,7 @@ fn sizes_have_their_limits(rt: HostRuntime) {
     }
 }
 
-fn added(number: u64) -> Result<Batch, Fail> {
+pub fn added(number: u64) -> Result<Batch, Fail> {
     Ok(Batch::of(&[Delta {
         plus: true,
         row: Row {
@@ -244,8 +245,21 @@ fn is_whole(rows: &RowSet) -> bool {
 
 const TURNS: u64 = 20_000;
 
+/// Whether each reader has found rows. Until then the writer doesn't evict, so each is sure to.
+#[derive(Drop)]
+struct Hits {
+    one: AtomicBool,
+    two: AtomicBool,
+}
+
+impl Hits {
+    fn both(&self) -> bool {
+        self.one.load(Ordering::SeqCst) && self.two.load(Ordering::SeqCst)
+    }
+}
+
 /// Finds key 0 again and again, and requests it where it is a hole: whether each set was whole.
-fn find_often(map: &ReaderMap, mut reader: Reader) -> bool
+fn find_often(map: &ReaderMap, mut reader: Reader, hit: &AtomicBool) -> bool
     requires own { reader.table ≡ map.now }
     requires key { 0 < map.now.shape.keys }
 {
@@ -253,7 +267,10 @@ fn find_often(map: &ReaderMap, mut reader: Reader) -> bool
     let mut whole = true;
     for _ in 0..TURNS {
         match map.find(&mut reader, 0, &mut rows) {
-            Found::Rows => whole = whole && is_whole(&rows),
+            Found::Rows => {
+                whole = whole && is_whole(&rows);
+                hit.store(true, Ordering::SeqCst);
+            }
             Found::Hole => {
                 let _ = spent(map.ask(&mut reader, 0));
             }
@@ -263,7 +280,7 @@ fn find_often(map: &ReaderMap, mut reader: Reader) -> bool
 }
 
 /// Fills, updates and evicts key 0 again and again.
-fn write_often(map: &ReaderMap, mut writer: Writer) -> Result<bool, Fail>
+fn write_often(map: &ReaderMap, mut writer: Writer, hits: &Hits) -> Result<bool, Fail>
     requires own { writer.table ≡ map.now }
     requires key { 0 < map.now.shape.keys }
 {
@@ -273,7 +290,7 @@ fn write_often(map: &ReaderMap, mut writer: Writer) -> Result<bool, Fail>
         if map.look(&mut writer, 0, &mut rows) == Found::Rows {
             whole = whole && is_whole(&rows);
         }
-        if mark % 4 == 3 {
+        if mark % 4 == 3 && hits.both() {
             let _ = map.evict(&mut writer, 0);
         } else if map.fill(&mut writer, 0, 0, &marked(mark)?) == Err(FillFault::Already) {
             let _ = map.update(&mut writer, 0, &renewal(&rows, mark)?);
@@ -305,6 +322,7 @@ fn all_at_once<R: Threads + Sync>(
     writer: Writer,
     one: Reader,
     two: Reader,
+    hits: &Hits,
 ) -> (Result<bool, Fail>, (bool, bool))
     requires writer { writer.table ≡ map.now }
     requires one { one.table ≡ map.now }
@@ -315,14 +333,20 @@ fn all_at_once<R: Threads + Sync>(
         rt,
         move || -> Result<bool, Fail>
             requires { (writer.table ≡ map.now) × (0 < map.now.shape.keys) }
-        { write_often(map, writer) },
+        { write_often(map, writer, hits) },
         move || -> (bool, bool)
             requires { (one.table ≡ map.now) × (two.table ≡ map.now) × (0 < map.now.shape.keys) }
-        { both_find(rt, map, one, two) },
+        { both_find(rt, map, one, two, hits) },
     )
 }
 
-fn both_find<R: Threads + Sync>(rt: &R, map: &ReaderMap, one: Reader, two: Reader) -> (bool, bool)
+fn both_find<R: Threads + Sync>(
+    rt: &R,
+    map: &ReaderMap,
+    one: Reader,
+    two: Reader,
+    hits: &Hits,
+) -> (bool, bool)
     requires one { one.table ≡ map.now }
     requires two { two.table ≡ map.now }
     requires key { 0 < map.now.shape.keys }
@@ -331,10 +355,10 @@ fn both_find<R: Threads + Sync>(rt: &R, map: &ReaderMap, one: Reader, two: Reade
         rt,
         move || -> bool
             requires { (one.table ≡ map.now) × (0 < map.now.shape.keys) }
-        { find_often(map, one) },
+        { find_often(map, one, &hits.one) },
         move || -> bool
             requires { (two.table ≡ map.now) × (0 < map.now.shape.keys) }
-        { find_often(map, two) },
+        { find_often(map, two, &hits.two) },
     )
 }
 
@@ -346,8 +370,13 @@ fn sets_are_found_whole(rt: HostRuntime) -> Result<(), Fail> {
     };
     assert_eq!(rt; spent(map.ask(&mut one, 0)), Told::Send(0));
     assert_eq!(rt; map.fill(&mut writer, 0, 0, &marked(0)?), Ok(()));
-    let (written, found) = all_at_once(&rt, &map, writer, one, two);
+    let hits = Hits {
+        one: AtomicBool::new(false),
+        two: AtomicBool::new(false),
+    };
+    let (written, found) = all_at_once(&rt, &map, writer, one, two, &hits);
     assert!(rt; written?);
     assert_eq!(rt; found, (true, true));
+    assert!(rt; hits.both(), "each reader found rows");
     Ok(())
 }
