@@ -365,15 +365,15 @@ const SCRIPTS: [Lines; 22] = [
     A_LATE_FILL_IS_STALE,
 ];
 
+/// Those that are cut at each byte, which takes a run a byte.
+const CUT_SCRIPTS: [Lines; 2] = [FIRST_PATH, PINNED_SET_KEEPS_ITS_SLOT];
+
 /// The front of a text that answers as many lines as the input's front has ended.
 fn answered<'a>(input: &[u8], text: &'a [u8]) -> &'a [u8] {
     let mut lines = input.iter().filter(|b| **b == b'\n').count();
     for (i, b) in text.iter().enumerate() {
         if lines == 0 {
             return &text[..i];
-
-            /// Those that are cut at each byte, which takes a run a byte.
-            const CUT_SCRIPTS: [Lines; 2] = [FIRST_PATH, PINNED_SET_KEEPS_ITS_SLOT];
         }
         if *b == b'\n' {
             lines -= 1;
