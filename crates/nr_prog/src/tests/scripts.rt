@@ -365,6 +365,9 @@ const SCRIPTS: [Lines; 22] = [
     A_LATE_FILL_IS_STALE,
 ];
 
+/// Those that are cut at each byte, which takes a run a byte.
+const CUT_SCRIPTS: [Lines; 2] = [FIRST_PATH, PINNED_SET_KEEPS_ITS_SLOT];
+
 /// The front of a text that answers as many lines as the input's front has ended.
 fn answered<'a>(input: &[u8], text: &'a [u8]) -> &'a [u8] {
     let mut lines = input.iter().filter(|b| **b == b'\n').count();
@@ -427,7 +430,7 @@ fn bytes_may_come_and_go_one_by_one(rt: HostRuntime) -> Result<(), Fail> {
 
 #[test]
 fn a_read_that_fails_ends_the_run(rt: HostRuntime) -> Result<(), Fail> {
-    for script in [FIRST_PATH, PINNED_SET_KEEPS_ITS_SLOT] {
+    for script in CUT_SCRIPTS {
         let (input, text) = input_and_text(rt.alloc(), script)?;
         let bytes = input.as_slice();
         for fails_at in 0..bytes.len() + 1 {
@@ -464,7 +467,7 @@ fn a_line_that_is_cut_is_not_answered(rt: HostRuntime) -> Result<(), Fail> {
 
 #[test]
 fn a_write_that_fails_ends_the_run(rt: HostRuntime) -> Result<(), Fail> {
-    for script in SCRIPTS {
+    for script in CUT_SCRIPTS {
         let (input, text) = input_and_text(rt.alloc(), script)?;
         let text = text.as_slice();
         for room in 0..text.len() {
