@@ -1,4 +1,4 @@
--- The slots that no key names: those that were never taken, and the retired ones.
+-- What the writer keeps beside the words: the slots that no key names, those that were never taken and the retired ones, and the number of each key.
 use Rattle.std.specs.Prelude.{◌≡◌, ℕ, ◌+◌, ◌-◌, ◌<◌, ◌≤◌, List, length, Option, Some, None}
 use Rattle.nr_core.specs.declared.calls.NoSlot.{NoSlot}
 use Rattle.nr_core.specs.declared.places.Retired.{Retired}
@@ -8,6 +8,8 @@ pub record Spare : Type 0 where
   pub slots : ℕ
   pub fresh : ℕ
   pub retired : List Retired
+  -- the number of each key
+  pub numbers : List ℕ
 
 -- every slot is retired, or named by a key
 abbrev pub none_spare : Spare → NoSlot

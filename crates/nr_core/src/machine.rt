@@ -33,7 +33,6 @@ pub struct Machine {
     holds: Vec<Hold>,
     place: Place,
     spare: Spare,
-    numbers: Vec<u64>,
 }
 
 impl Model for Machine {
@@ -46,7 +45,7 @@ impl Model for Machine {
       shape = record { keys = machine.layout.keys; slots = machine.layout.slots; readers = machine.readers; first_count = machine.first_count; first_number = machine.first_number };
       words = machine.words.cells;
       holds = machine.holds.items;
-      desk = record { place = machine.place; fresh = machine.spare.fresh; retired = machine.spare.retired; numbers = machine.numbers.items };
+      desk = record { place = machine.place; fresh = machine.spare.fresh; retired = machine.spare.retired; numbers = machine.spare.numbers };
       made = machine.words.made;
     } };
 
@@ -65,8 +64,7 @@ impl Machine {
         };
         let words = Words::open(alloc, layout, shape.first_count, shape.first_number)?;
         let holds = vec![in alloc; Hold::Nothing; shape.readers as usize]?;
-        let spare = Spare::open(alloc, shape.slots)?;
-        let numbers = vec![in alloc; shape.first_number; shape.keys as usize]?;
+        let spare = Spare::open(alloc, shape)?;
         Ok(Machine {
             layout,
             readers: shape.readers,
@@ -76,7 +74,6 @@ impl Machine {
             holds,
             place: Place::Idle,
             spare,
-            numbers,
         })
     }
 
@@ -86,7 +83,7 @@ impl Machine {
         requires key { key < self.now.shape.keys }
         ensures { result ≡ number_at self.now.desk key }
     {
-        self.numbers[key as usize]
+        self.spare.number(key)
     }
 
     /// What the reader holds.

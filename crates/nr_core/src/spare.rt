@@ -1,21 +1,24 @@
-//! The slots that no key names.
-ghost use Rattle.std.specs.Prelude.{◌≡◌, ◌<◌, ◌≤◌, ◌++◌, [], length, remove, IfOk};
+//! What the writer keeps beside the words: the slots that no key names, and each key's number.
+ghost use Rattle.std.specs.Prelude.{◌≡◌, ◌<◌, ◌≤◌, ◌++◌, [], length, remove, replicate, slice_index, slice_set, IfOk};
 ghost use Rattle.nr_core.specs.Writer.{unnamed};
 ghost use Rattle.nr_core.specs.Spares.{TakesFresh, none_spare};
 
 use crate::calls::NoSlot;
 use crate::places::Retired;
+use crate::shape::Shape;
 use nr_words::parts;
 use std::alloc::{AllocError, Global};
 use std::marker::Model;
 
 /// Those from `fresh` on were never taken; the retired ones, oldest first, wait until their readers
-/// have departed. There is room to retire them all.
+/// have departed. There is room to retire them all. A filled key's word has its slot, so its
+/// number stands here alone.
 #[derive(Drop)]
 pub struct Spare {
     slots: u32,
     fresh: u32,
     retired: Vec<Retired>,
+    numbers: Vec<u64>,
 }
 
 impl Model for Spare {
@@ -24,21 +27,24 @@ impl Model for Spare {
 
     ghost Value = { Slots };
 
-    ghost view = { λ spare. record { slots = spare.slots; fresh = spare.fresh; retired = spare.retired.items } };
+    ghost view = { λ spare. record { slots = spare.slots; fresh = spare.fresh; retired = spare.retired.items; numbers = spare.numbers.items } };
 
     ghost invariant = { λ spare. spare.slots ≤ vec_capacity spare.retired };
 }
 
 impl Spare {
-    /// All the slots of a new map.
-    pub fn open(alloc: Global, slots: u32) -> Result<Spare, AllocError>
-        ensures { IfOk result (λ spare. spare ≡ record { slots = slots; fresh = 0; retired = [] }) }
+    /// All the slots of a new map, and the first number for each key.
+    pub fn open(alloc: Global, shape: &Shape) -> Result<Spare, AllocError>
+        ensures { IfOk result (λ spare. spare ≡ record { slots = shape.now.slots; fresh = 0; retired = []; numbers = replicate shape.now.keys shape.now.first_number }) }
     {
-        let retired = Vec::with_capacity(alloc, slots as usize)?;
+        let retired = Vec::with_capacity(alloc, shape.slots as usize)?;
+        let mut numbers = Vec::with_capacity(alloc, shape.keys as usize)?;
+        numbers.resize(shape.keys as usize, shape.first_number)?;
         Ok(Spare {
-            slots,
+            slots: shape.slots,
             fresh: 0,
             retired,
+            numbers,
         })
     }
 
@@ -81,6 +87,22 @@ impl Spare {
                 arrivals: old.arrivals,
             });
         }
+    }
+
+    /// The key's number.
+    pub fn number(&self, key: u32) -> u64
+        requires { key < length self.now.numbers }
+        ensures { result ≡ slice_index self.now.numbers key }
+    {
+        self.numbers[key as usize]
+    }
+
+    /// Gives the key another number.
+    pub fn renumber(&mut self, key: u32, number: u64)
+        requires { key < length self.old.numbers }
+        ensures { self.new ≡ record self.old { numbers = slice_set self.old.numbers key number } }
+    {
+        self.numbers[key as usize] = number;
     }
 
     /// How many slots are named and how many retired, where every slot was taken.

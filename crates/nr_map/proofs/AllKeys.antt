@@ -69,8 +69,18 @@ sends_of_all_keys_lem writer readers knows = let shape = writer.table.shape in l
     let answered : ℕ → ℕ = λ key. fills log key + cancels log key in
     let each = below-same (sends log) (λ key. answered key + waiting key) shape.keys (λ key near. sends_are_answered_lem shape.keys (bound_of shape) shape.first_number key log knows.legal near) in
     let pends : below waiting shape.keys ≡ total pending (map_after shape log).states = ap (below waiting) (sym keys) ∙ by_states pending (map_after shape log).states in
-    omega (arith, sent, filled, each, below-sum answered waiting shape.keys, below-sum (fills log) (cancels log) shape.keys, pends, entries_are_callers_lem writer readers is_sent knows, entries_are_callers_lem writer readers is_fill knows,
-    entries_are_callers_lem writer readers is_cancel knows)
+    omega (
+      arith,
+      sent,
+      filled,
+      each,
+      below-sum answered waiting shape.keys,
+      below-sum (fills log) (cancels log) shape.keys,
+      pends,
+      entries_are_callers_lem writer readers is_sent knows,
+      entries_are_callers_lem writer readers is_fill knows,
+      entries_are_callers_lem writer readers is_cancel knows,
+    )
 
 pub beginnings_meet_lem : BeginningsMeet
 beginnings_meet_lem one other longer shorter =

@@ -105,8 +105,14 @@ module _ (shape : Shape) (slots id : ℕ) (me : Me (Unit {0}) View) (at : ℕ) (
 
   learns_as : (role : Role) → view.role ≡ role → Allows (Kept shape) slots id me at (λ word. word) (λ found after. Learned at found view after.0)
   learns_as (Writer desk) is = learns_by (WriterLearns shape view.marks desk view.told_pasts) (learns_writer role_of marks_of shape id view view.told_pasts at desk is)
-      (λ word after log now news next sized seen numbers told. (told.0, subst (λ r. LearnsOf r view next news) (sym is) (told.1, subst (λ (p : Shape × List Entry). Lists desk view.marks p.0 p.1) (λ j. (sym sized j, sym seen j)) told.2,
-      subst (λ (p : Shape × List Entry). AreNumbers p.0 (map_after p.0 p.1) desk.numbers) (λ j. (sym sized j, sym seen j)) (numbers desk is))))
+      (λ word after log now news next sized seen numbers told. (
+        told.0,
+        subst (λ r. LearnsOf r view next news) (sym is) (
+          told.1,
+          subst (λ (p : Shape × List Entry). Lists desk view.marks p.0 p.1) (λ j. (sym sized j, sym seen j)) told.2,
+          subst (λ (p : Shape × List Entry). AreNumbers p.0 (map_after p.0 p.1) desk.numbers) (λ j. (sym sized j, sym seen j)) (numbers desk is),
+        ),
+      ))
   learns_as (Reader reader grip) is = learns_by (ReaderLearns reader grip view.marks view.told_pasts) (learns_reader role_of marks_of shape id view view.told_pasts at reader grip is)
       (λ word after log now news next sized seen numbers told. (told.0, subst (λ r. LearnsOf r view next news) (sym is) (told.1, told.2)))
   learns_as Note is = absurd (let no_writer : is_writer view.role ≡ 0 = ap is_writer is in let no_reader : is_reader view.role ≡ 0 = ap is_reader is in omega arith)

@@ -15,7 +15,8 @@ use Rattle.nr_map.proofs.Tokens.{grows_both}
 use Rattle.nr_core.specs.declared.roles.Role.TheVariants.{Writer}
 use Rattle.nr_map.specs.Callers.{Caller, Grows, Table, opening_map, token}
 use Rattle.nr_map.specs.Entries.{AreCallers}
-use Rattle.nr_map.specs.Spares.{Spare, Took, desk_with}
+use Rattle.nr_core.specs.Spares.{Spare}
+use Rattle.nr_map.specs.Spares.{Took, desk_with}
 use Rattle.nr_marks.specs.Marks.{Marks, Past, with_name, with_polls}
 use Rattle.nr_marks.specs.MarkSteps.{PutsMarks}
 use Rattle.nr_map.specs.Plays.{SwapsOrPuts}

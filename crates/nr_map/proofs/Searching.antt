@@ -26,7 +26,8 @@ use Rattle.nr_map.specs.Callers.{Caller, Grows, Table, token}
 use Rattle.nr_map.specs.Entries.{acts_told, to_depart}
 use Rattle.nr_map.specs.Polls.{AllHeldThen, HeldThen}
 use Rattle.nr_map.specs.Rule.{StartsWith}
-use Rattle.nr_map.specs.Spares.{Spare, desk_with, none_spare}
+use Rattle.nr_core.specs.Spares.{Spare, none_spare}
+use Rattle.nr_map.specs.Spares.{desk_with}
 use Rattle.nr_marks.proofs.ExactPlace.{noted_more, noted_none}
 use Rattle.nr_marks.specs.MarkSteps.{PollTells}
 use Rattle.nr_marks.proofs.ListPlaces.{at_last, inside}

@@ -7,7 +7,7 @@ use Rattle.nr_core.proofs.Histories.{length-now}
 use Rattle.nr_core.specs.declared.shape.Shape.{Shape}
 use Rattle.nr_core.specs.Story.{map_after}
 use Rattle.nr_map.specs.Callers.{Table}
-use Rattle.nr_map.specs.Spares.{Spare}
+use Rattle.nr_core.specs.Spares.{Spare}
 use Rattle.nr_map.specs.SlotBounds.{NoSlotIsRare, PollsAreFew, RoomForFills, RoomForUpdates}
 
 -- no more keys are filled than there are

@@ -36,7 +36,8 @@ use Rattle.nr_map.proofs.Publishing.{knows_after}
 use Rattle.nr_map.proofs.Tokens.{grows_both}
 use Rattle.nr_map.specs.Answers.{HasNoSlot, KeyHad, Publishes, RetiresOne, SlotsStay}
 use Rattle.nr_map.specs.Callers.{Caller, Gains, Grows, KnowsOwn, Table, opening_map, token}
-use Rattle.nr_map.specs.Spares.{Spare, Took, desk_with, spare_of}
+use Rattle.nr_core.specs.Spares.{Spare}
+use Rattle.nr_map.specs.Spares.{Took, desk_with, spare_of}
 use Rattle.nr_marks.specs.Marks.{Marks, Past, with_name, with_polls, without_name}
 use Rattle.nr_marks.specs.PollNotes.{Noted}
 use Rattle.nr_map.proofs.KeySets.{before_last, had_before, none_between}

@@ -26,7 +26,8 @@ use Rattle.nr_map.specs.declared.answers.Asked.{Asked}
 use Rattle.nr_map.specs.declared.answers.Asked.TheVariants as asked
 use Rattle.nr_map.specs.Callers.{Caller, Gains, Grows, opening_map}
 use Rattle.nr_map.specs.Plays.{Lacks}
-use Rattle.nr_map.specs.Spares.{Spare, Took, spare_of}
+use Rattle.nr_core.specs.Spares.{Spare}
+use Rattle.nr_map.specs.Spares.{Took, spare_of}
 use Rattle.nr_marks.specs.Marks.{with_name, with_polls, without_name}
 use Rattle.nr_marks.specs.Puts.{put_count}
 use Rattle.nr_marks.specs.PollNotes.{Noted}

@@ -5,7 +5,7 @@ use Rattle.nr_core.specs.declared.calls.NoSlot.{NoSlot}
 use Rattle.nr_core.specs.declared.calls.WriterCall.{WriterCall}
 use Rattle.nr_map.specs.declared.publish.Taken.{Taken}
 use Rattle.nr_map.specs.Callers.{Table}
-use Rattle.nr_map.specs.Spares.{Spare}
+use Rattle.nr_core.specs.Spares.{Spare}
 use Rattle.nr_map.specs.WriterSeats.{LacksSlot, MapSeat, PublishesSet, TakesSlot}
 
 abbrev pub TakesFor : Table → WriterCall → List Row → Spare → Spare → MapSeat → MapSeat → Result Taken NoSlot → Type 0

@@ -6,15 +6,8 @@ use Rattle.nr_core.specs.declared.calls.NoSlot.{NoSlot}
 use Rattle.nr_core.specs.declared.places.Place.{Place}
 use Rattle.nr_core.specs.declared.places.Retired.{Retired}
 use Rattle.nr_core.specs.declared.roles.Desk.{Desk}
+use Rattle.nr_core.specs.Spares.{Spare}
 use Rattle.nr_map.specs.Callers.{Caller}
-
--- of so many slots those from `fresh` on were never taken
-pub record Spare : Type 0 where
-  pub slots : ℕ
-  pub fresh : ℕ
-  pub retired : List Retired
-  -- the number of each key
-  pub numbers : List ℕ
 
 -- the writer's desk with them
 abbrev pub desk_with : Spare → Place → Desk
@@ -24,17 +17,8 @@ desk_with spare place = record { place = place; fresh = spare.fresh; retired = s
 abbrev pub spare_of : Caller → Spare
 spare_of caller = record { slots = caller.table.shape.slots; fresh = caller.fresh; retired = caller.retired; numbers = caller.numbers }
 
--- every slot is retired, or named by a key
-abbrev pub none_spare : Spare → NoSlot
-none_spare spare = record { live = spare.slots - length spare.retired; held = length spare.retired }
-
 -- a slot was taken, by so many polls: the next that was never taken, or else the retired one at which the last poll was made
 abbrev pub Took : ℕ → ℕ → Spare → Spare → Type 0
 Took slot polls old new =
     ((old.fresh < old.slots) × (slot ≡ old.fresh) × (polls ≡ 0) × (new.fresh ≡ old.fresh + 1) × (new.retired ≡ old.retired))
     ⊎ ((old.slots ≤ old.fresh) × (place : ℕ) × (entry : Retired) × (get_elem? old.retired place ≡ some entry) × (entry.slot ≡ slot) × (polls ≡ place + 1) × (new.fresh ≡ old.fresh) × (new.retired ≡ remove old.retired place))
-
--- the next slot that was never taken, if there is one
-abbrev pub TakesFresh : Spare → Spare → Option ℕ → Type 0
-TakesFresh old new (Some slot) = (old.fresh < old.slots) × (slot ≡ old.fresh) × (new ≡ record old { fresh = old.fresh + 1 })
-TakesFresh old new None = (old.slots ≤ old.fresh) × (new ≡ old)

@@ -27,7 +27,8 @@ use Rattle.nr_core.specs.declared.roles.Desk.{Desk}
 use Rattle.nr_core.specs.declared.roles.Role.TheVariants.{Writer}
 use Rattle.nr_map.specs.Entries.{AreCallers}
 use Rattle.nr_map.specs.Callers.{Caller, Grows, KnowsOwn, Table, map_seen, opening_map, token}
-use Rattle.nr_map.specs.Spares.{Spare, Took, desk_with}
+use Rattle.nr_core.specs.Spares.{Spare}
+use Rattle.nr_map.specs.Spares.{Took, desk_with}
 use Rattle.nr_map.specs.Plays.{Finds, Lacks, NotesTell, Room, SwapsAt, call_at, next_put}
 use Rattle.nr_map.specs.Polls.{AllHeldThen}
 use Rattle.nr_marks.specs.MarkSteps.{GoesMarks}

@@ -91,7 +91,10 @@ fn a_worn_request_is_ended_by_its_own_fill_alone(rt: HostRuntime) -> Result<(), 
         assert_eq!(rt; map.cancel(&mut writer, 0), Cancel::Worn);
         assert_eq!(rt; map.evict(&mut writer, 0), Evict::Nothing);
         for late in [0, 4_194_302, 4_194_304, u64::MAX] {
-            assert_eq!(rt; map.fill(&mut writer, 0, late, &none), Err(FillFault::Stale));
+            assert_eq!(rt;
+                map.fill(&mut writer, 0, late, &none),
+                Err(FillFault::Stale)
+            );
         }
         assert_eq!(rt; map.state(&mut writer, 0), KeyKind::Asked);
     }

@@ -7,9 +7,8 @@ ghost use Rattle.nr_map.specs.WriterSeats.{RestsAt};
 use crate::answers::Cancel;
 use crate::board::Seat;
 use crate::reader_map::ReaderMap;
-use crate::spare::Spare;
 use crate::writer::Writer;
-use nr_core::WriterCall;
+use nr_core::{Spare, WriterCall};
 use nr_model::LAST_NUMBER;
 use nr_words::parts;
 

@@ -36,7 +36,6 @@ mod reader_map;
 mod rule;
 #[cfg(test)]
 mod slot_tests;
-mod spare;
 #[cfg(test)]
 mod tests;
 mod ticket;

@@ -10,8 +10,7 @@ ghost use Rattle.nr_map.specs.WriterSeats.{Knows, Settles, WritesAt};
 use crate::board::Seat;
 use crate::only_proved::only_proved;
 use crate::reader_map::ReaderMap;
-use crate::spare::Spare;
-use nr_core::{NoSlot, WriterCall};
+use nr_core::{NoSlot, Spare, WriterCall};
 use nr_model::RowSet;
 use nr_words::{CONTENT_WORDS, encode, same_count};
 

@@ -6,8 +6,7 @@ ghost use Rattle.nr_core.specs.declared.roles.Role.TheVariants.{Writer as writer
 ghost use Rattle.nr_map.specs.Callers.{KnowsOwn, token};
 
 use crate::board::Seat;
-use crate::spare::Spare;
-use nr_core::Shape;
+use nr_core::{Shape, Spare};
 use std::alloc::{AllocError, Global};
 use std::marker::Model;
 

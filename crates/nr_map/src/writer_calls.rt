@@ -8,9 +8,8 @@ use crate::answers::{Evict, FillFault, Found, UpdateFault};
 use crate::board::Seat;
 use crate::only_proved::only_proved;
 use crate::reader_map::ReaderMap;
-use crate::spare::Spare;
 use crate::writer::Writer;
-use nr_core::WriterCall;
+use nr_core::{Spare, WriterCall};
 use nr_model::{ApplyFault, Batch, RowSet};
 use nr_words::parts;
 

@@ -236,7 +236,7 @@ impl Machine {
         let number = self.number(key) + 1;
         let hole = hole_word(number, false);
         self.words.swap(self.layout.key(key), hole);
-        self.numbers[key as usize] = number;
+        self.spare.renumber(key, number);
         self.end(Reply::Cancelled)
     }
 

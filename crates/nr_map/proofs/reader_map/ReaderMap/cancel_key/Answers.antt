@@ -12,14 +12,15 @@ use Rattle.nr_core.specs.declared.places.Place.TheVariants.{Idle, Withdrawing}
 use Rattle.nr_core.specs.declared.roles.Desk.{Desk}
 use Rattle.nr_map.proofs.WriterCalls.{asked_so, cancel_filled, cancel_unasked, cancel_withdraws, cancel_worn, cancelled_so, look_ends, look_goes, slot_so, unasked_so}
 use Rattle.nr_map.specs.Callers.{Table}
-use Rattle.nr_map.specs.Spares.{Spare, desk_with}
+use Rattle.nr_core.specs.Spares.{Spare}
+use Rattle.nr_map.specs.Spares.{desk_with}
 use Rattle.nr_map.specs.WriterSeats.{GoesOn, IsWithdrawing}
 use Rattle.nr_map.proofs.reader_map.ReaderMap.cancel_key.Goals.{then-found-via-then-found, then-found-via-else-found+then-not-found}
 use Rattle.nr_map.proofs.reader_map.ReaderMap.cancel_key.Goals as goal
 
 pub returns-then-found : goal.returns-then-found
 returns-then-found c = let outcome : looked c.args.self.now.shape (desk_with c.args.spare.now Idle) (writer.Cancel c.args.key) c.look.result ≡ (desk_with c.args.spare.now Idle, ended reply.Nothing) = elim c.then-found.branch [
-  then-found-via-then-found w ↦ cancel_filled c.args.self.now.shape (desk_with c.args.spare.now Idle) c.args.key c.look.result (ap (λ (p : KeyParts). p.filled) (sym c.parts-found.ensures.parts) ∙ w.if-found.true)
+  | then-found-via-then-found w ↦ cancel_filled c.args.self.now.shape (desk_with c.args.spare.now Idle) c.args.key c.look.result (ap (λ (p : KeyParts). p.filled) (sym c.parts-found.ensures.parts) ∙ w.if-found.true)
   | then-found-via-else-found+then-not-found w ↦ cancel_unasked c.args.self.now.shape (desk_with c.args.spare.now Idle) c.args.key c.look.result (ap (λ (p : KeyParts). p.filled) (sym c.parts-found.ensures.parts) ∙ w.if-found.false) (unasked_so c.parts-found.result c.look.result c.parts-found.ensures.parts w.if-not-found.true)
 ] in
     let told = look_ends c.self.inside.board c.args.self.now c.self.view_is c.args.spare.now c.args.seat.now c.requires.own c.requires.rests (writer.Cancel c.args.key) c.look.result c.look.new.seat c.look.ensures.leads c.look.ensures.marks reply.Nothing outcome in

@@ -7,7 +7,7 @@ use Rattle.nr_core.specs.declared.places.Retired.{Retired}
 use Rattle.nr_map.proofs.PollNotes.{at_get}
 use Rattle.nr_map.proofs.Searching.{lacks_slot, searched_more, searching_at, takes_it}
 use Rattle.nr_map.specs.Callers.{Table}
-use Rattle.nr_map.specs.Spares.{Spare, none_spare}
+use Rattle.nr_core.specs.Spares.{Spare, none_spare}
 use Rattle.nr_map.specs.WriterSeats.{GoesOn, IsPolling, LacksSlot, TakesSlot}
 use Rattle.nr_map.proofs.reader_map.ReaderMap.poll_retired.Goals as goal
 
