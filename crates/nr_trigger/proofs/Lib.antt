@@ -1,0 +1,8 @@
+mod Parts
+mod Places
+mod Opening
+mod Seating
+mod Posting
+mod Taking
+mod Moments
+mod Once

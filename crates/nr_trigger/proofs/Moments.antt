@@ -1,0 +1,31 @@
+-- What a pass learns of a moment of the queue, and what a push or a pop tells by it.
+use Rattle.std.proofs.Common.{◌≡◌, ◌<◌, ℕ, [], ◌∷◌, Option, Some, None, Result, Ok, Err, IfErr, MatchOption, MatchResult, sym, ◌∙◌, arith, append-nil}
+use Rattle.atomic_table.specs.Seated.{TableId}
+use Rattle.crossbeam_queue.specs.Fifo.{Held, Learns}
+use Rattle.nr_trigger.specs.declared.post.Post.{Post}
+use Rattle.nr_trigger.specs.Views.{View, Taking, Posting, Taker, Poster, has_posted, has_taken}
+use Rattle.nr_trigger.specs.Delivers.{Delivers, Moment}
+use Rattle.nr_trigger.specs.Tokens.{WasEmpty, WasFull, poster_seen, taker_seen}
+
+pub pass-learns-moment : (place : ℕ) (view : View) → Learns Delivers place view (Moment view)
+pass-learns-moment place view held views delivers there = record { views = views; place = place; there = there; delivers = delivers }
+
+empty-moment : (queue : TableId) (taking : Taking) → Held 0 (Moment (Taker taking)) → WasEmpty (taker_seen queue taking)
+empty-moment queue taking ([], none, moment) =
+    record { moment = moment; all = (moment.delivers.fits moment.place (Taker taking) moment.there).2 ∙ sym (append-nil moment.delivers.taken) ∙ moment.delivers.whole }
+empty-moment queue taking (x ∷ held, none, moment) = absurd (omega (arith, none))
+
+pub pop-tells : (queue : TableId) (taking : Taking) (result : Option Post) (new : View)
+    → MatchOption result ((new ≡ Taker taking) × Held 0 (Moment (Taker taking))) (λ post. has_taken (Taker taking) post new)
+    → MatchOption result (WasEmpty (taker_seen queue taking)) (λ post. post.upquery.key < taking.keys)
+pop-tells queue taking None new tells = empty-moment queue taking tells.1
+pop-tells queue taking (Some post) new tells = tells.1
+
+pub push-tells : (queue : TableId) (room : ℕ) (posting : Posting) (post : Post) (result : Result (Unit {0}) Post) (new : View)
+    → MatchResult result (λ _. has_posted (Poster posting) post new) (λ back. (back ≡ post) × (new ≡ Poster posting) × Held room (Moment (Poster posting)))
+    → IfErr result (λ _. WasFull room (poster_seen queue posting))
+push-tells queue room posting post (Ok done) new tells = tt
+push-tells queue room posting post (Err back) new tells =
+    let held = tells.2 in
+    let moment = held.2 in
+    record { held = held.0; full = held.1; moment = moment; own = (moment.delivers.fits moment.place (Poster posting) moment.there).1 }

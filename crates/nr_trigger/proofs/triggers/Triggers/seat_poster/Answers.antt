@@ -1,0 +1,5 @@
+use Rattle.nr_trigger.proofs.Seating.{taker-makes-poster}
+use Rattle.nr_trigger.proofs.triggers.Triggers.seat_poster.Goals as goal
+
+pub another-seat-requires-clause-rule : goal.another-seat-requires-clause-rule
+another-seat-requires-clause-rule g c = taker-makes-poster _ _ _ c.taker.invariant.1

@@ -1,0 +1,5 @@
+use Rattle.nr_trigger.proofs.Opening.{opening-delivers}
+use Rattle.nr_trigger.proofs.triggers.seated.Goals as goal
+
+pub ruled-requires-clause-rule : goal.ruled-requires-clause-rule
+ruled-requires-clause-rule g c = opening-delivers

@@ -1,0 +1,36 @@
+-- The rule of the queue: what stands between any two steps of any threads.
+use Rattle.std.specs.Prelude.{◌≡◌, ◌≤◌, ◌+◌, ℕ, List, [], ◌++◌, length}
+use mathlib.Core.Option.{some}
+use lib.ListN.{get_elem?}
+use Rattle.nr_trigger.specs.declared.post.Post.{Post}
+use Rattle.nr_trigger.specs.Posts.{KeysAreBelow, part}
+use Rattle.nr_trigger.specs.Views.{View, Opener, Spare, Taker, Poster}
+
+-- What the pass at a place knows is so. The taker's is the first, and each poster's stands at the place of its number.
+module _ (posted taken : List Post) (keys passes place : ℕ) where
+  abbrev pub Fits : View → Type 0
+  Fits Opener = (place ≡ 0) × (passes ≡ 1) × (posted ≡ [])
+  Fits Spare = place ≡ 1
+  Fits (Taker taking) = (place ≡ 0) × (passes ≡ taking.made + 2) × (taking.taken ≡ taken) × (taking.keys ≡ keys)
+  Fits (Poster posting) = (place ≡ posting.number + 2) × (posting.posted ≡ part posting.number posted) × (posting.keys ≡ keys)
+
+pub record Delivers (held : List Post) (views : List View) : Type 0 where
+  -- everything that was posted, oldest first, and what of it was taken
+  pub posted : List Post
+  pub taken : List Post
+  -- what was taken, followed by what the queue holds, is what was posted
+  pub whole : taken ++ held ≡ posted
+  -- a number above each key
+  pub keys : ℕ
+  pub below : KeysAreBelow keys posted
+  -- the taker's pass knows what was taken, each poster's its own part of what was posted
+  pub fits : (place : ℕ) (view : View) → get_elem? views place ≡ some view → Fits posted taken keys (length views) place view
+  -- a poster that wasn't made yet has posted nothing
+  pub silent : (number : ℕ) → length views ≤ number + 2 → part number posted ≡ []
+
+-- a moment at which the queue held that and one of its passes knew this
+pub record Moment (view : View) (held : List Post) : Type 0 where
+  pub views : List View
+  pub place : ℕ
+  pub there : get_elem? views place ≡ some view
+  pub delivers : Delivers held views

@@ -1,0 +1,5 @@
+pub mod Posts
+pub mod Views
+pub mod Delivers
+pub mod Tokens
+pub mod Once

@@ -1,0 +1,84 @@
+-- What contracts see of the queue, of its posters and of its taker.
+use Rattle.std.specs.Prelude.{◌≡◌, ◌<◌, ℕ, List, [], length, slice_get, Some}
+use Rattle.atomic_table.specs.Seated.{TableId}
+use Rattle.nr_trigger.specs.declared.post.Post.{Post}
+use Rattle.nr_trigger.specs.declared.post.Upquery.{Upquery}
+use Rattle.nr_trigger.specs.Posts.{part}
+use Rattle.nr_trigger.specs.Views.{Taking, Posting, Taker, Poster}
+use Rattle.nr_trigger.specs.Delivers.{Moment}
+
+pub record Queue : Type 0 where
+  pub id : TableId
+  pub capacity : ℕ
+
+pub record PosterSeen : Type 0 where
+  -- its queue
+  pub queue : TableId
+  -- a number above each key that it may post
+  pub keys : ℕ
+  -- its own, from 0
+  pub number : ℕ
+  -- what it has posted, oldest first
+  pub posted : List Upquery
+
+pub record TakerSeen : Type 0 where
+  pub queue : TableId
+  -- a number above each key that it takes
+  pub keys : ℕ
+  -- how many posters there are
+  pub made : ℕ
+  -- what it has taken, oldest first
+  pub taken : List Post
+
+abbrev pub poster_seen : TableId → Posting → PosterSeen
+poster_seen queue posting = record { queue = queue; keys = posting.keys; number = posting.number; posted = posting.posted }
+
+abbrev pub taker_seen : TableId → Taking → TakerSeen
+taker_seen queue taking = record { queue = queue; keys = taking.keys; made = taking.made; taken = taking.taken }
+
+abbrev pub posting : PosterSeen → Posting
+posting poster = record { keys = poster.keys; number = poster.number; posted = poster.posted }
+
+abbrev pub taking : TakerSeen → Taking
+taking taker = record { keys = taker.keys; made = taker.made; taken = taker.taken }
+
+-- a poster that has posted nothing, and a taker that has taken nothing and made so many posters
+abbrev pub new_poster : TableId → ℕ → ℕ → PosterSeen
+new_poster queue keys number = record { queue = queue; keys = keys; number = number; posted = [] }
+
+abbrev pub new_taker : TableId → ℕ → ℕ → TakerSeen
+new_taker queue keys made = record { queue = queue; keys = keys; made = made; taken = [] }
+
+-- the taker has made so many posters, which stand in the order of their numbers, and nothing was posted
+pub record IsSeated (queue : TableId) (keys : ℕ) (taker : TakerSeen) (posters : List PosterSeen) (made : ℕ) : Type 0 where
+  pub takes : taker ≡ new_taker queue keys made
+  pub count : length posters ≡ made
+  pub posts : (number : ℕ) → number < made → slice_get posters number ≡ Some (new_poster queue keys number)
+
+-- a new queue of that capacity with its tokens, which know a number above each key
+pub record IsOpened (capacity count keys : ℕ) (queue : Queue) (posters : List PosterSeen) (taker : TakerSeen) : Type 0 where
+  pub room : queue.capacity ≡ capacity
+  pub tokens : IsSeated queue.id keys taker posters count
+
+-- it is the same poster, or taker, of the same queue
+pub record IsSamePoster (old new : PosterSeen) : Type 0 where
+  pub queue : new.queue ≡ old.queue
+  pub keys : new.keys ≡ old.keys
+  pub number : new.number ≡ old.number
+
+pub record IsSameTaker (old new : TakerSeen) : Type 0 where
+  pub queue : new.queue ≡ old.queue
+  pub keys : new.keys ≡ old.keys
+  pub made : new.made ≡ old.made
+
+-- at one moment the queue held as many as it may, and the poster's part of what had been posted was its own list
+pub record WasFull (capacity : ℕ) (poster : PosterSeen) : Type 0 where
+  pub held : List Post
+  pub full : length held ≡ capacity
+  pub moment : Moment (Poster (posting poster)) held
+  pub own : poster.posted ≡ part poster.number moment.delivers.posted
+
+-- at one moment what the taker had taken was all that had been posted
+pub record WasEmpty (taker : TakerSeen) : Type 0 where
+  pub moment : Moment (Taker (taking taker)) []
+  pub all : taker.taken ≡ moment.delivers.posted

@@ -1,0 +1,30 @@
+//! What goes through the queue.
+ghost use Rattle.std.specs.Prelude.{◌≡◌};
+ghost use Rattle.nr_trigger.specs.Posts.{named};
+
+use nr_map::Ticket;
+
+/// What a ticket names: the key whose rows are to be had, and which of its requests asked.
+#[derive(Clone, Copy, Debug, PartialEq, Eq)]
+pub struct Upquery {
+    pub key: u32,
+    pub number: u64,
+}
+
+impl Upquery {
+    pub(crate) fn of(ticket: &Ticket) -> Upquery
+        ensures { result ≡ named ticket.now }
+    {
+        Upquery {
+            key: ticket.key(),
+            number: ticket.number(),
+        }
+    }
+}
+
+/// An upquery on its way, with the number of its poster.
+#[derive(Clone, Copy, Debug, PartialEq, Eq)]
+pub struct Post {
+    pub poster: u32,
+    pub upquery: Upquery,
+}

@@ -1,0 +1,263 @@
+//! What is asserted does not depend on how the threads' steps fall. Each `open` is made once more
+//! where memory was refused, so these tests pass as well where any one allocation fails
+//! (`rt try --test --fail-alloc N`, for each N from 1 on).
+ghost use Rattle.std.specs.Prelude.{◌≡◌, ◌<◌, ◌≤◌, ◌+◌, All, IfOk};
+
+use crate::{Poster, Taker, Triggers};
+use nr_map::{Asked, Reader, ReaderMap, Ticket, Writer};
+use nr_model::OpenFault;
+use std::alloc::Global;
+use std::process::Abort;
+use std::sync::Wait;
+use std::test::Fail;
+use std::thread;
+use std::thread::{Threads, join};
+
+fn map_of(
+    alloc: Global,
+    keys: u32,
+    readers: u32,
+) -> Result<(ReaderMap, Writer, Vec<Reader>), OpenFault>
+    ensures keys { IfOk result (λ opened. opened.0.shape.keys ≡ keys) }
+    ensures readers { IfOk result (λ opened. All (λ reader. reader.table ≡ opened.0) opened.2.items) }
+{
+    match ReaderMap::open(alloc, keys, 1, readers, 0) {
+        Err(OpenFault::Memory) => ReaderMap::open(alloc, keys, 1, readers, 0),
+        opened => opened,
+    }
+}
+
+// A queue for keys below 20.
+fn queue_of(
+    alloc: Global,
+    capacity: u32,
+    posters: u32,
+) -> Result<(Triggers, Vec<Poster>, Taker), OpenFault>
+    ensures taker { IfOk result (λ opened. opened.2.queue ≡ opened.0.id) }
+    ensures posters { IfOk result (λ opened. All (λ poster. (poster.queue ≡ opened.0.id) × (poster.keys ≡ 20)) opened.1.items) }
+{
+    match Triggers::open(alloc, capacity, posters) {
+        Err(OpenFault::Memory) => Triggers::open(alloc, capacity, posters),
+        opened => opened,
+    }
+}
+
+fn sent(rt: &impl Abort, map: &ReaderMap, reader: &mut Reader, key: u32) -> Ticket
+    requires own { reader.old.table ≡ map.now }
+    requires key { key < map.now.shape.keys }
+    ensures own { reader.new.table ≡ map.now }
+    ensures key { result.key ≡ key }
+{
+    match map.ask(reader, key) {
+        Asked::Send(ticket) => ticket,
+        Asked::Waiting | Asked::Filled => panic!(rt; "the key was asked for before"),
+    }
+}
+
+fn post_now<R: Abort + Wait>(rt: &R, triggers: &Triggers, poster: &mut Poster, ticket: Ticket)
+    requires own { poster.old.queue ≡ triggers.now.id }
+    requires key { ticket.key < poster.old.keys }
+    ensures own { (poster.new.queue ≡ triggers.now.id) × (poster.new.keys ≡ poster.old.keys) }
+{
+    if let Err(back) = triggers.post(rt, poster, ticket) {
+        back.into_key();
+        panic!(rt; "the queue was full")
+    }
+}
+
+fn handed_back<R: Abort + Wait>(
+    rt: &R,
+    triggers: &Triggers,
+    poster: &mut Poster,
+    ticket: Ticket,
+) -> Ticket
+    requires own { poster.old.queue ≡ triggers.now.id }
+    requires key { ticket.key < poster.old.keys }
+    ensures own { (poster.new.queue ≡ triggers.now.id) × (poster.new.keys ≡ poster.old.keys) }
+    ensures same { result ≡ ticket }
+{
+    match triggers.post(rt, poster, ticket) {
+        Ok(()) => panic!(rt; "the queue was not full"),
+        Err(back) => back,
+    }
+}
+
+/// The key and the number of what is at the front.
+fn taken(rt: &impl Wait, triggers: &Triggers, taker: &mut Taker) -> Option<(u32, u64)>
+    requires own { taker.old.queue ≡ triggers.now.id }
+    ensures own { taker.new.queue ≡ triggers.now.id }
+{
+    let trigger = triggers.take(rt, taker)?;
+    let number = trigger.number();
+    let key = trigger.key();
+    trigger.into_key();
+    Some((key, number))
+}
+
+#[test]
+fn a_full_queue_hands_the_ticket_back(rt: HostRuntime) -> Result<(), Fail> {
+    let (map, _writer, mut readers) = map_of(rt.alloc(), 2, 1)?;
+    let (triggers, mut posters, mut taker) = queue_of(rt.alloc(), 1, 1)?;
+    let (Some(mut reader), Some(mut poster)) = (readers.pop(), posters.pop()) else {
+        return Ok(());
+    };
+    let first = sent(&rt, &map, &mut reader, 0);
+    post_now(&rt, &triggers, &mut poster, first);
+    let second = sent(&rt, &map, &mut reader, 1);
+    let second = handed_back(&rt, &triggers, &mut poster, second);
+    assert_eq!(rt; second.key(), 1);
+    assert_eq!(rt; taken(&rt, &triggers, &mut taker), Some((0, 0)));
+    post_now(&rt, &triggers, &mut poster, second);
+    assert_eq!(rt; taken(&rt, &triggers, &mut taker), Some((1, 0)));
+    assert_eq!(rt; taken(&rt, &triggers, &mut taker), None);
+    Ok(())
+}
+
+#[test]
+fn sizes_have_their_limits(rt: HostRuntime) {
+    for (capacity, posters) in [(0, 1), (65_537, 1), (1, 0), (1, 1025)] {
+        assert!(rt;
+            matches!(
+                queue_of(rt.alloc(), capacity, posters),
+                Err(OpenFault::BadSize)
+            )
+        );
+    }
+    for (capacity, posters) in [(1, 1), (65_536, 1), (1, 1024)] {
+        assert!(rt; queue_of(rt.alloc(), capacity, posters).is_ok());
+    }
+}
+
+// Posts the ticket, again whenever it comes back.
+fn post_at_last(rt: &impl Wait, triggers: &Triggers, poster: &mut Poster, mut ticket: Ticket)
+    requires own { poster.old.queue ≡ triggers.now.id }
+    requires key { ticket.key < poster.old.keys }
+    ensures own { (poster.new.queue ≡ triggers.now.id) × (poster.new.keys ≡ poster.old.keys) }
+{
+    for _ in rt.forever() {
+        match triggers.post(rt, poster, ticket) {
+            Ok(()) => return,
+            Err(back) => {
+                ticket = back;
+                thread::yield_now();
+            }
+        }
+    }
+    unreachable!()
+}
+
+// Asks for ten keys and posts their tickets, in order.
+fn post_ten<R: Abort + Wait>(
+    rt: &R,
+    map: &ReaderMap,
+    triggers: &Triggers,
+    mut reader: Reader,
+    mut poster: Poster,
+    from: u32,
+)
+    requires map { (reader.table ≡ map.now) × (map.now.shape.keys ≡ 20) }
+    requires queue { (poster.queue ≡ triggers.now.id) × (poster.keys ≡ 20) }
+    requires from { from ≤ 10 }
+{
+    for key in from..from + 10 {
+        let ticket = sent(rt, map, &mut reader, key);
+        post_at_last(rt, triggers, &mut poster, ticket);
+    }
+}
+
+// Takes until it has twenty keys.
+fn take_twenty(rt: &impl Wait, triggers: &Triggers, mut taker: Taker) -> [u32; 20]
+    requires { taker.queue ≡ triggers.now.id }
+{
+    let mut keys = [0; 20];
+    let mut count = 0;
+    for _ in rt.forever() {
+        if count == 20 {
+            return keys;
+        }
+        match taken(rt, triggers, &mut taker) {
+            Some((key, _)) => {
+                keys[count] = key;
+                count += 1;
+            }
+            None => thread::yield_now(),
+        }
+    }
+    unreachable!()
+}
+
+fn both_post<R: Abort + Threads + Wait + Sync>(
+    rt: &R,
+    map: &ReaderMap,
+    triggers: &Triggers,
+    readers: (Reader, Reader),
+    posters: (Poster, Poster),
+)
+    requires map { (readers.0.table ≡ map.now) × (readers.1.table ≡ map.now) × (map.now.shape.keys ≡ 20) }
+    requires queue { (posters.0.queue ≡ triggers.now.id) × (posters.1.queue ≡ triggers.now.id) }
+    requires keys { (posters.0.keys ≡ 20) × (posters.1.keys ≡ 20) }
+{
+    let (one, two) = readers;
+    let (first, second) = posters;
+    join(
+        rt,
+        move ||
+            requires { (one.table ≡ map.now) × (map.now.shape.keys ≡ 20) × (first.queue ≡ triggers.now.id) × (first.keys ≡ 20) }
+        { post_ten(rt, map, triggers, one, first, 0) },
+        move ||
+            requires { (two.table ≡ map.now) × (map.now.shape.keys ≡ 20) × (second.queue ≡ triggers.now.id) × (second.keys ≡ 20) }
+        { post_ten(rt, map, triggers, two, second, 10) },
+    );
+}
+
+fn all_at_once<R: Abort + Threads + Wait + Sync>(
+    rt: &R,
+    map: &ReaderMap,
+    triggers: &Triggers,
+    readers: (Reader, Reader),
+    posters: (Poster, Poster),
+    taker: Taker,
+) -> [u32; 20]
+    requires map { (readers.0.table ≡ map.now) × (readers.1.table ≡ map.now) × (map.now.shape.keys ≡ 20) }
+    requires queue { (posters.0.queue ≡ triggers.now.id) × (posters.1.queue ≡ triggers.now.id) × (taker.queue ≡ triggers.now.id) }
+    requires keys { (posters.0.keys ≡ 20) × (posters.1.keys ≡ 20) }
+{
+    let (one, two) = readers;
+    let (first, second) = posters;
+    let (keys, ()) = join(
+        rt,
+        move || -> [u32; 20]
+            requires { taker.queue ≡ triggers.now.id }
+        { take_twenty(rt, triggers, taker) },
+        move ||
+            requires { (one.table ≡ map.now) × (two.table ≡ map.now) × (map.now.shape.keys ≡ 20) × (first.queue ≡ triggers.now.id) × (second.queue ≡ triggers.now.id) × (first.keys ≡ 20) × (second.keys ≡ 20) }
+        { both_post(rt, map, triggers, (one, two), (first, second)) },
+    );
+    keys
+}
+
+#[test]
+fn each_ticket_comes_once_and_in_order(rt: HostRuntime) -> Result<(), Fail> {
+    let (map, _writer, mut readers) = map_of(rt.alloc(), 20, 2)?;
+    let (triggers, mut posters, taker) = queue_of(rt.alloc(), 3, 2)?;
+    let (Some(one), Some(two)) = (readers.pop(), readers.pop()) else {
+        return Ok(());
+    };
+    let (Some(first), Some(second)) = (posters.pop(), posters.pop()) else {
+        return Ok(());
+    };
+    let keys = all_at_once(&rt, &map, &triggers, (one, two), (first, second), taker);
+    let mut low = 0;
+    let mut high = 10;
+    for key in keys {
+        if key < 10 {
+            assert_eq!(rt; key, low);
+            low += 1;
+        } else {
+            assert!(rt; key == high && high < 20);
+            high += 1;
+        }
+    }
+    assert_eq!(rt; (low, high), (10, 20));
+    Ok(())
+}

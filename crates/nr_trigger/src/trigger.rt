@@ -1,0 +1,49 @@
+//! What the dataflow takes.
+ghost use Rattle.std.specs.Prelude.{◌≡◌};
+
+use crate::post::Post;
+use std::marker::Model;
+
+/// A ticket that was posted, for the dataflow to fill its key. It can't be dropped: it must be
+/// spent by whoever fills the key.
+pub struct Trigger {
+    post: Post,
+}
+
+impl Model for Trigger {
+    ghost use Rattle.nr_trigger.specs.declared.post.Post.{Post as Posted};
+
+    ghost Value = { Posted };
+
+    ghost view = { λ trigger. trigger.post };
+}
+
+impl Trigger {
+    pub(crate) fn of(post: Post) -> Trigger
+        ensures { result ≡ post }
+    {
+        Trigger { post }
+    }
+
+    /// The key that was requested.
+    pub fn key(&self) -> u32
+        ensures { result ≡ self.now.upquery.key }
+    {
+        self.post.upquery.key
+    }
+
+    /// Which of the key's requests it is.
+    pub fn number(&self) -> u64
+        ensures { result ≡ self.now.upquery.number }
+    {
+        self.post.upquery.number
+    }
+
+    /// The key that was requested. The trigger is spent.
+    pub fn into_key(self) -> u32
+        ensures { result ≡ self.upquery.key }
+    {
+        let Trigger { post } = self;
+        post.upquery.key
+    }
+}

@@ -1,0 +1,178 @@
+//! The queue of tickets.
+ghost use Rattle.std.specs.Prelude.{◌≡◌, ◌<◌, ◌+◌, ◌⊎◌, ◌↔◌, ℕ, length, [], ◌++◌, ◌∷◌, Err, IfOk, IfErr, IsTrue, MatchOption, MatchResult};
+ghost use Rattle.nr_model.specs.Sizes.{IsBadSize};
+ghost use Rattle.nr_trigger.specs.Posts.{named};
+ghost use Rattle.nr_trigger.specs.Tokens.{IsOpened, IsSeated, IsSamePoster, IsSameTaker, WasEmpty, WasFull, new_poster, new_taker};
+ghost use Rattle.nr_trigger.specs.Views.{Opener};
+
+use crate::post::{Post, Upquery};
+use crate::rule::{Begins, Law, Limit, Pops, Pushes, Seats};
+use crate::tokens::{Poster, Seat, Taker};
+use crate::trigger::Trigger;
+use crate::view::View;
+use crossbeam_queue::RuledArrayQueue;
+use nr_map::Ticket;
+use nr_model::{OpenFault, is_bad_size};
+use std::alloc::{AllocError, Global};
+use std::marker::{Brand, Model};
+use std::sync::Wait;
+
+pub const MAX_CAPACITY: u32 = 65536;
+
+pub const MAX_POSTERS: u32 = 1024;
+
+/// Tickets on their way, shared by the posters and the taker.
+#[derive(Drop)]
+pub struct Triggers {
+    queue: RuledArrayQueue<Post, View, Law>,
+}
+
+impl Model for Triggers {
+    ghost use Rattle.crossbeam_queue.specs.Passes.{ruled_capacity};
+    ghost use Rattle.nr_trigger.specs.Tokens.{Queue};
+
+    ghost Value = { Queue };
+
+    ghost view = { λ triggers. record { id = triggers.queue.table.shared.table_id; capacity = ruled_capacity triggers.queue } };
+}
+
+impl Triggers {
+    /// A queue with its posters and its taker. Refused where a size is out of its limits, a
+    /// capacity of 1 to 65,536 tickets and 1 to 1,024 posters, and then where there is no memory.
+    /// Contracts are told a number above each key that will be posted.
+    pub fn open(
+        alloc: Global,
+        capacity: u32,
+        posters: u32,
+    ) -> Result<(Triggers, Vec<Poster>, Taker), OpenFault>
+        ghost keys: { ℕ }
+        ensures bad_size { (result ≡ Err OpenFault.BadSize) ↔ (IsBadSize MAX_CAPACITY capacity ⊎ IsBadSize MAX_POSTERS posters) }
+        ensures ok { IfOk result (λ opened. IsOpened capacity posters keys opened.0 opened.1.items opened.2) }
+    {
+        if is_bad_size(MAX_CAPACITY, capacity) || is_bad_size(MAX_POSTERS, posters) {
+            return Err(OpenFault::BadSize);
+        }
+        seated(alloc, capacity, posters).map_err(|_| OpenFault::Memory)
+    }
+
+    /// Puts what the ticket names at the back, and spends the ticket. It comes back where the queue
+    /// was full at one moment of the call. May wait for a thread that is within a call of its own.
+    pub fn post<R: Wait>(&self, rt: &R, poster: &mut Poster, ticket: Ticket) -> Result<(), Ticket>
+        requires own { poster.old.queue ≡ self.now.id }
+        requires key { ticket.key < poster.old.keys }
+        ensures own { IsSamePoster poster.old poster.new }
+        ensures posted { MatchResult result (λ _. poster.new.posted ≡ poster.old.posted ++ named ticket ∷ []) (λ back. (back ≡ ticket) × (poster.new ≡ poster.old)) }
+        ensures full { IfErr result (λ _. WasFull self.now.capacity poster.old) }
+    {
+        match self.push(rt, poster, Upquery::of(&ticket)) {
+            Ok(()) => {
+                ticket.into_key();
+                Ok(())
+            }
+            Err(_) => Err(ticket),
+        }
+    }
+
+    /// Takes what is at the front. None where the queue was empty at one moment of the call. May
+    /// wait for a thread that is within a call of its own.
+    pub fn take<R: Wait>(&self, rt: &R, taker: &mut Taker) -> Option<Trigger>
+        requires own { taker.old.queue ≡ self.now.id }
+        ensures own { IsSameTaker taker.old taker.new }
+        ensures taken { MatchOption result (taker.new ≡ taker.old) (λ trigger. taker.new.taken ≡ taker.old.taken ++ trigger ∷ []) }
+        ensures key { MatchOption result (WasEmpty taker.old) (λ trigger. trigger.upquery.key < taker.old.keys) }
+    {
+        Some(Trigger::of(self.pop(rt, taker)?))
+    }
+
+    // Puts it at the back, as this poster's.
+    fn push<R: Wait>(&self, rt: &R, poster: &mut Poster, upquery: Upquery) -> Result<(), Post>
+        requires own { poster.old.queue ≡ self.now.id }
+        requires key { upquery.key < poster.old.keys }
+        ensures own { IsSamePoster poster.old poster.new }
+        ensures posted { MatchResult result (λ _. poster.new.posted ≡ poster.old.posted ++ upquery ∷ []) (λ _. poster.new ≡ poster.old) }
+        ensures full { IfErr result (λ _. WasFull self.now.capacity poster.old) }
+    {
+        let post = Post {
+            poster: poster.number,
+            upquery,
+        };
+        self.queue.push_as::<Pushes, R>(rt, &mut poster.seat, post)
+    }
+
+    // Takes what is at the front.
+    fn pop<R: Wait>(&self, rt: &R, taker: &mut Taker) -> Option<Post>
+        requires own { taker.old.queue ≡ self.now.id }
+        ensures own { IsSameTaker taker.old taker.new }
+        ensures taken { MatchOption result (taker.new ≡ taker.old) (λ post. taker.new.taken ≡ taker.old.taken ++ post ∷ []) }
+        ensures key { MatchOption result (WasEmpty taker.old) (λ post. post.upquery.key < taker.old.keys) }
+    {
+        self.queue.pop_as::<Pops, R>(rt, &mut taker.seat)
+    }
+
+    // The taker, whose pass is the queue's first.
+    fn seat_taker(&self, seat: Seat) -> Taker
+        ghost keys: { ℕ }
+        requires own { (seat.table_id ≡ self.now.id) × (seat.me.1 ≡ []) }
+        requires first { seat.me.0.client ≡ Opener }
+        ensures { result ≡ new_taker self.now.id keys 0 }
+    {
+        self.begin::<Brand>(seat)
+    }
+
+    fn begin<L: Limit>(&self, seat: Seat) -> Taker
+        requires own { (seat.table_id ≡ self.now.id) × (seat.me.1 ≡ []) }
+        requires first { seat.me.0.client ≡ Opener }
+        ensures { result ≡ new_taker self.now.id L.keys 0 }
+    {
+        let mut seat = seat;
+        let _spare = self.queue.another::<Begins<L>>(&mut seat);
+        Taker { seat }
+    }
+
+    // The next poster.
+    fn seat_poster(&self, taker: &mut Taker, number: u32) -> Poster
+        ghost keys: { ℕ }
+        requires next { taker.old ≡ new_taker self.now.id keys number }
+        ensures taker { taker.new ≡ new_taker self.now.id keys (number + 1) }
+        ensures poster { result ≡ new_poster self.now.id keys number }
+    {
+        let seat = self.queue.another::<Seats>(&mut taker.seat);
+        Poster { seat, number }
+    }
+}
+
+// A queue of those sizes, with its tokens.
+fn seated(
+    alloc: Global,
+    capacity: u32,
+    posters: u32,
+) -> Result<(Triggers, Vec<Poster>, Taker), AllocError>
+    ghost keys: { ℕ }
+    requires { 0 < capacity }
+    ensures { IfOk result (λ opened. IsOpened capacity posters keys opened.0 opened.1.items opened.2) }
+{
+    let (queue, seat) = RuledArrayQueue::ruled(alloc, capacity as usize)?;
+    let triggers = Triggers { queue };
+    let mut taker = triggers.seat_taker(seat);
+    let tokens = seat_posters(alloc, &triggers, &mut taker, posters)?;
+    Ok((triggers, tokens, taker))
+}
+
+// The posters, which the taker makes one by one.
+fn seat_posters(
+    alloc: Global,
+    triggers: &Triggers,
+    taker: &mut Taker,
+    count: u32,
+) -> Result<Vec<Poster>, AllocError>
+    ghost keys: { ℕ }
+    requires { taker.old ≡ new_taker triggers.now.id keys 0 }
+    ensures { IfOk result (λ posters. IsSeated triggers.now.id keys taker.new posters.items count) }
+{
+    let mut posters = Vec::with_capacity(alloc, count as usize)?;
+    for number in 0..count {
+        let poster = triggers.seat_poster(taker, number);
+        posters.push(poster)?;
+    }
+    Ok(posters)
+}
