@@ -77,6 +77,7 @@ fn line_feeds(bytes: &[u8]) -> usize {
 #[derive(Drop)]
 struct Impatient<'a> {
     chunks: &'a [&'static str],
+    next: usize,
     given: usize,
     answered: &'a Cell<usize>,
 }
@@ -86,11 +87,11 @@ impl Read for Impatient<'_> {
         if self.answered.get() != self.given {
             return Err(ErrorKind::Interrupted.into());
         }
-        let Some((chunk, rest)) = self.chunks.split_first() else {
+        let Some(chunk) = self.chunks.get(self.next) else {
             return Ok(0);
         };
         let mut bytes = chunk.as_bytes();
-        self.chunks = rest;
+        self.next = self.next.saturating_add(1);
         self.given = self.given.saturating_add(line_feeds(bytes));
         bytes.read(buf)
     }
@@ -119,6 +120,7 @@ fn each_line_is_answered_before_the_next_read(rt: HostRuntime) {
     let answered = Cell::new(0);
     let mut reader = Impatient {
         chunks: &["one\n", "two\nthree\nfo", "ur\n", "\n", "five"],
+        next: 0,
         given: 0,
         answered: &answered,
     };
