@@ -87,17 +87,23 @@ fn a_worn_request_is_ended_by_its_own_fill_alone(rt: HostRuntime) -> Result<(), 
     };
     let none = RowSet::new();
     assert_eq!(rt; spent(map.ask(&mut reader, 0)), Told::Send(0, 4_194_303));
-    for _ in 0..3 {
-        assert_eq!(rt; map.cancel(&mut writer, 0), Cancel::Worn);
-        assert_eq!(rt; map.evict(&mut writer, 0), Evict::Nothing);
-        for late in [0, 4_194_302, 4_194_304, u64::MAX] {
-            assert_eq!(rt;
-                map.fill(&mut writer, 0, late, &none),
-                Err(FillFault::Stale)
-            );
-        }
-        assert_eq!(rt; map.state(&mut writer, 0), KeyKind::Asked);
-    }
+    assert_eq!(rt; map.cancel(&mut writer, 0), Cancel::Worn);
+    assert_eq!(rt; map.evict(&mut writer, 0), Evict::Nothing);
+    assert_eq!(rt; map.fill(&mut writer, 0, 0, &none), Err(FillFault::Stale));
+    assert_eq!(rt;
+        map.fill(&mut writer, 0, 4_194_302, &none),
+        Err(FillFault::Stale)
+    );
+    assert_eq!(rt;
+        map.fill(&mut writer, 0, 4_194_304, &none),
+        Err(FillFault::Stale)
+    );
+    assert_eq!(rt;
+        map.fill(&mut writer, 0, u64::MAX, &none),
+        Err(FillFault::Stale)
+    );
+    assert_eq!(rt; map.cancel(&mut writer, 0), Cancel::Worn);
+    assert_eq!(rt; map.state(&mut writer, 0), KeyKind::Asked);
     assert_eq!(rt; map.fill(&mut writer, 0, 4_194_303, &none), Ok(()));
     assert_eq!(rt; map.state(&mut writer, 0), KeyKind::Rows);
     Ok(())
@@ -329,7 +335,47 @@ fn all_are_as(map: &ReaderMap, writer: &mut Writer, model: &SeqMap) -> bool
     same
 }
 
-/// Makes drawn calls on a map and on the model: whether all replies and all keys' states agreed.
+/// Makes a drawn call on the map and on the model: whether the replies, and then all keys' states,
+/// agreed.
+fn agrees(
+    map: &ReaderMap,
+    writer: &mut Writer,
+    reader: &mut Reader,
+    model: &mut SeqMap,
+    dice: &mut Dice,
+) -> Result<bool, Fail>
+    requires own { (writer.old.table ≡ map.now) × (reader.old.table ≡ map.now) }
+    ensures own { (writer.new.table ≡ map.now) × (reader.new.table ≡ map.now) }
+{
+    if model.keys() != map.keys() {
+        return Ok(false);
+    }
+    let call = dice.call(model)?;
+    let reply = model.call(&call);
+    let same = answers(map, writer, reader, &call, &reply);
+    if model.keys() != map.keys() {
+        return Ok(false);
+    }
+    Ok(all_are_as(map, writer, model) && same)
+}
+
+fn runs_as(
+    map: &ReaderMap,
+    mut writer: Writer,
+    mut reader: Reader,
+    mut model: SeqMap,
+    mut dice: Dice,
+) -> Result<bool, Fail>
+    requires own { (writer.table ≡ map.now) × (reader.table ≡ map.now) }
+{
+    let mut same = true;
+    for _ in 0..16 {
+        same = agrees(map, &mut writer, &mut reader, &mut model, &mut dice)? && same;
+    }
+    Ok(same)
+}
+
+/// Whether a new map of drawn sizes and numbers does as the model.
 fn runs_as_the_model(alloc: Global, seed: u64) -> Result<bool, Fail> {
     let mut dice = Dice { state: seed };
     let keys = 1 + dice.roll(3) as u32;
@@ -340,19 +386,12 @@ fn runs_as_the_model(alloc: Global, seed: u64) -> Result<bool, Fail> {
         first_count: seed,
         first_number: LAST_NUMBER - dice.roll(3),
     };
-    let (map, mut writer, mut readers) = ReaderMap::open_with(alloc, &shape)?;
-    let Some(mut reader) = readers.pop() else {
+    let (map, writer, mut readers) = ReaderMap::open_with(alloc, &shape)?;
+    let Some(reader) = readers.pop() else {
         return Ok(false);
     };
-    let mut model = SeqMap::open_with(alloc, keys, shape.first_number)?;
-    let mut same = true;
-    for _ in 0..16 {
-        let call = dice.call(&model)?;
-        let reply = model.call(&call);
-        same = answers(&map, &mut writer, &mut reader, &call, &reply) && same;
-        same = all_are_as(&map, &mut writer, &model) && same;
-    }
-    Ok(same)
+    let model = SeqMap::open_with(alloc, keys, shape.first_number)?;
+    runs_as(&map, writer, reader, model, dice)
 }
 
 #[test]

@@ -1,11 +1,10 @@
 //! Readers hold sets, and the writer's polls find them held. What is asserted does not depend on how
 //! the threads' steps fall.
-ghost use Rattle.std.specs.Prelude.{◌≡◌, ◌<◌, All, IfOk};
+ghost use Rattle.std.specs.Prelude.{◌≡◌, ◌<◌};
 
 use crate::tests::{Told, added, pairs_are, rows_of, spent};
 use crate::{Asked, Found, KeyKind, NoSlot, Pin, Reader, ReaderMap, UpdateFault, Writer};
-use nr_model::{Batch, Delta, OpenFault, Row, RowSet};
-use std::alloc::Global;
+use nr_model::{Batch, Delta, Row, RowSet};
 use std::test::Fail;
 use std::thread::{Threads, join};
 
@@ -217,21 +216,15 @@ fn update_beside<R: Threads + Sync>(
     )
 }
 
-fn opened(alloc: Global) -> Result<(ReaderMap, Writer, Vec<Reader>), OpenFault>
-    ensures { IfOk result (λ opened. (0 < opened.0.shape.keys) × (opened.1.table ≡ opened.0) × All (λ reader. reader.table ≡ opened.0) opened.2.items) }
-{
-    match ReaderMap::open(alloc, 2, 6, 3, u64::MAX) {
-        Err(OpenFault::Memory) => ReaderMap::open(alloc, 2, 6, 3, u64::MAX),
-        opened => opened,
-    }
-}
-
 #[test]
 fn updates_beside_pins_are_all_done(rt: HostRuntime) -> Result<(), Fail> {
-    let (map, mut writer, mut readers) = opened(rt.alloc())?;
-    let three = readers.pop().ok_or("no third reader")?;
-    let two = readers.pop().ok_or("no second reader")?;
-    let mut one = readers.pop().ok_or("no first reader")?;
+    let (map, mut writer, mut readers) = ReaderMap::open(rt.alloc(), 2, 6, 3, u64::MAX)?;
+    let (Some(three), Some(two)) = (readers.pop(), readers.pop()) else {
+        return Err(Fail::from("too few readers"));
+    };
+    let Some(mut one) = readers.pop() else {
+        return Err(Fail::from("too few readers"));
+    };
     assert_eq!(rt; spent(map.ask(&mut one, 0)), Told::Send(0));
     map.fill(&mut writer, 0, 0, &RowSet::new())?;
     let (updates, pins) = update_beside(&rt, &map, writer, one, two, three);

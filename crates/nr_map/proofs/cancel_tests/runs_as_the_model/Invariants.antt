@@ -1,6 +1,0 @@
-use Rattle.std.proofs.Common.{◌≡◌}
-use Rattle.nr_model.specs.Maps.{key_count}
-use Rattle.nr_map.proofs.cancel_tests.runs_as_the_model.Given as goal
-
-abbrev pub invariant-loop : goal.invariant-loop
-invariant-loop l = (l.writer.table ≡ l.map) × (l.reader.table ≡ l.map) × (key_count l.model ≡ l.map.shape.keys)
