@@ -260,6 +260,27 @@ fn gathered(map: &ReaderMap, writer: &mut Writer, reader: Reader) -> Option<(u32
     Some((number, held))
 }
 
+// The second reader finds key 0 after it met the first one, which had met the writer.
+fn finds_by_meeting(
+    map: &ReaderMap,
+    writer: &mut Writer,
+    one: &mut Reader,
+    two: &mut Reader,
+    rows: &mut RowSet,
+) -> Found
+    requires writer { writer.old.table ≡ map.now }
+    requires one { one.old.table ≡ map.now }
+    requires two { two.old.table ≡ map.now }
+    requires key { 0 < map.now.shape.keys }
+    ensures writer { writer.new.table ≡ map.now }
+    ensures one { one.new.table ≡ map.now }
+    ensures two { two.new.table ≡ map.now }
+{
+    map.meet(one, writer);
+    map.meet_readers(two, one);
+    map.find(two, 0, rows)
+}
+
 #[test]
 fn tokens_meet(rt: HostRuntime) -> Result<(), Fail> {
     let (map, mut writer, mut readers) = ReaderMap::open(rt.alloc(), 2, 3, 2, 0)?;
@@ -268,10 +289,9 @@ fn tokens_meet(rt: HostRuntime) -> Result<(), Fail> {
     assert!(rt; is_sent(map.ask(&mut one, 1), 1));
     assert!(rt; is_sent(map.ask(&mut one, 0), 0));
     map.fill(&mut writer, 0, 0, &rows_of(&[(5, 5)])?)?;
-    map.meet(&mut one, &mut writer);
-    map.meet_readers(&mut two, &mut one);
     let mut rows = RowSet::new();
-    assert_eq!(rt; map.find(&mut two, 0, &mut rows), Found::Rows);
+    let found = finds_by_meeting(&map, &mut writer, &mut one, &mut two, &mut rows);
+    assert_eq!(rt; found, Found::Rows);
     assert!(rt; pairs_are(&rows, &[(5, 5)]));
     assert_eq!(rt; gathered(&map, &mut writer, one), Some((1, row(5))));
     map.gather(&mut writer, &mut two);

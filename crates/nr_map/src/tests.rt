@@ -290,7 +290,8 @@ fn write_often(map: &ReaderMap, mut writer: Writer, hits: &Hits) -> Result<bool,
         if map.look(&mut writer, 0, &mut rows) == Found::Rows {
             whole = whole && is_whole(&rows);
         }
-        if mark % 4 == 3 && hits.both() {
+        let evicts = mark % 4 == 3 && hits.both();
+        if evicts {
             let _ = map.evict(&mut writer, 0);
         } else if map.fill(&mut writer, 0, 0, &marked(mark)?) == Err(FillFault::Already) {
             let _ = map.update(&mut writer, 0, &renewal(&rows, mark)?);
