@@ -1,3 +1,4 @@
+pub mod Dialogue
 pub mod Input
 pub mod Limits
 pub mod Lines

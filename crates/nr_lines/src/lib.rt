@@ -14,4 +14,4 @@ mod tests;
 pub use fault::RunFault;
 pub use input::INPUT_LIMIT;
 pub use machine::{Machine, serve};
-pub use output::write_all;
+pub use output::{set_text, write_all};

@@ -1,9 +1,21 @@
 //! Bytes and replies to a writer.
-ghost use Rattle.std.specs.Prelude.{string_bytes};
+ghost use Rattle.std.specs.Prelude.{◌≡◌, OnOk, IfErr, IfSome, string_bytes};
 ghost use Rattle.nr_lines.specs.Output.{Sends, SendsReply};
 
 use crate::fault::RunFault;
+use std::fmt::Write as _;
+use std::fmt::Display;
 use std::io::Write;
+
+/// Sets the text to what the value displays. Refused with Memory where memory is.
+pub fn set_text<D: Display>(text: &mut String, value: &D) -> Result<(), RunFault>
+    ensures written { OnOk result (IfSome (D.output value.now) (λ bytes. string_bytes text.new ≡ bytes)) }
+    ensures fault { IfErr result (λ fault. fault ≡ RunFault.Memory) }
+{
+    text.clear();
+    let written = write!(text, "{value}");
+    written.map_err(|_| RunFault::Memory)
+}
 
 /// Writes all the bytes. A write that takes none is a fault, and so is any error.
 pub fn write_all<W: Write>(writer: &mut W, bytes: &[u8]) -> Result<(), RunFault>

@@ -13,18 +13,18 @@ use Rattle.nr_core.specs.Machine.{next}
 use Rattle.nr_core.specs.Laws.{AllGiven}
 use Rattle.nr_schedule.specs.declared.command.Command.{Command}
 use Rattle.nr_schedule.specs.declared.command.Command.TheVariants as commands
-use Rattle.nr_schedule.specs.Commands.{command, one_number, two_numbers, alone, filling, filling_as, updating, by_writer}
-use Rattle.nr_text.specs.Grammar.{words, number, row, delta, each, set_of, batch_of}
+use Rattle.nr_schedule.specs.Commands.{command, one_number, two_numbers, alone, by_writer}
+use Rattle.nr_text.specs.Grammar.{words, number, row, delta, each, set_of, batch_of, filling, filling_as, updating}
 use Rattle.nr_text.specs.Opening.{opening, is_in_limits}
 use Rattle.nr_text.specs.declared.opening.Opening.{Opening}
 use Rattle.nr_core.specs.Sizes.{IsShape}
-use Rattle.nr_schedule.specs.Machine.{answer, answer_command}
+use Rattle.nr_schedule.specs.Machine.{answer, answer_tried}
 use Rattle.nr_schedule.specs.Opened.{number_now, opened, shape_of}
 use Rattle.nr_schedule.specs.ScheduleRuns.{fill_event, event_of, event_if, line_event, events, ScheduleRuns}
 use Rattle.nr_lines.specs.Plain.{is_plain, or_bad}
 use Rattle.nr_lines.specs.Text.{after}
 
-command_steps : (state : machine.State) (tried : Option Command) → (answer_command (Some state) tried).1 ≡ Some (fold next state (event_if state tried))
+command_steps : (state : machine.State) (tried : Option Command) → (answer_tried (Some state) tried).1 ≡ Some (fold next state (event_if state tried))
 command_steps state None = refl
 command_steps state (Some (commands.Open opening)) = refl
 command_steps state (Some (commands.Arrive reader key)) = refl
@@ -99,13 +99,13 @@ module _ (state : machine.State) where
   alone_gives made [] given = record { sets = given }
   alone_gives made (word ∷ more) given = gives_none
 
-  filling_gives : (line : List (List ℕ)) → Gives (filling line)
+  filling_gives : (line : List (List ℕ)) → Gives (filling number commands.Fill line)
   filling_gives [] = gives_none
   filling_gives (word ∷ more) =
       chained_gives (λ key. option_map (λ rows. commands.Fill key (set_of rows)) (each row more)) (number word)
       (λ key. mapped_gives (λ rows. commands.Fill key (set_of rows)) (each row more) (λ rows. set_given key (number_now state key) rows (nat_le (length rows) MAX_ROWS) refl))
 
-  filling_as_gives : (line : List (List ℕ)) → Gives (filling_as line)
+  filling_as_gives : (line : List (List ℕ)) → Gives (filling_as number commands.FillAs line)
   filling_as_gives [] = gives_none
   filling_as_gives (word ∷ []) = gives_none
   filling_as_gives (word ∷ spelled ∷ more) =
@@ -113,7 +113,7 @@ module _ (state : machine.State) where
       (λ key. chained_gives (λ n. option_map (λ rows. commands.FillAs key n (set_of rows)) (each row more)) (number spelled)
       (λ n. mapped_gives (λ rows. commands.FillAs key n (set_of rows)) (each row more) (λ rows. set_given key n rows (nat_le (length rows) MAX_ROWS) refl)))
 
-  updating_gives : (line : List (List ℕ)) → Gives (updating line)
+  updating_gives : (line : List (List ℕ)) → Gives (updating number commands.Update line)
   updating_gives [] = gives_none
   updating_gives (word ∷ more) =
       chained_gives (λ key. option_map (λ batch. commands.Update key batch) (option_and_then batch_of (each delta more))) (number word)

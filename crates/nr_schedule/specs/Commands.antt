@@ -3,7 +3,7 @@ use Rattle.std.specs.Prelude.{ℕ, if◌then◌else◌, List, [], ◌∷◌, Opt
 use Rattle.std.specs.Str.{bytes_eq}
 use Rattle.nr_schedule.specs.declared.command.Command.{Command}
 use Rattle.nr_schedule.specs.declared.command.Command.TheVariants.{Open, Arrive, Read, Depart, Ask, Find, Fill, FillAs, Update, Evict, Cancel, Go}
-use Rattle.nr_text.specs.Grammar.{number, row, delta, each, set_of, batch_of}
+use Rattle.nr_text.specs.Grammar.{number, filling, filling_as, updating}
 use Rattle.nr_text.specs.Opening.{opening}
 
 -- a number alone, and two numbers
@@ -15,30 +15,14 @@ abbrev pub two_numbers : (ℕ → ℕ → Command) → List (List ℕ) → Optio
 two_numbers command (first ∷ second ∷ []) = option_and_then (λ a. option_map (λ b. command a b) (number second)) (number first)
 two_numbers command other = None
 
--- a key and rows
-abbrev pub filling : List (List ℕ) → Option Command
-filling [] = None
-filling (word ∷ more) = option_and_then (λ key. option_map (λ rows. Fill key (set_of rows)) (each row more)) (number word)
-
--- a key, the number of its request, and rows
-abbrev pub filling_as : List (List ℕ) → Option Command
-filling_as (word ∷ spelled ∷ more) =
-    option_and_then (λ key. option_and_then (λ n. option_map (λ rows. FillAs key n (set_of rows)) (each row more)) (number spelled)) (number word)
-filling_as other = None
-
--- a key and signed rows
-abbrev pub updating : List (List ℕ) → Option Command
-updating [] = None
-updating (word ∷ more) = option_and_then (λ key. option_map (λ batch. Update key batch) (option_and_then batch_of (each delta more))) (number word)
-
 -- a call of the writer
 abbrev pub by_writer : List (List ℕ) → Option Command
 by_writer [] = None
 by_writer (name ∷ more) =
     if bytes_eq name (codes "find") then one_number Find more
-    else if bytes_eq name (codes "fill") then filling more
-    else if bytes_eq name (codes "fill-as") then filling_as more
-    else if bytes_eq name (codes "update") then updating more
+    else if bytes_eq name (codes "fill") then filling number Fill more
+    else if bytes_eq name (codes "fill-as") then filling_as number FillAs more
+    else if bytes_eq name (codes "update") then updating number Update more
     else if bytes_eq name (codes "evict") then one_number Evict more
     else if bytes_eq name (codes "cancel") then one_number Cancel more
     else None

@@ -1,6 +1,7 @@
 -- A schedule from its first line on: closed until it is opened; its reply to each line, and its text.
 use Rattle.std.specs.Prelude.{ℕ, if◌then◌else◌, List, Option, None, Some, Result, Ok, Err}
 use Rattle.nr_core.specs.States as machine
+use Rattle.nr_lines.specs.Dialogue.{answer_command, in_words}
 use Rattle.nr_lines.specs.Plain.{or_bad}
 use Rattle.nr_lines.specs.Text.{text}
 use Rattle.nr_text.specs.Grammar.{words}
@@ -12,7 +13,7 @@ use Rattle.nr_schedule.specs.declared.answer.StepAnswer.TheVariants as answers
 use Rattle.nr_schedule.specs.declared.answer.StepRefusal.{StepRefusal}
 use Rattle.nr_schedule.specs.declared.answer.StepRefusal.TheVariants as refusals
 use Rattle.nr_schedule.specs.Commands.{command}
-use Rattle.nr_schedule.specs.Opened.{Outcome, opened, answer_opened}
+use Rattle.nr_schedule.specs.Opened.{opened, answer_opened}
 use Rattle.nr_schedule.specs.Spelling.{spelled}
 
 -- a schedule's machine, where it was opened
@@ -27,23 +28,16 @@ abbrev pub answer_closed : Command → Result StepAnswer StepRefusal × State
 answer_closed (Open opening) = if is_in_limits opening then (Ok answers.Ok, Some (opened opening)) else (Err refusals.Bad, None)
 answer_closed other = (Err refusals.Closed, None)
 
-abbrev pub stays_open : Outcome → Result StepAnswer StepRefusal × State
-stays_open (said, state) = (said, Some state)
-
-abbrev pub answer_command : State → Option Command → Result StepAnswer StepRefusal × State
-answer_command state None = (Err refusals.Bad, state)
-answer_command None (Some command) = answer_closed command
-answer_command (Some state) (Some command) = stays_open (answer_opened state command)
+-- to a command, or to a line that spells none
+abbrev pub answer_tried : State → Option Command → Result StepAnswer StepRefusal × State
+answer_tried = answer_command (Err refusals.Bad) answer_closed answer_opened
 
 abbrev pub answer_line : State → List ℕ → Result StepAnswer StepRefusal × State
-answer_line state line = answer_command state (command (words line))
-
-abbrev pub in_words : Result StepAnswer StepRefusal × State → List ℕ × State
-in_words (said, state) = (spelled said, state)
+answer_line state line = answer_tried state (command (words line))
 
 -- the reply to a plain line, and the state after it
 abbrev pub answer : State → List ℕ → List ℕ × State
-answer state line = in_words (answer_line state line)
+answer state line = in_words spelled (answer_line state line)
 
 -- what a schedule writes for its lines
 abbrev pub schedule_text : List (List ℕ) → List ℕ

@@ -1,7 +1,4 @@
 //! What a line of a schedule is answered.
-ghost use Rattle.std.specs.Prelude.{◌≡◌, OnOk, IfErr, string_bytes};
-ghost use Rattle.nr_schedule.specs.Spelling.{spelled};
-
 use nr_core::{Arrived, AskReply, NoSlot, Refusal, Step, WReply};
 use nr_lines::RunFault;
 use nr_text::ReplyWord;
@@ -40,22 +37,6 @@ impl From<Refusal> for StepRefusal {
 
 /// What a line, or a part of it, comes to where the run goes on: what it asks for, or a refusal.
 pub(crate) type Tried<T> = Result<Result<T, StepRefusal>, RunFault>;
-
-/// Sets the text to what a line is answered, or why it is refused.
-pub(crate) fn write_step(
-    said: &Result<StepAnswer, StepRefusal>,
-    reply: &mut String,
-) -> Result<(), RunFault>
-    ensures written { OnOk result (string_bytes reply.new ≡ spelled said.now) }
-    ensures fault { IfErr result (λ fault. fault ≡ RunFault.Memory) }
-{
-    reply.clear();
-    let written = match said {
-        Ok(answer) => write!(reply, "{answer}"),
-        Err(refusal) => write!(reply, "{refusal}"),
-    };
-    written.map_err(|_| RunFault::Memory)
-}
 
 impl fmt::Display for StepAnswer {
     ghost use Rattle.std.specs.Prelude.{Some};

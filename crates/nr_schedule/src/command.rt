@@ -1,7 +1,7 @@
 //! What a line of a schedule commands.
 ghost use Rattle.std.specs.Prelude.{◌≡◌, ℕ, option_map};
 ghost use Rattle.nr_schedule.specs.declared.command.Command.{Command};
-ghost use Rattle.nr_schedule.specs.Commands.{command, by_writer, filling, updating, one_number, two_numbers};
+ghost use Rattle.nr_schedule.specs.Commands.{command, by_writer, one_number, two_numbers};
 ghost use Rattle.nr_text.specs.Grammar.{words};
 ghost use Rattle.nr_text.specs.Words.{words_left};
 

@@ -4,7 +4,7 @@ use Rattle.std.specs.List.{list_all}
 use Rattle.std.specs.Str.{bytes_eq}
 use Rattle.nr_script.specs.declared.command.Command.{Command}
 use Rattle.nr_script.specs.declared.command.Command.TheVariants.{Open, Find, Ask, Fill, FillAs, Update, Evict, Cancel, Look, Pin, Show, Unpin}
-use Rattle.nr_text.specs.Grammar.{number, row, delta, each, set_of, batch_of}
+use Rattle.nr_text.specs.Grammar.{number, filling, filling_as, updating}
 use Rattle.nr_text.specs.Opening.{opening}
 
 -- the bytes of a name
@@ -28,22 +28,6 @@ abbrev pub reader_alone : (ℕ → Command) → List (List ℕ) → Option Comma
 reader_alone command (reader ∷ []) = option_map command (number reader)
 reader_alone command other = None
 
--- a key and rows
-abbrev pub filling : List (List ℕ) → Option Command
-filling [] = None
-filling (word ∷ more) = option_and_then (λ k. option_map (λ rows. Fill k (set_of rows)) (each row more)) (key word)
-
--- a key, the number of its request, and rows
-abbrev pub filling_as : List (List ℕ) → Option Command
-filling_as (word ∷ spelled ∷ more) =
-    option_and_then (λ k. option_and_then (λ n. option_map (λ rows. FillAs k n (set_of rows)) (each row more)) (number spelled)) (key word)
-filling_as other = None
-
--- a key and signed rows
-abbrev pub updating : List (List ℕ) → Option Command
-updating [] = None
-updating (word ∷ more) = option_and_then (λ k. option_map (λ batch. Update k batch) (option_and_then batch_of (each delta more))) (key word)
-
 -- the command of a line's words
 abbrev pub command : List (List ℕ) → Option Command
 command [] = None
@@ -52,9 +36,9 @@ command (name ∷ more) =
     else if bytes_eq name (codes "open-named") then option_map (λ opening. Open true opening) (opening more)
     else if bytes_eq name (codes "find") then reader_and_key Find more
     else if bytes_eq name (codes "ask") then reader_and_key Ask more
-    else if bytes_eq name (codes "fill") then filling more
-    else if bytes_eq name (codes "fill-as") then filling_as more
-    else if bytes_eq name (codes "update") then updating more
+    else if bytes_eq name (codes "fill") then filling key Fill more
+    else if bytes_eq name (codes "fill-as") then filling_as key FillAs more
+    else if bytes_eq name (codes "update") then updating key Update more
     else if bytes_eq name (codes "evict") then key_alone Evict more
     else if bytes_eq name (codes "cancel") then key_alone Cancel more
     else if bytes_eq name (codes "look") then key_alone Look more

@@ -1,5 +1,6 @@
 -- A script from its first line on: closed until it is opened; its reply to each line, and its text.
 use Rattle.std.specs.Prelude.{ℕ, ◌-◌, ◌^◌, if◌then◌else◌, List, Option, None, Some, Result, Ok, Err}
+use Rattle.nr_lines.specs.Dialogue.{answer_command, in_words}
 use Rattle.nr_lines.specs.Plain.{or_bad}
 use Rattle.nr_lines.specs.Text.{text}
 use Rattle.nr_text.specs.Grammar.{words}
@@ -12,7 +13,7 @@ use Rattle.nr_script.specs.declared.command.Command.{Command}
 use Rattle.nr_script.specs.declared.command.Command.TheVariants.{Open}
 use Rattle.nr_script.specs.declared.machine.ScriptMachine.{ScriptMachine}
 use Rattle.nr_script.specs.Commands.{command}
-use Rattle.nr_script.specs.Opened.{Opened, Outcome, opened, answer_opened}
+use Rattle.nr_script.specs.Opened.{Opened, opened, answer_opened}
 use Rattle.nr_script.specs.Spelling.{spelled}
 
 -- a script, which begins closed
@@ -27,23 +28,16 @@ abbrev pub answer_closed : Command → Result Answer Refusal × State
 answer_closed (Open named sizes) = if is_in_limits sizes then (Ok answers.Ok, Some (opened named sizes)) else (Err refusals.Bad, None)
 answer_closed other = (Err refusals.Closed, None)
 
-abbrev pub stays_open : Outcome → Result Answer Refusal × State
-stays_open (result, script) = (result, Some script)
-
-abbrev pub answer_command : State → Option Command → Result Answer Refusal × State
-answer_command state None = (Err refusals.Bad, state)
-answer_command None (Some command) = answer_closed command
-answer_command (Some script) (Some command) = stays_open (answer_opened script command)
+-- to a command, or to a line that spells none
+abbrev pub answer_tried : State → Option Command → Result Answer Refusal × State
+answer_tried = answer_command (Err refusals.Bad) answer_closed answer_opened
 
 abbrev pub answer_line : State → List ℕ → Result Answer Refusal × State
-answer_line state line = answer_command state (command (words line))
-
-abbrev pub in_words : Result Answer Refusal × State → List ℕ × State
-in_words (result, state) = (spelled result, state)
+answer_line state line = answer_tried state (command (words line))
 
 -- the reply to a plain line, and the state after it
 abbrev pub answer : State → List ℕ → List ℕ × State
-answer state line = in_words (answer_line state line)
+answer state line = in_words spelled (answer_line state line)
 
 -- what a script writes for its lines
 abbrev pub script_text : List (List ℕ) → List ℕ

@@ -2,8 +2,9 @@
 ghost use Rattle.std.specs.Prelude.{◌≡◌, List, ℕ, option_map};
 ghost use Rattle.std.specs.List.{list_all};
 ghost use Rattle.nr_script.specs.declared.command.Command.{Command};
-ghost use Rattle.nr_script.specs.Commands.{command, is_name_byte, key, reader_and_key, key_alone, reader_alone, filling, filling_as, updating};
-ghost use Rattle.nr_text.specs.Grammar.{words, number};
+ghost use Rattle.nr_script.specs.declared.command.Command.TheVariants.{Fill, FillAs, Update};
+ghost use Rattle.nr_script.specs.Commands.{command, is_name_byte, key, reader_and_key, key_alone, reader_alone};
+ghost use Rattle.nr_text.specs.Grammar.{words, number, filling, filling_as, updating};
 ghost use Rattle.nr_text.specs.Words.{words_left};
 
 use nr_model::{Batch, RowSet, TooMany};
@@ -206,7 +207,7 @@ fn is_name(word: &[u8]) -> bool
 }
 
 fn filling(mut words: Words<'_>) -> Option<Command<'_>>
-    ensures { result ≡ filling (words_left words.entry) }
+    ensures { result ≡ filling key Fill (words_left words.entry) }
 {
     let key = key(words.next()?)?;
     let rows = set(words)?;
@@ -214,7 +215,7 @@ fn filling(mut words: Words<'_>) -> Option<Command<'_>>
 }
 
 fn filling_as(mut words: Words<'_>) -> Option<Command<'_>>
-    ensures { result ≡ filling_as (words_left words.entry) }
+    ensures { result ≡ filling_as key FillAs (words_left words.entry) }
 {
     let word = words.next()?;
     let spelled = words.next()?;
@@ -225,7 +226,7 @@ fn filling_as(mut words: Words<'_>) -> Option<Command<'_>>
 }
 
 fn updating(mut words: Words<'_>) -> Option<Command<'_>>
-    ensures { result ≡ updating (words_left words.entry) }
+    ensures { result ≡ updating key Update (words_left words.entry) }
 {
     let key = key(words.next()?)?;
     let batch = batch(words)?;

@@ -1,10 +1,10 @@
 //! A script over the sequential map: closed until it is opened, and then a map.
 ghost use Rattle.std.specs.Prelude.{◌≡◌, ◌<◌, ◌≤◌, ◌+◌, ℕ, List, Some, None, OnOk, IfOk, IfErr};
 
-use crate::answer::{Answer, Refusal, Tried, write_reply};
+use crate::answer::{Answer, Refusal, Tried};
 use crate::command::{Command, parse};
 use crate::opened::Opened;
-use nr_lines::{Machine, RunFault};
+use nr_lines::{Machine, RunFault, set_text};
 use std::alloc::Global;
 
 /// A script's state. It begins closed.
@@ -33,7 +33,8 @@ impl Machine for ScriptMachine {
         reply: &mut String,
     ) -> Result<(), RunFault> {
         match self.answer(alloc, line) {
-            Ok(said) => write_reply(&said, reply),
+            Ok(Ok(answer)) => set_text(reply, &answer),
+            Ok(Err(refusal)) => set_text(reply, &refusal),
             Err(fault) => Err(fault),
         }
     }
