@@ -113,6 +113,12 @@ fn a_full_queue_hands_the_ticket_back(rt: HostRuntime) -> Result<(), Fail> {
     Ok(())
 }
 
+// Memory may be refused once: the queue is then opened by a second try.
+#[test]
+fn refused_memory_is_told_and_opens_no_queue(rt: HostRuntime) {
+    assert!(rt; queue_of(rt.alloc(), 3, 2).is_ok());
+}
+
 #[test]
 fn sizes_have_their_limits(rt: HostRuntime) {
     for (capacity, posters) in [(0, 1), (65_537, 1), (1, 0), (1, 1025)] {
