@@ -14,4 +14,4 @@ mod tests;
 pub use key_words::{ARRIVE, COUNTS, KeyParts, hole_word, key_word, naming, parts, same_count};
 pub use layout::Layout;
 pub use opening::opening_words;
-pub use set_words::{CONTENT_WORDS, decode, encode};
+pub use set_words::{MAX_CONTENT_WORDS, decode, encode, word_at};
