@@ -1,5 +1,5 @@
 //! The state of one key, and what each call makes of it.
-ghost use Rattle.std.specs.Prelude.{◌≡◌};
+ghost use Rattle.std.specs.Prelude.{◌≡◌, ◌≤◌};
 ghost use Rattle.nr_model.specs.Maps.{find_reply, ask_reply, fill_reply, update_reply, evict_reply, cancel_reply, asked, filled, updated, evicted, cancelled, is_filled, number_of};
 
 use crate::batches::{ApplyFault, Batch};
@@ -74,13 +74,14 @@ impl KeyState {
         }
     }
 
-    pub(crate) fn update(&mut self, batch: &Batch) -> Reply
-        ensures reply { result ≡ update_reply MAX_ROWS batch.now self.old }
-        ensures new { self.new ≡ updated MAX_ROWS batch.now self.old }
+    pub(crate) fn update(&mut self, batch: &Batch, bound: u32) -> Reply
+        requires { bound ≤ MAX_ROWS }
+        ensures reply { result ≡ update_reply bound batch.now self.old }
+        ensures new { self.new ≡ updated bound batch.now self.old }
     {
         match self {
             KeyState::Hole(_) | KeyState::Asked(_) => Reply::Dropped,
-            KeyState::Rows(number, rows) => match rows.applied(batch) {
+            KeyState::Rows(number, rows) => match rows.applied(batch, bound) {
                 Ok(left) => {
                     *self = KeyState::Rows(*number, left);
                     Reply::Done
