@@ -7,6 +7,7 @@ use Rattle.std.proofs.lemmas.Bool.{and_parts, cases_lt, le-leb}
 use Rattle.std.proofs.lemmas.Option.{cond_some, none-some, slice_get_within, slice_get-get_or, get_or_from_slice_get}
 use borrow.Author.Tests.{leb-true}
 use Rattle.nr_words.specs.SetWords.{content_words, row_words, encode, Spells, rows_in, row_count, rows_of, is_set, decode}
+use Rattle.nr_words.proofs.RowPairLemmas.{length-rows_in_words}
 use Rattle.nr_words.specs.Laws.{DecodeUndoesEncode}
 
 pub length-row_words : (rows : List Row) → length (row_words rows) ≡ 2 * length rows
@@ -56,8 +57,8 @@ row_words-rows_in (suc count) (a ∷ b ∷ words) h = rw (two_more count) (ap (�
 
 pub length-rows_in : (count : ℕ) (words : List ℕ) → 2 * count ≤ length words → length (rows_in (take (2 * count) words)) ≡ count
 length-rows_in count words h =
-    let same = ap length (row_words-rows_in count words h) in
-    omega (arith, same, length-row_words (rows_in (take (2 * count) words)), length-take-le (2 * count) words h)
+    let whole = length-rows_in_words (take (2 * count) words) in
+    omega (arith, whole.0, whole.1, length-take-le (2 * count) words h)
 
 -- a set's words decode to it, whatever stands behind them
 pub rows_of-encode : (rows : List Row) (more : List ℕ) → rows_of (encode rows ++ more) ≡ rows

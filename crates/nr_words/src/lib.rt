@@ -7,6 +7,7 @@ mod key_words;
 pub mod laws;
 mod layout;
 mod opening;
+mod row_pairs;
 mod set_words;
 #[cfg(test)]
 mod tests;

@@ -1,8 +1,8 @@
 ghost use Rattle.std.specs.Prelude.{◌<◌, ◌^◌};
 
 use super::{
-    ARRIVE, KeyParts, Layout, decode, encode, hole_word, key_word, naming, opening_words, parts,
-    same_count, word_at,
+    ARRIVE, KeyParts, Layout, MAX_CONTENT_WORDS, decode, encode, hole_word, key_word, naming,
+    opening_words, parts, same_count, word_at,
 };
 use nr_model::{Row, RowSet};
 use std::process::Abort;
@@ -123,6 +123,35 @@ fn words_that_spell_no_set(rt: HostRuntime) {
 }
 
 #[test]
+fn the_largest_set_fills_the_largest_slot(rt: HostRuntime) -> Result<(), Fail> {
+    let mut rows = [row(0, 0); 255];
+    for (place, each) in rows.iter_mut().enumerate() {
+        *each = row(place as u64 + 1, 0);
+    }
+    let set = RowSet::of(&rows).map_err(|_| "too many rows")?;
+    assert_eq!(rt; MAX_CONTENT_WORDS, 511);
+    let mut words = [u64::MAX; MAX_CONTENT_WORDS];
+    encode(&set, &mut words);
+    for (index, word) in words.iter().enumerate() {
+        let expected = match index {
+            0 => 255,
+            _ if index % 2 == 1 => index as u64 / 2 + 1,
+            _ => 0,
+        };
+        assert_eq!(rt; *word, expected);
+        assert_eq!(rt; word_at(&set, index), expected);
+    }
+    let back = decode(&words).ok_or("no set")?;
+    assert_eq!(rt; back.len(), 255);
+    for (place, each) in rows.iter().enumerate() {
+        assert_eq!(rt; back.get(place), Some(*each));
+    }
+    words[0] = 256;
+    assert!(rt; decode(&words).is_none());
+    Ok(())
+}
+
+#[test]
 fn one_row_fills_the_smallest_slot(rt: HostRuntime) -> Result<(), Fail> {
     let set = RowSet::of(&[row(3, 9)]).map_err(|_| "too many rows")?;
     let mut words = [u64::MAX; 3];
@@ -157,23 +186,47 @@ fn layouts_place_each_word(rt: HostRuntime) {
 }
 
 #[test]
+fn a_page_is_a_slot_of_255_rows(rt: HostRuntime) {
+    let layout = Layout {
+        keys: 2,
+        slots: 3,
+        rows: 255,
+    };
+    assert_eq!(rt; layout.departures(1), 514);
+    assert_eq!(rt; layout.content(1, 0), 515);
+    assert_eq!(rt; layout.content(2, 510), 1537);
+    assert_eq!(rt; layout.content_words(), 511);
+    assert_eq!(rt; layout.total(), 1538);
+}
+
+/// The words are those of a new map of two keys whose first count is 7 and whose first number is
+/// 3, with the departure words at these places.
+fn assert_opened(rt: &impl Abort, words: &[u64], departures: &[usize]) {
+    for (place, word) in words.iter().enumerate() {
+        let expected = match place {
+            0 | 1 => 12,
+            _ if departures.contains(&place) => 7,
+            _ => 0,
+        };
+        assert_eq!(rt; *word, expected);
+    }
+}
+
+#[test]
 fn a_new_map_has_holes_with_first_numbers_and_slots_with_first_counts(
     rt: HostRuntime,
 ) -> Result<(), Fail> {
-    let layout = Layout {
+    let mut layout = Layout {
         keys: 2,
         slots: 3,
         rows: 15,
     };
     let words = opening_words(rt.alloc(), layout, 7, 3).map_err(|_| "no memory")?;
     assert_eq!(rt; words.len(), 98);
-    for (place, word) in words.iter().enumerate() {
-        let expected = match place {
-            0 | 1 => 12,
-            2 | 34 | 66 => 7,
-            _ => 0,
-        };
-        assert_eq!(rt; *word, expected);
-    }
+    assert_opened(&rt, &words, &[2, 34, 66]);
+    layout.rows = 255;
+    let words = opening_words(rt.alloc(), layout, 7, 3).map_err(|_| "no memory")?;
+    assert_eq!(rt; words.len(), 1538);
+    assert_opened(&rt, &words, &[2, 514, 1026]);
     Ok(())
 }

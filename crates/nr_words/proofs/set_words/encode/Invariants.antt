@@ -2,5 +2,5 @@ use Rattle.std.proofs.Common.{◌≡◌, ◌+◌, ◌*◌, ◌∷◌, ◌++◌, 
 use Rattle.nr_words.specs.SetWords.{row_words}
 use Rattle.nr_words.proofs.set_words.encode.Given as goal
 
-abbrev pub invariant-loop-i : goal.invariant-loop-i
-invariant-loop-i l = l.words ≡ (length l.set ∷ row_words (take l.i l.set)) ++ drop (2 * l.i + 1) l.initial.words
+abbrev pub invariant-loop-place : goal.invariant-loop-place
+invariant-loop-place l = l.words ≡ (length l.rows ∷ row_words (take l.place l.rows)) ++ drop (2 * l.place + 1) l.initial.words
