@@ -42,7 +42,7 @@ impl RowSource for RowPairs<'_> {
 
     ghost rows = { λ pairs. rows_in pairs.words.now };
 
-    ghost is_ready = { λ pairs. Unit {0} };
+    ghost is_ready = { λ pairs place. Unit {0} };
 
     ghost gave = { λ before count after. Unit {0} };
 

@@ -159,7 +159,10 @@ impl Machine {
     {
         match call {
             WriterCall::Find(_) => self.end(Reply::Rows(rows)),
-            WriterCall::Update(_, batch) => self.renew(call, rows.applied(&batch, self.layout.rows)),
+            WriterCall::Update(_, batch) => self.renew(
+                call,
+                rows.applied(&batch, self.layout.rows),
+            ),
             WriterCall::Fill(_, _, _) | WriterCall::Evict(_) | WriterCall::Cancel(_) => {
                 self.go_to(Place::Idle)
             }
