@@ -1,6 +1,6 @@
 use super::{
-    ApplyFault, Batch, BatchFault, Call, Delta, KeyState, LAST_NUMBER, MAX_KEYS, OpenFault, Reply,
-    Row, RowSet, SeqMap, TooMany, is_bad_size,
+    ApplyFault, Batch, BatchFault, Call, DEFAULT_ROWS, Delta, KeyState, LAST_NUMBER, MAX_KEYS,
+    MAX_ROWS, OpenFault, Pile, Reply, Row, RowSet, RowSource, SeqMap, TooMany, is_bad_size,
 };
 use std::test::Fail;
 
@@ -30,6 +30,28 @@ fn batch_of(deltas: &[Delta]) -> Result<Batch, Fail> {
     Ok(Batch::of(deltas).map_err(|_| "no batch")?)
 }
 
+/// A source that gives the rows of a slice.
+#[derive(Drop)]
+struct Listed<'a> {
+    listed: &'a [Row],
+}
+
+impl RowSource for Listed<'_> {
+    ghost rows = { λ source. source.listed.now };
+
+    ghost is_ready = { λ _ _. Unit {0} };
+
+    ghost gave = { λ _ _ _. Unit {0} };
+
+    fn give(&mut self, place: usize) -> Row {
+        self.listed[place]
+    }
+
+    ghost gave_none = { λ _. tt };
+
+    ghost gave_more = { λ _ _ _ _ _ _. tt };
+}
+
 #[test]
 fn sets_are_in_order_and_keep_doubles(rt: HostRuntime) -> Result<(), Fail> {
     let set = set_of(&[row(7, 1), row(3, 9), row(7, 0), row(3, 9)])?;
@@ -55,9 +77,37 @@ fn rows_are_pushed_in_order(rt: HostRuntime) -> Result<(), Fail> {
 }
 
 #[test]
+fn a_set_is_refilled_over_more_rows_and_over_fewer(rt: HostRuntime) -> Result<(), Fail> {
+    let mut set = set_of(&[row(9, 9), row(8, 8), row(7, 7)])?;
+    let one = set_of(&[row(3, 9)])?;
+    set.refill(
+        1,
+        &mut Listed {
+            listed: one.as_slice(),
+        },
+    );
+    assert_eq!(rt; set.len(), 1);
+    assert_eq!(rt; set.get(0), Some(row(3, 9)));
+    assert_eq!(rt; set.get(1), None);
+    let two = set_of(&[row(4, 4), row(1, 1)])?;
+    set.refill(
+        2,
+        &mut Listed {
+            listed: two.as_slice(),
+        },
+    );
+    assert_eq!(rt; set.len(), 2);
+    assert_eq!(rt; set.get(0), Some(row(1, 1)));
+    assert_eq!(rt; set.get(1), Some(row(4, 4)));
+    set.refill(0, &mut Listed { listed: &[] });
+    assert_eq!(rt; set.len(), 0);
+    Ok(())
+}
+
+#[test]
 fn sets_and_batches_have_their_limits(rt: HostRuntime) -> Result<(), Fail> {
-    assert_eq!(rt; set_of(&[row(1, 1); 15])?.len(), 15);
-    assert_eq!(rt; RowSet::of(&[row(1, 1); 16]).err(), Some(TooMany));
+    assert_eq!(rt; set_of(&[row(1, 1); 255])?.len(), 255);
+    assert_eq!(rt; RowSet::of(&[row(1, 1); 256]).err(), Some(TooMany));
     assert_eq!(rt; Batch::of(&[]).err(), Some(BatchFault::Empty));
     let whole = batch_of(&[plus(1, 1); 64])?;
     assert_eq!(rt; whole.len(), 64);
@@ -74,20 +124,20 @@ fn sets_and_batches_have_their_limits(rt: HostRuntime) -> Result<(), Fail> {
 fn batches_apply_whole_or_not_at_all(rt: HostRuntime) -> Result<(), Fail> {
     let set = set_of(&[row(5, 5), row(5, 5)])?;
     let left = set
-        .applied(&batch_of(&[minus(5, 5), plus(6, 0)])?)
+        .applied(&batch_of(&[minus(5, 5), plus(6, 0)])?, 15)
         .map_err(|_| "not applied")?;
     assert_eq!(rt; left.get(0), Some(row(5, 5)));
     assert_eq!(rt; left.get(1), Some(row(6, 0)));
     assert_eq!(rt; left.len(), 2);
     let lacking = batch_of(&[plus(9, 9), minus(8, 8)])?;
-    assert_eq!(rt; left.applied(&lacking).err(), Some(ApplyFault::NoRow));
+    assert_eq!(rt; left.applied(&lacking, 15).err(), Some(ApplyFault::NoRow));
     Ok(())
 }
 
 #[test]
 fn a_row_may_come_and_go_in_one_batch(rt: HostRuntime) -> Result<(), Fail> {
     let left = RowSet::new()
-        .applied(&batch_of(&[minus(7, 7), plus(7, 7)])?)
+        .applied(&batch_of(&[minus(7, 7), plus(7, 7)])?, 15)
         .map_err(|_| "not applied")?;
     assert_eq!(rt; left.len(), 0);
     Ok(())
@@ -97,9 +147,9 @@ fn a_row_may_come_and_go_in_one_batch(rt: HostRuntime) -> Result<(), Fail> {
 fn missing_rows_are_told_before_too_many(rt: HostRuntime) -> Result<(), Fail> {
     let full = set_of(&[row(1, 1); 15])?;
     let more = batch_of(&[plus(2, 2)])?;
-    assert_eq!(rt; full.applied(&more).err(), Some(ApplyFault::TooMany));
+    assert_eq!(rt; full.applied(&more, 15).err(), Some(ApplyFault::TooMany));
     let both = batch_of(&[plus(2, 2), minus(3, 3)])?;
-    assert_eq!(rt; full.applied(&both).err(), Some(ApplyFault::NoRow));
+    assert_eq!(rt; full.applied(&both, 15).err(), Some(ApplyFault::NoRow));
     Ok(())
 }
 
@@ -127,17 +177,17 @@ fn first_numbers_have_their_limit(rt: HostRuntime) -> Result<(), Fail> {
     assert_eq!(rt; LAST_NUMBER, 4_194_303);
     assert!(rt;
         matches!(
-            &SeqMap::open_with(rt.alloc(), 1, 4_194_304),
+            &SeqMap::open_with(rt.alloc(), 1, 4_194_304, 15),
             Err(OpenFault::BadSize)
         )
     );
     assert!(rt;
         matches!(
-            &SeqMap::open_with(rt.alloc(), 0, 4_194_303),
+            &SeqMap::open_with(rt.alloc(), 0, 4_194_303, 15),
             Err(OpenFault::BadSize)
         )
     );
-    let map = SeqMap::open_with(rt.alloc(), 1, 4_194_303).map_err(|_| "not opened")?;
+    let map = SeqMap::open_with(rt.alloc(), 1, 4_194_303, 15).map_err(|_| "not opened")?;
     assert!(rt; matches!(&map.state(0), KeyState::Hole(4_194_303)));
     assert_eq!(rt; map.state(0).number(), 4_194_303);
     Ok(())
@@ -174,7 +224,7 @@ fn a_key_is_asked_filled_updated_and_evicted(rt: HostRuntime) -> Result<(), Fail
 
 #[test]
 fn a_request_is_cancelled_until_its_number_is_worn(rt: HostRuntime) -> Result<(), Fail> {
-    let mut map = SeqMap::open_with(rt.alloc(), 1, 4_194_302).map_err(|_| "not opened")?;
+    let mut map = SeqMap::open_with(rt.alloc(), 1, 4_194_302, 15).map_err(|_| "not opened")?;
     let late = Call::Fill(0, 4_194_302, set_of(&[row(1, 1)])?);
     let answer = Call::Fill(0, 4_194_303, set_of(&[row(1, 1)])?);
     assert!(rt; matches!(&map.call(&Call::Ask(0)), Reply::Send(4_194_302)));
