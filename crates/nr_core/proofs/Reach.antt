@@ -47,7 +47,7 @@ shape_kept state event = go (refusal state event)
     go None = refl
     go (Some why) = refl
 
-all_keep_shape : (events : List Event) (state : State) → (fold next state events).shape ≡ state.shape
+pub all_keep_shape : (events : List Event) (state : State) → (fold next state events).shape ≡ state.shape
 all_keep_shape [] state = refl
 all_keep_shape (event ∷ events) state = all_keep_shape events (next state event) ∙ shape_kept state event
 

@@ -3,8 +3,7 @@ ghost use Rattle.std.specs.Prelude.{◌≡◌, OnOk, IfErr, IfSome, string_bytes
 ghost use Rattle.nr_lines.specs.Output.{Sends, SendsReply};
 
 use crate::fault::RunFault;
-use std::fmt::Write as _;
-use std::fmt::Display;
+use std::fmt::{Display, Write as _};
 use std::io::Write;
 
 /// Sets the text to what the value displays. Refused with Memory where memory is.

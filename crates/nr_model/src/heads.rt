@@ -3,7 +3,7 @@ ghost use Rattle.std.specs.Prelude.{◌≡◌, ◌≤◌, ◌<◌, List, length,
 ghost use Rattle.nr_model.specs.declared.rows.Row.{Row as SetRow};
 ghost use Rattle.nr_model.specs.Rows.{is_ascending};
 ghost use Rattle.nr_model.specs.Batches.{applied};
-ghost use Rattle.nr_model.specs.Maps.{find_reply, ask_reply, fill_reply, update_reply, evict_reply, cancel_reply, asked, filled, updated, evicted, cancelled, reply_at, state_after, FillFits};
+ghost use Rattle.nr_model.specs.Maps.{find_reply, ask_reply, fill_reply, update_reply, evict_reply, cancel_reply, asked, filled, updated, evicted, cancelled, reply_at, state_after, FillFits, StateFits};
 ghost use Rattle.nr_model.specs.Runs.{shown, IsKept};
 
 use crate::batches::{ApplyFault, Batch};
@@ -26,7 +26,8 @@ impl Head {
     pub fn state(&self, run: &[Row]) -> KeyState
         requires kept { IsKept self.now run.now }
         requires room { length run.now ≤ MAX_ROWS }
-        ensures { result ≡ shown self.now run.now }
+        ensures value { result ≡ shown self.now run.now }
+        ensures few { StateFits (length run.now) result }
     {
         match *self {
             Head::Hole(number) => KeyState::Hole(number),

@@ -1,6 +1,6 @@
 //! The partial map that one caller uses.
 ghost use Rattle.std.specs.Prelude.{◌≡◌, ◌≤◌, ◌<◌, ◌↔◌, ◌⊎◌, ℕ, length, IfOk, Err};
-ghost use Rattle.nr_model.specs.Maps.{last_number, opening, state_of, reply_to, next, key_of, key_count, FillFits};
+ghost use Rattle.nr_model.specs.Maps.{last_number, opening, state_of, reply_to, next, key_of, key_count, FillFits, StateFits};
 ghost use Rattle.nr_model.specs.Sizes.{IsBadSize};
 
 use crate::calls::{Call, Reply};
@@ -104,7 +104,8 @@ impl SeqMap {
     /// The state of a key below `keys()`.
     pub fn state(&self, key: u32) -> KeyState
         requires { key < key_count self.now }
-        ensures { result ≡ state_of self.now key }
+        ensures value { result ≡ state_of self.now key }
+        ensures few { StateFits self.now.bound result }
     {
         let rows = self.rows as usize;
         let start = key as usize * rows;
