@@ -106,7 +106,7 @@ place_room state log is_core place is = go place is (subst (AtPlace state.shape 
     go (Leaving k) e t = let named_so = names_it state.shape state.words is_core.roles log is_core.core k t.0 t.1.near t.1.names in (t.1.near, fewer t.0 (inside k t.0 t.1.near t.1.names) (omega arith))
     go (Withdrawing k) e t = let early = t.early in (t.near, omega (arith, desk.numbers.agree k t.near, ap number_of t.asked))
     go (Searching call rows poll) e t = (t.1, (desk.retired poll (retired_at state.desk poll) (got_at state.desk.retired poll no_retired t.1)).0)
-    go (Putting call rows slot departed index) e t = let mine : taken slot state.desk.place ≡ 1 = ap (taken slot) e ∙ only-same slot in (t.wants.near, fewer slot t.inside (omega arith), t.inside)
+    go (Putting call rows slot departed index) e t = let mine : taken slot state.desk.place ≡ 1 = ap (taken slot) e ∙ only-same slot in (t.wants.near, fewer slot t.inside (omega arith), t.inside, t.wants.row_set.1)
 
 room_of : (state : State) → Reached state → HasRoom state
 room_of state reached = let log = (story_of state.shape reached.events).history in let is_core = reached_core state reached in let numbers = (is_core.core.knows 0 (Writer state.desk) is_core.fit.writer).numbers in record {

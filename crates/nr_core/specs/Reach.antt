@@ -33,7 +33,7 @@ RoomAt state (Reading call slot got) = (slot < state.shape.slots) × (length got
 RoomAt state (Leaving at) = (at < state.shape.keys) × (length state.desk.retired < state.shape.slots)
 RoomAt state (Withdrawing at) = (at < state.shape.keys) × (number_at state.desk at < last_number)
 RoomAt state (Searching call rows poll) = (poll < length state.desk.retired) × ((retired_at state.desk poll).slot < state.shape.slots)
-RoomAt state (Putting call rows slot departed index) = (key_of call < state.shape.keys) × (length state.desk.retired < state.shape.slots) × (slot < state.shape.slots)
+RoomAt state (Putting call rows slot departed index) = (key_of call < state.shape.keys) × (length state.desk.retired < state.shape.slots) × (slot < state.shape.slots) × (length rows ≤ bound_of state.shape)
 
 pub record HasRoom (state : State) : Type 0 where
   pub shape : IsShape state.shape
