@@ -39,7 +39,7 @@ struct Listed<'a> {
 impl RowSource for Listed<'_> {
     ghost rows = { λ source. source.listed.now };
 
-    ghost is_ready = { λ _. Unit {0} };
+    ghost is_ready = { λ _ _. Unit {0} };
 
     ghost gave = { λ _ _ _. Unit {0} };
 
