@@ -12,7 +12,6 @@ pub mod Opens
 pub mod Tokens
 pub mod Rows
 pub mod ReaderSeats
-pub mod Loading
 pub mod Seating
 pub mod Room
 pub mod Shortage
@@ -25,6 +24,7 @@ pub mod Publishing
 pub mod ReadingOn
 pub mod KeySets
 pub mod Retiring
+pub mod Looks
 pub mod WriterCalls
 pub mod NoSlots
 pub mod SlotBounds

@@ -32,10 +32,10 @@ use crate::rule::{
 };
 use crate::view::View;
 use atomic_table::Table;
-use nr_core::{Shape, WriterCall};
+use nr_core::Shape;
 use nr_words::{ARRIVE, Layout, hole_word, naming, opening_words};
 use std::alloc::{AllocError, Global};
-use std::marker::{Brand, Model};
+use std::marker::Model;
 
 pub type Seat = atomic_table::Seat<(), View>;
 
@@ -145,7 +145,7 @@ impl Board {
     }
 
     /// A reader reads a content word of the slot that it holds, whose first one stands at `begin`.
-    pub fn read(&self, seat: &mut Seat, begin: u64, index: u32) -> u64
+    pub fn read(&self, seat: &mut Seat, begin: u64, index: u64) -> u64
         requires reader { HoldsAt self.now begin seat.old }
         requires index { index < length (encode (rows_held seat.old.me.0.role)) }
         ensures value { result ≡ slice_index (encode (rows_held seat.old.me.0.role)) index }
@@ -156,7 +156,7 @@ impl Board {
         ensures marks { seat.new.me.0.marks ≡ seat.old.me.0.marks }
     {
         let words = &self.table.shared;
-        let place = begin + u64::from(index);
+        let place = begin + index;
         words.load::<Reads>(seat, place as usize)
     }
 
@@ -173,36 +173,26 @@ impl Board {
     }
 
     /// The writer looks at the key of a call: its word.
-    pub fn look(&self, seat: &mut Seat, call: &WriterCall) -> u64
+    pub fn look<G: Given>(&self, seat: &mut Seat, key: u32) -> u64
         requires writer { IsBetween self.now seat.old }
-        requires given { IsGivenCall (bound_of self.now.shape) call.now }
-        requires key { key_of call.now < self.now.shape.keys }
-        ensures leads { (desk : Desk) → seat.old.me.0.role ≡ Writer desk → LeadsTo self.now (call_of call.now) (looked self.now.shape desk call.now result) seat.old seat.new }
-        ensures marks { seat.new.me.0.marks ≡ with_polls seat.old.me.0.marks [] }
-    {
-        self.look_given::<Brand>(seat, call)
-    }
-
-    fn look_given<G: Given>(&self, seat: &mut Seat, call: &WriterCall) -> u64
-        requires writer { IsBetween self.now seat.old }
-        requires given { IsGivenCall (bound_of self.now.shape) call.now }
-        requires key { key_of call.now < self.now.shape.keys }
-        requires call { G.call ≡ call.now }
-        ensures leads { (desk : Desk) → seat.old.me.0.role ≡ Writer desk → LeadsTo self.now (call_of call.now) (looked self.now.shape desk call.now result) seat.old seat.new }
+        requires given { IsGivenCall (bound_of self.now.shape) G.call }
+        requires call { key ≡ key_of G.call }
+        requires key { key < self.now.shape.keys }
+        ensures leads { (desk : Desk) → seat.old.me.0.role ≡ Writer desk → LeadsTo self.now (call_of G.call) (looked self.now.shape desk G.call result) seat.old seat.new }
         ensures marks { seat.new.me.0.marks ≡ with_polls seat.old.me.0.marks [] }
     {
         let words = &self.table.shared;
-        words.load::<Looks<G>>(seat, call.key() as usize)
+        words.load::<Looks<G>>(seat, key as usize)
     }
 
     /// The writer reads a content word of the slot that its key names, whose first one stands at
     /// `begin`.
-    pub fn read_on(&self, seat: &mut Seat, begin: u64, index: u32) -> u64
+    pub fn read_on(&self, seat: &mut Seat, begin: u64, index: u64) -> u64
         requires { IsReading self.now begin index seat.old }
         ensures { GoesOn self.now result seat.old seat.new }
     {
         let words = &self.table.shared;
-        let place = begin + u64::from(index);
+        let place = begin + index;
         words.load::<Goes>(seat, place as usize)
     }
 
@@ -218,12 +208,12 @@ impl Board {
 
     /// The writer puts a content word into the slot that it took, whose first one stands at
     /// `begin`.
-    pub fn put(&self, seat: &mut Seat, begin: u64, index: u32, word: u64)
+    pub fn put(&self, seat: &mut Seat, begin: u64, index: u64, word: u64)
         requires { IsPutting self.now begin index word seat.old }
         ensures { (desk : Desk) → seat.old.me.0.role ≡ Writer desk → PutsTo self.now desk seat.old seat.new }
     {
         let words = &self.table.shared;
-        let place = begin + u64::from(index);
+        let place = begin + index;
         words.store::<Puts>(seat, place as usize, word);
     }
 

@@ -86,7 +86,7 @@ impl Pin {
         ensures holds { self.new.reader.holds ≡ self.old.reader.holds }
         ensures marks { self.new.reader.marks ≡ self.old.reader.marks }
     {
-        map.read_row(&mut self.seat, self.begin, i)
+        map.read_row(&mut self.seat, self.begin, u64::from(i))
     }
 
     /// Ends the hold, in 1 step, and gives the reader back.

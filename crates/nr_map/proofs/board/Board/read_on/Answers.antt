@@ -20,10 +20,10 @@ pub load-requires : goal.load-requires
 load-requires c = let shared = c.self.inside.table.shared in let about = c.self.invariant in let seat = c.args.seat.now in let shape = about.4 in let reading = c.requires in
     let room = subst (RoomAt c.args.self.now.shape reading.desk) reading.place reading.writes.room.place in
     let key_is : shared.key ≡ c.args.self.now.shape = about.0 ∙ ap (λ (t : Table). t.shape) c.self.view_is in
-    let place : c.args.begin + c.from.result ≡ content shared.key reading.slot (length reading.got) = omega (arith, reading.begin_is, reading.index_is, c.from.ensures, ap (λ (s : Shape). s.keys) key_is) in
+    let place : c.args.begin + c.args.index ≡ content shared.key reading.slot (length reading.got) = omega (arith, reading.begin_is, reading.index_is, ap (λ (s : Shape). s.keys) key_is) in
     let n : ℕ = shared.table_id.slots in let at = record reading.desk { place = Reading reading.call reading.slot reading.got } in (
       ap (λ (t : Table). t.id) (reading.writes.own ∙ sym c.self.view_is),
-      omega (arith, reading.begin_is, reading.index_is, c.from.ensures, room, shape.bound, ap (λ (t : Table). t.shape.keys) c.self.view_is, ap (λ (t : Table). t.shape.slots) c.self.view_is),
+      omega (arith, reading.begin_is, reading.index_is, room, shape.bound, ap (λ (t : Table). t.shape.keys) c.self.view_is, ap (λ (t : Table). t.shape.slots) c.self.view_is),
       subst (λ (p : ℕ). Allows (Kept shared.key) n seat.id seat.me p (λ w. w) (λ found after. (other : Desk) → seat.me.0.role ≡ Writer other → Went other found seat.me.0 after.0)) (sym place)
           (goes_so shared.key n seat.id seat.me at (desk_at seat.me.0.role reading.desk (Reading reading.call reading.slot reading.got) reading.writes.role reading.place) refl),
     )

@@ -15,15 +15,15 @@ retired_so : (list : List Retired) (spare before : Spare) → list ≡ spare.ret
 retired_so list spare before is same = is ∙ ap (λ (s : Spare). s.retired) same
 
 pub bounds-retired-place : goal.bounds-retired-place
-bounds-retired-place c = omega (arith, c.loop-place-test.true, ap length c.retired-place-end.ensures, ap length (retired_so c.retired.result.now _ _ c.retired.ensures c.loop-place.invariant.0))
+bounds-retired-place g c = omega (arith, c.loop-place-test.true, ap length c.retired-place-end.ensures, ap length (retired_so c.retired.result.now _ _ c.retired.ensures c.loop-place.invariant.0))
 
 pub poll-departures-requires : goal.poll-departures-requires
-poll-departures-requires c = let so_far = c.loop-place.invariant in let spare = c.args.spare.now in
+poll-departures-requires g c = let so_far = c.loop-place.invariant in let spare = c.args.spare.now in
     let low : c.loop-place.place < length spare.retired = omega (arith, c.loop-place-test.true, ap length c.retired-place-end.ensures) in
     subst (λ (table : Table). IsPolling table (get_or c.retired.result.now c.loop-place.place no_retired).slot c.loop-place.seat) (sym c.self.view_is) (record {
       desk = _;
-      writes = searching_at c.args.self.now c.args.call.now c.args.rows.now spare c.args.seat.now c.loop-place.seat c.loop-place.place so_far.1 low;
-      call = c.args.call.now;
+      writes = searching_at c.args.self.now g.G.Given.call c.args.rows.now spare c.args.seat.now c.loop-place.seat c.loop-place.place so_far.1 low;
+      call = g.G.Given.call;
       rows = c.args.rows.now;
       poll = c.loop-place.place;
       place = refl;
@@ -31,17 +31,17 @@ poll-departures-requires c = let so_far = c.loop-place.invariant in let spare = 
     })
 
 pub take_retired-requires : goal.take_retired-requires
-take_retired-requires c = omega (arith, c.loop-place-test.true, ap length c.retired-place-end.ensures, ap (λ (s : Spare). length s.retired) c.loop-place.invariant.0)
+take_retired-requires g c = omega (arith, c.loop-place-test.true, ap length c.retired-place-end.ensures, ap (λ (s : Spare). length s.retired) c.loop-place.invariant.0)
 
 pub returns-then-same_count : goal.returns-then-same_count
-returns-then-same_count c = let so_far = c.loop-place.invariant in let spare = c.args.spare.now in let place : ℕ = c.loop-place.place in let found : ℕ = c.poll-departures.result in
+returns-then-same_count g c = let so_far = c.loop-place.invariant in let spare = c.args.spare.now in let place : ℕ = c.loop-place.place in let found : ℕ = c.poll-departures.result in
     let low : place < length spare.retired = omega (arith, c.loop-place-test.true, ap length c.retired-place-end.ensures) in
     let list = retired_so c.retired.result.now _ _ c.retired.ensures so_far.0 in
     let goes = subst (λ (table : Table). GoesOn table found c.loop-place.seat c.poll-departures.new.seat) c.self.view_is c.poll-departures.ensures in
-    let took = takes_it c.args.self.now c.args.call.now c.args.rows.now spare c.args.seat.now c.loop-place.seat place so_far.1 low found c.poll-departures.new.seat goes
+    let took = takes_it c.args.self.now g.G.Given.call c.args.rows.now spare c.args.seat.now c.loop-place.seat place so_far.1 low found c.poll-departures.new.seat goes
     (ap (λ (l : List Retired). same_count found (get_or l place no_retired).arrivals) (sym list) ∙ sym c.same_count.ensures ∙ c.if-same_count.true) in
     let after_is : c.take_retired.new.self ≡ record spare { retired = remove spare.retired place } = c.take_retired.ensures ∙ ap (λ (s : Spare). record s { retired = remove s.retired place }) so_far.0 in
-    subst (λ (p : Spare × ℕ). TakesSlot c.args.self.now c.args.call.now c.args.rows.now p.1 found spare p.0 c.args.seat.now c.poll-departures.new.seat) (λ j. (sym after_is j, (get_or (sym list j) place no_retired).slot)) (record {
+    subst (λ (p : Spare × ℕ). TakesSlot c.args.self.now g.G.Given.call c.args.rows.now p.1 found spare p.0 c.args.seat.now c.poll-departures.new.seat) (λ j. (sym after_is j, (get_or (sym list j) place no_retired).slot)) (record {
       polls = place + 1;
       took = inr (c.requires.none_fresh, place, get_or spare.retired place no_retired, at_get spare.retired place low, refl, refl, refl, refl);
       few = let few = so_far.1.few in omega arith;
@@ -53,17 +53,17 @@ returns-then-same_count c = let so_far = c.loop-place.invariant in let spare = c
     })
 
 pub loop-place-preserved : goal.loop-place-preserved
-loop-place-preserved c = let so_far = c.loop-place.invariant in let spare = c.args.spare.now in let place : ℕ = c.loop-place.place in let found : ℕ = c.poll-departures.result in
+loop-place-preserved g c = let so_far = c.loop-place.invariant in let spare = c.args.spare.now in let place : ℕ = c.loop-place.place in let found : ℕ = c.poll-departures.result in
     let low : place < length spare.retired = omega (arith, c.loop-place-test.true, ap length c.retired-place-end.ensures) in
     let list = retired_so c.retired.result.now _ _ c.retired.ensures so_far.0 in
     let goes = subst (λ (table : Table). GoesOn table found c.loop-place.seat c.poll-departures.new.seat) c.self.view_is c.poll-departures.ensures in (
       so_far.0,
-      searched_more c.args.self.now c.args.call.now c.args.rows.now spare c.args.seat.now c.loop-place.seat place so_far.1 low found c.poll-departures.new.seat goes
+      searched_more c.args.self.now g.G.Given.call c.args.rows.now spare c.args.seat.now c.loop-place.seat place so_far.1 low found c.poll-departures.new.seat goes
           (ap (λ (l : List Retired). same_count found (get_or l place no_retired).arrivals) (sym list) ∙ sym c.same_count.ensures ∙ c.if-same_count.false),
     )
 
 pub returns : goal.returns
-returns c = let so_far = c.loop-place.invariant in let spare = c.args.spare.now in
+returns g c = let so_far = c.loop-place.invariant in let spare = c.args.spare.now in
     let all : c.loop-place.place ≡ length spare.retired = omega (arith, c.loop-place-test.false, c.loop-place.auto.place-end, ap length c.retired-place-end.ensures) in
-    subst (λ (p : NoSlot × Spare). LacksSlot c.args.self.now c.args.call.now p.0 spare p.1 c.args.seat.now c.loop-place.seat) (λ j. (sym (c.counts.ensures ∙ ap none_spare so_far.0) j, sym so_far.0 j))
-    (lacks_slot c.args.self.now c.args.call.now c.args.rows.now spare c.args.seat.now c.loop-place.seat c.loop-place.place so_far.1 all)
+    subst (λ (p : NoSlot × Spare). LacksSlot c.args.self.now g.G.Given.call p.0 spare p.1 c.args.seat.now c.loop-place.seat) (λ j. (sym (c.counts.ensures ∙ ap none_spare so_far.0) j, sym so_far.0 j))
+    (lacks_slot c.args.self.now g.G.Given.call c.args.rows.now spare c.args.seat.now c.loop-place.seat c.loop-place.place so_far.1 all)
