@@ -1,4 +1,4 @@
--- For the crates above: the laws of the steps (`src/laws.rt` says each of them), and what they share, of sums, histories, key words, sets read through, calls that end with no slot, slots counted, and keys numbered.
+-- For the crates above: the laws of the steps (`src/laws.rt` says each of them), and what they share, of sums, histories, key words, sets read through, calls that end with no slot, slots counted, keys numbered, and where words lie.
 pub mod Arrive
 pub mod Ask
 pub mod Read
@@ -20,7 +20,9 @@ pub mod ReadThrough
 pub mod Without
 pub mod Counting
 pub mod Numbers
+pub mod WordPlaces
 -- This crate's own.
+mod Shapes
 mod Walks
 mod OnKey
 mod OffKeys

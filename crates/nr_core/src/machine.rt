@@ -1,6 +1,7 @@
 //! The machine in any state, and its steps, each of which is proved from what it needs there.
 ghost use Rattle.std.specs.Prelude.{◌≡◌, ◌<◌, ◌≤◌, length, IfOk};
 ghost use Rattle.nr_model.specs.Maps.{last_number};
+ghost use Rattle.nr_model.specs.declared.rows.TheConstants.{MAX_ROWS};
 ghost use Rattle.nr_core.specs.States.{opening, hold_of, number_at};
 ghost use Rattle.nr_core.specs.Reach.{HasRoom, RoomOf};
 
@@ -42,7 +43,7 @@ impl Model for Machine {
     ghost Value = { State };
 
     ghost view = { λ machine. record {
-      shape = record { keys = machine.layout.keys; slots = machine.layout.slots; readers = machine.readers; first_count = machine.first_count; first_number = machine.first_number };
+      shape = record { keys = machine.layout.keys; slots = machine.layout.slots; readers = machine.readers; first_count = machine.first_count; first_number = machine.first_number; rows = machine.layout.rows };
       words = machine.words.cells;
       holds = machine.holds.items;
       desk = record { place = machine.place; fresh = machine.spare.fresh; retired = machine.spare.retired; numbers = machine.spare.numbers };
@@ -55,12 +56,14 @@ impl Model for Machine {
 impl Machine {
     /// The state in which a map opens, with all the room that its steps need.
     pub fn open(alloc: Global, shape: &Shape) -> Result<Machine, AllocError>
-        requires { shape.now.first_number ≤ last_number }
+        requires rows { shape.now.rows ≤ MAX_ROWS }
+        requires number { shape.now.first_number ≤ last_number }
         ensures { IfOk result (λ machine. machine ≡ opening shape.now) }
     {
         let layout = Layout {
             keys: shape.keys,
             slots: shape.slots,
+            rows: shape.rows,
         };
         let words = Words::open(alloc, layout, shape.first_count, shape.first_number)?;
         let holds = vec![in alloc; Hold::Nothing; shape.readers as usize]?;
@@ -75,6 +78,13 @@ impl Machine {
             place: Place::Idle,
             spare,
         })
+    }
+
+    /// How many rows a key may have.
+    pub fn rows(&self) -> u32
+        ensures { result ≡ self.now.shape.rows }
+    {
+        self.layout.rows
     }
 
     /// The number of the key.

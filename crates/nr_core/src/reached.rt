@@ -1,10 +1,11 @@
 //! The step machine that callers see.
-ghost use Rattle.std.specs.Prelude.{◌≡◌, ◌<◌, ◌↔◌, ◌⊎◌, IfOk, Err, Some, option_map};
-ghost use Rattle.nr_model.specs.Maps.{number_of};
+ghost use Rattle.std.specs.Prelude.{◌≡◌, ◌≤◌, ◌<◌, ◌↔◌, ◌⊎◌, IfOk, Err, Some, option_map};
+ghost use Rattle.nr_model.specs.Maps.{FillFits, number_of};
+ghost use Rattle.nr_model.specs.declared.rows.TheConstants.{DEFAULT_ROWS, MAX_ROWS};
 ghost use Rattle.nr_model.specs.declared.seq_map.TheConstants.{MAX_KEYS};
 ghost use Rattle.nr_core.specs.Sizes.{IsBadShape};
 ghost use Rattle.nr_core.specs.declared.shape.TheConstants.{MAX_READERS, MAX_SLOTS};
-ghost use Rattle.nr_core.specs.Story.{shown};
+ghost use Rattle.nr_core.specs.Story.{call_of, shown};
 ghost use Rattle.nr_core.specs.States.{opening, number_at, Arrive, Read, Depart, Ask, Start, Go};
 ghost use Rattle.nr_core.specs.Machine.{next, arrive_answer, read_answer, depart_answer, ask_answer, start_answer, go_answer};
 ghost use Rattle.nr_model.specs.Sizes.{IsBadSize};
@@ -12,7 +13,7 @@ ghost use Rattle.nr_model.specs.Sizes.{IsBadSize};
 use crate::calls::{Arrived, AskReply, Refusal, Step, WriterCall};
 use crate::machine::Machine;
 use crate::shape::Shape;
-use nr_model::OpenFault;
+use nr_model::{DEFAULT_ROWS, OpenFault};
 use std::alloc::Global;
 use std::marker::Model;
 
@@ -54,6 +55,7 @@ impl Core {
           readers = readers;
           first_count = first_count;
           first_number = 0;
+          rows = DEFAULT_ROWS;
         })) }
     {
         let shape = Shape {
@@ -62,6 +64,7 @@ impl Core {
             readers,
             first_count,
             first_number: 0,
+            rows: DEFAULT_ROWS,
         };
         Core::open_with(alloc, &shape)
     }
@@ -78,6 +81,15 @@ impl Core {
         }
         let machine = Machine::open(alloc, shape).map_err(|_| OpenFault::Memory)?;
         Ok(Core { machine })
+    }
+
+    /// How many rows a key may have, 1 to 255.
+    pub fn rows(&self) -> u32
+        ensures value { result ≡ self.now.shape.rows }
+        ensures positive { 0 < result }
+        ensures bounded { result ≤ MAX_ROWS }
+    {
+        self.machine.rows()
     }
 
     /// The number of a key, below the number of keys: the one that its next request is sent with,
@@ -130,8 +142,10 @@ impl Core {
     }
 
     /// The writer begins a call by its look at the key's word: one load. Refused where there is no
-    /// such key (`OutOfRange`), and then where the writer is in a call (`Busy`).
+    /// such key (`OutOfRange`), and then where the writer is in a call (`Busy`). A fill brings at most
+    /// `rows()` rows.
     pub fn start(&mut self, call: &WriterCall) -> Result<Step, Refusal>
+        requires fits { FillFits self.old.shape.rows (call_of call.now) }
         ensures answer { result ≡ start_answer self.old call.now }
         ensures new { self.new ≡ next self.old (Start call.now) }
     {

@@ -5,6 +5,7 @@
 mod batches;
 mod calls;
 mod cells;
+mod heads;
 pub mod laws;
 mod ordered;
 mod pile;

@@ -4,7 +4,8 @@ ghost use Rattle.nr_model.specs.Maps.{last_number, opening, state_of, reply_to, 
 ghost use Rattle.nr_model.specs.Sizes.{IsBadSize};
 
 use crate::calls::{Call, Reply};
-use crate::rows::{DEFAULT_ROWS, MAX_ROWS};
+use crate::heads::Head;
+use crate::rows::{BLANK, DEFAULT_ROWS, MAX_ROWS, Row};
 use crate::sizes::is_bad_size;
 use crate::states::{KeyState, LAST_NUMBER};
 use std::alloc::Global;
@@ -28,7 +29,8 @@ pub enum OpenFault {
 #[derive(Drop)]
 pub struct SeqMap {
     rows: u32,
-    states: Vec<KeyState>,
+    heads: Vec<Head>,
+    cells: Vec<Row>,
 }
 
 impl Model for SeqMap {
@@ -39,10 +41,11 @@ impl Model for SeqMap {
     ghost use Rattle.std.specs.Prelude.{◌≤◌, ◌<◌, length};
     ghost use Rattle.nr_model.specs.declared.rows.TheConstants.{MAX_ROWS};
     ghost use Rattle.nr_model.specs.declared.seq_map.TheConstants.{MAX_KEYS};
+    ghost use Rattle.nr_model.specs.Runs.{states_in, AreRuns};
 
-    ghost view = { λ map. record { bound = map.rows; states = map.states.items } };
+    ghost view = { λ map. record { bound = map.rows; states = states_in map.rows map.heads.items map.cells.items } };
 
-    ghost invariant = { λ map. (0 < map.rows) × (map.rows ≤ MAX_ROWS) × (0 < length map.states.items) × (length map.states.items ≤ MAX_KEYS) };
+    ghost invariant = { λ map. (0 < map.rows) × (map.rows ≤ MAX_ROWS) × (0 < length map.heads.items) × (length map.heads.items ≤ MAX_KEYS) × AreRuns map.rows map.heads.items map.cells.items };
 }
 
 impl SeqMap {
@@ -73,10 +76,11 @@ impl SeqMap {
         {
             return Err(OpenFault::BadSize);
         }
-        let states = vec![in alloc; KeyState::Hole(first_number); keys as usize].map_err(
-            |_| OpenFault::Memory,
-        )?;
-        Ok(SeqMap { rows, states })
+        let hole = Head::Hole(first_number);
+        let heads = vec![in alloc; hole; keys as usize].map_err(|_| OpenFault::Memory)?;
+        let room = keys as usize * rows as usize;
+        let cells = vec![in alloc; BLANK; room].map_err(|_| OpenFault::Memory)?;
+        Ok(SeqMap { rows, heads, cells })
     }
 
     /// How many keys the map has. They are numbered from 0.
@@ -85,7 +89,7 @@ impl SeqMap {
         ensures positive { 0 < result }
         ensures bounded { result ≤ MAX_KEYS }
     {
-        self.states.len() as u32
+        self.heads.len() as u32
     }
 
     /// How many rows a key may have.
@@ -102,7 +106,9 @@ impl SeqMap {
         requires { key < key_count self.now }
         ensures { result ≡ state_of self.now key }
     {
-        self.states[key as usize]
+        let rows = self.rows as usize;
+        let start = key as usize * rows;
+        self.heads[key as usize].state(&self.cells[start..start + rows])
     }
 
     /// Carries out a call at a key below `keys()`, and answers it. The set of a fill has at most
@@ -113,15 +119,10 @@ impl SeqMap {
         ensures reply { result ≡ reply_to self.old call.now }
         ensures new { self.new ≡ next self.old call.now }
     {
-        let rows = self.rows;
-        let state = &mut self.states[call.key() as usize];
-        match call {
-            Call::Find(_) => state.find(),
-            Call::Ask(_) => state.ask(),
-            Call::Fill(_, number, set) => state.fill(*number, set),
-            Call::Update(_, batch) => state.update(batch, rows),
-            Call::Evict(_) => state.evict(),
-            Call::Cancel(_) => state.cancel(),
-        }
+        let key = call.key() as usize;
+        let rows = self.rows as usize;
+        let start = key * rows;
+        let run = &mut self.cells[start..start + rows];
+        self.heads[key].call(run, call)
     }
 }

@@ -1,10 +1,10 @@
 //! Why a step is refused: a reader or key out of range first, the index of a read last.
 ghost use Rattle.std.specs.Prelude.{◌≡◌, ◌<◌, ◌≤◌, None, Some, OnOk, IfOk, IfErr};
-ghost use Rattle.nr_words.specs.declared.set_words.TheConstants.{CONTENT_WORDS};
 ghost use Rattle.nr_core.specs.declared.places.Hold.TheVariants.{On};
 ghost use Rattle.nr_core.specs.States.{Arrive, Read, Depart, Ask, Start, hold_of, slot_in, key_of};
 ghost use Rattle.nr_core.specs.Refusals.{refusal, has_reader, has_key};
 ghost use Rattle.nr_core.specs.Reach.{HasRoom};
+ghost use Rattle.nr_core.specs.Slots.{slot_room};
 
 use crate::calls::{Refusal, WriterCall};
 use crate::machine::Machine;
@@ -69,7 +69,7 @@ impl Machine {
         ensures reader { OnOk result ((0 < reader) × (reader ≤ self.now.shape.readers)) }
         ensures hold { IfOk result (λ held. hold_of self.now reader ≡ On held.0 held.1) }
         ensures slot_in { IfOk result (λ held. held.0 < self.now.shape.slots) }
-        ensures index_in { OnOk result (index < CONTENT_WORDS) }
+        ensures index_in { OnOk result (index < slot_room self.now.shape) }
     {
         if !self.has_reader(reader) {
             return Err(Refusal::OutOfRange);

@@ -2,9 +2,12 @@
 ghost use Rattle.std.specs.Prelude.{◌≡◌, ◌<◌, ◌≤◌, ◌*◌, ◌∷◌, ◌++◌, [], length};
 ghost use Rattle.nr_core.specs.declared.places.Place.TheVariants.{Idle, Reading, Leaving, Withdrawing, Searching, Putting};
 ghost use Rattle.nr_core.specs.States.{Start, Go};
+ghost use Rattle.nr_core.specs.Story.{call_of};
 ghost use Rattle.nr_core.specs.Machine.{next, moved, found_by, start_answer, go_answer};
 ghost use Rattle.nr_core.specs.Writer.{looked, fill_asked, cancel_asked, decided, renewed, read_on, put_on, went, ended, moved_to};
 ghost use Rattle.nr_core.specs.Slots.{bound_of};
+ghost use Rattle.nr_model.specs.Maps.{FillFits};
+ghost use Rattle.nr_model.specs.declared.rows.TheConstants.{MAX_ROWS};
 ghost use Rattle.nr_words.specs.KeyWords.{naming};
 ghost use Rattle.nr_core.specs.Laws.{IsGivenCall};
 ghost use Rattle.nr_core.specs.Reach.{HasRoom};
@@ -14,12 +17,13 @@ use crate::machine::Machine;
 use crate::places::Place;
 use crate::words_read::WordsRead;
 use nr_model::{ApplyFault, LAST_NUMBER, Reply, RowSet};
-use nr_words::{CONTENT_WORDS, encode, hole_word, naming, parts};
+use nr_words::{hole_word, naming, parts, word_at};
 
 impl Machine {
     /// The look: loads the word of the call's key.
     pub fn start(&mut self, call: &WriterCall) -> Result<Step, Refusal>
-        requires { HasRoom self.old }
+        requires room { HasRoom self.old }
+        requires fits { FillFits (bound_of self.old.shape) (call_of call.now) }
         ensures answer { result ≡ start_answer self.old call.now }
         ensures new { self.new ≡ next self.old (Start call.now) }
         ensures given { IsGivenCall (bound_of self.old.shape) call.now }
@@ -148,12 +152,17 @@ impl Machine {
     /// Where the call goes from its last read, which completes the set. Only finds and updates read.
     fn decide(&mut self, call: WriterCall, rows: RowSet) -> Step
         requires few { length self.old.desk.retired ≤ self.old.shape.slots }
+        requires bound { bound_of self.old.shape ≤ MAX_ROWS }
+        requires fits { length rows ≤ bound_of self.old.shape }
         ensures answer { result ≡ (decided self.old.shape self.old.desk call rows).1 }
         ensures new { self.new ≡ record self.old { desk = (decided self.old.shape self.old.desk call rows).0 } }
     {
         match call {
             WriterCall::Find(_) => self.end(Reply::Rows(rows)),
-            WriterCall::Update(_, batch) => self.renew(call, rows.applied(&batch)),
+            WriterCall::Update(_, batch) => self.renew(
+                call,
+                rows.applied(&batch, self.layout.rows),
+            ),
             WriterCall::Fill(_, _, _) | WriterCall::Evict(_) | WriterCall::Cancel(_) => {
                 self.go_to(Place::Idle)
             }
@@ -182,10 +191,8 @@ impl Machine {
         ensures answer { result ≡ (put_on self.old.desk call rows slot departed index (found_by self.old Go)).1 }
         ensures new { self.new ≡ moved self.old Go }
     {
-        let mut words = [0; CONTENT_WORDS];
-        encode(&rows, &mut words);
         let place = self.layout.content(slot, index);
-        self.words.store(place, words[index as usize]);
+        self.words.store(place, word_at(&rows, index as usize));
         self.go_to(Place::Putting(call, rows, slot, departed, index + 1))
     }
 
