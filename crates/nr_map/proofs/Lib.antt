@@ -11,6 +11,7 @@ pub mod AllKeys
 pub mod Opens
 pub mod Tokens
 pub mod Rows
+pub mod BoardPlaces
 pub mod ReaderSeats
 pub mod Seating
 pub mod Room

@@ -79,14 +79,14 @@ module _ (table : Table) (call : WriterCall) (begin : ℕ) (before : MapSeat) wh
   reads_more slot rows words some more = let got = take words (encode rows) in
       let size : length got ≡ words = length-take-le words (encode rows) (omega (arith, length-encode rows)) in
       let count : get_or got 0 0 ≡ length rows = get_or-take words (encode rows) 0 0 some in
-      ap (λ (b : Bool). cond {A = Desk × Step} b (decoded table.shape desk call (decode (bound_of table.shape) got)) (moved_to desk (Reading call slot got), Going)) (ne_eqb (length got) (2 * get_or got 0 0 + 1) (λ e. absurd (omega arith)))
+      ap (λ (b : Bool). cond {A = Desk × Step} b (decoded table.shape desk call (decode got)) (moved_to desk (Reading call slot got), Going)) (ne_eqb (length got) (2 * get_or got 0 0 + 1) (λ e. absurd (omega arith)))
 
   -- all are read
   reads_last : (slot : ℕ) (rows : List Row) → IsRowSet (bound_of table.shape) rows → reads_on table desk call slot rows (2 * length rows + 1) ≡ decided table.shape desk call rows
   reads_last slot rows row_set = let all = encode rows in
       let whole : take (2 * length rows + 1) all ≡ all = take_all (2 * length rows + 1) all (omega (arith, length-encode rows)) in
-      ap (λ (got : List ℕ). cond {A = Desk × Step} (nat_eq (length got) (2 * get_or got 0 0 + 1)) (decoded table.shape desk call (decode (bound_of table.shape) got)) (moved_to desk (Reading call slot got), Going)) whole
-      ∙ ap (λ (b : Bool). cond {A = Desk × Step} b (decoded table.shape desk call (decode (bound_of table.shape) all)) (moved_to desk (Reading call slot all), Going)) (eq-eqb (length all) (2 * length rows + 1) (length-encode rows))
+      ap (λ (got : List ℕ). cond {A = Desk × Step} (nat_eq (length got) (2 * get_or got 0 0 + 1)) (decoded table.shape desk call (decode got)) (moved_to desk (Reading call slot got), Going)) whole
+      ∙ ap (λ (b : Bool). cond {A = Desk × Step} b (decoded table.shape desk call (decode all)) (moved_to desk (Reading call slot all), Going)) (eq-eqb (length all) (2 * length rows + 1) (length-encode rows))
       ∙ ap (decoded table.shape desk call) (set_back (bound_of table.shape) rows row_set)
 
   -- the key has the set still

@@ -1,6 +1,7 @@
 //! The table of words. It is private to this module, whose functions make one step each.
 ghost use Rattle.std.specs.Prelude.{ℕ, ◌≡◌, ◌<◌, ◌≤◌, ◌^◌, true, false, [], length, slice_index, IfOk};
 ghost use Rattle.nr_model.specs.Maps.{state_of};
+ghost use Rattle.nr_model.specs.declared.rows.TheConstants.{MAX_ROWS};
 ghost use Rattle.nr_model.specs.declared.calls.Call.TheVariants as model;
 ghost use Rattle.nr_model.specs.declared.calls.Reply.TheVariants as reply;
 ghost use Rattle.nr_words.specs.KeyWords.{is_filled, slot_of};
@@ -13,7 +14,7 @@ ghost use Rattle.nr_core.specs.States.{key_of};
 ghost use Rattle.nr_core.specs.Steps.{ask_word};
 ghost use Rattle.nr_core.specs.Story.{call_of};
 ghost use Rattle.nr_core.specs.Writer.{looked};
-ghost use Rattle.nr_core.specs.Slots.{bound_of, content};
+ghost use Rattle.nr_core.specs.Slots.{bound_of, content, layout};
 ghost use Rattle.nr_core.specs.Roles.{is_writer};
 ghost use Rattle.nr_core.specs.Sizes.{IsShape};
 ghost use Rattle.nr_map.specs.Views.{rows_held, with_reader, next_reader, opener};
@@ -52,12 +53,12 @@ impl Model for Board {
     ghost Value = { MapTable };
 
     ghost use Rattle.nr_words.specs.Places.{total_of};
-    ghost use Rattle.nr_core.specs.Slots.{slot_room, layout};
+    ghost use Rattle.nr_core.specs.Slots.{layout};
     ghost use Rattle.nr_core.specs.Sizes.{IsShape};
 
     ghost view = { λ board. record { id = board.table.shared.table_id; shape = board.shape } };
 
-    ghost invariant = { λ board. (board.table.shared.key ≡ board.shape) × (board.table.shared.table_id.words ≡ total_of slot_room (layout board.shape)) × (0 < board.shape.keys) × (board.shape.keys < 2 ^ 32) × IsShape board.shape };
+    ghost invariant = { λ board. (board.table.shared.key ≡ board.shape) × (board.table.shared.table_id.words ≡ total_of (layout board.shape)) × (0 < board.shape.keys) × (board.shape.keys < 2 ^ 32) × IsShape board.shape };
 }
 
 /// What a token has seen, noted in a step that counts once another token takes the note in. So a
@@ -86,6 +87,7 @@ impl Board {
         let layout = Layout {
             keys: shape.keys,
             slots: shape.slots,
+            rows: shape.rows,
         };
         let words = opening_words(alloc, layout, shape.first_count, shape.first_number)?;
         let (table, seat) = Table::of_words(alloc, &words, &shape)?;
@@ -298,12 +300,13 @@ impl Board {
     }
 
     fn layout(&self) -> Layout
-        ensures keys { result.keys ≡ self.now.shape.keys }
-        ensures slots { result.slots ≡ self.now.shape.slots }
+        ensures value { result ≡ layout self.now.shape }
+        ensures few { self.now.shape.rows ≤ MAX_ROWS }
     {
         Layout {
             keys: self.shape.keys,
             slots: self.shape.slots,
+            rows: self.shape.rows,
         }
     }
 }

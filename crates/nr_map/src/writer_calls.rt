@@ -1,8 +1,6 @@
 //! The writer's calls.
-ghost use Rattle.std.specs.Prelude.{◌≡◌, ◌<◌};
-ghost use Rattle.nr_model.specs.declared.rows.TheConstants.{MAX_ROWS};
+ghost use Rattle.std.specs.Prelude.{◌≡◌, ◌<◌, ◌≤◌, length};
 ghost use Rattle.nr_model.specs.Rows.{IsRowSet};
-ghost use Rattle.nr_core.specs.Slots.{bound_of};
 ghost use Rattle.nr_core.specs.declared.calls.WriterCall.TheVariants as writer;
 ghost use Rattle.nr_map.specs.Callers.{token};
 ghost use Rattle.nr_map.specs.WriterSeats.{RestsAt};
@@ -14,7 +12,7 @@ use crate::reader_map::ReaderMap;
 use crate::rule::Given;
 use crate::writer::Writer;
 use nr_core::Spare;
-use nr_model::{ApplyFault, Batch, MAX_ROWS, Pile, Row, RowSet};
+use nr_model::{ApplyFault, Batch, Pile, Row, RowSet};
 use nr_words::parts;
 use std::marker::Brand;
 
@@ -33,7 +31,8 @@ impl ReaderMap {
         self.look_up::<Brand>(&mut writer.seat, &writer.spare, key, rows)
     }
 
-    /// Fills a key that was asked for, by the number of its request. Refused where nobody asked,
+    /// Fills a key that was asked for, by the number of its request, with at most `rows()` rows.
+    /// Refused where nobody asked,
     /// where the key is filled, where the key was asked with another number (`Stale`), and where it
     /// needs a slot and each one is a filled key's or held by a reader. Takes 1 step where
     /// it is refused by the key, 2n + 3 and the polls for n rows where it is done, and 1 and a poll
@@ -47,6 +46,7 @@ impl ReaderMap {
     ) -> Result<(), FillFault>
         requires own { writer.old.table ≡ self.now }
         requires key { key < self.now.shape.keys }
+        requires few { length rows.now ≤ self.now.shape.rows }
         ensures { FillsKey key number rows.now writer.old writer.new result }
     {
         self.fill_key::<Brand>(
@@ -67,7 +67,7 @@ impl ReaderMap {
     pub fn update(&self, writer: &mut Writer, key: u32, batch: &Batch) -> Result<(), UpdateFault>
         requires own { writer.old.table ≡ self.now }
         requires key { key < self.now.shape.keys }
-        ensures { UpdatesKey MAX_ROWS key batch.now writer.old writer.new result }
+        ensures { UpdatesKey self.now.shape.rows key batch.now writer.old writer.new result }
     {
         self.update_key::<Brand>(
             &mut writer.seat,
@@ -120,7 +120,7 @@ impl ReaderMap {
         rows: &[Row],
     ) -> Result<(), FillFault>
         requires call { G.call ≡ writer.Fill key number rows.now }
-        requires row_set { IsRowSet (bound_of self.now.shape) rows.now }
+        requires row_set { IsRowSet self.now.shape.rows rows.now }
         requires own { (token seat.old).table ≡ self.now }
         requires rests { RestsAt (token seat.old).table spare.old seat.old }
         requires key { key < self.now.shape.keys }
@@ -156,14 +156,14 @@ impl ReaderMap {
         requires rests { RestsAt (token seat.old).table spare.old seat.old }
         requires key { key < self.now.shape.keys }
         ensures rests { RestsAt (token seat.new).table spare.new seat.new }
-        ensures updates { UpdatesKey MAX_ROWS key batch.now (token seat.old) (token seat.new) result }
+        ensures updates { UpdatesKey self.now.shape.rows key batch.now (token seat.old) (token seat.new) result }
     {
         let found = parts(self.board.look::<G>(seat, key));
         if !found.filled {
             return Err(UpdateFault::Dropped);
         }
         self.read_pile::<G>(seat, found.slot, pile);
-        match pile.apply(batch, MAX_ROWS as u32) {
+        match pile.apply(batch, self.rows()) {
             Ok(()) => {}
             Err(ApplyFault::NoRow) => return Err(UpdateFault::NoRow),
             Err(ApplyFault::TooMany) => return Err(UpdateFault::TooMany),

@@ -18,7 +18,7 @@ use Rattle.nr_core.specs.Slots.{bound_of}
 pub load-requires : goal.load-requires
 load-requires g c = let shared = c.self.inside.table.shared in let about = c.self.invariant in let seat = c.args.seat.now in let writer = c.requires.writer in let call = g.G.Given.call in
     let key_is : shared.key ≡ c.args.self.now.shape = about.0 ∙ ap (λ (t : Table). t.shape) c.self.view_is in let near : key_of call < shared.key.keys = omega (arith, c.requires.call, c.requires.key, ap (λ (s : Shape). s.keys) key_is) in
-    let given : IsGivenCall (bound_of shared.key) call = c.requires.given in
+    let given : IsGivenCall (bound_of shared.key) call = subst (λ (s : Shape). IsGivenCall (bound_of s) call) (sym key_is) c.requires.given in
     let n : ℕ = shared.table_id.slots in (
       ap (λ (t : Table). t.id) (writer.writes.own ∙ sym c.self.view_is),
       omega (arith, c.requires.key, ap (λ (t : Table). t.shape.keys) c.self.view_is),

@@ -1,4 +1,5 @@
-use Rattle.std.proofs.Common.{rules, subst, sym, ◌∙◌}
+use Rattle.std.proofs.Common.{ap, arith, rules, subst, sym, ◌∙◌}
+use Rattle.nr_map.specs.Callers.{Table}
 use Rattle.nr_map.proofs.ReadingOn.{begins, reads_all}
 use Rattle.nr_map.specs.NamedRows.{ReadTo, ReadsAll}
 use Rattle.nr_map.specs.WriterSeats.{MapSeat}
@@ -8,7 +9,7 @@ pub refill-requires : goal.refill-requires
 refill-requires g c = let map = c.args.self.now in let call = g.G.Given.call in let begin = c.content-begin.result in let mid = c.read_on-count.new.seat in
     let first = begins map c.self.inside.board call begin c.args.slot c.read_on-count.result c.args.seat.now mid c.self.view_is c.content-begin.ensures c.requires.key c.requires.writer c.read_on-count.ensures in record {
       count = first.0;
-      row_set = first.1.row_set;
+      row_set = (first.1.row_set.0, omega (arith, first.1.row_set.1, c.self.invariant.bound, ap (λ (t : Table). t.shape.rows) c.self.view_is));
       ready = subst (λ (before : MapSeat). ReadTo map call begin before mid 1) (sym c.of-before.ensures) first.1;
     }
 

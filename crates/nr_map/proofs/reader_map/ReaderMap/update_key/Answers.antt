@@ -1,4 +1,4 @@
-use Rattle.std.proofs.Common.{ap, subst, sym, ◌<◌, ◌∙◌, ◌≡◌, Ok, Err}
+use Rattle.std.proofs.Common.{ℕ, ap, subst, sym, ◌<◌, ◌∙◌, ◌≡◌, Ok, Err}
 use Rattle.nr_model.specs.Batches.{applied}
 use Rattle.nr_model.specs.declared.batches.ApplyFault.TheVariants as fault
 use Rattle.nr_model.specs.declared.calls.Reply.TheVariants as reply
@@ -24,19 +24,19 @@ read_pile-requires g c = let looks = has_looked {before = c.args.seat.now} c.sel
 
 pub returns-in-Err-NoRow : goal.returns-in-Err-NoRow
 returns-in-Err-NoRow g c = let looks = has_looked {before = c.args.seat.now} c.self.view_is c.requires.own c.requires.rests c.requires.call c.look.ensures.leads c.look.ensures.marks in let read = has_read looks (update_reads c.args.self.now.shape (desk_with c.args.spare.now Idle) c.args.key c.look.result c.args.batch.now (is_full c.look.result c.parts-found.ensures.parts c.if-not-found.false)) c.requires.call c.read_pile.ensures in
-    let is : applied (bound_of c.args.self.now.shape) c.read_pile.new.pile c.args.batch.now ≡ Err fault.NoRow = c.in-Err-NoRow.ensures.fault ∙ ap Err c.in-Err-NoRow.field-0-is in
+    let is : applied (bound_of c.args.self.now.shape) c.read_pile.new.pile c.args.batch.now ≡ Err fault.NoRow = ap (λ (bound : ℕ). applied bound c.read_pile.new.pile c.args.batch.now) (sym c.rows.ensures.value) ∙ c.in-Err-NoRow.ensures.fault ∙ ap Err c.in-Err-NoRow.field-0-is in
     let told = has_refused read fault.NoRow is in
     record { rests = told.0; updates = (c.read_pile.new.pile, is, told.1.0, told.1.1, told.1.2) }
 
 pub returns-in-Err-TooMany : goal.returns-in-Err-TooMany
 returns-in-Err-TooMany g c = let looks = has_looked {before = c.args.seat.now} c.self.view_is c.requires.own c.requires.rests c.requires.call c.look.ensures.leads c.look.ensures.marks in let read = has_read looks (update_reads c.args.self.now.shape (desk_with c.args.spare.now Idle) c.args.key c.look.result c.args.batch.now (is_full c.look.result c.parts-found.ensures.parts c.if-not-found.false)) c.requires.call c.read_pile.ensures in
-    let is : applied (bound_of c.args.self.now.shape) c.read_pile.new.pile c.args.batch.now ≡ Err fault.TooMany = c.in-Err-TooMany.ensures.fault ∙ ap Err c.in-Err-TooMany.field-0-is in
+    let is : applied (bound_of c.args.self.now.shape) c.read_pile.new.pile c.args.batch.now ≡ Err fault.TooMany = ap (λ (bound : ℕ). applied bound c.read_pile.new.pile c.args.batch.now) (sym c.rows.ensures.value) ∙ c.in-Err-TooMany.ensures.fault ∙ ap Err c.in-Err-TooMany.field-0-is in
     let told = has_refused read fault.TooMany is in
     record { rests = told.0; updates = (c.read_pile.new.pile, is, told.1.0, told.1.1, told.1.2) }
 
 pub publish-requires : goal.publish-requires
 publish-requires g c = let looks = has_looked {before = c.args.seat.now} c.self.view_is c.requires.own c.requires.rests c.requires.call c.look.ensures.leads c.look.ensures.marks in let read = has_read looks (update_reads c.args.self.now.shape (desk_with c.args.spare.now Idle) c.args.key c.look.result c.args.batch.now (is_full c.look.result c.parts-found.ensures.parts c.if-not-found.false)) c.requires.call c.read_pile.ensures in
-    let set = has_renewed read (c.in-Ok.ensures.ok ∙ ap Ok (sym c.as_slice.ensures.value)) in record {
+    let set = has_renewed read (ap (λ (bound : ℕ). applied bound c.read_pile.new.pile c.args.batch.now) (sym c.rows.ensures.value) ∙ c.in-Ok.ensures.ok ∙ ap Ok (sym c.as_slice.ensures.value)) in record {
       settles = subst (λ (call : WriterCall). Settles c.args.self.now call c.as_slice.result.now c.args.spare.now c.read_pile.new.seat) (sym c.requires.call) set.settles;
       call = ap key_of (sym c.requires.call);
       key = c.requires.key;
@@ -44,12 +44,12 @@ publish-requires g c = let looks = has_looked {before = c.args.seat.now} c.self.
 
 pub returns-in-Err : goal.returns-in-Err
 returns-in-Err g c = let looks = has_looked {before = c.args.seat.now} c.self.view_is c.requires.own c.requires.rests c.requires.call c.look.ensures.leads c.look.ensures.marks in let read = has_read looks (update_reads c.args.self.now.shape (desk_with c.args.spare.now Idle) c.args.key c.look.result c.args.batch.now (is_full c.look.result c.parts-found.ensures.parts c.if-not-found.false)) c.requires.call c.read_pile.ensures in
-    let is : applied (bound_of c.args.self.now.shape) c.read_pile.new.pile c.args.batch.now ≡ Ok c.as_slice.result.now = c.in-Ok.ensures.ok ∙ ap Ok (sym c.as_slice.ensures.value) in
+    let is : applied (bound_of c.args.self.now.shape) c.read_pile.new.pile c.args.batch.now ≡ Ok c.as_slice.result.now = ap (λ (bound : ℕ). applied bound c.read_pile.new.pile c.args.batch.now) (sym c.rows.ensures.value) ∙ c.in-Ok.ensures.ok ∙ ap Ok (sym c.as_slice.ensures.value) in
     let told = has_not_updated read is c.requires.call c.requires.key c.in-Err.ensures in
     record { rests = told.0; updates = (c.read_pile.new.pile, c.as_slice.result.now, is, told.1.0, told.1.1) }
 
 pub returns : goal.returns
 returns g c = let looks = has_looked {before = c.args.seat.now} c.self.view_is c.requires.own c.requires.rests c.requires.call c.look.ensures.leads c.look.ensures.marks in let read = has_read looks (update_reads c.args.self.now.shape (desk_with c.args.spare.now Idle) c.args.key c.look.result c.args.batch.now (is_full c.look.result c.parts-found.ensures.parts c.if-not-found.false)) c.requires.call c.read_pile.ensures in
-    let is : applied (bound_of c.args.self.now.shape) c.read_pile.new.pile c.args.batch.now ≡ Ok c.as_slice.result.now = c.in-Ok.ensures.ok ∙ ap Ok (sym c.as_slice.ensures.value) in
+    let is : applied (bound_of c.args.self.now.shape) c.read_pile.new.pile c.args.batch.now ≡ Ok c.as_slice.result.now = ap (λ (bound : ℕ). applied bound c.read_pile.new.pile c.args.batch.now) (sym c.rows.ensures.value) ∙ c.in-Ok.ensures.ok ∙ ap Ok (sym c.as_slice.ensures.value) in
     let told = has_updated read is c.requires.call c.requires.key c.in_default.ensures in
     record { rests = told.0; updates = (c.read_pile.new.pile, c.as_slice.result.now, is, told.1.0, told.1.1) }
