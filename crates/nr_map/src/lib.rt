@@ -23,8 +23,10 @@ mod board;
 #[cfg(test)]
 mod cancel_tests;
 mod cancels;
+mod held_rows;
 pub mod laws;
 mod meetings;
+mod named_rows;
 mod only_proved;
 mod pin;
 #[cfg(test)]

@@ -1,6 +1,5 @@
 //! A reader that holds a set, and reads it as often as it likes.
 ghost use Rattle.std.specs.Prelude.{◌≡◌, ◌<◌, ◌≤◌, length, slice_get, IsSome, None, Some};
-ghost use Rattle.nr_model.specs.declared.rows.TheConstants.{MAX_ROWS};
 ghost use Rattle.nr_model.specs.Rows.{IsRowSet};
 ghost use Rattle.nr_marks.specs.Marks.{acted};
 ghost use Rattle.nr_map.specs.Callers.{Rests};
@@ -69,8 +68,8 @@ impl Pin {
     /// How many rows the set has. Takes no step.
     pub fn len(&self) -> u32
         ensures len { result ≡ length self.now.rows }
-        ensures few { result ≤ MAX_ROWS }
-        ensures row_set { IsRowSet MAX_ROWS self.now.rows }
+        ensures few { result ≤ self.now.reader.table.shape.rows }
+        ensures row_set { IsRowSet self.now.reader.table.shape.rows self.now.rows }
         ensures holds { IsSome self.now.reader.holds }
     {
         self.count
@@ -86,7 +85,7 @@ impl Pin {
         ensures holds { self.new.reader.holds ≡ self.old.reader.holds }
         ensures marks { self.new.reader.marks ≡ self.old.reader.marks }
     {
-        map.read_row(&mut self.seat, self.begin, i)
+        map.read_row(&mut self.seat, self.begin, u64::from(i))
     }
 
     /// Ends the hold, in 1 step, and gives the reader back.

@@ -12,22 +12,22 @@ use Rattle.nr_marks.specs.Marks.{Marks}
 use Rattle.nr_map.specs.Callers.{Table}
 use Rattle.nr_map.specs.Plays.{Looked}
 use Rattle.nr_map.specs.Rule.{Kept}
-use Rattle.nr_map.proofs.board.Board.look_given.Goals as goal
+use Rattle.nr_map.proofs.board.Board.look.Goals as goal
 use Rattle.nr_core.specs.Slots.{bound_of}
 
 pub load-requires : goal.load-requires
-load-requires g c = let shared = c.self.inside.table.shared in let about = c.self.invariant in let seat = c.args.seat.now in let writer = c.requires.writer in let call = c.args.call.now in
-    let key_is : shared.key ≡ c.args.self.now.shape = about.0 ∙ ap (λ (t : Table). t.shape) c.self.view_is in let near : key_of call < shared.key.keys = omega (arith, c.requires.key, ap (λ (s : Shape). s.keys) key_is) in
-    let given : IsGivenCall (bound_of shared.key) call = c.requires.given in
+load-requires g c = let shared = c.self.inside.table.shared in let about = c.self.invariant in let seat = c.args.seat.now in let writer = c.requires.writer in let call = g.G.Given.call in
+    let key_is : shared.key ≡ c.args.self.now.shape = about.0 ∙ ap (λ (t : Table). t.shape) c.self.view_is in let near : key_of call < shared.key.keys = omega (arith, c.requires.call, c.requires.key, ap (λ (s : Shape). s.keys) key_is) in
+    let given : IsGivenCall (bound_of shared.key) call = subst (λ (s : Shape). IsGivenCall (bound_of s) call) (sym key_is) c.requires.given in
     let n : ℕ = shared.table_id.slots in (
       ap (λ (t : Table). t.id) (writer.writes.own ∙ sym c.self.view_is),
-      omega (arith, c.key.ensures, ap (λ (s : Shape). s.keys) about.0),
-      subst (λ (p : ℕ × WriterCall). Allows (Kept shared.key) n seat.id seat.me p.0 (λ w. w) (λ found after. (other : Desk) → seat.me.0.role ≡ Writer other → Looked other p.1 found seat.me.0 after.0)) (λ j. (sym c.key.ensures j, sym c.requires.call j))
+      omega (arith, c.requires.key, ap (λ (t : Table). t.shape.keys) c.self.view_is),
+      subst (λ (at : ℕ). Allows (Kept shared.key) n seat.id seat.me at (λ w. w) (λ found after. (other : Desk) → seat.me.0.role ≡ Writer other → Looked other call found seat.me.0 after.0)) (sym c.requires.call)
           (looks_so shared.key n seat.id seat.me writer.desk call writer.writes.role writer.place given near),
     )
 
 pub returns : goal.returns
-returns g c = let before = c.args.seat.now in let after = c.load.new.seat in let told = subst (λ (call : WriterCall). (other : Desk) → before.me.0.role ≡ Writer other → Looked other call c.load.result before.me.0 after.me.0) c.requires.call c.load.ensures.2 in record {
-  leads = λ desk is. looked_seat c.args.self.now before after c.load.ensures.0 c.requires.writer.writes.own desk c.args.call.now c.load.result (told desk is);
+returns g c = let before = c.args.seat.now in let told = c.load.ensures.2 in record {
+  leads = λ desk is. looked_seat c.args.self.now before c.load.new.seat c.load.ensures.0 c.requires.writer.writes.own desk g.G.Given.call c.load.result (told desk is);
   marks = (told c.requires.writer.desk c.requires.writer.writes.role).marks.0;
 }
