@@ -1,0 +1,7 @@
+//! The two sides of a server over the running map: the dataflow, which fills the keys that were
+//! asked for, and clients, which ask for a key and sleep until it is filled.
+#![tactic(auto)]
+
+mod lobby;
+
+pub use lobby::Lobby;
