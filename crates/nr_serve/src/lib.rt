@@ -2,6 +2,12 @@
 //! asked for, and clients, which ask for a key and sleep until it is filled.
 #![tactic(auto)]
 
+mod dataflow;
+mod gate;
 mod lobby;
+mod source;
 
+pub use dataflow::{Dataflow, Turn};
+pub use gate::{Gate, OpenGate};
 pub use lobby::Lobby;
+pub use source::Source;
