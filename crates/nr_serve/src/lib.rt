@@ -2,11 +2,18 @@
 //! asked for, and clients, which ask for a key and sleep until it is filled.
 #![tactic(auto)]
 
+mod answers;
+mod client;
 mod dataflow;
 mod gate;
+mod hands;
 mod lobby;
+mod places;
 mod source;
+mod tries;
 
+pub use answers::Got;
+pub use client::Client;
 pub use dataflow::{Dataflow, Turn};
 pub use gate::{Gate, OpenGate};
 pub use lobby::Lobby;
