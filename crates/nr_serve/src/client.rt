@@ -119,12 +119,11 @@ impl<'a, G: Gate> Client<'a, G> {
         ensures kept { result.2 ≡ self.entry.hands.kept }
     {
         let Client {
-            places,
+            places: _,
             hands,
             turns: _,
             opened: _,
         } = self;
-        places.leave();
         match hands {
             Some(
                 Hands {

@@ -12,8 +12,8 @@ pub(crate) struct Places<'a, G> {
     pub(crate) worker: u32,
 }
 
-impl<G> Places<'_, G> {
-    pub(crate) fn leave(self) {
+impl<G> Drop for Places<'_, G> {
+    fn drop(self) {
         let Places {
             map: _,
             triggers: _,
