@@ -3,12 +3,11 @@ ghost use Rattle.std.specs.Prelude.{◌≡◌, ◌≢◌, ◌<◌, ◌≤◌, No
 ghost use Rattle.std.specs.Borrow.{sem};
 ghost use Rattle.nr_core.specs.Slots.{bound_of};
 ghost use Rattle.nr_map.specs.Answers.{CancelsKey, EvictsKey, UpdatesKey};
-ghost use Rattle.nr_model.specs.declared.rows.TheConstants.{MAX_ROWS};
 
 use crate::lobby::Lobby;
 use crate::source::Source;
 use nr_map::{Cancel, Evict, FillFault, NoSlot, ReaderMap, UpdateFault, Writer, laws};
-use nr_model::{Batch, MAX_ROWS};
+use nr_model::Batch;
 use nr_trigger::{Taker, Trigger, Triggers};
 use std::marker::Model;
 use std::sync::Wait;
@@ -130,7 +129,7 @@ impl<'a, S: Source> Dataflow<'a, S> {
     {
         laws::room_for_fills();
         let key = trigger.key();
-        let rows = self.source.rows(key, rows_bound(self.map));
+        let rows = self.source.rows(key, self.map.rows());
         self.map
             .fill(&mut self.writer, key, trigger.number(), &rows)
     }
@@ -207,14 +206,4 @@ impl<'a, S: Source> Dataflow<'a, S> {
         } = self;
         (writer, taker, kept, source)
     }
-}
-
-// How many rows a key of the map may have.
-fn rows_bound(map: &ReaderMap) -> u32
-    ensures bound { result ≡ bound_of map.now.shape }
-    ensures some { 0 < result }
-    ensures few { result ≤ MAX_ROWS }
-{
-    let _ = map;
-    MAX_ROWS as u32
 }

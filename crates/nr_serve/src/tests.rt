@@ -3,7 +3,7 @@ ghost use Rattle.std.specs.Prelude.{◌≡◌, ◌≤◌, ℕ, All, IfOk, length
 ghost use Rattle.nr_model.specs.declared.rows.TheConstants.{MAX_ROWS};
 
 use crate::{Client, Dataflow, Gate, Got, Lobby, OpenGate, Source, Turn};
-use nr_map::{Cancel, Evict, NoSlot, Reader, ReaderMap, UpdateFault, Writer};
+use nr_map::{Cancel, Evict, NoSlot, Reader, ReaderMap, Shape, UpdateFault, Writer};
 use nr_model::{Batch, Delta, MAX_ROWS, OpenFault, Row, RowSet, TooMany};
 use nr_trigger::{Poster, Taker, Triggers};
 use std::alloc::Global;
@@ -366,9 +366,9 @@ fn all_rows_are_got<R: Abort + Wait>(
     assert_eq!(rt; client.get(rt, 0, 1, &mut rows), Got::GaveUp);
     assert_eq!(rt; flow.turn(rt), Turn::Filled(0));
     let told = flow.source().told;
-    assert_eq!(rt; told, 15);
+    assert_eq!(rt; told, 255);
     assert_eq!(rt; client.get(rt, 0, 1, &mut rows), Got::Rows);
-    assert!(rt; are_counted(&rows, 15));
+    assert!(rt; are_counted(&rows, 255));
     let batch = Batch::of(&[Delta {
         plus: true,
         row: Row { a: 0, b: 0 },
@@ -379,9 +379,26 @@ fn all_rows_are_got<R: Abort + Wait>(
     assert_eq!(rt; (end_client(client), end_flow(flow)), (None, None));
 }
 
+// A map of one key that may have 255 rows, 3 slots and one reader.
+fn roomy(alloc: Global) -> Result<(ReaderMap, Writer, Vec<Reader>), OpenFault>
+    ensures keys { IfOk result (λ opened. opened.0.shape.keys ≡ 1) }
+    ensures writer { IfOk result (λ opened. opened.1.table ≡ opened.0) }
+    ensures readers { IfOk result (λ opened. All (λ reader. reader.table ≡ opened.0) opened.2.items) }
+{
+    let shape = Shape {
+        keys: 1,
+        slots: 3,
+        readers: 1,
+        first_count: 0,
+        first_number: 0,
+        rows: 255,
+    };
+    ReaderMap::open_with(alloc, &shape)
+}
+
 #[test]
 fn a_source_gives_as_many_rows_as_a_key_may_have(rt: HostRuntime) -> Result<(), Fail> {
-    let (map, writer, mut readers) = map_of(rt.alloc(), 1, 3, 1)?;
+    let (map, writer, mut readers) = roomy(rt.alloc())?;
     let (triggers, mut posters, taker) = queue_of(rt.alloc(), 1, 1, 1)?;
     let (Some(reader), Some(poster)) = (readers.pop(), posters.pop()) else {
         return Ok(());
