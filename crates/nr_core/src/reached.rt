@@ -12,8 +12,9 @@ ghost use Rattle.nr_model.specs.Sizes.{IsBadSize};
 
 use crate::calls::{Arrived, AskReply, Refusal, Step, WriterCall};
 use crate::machine::Machine;
+use crate::outcome::Outcome;
 use crate::shape::Shape;
-use nr_model::{DEFAULT_ROWS, OpenFault};
+use nr_model::{DEFAULT_ROWS, OpenFault, RowSet};
 use std::alloc::Global;
 use std::marker::Model;
 
@@ -23,17 +24,20 @@ use std::marker::Model;
 #[derive(Drop)]
 pub struct Core {
     machine: Machine,
+    /// What a find found last, of which its answer is made.
+    found: RowSet,
 }
 
 impl Model for Core {
     ghost use Rattle.nr_core.specs.States.{State};
+    ghost use Rattle.nr_core.specs.Parts.{state_of};
     ghost use Rattle.nr_core.specs.Reach.{Reached};
 
     ghost Value = { State };
 
-    ghost view = { λ core. core.machine };
+    ghost view = { λ core. state_of core.machine };
 
-    ghost invariant = { λ core. ∥ Reached core.machine ∥₁ };
+    ghost invariant = { λ core. ∥ Reached (state_of core.machine) ∥₁ };
 }
 
 impl Core {
@@ -80,7 +84,10 @@ impl Core {
             return Err(OpenFault::BadSize);
         }
         let machine = Machine::open(alloc, shape).map_err(|_| OpenFault::Memory)?;
-        Ok(Core { machine })
+        Ok(Core {
+            machine,
+            found: RowSet::new(),
+        })
     }
 
     /// How many rows a key may have, 1 to 255.
@@ -149,7 +156,12 @@ impl Core {
         ensures answer { result ≡ start_answer self.old call.now }
         ensures new { self.new ≡ next self.old (Start call.now) }
     {
-        self.machine.start(call)
+        let outcome = self.machine.start(call)?;
+        // most steps go on: they are answered here, before there is room for a set
+        if let Outcome::Going = outcome {
+            return Ok(Step::Going);
+        }
+        Ok(outcome.step(&self.found))
     }
 
     /// The writer's call makes its next step: a load of a content word or of a departure word, a
@@ -159,6 +171,10 @@ impl Core {
         ensures answer { result ≡ go_answer self.old }
         ensures new { self.new ≡ next self.old Go }
     {
-        self.machine.go()
+        let outcome = self.machine.go(&mut self.found)?;
+        if let Outcome::Going = outcome {
+            return Ok(Step::Going);
+        }
+        Ok(outcome.step(&self.found))
     }
 }

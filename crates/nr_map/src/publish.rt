@@ -78,8 +78,8 @@ impl ReaderMap {
         ensures { TakesFor self.now G.call rows.now spare.old spare.new seat.old seat.new result }
     {
         only_proved(rows);
-        for place in 0..spare.retired().len() {
-            let entry = spare.retired()[place];
+        for place in 0..spare.retired_len() {
+            let entry = spare.retired_at(place);
             let departures = self.board.poll(seat, entry.slot);
             if same_count(departures, entry.arrivals) {
                 spare.take_retired(place);

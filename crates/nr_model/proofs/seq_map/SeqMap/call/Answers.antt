@@ -12,7 +12,7 @@ pub slice_bounds-run-end : goal.slice_bounds-run-end
 slice_bounds-run-end c =
     let rows = c.self.inside.rows in let heads = c.self.inside.heads.items in let cells = c.self.inside.cells.items in
     let within = has_head rows heads cells c.args.self.now c.key-key.result c.self.view_is (rw c.key-key.ensures c.requires.key) in
-    omega (arith, run_within rows (length heads) c.key-key.result within, c.self.invariant.4.room, c.deref_mut.ensures.value)
+    omega (arith, run_within rows (length heads) c.key-key.result within, c.self.invariant.4.room)
 
 pub index_mut-requires : goal.index_mut-requires
 index_mut-requires c =

@@ -14,7 +14,7 @@ pub slice_bounds-state-end : goal.slice_bounds-state-end
 slice_bounds-state-end c =
     let rows = c.self.inside.rows in let heads = c.self.inside.heads.items in let cells = c.self.inside.cells.items in
     let within = has_head rows heads cells c.args.self.now c.args.key c.self.view_is c.requires in
-    omega (arith, run_within rows (length heads) c.args.key within, c.self.invariant.4.room, c.deref.ensures.value)
+    omega (arith, run_within rows (length heads) c.args.key within, c.self.invariant.4.room)
 
 pub state-requires-clause-kept : goal.state-requires-clause-kept
 state-requires-clause-kept c =
