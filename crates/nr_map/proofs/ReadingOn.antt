@@ -95,8 +95,8 @@ module _ (table : Table) (call : WriterCall) (begin : ℕ) (before : MapSeat) wh
   still_named slot rows words after row_set near some few had =
       ap (λ (l : List Entry). state_of (map_after table.shape l) (key_of call)) had.seen
       ∙ dite (ℕ_discrete words (2 * length rows + 1))
-          (λ all. ap (λ (o : Desk × Step). state_of (map_after table.shape (had.log ++ ending (call_of call) o.1)) (key_of call)) (ap (reads_on table desk call slot rows) all ∙ reads_last slot rows row_set) ∙ decided_leaves table.shape desk had.number rows had.log call near had.state)
-          (λ some_left. quiet_leaves table.shape desk had.number rows had.log (key_of call) _ (ap (λ (o : Desk × Step). ending (call_of call) o.1) (reads_more slot rows words some (omega arith))) had.state)
+      (λ all. ap (λ (o : Desk × Step). state_of (map_after table.shape (had.log ++ ending (call_of call) o.1)) (key_of call)) (ap (reads_on table desk call slot rows) all ∙ reads_last slot rows row_set) ∙ decided_leaves table.shape desk had.number rows had.log call near had.state)
+      (λ some_left. quiet_leaves table.shape desk had.number rows had.log (key_of call) _ (ap (λ (o : Desk × Step). ending (call_of call) o.1) (reads_more slot rows words some (omega arith))) had.state)
 
   -- what was read says how far the writer is
   read_so : (slot : ℕ) (rows : List Row) (words : ℕ) (after : MapSeat) → begin ≡ content table.shape slot 0 → IsRowSet (bound_of table.shape) rows → key_of call < table.shape.keys → 0 < words → words ≤ 2 * length rows + 1
@@ -121,8 +121,8 @@ module _ (table : Table) (call : WriterCall) (begin : ℕ) (before : MapSeat) wh
   read_first : (slot found : ℕ) (after : MapSeat) → begin ≡ content table.shape slot 0 → key_of call < table.shape.keys → WritesAt table (moved_to desk (Reading call slot [])) before → GoesOn table found before after → (found ≡ length (rows_named table call after)) × ReadTo table call begin before after 1
   read_first slot found after begin_is near writes goes = let told = goes (moved_to desk (Reading call slot [])) writes.role in let on = told.finds in
       let so = read_so slot on.0 1 after begin_is on.1 near (omega arith) (omega arith)
-          (subst (λ (got : List ℕ). LeadsIn 1 table (call_of call) (read_on table.shape desk call slot got) before after) on.2 told.leads)
-          (record { log = told.log; seen = told.seen ∙ ap (λ (got : List ℕ). told.log ++ ending (call_of call) (read_on table.shape desk call slot got).1) on.2; number = on.4; state = on.5 }) told.marks.0 in
+      (subst (λ (got : List ℕ). LeadsIn 1 table (call_of call) (read_on table.shape desk call slot got) before after) on.2 told.leads)
+      (record { log = told.log; seen = told.seen ∙ ap (λ (got : List ℕ). told.log ++ ending (call_of call) (read_on table.shape desk call slot got).1) on.2; number = on.4; state = on.5 }) told.marks.0 in
       (ap (λ (l : List ℕ). get_or l 0 0) on.2 ∙ ap length (sym so.0), so.1)
 
   module _ (mid : MapSeat) (words : ℕ) (so_far : ReadTo table call begin before mid words) (left : words < 2 * length (rows_named table call mid) + 1) where
@@ -149,13 +149,13 @@ module _ (table : Table) (call : WriterCall) (begin : ℕ) (before : MapSeat) wh
         let had = still_named so_far.slot rows words mid so_far.row_set so_far.near so_far.positive so_far.few so_far.had in
         let log_is : told.log ≡ mid.me.0.seen ++ then.between = append_cancel_right told.log (mid.me.0.seen ++ then.between) e (sym told.seen ∙ then.seen) in
         let had_then : state_of (map_after table.shape told.log) (key_of call) ≡ states.Rows so_far.had.number rows = ap (λ (l : List Entry). state_of (map_after table.shape l) (key_of call)) log_is
-            ∙ stays_between table.shape (key_of call) so_far.had.number rows (token mid) (token after) 1 e own_table so_far.near (ap number_of leads_here.writes.role) leads_here.grows.own (ending_own (call_of call) _) then had in
+        ∙ stays_between table.shape (key_of call) so_far.had.number rows (token mid) (token after) 1 e own_table so_far.near (ap number_of leads_here.writes.role) leads_here.grows.own (ending_own (call_of call) _) then had in
         let same : on.0 ≡ rows = ap rows_of (sym on.5 ∙ had_then) in
         let words_are : got ++ found ∷ [] ≡ take (words + 1) (encode rows) = on.2 ∙ (λ j. take (length-got j + 1) (encode (same j))) in
         let so = read_so so_far.slot rows (words + 1) after so_far.begin_is so_far.row_set so_far.near (omega arith) (omega (arith, left))
-            (let leads = subst (λ (l : List ℕ). LeadsIn 1 table (call_of call) (read_on table.shape desk call so_far.slot l) mid after) words_are told.leads in
-              record { writes = leads.writes; grows = grows_both words 1 (words + 1) (token before) (token mid) _ (token after) refl leads_here.grows leads.grows; short = leads.short })
-            (record { log = told.log; seen = told.seen ∙ ap (λ (l : List ℕ). told.log ++ ending (call_of call) (read_on table.shape desk call so_far.slot l).1) words_are; number = so_far.had.number; state = had_then }) (told.marks.0 ∙ so_far.marks) in
+        (let leads = subst (λ (l : List ℕ). LeadsIn 1 table (call_of call) (read_on table.shape desk call so_far.slot l) mid after) words_are told.leads in
+        record { writes = leads.writes; grows = grows_both words 1 (words + 1) (token before) (token mid) _ (token after) refl leads_here.grows leads.grows; short = leads.short })
+        (record { log = told.log; seen = told.seen ∙ ap (λ (l : List ℕ). told.log ++ ending (call_of call) (read_on table.shape desk call so_far.slot l).1) words_are; number = so_far.had.number; state = had_then }) (told.marks.0 ∙ so_far.marks) in
         (so.0, word_is words_are, so.1)
       where
         word_is : got ++ found ∷ [] ≡ take (words + 1) (encode rows) → found ≡ get_or (encode rows) words 0

@@ -35,6 +35,8 @@ mod publish;
 mod read_through;
 mod reader;
 mod reader_map;
+#[cfg(test)]
+mod row_tests;
 mod rule;
 #[cfg(test)]
 mod slot_tests;

@@ -42,9 +42,7 @@ impl ReaderMap {
     {
         let taken = self.take_slot::<G>(seat, spare, rows)?;
         self.put_rows::<G>(seat, rows, taken);
-        let old_word = self
-            .board
-            .publish(seat, key, taken.slot, taken.departures);
+        let old_word = self.board.publish(seat, key, taken.slot, taken.departures);
         spare.retire(old_word);
         Ok(())
     }
