@@ -62,10 +62,10 @@ pub record Fits (before : Option Request) (requests : List Requested) (after : O
   pub kept : is_some after ≡ true → may_keep_after (is_some before) requests ≡ true
 
 -- a pin is answered: the caller gets its rows, unless it is barred, and the reader is released
-abbrev pub Answers : Pinned → List Row → Got → Caller → List Row → Type 0
-Answers pin before got.Rows reader rows = Rests (2 * length pin.rows + 1) pin.reader reader × (rows ≡ pin.rows)
-Answers pin before got.GaveUp reader rows = ⊥
-Answers pin before got.Barred reader rows = Rests 1 pin.reader reader × (rows ≡ before)
+abbrev pub AnswersPin : Pinned → List Row → Got → Caller → List Row → Type 0
+AnswersPin pin before got.Rows reader rows = Rests (2 * length pin.rows + 1) pin.reader reader × (rows ≡ pin.rows)
+AnswersPin pin before got.GaveUp reader rows = ⊥
+AnswersPin pin before got.Barred reader rows = Rests 1 pin.reader reader × (rows ≡ before)
 
 -- one try: it finds a hole, or rows, which the caller gets unless it is barred
 abbrev pub TriesOnce : ℕ → Hands → List Row → Tried → Hands → List Row → Type 0

@@ -42,25 +42,25 @@ Nexts old (Some post) new = Takes old post new
 
 module _ {S : Type 0} (gives : S → ℕ → List Row → S → Type 0) where
   -- one fill of the trigger's key, by its number, with rows that the source gave in this turn
-  pub record Answers (old : FlowSeen S) (post : Post) (answer : Result (Unit {0}) FillFault) (new : FlowSeen S) : Type 0 where
-    pub near : post.upquery.key < old.map.shape.keys
+  pub record FillsPost (old : FlowSeen S) (post : Post) (answer : Result (Unit {0}) FillFault) (new : FlowSeen S) : Type 0 where
     pub rows : List Row
     pub gave : gives old.source post.upquery.key rows new.source
     pub few : length rows ≤ bound_of old.map.shape
     pub fills : FillsKey post.upquery.key post.upquery.number rows old.writer new.writer answer
 
-  -- the trigger is spent, and none is kept
+  -- the trigger of that key, which is one of the map's, is spent, and none is kept
   pub record SpendsOne (old : FlowSeen S) (key : ℕ) (answer : Result (Unit {0}) FillFault) (new : FlowSeen S) : Type 0 where
+    pub near : key < old.map.shape.keys
     pub post : Post
     pub key_is : post.upquery.key ≡ key
-    pub answers : Answers old post answer new
+    pub answers : FillsPost old post answer new
     pub spends : Spends old.kept old.taker (post ∷ []) None new.taker
     pub none : new.kept ≡ None
 
   -- the trigger is kept
   pub record KeepsOne (old : FlowSeen S) (answer : Result (Unit {0}) FillFault) (new : FlowSeen S) : Type 0 where
     pub post : Post
-    pub answers : Answers old post answer new
+    pub answers : FillsPost old post answer new
     pub spends : Spends old.kept old.taker [] (Some post) new.taker
     pub kept : new.kept ≡ Some post
 

@@ -50,7 +50,7 @@ impl<'a, S> Model for Dataflow<'a, S> {
 
 impl<'a, S: Source> Dataflow<'a, S> {
     ghost use Rattle.nr_serve.specs.Flows.{HasRoom};
-    ghost use Rattle.nr_serve.specs.Turns.{Answers, Nexts, Turns};
+    ghost use Rattle.nr_serve.specs.Turns.{FillsPost, Nexts, Turns};
     ghost use Rattle.nr_serve.specs.Lending.{LendsSource};
 
     /// The dataflow of a map and a queue, whose tickets are all of keys of the map.
@@ -123,7 +123,7 @@ impl<'a, S: Source> Dataflow<'a, S> {
     // Fills the trigger's key with rows that the source gives now.
     fn fill(&mut self, trigger: &Trigger) -> Result<(), FillFault>
         requires key { trigger.now.upquery.key < self.old.map.shape.keys }
-        ensures answers { Answers S.gives self.old trigger.now result self.new }
+        ensures answers { FillsPost S.gives self.old trigger.now result self.new }
         ensures rest { self.new ≡ record self.old { writer = self.new.writer; source = self.new.source } }
         ensures room { HasRoom self.old.map → (counts : NoSlot) → result ≢ Err (FillFault.NoSlot counts) }
     {

@@ -1,7 +1,7 @@
 //! The tries of a get.
 ghost use Rattle.std.specs.Prelude.{◌≡◌, ◌<◌, ◌+◌, ◌*◌, [], ◌∷◌, length, None};
 ghost use Rattle.nr_map.specs.Callers.{Rests};
-ghost use Rattle.nr_serve.specs.Gets.{Answers, Fits, Gets, TriesOnce, requested};
+ghost use Rattle.nr_serve.specs.Gets.{AnswersPin, Fits, Gets, TriesOnce, requested};
 ghost use Rattle.nr_serve.specs.Hands.{IsReady, Moves};
 
 use crate::answers::{Got, Requested, Tried};
@@ -107,7 +107,7 @@ fn answer<G: Gate, R: Wait>(
     rows: &mut RowSet,
 ) -> (Got, Reader)
     requires own { pin.reader.table ≡ places.now.map.now }
-    ensures answers { Answers pin rows.old result.0 result.1 rows.new }
+    ensures answers { AnswersPin pin rows.old result.0 result.1 rows.new }
     ensures idle { result.1.holds ≡ None }
 {
     let mut pin = pin;
