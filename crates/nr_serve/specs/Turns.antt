@@ -1,7 +1,6 @@
 -- What a turn of the dataflow does.
 use Rattle.std.specs.Prelude.{◌≡◌, ◌<◌, ◌≤◌, ℕ, List, [], ◌∷◌, ◌++◌, length, Option, None, Some, Result, Ok, Err}
 use Rattle.nr_model.specs.declared.rows.Row.{Row}
-use Rattle.nr_core.specs.Slots.{bound_of}
 use Rattle.nr_map.specs.declared.answers.FillFault.{FillFault}
 use Rattle.nr_map.specs.declared.answers.FillFault.TheVariants as fill
 use Rattle.nr_map.specs.Answers.{FillsKey}
@@ -45,7 +44,7 @@ module _ {S : Type 0} (gives : S → ℕ → List Row → S → Type 0) where
   pub record FillsPost (old : FlowSeen S) (post : Post) (answer : Result (Unit {0}) FillFault) (new : FlowSeen S) : Type 0 where
     pub rows : List Row
     pub gave : gives old.source post.upquery.key rows new.source
-    pub few : length rows ≤ bound_of old.map.shape
+    pub few : length rows ≤ old.map.shape.rows
     pub fills : FillsKey post.upquery.key post.upquery.number rows old.writer new.writer answer
 
   -- the trigger of that key, which is one of the map's, is spent, and none is kept

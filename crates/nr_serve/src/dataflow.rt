@@ -1,7 +1,6 @@
 //! The dataflow's side: it fills the keys whose tickets were posted, and keeps the map's rows right.
 ghost use Rattle.std.specs.Prelude.{◌≡◌, ◌≢◌, ◌<◌, ◌≤◌, None, Some, Err};
 ghost use Rattle.std.specs.Borrow.{sem};
-ghost use Rattle.nr_core.specs.Slots.{bound_of};
 ghost use Rattle.nr_map.specs.Answers.{CancelsKey, EvictsKey, UpdatesKey};
 
 use crate::lobby::Lobby;
@@ -149,7 +148,7 @@ impl<'a, S: Source> Dataflow<'a, S> {
     /// each key, each reader and one more there always is a slot.
     pub fn apply(&mut self, key: u32, batch: &Batch) -> Result<(), UpdateFault>
         requires key { key < self.old.map.shape.keys }
-        ensures updates { UpdatesKey (bound_of self.old.map.shape) key batch.now self.old.writer self.new.writer result }
+        ensures updates { UpdatesKey self.old.map.shape.rows key batch.now self.old.writer self.new.writer result }
         ensures rest { self.new ≡ record self.old { writer = self.new.writer } }
         ensures room { HasRoom self.old.map → (counts : NoSlot) → result ≢ Err (UpdateFault.NoSlot counts) }
     {

@@ -84,20 +84,6 @@ fn lets_pass<G: Gate, R: Wait>(rt: &R, places: &Places<'_, G>, turn: u64) -> boo
     false
 }
 
-// Writes the rows of a pin into the caller's set.
-fn copy_rows(map: &ReaderMap, pin: &mut Pin, rows: &mut RowSet)
-    requires own { pin.old.reader.table ≡ map.now }
-    ensures rows { rows.new ≡ pin.old.rows }
-    ensures rests { Rests (2 * length pin.old.rows) pin.old.reader pin.new.reader }
-{
-    rows.clear();
-    let count = pin.len();
-    for i in 0..count {
-        let row = pin.row(map, i);
-        rows.push(i as usize, row);
-    }
-}
-
 // With the pin of a filled key: copies its rows for the caller, if the gate lets pass.
 fn answer<G: Gate, R: Wait>(
     rt: &R,
@@ -114,7 +100,7 @@ fn answer<G: Gate, R: Wait>(
     if !lets_pass(rt, places, turn) {
         return (Got::Barred, pin.release(places.map));
     }
-    copy_rows(places.map, &mut pin, rows);
+    pin.copy_to(places.map, rows);
     let reader = pin.release(places.map);
     places.gate.answered(places.worker, turn);
     (Got::Rows, reader)

@@ -1,5 +1,4 @@
-use Rattle.std.proofs.Common.{ap, subst, sym, ◌∙◌}
-use Rattle.nr_core.specs.Slots.{bound_of}
+use Rattle.std.proofs.Common.{ℕ, ap, subst, sym, ◌∙◌}
 use Rattle.nr_map.specs.Answers.{UpdatesKey}
 use Rattle.nr_map.specs.Callers.{Caller}
 use Rattle.nr_serve.specs.Flows.{HasRoom}
@@ -7,7 +6,8 @@ use Rattle.nr_serve.proofs.dataflow.Dataflow.apply.Goals as goal
 
 pub returns-clause-updates : goal.returns-clause-updates
 returns-clause-updates g c =
-    subst (λ (writer : Caller). UpdatesKey (bound_of c.args.self.now.map.shape) c.args.key c.args.batch.now writer c.update.new.writer c.update.result) (ap (λ flow. flow.writer) c.self.view_is) c.update.ensures
+    let updates = subst (λ (bound : ℕ). UpdatesKey bound c.args.key c.args.batch.now c.self.inside.writer c.update.new.writer c.update.result) (ap (λ flow. flow.map.shape.rows) c.self.view_is) c.update.ensures in
+    subst (λ (writer : Caller). UpdatesKey c.args.self.now.map.shape.rows c.args.key c.args.batch.now writer c.update.new.writer c.update.result) (ap (λ flow. flow.writer) c.self.view_is) updates
 
 pub returns-clause-room : goal.returns-clause-room
 returns-clause-room g c room counts none =
