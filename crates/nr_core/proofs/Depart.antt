@@ -8,6 +8,7 @@ use Rattle.nr_model.specs.declared.rows.Row.{Row}
 use Rattle.nr_core.proofs.Frames.{Left, desk_more, holding_more}
 use Rattle.nr_core.proofs.OffKeys.{none_of, off_keys}
 use Rattle.nr_core.proofs.Sums.{only-other, only-same, total-set}
+use Rattle.nr_core.proofs.WordPlaces.{content_apart, departures_inside, same_departures}
 use Rattle.nr_core.specs.Core.{Knows}
 use Rattle.nr_core.specs.declared.operation.Operation.TheVariants.{Add}
 use Rattle.nr_core.specs.Roles.{held, holds, is_by}
@@ -24,9 +25,9 @@ pub departs : (shape : Shape) (id reader slot : ℕ) (rows : List Row) (sized : 
 departs shape id reader slot rows sized words roles log core there =
     let place : ℕ = departures shape slot in let w : ℕ = get_or words place 0 in let x : ℕ = (w + 1) % 2 ^ 64 in let map = map_after shape log in let role = Reader reader Nothing in let words' = set words place x in let roles' = set roles id role in
     let mine = core.knows id (Reader reader (On slot rows sized)) there in let near : slot < shape.slots = mine.0 in let wide = core.wide in let fits = core.fits.bound in
-    let cont : (t j : ℕ) → j ≤ 2 * (bound_of shape) → get_or words' (content shape t j) 0 ≡ get_or words (content shape t j) 0 = λ t j low. get_or-set_other words place (content shape t j) x 0 (λ e. omega arith) in
-    let dep : (t : ℕ) → t ≢ slot → get_or words' (departures shape t) 0 ≡ get_or words (departures shape t) 0 = λ t ne. get_or-set_other words place (departures shape t) x 0 (λ e. ne (omega arith)) in
-    let here : get_or words' place 0 ≡ x = get_or-set_same words place x 0 (omega arith) in
+    let cont : (t j : ℕ) → j ≤ 2 * (bound_of shape) → get_or words' (content shape t j) 0 ≡ get_or words (content shape t j) 0 = λ t j low. get_or-set_other words place (content shape t j) x 0 (λ e. content_apart shape t j slot (omega arith) e) in
+    let dep : (t : ℕ) → t ≢ slot → get_or words' (departures shape t) 0 ≡ get_or words (departures shape t) 0 = λ t ne. get_or-set_other words place (departures shape t) x 0 (λ e. ne (same_departures shape t slot e)) in
+    let here : get_or words' place 0 ≡ x = get_or-set_same words place x 0 (omega (arith, departures_inside shape slot near)) in
     let holding : (t : ℕ) → held roles' t + only t slot ≡ held roles t + 0 = λ t. total-set (holds t) roles id (Reader reader (On slot rows sized)) role there in
     let sums : (t : ℕ) → (get_or words' (departures shape t) 0 + held roles' t) % 2 ^ 40 ≡ (get_or words (departures shape t) 0 + held roles t) % 2 ^ 40 = λ t. dite (ℕ_discrete t slot)
     (λ e. subst (λ (y : ℕ). (get_or words' (departures shape y) 0 + held roles' y) % 2 ^ 40 ≡ (get_or words (departures shape y) 0 + held roles y) % 2 ^ 40) (sym e) (let a = holding slot in let one = only-same slot in omega arith))

@@ -1,5 +1,5 @@
 -- What one event more does: one operation on one word, never a put into a held slot, and entries of its own caller.
-use Rattle.std.proofs.Common.{List, [], ap, append-nil, arith, cond, get_or, length, nat_eq, refl, subst, ℕ, ◌*◌, ◌++◌, ◌<◌, ◌∙◌, ◌≡◌, ◌≢◌, ◌≤◌}
+use Rattle.std.proofs.Common.{sym, List, [], ap, append-nil, arith, cond, get_or, length, nat_eq, refl, subst, ℕ, ◌*◌, ◌++◌, ◌<◌, ◌∙◌, ◌≡◌, ◌≢◌, ◌≤◌}
 use Rattle.std.proofs.lemmas.Bool.{eqb-true, leb-true, ltb-true}
 use Rattle.std.specs.Prelude.{None, Option, Some, nat_le, ◌&&◌}
 use Rattle.nr_model.specs.Histories.{Entry, entries_of}
@@ -19,6 +19,7 @@ use Rattle.nr_core.proofs.Reach.{hold_room, place_room}
 use Rattle.nr_core.proofs.Settle.{own_ending}
 use Rattle.nr_core.proofs.Stands.{holder}
 use Rattle.nr_core.proofs.StateRoles.{IsCoreState}
+use Rattle.nr_core.proofs.WordPlaces.{content_apart, content_inside, departures_inside, same_content}
 use Rattle.nr_core.specs.Core.{AtDesk, AtPlace, Puts}
 use Rattle.nr_core.specs.Laws.{EndsWithout, Follows, IsJustified, caller_of}
 use Rattle.nr_core.specs.Machine.{found_by, moved, unless}
@@ -30,7 +31,7 @@ use Rattle.nr_core.specs.Refusals.{has_key, has_reader, if_busy, if_holding, if_
 use Rattle.nr_core.specs.Roles.{held}
 use Rattle.nr_words.specs.KeyWords.{naming}
 use Rattle.nr_core.specs.Slots.{bound_of, content, slot_room}
-use Rattle.nr_core.specs.States.{Arrive, Ask, Depart, Event, Go, Read, Start, State, hold_of, key_of, slot_in}
+use Rattle.nr_core.specs.States.{retired_at, Arrive, Ask, Depart, Event, Go, Read, Start, State, hold_of, key_of, slot_in}
 use Rattle.nr_core.specs.Story.{Story, answering, call_of, map_after, polls_after, shown, told}
 use Rattle.nr_core.specs.Writer.{looked, went}
 use Rattle.nr_core.specs.declared.calls.NoSlot.{NoSlot}
@@ -64,7 +65,7 @@ taken_set state log is_core call rows slot departed index is =
     = subst (AtPlace state.shape state.words (map_after state.shape log) (held is_core.roles) state.desk.fresh state.desk.retired) is (is_core.core.knows 0 (Writer state.desk) is_core.fit.writer).place in p.wants.row_set
 
 -- the word of a read that is not refused is a slot's, and so is that of a departure
-readable_room : (shape : Shape) (index : ℕ) (held : Hold) → if_unreadable index held ≡ None → RoomOf shape held → (slot_in held < shape.slots) × (index < slot_room)
+readable_room : (shape : Shape) (index : ℕ) (held : Hold) → if_unreadable index held ≡ None → RoomOf shape held → (slot_in held < shape.slots) × (index < slot_room shape)
 readable_room shape index hold.Nothing ok room = absurd (no_some (Some refuse.NotHolding) refuse.NotHolding refl ok)
 readable_room shape index (hold.On slot None) ok room = let g = guard (nat_eq index 0) None refuse.OutOfRange ok in let first : index ≡ 0 = eqb-true index 0 g.0 in (room, omega arith)
 readable_room shape index (hold.On slot (Some size)) ok room = let g = guard (nat_le index (2 * size)) None refuse.OutOfRange ok in let low : index ≤ 2 * size = leb-true index (2 * size) g.0 in let short = room.1 in (room.0, omega arith)
@@ -75,14 +76,14 @@ departs_room shape (hold.On slot None) ok room = room
 departs_room shape (hold.On slot (Some size)) ok room = room.0
 
 -- an operation on a content word of a held slot is a load
-held_untouched : (state : State) (log : List Entry) (event : Event) (is_core : IsCoreState state log) → refusal state event ≡ None → (s i : ℕ) → (0 < held is_core.roles s) × (s < state.shape.slots) → i < slot_room → place_of (operation state event) ≡ content state.shape s i → operation state event ≡ Load (content state.shape s i)
+held_untouched : (state : State) (log : List Entry) (event : Event) (is_core : IsCoreState state log) → refusal state event ≡ None → (s i : ℕ) → (0 < held is_core.roles s) × (s < state.shape.slots) → i < slot_room state.shape → place_of (operation state event) ≡ content state.shape s i → operation state event ≡ Load (content state.shape s i)
 held_untouched state log (Arrive r k) is_core ok s i held_so low here = let shape = state.shape in
     let g = guard (has_reader shape r && has_key shape k) (if_holding (hold_of state r)) refuse.OutOfRange ok in let b = both (has_reader shape r) (has_key shape k) g.0 in let near : k < shape.keys = ltb-true k shape.keys b.1 in absurd (omega arith)
 held_untouched state log (Ask r k) is_core ok s i held_so low here = let shape = state.shape in
     let g = guard (has_reader shape r && has_key shape k) (if_holding (hold_of state r)) refuse.OutOfRange ok in let b = both (has_reader shape r) (has_key shape k) g.0 in let near : k < shape.keys = ltb-true k shape.keys b.1 in absurd (omega arith)
 held_untouched state log (Read r p) is_core ok s i held_so low here = ap Load here
 held_untouched state log (Start call) is_core ok s i held_so low here = ap Load here
-held_untouched state log (Depart r) is_core ok s i held_so low here = absurd (omega arith)
+held_untouched state log (Depart r) is_core ok s i held_so low here = absurd (content_apart state.shape s i (slot_in (hold_of state r)) low (sym here))
 held_untouched state log Go is_core ok s i held_so low here = go state.desk.place refl here
   where
     mine : AtDesk state.shape state.words (map_after state.shape log) (held is_core.roles) state.desk
@@ -99,7 +100,7 @@ held_untouched state log Go is_core ok s i held_so low here = go state.desk.plac
     go (Searching call rows p) is e = ap Load e
     go (Putting call rows t departed j) is e = let p = at_place (Putting call rows t departed j) is in let near = p.wants.near in let short = p.wants.row_set.1 in let fits = is_core.core.fits.bound in let free = p.nobody in let some_there = held_so.0 in
         by_cases (λ v. let o = cond {A = Operation} v (Store (content state.shape t j) (get_or (encode rows) j 0)) (Swap (key_of call) (naming t departed)) in place_of o ≡ content state.shape s i → o ≡ Load (content state.shape s i)) (nat_le j (2 * length rows))
-        (λ yes e. let l : j ≤ 2 * length rows = leb-true j (2 * length rows) yes in let same_slot : s ≡ t = omega arith in let zero_there : held is_core.roles s ≡ 0 = ap (held is_core.roles) same_slot ∙ free in absurd (omega arith))
+        (λ yes e. let l : j ≤ 2 * length rows = leb-true j (2 * length rows) yes in let same_slot : s ≡ t = same_content state.shape s i t j low (omega arith) (sym e) in let zero_there : held is_core.roles s ≡ 0 = ap (held is_core.roles) same_slot ∙ free in absurd (omega arith))
         (λ no e. absurd (omega arith)) e
 
 -- an operation is on one of the words
@@ -112,22 +113,21 @@ inside_words state log (Start call) is_core ok = let wide = is_core.core.wide in
     let g = guard (has_key state.shape (key_of call)) (if_busy state.desk.place) refuse.OutOfRange ok in let near : key_of call < state.shape.keys = ltb-true (key_of call) state.shape.keys g.0 in omega arith
 inside_words state log (Read r index) is_core ok = let wide = is_core.core.wide in
     let g = guard (has_reader state.shape r) (if_unreadable index (hold_of state r)) refuse.OutOfRange ok in let low = (reader_in state.shape r g.0).0 in
-    let t = readable_room state.shape index (hold_of state r) g.1 (hold_room state log is_core r low) in let near = t.0 in let short = t.1 in omega arith
+    let t = readable_room state.shape index (hold_of state r) g.1 (hold_room state log is_core r low) in omega (arith, content_inside state.shape (slot_in (hold_of state r)) index t.0 t.1)
 inside_words state log (Depart r) is_core ok = let wide = is_core.core.wide in
     let g = guard (has_reader state.shape r) (if_not_holding (hold_of state r)) refuse.OutOfRange ok in let low = (reader_in state.shape r g.0).0 in
-    let near = departs_room state.shape (hold_of state r) g.1 (hold_room state log is_core r low) in omega arith
+    omega (arith, departures_inside state.shape (slot_in (hold_of state r)) (departs_room state.shape (hold_of state r) g.1 (hold_room state log is_core r low)))
 inside_words state log Go is_core ok = go state.desk.place refl (place_room state log is_core state.desk.place refl)
   where
     go : (place : Place) → state.desk.place ≡ place → RoomAt state place → place_of (going state.shape state.desk place) < length state.words
     go Idle is room = absurd (no_some (if_not_busy state.desk.place) refuse.NotBusy (ap if_not_busy is) ok)
-    go (Reading call slot got) is room = let wide = is_core.core.wide in let near = room.0 in let short = room.1 in omega arith
+    go (Reading call slot got) is room = let wide = is_core.core.wide in omega (arith, content_inside state.shape slot (length got) room.0 room.1)
     go (Leaving k) is room = let wide = is_core.core.wide in let near = room.0 in omega arith
     go (Withdrawing k) is room = let wide = is_core.core.wide in let near = room.0 in omega arith
-    go (Searching call rows poll) is room = let wide = is_core.core.wide in let near = room.1 in omega arith
-    go (Putting call rows slot departed index) is room = let wide = is_core.core.wide in let fits = is_core.core.fits.bound in let near = room.0 in let inside = room.2 in
-        let short = (taken_set state log is_core call rows slot departed index is).1 in
+    go (Searching call rows poll) is room = let wide = is_core.core.wide in omega (arith, departures_inside state.shape (retired_at state.desk poll).slot room.1)
+    go (Putting call rows slot departed index) is room = let wide = is_core.core.wide in let near = room.0 in
         by_cases (λ v. place_of (cond {A = Operation} v (Store (content state.shape slot index) (get_or (encode rows) index 0)) (Swap (key_of call) (naming slot departed))) < length state.words) (nat_le index (2 * length rows))
-        (λ yes. let l : index ≤ 2 * length rows = leb-true index (2 * length rows) yes in omega arith)
+        (λ yes. let l : index ≤ 2 * length rows = leb-true index (2 * length rows) yes in let few = room.3 in omega (arith, content_inside state.shape slot index room.2 (omega arith)))
         (λ _. omega arith)
 
 pub follows : (story : Story) (event : Event) → IsCoreState story.state story.history → ((counts : NoSlot) → EndsWithout story.state event counts → IsJustified story event counts) → Follows story event

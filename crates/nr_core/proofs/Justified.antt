@@ -108,7 +108,7 @@ go_ending state log polls is_core swept (Reading call s got) is counts e =
     let p : Reads shape words map_now (held is_core.roles) (key_of call) s got = subst (AtPlace shape words map_now (held is_core.roles) desk.fresh desk.retired) is known.place in
     let got' : List ℕ = got ++ get_or words (content shape s (length got)) 0 ∷ [] in
     let none_polled : polls ≡ [] = subst (AtSweep state polls) is swept.sweep in
-    by_cases (λ v. let outcome = cond {A = Desk × Step} v (decoded shape desk call (decode (bound_of shape) got')) (moved_to desk (Reading call s got'), Going) in
+    by_cases (λ v. let outcome = cond {A = Desk × Step} v (decoded shape desk call (decode got')) (moved_to desk (Reading call s got'), Going) in
     (v ≡ true → length got' ≡ 2 * get_or got' 0 0 + 1) → IsWithout counts outcome → (q : WriterCall) × (call ∷ [] ≡ q ∷ []) × Ending state log (Reading call s got) polls q outcome counts) (nat_eq (length got') (2 * get_or got' 0 0 + 1))
     (λ _ whole e'. let set_is = read_whole shape words is_core.roles log is_core.core (key_of call) s got p (whole refl) in let n = decided_none shape desk counts call p.rows (subst (λ o. IsWithout counts (decoded shape desk call o)) set_is e') in (
       call,

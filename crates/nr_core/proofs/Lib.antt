@@ -1,4 +1,4 @@
--- For the crates above: the laws of the steps (`src/laws.rt` says each of them), and what they share, of sums, histories, key words, sets read through, calls that end with no slot, slots counted, and keys numbered.
+-- For the crates above: the laws of the steps (`src/laws.rt` says each of them), and what they share, of sums, histories, key words, sets read through, calls that end with no slot, slots counted, keys numbered, where words lie, and what holds of reached states.
 pub mod Arrive
 pub mod Ask
 pub mod Read
@@ -20,7 +20,10 @@ pub mod ReadThrough
 pub mod Without
 pub mod Counting
 pub mod Numbers
+pub mod WordPlaces
+pub mod Reach
 -- This crate's own.
+mod Shapes
 mod Walks
 mod OnKey
 mod OffKeys
@@ -43,6 +46,5 @@ mod Sweeps
 mod Stands
 mod Follows
 mod Runs
-mod Reach
 mod Justified
 mod Schedules

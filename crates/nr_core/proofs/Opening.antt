@@ -54,15 +54,15 @@ past [] l i j e = ap (λ (n : ℕ). get_or l n 0) (omega arith)
 past (x ∷ a) l zero j e = absurd (omega arith)
 past (x ∷ a) l (suc i) j e = past a l i j (omega arith)
 
-each_slot : (n s x : ℕ) (b : List ℕ) (i : ℕ) → length b ≡ slot_room → s < n → i ≡ suc slot_room * s → get_or (repeated n (x ∷ b)) i 0 ≡ x
-each_slot zero s x b i size low e = absurd (omega arith)
-each_slot (suc n) zero x b zero size low e = refl
-each_slot (suc n) zero x b (suc i) size low e = absurd (omega arith)
-each_slot (suc n) (suc s) x b i size low e = past (x ∷ b) (repeated n (x ∷ b)) i (suc slot_room * s) (omega arith) ∙ each_slot n s x b (suc slot_room * s) size (omega arith) refl
+each_slot : (room n s x : ℕ) (b : List ℕ) (i : ℕ) → length b ≡ room → s < n → i ≡ suc room * s → get_or (repeated n (x ∷ b)) i 0 ≡ x
+each_slot room zero s x b i size low e = absurd (omega arith)
+each_slot room (suc n) zero x b zero size low e = refl
+each_slot room (suc n) zero x b (suc i) size low e = absurd (omega arith)
+each_slot room (suc n) (suc s) x b i size low e = past (x ∷ b) (repeated n (x ∷ b)) i (suc room * s) (omega arith) ∙ each_slot room n s x b (suc room * s) size (omega arith) refl
 
-length-repeated : (n : ℕ) (b : List ℕ) → length b ≡ suc slot_room → length (repeated n b) ≡ suc slot_room * n
-length-repeated zero b size = refl
-length-repeated (suc n) b size = omega (arith, length-append b (repeated n b), length-repeated n b size)
+length-repeated : (room n : ℕ) (b : List ℕ) → length b ≡ suc room → length (repeated n b) ≡ suc room * n
+length-repeated room zero b size = omega arith
+length-repeated room (suc n) b size = omega (arith, length-append b (repeated n b), length-repeated room n b size)
 
 below_none : (f : ℕ → ℕ) (n : ℕ) → ((k : ℕ) → k < n → f k ≡ 0) → below f n ≡ 0
 below_none f zero none = refl
@@ -77,12 +77,12 @@ first_numbers shape = record {
 
 -- the writer, and so many readers
 pub core_opens : (shape : Shape) → IsShape shape → (n : ℕ) → n ≤ shape.readers → Core shape (opening_words shape) (Writer (opening_desk shape) ∷ readers_from 0 n) []
-core_opens shape fits n few = let words = opening_words shape in let slot = shape.first_count ∷ replicate slot_room 0 in let roles = Writer (opening_desk shape) ∷ readers_from 0 n in let all = all_readers n 0 in
+core_opens shape fits n few = let words = opening_words shape in let slot = shape.first_count ∷ replicate (slot_room shape) 0 in let roles = Writer (opening_desk shape) ∷ readers_from 0 n in let all = all_readers n 0 in
     let hole : ℕ = hole_word shape.first_number false in let few_numbers = fits.number in let is_hole = hole_is shape.first_number (omega arith) in
     let key_hole : (k : ℕ) → k < shape.keys → get_or words k 0 ≡ hole = front shape.keys hole (repeated shape.slots slot) in
-    let wide : length words ≡ total_of slot_room (layout shape) = omega (arith, length-append (replicate shape.keys hole) (repeated shape.slots slot), length-replicate {A = ℕ} shape.keys hole, length-repeated shape.slots slot refl) in
+    let wide : length words ≡ total_of (layout shape) = omega (arith, length-append (replicate shape.keys hole) (repeated shape.slots slot), length-replicate {A = ℕ} shape.keys hole, length-repeated (slot_room shape) shape.slots slot (ap suc (length-replicate (slot_room shape) 0))) in
     let dep : (s : ℕ) → s < shape.slots → get_or words (departures shape s) 0 ≡ shape.first_count
-    = λ s near. past (replicate shape.keys hole) (repeated shape.slots slot) (departures shape s) (suc slot_room * s) (omega (arith, length-replicate {A = ℕ} shape.keys hole)) ∙ each_slot shape.slots s shape.first_count (replicate slot_room 0) (suc slot_room * s) refl near refl in
+    = λ s near. past (replicate shape.keys hole) (repeated shape.slots slot) (departures shape s) (suc (slot_room shape) * s) (omega (arith, length-replicate {A = ℕ} shape.keys hole)) ∙ each_slot (slot_room shape) shape.slots s shape.first_count (replicate (slot_room shape) 0) (suc (slot_room shape) * s) (length-replicate (slot_room shape) 0) near refl in
     let nobody_holds : (s : ℕ) → held roles s ≡ 0 = λ s. omega (arith, no_weight (holds s) (λ c. refl) n 0) in
     let nameless : (k : ℕ) → k < shape.keys → name_number (get_or words k 0) ≡ 0 = λ k near. ap name_number (key_hole k near) ∙ is_hole.0 in record {
       fits = fits;

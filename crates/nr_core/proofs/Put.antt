@@ -11,6 +11,7 @@ use Rattle.nr_words.specs.SetWords.{encode}
 use Rattle.nr_core.proofs.Frames.{Left, free_more, retired_more, unused-free}
 use Rattle.nr_core.proofs.OffKeys.{no_writer, off_keys}
 use Rattle.nr_core.proofs.Sums.{only-same, term_le, total-set}
+use Rattle.nr_core.proofs.WordPlaces.{content_apart, content_inside, same_content}
 use Rattle.nr_core.specs.Core.{AtDesk, AtPlace, Core, Puts}
 use Rattle.nr_core.specs.Roles.{held, holds, keeps, taken}
 use Rattle.nr_core.specs.Slots.{bound_of, content, departures, named, unused}
@@ -36,9 +37,9 @@ puts shape words roles log core id desk there call rows slot departed index is_a
     let once = core.places slot near in let part = term_le (keeps slot) roles id (Writer desk) there in let one = only-same slot in
     let keeps_so : (u : ℕ) → keeps u (Writer desk) ≡ unused u desk.fresh + total (λ (x : Retired). only u x.slot) desk.retired + only u slot = λ u. ap (λ (y : Place). unused u desk.fresh + total (λ (x : Retired). only u x.slot) desk.retired + taken u y) is_at in
     let all_of_it = keeps_so slot in
-    let cont : (s j : ℕ) → s ≢ slot → j ≤ 2 * (bound_of shape) → get_or words' (content shape s j) 0 ≡ get_or words (content shape s j) 0 = λ s j ne low. get_or-set_other words w (content shape s j) x 0 (λ z. ne (omega arith)) in
-    let dep : (s : ℕ) → get_or words' (departures shape s) 0 ≡ get_or words (departures shape s) 0 = λ s. get_or-set_other words w (departures shape s) x 0 (λ z. omega arith) in
-    let here : get_or words' w 0 ≡ x = get_or-set_same words w x 0 (omega arith) in
+    let cont : (s j : ℕ) → s ≢ slot → j ≤ 2 * (bound_of shape) → get_or words' (content shape s j) 0 ≡ get_or words (content shape s j) 0 = λ s j ne low. get_or-set_other words w (content shape s j) x 0 (λ z. ne (same_content shape s j slot index (omega arith) (omega arith) z)) in
+    let dep : (s : ℕ) → get_or words' (departures shape s) 0 ≡ get_or words (departures shape s) 0 = λ s. get_or-set_other words w (departures shape s) x 0 (λ z. content_apart shape slot index s (omega arith) (sym z)) in
+    let here : get_or words' w 0 ≡ x = get_or-set_same words w x 0 (omega (arith, content_inside shape slot index near (omega arith))) in
     let still : (s : ℕ) → held roles' s ≡ held roles s = λ s. let same = total-set (holds s) roles id (Writer desk) (Writer desk') there in omega arith in
     let sum : (s : ℕ) → (get_or words' (departures shape s) 0 + held roles' s) % 2 ^ 40 ≡ (get_or words (departures shape s) 0 + held roles s) % 2 ^ 40 = λ s. ap (λ (pair : ℕ × ℕ). (pair.0 + pair.1) % 2 ^ 40) (λ j. (dep s j, still s j)) in
     let left : (s : ℕ) → s ≢ slot → Left shape words words' map map (held roles) (held roles') s = λ s ne. record { contents = λ j low. cont s j ne low; nobody = λ z. still s ∙ z; deps = λ _. dep s; sum = sum s } in

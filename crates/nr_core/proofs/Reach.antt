@@ -47,7 +47,7 @@ shape_kept state event = go (refusal state event)
     go None = refl
     go (Some why) = refl
 
-all_keep_shape : (events : List Event) (state : State) → (fold next state events).shape ≡ state.shape
+pub all_keep_shape : (events : List Event) (state : State) → (fold next state events).shape ≡ state.shape
 all_keep_shape [] state = refl
 all_keep_shape (event ∷ events) state = all_keep_shape events (next state event) ∙ shape_kept state event
 
@@ -72,10 +72,10 @@ reached_core state reached = let t = story_core state.shape reached.events reach
 
 -- THE ROOM OF THE NEXT STEP
 
-grip_room : (shape : Shape) (words : List ℕ) (map : PartialMap) (holders : ℕ → ℕ) → 2 * (bound_of shape) < slot_room → (grip : Grip) → Grips shape words map holders grip → RoomOf shape (erased grip)
-grip_room shape words map holders fits Nothing t = tt
-grip_room shape words map holders fits (On slot rows true) t = let short = t.1.0.1 in (t.0, omega arith)
-grip_room shape words map holders fits (On slot rows false) t = t.0
+grip_room : (shape : Shape) (words : List ℕ) (map : PartialMap) (holders : ℕ → ℕ) → (grip : Grip) → Grips shape words map holders grip → RoomOf shape (erased grip)
+grip_room shape words map holders Nothing t = tt
+grip_room shape words map holders (On slot rows true) t = let short = t.1.0.1 in (t.0, omega arith)
+grip_room shape words map holders (On slot rows false) t = t.0
 
 pub none_beyond : (l : List Hold) (i : ℕ) → length l ≤ i → get_or l i hold.Nothing ≡ hold.Nothing
 none_beyond [] i out = refl
@@ -85,7 +85,7 @@ none_beyond (x ∷ l) (suc i) out = none_beyond l i (omega arith)
 pub hold_room : (state : State) (log : List Entry) → IsCoreState state log → (reader : ℕ) → 0 < reader → RoomOf state.shape (hold_of state reader)
 hold_room state log is_core reader low = let size = is_core.fit.size in let i : ℕ = reader - 1 in dite (dec_le state.shape.readers i)
     (λ out. subst (RoomOf state.shape) (sym (none_beyond state.holds i (omega arith))) tt)
-    (λ inside. let o = is_core.fit.readers i (omega arith) in subst (RoomOf state.shape) (sym o.2) (grip_room state.shape state.words (map_after state.shape log) (held is_core.roles) is_core.core.fits.bound o.0 (is_core.core.knows (suc i) (Reader (suc i) o.0) o.1)))
+    (λ inside. let o = is_core.fit.readers i (omega arith) in subst (RoomOf state.shape) (sym o.2) (grip_room state.shape state.words (map_after state.shape log) (held is_core.roles) o.0 (is_core.core.knows (suc i) (Reader (suc i) o.0) o.1)))
 
 pub place_room : (state : State) (log : List Entry) → IsCoreState state log → (place : Place) → state.desk.place ≡ place → RoomAt state place
 place_room state log is_core place is = go place is (subst (AtPlace state.shape state.words (map_after state.shape log) (held is_core.roles) state.desk.fresh state.desk.retired) is desk.place)
@@ -101,12 +101,12 @@ place_room state log is_core place is = go place is (subst (AtPlace state.shape 
 
     go : (p : Place) → state.desk.place ≡ p → AtPlace state.shape state.words (map_after state.shape log) (held is_core.roles) state.desk.fresh state.desk.retired p → RoomAt state p
     go Idle e t = tt
-    go (Reading call slot got) e t = let fits = is_core.core.fits.bound in let more = t.more in let shown : ShowsState state.shape state.words (get_or state.words (key_of call) 0) (key.Rows t.number t.rows) = subst (ShowsState state.shape state.words (get_or state.words (key_of call) 0)) t.full (is_core.core.shows (key_of call) t.near) in
+    go (Reading call slot got) e t = let more = t.more in let shown : ShowsState state.shape state.words (get_or state.words (key_of call) 0) (key.Rows t.number t.rows) = subst (ShowsState state.shape state.words (get_or state.words (key_of call) 0)) t.full (is_core.core.shows (key_of call) t.near) in
         let short = shown.3.0.1 in (inside (key_of call) slot t.near t.names, omega arith)
     go (Leaving k) e t = let named_so = names_it state.shape state.words is_core.roles log is_core.core k t.0 t.1.near t.1.names in (t.1.near, fewer t.0 (inside k t.0 t.1.near t.1.names) (omega arith))
     go (Withdrawing k) e t = let early = t.early in (t.near, omega (arith, desk.numbers.agree k t.near, ap number_of t.asked))
     go (Searching call rows poll) e t = (t.1, (desk.retired poll (retired_at state.desk poll) (got_at state.desk.retired poll no_retired t.1)).0)
-    go (Putting call rows slot departed index) e t = let mine : taken slot state.desk.place ≡ 1 = ap (taken slot) e ∙ only-same slot in (t.wants.near, fewer slot t.inside (omega arith), t.inside)
+    go (Putting call rows slot departed index) e t = let mine : taken slot state.desk.place ≡ 1 = ap (taken slot) e ∙ only-same slot in (t.wants.near, fewer slot t.inside (omega arith), t.inside, t.wants.row_set.1)
 
 room_of : (state : State) → Reached state → HasRoom state
 room_of state reached = let log = (story_of state.shape reached.events).history in let is_core = reached_core state reached in let numbers = (is_core.core.knows 0 (Writer state.desk) is_core.fit.writer).numbers in record {

@@ -236,7 +236,7 @@ module _ (shape : Shape) (words : List ℕ) (hs : List Hold) (made : List Operat
   decoded_good desk call (Some rows) polls none = decided_good desk call rows polls none
 
   read_good : (desk : Desk) (call : WriterCall) (s : ℕ) (got : List ℕ) (polls : List Poll) → polls ≡ [] → Good polls (read_on shape desk call s got)
-  read_good desk call s got polls none = by_cases (λ v. Good polls (cond {A = Desk × Step} v (decoded shape desk call (decode (bound_of shape) got)) (moved_to desk (Reading call s got), Going))) (nat_eq (length got) (2 * get_or got 0 0 + 1)) (λ _. decoded_good desk call (decode (bound_of shape) got) polls none) (λ _. none)
+  read_good desk call s got polls none = by_cases (λ v. Good polls (cond {A = Desk × Step} v (decoded shape desk call (decode got)) (moved_to desk (Reading call s got), Going))) (nat_eq (length got) (2 * get_or got 0 0 + 1)) (λ _. decoded_good desk call (decode got) polls none) (λ _. none)
 
 got_or : (l : List Hold) (j : ℕ) (x : Hold) → get_elem? l j ≡ some x → (get_or l j hold.Nothing ≡ x) × (j < length l)
 got_or [] j x e = absurd (some-ne-none x (sym e))

@@ -72,7 +72,7 @@ reads_on shape words roles log core id desk there call slot got is_at = let know
     let keeps_so : (u : ℕ) → keeps u (Writer (moved_to desk Idle)) ≡ keeps u (Writer desk) = λ u. ap (λ (y : Place). unused u desk.fresh + total (λ (x : Retired). only u x.slot) desk.retired + taken u y) (sym is_at) in
     let idle = idle_desk shape words map (held roles) desk known in let size = length-row_words reading.rows in
     let Good : Desk × Step → Type 0 = λ o. Core shape (set words place found) (set roles id (Writer o.0)) (log ++ ending (call_of call) o.1) in
-    by_cases (λ v. Good (cond {A = Desk × Step} v (decoded shape desk call (decode (bound_of shape) got')) (moved_to desk (Reading call slot got'), Going))) (nat_eq (length got') (2 * get_or got' 0 0 + 1))
+    by_cases (λ v. Good (cond {A = Desk × Step} v (decoded shape desk call (decode got')) (moved_to desk (Reading call slot got'), Going))) (nat_eq (length got') (2 * get_or got' 0 0 + 1))
     (λ yes. let whole : length got' ≡ 2 * get_or got' 0 0 + 1 = eqb-true (length got') (2 * get_or got' 0 0 + 1) yes in
     subst (λ (o : Option (List Row)). Good (decoded shape desk call o)) (sym (read_whole shape words roles log core (key_of call) slot got reading whole))
     (decide_all shape words roles log core id desk there place call reading.rows reading.near reading.number reading.full (read_set shape words roles log core (key_of call) slot got reading) keeps_so idle))

@@ -25,7 +25,7 @@ use Rattle.nr_core.specs.Roles.{is_writer, is_reader, held, keeps}
 use Rattle.nr_words.specs.KeyWords.{slot_of, arrivals_of}
 use Rattle.nr_words.specs.SetWords.{encode}
 use Rattle.nr_words.specs.Places.{total_of}
-use Rattle.nr_core.specs.Slots.{bound_of, layout, departures, content, slot_room, name_number, named, SlotSpells}
+use Rattle.nr_core.specs.Slots.{bound_of, layout, departures, content, name_number, named, SlotSpells}
 use Rattle.nr_core.specs.States.{key_of}
 use Rattle.nr_core.specs.Story.{call_of, map_after, opening_map}
 
@@ -107,7 +107,7 @@ ShowsState shape words word (key.Rows number rows) = (slot : ℕ) × (name_numbe
 
 pub record Core (shape : Shape) (words : List ℕ) (roles : List Role) (log : List Entry) : Type 0 where
   pub fits : IsShape shape
-  pub wide : length words ≡ total_of slot_room (layout shape)
+  pub wide : length words ≡ total_of (layout shape)
   pub legal : IsLegal (opening_map shape) log
   -- the words show the map after the history
   pub shows : (at : ℕ) → at < shape.keys → ShowsState shape words (slice_index words at) (state_of (map_after shape log) at)

@@ -135,7 +135,7 @@ pub record Follows (story : Story) (event : Event) : Type 0 where
   pub one_operation : refusal story.state event ≡ None → Operates story.state (operation story.state event) (next story.state event)
   pub refused : refusal story.state event ≢ None → tell story event ≡ story
   -- an operation on a content word of a held slot is a load
-  pub untouched : refusal story.state event ≡ None → (reader slot index : ℕ) (size : Option ℕ) → 0 < reader → hold_of story.state reader ≡ On slot size → index < slot_room
+  pub untouched : refusal story.state event ≡ None → (reader slot index : ℕ) (size : Option ℕ) → 0 < reader → hold_of story.state reader ≡ On slot size → index < slot_room story.state.shape
       → place_of (operation story.state event) ≡ content story.state.shape slot index → operation story.state event ≡ Load (content story.state.shape slot index)
   -- each caller's entries are those of its own events, in their order
   pub own : (caller : ℕ) → entries_of (tell story event).history caller

@@ -6,6 +6,8 @@ pub mod Spares
 pub mod Refusals
 pub mod Operations
 pub mod Writer
+pub mod Parts
+pub mod Outcomes
 pub mod Machine
 pub mod Story
 pub mod Roles

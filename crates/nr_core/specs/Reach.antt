@@ -24,20 +24,20 @@ pub record Reached (state : State) : Type 0 where
 abbrev pub RoomOf : Shape → Hold → Type 0
 RoomOf shape Nothing = Unit {0}
 RoomOf shape (On slot None) = slot < shape.slots
-RoomOf shape (On slot (Some size)) = (slot < shape.slots) × (2 * size < slot_room)
+RoomOf shape (On slot (Some size)) = (slot < shape.slots) × (2 * size < slot_room shape)
 
 -- what the writer's next step needs at its place
 abbrev pub RoomAt : State → Place → Type 0
 RoomAt state Idle = Unit {0}
-RoomAt state (Reading call slot got) = (slot < state.shape.slots) × (length got < slot_room)
+RoomAt state (Reading call slot got) = (slot < state.shape.slots) × (length got < slot_room state.shape)
 RoomAt state (Leaving at) = (at < state.shape.keys) × (length state.desk.retired < state.shape.slots)
 RoomAt state (Withdrawing at) = (at < state.shape.keys) × (number_at state.desk at < last_number)
 RoomAt state (Searching call rows poll) = (poll < length state.desk.retired) × ((retired_at state.desk poll).slot < state.shape.slots)
-RoomAt state (Putting call rows slot departed index) = (key_of call < state.shape.keys) × (length state.desk.retired < state.shape.slots) × (slot < state.shape.slots)
+RoomAt state (Putting call rows slot departed index) = (key_of call < state.shape.keys) × (length state.desk.retired < state.shape.slots) × (slot < state.shape.slots) × (length rows ≤ bound_of state.shape)
 
 pub record HasRoom (state : State) : Type 0 where
   pub shape : IsShape state.shape
-  pub words : length state.words ≡ total_of slot_room (layout state.shape)
+  pub words : length state.words ≡ total_of (layout state.shape)
   pub holds : length state.holds ≡ state.shape.readers
   pub held : (reader : ℕ) → 0 < reader → RoomOf state.shape (hold_of state reader)
   pub few : length state.desk.retired ≤ state.shape.slots

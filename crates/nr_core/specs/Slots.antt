@@ -1,37 +1,35 @@
 -- Slots: where their words stand, which slot a key's word names, and which set a slot spells.
 use Rattle.std.specs.Prelude.{◌≡◌, ℕ, suc, ◌+◌, ◌<◌, nat_le, List, cond, length, take, drop, slice_index}
 use Rattle.nr_model.specs.declared.rows.Row.{Row}
-use Rattle.nr_model.specs.declared.rows.TheConstants.{MAX_ROWS}
 use Rattle.nr_model.specs.Rows.{IsRowSet}
 use Rattle.nr_core.specs.declared.shape.Shape.{Shape}
 use Rattle.nr_core.specs.Sums.{below, only}
 use Rattle.nr_words.specs.declared.layout.Layout.{Layout}
-use Rattle.nr_words.specs.declared.set_words.TheConstants.{CONTENT_WORDS}
 use Rattle.nr_words.specs.KeyWords.{is_filled, slot_of}
 use Rattle.nr_words.specs.Opening as new_map
 use Rattle.nr_words.specs.Places.{Departures, Content, place_of}
-use Rattle.nr_words.specs.SetWords.{encode}
+use Rattle.nr_words.specs.SetWords.{encode, content_words as words_of_rows}
 
 -- how many rows a key may have
 abbrev pub bound_of : Shape → ℕ
-bound_of shape = MAX_ROWS
+bound_of shape = shape.rows
 
 -- how many content words a slot has, and where its words stand; a key's word stands at the key's number
-abbrev pub slot_room : ℕ
-slot_room = CONTENT_WORDS
+abbrev pub slot_room : Shape → ℕ
+slot_room shape = words_of_rows (bound_of shape)
 
 abbrev pub layout : Shape → Layout
-layout shape = record { keys = shape.keys; slots = shape.slots }
+layout shape = record { keys = shape.keys; slots = shape.slots; rows = shape.rows }
 
 abbrev pub departures : Shape → ℕ → ℕ
-departures shape slot = place_of slot_room (layout shape) (Departures slot)
+departures shape slot = place_of (layout shape) (Departures slot)
 
 abbrev pub content : Shape → ℕ → ℕ → ℕ
-content shape slot index = place_of slot_room (layout shape) (Content slot index)
+content shape slot index = place_of (layout shape) (Content slot index)
 
 -- the words at opening: every key a hole with the first number, every slot's departures the first count
 abbrev pub opening_words : Shape → List ℕ
-opening_words shape = new_map.opening_words slot_room (layout shape) shape.first_count shape.first_number
+opening_words shape = new_map.opening_words (layout shape) shape.first_count shape.first_number
 
 -- 0 for a word that is not filled, else 1 more than its slot
 abbrev pub name_number : ℕ → ℕ
@@ -47,7 +45,7 @@ unused slot fresh = cond (nat_le fresh slot) 1 0
 
 -- a slot's content words
 abbrev pub content_words : Shape → List ℕ → ℕ → List ℕ
-content_words shape words slot = take slot_room (drop (content shape slot 0) words)
+content_words shape words slot = take (slot_room shape) (drop (content shape slot 0) words)
 
 -- the slot's content words are those of the row set
 abbrev pub SlotSpells : Shape → List ℕ → ℕ → List Row → Type 0

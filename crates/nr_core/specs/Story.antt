@@ -37,7 +37,7 @@ map_after shape history = after (opening_map shape) history
 abbrev pub shown : State → ℕ → Option KeyState
 shown state at =
     (if is_filled (word state at)
-    then option_map (λ rows. key.Rows (number_at state.desk at) rows) (decode (bound_of state.shape) (content_words state.shape state.words (slot_of (word state at))))
+    then option_map (λ rows. key.Rows (number_at state.desk at) rows) (decode (content_words state.shape state.words (slot_of (word state at))))
     else Some (if has_ask (word state at) then key.Asked (slot_of (word state at)) else key.Hole (slot_of (word state at))))
 
 abbrev pub call_of : WriterCall → Call

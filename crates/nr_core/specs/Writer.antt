@@ -86,7 +86,7 @@ decoded shape desk call (Some rows) = decided shape desk call rows
 -- a read, after which the call has read these words of the slot
 abbrev pub read_on : Shape → Desk → WriterCall → ℕ → List ℕ → Desk × Step
 read_on shape desk call slot got =
-    (if length got == 2 * slice_index got 0 + 1 then decoded shape desk call (decode (bound_of shape) got) else (moved_to desk (Reading call slot got), Going))
+    (if length got == 2 * slice_index got 0 + 1 then decoded shape desk call (decode got) else (moved_to desk (Reading call slot got), Going))
 
 -- the desk after the retired slot at a place was taken for the set, whose departures were found
 abbrev pub taking_retired : Desk → WriterCall → List Row → ℕ → ℕ → Desk

@@ -1,7 +1,8 @@
 //! What callers ask of the machine, and what it answers.
-ghost use Rattle.std.specs.Prelude.{◌≡◌};
-ghost use Rattle.nr_model.specs.declared.rows.TheConstants.{MAX_ROWS};
+ghost use Rattle.std.specs.Prelude.{ℕ, ◌≡◌};
+ghost use Rattle.nr_model.specs.Maps.{FillFits};
 ghost use Rattle.nr_core.specs.States.{key_of};
+ghost use Rattle.nr_core.specs.Story.{call_of};
 ghost use Rattle.nr_core.specs.Laws.{IsGivenCall};
 
 use nr_model::{Batch, Reply, RowSet};
@@ -83,10 +84,10 @@ impl WriterCall {
         }
     }
 
-    /// Tells a proof that the set which a fill brings is a row set, as its type says of it. Nothing
-    /// else comes of the call.
+    /// Tells a proof that the set which a fill brings is a row set, as its type says of it, within
+    /// any bound that it fits. Nothing else comes of the call.
     pub(crate) fn given(&self)
-        ensures { IsGivenCall MAX_ROWS self.now }
+        ensures { (bound : ℕ) → FillFits bound (call_of self.now) → IsGivenCall bound self.now }
     {
         if let WriterCall::Fill(_, _, rows) = self {
             rows.len();

@@ -1,18 +1,20 @@
 //! The step machine that callers see.
-ghost use Rattle.std.specs.Prelude.{◌≡◌, ◌<◌, ◌↔◌, ◌⊎◌, IfOk, Err, Some, option_map};
-ghost use Rattle.nr_model.specs.Maps.{number_of};
+ghost use Rattle.std.specs.Prelude.{◌≡◌, ◌≤◌, ◌<◌, ◌↔◌, ◌⊎◌, IfOk, Err, Some, option_map};
+ghost use Rattle.nr_model.specs.Maps.{FillFits, number_of};
+ghost use Rattle.nr_model.specs.declared.rows.TheConstants.{DEFAULT_ROWS, MAX_ROWS};
 ghost use Rattle.nr_model.specs.declared.seq_map.TheConstants.{MAX_KEYS};
 ghost use Rattle.nr_core.specs.Sizes.{IsBadShape};
 ghost use Rattle.nr_core.specs.declared.shape.TheConstants.{MAX_READERS, MAX_SLOTS};
-ghost use Rattle.nr_core.specs.Story.{shown};
+ghost use Rattle.nr_core.specs.Story.{call_of, shown};
 ghost use Rattle.nr_core.specs.States.{opening, number_at, Arrive, Read, Depart, Ask, Start, Go};
 ghost use Rattle.nr_core.specs.Machine.{next, arrive_answer, read_answer, depart_answer, ask_answer, start_answer, go_answer};
 ghost use Rattle.nr_model.specs.Sizes.{IsBadSize};
 
 use crate::calls::{Arrived, AskReply, Refusal, Step, WriterCall};
 use crate::machine::Machine;
+use crate::outcome::Outcome;
 use crate::shape::Shape;
-use nr_model::OpenFault;
+use nr_model::{DEFAULT_ROWS, OpenFault, RowSet};
 use std::alloc::Global;
 use std::marker::Model;
 
@@ -22,17 +24,20 @@ use std::marker::Model;
 #[derive(Drop)]
 pub struct Core {
     machine: Machine,
+    /// What a find found last, of which its answer is made.
+    found: RowSet,
 }
 
 impl Model for Core {
     ghost use Rattle.nr_core.specs.States.{State};
+    ghost use Rattle.nr_core.specs.Parts.{state_of};
     ghost use Rattle.nr_core.specs.Reach.{Reached};
 
     ghost Value = { State };
 
-    ghost view = { λ core. core.machine };
+    ghost view = { λ core. state_of core.machine };
 
-    ghost invariant = { λ core. ∥ Reached core.machine ∥₁ };
+    ghost invariant = { λ core. ∥ Reached (state_of core.machine) ∥₁ };
 }
 
 impl Core {
@@ -54,6 +59,7 @@ impl Core {
           readers = readers;
           first_count = first_count;
           first_number = 0;
+          rows = DEFAULT_ROWS;
         })) }
     {
         let shape = Shape {
@@ -62,6 +68,7 @@ impl Core {
             readers,
             first_count,
             first_number: 0,
+            rows: DEFAULT_ROWS,
         };
         Core::open_with(alloc, &shape)
     }
@@ -77,7 +84,19 @@ impl Core {
             return Err(OpenFault::BadSize);
         }
         let machine = Machine::open(alloc, shape).map_err(|_| OpenFault::Memory)?;
-        Ok(Core { machine })
+        Ok(Core {
+            machine,
+            found: RowSet::new(),
+        })
+    }
+
+    /// How many rows a key may have, 1 to 255.
+    pub fn rows(&self) -> u32
+        ensures value { result ≡ self.now.shape.rows }
+        ensures positive { 0 < result }
+        ensures bounded { result ≤ MAX_ROWS }
+    {
+        self.machine.rows()
     }
 
     /// The number of a key, below the number of keys: the one that its next request is sent with,
@@ -130,12 +149,19 @@ impl Core {
     }
 
     /// The writer begins a call by its look at the key's word: one load. Refused where there is no
-    /// such key (`OutOfRange`), and then where the writer is in a call (`Busy`).
+    /// such key (`OutOfRange`), and then where the writer is in a call (`Busy`). A fill brings at most
+    /// `rows()` rows.
     pub fn start(&mut self, call: &WriterCall) -> Result<Step, Refusal>
+        requires fits { FillFits self.old.shape.rows (call_of call.now) }
         ensures answer { result ≡ start_answer self.old call.now }
         ensures new { self.new ≡ next self.old (Start call.now) }
     {
-        self.machine.start(call)
+        let outcome = self.machine.start(call)?;
+        // most steps go on: they are answered here, before there is room for a set
+        if let Outcome::Going = outcome {
+            return Ok(Step::Going);
+        }
+        Ok(outcome.step(&self.found))
     }
 
     /// The writer's call makes its next step: a load of a content word or of a departure word, a
@@ -145,6 +171,10 @@ impl Core {
         ensures answer { result ≡ go_answer self.old }
         ensures new { self.new ≡ next self.old Go }
     {
-        self.machine.go()
+        let outcome = self.machine.go(&mut self.found)?;
+        if let Outcome::Going = outcome {
+            return Ok(Step::Going);
+        }
+        Ok(outcome.step(&self.found))
     }
 }

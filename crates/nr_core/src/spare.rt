@@ -1,5 +1,6 @@
 //! What the writer keeps beside the words: the slots that no key names, and each key's number.
-ghost use Rattle.std.specs.Prelude.{◌≡◌, ◌<◌, ◌≤◌, ◌++◌, [], length, remove, replicate, slice_index, slice_set, IfOk};
+ghost use Rattle.std.specs.Prelude.{◌≡◌, ◌<◌, ◌≤◌, ◌++◌, [], length, remove, replicate, slice_index, slice_index_or, slice_set, IfOk};
+ghost use Rattle.nr_core.specs.States.{no_retired};
 ghost use Rattle.nr_core.specs.Writer.{unnamed};
 ghost use Rattle.nr_core.specs.Spares.{TakesFresh, none_spare};
 
@@ -8,28 +9,31 @@ use crate::places::Retired;
 use crate::shape::Shape;
 use nr_words::parts;
 use std::alloc::{AllocError, Global};
+use std::collections::VecDeque;
 use std::marker::Model;
 
 /// Those from `fresh` on were never taken; the retired ones, oldest first, wait until their readers
-/// have departed. There is room to retire them all. A filled key's word has its slot, so its
-/// number stands here alone.
+/// have departed. They are a queue, so that to take the oldest costs the same whatever their number,
+/// and it has room to retire all slots. A filled key's word has its slot, so its number stands here
+/// alone.
 #[derive(Drop)]
 pub struct Spare {
     slots: u32,
     fresh: u32,
-    retired: Vec<Retired>,
+    retired: VecDeque<Retired>,
     numbers: Vec<u64>,
 }
 
 impl Model for Spare {
-    ghost use Rattle.std.specs.Prelude.{◌≤◌, vec_capacity};
+    ghost use Rattle.std.specs.Prelude.{◌≤◌};
+    ghost use Rattle.std.specs.VecDeque.{deque_capacity};
     ghost use Rattle.nr_core.specs.Spares.{Spare as Slots};
 
     ghost Value = { Slots };
 
     ghost view = { λ spare. record { slots = spare.slots; fresh = spare.fresh; retired = spare.retired.items; numbers = spare.numbers.items } };
 
-    ghost invariant = { λ spare. spare.slots ≤ vec_capacity spare.retired };
+    ghost invariant = { λ spare. spare.slots ≤ deque_capacity spare.retired };
 }
 
 impl Spare {
@@ -37,7 +41,7 @@ impl Spare {
     pub fn open(alloc: Global, shape: &Shape) -> Result<Spare, AllocError>
         ensures { IfOk result (λ spare. spare ≡ record { slots = shape.now.slots; fresh = 0; retired = []; numbers = replicate shape.now.keys shape.now.first_number }) }
     {
-        let retired = Vec::with_capacity(alloc, shape.slots as usize)?;
+        let retired = VecDeque::with_capacity(alloc, shape.slots as usize)?;
         let mut numbers = Vec::with_capacity(alloc, shape.keys as usize)?;
         numbers.resize(shape.keys as usize, shape.first_number)?;
         Ok(Spare {
@@ -60,14 +64,22 @@ impl Spare {
         Some(slot)
     }
 
-    /// The retired slots, oldest first.
-    pub fn retired(&self) -> &[Retired]
-        ensures { result.now ≡ self.now.retired }
+    /// How many slots are retired.
+    pub fn retired_len(&self) -> usize
+        ensures { result ≡ length self.now.retired }
     {
-        &self.retired
+        self.retired.len()
     }
 
-    /// Takes the retired slot at that place.
+    /// The retired slot at that place, of which the oldest has place 0.
+    pub fn retired_at(&self, place: usize) -> Retired
+        requires { place < length self.now.retired }
+        ensures { result ≡ slice_index_or self.now.retired place no_retired }
+    {
+        self.retired[place]
+    }
+
+    /// Takes the retired slot at that place; the others keep their order.
     pub fn take_retired(&mut self, place: usize)
         requires { place < length self.old.retired }
         ensures { self.new ≡ record self.old { retired = remove self.old.retired place } }
@@ -82,7 +94,7 @@ impl Spare {
     {
         let old = parts(word);
         if old.filled {
-            self.retired.push_reserved(Retired {
+            self.retired.push_back_reserved(Retired {
                 slot: old.slot,
                 arrivals: old.arrivals,
             });

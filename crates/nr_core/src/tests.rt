@@ -1,4 +1,8 @@
 //! Schedules as calls of the machine, with the answers that they must give.
+ghost use Rattle.std.specs.Prelude.{IsTrue};
+ghost use Rattle.nr_model.specs.Maps.{FillFits};
+ghost use Rattle.nr_core.specs.Story.{call_of};
+
 use super::{
     Arrived, AskReply, Core, MAX_READERS, MAX_SLOTS, NoSlot, OpenFault, Refusal, Shape, Step,
     WReply, WriterCall,
@@ -53,8 +57,24 @@ fn answer(core: &mut Core, line: &Line) -> Told {
             Ok(AskReply::Filled) => Says("filled"),
             Err(why) => refused(why),
         },
-        Start(call) => stepped(&core.start(call)),
+        Start(call) => {
+            if fits(core, call) {
+                stepped(&core.start(call))
+            } else {
+                Says("more rows than a slot has room for")
+            }
+        }
         Go => stepped(&core.go()),
+    }
+}
+
+/// A fill brings no more rows than a key may have.
+fn fits(core: &Core, call: &WriterCall) -> bool
+    ensures { IsTrue result → FillFits core.now.shape.rows (call_of call.now) }
+{
+    match call {
+        WriterCall::Fill(_, _, rows) => rows.len() <= core.rows() as usize,
+        _ => true,
     }
 }
 
@@ -410,6 +430,7 @@ fn numbered(first_number: u64, readers: u32) -> Shape {
         readers,
         first_count: 0,
         first_number,
+        rows: 15,
     }
 }
 
@@ -477,5 +498,71 @@ fn the_last_number_cannot_be_cancelled(rt: HostRuntime) -> Result<(), Fail> {
     runs(&rt, &mut core, &lines);
     goes(&rt, &mut core, 3);
     runs(&rt, &mut core, &[(Go, Says("done"))]);
+    Ok(())
+}
+
+/// A map of one key, 3 slots and one reader, whose key may have so many rows.
+fn roomy(alloc: Global, rows: u32) -> Result<Core, OpenFault> {
+    let shape = Shape {
+        rows,
+        ..numbered(0, 1)
+    };
+    Core::open_with(alloc, &shape)
+}
+
+/// The rows `1:0`, `2:0`, .. up to that number of them.
+fn counted(count: u64) -> Result<RowSet, Fail> {
+    let mut rows = [row(0, 0); 255];
+    for (a, row) in (1..=count).zip(rows.iter_mut()) {
+        row.a = a;
+    }
+    let Some(some) = rows.get(..count as usize) else {
+        return Err("too many rows".into());
+    };
+    Ok(RowSet::of(some).map_err(|_| "too many rows")?)
+}
+
+/// Fills the key with so many rows, as many as it may have, and finds them; one more is too many.
+fn fills_to_the_bound(rt: &impl Abort, core: &mut Core, count: u64) -> Result<(), Fail> {
+    let fill = WriterCall::Fill(0, 0, counted(count)?);
+    let asked = [(Ask(1, 0), Sends(0)), (Start(fill), Says("-"))];
+    runs(rt, core, &asked);
+    let puts = 2 * count as u32 + 1;
+    goes(rt, core, puts);
+    runs(
+        rt,
+        core,
+        &[(Go, Says("done")), (update(plus(0, 0))?, Says("-"))],
+    );
+    goes(rt, core, puts - 1);
+    let read = [
+        (Go, Says("too-many")),
+        (Arrive(1, 0), Says("held")),
+        (Read(1, 0), Word(count)),
+        (Read(1, 2 * count - 1), Word(count)),
+        (Read(1, 2 * count), Word(0)),
+        (Read(1, 2 * count + 1), Says("out-of-range")),
+        (Depart(1), Says("ok")),
+        (Start(WriterCall::Find(0)), Says("-")),
+    ];
+    runs(rt, core, &read);
+    goes(rt, core, puts - 1);
+    let rows = found(&core.go())?;
+    assert_eq!(rt; rows.len() as u64, count);
+    assert_eq!(rt; rows.get(0), Some(row(1, 0)));
+    assert_eq!(rt; rows.get(rows.len() - 1), Some(row(count, 0)));
+    Ok(())
+}
+
+#[test]
+fn a_key_has_rows_up_to_its_bound(rt: HostRuntime) -> Result<(), Fail> {
+    for rows in [0, 256] {
+        assert!(rt; matches!(&roomy(rt.alloc(), rows), Err(OpenFault::BadSize)));
+    }
+    for rows in [1, 15, 16, 255] {
+        let mut core = roomy(rt.alloc(), rows).map_err(|_| "not opened")?;
+        assert_eq!(rt; core.rows(), rows);
+        fills_to_the_bound(&rt, &mut core, u64::from(rows))?;
+    }
     Ok(())
 }

@@ -1,7 +1,7 @@
 //! The words of a map, and the operations of which each step is one.
-ghost use Rattle.std.specs.Prelude.{◌≡◌, ◌<◌, ◌^◌, ◌++◌, [], ◌∷◌, length, slice_index, IfOk};
+ghost use Rattle.std.specs.Prelude.{◌≡◌, ◌≤◌, ◌<◌, ◌^◌, ◌++◌, [], ◌∷◌, length, slice_index, IfOk};
+ghost use Rattle.nr_model.specs.declared.rows.TheConstants.{MAX_ROWS};
 ghost use Rattle.nr_words.specs.Opening.{opening_words};
-ghost use Rattle.nr_words.specs.declared.set_words.TheConstants.{CONTENT_WORDS};
 ghost use Rattle.nr_core.specs.Operations.{performed};
 ghost use Rattle.nr_core.specs.declared.operation.Operation.TheVariants.{Load, Add, Or, Store, Swap};
 
@@ -37,9 +37,10 @@ impl Words {
         first_count: u64,
         first_number: u64,
     ) -> Result<Words, AllocError>
-        requires { first_number < 2 ^ 22 }
+        requires rows { layout.rows ≤ MAX_ROWS }
+        requires number { first_number < 2 ^ 22 }
         ensures { IfOk result (λ words. words ≡ record {
-          cells = opening_words CONTENT_WORDS layout first_count first_number;
+          cells = opening_words layout first_count first_number;
           made = [];
         }) }
     {

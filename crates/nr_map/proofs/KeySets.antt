@@ -71,13 +71,18 @@ before_last [] (y ∷ ys) a b is = absurd (omega (arith, ap length is, length-ap
 before_last (x ∷ xs) [] a b is = absurd (omega (arith, ap length is, length-append xs (a ∷ [])))
 before_last (x ∷ xs) (y ∷ ys) a b is = λ j. get_or (is j) 0 x ∷ before_last xs ys a b (ap (drop 1) is) j
 
+-- the set that the key had it has until the caller's next entry
+pub stays_between : (shape : Shape) (key number : ℕ) (rows : List Row) (mid new : Caller) (steps : ℕ) (entries : List Entry) → mid.table.shape ≡ shape → key < shape.keys → mid.number ≡ 0 → KnowsOwn mid → entries_of entries 0 ≡ entries → (then : Grows steps mid entries new)
+    → state_of (map_after shape mid.seen) key ≡ states.Rows number rows → state_of (map_after shape (mid.seen ++ then.between)) key ≡ states.Rows number rows
+stays_between shape key number rows mid new steps entries sized near writes own ours then had =
+    let none : entries_of then.between 0 ≡ [] = ap (entries_of then.between) (sym writes) ∙ none_between steps mid entries new own (ap (entries_of entries) writes ∙ ours) then in
+    let callers : AreCallers shape then.between = callers_of_more shape mid.seen then.between (callers_before shape (mid.seen ++ then.between) entries
+    (subst (λ (p : Shape × List Entry). AreCallers p.0 p.1) (λ j. (sized j, then.seen j)) then.callers)) in
+    set_stays shape key number rows mid.seen then.between near callers none had
+
 -- a set that the key had in the middle of a call, it had before the call's entry
 pub had_before : (shape : Shape) (key number : ℕ) (rows : List Row) (old mid new : Caller) (steps after_steps : ℕ) (entries mine : List Entry) → old.table.shape ≡ shape → key < shape.keys → mid.number ≡ 0 → KnowsOwn mid → entries_of entries 0 ≡ entries → (then : Grows after_steps mid entries new) → (all : Grows steps old mine new)
     → (old.seen ++ all.between ≡ mid.seen ++ then.between) → mid.table ≡ old.table → state_of (map_after shape mid.seen) key ≡ states.Rows number rows → KeyHad key rows old all.between
 had_before shape key number rows old mid new steps after_steps entries mine sized near writes own ours then all same table had =
-    let none : entries_of then.between 0 ≡ [] = ap (entries_of then.between) (sym writes) ∙ none_between after_steps mid entries new own (ap (entries_of entries) writes ∙ ours) then in
-    let sizes : mid.table.shape ≡ shape = ap (λ (t : Table). t.shape) table ∙ sized in
-    let callers : AreCallers shape then.between = callers_of_more shape mid.seen then.between (callers_before shape (mid.seen ++ then.between) entries
-    (subst (λ (p : Shape × List Entry). AreCallers p.0 p.1) (λ j. (sizes j, then.seen j)) then.callers)) in
-    let now = set_stays shape key number rows mid.seen then.between near callers none had in
+    let now = stays_between shape key number rows mid new after_steps entries (ap (λ (t : Table). t.shape) table ∙ sized) near writes own ours then had in
     (number, ap (λ (l : List Entry). state_of (after (opening_map old.table) l) key) same ∙ ap (λ (s : Shape). state_of (map_after s (mid.seen ++ then.between)) key) sized ∙ now)

@@ -11,8 +11,8 @@ pub mod AllKeys
 pub mod Opens
 pub mod Tokens
 pub mod Rows
+pub mod BoardPlaces
 pub mod ReaderSeats
-pub mod Loading
 pub mod Seating
 pub mod Room
 pub mod Shortage
@@ -25,6 +25,7 @@ pub mod Publishing
 pub mod ReadingOn
 pub mod KeySets
 pub mod Retiring
+pub mod Looks
 pub mod WriterCalls
 pub mod NoSlots
 pub mod SlotBounds

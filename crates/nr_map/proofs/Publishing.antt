@@ -21,7 +21,9 @@ use Rattle.nr_marks.specs.Marks.{Marks, Past, with_name, with_polls}
 use Rattle.nr_marks.specs.MarkSteps.{PutsMarks}
 use Rattle.nr_map.specs.Plays.{SwapsOrPuts}
 use Rattle.nr_core.specs.States.{key_of}
-use Rattle.nr_map.specs.WriterSeats.{GoesOn, Knows, LeadsIn, MapSeat, PublishesSet, PutsTo, WritesAt}
+use Rattle.nr_map.specs.WriterSeats.{GoesOn, IsPutting, Knows, LeadsIn, MapSeat, PublishesSet, PutsTo, WritesAt}
+use Rattle.nr_core.specs.Slots.{content}
+use Rattle.nr_words.specs.SetWords.{encode}
 
 -- what the writer knows after a step is legal
 pub knows_after : (steps : ℕ) (old : Caller) (entries : List Entry) (new : Caller) → Grows steps old entries new → Knows new
@@ -33,13 +35,18 @@ pub record PutSoFar (table : Table) (desk : Desk) (call : WriterCall) (rows : Li
   pub grows : Grows index (token before) [] (token after)
   pub marks : after.me.0.marks ≡ before.me.0.marks
 
-pub put_more : (table : Table) (desk : Desk) (call : WriterCall) (rows : List Row) (slot departed : ℕ) (before mid after : MapSeat) (index : ℕ) → PutSoFar table desk call rows slot departed before mid index
-    → ((at : Desk) → mid.me.0.role ≡ Writer at → PutsTo table at mid after) → PutSoFar table desk call rows slot departed before after (index + 1)
-put_more table desk call rows slot departed before mid after index so_far puts = let told = puts (moved_to desk (Putting call rows slot departed index)) so_far.writes.role in record {
-  writes = told.writes;
-  grows = grows_both index 1 (index + 1) (token before) (token mid) [] (token after) refl so_far.grows told.grows;
-  marks = told.marks ∙ so_far.marks;
-}
+module _ (table board : Table) (own : board ≡ table) (desk : Desk) (call : WriterCall) (rows : List Row) (slot departed : ℕ) (before : MapSeat) where
+  -- the next word of the set can be put
+  pub puts_next : (mid : MapSeat) (begin index word : ℕ) → begin ≡ content board.shape slot 0 → PutSoFar table desk call rows slot departed before mid index → index ≤ 2 * length rows → word ≡ get_or (encode rows) index 0 → IsPutting board begin index word mid
+  puts_next mid begin index word begin_is so_far more word_is = record { desk = _; writes = subst (λ (t : Table). WritesAt t (moved_to desk (Putting call rows slot departed index)) mid) (sym own) so_far.writes; call = call; rows = rows; slot = slot; departed = departed; place = refl; begin_is = begin_is; more = more; word_is = word_is }
+
+  -- one word more is put
+  pub put_more : (mid after : MapSeat) (index : ℕ) → PutSoFar table desk call rows slot departed before mid index → ((at : Desk) → mid.me.0.role ≡ Writer at → PutsTo board at mid after) → PutSoFar table desk call rows slot departed before after (index + 1)
+  put_more mid after index so_far puts = let told = subst (λ (t : Table). PutsTo t (moved_to desk (Putting call rows slot departed index)) mid after) own (puts (moved_to desk (Putting call rows slot departed index)) so_far.writes.role) in record {
+    writes = told.writes;
+    grows = grows_both index 1 (index + 1) (token before) (token mid) [] (token after) refl so_far.grows told.grows;
+    marks = told.marks ∙ so_far.marks;
+  }
 
 -- the swap that publishes the set
 pub published : (table : Table) (call : WriterCall) (rows : List Row) (spare mid_spare after_spare : Spare) (slot departed polls : ℕ) (before mid after : MapSeat) (found : ℕ) → Took slot polls spare mid_spare → polls ≤ table.shape.readers + 1 → mid_spare.slots ≡ spare.slots → mid_spare.numbers ≡ spare.numbers → mid.me.0.marks ≡ with_polls before.me.0.marks mid.me.0.marks.polls

@@ -1,9 +1,10 @@
 -- What the reader's steps tell of its seat.
-use Rattle.std.proofs.Common.{◌≡◌, ℕ, ◌<◌, true, false, ap, sym, subst, ◌∙◌}
+use Rattle.std.proofs.Common.{◌≡◌, ℕ, ◌<◌, true, false, ap, sym, subst, arith, ◌∙◌}
 use Rattle.nr_model.specs.declared.calls.Call.TheVariants as model
 use Rattle.nr_model.specs.declared.calls.Reply.TheVariants as reply
 use Rattle.nr_model.specs.Rows.{IsRowSet}
 use Rattle.nr_words.specs.KeyWords.{is_filled, slot_of}
+use Rattle.nr_core.proofs.WordPlaces.{same_content}
 use Rattle.nr_core.specs.Slots.{bound_of, content}
 use Rattle.nr_core.specs.Steps.{ask_word}
 use Rattle.nr_core.specs.declared.roles.Grip.TheVariants.{Nothing, On}
@@ -50,3 +51,7 @@ module _ (table : Table) (before after : MapSeat) (same : after.table_id ≡ bef
 
   pub departed_seat : (begin : ℕ) → HoldsAt table begin before → Departed before.me.0 after.me.0 → IdlesAt table after × Rests 1 (token before) (token after)
   departed_seat begin holds told = let rests = seat_rests before after same told.waits in (record { own = rests.table ∙ holds.own; idle = told.role ∙ ap (λ (n : ℕ). Reader n Nothing) (sym (ap number_of told.role)) }, rests)
+
+-- the slot that a reader holds is one of the map's, by whichever name it is known
+pub held_inside : {table : Table} {seat : MapSeat} (slot : ℕ) → HoldsAt table (content table.shape slot 0) seat → slot < table.shape.slots
+held_inside {table = table} {seat = seat} slot holds = let same = same_content table.shape slot 0 (slot_held seat.me.0.role) 0 (omega arith) (omega arith) holds.begin_is in omega (arith, same, holds.holds.inside)

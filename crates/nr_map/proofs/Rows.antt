@@ -1,10 +1,9 @@
 -- The rows of a set, read word by word.
-use Rattle.std.proofs.Common.{◌≡◌, ℕ, zero, suc, ◌+◌, ◌*◌, ◌<◌, ◌∙◌, true, not, List, [], ◌∷◌, ◌++◌, length, get_or, take, refl, ap, sym, arith}
+use Rattle.std.proofs.Common.{◌≡◌, ℕ, zero, suc, ◌+◌, ◌*◌, ◌<◌, ◌∙◌, List, [], ◌∷◌, length, get_or, refl, ap, arith}
 use Rattle.std.specs.Prelude.{slice_get, Some}
 use Rattle.nr_words.proofs.SetWordLemmas.{length-row_words}
-use Rattle.std.proofs.lemmas.Bool.{and_from, and_parts}
+use Rattle.std.proofs.lemmas.Option.{get_or_from_slice_get}
 use Rattle.nr_model.specs.declared.rows.Row.{Row}
-use Rattle.nr_model.specs.Rows.{is_ascending, row_lt}
 use Rattle.nr_words.specs.SetWords.{encode, row_words}
 
 -- how many words a set has
@@ -32,25 +31,9 @@ encoded_row rows i low = row_at rows i low ∙ (λ j. Some (record { a = get_or 
     second : suc (2 * i + 1) ≡ 2 * i + 2
     second = omega arith
 
--- one row more of the beginning of a list
-pub take_more : (rows : List Row) (i : ℕ) (row : Row) → slice_get rows i ≡ Some row → take (i + 1) rows ≡ take i rows ++ row ∷ []
-take_more [] i row is = absurd (cc)
-take_more (first ∷ rows) zero row is = let same : first ≡ row = (cc) in ap (λ (r : Row). r ∷ []) same
-take_more (first ∷ rows) (suc i) row is = ap (λ (n : ℕ). take n (first ∷ rows)) (let next : suc i + 1 ≡ suc (i + 1) = omega arith in next) ∙ ap (λ (l : List Row). first ∷ l) (take_more rows i row is)
-
-take_none : (n : ℕ) → take {A = Row} n [] ≡ []
-take_none zero = refl
-take_none (suc n) = refl
-
--- a beginning of ascending rows ascends
-pub ascending_take : (rows : List Row) (n : ℕ) → is_ascending rows ≡ true → is_ascending (take n rows) ≡ true
-ascending_take [] n up = ap is_ascending (take_none n)
-ascending_take (r ∷ rows) zero up = refl
-ascending_take (r ∷ []) (suc n) up = ap (λ (l : List Row). is_ascending (r ∷ l)) (take_none n)
-ascending_take (r ∷ s ∷ rows) (suc zero) up = refl
-ascending_take (r ∷ s ∷ rows) (suc (suc n)) up =
-    let parts = and_parts (not (row_lt s r)) (is_ascending (s ∷ rows)) up in and_from (not (row_lt s r)) (is_ascending (s ∷ take n rows)) parts.0 (ascending_take (s ∷ rows) (suc n) parts.1)
-
--- the rows so far, and the one that was read next
-pub rows_more : (held rows : List Row) (i : ℕ) (row : Row) → rows ≡ take i held → slice_get held i ≡ Some row → rows ++ row ∷ [] ≡ take (i + 1) held
-rows_more held rows i row so is = ap (λ (l : List Row). l ++ row ∷ []) so ∙ sym (take_more held i row is)
+-- its two numbers
+pub row_words_at : (rows : List Row) (i : ℕ) (none : Row) → i < length rows → ((get_or rows i none).a ≡ get_or (encode rows) (2 * i + 1) 0) × ((get_or rows i none).b ≡ get_or (encode rows) (2 * i + 1 + 1) 0)
+row_words_at rows i none low = let is = get_or_from_slice_get rows i _ none (encoded_row rows i low) in (ap (λ (row : Row). row.a) is, ap (λ (row : Row). row.b) is ∙ ap (λ (n : ℕ). get_or (encode rows) n 0) next)
+  where
+    next : 2 * i + 2 ≡ 2 * i + 1 + 1
+    next = omega arith

@@ -73,7 +73,7 @@ module _ (shape : Shape) (words : List ℕ) (roles : List Role) (log : List Entr
   go_short_at (Reading call slot got) is without =
       let reads : Reads shape words (map_after shape log) (held roles) (key_of call) slot got = at_place (Reading call slot got) is in
       let got' : List ℕ = got ++ get_or words (content shape slot (length got)) 0 ∷ [] in
-      by_cases (λ v. let outcome = cond {A = Desk × Step} v (decoded shape desk call (decode (bound_of shape) got')) (moved_to desk (Reading call slot got'), Going) in
+      by_cases (λ v. let outcome = cond {A = Desk × Step} v (decoded shape desk call (decode got')) (moved_to desk (Reading call slot got'), Going) in
       (v ≡ true → length got' ≡ 2 * get_or got' 0 0 + 1) → IsWithout counts outcome → Shortage shape log desk (call_of call) outcome counts) (nat_eq (length got') (2 * get_or got' 0 0 + 1))
       (λ _ whole e. let set_is = read_whole shape words roles log core (key_of call) slot got reads (whole refl) in let none = decided_none shape desk counts call reads.rows (subst (λ o. IsWithout counts (decoded shape desk call o)) set_is e) in record {
         none = subst (λ o. NoneLeft shape desk (decoded shape desk call o) counts) (sym set_is) none.0;

@@ -40,6 +40,9 @@ use Rattle.nr_core.specs.Spares.{Spare}
 use Rattle.nr_map.specs.Spares.{Took, desk_with, spare_of}
 use Rattle.nr_marks.specs.Marks.{Marks, Past, with_name, with_polls, without_name}
 use Rattle.nr_marks.specs.PollNotes.{Noted}
+use Rattle.nr_map.proofs.Looks.{HasLooked, rests_here, rests_own}
+use Rattle.nr_map.proofs.ReadingOn.{settled_quiet}
+use Rattle.nr_map.specs.NamedRows.{ReadsAll}
 use Rattle.nr_map.proofs.KeySets.{before_last, had_before, none_between}
 use Rattle.nr_map.proofs.Retiring.{evicted_one, retires_so}
 use Rattle.nr_map.proofs.Searching.{grows_from}
@@ -51,24 +54,11 @@ use Rattle.nr_core.specs.States.{key_of}
 use Rattle.nr_map.specs.Views.{desk_of, number_of}
 use Rattle.nr_map.specs.WriterSeats.{GoesOn, IsBetween, KeyHas, LacksSlot, LeadsIn, MapSeat, PublishesSet, RestsAt, Settles, WritesAt}
 use Rattle.nr_core.specs.Slots.{bound_of}
-
--- the writer rests with its slots at its own map
-pub rests_own : (table : Table) (spare : Spare) (seat : MapSeat) → RestsAt table spare seat → RestsAt (token seat).table spare seat
-rests_own table spare seat rests = subst (λ (t : Table). RestsAt t spare seat) (sym rests.writes.own) rests
-
-pub rests_here : (table : Table) (spare : Spare) (seat : MapSeat) → (token seat).table ≡ table → RestsAt (token seat).table spare seat → RestsAt table spare seat
-rests_here table spare seat own rests = subst (λ (t : Table). RestsAt t spare seat) own rests
-
-pub between_calls : (table : Table) (spare : Spare) (seat : MapSeat) → RestsAt table spare seat → IsBetween table seat
-between_calls table spare seat rests = record { desk = desk_with spare Idle; writes = rests.writes; place = refl }
+use Rattle.nr_model.specs.Rows.{IsRowSet}
 
 -- the slots that a resting token shows
 pub spare_shown : (table : Table) (spare : Spare) (seat : MapSeat) → RestsAt table spare seat → spare_of (token seat) ≡ spare
 spare_shown table spare seat rests = λ j. record { slots = (ap (λ (t : Table). t.shape.slots) rests.writes.own ∙ sym rests.slots) j; fresh = ap (λ r. (desk_of r).fresh) rests.writes.role j; retired = ap (λ r. (desk_of r).retired) rests.writes.role j; numbers = ap (λ r. (desk_of r).numbers) rests.writes.role j }
-
-settled_quiet : (shape : Shape) (desk : Desk) (call : WriterCall) (rows : List Row) (c : Call) → ending c (settled shape desk call rows).1 ≡ []
-settled_quiet shape desk call rows c = by_cases (λ v. ending c (cond {A = Desk × Step} v (taking_fresh shape desk call rows, Going) (cond {A = Desk × Step} (nat_eq (length desk.retired) 0) (moved_to desk Idle, no_slot shape desk) (moved_to desk (Searching call rows 0), Going))).1 ≡ []) (nat_lt desk.fresh shape.slots)
-    (λ _. refl) (λ _. by_cases (λ v. ending c (cond {A = Desk × Step} v (moved_to desk Idle, no_slot shape desk) (moved_to desk (Searching call rows 0), Going)).1 ≡ []) (nat_eq (length desk.retired) 0) (λ _. refl) (λ _. refl))
 
 module _ (table : Table) (spare : Spare) (before : MapSeat) (rests : RestsAt table spare before) where
   writer_number : (token before).number ≡ 0
@@ -149,214 +139,171 @@ module _ (table : Table) (spare : Spare) (before : MapSeat) (rests : RestsAt tab
           count = held.count;
         }
 
-not_true : (b : Bool) → not b ≡ true → b ≡ false
-not_true true is = absurd (cc)
-not_true false is = refl
+-- the call ends with its look
+pub look_ends : {table : Table} {spare : Spare} {call : WriterCall} {found : ℕ} {before after : MapSeat} → HasLooked table spare call found before after → (answer : Reply) → looked table.shape (desk_with spare Idle) call found ≡ (desk_with spare Idle, ended answer)
+    → RestsAt (token after).table spare after × (Gains 1 (token before) (call_of call) answer (token after) × SlotsStay (token before) (token after))
+look_ends {table = table} {spare = spare} {call = call} {before = before} {after = after} looks answer is =
+    let ended_so = ends table spare before looks.rests 1 (call_of call) answer spare after refl (subst (λ (o : Desk × Step). LeadsIn 1 table (call_of call) o before after) is looks.leads) in
+    (rests_own table spare after ended_so.0, (ended_so.1, (same_slots table spare before looks.rests after ended_so.0, looks.marks)))
 
-not_false : (b : Bool) → not b ≡ false → b ≡ true
-not_false true is = refl
-not_false false is = absurd (cc)
+-- it has its set after so many steps: it looks for a slot
+pub record HasSet (table : Table) (spare : Spare) (steps : ℕ) (call : WriterCall) (rows : List Row) (before mid : MapSeat) : Type 0 where
+  pub rests : RestsAt table spare before
+  pub settles : Settles table call rows spare mid
+  pub grows : Grows steps (token before) [] (token mid)
+  pub marks : mid.me.0.marks ≡ with_polls before.me.0.marks []
 
--- what the parts of the word that was found say
-pub is_empty : (parts : KeyParts) (word : ℕ) → parts ≡ parts_of word → not parts.filled ≡ true → is_filled word ≡ false
-is_empty parts word is empty = ap (λ (p : KeyParts). p.filled) (sym is) ∙ not_true parts.filled empty
+pub has_set : {table : Table} {spare : Spare} {steps : ℕ} {call : WriterCall} {rows : List Row} {before mid : MapSeat} → RestsAt table spare before → LeadsIn steps table (call_of call) (settled table.shape (desk_with spare Idle) call rows) before mid → mid.me.0.marks ≡ with_polls before.me.0.marks [] → HasSet table spare steps call rows before mid
+has_set {table = table} {spare = spare} {steps = steps} {call = call} {rows = rows} {before = before} {mid = mid} rests leads marks =
+    let so = settles_so table spare before rests steps call rows mid leads (ap (λ (m : Marks). m.polls) marks) in record { rests = rests; settles = so.0; grows = so.1; marks = marks }
 
-pub is_full : (parts : KeyParts) (word : ℕ) → parts ≡ parts_of word → not parts.filled ≡ false → is_filled word ≡ true
-is_full parts word is full = ap (λ (p : KeyParts). p.filled) (sym is) ∙ not_false parts.filled full
+-- a fill has it at its look
+pub look_settles : {table : Table} {spare : Spare} {call : WriterCall} {rows : List Row} {found : ℕ} {before after : MapSeat} → HasLooked table spare call found before after → looked table.shape (desk_with spare Idle) call found ≡ settled table.shape (desk_with spare Idle) call rows → HasSet table spare 1 call rows before after
+look_settles {table = table} {call = call} {before = before} {after = after} looks is = has_set looks.rests (subst (λ (o : Desk × Step). LeadsIn 1 table (call_of call) o before after) is looks.leads) looks.marks
 
-pub asked_so : (parts : KeyParts) (word : ℕ) → parts ≡ parts_of word → not parts.ask ≡ false → has_ask word ≡ true
-asked_so parts word is asked = ap (λ (p : KeyParts). p.ask) (sym is) ∙ not_false parts.ask asked
+-- and it had the slot, and put the set there, or found none
+module _ {table : Table} {spare after_spare : Spare} {steps : ℕ} {call given : WriterCall} {rows : List Row} {before mid after : MapSeat} (set : HasSet table spare steps call rows before mid) (is : given ≡ call) where
+  pub has_published : PublishesSet table given rows spare after_spare mid after → RestsAt (token after).table after_spare after × Publishes steps (token before) (call_of call) rows (token after)
+  has_published published = let so = publishes_so table spare before set.rests steps call rows mid after set.grows set.marks after_spare (subst (λ (c : WriterCall). PublishesSet table c rows spare after_spare mid after) is published) in (rests_own table after_spare after so.0, so.1)
 
-pub unasked_so : (parts : KeyParts) (word : ℕ) → parts ≡ parts_of word → not parts.ask ≡ true → has_ask word ≡ false
-unasked_so parts word is unasked = ap (λ (p : KeyParts). p.ask) (sym is) ∙ not_true parts.ask unasked
-
-pub slot_so : (parts : KeyParts) (word : ℕ) → parts ≡ parts_of word → parts.slot ≡ slot_of word
-slot_so parts word is = ap (λ (p : KeyParts). p.slot) is
-
--- what a look tells, at the map's own table
-module _ (board table : Table) (board_is : board ≡ table) (spare : Spare) (before : MapSeat) (own : (token before).table ≡ table) (kept : RestsAt (token before).table spare before) (call : WriterCall) (found : ℕ) (after : MapSeat)
-    (told : (desk : Desk) → before.me.0.role ≡ Writer desk → LeadsIn 1 board (call_of call) (looked board.shape desk call found) before after) (marks : after.me.0.marks ≡ with_polls before.me.0.marks []) where
-  abbrev pub rests : RestsAt table spare before
-  rests = rests_here table spare before own kept
-
-  -- the outcome of the look
-  pub look_goes : (outcome : Desk × Step) → looked table.shape (desk_with spare Idle) call found ≡ outcome → LeadsIn 1 table (call_of call) outcome before after
-  look_goes outcome is = subst (λ (p : Table × (Desk × Step)). LeadsIn 1 p.0 (call_of call) p.1 before after) (λ j. (board_is j, (ap (λ (t : Table). looked t.shape (desk_with spare Idle) call found) board_is ∙ is) j)) (told (desk_with spare Idle) kept.writes.role)
-
-  -- the call ends with its look
-  pub look_ends : (answer : Reply) → looked table.shape (desk_with spare Idle) call found ≡ (desk_with spare Idle, ended answer)
-      → RestsAt (token after).table spare after × (Gains 1 (token before) (call_of call) answer (token after) × SlotsStay (token before) (token after))
-  look_ends answer is = let ended_so = ends table spare before rests 1 (call_of call) answer spare after refl (look_goes (desk_with spare Idle, ended answer) is) in
-      (rests_own table spare after ended_so.0, (ended_so.1, (same_slots table spare before rests after ended_so.0, marks)))
-
--- THE OUTCOMES OF LOOKS, by the word that was found
-
-module _ (shape : Shape) (desk : Desk) (key word : ℕ) where
-  pub find_hole : is_filled word ≡ false → looked shape desk (Find key) word ≡ (moved_to desk Idle, ended reply.Hole)
-  find_hole empty = ap (λ (b : Bool). cond {A = Desk × Step} b (moved_to desk (Reading (Find key) (slot_of word) []), Going) (moved_to desk Idle, ended reply.Hole)) empty
-
-  pub find_reads : is_filled word ≡ true → looked shape desk (Find key) word ≡ (moved_to desk (Reading (Find key) (slot_of word) []), Going)
-  find_reads full = ap (λ (b : Bool). cond {A = Desk × Step} b (moved_to desk (Reading (Find key) (slot_of word) []), Going) (moved_to desk Idle, ended reply.Hole)) full
-
-  pub evict_nothing : is_filled word ≡ false → looked shape desk (Evict key) word ≡ (moved_to desk Idle, ended reply.Nothing)
-  evict_nothing empty = ap (λ (b : Bool). cond {A = Desk × Step} b (moved_to desk (Leaving key), Going) (moved_to desk Idle, ended reply.Nothing)) empty
-
-  pub evict_leaves : is_filled word ≡ true → looked shape desk (Evict key) word ≡ (moved_to desk (Leaving key), Going)
-  evict_leaves full = ap (λ (b : Bool). cond {A = Desk × Step} b (moved_to desk (Leaving key), Going) (moved_to desk Idle, ended reply.Nothing)) full
-
-  pub cancel_filled : is_filled word ≡ true → looked shape desk (Cancel key) word ≡ (moved_to desk Idle, ended reply.Nothing)
-  cancel_filled full = ap (λ (b : Bool). cond {A = Desk × Step} b (moved_to desk Idle, ended reply.Nothing) (cond {A = Desk × Step} (has_ask word) (cancel_asked desk key (slot_of word)) (moved_to desk Idle, ended reply.Nothing))) full
-
-  pub cancel_unasked : is_filled word ≡ false → has_ask word ≡ false → looked shape desk (Cancel key) word ≡ (moved_to desk Idle, ended reply.Nothing)
-  cancel_unasked empty unasked = (λ j. cond {A = Desk × Step} (empty j) (moved_to desk Idle, ended reply.Nothing) (cond {A = Desk × Step} (unasked j) (cancel_asked desk key (slot_of word)) (moved_to desk Idle, ended reply.Nothing)))
-
-  -- of an asked key, by whether its number is the last one
-  cancel_of_asked : is_filled word ≡ false → has_ask word ≡ true → looked shape desk (Cancel key) word ≡ cancel_asked desk key (slot_of word)
-  cancel_of_asked empty asked = (λ j. cond {A = Desk × Step} (empty j) (moved_to desk Idle, ended reply.Nothing) (cond {A = Desk × Step} (asked j) (cancel_asked desk key (slot_of word)) (moved_to desk Idle, ended reply.Nothing)))
-
-  pub cancel_worn : is_filled word ≡ false → has_ask word ≡ true → last_number ≤ slot_of word → looked shape desk (Cancel key) word ≡ (moved_to desk Idle, ended reply.Worn)
-  cancel_worn empty asked last = cancel_of_asked empty asked ∙ ap (λ (b : Bool). cond {A = Desk × Step} b (moved_to desk (Withdrawing key), Going) (moved_to desk Idle, ended reply.Worn)) (le-ltb (slot_of word) last_number last)
-
-  pub cancel_withdraws : is_filled word ≡ false → has_ask word ≡ true → slot_of word < last_number → looked shape desk (Cancel key) word ≡ (moved_to desk (Withdrawing key), Going)
-  cancel_withdraws empty asked early = cancel_of_asked empty asked ∙ ap (λ (b : Bool). cond {A = Desk × Step} b (moved_to desk (Withdrawing key), Going) (moved_to desk Idle, ended reply.Worn)) (lt-ltb (slot_of word) last_number early)
-
-  module _ (number : ℕ) (rows : List Row) where
-    pub fill_already : is_filled word ≡ true → looked shape desk (Fill key number rows) word ≡ (moved_to desk Idle, ended reply.Already)
-    fill_already full = ap (λ (b : Bool). cond {A = Desk × Step} b (moved_to desk Idle, ended reply.Already) (cond {A = Desk × Step} (has_ask word) (fill_asked shape desk (Fill key number rows) number rows (slot_of word)) (moved_to desk Idle, ended reply.NotAsked))) full
-
-    pub fill_not_asked : is_filled word ≡ false → has_ask word ≡ false → looked shape desk (Fill key number rows) word ≡ (moved_to desk Idle, ended reply.NotAsked)
-    fill_not_asked empty unasked = (λ j. cond {A = Desk × Step} (empty j) (moved_to desk Idle, ended reply.Already) (cond {A = Desk × Step} (unasked j) (fill_asked shape desk (Fill key number rows) number rows (slot_of word)) (moved_to desk Idle, ended reply.NotAsked)))
-
-    -- of an asked key, by the number of its request
-    fill_of_asked : is_filled word ≡ false → has_ask word ≡ true → looked shape desk (Fill key number rows) word ≡ fill_asked shape desk (Fill key number rows) number rows (slot_of word)
-    fill_of_asked empty asked = (λ j. cond {A = Desk × Step} (empty j) (moved_to desk Idle, ended reply.Already) (cond {A = Desk × Step} (asked j) (fill_asked shape desk (Fill key number rows) number rows (slot_of word)) (moved_to desk Idle, ended reply.NotAsked)))
-
-    pub fill_stale : is_filled word ≡ false → has_ask word ≡ true → slot_of word ≢ number → looked shape desk (Fill key number rows) word ≡ (moved_to desk Idle, ended reply.Stale)
-    fill_stale empty asked other = fill_of_asked empty asked ∙ ap (λ (b : Bool). cond {A = Desk × Step} b (settled shape desk (Fill key number rows) rows) (moved_to desk Idle, ended reply.Stale)) (ne_eqb (slot_of word) number other)
-
-    pub fill_settles : is_filled word ≡ false → has_ask word ≡ true → slot_of word ≡ number → looked shape desk (Fill key number rows) word ≡ settled shape desk (Fill key number rows) rows
-    fill_settles empty asked own = fill_of_asked empty asked ∙ ap (λ (b : Bool). cond {A = Desk × Step} b (settled shape desk (Fill key number rows) rows) (moved_to desk Idle, ended reply.Stale)) (eq-eqb (slot_of word) number own)
-
-  module _ (batch : List Delta) where
-    pub update_dropped : is_filled word ≡ false → looked shape desk (Update key batch) word ≡ (moved_to desk Idle, ended reply.Dropped)
-    update_dropped empty = ap (λ (b : Bool). cond {A = Desk × Step} b (moved_to desk (Reading (Update key batch) (slot_of word) []), Going) (moved_to desk Idle, ended reply.Dropped)) empty
-
-    pub update_reads : is_filled word ≡ true → looked shape desk (Update key batch) word ≡ (moved_to desk (Reading (Update key batch) (slot_of word) []), Going)
-    update_reads full = ap (λ (b : Bool). cond {A = Desk × Step} b (moved_to desk (Reading (Update key batch) (slot_of word) []), Going) (moved_to desk Idle, ended reply.Dropped)) full
+  pub has_lacked : {counts : NoSlot} → LacksSlot table given counts spare after_spare mid after → RestsAt (token after).table after_spare after × HasNoSlot steps (token before) (call_of call) counts (token after)
+  has_lacked {counts = counts} lacking = let so = lacks_so table spare before set.rests steps call rows mid after set.grows set.marks after_spare counts (subst (λ (c : WriterCall). LacksSlot table c counts spare after_spare mid after) is lacking) in (rests_own table after_spare after so.0, so.1)
 
 -- the swap that evicts the key
-pub evicted_so : (table : Table) (spare : Spare) (before : MapSeat) → (token before).table ≡ table → RestsAt (token before).table spare before → (key : ℕ) (mid : MapSeat) → LeadsIn 1 table (model.Evict key) (moved_to (desk_with spare Idle) (Leaving key), Going) before mid → mid.me.0.marks ≡ with_polls before.me.0.marks []
-    → (found : ℕ) (after : MapSeat) → GoesOn table found mid after → (after_spare : Spare) → after_spare ≡ record spare { retired = spare.retired ++ unnamed found }
-    → RestsAt (token after).table after_spare after × (Gains 2 (token before) (model.Evict key) reply.Evicted (token after) × ((token after).fresh ≡ (token before).fresh) × ((token after).numbers ≡ (token before).numbers) × RetiresOne key (token before) (token before).retired (token after).retired × (after.me.0.marks ≡ without_name (with_polls before.me.0.marks []) key))
-evicted_so table spare before own kept key mid leads only_polls found after goes after_spare retires =
-    let rests_so = rests_here table spare before own kept in let desk = desk_with spare (Leaving key) in let gone = goes desk leads.writes.role in let told = gone.leads in
-    let all : LeadsIn 2 table (model.Evict key) (desk_with after_spare Idle, ended reply.Evicted) before after = record {
-      writes = subst (λ (s : Spare). WritesAt table (desk_with s Idle) after) (sym retires) told.writes;
-      grows = grows_both 1 1 2 (token before) (token mid) _ (token after) (omega arith) leads.grows told.grows;
-      short = λ counts without. absurd (not_reply counts reply.Evicted without);
-    } in
-    let ended_so = ends table spare before rests_so 2 (model.Evict key) reply.Evicted after_spare after (ap (λ (s : Spare). s.slots) retires) all in
-    let slots = spare_shown table after_spare after ended_so.0 ∙ retires ∙ ap (λ (s : Spare). record s { retired = s.retired ++ unnamed found }) (sym (spare_shown table spare before rests_so)) in
-    let legal = (legal_goes_on_lem (opening_map (token before).table) gone.log (entry 0 (model.Evict key) reply.Evicted)).1.1 (subst (IsLegal (opening_map (token before).table)) gone.seen all.grows.legal) in (
-      rests_own table after_spare after ended_so.0,
-      (
-        ended_so.1,
-        ap (λ (s : Spare). s.fresh) slots,
-        ap (λ (s : Spare). s.numbers) slots,
-        evicted_one found (token before) (token before).retired (token after).retired (ap (λ (s : Spare). s.retired) slots) (map_after before.me.0.shape gone.log) key legal.1
-            (gone.finds.state ∙ ap (λ (t : Table). kind_of (state_of (map_after t.shape gone.log) key)) (sym own)) (ap (λ (m : Marks). get_or m.names key 0) (sym only_polls) ∙ gone.finds.name),
-        gone.marks.0 ∙ ap (λ (m : Marks). without_name m key) only_polls,
-      ),
-    )
+module _ {table : Table} {spare : Spare} {key word : ℕ} {before mid : MapSeat} (looks : HasLooked table spare (Evict key) word before mid) (leaves : looked table.shape (desk_with spare Idle) (Evict key) word ≡ (desk_with spare (Leaving key), Going)) where
+  pub about_to_leave : LeadsIn 1 table (model.Evict key) (desk_with spare (Leaving key), Going) before mid
+  about_to_leave = subst (λ (o : Desk × Step). LeadsIn 1 table (model.Evict key) o before mid) leaves looks.leads
+
+  pub has_evicted : {board : Table} {found : ℕ} {after : MapSeat} {after_spare : Spare} → board ≡ table → GoesOn board found mid after → after_spare ≡ record spare { retired = spare.retired ++ unnamed found }
+      → RestsAt (token after).table after_spare after × (Gains 2 (token before) (model.Evict key) reply.Evicted (token after) × ((token after).fresh ≡ (token before).fresh) × ((token after).numbers ≡ (token before).numbers) × RetiresOne key (token before) (token before).retired (token after).retired × (after.me.0.marks ≡ without_name (with_polls before.me.0.marks []) key))
+  has_evicted {found = found} {after = after} {after_spare = after_spare} board_is goes retires =
+      let gone = subst (λ (t : Table). GoesOn t found mid after) board_is goes (desk_with spare (Leaving key)) about_to_leave.writes.role in let told = gone.leads in
+      let all : LeadsIn 2 table (model.Evict key) (desk_with after_spare Idle, ended reply.Evicted) before after = record {
+        writes = subst (λ (s : Spare). WritesAt table (desk_with s Idle) after) (sym retires) told.writes;
+        grows = grows_both 1 1 2 (token before) (token mid) _ (token after) (omega arith) about_to_leave.grows told.grows;
+        short = λ counts without. absurd (not_reply counts reply.Evicted without);
+      } in
+      let ended_so = ends table spare before looks.rests 2 (model.Evict key) reply.Evicted after_spare after (ap (λ (s : Spare). s.slots) retires) all in
+      let slots = spare_shown table after_spare after ended_so.0 ∙ retires ∙ ap (λ (s : Spare). record s { retired = s.retired ++ unnamed found }) (sym (spare_shown table spare before looks.rests)) in
+      let legal = (legal_goes_on_lem (opening_map (token before).table) gone.log (entry 0 (model.Evict key) reply.Evicted)).1.1 (subst (IsLegal (opening_map (token before).table)) gone.seen all.grows.legal) in (
+        rests_own table after_spare after ended_so.0,
+        (
+          ended_so.1,
+          ap (λ (s : Spare). s.fresh) slots,
+          ap (λ (s : Spare). s.numbers) slots,
+          evicted_one found (token before) (token before).retired (token after).retired (ap (λ (s : Spare). s.retired) slots) (map_after before.me.0.shape gone.log) key legal.1
+              (gone.finds.state ∙ ap (λ (t : Table). kind_of (state_of (map_after t.shape gone.log) key)) (sym looks.own)) (ap (λ (m : Marks). get_or m.names key 0) (sym looks.marks) ∙ gone.finds.name),
+          gone.marks.0 ∙ ap (λ (m : Marks). without_name m key) looks.marks,
+        ),
+      )
 
 -- the swap that takes the key's request back
-pub cancelled_so : (table : Table) (spare : Spare) (before : MapSeat) → (token before).table ≡ table → RestsAt (token before).table spare before → (key : ℕ) (mid : MapSeat) → LeadsIn 1 table (model.Cancel key) (moved_to (desk_with spare Idle) (Withdrawing key), Going) before mid → mid.me.0.marks ≡ with_polls before.me.0.marks []
-    → (found : ℕ) (after : MapSeat) → GoesOn table found mid after → (after_spare : Spare) → after_spare ≡ record spare { numbers = slice_set spare.numbers key (slice_index spare.numbers key + 1) }
-    → RestsAt (token after).table after_spare after × (Gains 2 (token before) (model.Cancel key) reply.Cancelled (token after) × (spare_of (token after) ≡ record (spare_of (token before)) { numbers = slice_set (token before).numbers key (slice_index (token before).numbers key + 1) }) × (after.me.0.marks ≡ with_polls before.me.0.marks []))
-cancelled_so table spare before own kept key mid leads only_polls found after goes after_spare renumbers =
-    let rests_so = rests_here table spare before own kept in let gone = goes (desk_with spare (Withdrawing key)) leads.writes.role in let told = gone.leads in
-    let all : LeadsIn 2 table (model.Cancel key) (desk_with after_spare Idle, ended reply.Cancelled) before after = record {
-      writes = subst (λ (s : Spare). WritesAt table (desk_with s Idle) after) (sym renumbers) told.writes;
-      grows = grows_both 1 1 2 (token before) (token mid) _ (token after) (omega arith) leads.grows told.grows;
-      short = λ counts without. absurd (not_reply counts reply.Cancelled without);
-    } in
-    let ended_so = ends table spare before rests_so 2 (model.Cancel key) reply.Cancelled after_spare after (ap (λ (s : Spare). s.slots) renumbers) all in (
-      rests_own table after_spare after ended_so.0,
-      (
-        ended_so.1,
-        spare_shown table after_spare after ended_so.0 ∙ renumbers ∙ ap (λ (s : Spare). record s { numbers = slice_set s.numbers key (slice_index s.numbers key + 1) }) (sym (spare_shown table spare before rests_so)),
-        gone.marks.0 ∙ only_polls,
-      ),
-    )
+module _ {table : Table} {spare : Spare} {key word : ℕ} {before mid : MapSeat} (looks : HasLooked table spare (Cancel key) word before mid) (withdraws : looked table.shape (desk_with spare Idle) (Cancel key) word ≡ (desk_with spare (Withdrawing key), Going)) where
+  pub about_to_withdraw : LeadsIn 1 table (model.Cancel key) (desk_with spare (Withdrawing key), Going) before mid
+  about_to_withdraw = subst (λ (o : Desk × Step). LeadsIn 1 table (model.Cancel key) o before mid) withdraws looks.leads
 
--- the writer is about to read the slot that the word named
-pub reads_at : (table : Table) (spare : Spare) (call : WriterCall) (named slot : ℕ) (seat : MapSeat) → slot ≡ named → WritesAt table (desk_with spare (Reading call named [])) seat → WritesAt table (moved_to (desk_of seat.me.0.role) (Reading call slot [])) seat
-reads_at table spare call named slot seat same writes = subst (λ (p : Desk × ℕ). WritesAt table (moved_to p.0 (Reading call p.1 [])) seat) (λ j. (ap desk_of (sym writes.role) j, sym same j)) writes
+  pub has_cancelled : {board : Table} {found : ℕ} {after : MapSeat} {after_spare : Spare} → board ≡ table → GoesOn board found mid after → after_spare ≡ record spare { numbers = slice_set spare.numbers key (slice_index spare.numbers key + 1) }
+      → RestsAt (token after).table after_spare after × (Gains 2 (token before) (model.Cancel key) reply.Cancelled (token after) × (spare_of (token after) ≡ record (spare_of (token before)) { numbers = slice_set (token before).numbers key (slice_index (token before).numbers key + 1) }) × (after.me.0.marks ≡ with_polls before.me.0.marks []))
+  has_cancelled {found = found} {after = after} {after_spare = after_spare} board_is goes renumbers =
+      let gone = subst (λ (t : Table). GoesOn t found mid after) board_is goes (desk_with spare (Withdrawing key)) about_to_withdraw.writes.role in let told = gone.leads in
+      let all : LeadsIn 2 table (model.Cancel key) (desk_with after_spare Idle, ended reply.Cancelled) before after = record {
+        writes = subst (λ (s : Spare). WritesAt table (desk_with s Idle) after) (sym renumbers) told.writes;
+        grows = grows_both 1 1 2 (token before) (token mid) _ (token after) (omega arith) about_to_withdraw.grows told.grows;
+        short = λ counts without. absurd (not_reply counts reply.Cancelled without);
+      } in
+      let ended_so = ends table spare before looks.rests 2 (model.Cancel key) reply.Cancelled after_spare after (ap (λ (s : Spare). s.slots) renumbers) all in (
+        rests_own table after_spare after ended_so.0,
+        (
+          ended_so.1,
+          spare_shown table after_spare after ended_so.0 ∙ renumbers ∙ ap (λ (s : Spare). record s { numbers = slice_set s.numbers key (slice_index s.numbers key + 1) }) (sym (spare_shown table spare before looks.rests)),
+          gone.marks.0 ∙ looks.marks,
+        ),
+      )
 
--- a read-through, with the steps before it
-pub read_through : (table : Table) (spare : Spare) (call : WriterCall) (slot : ℕ) (before mid after : MapSeat) → LeadsIn 1 table (call_of call) (desk_with spare (Reading call slot []), Going) before mid
-    → (rows : List Row) → LeadsIn (2 * length rows + 1) table (call_of call) (decided table.shape (desk_of mid.me.0.role) call rows) mid after → LeadsIn (2 * length rows + 2) table (call_of call) (decided table.shape (desk_with spare (Reading call slot [])) call rows) before after
-read_through table spare call slot before mid after leads rows then =
-    let led = subst (λ (d : Desk). LeadsIn (2 * length rows + 1) table (call_of call) (decided table.shape d call rows) mid after) (ap desk_of leads.writes.role) then in record {
-      writes = led.writes;
-      grows = grows_both 1 (2 * length rows + 1) (2 * length rows + 2) (token before) (token mid) _ (token after) (omega arith) leads.grows led.grows;
-      short = led.short;
-    }
+-- READS OF THE KEY'S SET
 
--- the same of an update: the set that was read is the key's, and only the list of polls began anew
-pub update_read : (table : Table) (spare : Spare) (key : ℕ) (batch : List Delta) (slot : ℕ) (before mid after : MapSeat) → LeadsIn 1 table (model.Update key batch) (desk_with spare (Reading (Update key batch) slot []), Going) before mid → mid.me.0.marks ≡ with_polls before.me.0.marks []
-    → (rows : List Row) → LeadsIn (2 * length rows + 1) table (model.Update key batch) (decided table.shape (desk_of mid.me.0.role) (Update key batch) rows) mid after → KeyHas table (Update key batch) rows (decided table.shape (desk_of mid.me.0.role) (Update key batch) rows).1 after → after.me.0.marks ≡ mid.me.0.marks
-    → let outcome = decided table.shape (desk_with spare (Reading (Update key batch) slot [])) (Update key batch) rows in LeadsIn (2 * length rows + 2) table (model.Update key batch) outcome before after × KeyHas table (Update key batch) rows outcome.1 after × (after.me.0.marks ≡ with_polls before.me.0.marks [])
-update_read table spare key batch slot before mid after looks marks rows reads had same = (
-  read_through table spare (Update key batch) slot before mid after looks rows reads,
-  subst (λ (d : Desk). KeyHas table (Update key batch) rows (decided table.shape d (Update key batch) rows).1 after) (ap desk_of looks.writes.role) had,
-  same ∙ marks,
-)
+-- the call's look found the key filled, and the call has read the set
+pub record HasRead (table : Table) (spare : Spare) (call : WriterCall) (slot : ℕ) (rows : List Row) (before after : MapSeat) : Type 0 where
+  pub own : (token before).table ≡ table
+  pub rests : RestsAt table spare before
+  pub row_set : IsRowSet (bound_of table.shape) rows
+  pub leads : LeadsIn (2 * length rows + 2) table (call_of call) (decided table.shape (desk_with spare (Reading call slot [])) call rows) before after
+  pub had : KeyHas table call rows (decided table.shape (desk_with spare (Reading call slot [])) call rows).1 after
+  pub marks : after.me.0.marks ≡ with_polls before.me.0.marks []
 
--- a find of the writer's own that reads the key's set
-pub found_so : (table : Table) (spare : Spare) (before : MapSeat) → (token before).table ≡ table → RestsAt (token before).table spare before → (key slot : ℕ) (mid : MapSeat) → LeadsIn 1 table (model.Find key) (desk_with spare (Reading (Find key) slot []), Going) before mid
-    → (rows : List Row) (after : MapSeat) → LeadsIn (2 * length rows + 1) table (model.Find key) (decided table.shape (desk_of mid.me.0.role) (Find key) rows) mid after → after.me.0.marks ≡ with_polls before.me.0.marks []
+module _ {table : Table} {spare : Spare} {call given : WriterCall} {found : ℕ} {before mid : MapSeat} (looks : HasLooked table spare call found before mid) (reads : looked table.shape (desk_with spare Idle) call found ≡ (desk_with spare (Reading call (slot_of found) []), Going)) (is : given ≡ call) where
+  leads_there : LeadsIn 1 table (call_of call) (desk_with spare (Reading call (slot_of found) []), Going) before mid
+  leads_there = subst (λ (o : Desk × Step). LeadsIn 1 table (call_of call) o before mid) reads looks.leads
+
+  -- the writer is about to read the slot that the word named
+  pub about_to_read : {slot : ℕ} → slot ≡ slot_of found → WritesAt table (moved_to (desk_of mid.me.0.role) (Reading given slot [])) mid × (slot < table.shape.slots)
+  about_to_read {slot = slot} same = (
+    subst (λ (p : Desk × WriterCall × ℕ). WritesAt table (moved_to p.0 (Reading p.1 p.2 [])) mid) (λ j. (ap desk_of (sym leads_there.writes.role) j, sym is j, sym same j)) leads_there.writes,
+    omega (arith, leads_there.writes.room.place.0, same),
+  )
+
+  pub has_read : {rows : List Row} {after : MapSeat} → ReadsAll table given rows mid after → HasRead table spare call (slot_of found) rows before after
+  has_read {rows = rows} {after = after} read = let outcome = λ (desk : Desk) (c : WriterCall). decided table.shape desk c rows in let same = ap desk_of leads_there.writes.role in
+      let then = subst (λ (p : Desk × WriterCall). LeadsIn (2 * length rows + 1) table (call_of p.1) (outcome p.0 p.1) mid after) (λ j. (same j, is j)) read.leads in record {
+        own = looks.own;
+        rests = looks.rests;
+        row_set = read.row_set;
+        leads = record { writes = then.writes; grows = grows_both 1 (2 * length rows + 1) (2 * length rows + 2) (token before) (token mid) _ (token after) (omega arith) leads_there.grows then.grows; short = then.short };
+        had = subst (λ (p : Desk × WriterCall). KeyHas table p.1 rows (outcome p.0 p.1).1 after) (λ j. (same j, is j)) read.had;
+        marks = read.marks ∙ looks.marks;
+      }
+
+-- a find of the writer's own
+pub has_found : {table : Table} {spare : Spare} {key slot : ℕ} {rows : List Row} {before after : MapSeat} → HasRead table spare (Find key) slot rows before after
     → RestsAt (token after).table spare after × (Gains (2 * length rows + 2) (token before) (model.Find key) (reply.Rows rows) (token after) × SlotsStay (token before) (token after))
-found_so table spare before own kept key slot mid leads rows after then marks =
-    let rests_so = rests_here table spare before own kept in let all = read_through table spare (Find key) slot before mid after leads rows then in
-    let ended_so = ends table spare before rests_so (2 * length rows + 2) (model.Find key) (reply.Rows rows) spare after refl all in
-    (rests_own table spare after ended_so.0, (ended_so.1, (same_slots table spare before rests_so after ended_so.0, marks)))
+has_found {table = table} {spare = spare} {key = key} {rows = rows} {before = before} {after = after} read =
+    let ended_so = ends table spare before read.rests (2 * length rows + 2) (model.Find key) (reply.Rows rows) spare after refl read.leads in
+    (rests_own table spare after ended_so.0, (ended_so.1, (same_slots table spare before read.rests after ended_so.0, read.marks)))
 
 -- an update whose batch is refused, or gives a new set
-module _ (table : Table) (spare : Spare) (before : MapSeat) (own : (token before).table ≡ table) (kept : RestsAt (token before).table spare before) (key : ℕ) (batch : List Delta) (slot : ℕ) (rows : List Row) (after : MapSeat)
-    (leads : LeadsIn (2 * length rows + 2) table (model.Update key batch) (decided table.shape (desk_with spare (Reading (Update key batch) slot [])) (Update key batch) rows) before after) (key_has : KeyHas table (Update key batch) rows (decided table.shape (desk_with spare (Reading (Update key batch) slot [])) (Update key batch) rows).1 after)
-    (marks : after.me.0.marks ≡ with_polls before.me.0.marks []) where
+module _ {table : Table} {spare : Spare} {key slot : ℕ} {batch : List Delta} {rows : List Row} {before after : MapSeat} (read : HasRead table spare (Update key batch) slot rows before after) where
+  abbrev at_read : Desk
+  at_read = desk_with spare (Reading (Update key batch) slot [])
+
+  leads_by : (left : Result (List Row) ApplyFault) → applied (bound_of table.shape) rows batch ≡ left → LeadsIn (2 * length rows + 2) table (model.Update key batch) (renewed table.shape at_read (Update key batch) left) before after
+  leads_by left is = subst (λ (r : Result (List Row) ApplyFault). LeadsIn (2 * length rows + 2) table (model.Update key batch) (renewed table.shape at_read (Update key batch) r) before after) is read.leads
+
+  seen_by : (left : Result (List Row) ApplyFault) → applied (bound_of table.shape) rows batch ≡ left → after.me.0.seen ≡ read.had.log ++ ending (model.Update key batch) (renewed table.shape at_read (Update key batch) left).1
+  seen_by left is = read.had.seen ∙ ap (λ (r : Result (List Row) ApplyFault). read.had.log ++ ending (model.Update key batch) (renewed table.shape at_read (Update key batch) r).1) is
+
   -- the map before the update is that of the table
   own_map : (log : List Entry) (number : ℕ) → state_of (map_after table.shape log) key ≡ states.Rows number rows → state_of (map_after before.me.0.shape log) key ≡ states.Rows number rows
-  own_map log number had = ap (λ (t : Table). state_of (map_after t.shape log) key) own ∙ had
+  own_map log number had = ap (λ (t : Table). state_of (map_after t.shape log) key) read.own ∙ had
 
-  pub refused_so : (why : ApplyFault) → applied (bound_of table.shape) rows batch ≡ Err why
+  pub has_refused : (why : ApplyFault) → applied (bound_of table.shape) rows batch ≡ Err why
       → RestsAt (token after).table spare after × ((gains : Gains (2 * length rows + 2) (token before) (model.Update key batch) (applied_reply (Err why)) (token after)) × KeyHad key rows (token before) gains.between × SlotsStay (token before) (token after))
-  refused_so why is =
-      let rests_so = rests_here table spare before own kept in let desk = desk_with spare (Reading (Update key batch) slot []) in
-      let all = subst (λ (r : Result (List Row) ApplyFault). LeadsIn (2 * length rows + 2) table (model.Update key batch) (renewed table.shape desk (Update key batch) r) before after) is leads in
-      let ended_so = ends table spare before rests_so (2 * length rows + 2) (model.Update key batch) (applied_reply (Err why)) spare after refl all in
-      let seen_is = key_has.seen ∙ ap (λ (r : Result (List Row) ApplyFault). key_has.log ++ ending (model.Update key batch) (renewed table.shape desk (Update key batch) r).1) is in
-      let log_is = before_last ((token before).seen ++ ended_so.1.between) key_has.log _ _ (sym ended_so.1.seen ∙ seen_is) in
-      (rests_own table spare after ended_so.0, (ended_so.1, (key_has.number, ap (λ (l : List Entry). state_of (map_after before.me.0.shape l) key) log_is ∙ own_map key_has.log key_has.number key_has.state), (same_slots table spare before rests_so after ended_so.0, marks)))
+  has_refused why is =
+      let ended_so = ends table spare before read.rests (2 * length rows + 2) (model.Update key batch) (applied_reply (Err why)) spare after refl (leads_by (Err why) is) in
+      let log_is = before_last ((token before).seen ++ ended_so.1.between) read.had.log _ _ (sym ended_so.1.seen ∙ seen_by (Err why) is) in
+      let had = ap (λ (l : List Entry). state_of (map_after before.me.0.shape l) key) log_is ∙ own_map read.had.log read.had.number read.had.state in
+      (rests_own table spare after ended_so.0, (ended_so.1, (read.had.number, had), (same_slots table spare before read.rests after ended_so.0, read.marks)))
 
-  pub renewed_so : (left : List Row) → applied (bound_of table.shape) rows batch ≡ Ok left → Settles table (Update key batch) left spare after × Grows (2 * length rows + 2) (token before) [] (token after) × (state_of (map_after table.shape after.me.0.seen) key ≡ states.Rows key_has.number rows)
-  renewed_so left is =
-      let rests_so = rests_here table spare before own kept in let desk = desk_with spare (Reading (Update key batch) slot []) in
-      let all = subst (λ (r : Result (List Row) ApplyFault). LeadsIn (2 * length rows + 2) table (model.Update key batch) (renewed table.shape desk (Update key batch) r) before after) is leads in
-      let settles = settles_so table spare before rests_so (2 * length rows + 2) (Update key batch) left after all (ap (λ (m : Marks). m.polls) marks) in
-      let seen_is = key_has.seen ∙ ap (λ (r : Result (List Row) ApplyFault). key_has.log ++ ending (model.Update key batch) (renewed table.shape desk (Update key batch) r).1) is
-      ∙ ap (λ (l : List Entry). key_has.log ++ l) (settled_quiet table.shape desk (Update key batch) left (model.Update key batch)) ∙ append-nil key_has.log in
-      (settles.0, settles.1, ap (λ (l : List Entry). state_of (map_after table.shape l) key) seen_is ∙ key_has.state)
+  module _ {left : List Row} (is : applied (bound_of table.shape) rows batch ≡ Ok left) where
+    pub has_renewed : HasSet table spare (2 * length rows + 2) (Update key batch) left before after
+    has_renewed = has_set read.rests (leads_by (Ok left) is) read.marks
 
-  module _ (left : List Row) (is : applied (bound_of table.shape) rows batch ≡ Ok left) (near : key < table.shape.keys) (last : MapSeat) (after_spare : Spare) where
+    still_has : state_of (map_after table.shape after.me.0.seen) key ≡ states.Rows read.had.number rows
+    still_has = let quiet = ap (λ (l : List Entry). read.had.log ++ l) (settled_quiet table.shape at_read (Update key batch) left (model.Update key batch)) ∙ append-nil read.had.log in
+        ap (λ (l : List Entry). state_of (map_after table.shape l) key) (seen_by (Ok left) is ∙ quiet) ∙ read.had.state
+
     -- the key had the set until the update's entry, if it was done, or to the end
-    had_still : (steps sum : ℕ) (entries mine : List Entry) (then : Grows steps (token after) entries (token last)) (all : Grows sum (token before) mine (token last)) → entries_of entries 0 ≡ entries → (token before).seen ++ all.between ≡ (token after).seen ++ then.between → KeyHad key rows (token before) all.between
-    had_still steps sum entries mine then all ours same = let settled_so = renewed_so left is in let grows = settled_so.1 in
-        had_before table.shape key key_has.number rows (token before) (token after) (token last) sum steps entries mine (ap (λ (t : Table). t.shape) own) near (grows.number ∙ ap number_of kept.writes.role) grows.own ours then all same grows.table settled_so.2
+    had_still : (near : key < table.shape.keys) (last : MapSeat) (steps sum : ℕ) (entries mine : List Entry) (then : Grows steps (token after) entries (token last)) (all : Grows sum (token before) mine (token last)) → entries_of entries 0 ≡ entries → (token before).seen ++ all.between ≡ (token after).seen ++ then.between → KeyHad key rows (token before) all.between
+    had_still near last steps sum entries mine then all ours same = let grows = has_renewed.grows in
+        had_before table.shape key read.had.number rows (token before) (token after) (token last) sum steps entries mine (ap (λ (t : Table). t.shape) read.own) near (grows.number ∙ ap number_of read.rests.writes.role) grows.own ours then all same grows.table still_has
 
-    pub published_had : (sum : ℕ) → (published : PublishesSet table (Update key batch) left spare after_spare after last) → (all : Gains sum (token before) (model.Update key batch) reply.Done (token last)) → KeyHad key rows (token before) all.between
-    published_had sum published all = let then = published.grows in had_still _ sum _ _ then all refl (before_last ((token before).seen ++ all.between) ((token after).seen ++ then.between) _ _ (sym all.seen ∙ then.seen))
+    module _ {given : WriterCall} (given_is : given ≡ Update key batch) (near : key < table.shape.keys) where
+      pub has_updated : {last : MapSeat} {after_spare : Spare} → PublishesSet table given left spare after_spare after last
+          → RestsAt (token last).table after_spare last × ((published : Publishes (2 * length rows + 2) (token before) (model.Update key batch) left (token last)) × KeyHad key rows (token before) published.gains.between)
+      has_updated {last = last} {after_spare = after_spare} put = let put_here = subst (λ (c : WriterCall). PublishesSet table c left spare after_spare after last) given_is put in
+          let so = has_published has_renewed refl put_here in let then = put_here.grows in let all = so.1.gains in
+          (so.0, (so.1, had_still near last _ _ _ _ then all refl (before_last ((token before).seen ++ all.between) ((token after).seen ++ then.between) _ _ (sym all.seen ∙ then.seen))))
 
-    pub lacking_had : (sum : ℕ) (counts : NoSlot) → (lacking : LacksSlot table (Update key batch) counts spare after_spare after last) → (all : Grows sum (token before) [] (token last)) → KeyHad key rows (token before) all.between
-    lacking_had sum counts lacking all = let then = lacking.grows in had_still _ sum [] [] then all refl (sym (append-nil ((token before).seen ++ all.between)) ∙ sym all.seen ∙ then.seen ∙ append-nil ((token after).seen ++ then.between))
+      pub has_not_updated : {counts : NoSlot} {last : MapSeat} {after_spare : Spare} → LacksSlot table given counts spare after_spare after last
+          → RestsAt (token last).table after_spare last × ((without : HasNoSlot (2 * length rows + 2) (token before) (model.Update key batch) counts (token last)) × KeyHad key rows (token before) without.grows.between)
+      has_not_updated {last = last} lacking = let so = has_lacked has_renewed given_is lacking in let then = lacking.grows in let all = so.1.grows in
+          (so.0, (so.1, had_still near last _ _ [] [] then all refl (sym (append-nil ((token before).seen ++ all.between)) ∙ sym all.seen ∙ then.seen ∙ append-nil ((token after).seen ++ then.between))))

@@ -19,3 +19,5 @@ pub mod Searches
 pub mod Answers
 pub mod ExactPlaces
 pub mod SlotBounds
+pub mod HeldRows
+pub mod NamedRows

@@ -4,7 +4,7 @@ use Rattle.nr_core.specs.declared.roles.Role.{Role}
 use Rattle.nr_core.specs.declared.roles.Role.TheVariants.{Note}
 use Rattle.nr_core.specs.Roles.{is_reader, is_writer}
 use Rattle.nr_marks.specs.Marks.{no_marks, told_by}
-use Rattle.nr_map.specs.Views.{View}
+use Rattle.nr_map.specs.Views.{no_shape, View}
 
 -- a writer or a reader, and no note
 abbrev pub IsCaller : Role → Type 0
@@ -23,4 +23,4 @@ with_note view note = record view { told = note.seen; told_pasts = note.pasts; s
 
 -- what is left of a note
 abbrev pub spent : View
-spent = note_of (record { role = Note; shape = record { keys = 0; slots = 0; readers = 0; first_count = 0; first_number = 0 }; made = 0; seen = []; told = []; mine = []; steps = 0; marks = no_marks; pasts = []; told_pasts = [] })
+spent = note_of (record { role = Note; shape = no_shape; made = 0; seen = []; told = []; mine = []; steps = 0; marks = no_marks; pasts = []; told_pasts = [] })

@@ -67,6 +67,10 @@ slot_held role = slot_in (grip_of role)
 abbrev pub rows_held : Role → List Row
 rows_held role = rows_in (grip_of role)
 
+-- the shape in a view that nobody has
+abbrev pub no_shape : Shape
+no_shape = record { keys = 0; slots = 0; readers = 0; first_count = 0; first_number = 0; rows = 0 }
+
 -- the first token is the writer's
 abbrev pub opener : Shape → View
 opener shape = record { role = Writer (opening_desk shape); shape = shape; made = 0; seen = []; told = []; mine = []; steps = 0; marks = opening_marks shape; pasts = []; told_pasts = [] }

@@ -46,7 +46,7 @@ pub enum UpdateFault {
     Dropped,
     #[error("a row to be taken away is not there")]
     NoRow,
-    #[error("more than 15 rows would be left")]
+    #[error("more rows would be left than a key may have")]
     TooMany,
     #[error("no slot is to be had")]
     NoSlot(NoSlot),

@@ -1,6 +1,7 @@
 //! The table of words. It is private to this module, whose functions make one step each.
 ghost use Rattle.std.specs.Prelude.{ℕ, ◌≡◌, ◌<◌, ◌≤◌, ◌^◌, true, false, [], length, slice_index, IfOk};
 ghost use Rattle.nr_model.specs.Maps.{state_of};
+ghost use Rattle.nr_model.specs.declared.rows.TheConstants.{MAX_ROWS};
 ghost use Rattle.nr_model.specs.declared.calls.Call.TheVariants as model;
 ghost use Rattle.nr_model.specs.declared.calls.Reply.TheVariants as reply;
 ghost use Rattle.nr_words.specs.KeyWords.{is_filled, slot_of};
@@ -13,7 +14,7 @@ ghost use Rattle.nr_core.specs.States.{key_of};
 ghost use Rattle.nr_core.specs.Steps.{ask_word};
 ghost use Rattle.nr_core.specs.Story.{call_of};
 ghost use Rattle.nr_core.specs.Writer.{looked};
-ghost use Rattle.nr_core.specs.Slots.{bound_of, content};
+ghost use Rattle.nr_core.specs.Slots.{bound_of, content, layout};
 ghost use Rattle.nr_core.specs.Roles.{is_writer};
 ghost use Rattle.nr_core.specs.Sizes.{IsShape};
 ghost use Rattle.nr_map.specs.Views.{rows_held, with_reader, next_reader, opener};
@@ -32,10 +33,10 @@ use crate::rule::{
 };
 use crate::view::View;
 use atomic_table::Table;
-use nr_core::{Shape, WriterCall};
+use nr_core::Shape;
 use nr_words::{ARRIVE, Layout, hole_word, naming, opening_words};
 use std::alloc::{AllocError, Global};
-use std::marker::{Brand, Model};
+use std::marker::Model;
 
 pub type Seat = atomic_table::Seat<(), View>;
 
@@ -52,12 +53,12 @@ impl Model for Board {
     ghost Value = { MapTable };
 
     ghost use Rattle.nr_words.specs.Places.{total_of};
-    ghost use Rattle.nr_core.specs.Slots.{slot_room, layout};
+    ghost use Rattle.nr_core.specs.Slots.{layout};
     ghost use Rattle.nr_core.specs.Sizes.{IsShape};
 
     ghost view = { λ board. record { id = board.table.shared.table_id; shape = board.shape } };
 
-    ghost invariant = { λ board. (board.table.shared.key ≡ board.shape) × (board.table.shared.table_id.words ≡ total_of slot_room (layout board.shape)) × (0 < board.shape.keys) × (board.shape.keys < 2 ^ 32) × IsShape board.shape };
+    ghost invariant = { λ board. (board.table.shared.key ≡ board.shape) × (board.table.shared.table_id.words ≡ total_of (layout board.shape)) × (0 < board.shape.keys) × (board.shape.keys < 2 ^ 32) × IsShape board.shape };
 }
 
 /// What a token has seen, noted in a step that counts once another token takes the note in. So a
@@ -86,6 +87,7 @@ impl Board {
         let layout = Layout {
             keys: shape.keys,
             slots: shape.slots,
+            rows: shape.rows,
         };
         let words = opening_words(alloc, layout, shape.first_count, shape.first_number)?;
         let (table, seat) = Table::of_words(alloc, &words, &shape)?;
@@ -145,7 +147,7 @@ impl Board {
     }
 
     /// A reader reads a content word of the slot that it holds, whose first one stands at `begin`.
-    pub fn read(&self, seat: &mut Seat, begin: u64, index: u32) -> u64
+    pub fn read(&self, seat: &mut Seat, begin: u64, index: u64) -> u64
         requires reader { HoldsAt self.now begin seat.old }
         requires index { index < length (encode (rows_held seat.old.me.0.role)) }
         ensures value { result ≡ slice_index (encode (rows_held seat.old.me.0.role)) index }
@@ -156,7 +158,7 @@ impl Board {
         ensures marks { seat.new.me.0.marks ≡ seat.old.me.0.marks }
     {
         let words = &self.table.shared;
-        let place = begin + u64::from(index);
+        let place = begin + index;
         words.load::<Reads>(seat, place as usize)
     }
 
@@ -173,36 +175,26 @@ impl Board {
     }
 
     /// The writer looks at the key of a call: its word.
-    pub fn look(&self, seat: &mut Seat, call: &WriterCall) -> u64
+    pub fn look<G: Given>(&self, seat: &mut Seat, key: u32) -> u64
         requires writer { IsBetween self.now seat.old }
-        requires given { IsGivenCall (bound_of self.now.shape) call.now }
-        requires key { key_of call.now < self.now.shape.keys }
-        ensures leads { (desk : Desk) → seat.old.me.0.role ≡ Writer desk → LeadsTo self.now (call_of call.now) (looked self.now.shape desk call.now result) seat.old seat.new }
-        ensures marks { seat.new.me.0.marks ≡ with_polls seat.old.me.0.marks [] }
-    {
-        self.look_given::<Brand>(seat, call)
-    }
-
-    fn look_given<G: Given>(&self, seat: &mut Seat, call: &WriterCall) -> u64
-        requires writer { IsBetween self.now seat.old }
-        requires given { IsGivenCall (bound_of self.now.shape) call.now }
-        requires key { key_of call.now < self.now.shape.keys }
-        requires call { G.call ≡ call.now }
-        ensures leads { (desk : Desk) → seat.old.me.0.role ≡ Writer desk → LeadsTo self.now (call_of call.now) (looked self.now.shape desk call.now result) seat.old seat.new }
+        requires given { IsGivenCall (bound_of self.now.shape) G.call }
+        requires call { key ≡ key_of G.call }
+        requires key { key < self.now.shape.keys }
+        ensures leads { (desk : Desk) → seat.old.me.0.role ≡ Writer desk → LeadsTo self.now (call_of G.call) (looked self.now.shape desk G.call result) seat.old seat.new }
         ensures marks { seat.new.me.0.marks ≡ with_polls seat.old.me.0.marks [] }
     {
         let words = &self.table.shared;
-        words.load::<Looks<G>>(seat, call.key() as usize)
+        words.load::<Looks<G>>(seat, key as usize)
     }
 
     /// The writer reads a content word of the slot that its key names, whose first one stands at
     /// `begin`.
-    pub fn read_on(&self, seat: &mut Seat, begin: u64, index: u32) -> u64
+    pub fn read_on(&self, seat: &mut Seat, begin: u64, index: u64) -> u64
         requires { IsReading self.now begin index seat.old }
         ensures { GoesOn self.now result seat.old seat.new }
     {
         let words = &self.table.shared;
-        let place = begin + u64::from(index);
+        let place = begin + index;
         words.load::<Goes>(seat, place as usize)
     }
 
@@ -218,12 +210,12 @@ impl Board {
 
     /// The writer puts a content word into the slot that it took, whose first one stands at
     /// `begin`.
-    pub fn put(&self, seat: &mut Seat, begin: u64, index: u32, word: u64)
+    pub fn put(&self, seat: &mut Seat, begin: u64, index: u64, word: u64)
         requires { IsPutting self.now begin index word seat.old }
         ensures { (desk : Desk) → seat.old.me.0.role ≡ Writer desk → PutsTo self.now desk seat.old seat.new }
     {
         let words = &self.table.shared;
-        let place = begin + u64::from(index);
+        let place = begin + index;
         words.store::<Puts>(seat, place as usize, word);
     }
 
@@ -308,12 +300,13 @@ impl Board {
     }
 
     fn layout(&self) -> Layout
-        ensures keys { result.keys ≡ self.now.shape.keys }
-        ensures slots { result.slots ≡ self.now.shape.slots }
+        ensures value { result ≡ layout self.now.shape }
+        ensures few { self.now.shape.rows ≤ MAX_ROWS }
     {
         Layout {
             keys: self.shape.keys,
             slots: self.shape.slots,
+            rows: self.shape.rows,
         }
     }
 }

@@ -1,12 +1,16 @@
 //! Requests that are taken back, in worked calls, beside a thread that asks again, and in many
 //! scripts against the sequential model.
 ghost use Rattle.std.specs.Prelude.{◌≡◌, ◌<◌, IfOk};
-ghost use Rattle.nr_model.specs.Maps.{key_count, key_of};
+ghost use Rattle.std.specs.Bool.{OnTrue};
+ghost use Rattle.nr_model.specs.Maps.{FillFits, key_count, key_of};
 
+use crate::tests::fill;
 use crate::{
     Asked, Cancel, Evict, FillFault, Found, KeyKind, Reader, ReaderMap, Shape, UpdateFault, Writer,
 };
-use nr_model::{Batch, Call, Delta, KeyState, LAST_NUMBER, OpenFault, Reply, Row, RowSet, SeqMap};
+use nr_model::{
+    Batch, Call, DEFAULT_ROWS, Delta, KeyState, LAST_NUMBER, OpenFault, Reply, Row, RowSet, SeqMap,
+};
 use std::alloc::Global;
 use std::test::Fail;
 use std::thread::{Threads, join};
@@ -45,6 +49,7 @@ fn one_key(first_number: u64) -> Shape {
         readers: 1,
         first_count: 0,
         first_number,
+        rows: DEFAULT_ROWS,
     }
 }
 
@@ -61,12 +66,12 @@ fn a_late_answer_is_stale_and_the_last_number_is_worn(rt: HostRuntime) -> Result
     assert_eq!(rt; map.number(&writer, 0), 4_194_303);
     assert_eq!(rt; spent(map.ask(&mut reader, 0)), Told::Send(0, 4_194_303));
     assert_eq!(rt;
-        map.fill(&mut writer, 0, 4_194_302, &one),
+        fill(&map, &mut writer, 0, 4_194_302, &one)?,
         Err(FillFault::Stale)
     );
     assert_eq!(rt; map.cancel(&mut writer, 0), Cancel::Worn);
     assert_eq!(rt; spent(map.ask(&mut reader, 0)), Told::Waiting);
-    assert_eq!(rt; map.fill(&mut writer, 0, 4_194_303, &one), Ok(()));
+    assert_eq!(rt; fill(&map, &mut writer, 0, 4_194_303, &one)?, Ok(()));
     assert_eq!(rt; map.cancel(&mut writer, 0), Cancel::Nothing);
     assert_eq!(rt; map.evict(&mut writer, 0), Evict::Evicted);
     assert_eq!(rt;
@@ -75,7 +80,7 @@ fn a_late_answer_is_stale_and_the_last_number_is_worn(rt: HostRuntime) -> Result
     );
     assert_eq!(rt; spent(map.ask(&mut reader, 0)), Told::Send(0, 4_194_303));
     let number = map.number(&writer, 0);
-    assert_eq!(rt; map.fill(&mut writer, 0, number, &one_row(2)?), Ok(()));
+    assert_eq!(rt; fill(&map, &mut writer, 0, number, &one_row(2)?)?, Ok(()));
     Ok(())
 }
 
@@ -189,7 +194,7 @@ fn a_late_answer_is_refused_beside_a_reader_that_asks_again(rt: HostRuntime) -> 
         assert_eq!(rt; spent(map.ask(&mut reader, 0)), again);
     }
     assert_eq!(rt; spent(map.ask(&mut reader, 0)), Told::Waiting);
-    assert_eq!(rt; map.fill(&mut writer, 0, 1, &one_row(1)?), Ok(()));
+    assert_eq!(rt; fill(&map, &mut writer, 0, 1, &one_row(1)?)?, Ok(()));
     assert_eq!(rt; spent(map.ask(&mut reader, 0)), Told::Filled);
     Ok(())
 }
@@ -241,6 +246,15 @@ impl Dice {
     }
 }
 
+fn fits(call: &Call, rows: u32) -> bool
+    ensures { OnTrue result (FillFits rows call.now) }
+{
+    match call {
+        Call::Fill(_, _, set) => set.len() <= rows as usize,
+        _ => true,
+    }
+}
+
 /// Makes the call on the map: whether its answer is the reply.
 fn answers(
     map: &ReaderMap,
@@ -251,6 +265,7 @@ fn answers(
 ) -> bool
     requires own { (writer.old.table ≡ map.now) × (reader.old.table ≡ map.now) }
     requires key { key_of call.now < map.now.shape.keys }
+    requires fits { FillFits map.now.shape.rows call.now }
     ensures own { (writer.new.table ≡ map.now) × (reader.new.table ≡ map.now) }
 {
     match call {
@@ -351,6 +366,9 @@ fn agrees(
         return Ok(false);
     }
     let call = dice.call(model)?;
+    if !fits(&call, model.rows()) || !fits(&call, map.rows()) {
+        return Ok(false);
+    }
     let reply = model.call(&call);
     let same = answers(map, writer, reader, &call, &reply);
     if model.keys() != map.keys() {
@@ -385,12 +403,13 @@ fn runs_as_the_model(alloc: Global, seed: u64) -> Result<bool, Fail> {
         readers: 1,
         first_count: seed,
         first_number: LAST_NUMBER - dice.roll(3),
+        rows: 1 + dice.roll(3) as u32,
     };
     let (map, writer, mut readers) = ReaderMap::open_with(alloc, &shape)?;
     let Some(reader) = readers.pop() else {
         return Ok(false);
     };
-    let model = SeqMap::open_with(alloc, keys, shape.first_number)?;
+    let model = SeqMap::open_with(alloc, keys, shape.first_number, shape.rows)?;
     runs_as(&map, writer, reader, model, dice)
 }
 

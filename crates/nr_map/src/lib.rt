@@ -23,8 +23,10 @@ mod board;
 #[cfg(test)]
 mod cancel_tests;
 mod cancels;
+mod held_rows;
 pub mod laws;
 mod meetings;
+mod named_rows;
 mod only_proved;
 mod pin;
 #[cfg(test)]
@@ -33,6 +35,8 @@ mod publish;
 mod read_through;
 mod reader;
 mod reader_map;
+#[cfg(test)]
+mod row_tests;
 mod rule;
 #[cfg(test)]
 mod slot_tests;

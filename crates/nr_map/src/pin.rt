@@ -1,14 +1,15 @@
 //! A reader that holds a set, and reads it as often as it likes.
-ghost use Rattle.std.specs.Prelude.{◌≡◌, ◌<◌, ◌≤◌, length, slice_get, IsSome, None, Some};
-ghost use Rattle.nr_model.specs.declared.rows.TheConstants.{MAX_ROWS};
+ghost use Rattle.std.specs.Prelude.{◌≡◌, ◌<◌, ◌≤◌, ◌*◌, length, slice_get, IsSome, None, Some};
 ghost use Rattle.nr_model.specs.Rows.{IsRowSet};
 ghost use Rattle.nr_marks.specs.Marks.{acted};
 ghost use Rattle.nr_map.specs.Callers.{Rests};
 
 use crate::board::Seat;
+use crate::held_rows::HeldRows;
+use crate::only_proved::only_proved;
 use crate::reader::Reader;
 use crate::reader_map::ReaderMap;
-use nr_model::Row;
+use nr_model::{Row, RowSet};
 use nr_words::parts;
 use std::marker::Model;
 
@@ -69,8 +70,8 @@ impl Pin {
     /// How many rows the set has. Takes no step.
     pub fn len(&self) -> u32
         ensures len { result ≡ length self.now.rows }
-        ensures few { result ≤ MAX_ROWS }
-        ensures row_set { IsRowSet MAX_ROWS self.now.rows }
+        ensures few { result ≤ self.now.reader.table.shape.rows }
+        ensures row_set { IsRowSet self.now.reader.table.shape.rows self.now.rows }
         ensures holds { IsSome self.now.reader.holds }
     {
         self.count
@@ -86,7 +87,25 @@ impl Pin {
         ensures holds { self.new.reader.holds ≡ self.old.reader.holds }
         ensures marks { self.new.reader.marks ≡ self.old.reader.marks }
     {
-        map.read_row(&mut self.seat, self.begin, i)
+        map.read_row(&mut self.seat, self.begin, u64::from(i))
+    }
+
+    /// Writes the rows of the set over those of the caller's, in 2 steps a row.
+    pub fn copy_to(&mut self, map: &ReaderMap, rows: &mut RowSet)
+        requires own { self.old.reader.table ≡ map.now }
+        ensures copied { rows.new ≡ self.old.rows }
+        ensures rows { self.new.rows ≡ self.old.rows }
+        ensures rests { Rests (2 * length self.old.rows) self.old.reader self.new.reader }
+        ensures holds { self.new.reader.holds ≡ self.old.reader.holds }
+        ensures marks { self.new.reader.marks ≡ self.old.reader.marks }
+    {
+        only_proved(map.rows());
+        let mut source = HeldRows {
+            map,
+            seat: &mut self.seat,
+            begin: self.begin,
+        };
+        rows.refill(self.count as usize, &mut source);
     }
 
     /// Ends the hold, in 1 step, and gives the reader back.

@@ -2,6 +2,7 @@
 ghost use Rattle.std.specs.Prelude.{◌≡◌, ◌<◌, All, IfOk};
 
 use super::{Asked, Found, KeyKind, Reader, ReaderMap, Writer};
+use crate::tests::fill;
 use nr_model::{Batch, Delta, OpenFault, Row, RowSet};
 use std::alloc::Global;
 use std::sync::atomic::{AtomicBool, Ordering};
@@ -167,7 +168,7 @@ fn pinned_set_outlives_an_update(rt: HostRuntime) -> Result<(), Fail> {
     let two = readers.pop().ok_or("no second reader")?;
     let mut one = readers.pop().ok_or("no first reader")?;
     assert!(rt; request(&map, &mut one, 0));
-    map.fill(&mut writer, 0, 0, &RowSet::of(&[row(5, 6)])?)?;
+    fill(&map, &mut writer, 0, 0, &RowSet::of(&[row(5, 6)])?)??;
     let batch = Batch::of(&[delta(false, row(5, 6)), delta(true, row(7, 8))])?;
     let ((held, mut one), ((updated, mut writer), (asked, mut two))) = all_three(
         &rt, &map, one, two, writer, &batch,

@@ -10,9 +10,10 @@ ghost use Rattle.nr_map.specs.WriterSeats.{Knows, Settles, WritesAt};
 use crate::board::Seat;
 use crate::only_proved::only_proved;
 use crate::reader_map::ReaderMap;
-use nr_core::{NoSlot, Spare, WriterCall};
-use nr_model::RowSet;
-use nr_words::{CONTENT_WORDS, encode, same_count};
+use crate::rule::Given;
+use nr_core::{NoSlot, Spare};
+use nr_model::Row;
+use nr_words::same_count;
 
 /// A slot that a call took, and its departures.
 #[derive(Clone, Copy)]
@@ -27,59 +28,56 @@ impl ReaderMap {
     /// Takes a slot for the set of a call, puts the set there, and names the slot at the call's
     /// key; the slot that the key named before is retired. Takes the polls of the search, a put for
     /// each word of the set, and one swap.
-    pub(crate) fn publish(
+    pub(crate) fn publish<G: Given>(
         &self,
         seat: &mut Seat,
         spare: &mut Spare,
-        call: &WriterCall,
-        rows: &RowSet,
+        key: u32,
+        rows: &[Row],
     ) -> Result<(), NoSlot>
-        requires settles { Settles self.now call.now rows.now spare.old seat.old }
-        requires key { key_of call.now < self.now.shape.keys }
-        ensures { PublishesFor self.now call.now rows.now spare.old spare.new seat.old seat.new result }
+        requires settles { Settles self.now G.call rows.now spare.old seat.old }
+        requires call { key ≡ key_of G.call }
+        requires key { key < self.now.shape.keys }
+        ensures { PublishesFor self.now G.call rows.now spare.old spare.new seat.old seat.new result }
     {
-        let taken = self.take_slot(seat, spare, call, rows)?;
-        self.put_rows(seat, call, rows, taken);
-        let old_word = self
-            .board
-            .publish(seat, call.key(), taken.slot, taken.departures);
+        let taken = self.take_slot::<G>(seat, spare, rows)?;
+        self.put_rows::<G>(seat, rows, taken);
+        let old_word = self.board.publish(seat, key, taken.slot, taken.departures);
         spare.retire(old_word);
         Ok(())
     }
 
     // Takes a slot for the set of a call: the next one that was never taken, without a step, or
     // else the first retired one that no reader holds, by one poll of each up to it.
-    fn take_slot(
+    fn take_slot<G: Given>(
         &self,
         seat: &mut Seat,
         spare: &mut Spare,
-        call: &WriterCall,
-        rows: &RowSet,
+        rows: &[Row],
     ) -> Result<Taken, NoSlot>
-        requires { Settles self.now call.now rows.now spare.old seat.old }
-        ensures { TakesFor self.now call.now rows.now spare.old spare.new seat.old seat.new result }
+        requires { Settles self.now G.call rows.now spare.old seat.old }
+        ensures { TakesFor self.now G.call rows.now spare.old spare.new seat.old seat.new result }
     {
         if let Some(slot) = spare.take_fresh() {
             let departures = self.board.shape().first_count;
             return Ok(Taken { slot, departures });
         }
-        self.poll_retired(seat, spare, call, rows)
+        self.poll_retired::<G>(seat, spare, rows)
     }
 
-    fn poll_retired(
+    fn poll_retired<G: Given>(
         &self,
         seat: &mut Seat,
         spare: &mut Spare,
-        call: &WriterCall,
-        rows: &RowSet,
+        rows: &[Row],
     ) -> Result<Taken, NoSlot>
-        requires settles { Settles self.now call.now rows.now spare.old seat.old }
+        requires settles { Settles self.now G.call rows.now spare.old seat.old }
         requires none_fresh { spare.old.slots ≤ spare.old.fresh }
-        ensures { TakesFor self.now call.now rows.now spare.old spare.new seat.old seat.new result }
+        ensures { TakesFor self.now G.call rows.now spare.old spare.new seat.old seat.new result }
     {
-        only_proved((call, rows));
-        for place in 0..spare.retired().len() {
-            let entry = spare.retired()[place];
+        only_proved(rows);
+        for place in 0..spare.retired_len() {
+            let entry = spare.retired_at(place);
             let departures = self.board.poll(seat, entry.slot);
             if same_count(departures, entry.arrivals) {
                 spare.take_retired(place);
@@ -92,19 +90,19 @@ impl ReaderMap {
         Err(spare.counts())
     }
 
-    fn put_rows(&self, seat: &mut Seat, call: &WriterCall, rows: &RowSet, taken: Taken)
-        requires writer { WritesAt self.now (moved_to (desk_of seat.old.me.0.role) (Putting call.now rows.now taken.slot taken.departures 0)) seat.old }
+    fn put_rows<G: Given>(&self, seat: &mut Seat, rows: &[Row], taken: Taken)
+        requires writer { WritesAt self.now (moved_to (desk_of seat.old.me.0.role) (Putting G.call rows.now taken.slot taken.departures 0)) seat.old }
         requires knows { Knows (token seat.old) }
-        ensures writer { WritesAt self.now (moved_to (desk_of seat.old.me.0.role) (Putting call.now rows.now taken.slot taken.departures (2 * length rows.now + 1))) seat.new }
+        ensures writer { WritesAt self.now (moved_to (desk_of seat.old.me.0.role) (Putting G.call rows.now taken.slot taken.departures (2 * length rows.now + 1))) seat.new }
         ensures grows { Grows (2 * length rows.now + 1) (token seat.old) [] (token seat.new) }
         ensures marks { seat.new.me.0.marks ≡ seat.old.me.0.marks }
     {
-        only_proved(call);
         let begin = self.board.content(taken.slot);
-        let mut words = [0; CONTENT_WORDS];
-        encode(rows, &mut words);
-        for index in 0..2 * rows.len() + 1 {
-            self.board.put(seat, begin, index as u32, words[index]);
+        self.board.put(seat, begin, 0, rows.len() as u64);
+        for (i, row) in rows.iter().enumerate() {
+            let index = 2 * i as u64 + 1;
+            self.board.put(seat, begin, index, row.a);
+            self.board.put(seat, begin, index + 1, row.b);
         }
     }
 }

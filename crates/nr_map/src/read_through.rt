@@ -1,35 +1,59 @@
 //! How the writer reads the set of a key.
 ghost use Rattle.std.specs.Prelude.{◌≡◌, ◌+◌, ◌*◌, ◌<◌, [], length};
-ghost use Rattle.nr_core.specs.Story.{call_of};
-ghost use Rattle.nr_core.specs.Writer.{decided, moved_to};
+ghost use Rattle.nr_core.specs.States.{key_of};
 ghost use Rattle.nr_core.specs.declared.places.Place.TheVariants.{Reading};
+ghost use Rattle.nr_core.specs.Writer.{moved_to};
+ghost use Rattle.nr_map.specs.NamedRows.{ReadsAll};
 ghost use Rattle.nr_map.specs.Views.{desk_of};
-ghost use Rattle.nr_map.specs.WriterSeats.{KeyHas, LeadsIn, WritesAt};
+ghost use Rattle.nr_map.specs.WriterSeats.{WritesAt};
 
 use crate::board::Seat;
-use crate::only_proved::only_proved;
+use crate::named_rows::NamedRows;
 use crate::reader_map::ReaderMap;
-use nr_core::WriterCall;
-use nr_model::{Row, RowSet};
+use crate::rule::Given;
+use nr_model::{Pile, RowSet};
+use std::marker::PhantomData;
+use std::snapshot::Snapshot;
 
 impl ReaderMap {
-    /// Writes the set of the slot that the call's key names into `rows`, by one read of each of its
-    /// words.
-    pub(crate) fn read_set(&self, seat: &mut Seat, call: &WriterCall, slot: u32, rows: &mut RowSet)
-        requires writer { WritesAt self.now (moved_to (desk_of seat.old.me.0.role) (Reading call.now slot [])) seat.old }
+    /// Writes the set of the slot that the call's key names over the caller's, by one read of each
+    /// of its words.
+    pub(crate) fn read_set<G: Given>(&self, seat: &mut Seat, slot: u32, rows: &mut RowSet)
+        requires writer { WritesAt self.now (moved_to (desk_of seat.old.me.0.role) (Reading G.call slot [])) seat.old }
         requires slot { slot < self.now.shape.slots }
-        ensures leads { LeadsIn (2 * length rows.new + 1) self.now (call_of call.now) (decided self.now.shape (desk_of seat.old.me.0.role) call.now rows.new) seat.old seat.new }
-        ensures had { KeyHas self.now call.now rows.new (decided self.now.shape (desk_of seat.old.me.0.role) call.now rows.new).1 seat.new }
-        ensures marks { seat.new.me.0.marks ≡ seat.old.me.0.marks }
+        requires key { key_of G.call < self.now.shape.keys }
+        ensures { ReadsAll self.now G.call rows.new seat.old seat.new }
     {
-        only_proved(call);
+        let before = Snapshot::of(seat);
         let begin = self.board.content(slot);
         let count = self.board.read_on(seat, begin, 0);
-        rows.clear();
-        for i in 0..count as u32 {
-            let a = self.board.read_on(seat, begin, 2 * i + 1);
-            let b = self.board.read_on(seat, begin, 2 * i + 2);
-            rows.push(i as usize, Row { a, b });
-        }
+        let mut source: NamedRows<G> = NamedRows {
+            map: self,
+            seat,
+            begin,
+            before: &before,
+            given: PhantomData,
+        };
+        rows.refill(count as usize, &mut source);
+    }
+
+    /// The same into the pile on which an update works.
+    pub(crate) fn read_pile<G: Given>(&self, seat: &mut Seat, slot: u32, pile: &mut Pile)
+        requires writer { WritesAt self.now (moved_to (desk_of seat.old.me.0.role) (Reading G.call slot [])) seat.old }
+        requires slot { slot < self.now.shape.slots }
+        requires key { key_of G.call < self.now.shape.keys }
+        ensures { ReadsAll self.now G.call pile.new seat.old seat.new }
+    {
+        let before = Snapshot::of(seat);
+        let begin = self.board.content(slot);
+        let count = self.board.read_on(seat, begin, 0);
+        let mut source: NamedRows<G> = NamedRows {
+            map: self,
+            seat,
+            begin,
+            before: &before,
+            given: PhantomData,
+        };
+        pile.refill(count as usize, &mut source);
     }
 }

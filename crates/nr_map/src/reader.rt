@@ -6,6 +6,7 @@ ghost use Rattle.nr_map.specs.Seats.{HoldsAt};
 
 use crate::answers::{Asked, Found};
 use crate::board::Seat;
+use crate::held_rows::HeldRows;
 use crate::reader_map::ReaderMap;
 use crate::ticket::Ticket;
 use nr_model::{Row, RowSet};
@@ -98,15 +99,16 @@ impl ReaderMap {
         ensures marks { seat.new.me.0.marks ≡ seat.old.me.0.marks }
     {
         let count = self.board.read(seat, begin, 0);
-        rows.clear();
-        for i in 0..count as u32 {
-            let row = self.read_row(seat, begin, i);
-            rows.push(i as usize, row);
-        }
+        let mut source = HeldRows {
+            map: self,
+            seat,
+            begin,
+        };
+        rows.refill(count as usize, &mut source);
     }
 
     // A row of that set.
-    pub(crate) fn read_row(&self, seat: &mut Seat, begin: u64, i: u32) -> Row
+    pub(crate) fn read_row(&self, seat: &mut Seat, begin: u64, i: u64) -> Row
         requires reader { HoldsAt self.now begin seat.old }
         requires i { i < length (rows_held seat.old.me.0.role) }
         ensures row { slice_get (rows_held seat.old.me.0.role) i ≡ Some result }

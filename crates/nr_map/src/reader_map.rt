@@ -1,5 +1,6 @@
 //! The map.
-ghost use Rattle.std.specs.Prelude.{◌≡◌, ◌<◌, ◌⊎◌, ◌↔◌, [], IfOk, Err};
+ghost use Rattle.std.specs.Prelude.{◌≡◌, ◌<◌, ◌≤◌, ◌⊎◌, ◌↔◌, [], IfOk, Err};
+ghost use Rattle.nr_model.specs.declared.rows.TheConstants.{DEFAULT_ROWS, MAX_ROWS};
 ghost use Rattle.nr_model.specs.declared.seq_map.TheConstants.{MAX_KEYS};
 ghost use Rattle.nr_model.specs.Sizes.{IsBadSize};
 ghost use Rattle.nr_core.specs.Sizes.{IsShape, IsBadShape};
@@ -10,7 +11,7 @@ use crate::board::{Board, Seat};
 use crate::reader::Reader;
 use crate::writer::Writer;
 use nr_core::Shape;
-use nr_model::OpenFault;
+use nr_model::{DEFAULT_ROWS, OpenFault};
 use std::alloc::{AllocError, Global};
 use std::marker::Model;
 
@@ -21,18 +22,21 @@ pub struct ReaderMap {
 }
 
 impl Model for ReaderMap {
+    ghost use Rattle.nr_core.specs.Sizes.{IsShape};
     ghost use Rattle.nr_map.specs.Callers.{Table};
 
     ghost Value = { Table };
 
     ghost view = { λ map. map.board };
+
+    ghost invariant = { λ map. IsShape map.board.shape };
 }
 
 impl ReaderMap {
     /// A map with its writer and its readers, in the order of their numbers. Refused where a size
     /// is out of its limits: 1 to 65,536 keys, 1 to 131,072 slots and 1 to 1,024 readers; and then
     /// where there is no memory. Every slot's count of departures begins at `first_count`, and every
-    /// key's number at 0.
+    /// key's number at 0. A key may have 15 rows.
     pub fn open(
         alloc: Global,
         keys: u32,
@@ -41,7 +45,7 @@ impl ReaderMap {
         first_count: u64,
     ) -> Result<(ReaderMap, Writer, Vec<Reader>), OpenFault>
         ensures bad_size { (result ≡ Err OpenFault.BadSize) ↔ (IsBadSize MAX_KEYS keys ⊎ IsBadSize MAX_SLOTS slots ⊎ IsBadSize MAX_READERS readers) }
-        ensures ok { IfOk result (λ opened. IsOpened (record { keys = keys; slots = slots; readers = readers; first_count = first_count; first_number = 0 }) opened.0 opened.1 opened.2.items) }
+        ensures ok { IfOk result (λ opened. IsOpened (record { keys = keys; slots = slots; readers = readers; first_count = first_count; first_number = 0; rows = DEFAULT_ROWS }) opened.0 opened.1 opened.2.items) }
     {
         let shape = Shape {
             keys,
@@ -49,13 +53,14 @@ impl ReaderMap {
             readers,
             first_count,
             first_number: 0,
+            rows: DEFAULT_ROWS,
         };
         ReaderMap::open_with(alloc, &shape)
     }
 
     /// A map of that shape with its tokens. Every key's number begins at `first_number`, 0 to
-    /// 4,194,303. What is out of its limits, as at `open`, is refused first, and then want of
-    /// memory.
+    /// 4,194,303, and a key may have `rows` rows, 1 to 255. What is out of its limits, as at `open`,
+    /// is refused first, and then want of memory.
     pub fn open_with(
         alloc: Global,
         shape: &Shape,
@@ -88,6 +93,15 @@ impl ReaderMap {
         ensures { result ≡ self.now.shape.readers }
     {
         self.board.shape().readers
+    }
+
+    /// How many rows a key may have: 1 to 255.
+    pub fn rows(&self) -> u32
+        ensures value { result ≡ self.now.shape.rows }
+        ensures positive { 0 < result }
+        ensures bounded { result ≤ MAX_ROWS }
+    {
+        self.board.shape().rows
     }
 }
 

@@ -2,7 +2,7 @@
 //! the threads' steps fall.
 ghost use Rattle.std.specs.Prelude.{◌≡◌, ◌<◌};
 
-use crate::tests::{Told, added, pairs_are, rows_of, spent};
+use crate::tests::{Told, added, fill, pairs_are, rows_of, spent};
 use crate::{Asked, Found, KeyKind, NoSlot, Pin, Reader, ReaderMap, UpdateFault, Writer};
 use nr_model::{Batch, Delta, Row, RowSet};
 use std::test::Fail;
@@ -82,7 +82,7 @@ fn with_slots(rt: &HostRuntime, slots: u32) -> Result<Pinned, Fail> {
     if spent(map.ask(&mut one, 0)) != Told::Send(0) {
         return Err(Fail::from("the key was asked for already"));
     }
-    map.fill(&mut writer, 0, 0, &rows_of(&[(1, 1)])?)?;
+    fill(&map, &mut writer, 0, 0, &rows_of(&[(1, 1)])?)??;
     update_between_pins(&map, &mut writer, one, two)
 }
 
@@ -288,7 +288,7 @@ fn tokens_meet(rt: HostRuntime) -> Result<(), Fail> {
     let mut one = readers.pop().ok_or("no first reader")?;
     assert!(rt; is_sent(map.ask(&mut one, 1), 1));
     assert!(rt; is_sent(map.ask(&mut one, 0), 0));
-    map.fill(&mut writer, 0, 0, &rows_of(&[(5, 5)])?)?;
+    fill(&map, &mut writer, 0, 0, &rows_of(&[(5, 5)])?)??;
     let mut rows = RowSet::new();
     let found = finds_by_meeting(&map, &mut writer, &mut one, &mut two, &mut rows);
     assert_eq!(rt; found, Found::Rows);

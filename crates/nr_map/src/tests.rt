@@ -2,7 +2,7 @@
 ghost use Rattle.std.specs.Prelude.{◌≡◌, ◌<◌};
 
 use crate::{Asked, Evict, FillFault, Found, NoSlot, Reader, ReaderMap, UpdateFault, Writer};
-use nr_model::{Batch, Delta, OpenFault, Row, RowSet};
+use nr_model::{Batch, DEFAULT_ROWS, Delta, OpenFault, Row, RowSet};
 use std::sync::atomic::{AtomicBool, Ordering};
 use std::test::Fail;
 use std::thread::{Threads, join};
@@ -30,9 +30,27 @@ pub fn rows_of(pairs: &[(u64, u64)]) -> Result<RowSet, Fail> {
             plus: true,
             row: Row { a: *a, b: *b },
         }];
-        rows = rows.applied(&Batch::of(&batch)?)?;
+        rows = rows.applied(&Batch::of(&batch)?, DEFAULT_ROWS)?;
     }
     Ok(rows)
+}
+
+/// Fills a key. Fails where the set has more rows than a key may have.
+pub fn fill(
+    map: &ReaderMap,
+    writer: &mut Writer,
+    key: u32,
+    number: u64,
+    rows: &RowSet,
+) -> Result<Result<(), FillFault>, Fail>
+    requires own { writer.old.table ≡ map.now }
+    requires key { key < map.now.shape.keys }
+    ensures own { writer.new.table ≡ map.now }
+{
+    if rows.len() > map.rows() as usize {
+        return Err(Fail::new("too many rows for a key"));
+    }
+    Ok(map.fill(writer, key, number, rows))
 }
 
 pub fn pairs_are(rows: &RowSet, pairs: &[(u64, u64)]) -> bool {
@@ -87,7 +105,10 @@ fn one_of_two_requests_is_sent(rt: HostRuntime) -> Result<(), Fail> {
         (first, second) == (Told::Send(0), Told::Waiting)
             || (first, second) == (Told::Waiting, Told::Send(0))
     );
-    assert_eq!(rt; map.fill(&mut writer, 0, 0, &rows_of(&[(5, 6)])?), Ok(()));
+    assert_eq!(rt;
+        fill(&map, &mut writer, 0, 0, &rows_of(&[(5, 6)])?)?,
+        Ok(())
+    );
     let mut rows = RowSet::new();
     assert_eq!(rt; map.look(&mut writer, 0, &mut rows), Found::Rows);
     assert!(rt; pairs_are(&rows, &[(5, 6)]));
@@ -111,7 +132,10 @@ fn updates_use_slots_again(rt: HostRuntime) -> Result<(), Fail> {
         return Ok(());
     };
     assert_eq!(rt; spent(map.ask(&mut reader, 0)), Told::Send(0));
-    assert_eq!(rt; map.fill(&mut writer, 0, 0, &rows_of(&[(1, 1)])?), Ok(()));
+    assert_eq!(rt;
+        fill(&map, &mut writer, 0, 0, &rows_of(&[(1, 1)])?)?,
+        Ok(())
+    );
     assert_eq!(rt; map.update(&mut writer, 0, &added(2)?), Ok(()));
     assert_eq!(rt; map.update(&mut writer, 0, &added(3)?), Ok(()));
     let mut rows = RowSet::new();
@@ -129,7 +153,7 @@ fn only_a_requested_key_is_filled(rt: HostRuntime) -> Result<(), Fail> {
     assert_eq!(rt; reader.number(), 1);
     assert_eq!(rt; (map.keys(), map.slots(), map.readers()), (2, 1, 1));
     assert_eq!(rt;
-        map.fill(&mut writer, 0, 0, &rows_of(&[(1, 1)])?),
+        fill(&map, &mut writer, 0, 0, &rows_of(&[(1, 1)])?)?,
         Err(FillFault::NotAsked)
     );
     assert_eq!(rt;
@@ -154,8 +178,11 @@ fn a_filled_key_is_refused(rt: HostRuntime) -> Result<(), Fail> {
     };
     let one = rows_of(&[(1, 1)])?;
     assert_eq!(rt; spent(map.ask(&mut reader, 0)), Told::Send(0));
-    assert_eq!(rt; map.fill(&mut writer, 0, 0, &one), Ok(()));
-    assert_eq!(rt; map.fill(&mut writer, 0, 0, &one), Err(FillFault::Already));
+    assert_eq!(rt; fill(&map, &mut writer, 0, 0, &one)?, Ok(()));
+    assert_eq!(rt;
+        fill(&map, &mut writer, 0, 0, &one)?,
+        Err(FillFault::Already)
+    );
     assert_eq!(rt; spent(map.ask(&mut reader, 0)), Told::Filled);
     let lacking = Batch::of(&[Delta {
         plus: false,
@@ -186,17 +213,17 @@ fn a_slot_is_free_again_once_its_key_is_evicted(rt: HostRuntime) -> Result<(), F
     let none = NoSlot { live: 1, held: 0 };
     assert_eq!(rt; spent(map.ask(&mut reader, 0)), Told::Send(0));
     assert_eq!(rt; spent(map.ask(&mut reader, 1)), Told::Send(1));
-    assert_eq!(rt; map.fill(&mut writer, 0, 0, &one), Ok(()));
+    assert_eq!(rt; fill(&map, &mut writer, 0, 0, &one)?, Ok(()));
     assert_eq!(rt;
         map.update(&mut writer, 0, &added(2)?),
         Err(UpdateFault::NoSlot(none))
     );
     assert_eq!(rt;
-        map.fill(&mut writer, 1, 0, &one),
+        fill(&map, &mut writer, 1, 0, &one)?,
         Err(FillFault::NoSlot(none))
     );
     assert_eq!(rt; map.evict(&mut writer, 0), Evict::Evicted);
-    assert_eq!(rt; map.fill(&mut writer, 1, 0, &one), Ok(()));
+    assert_eq!(rt; fill(&map, &mut writer, 1, 0, &one)?, Ok(()));
     let mut rows = RowSet::new();
     assert_eq!(rt; map.look(&mut writer, 1, &mut rows), Found::Rows);
     assert!(rt; pairs_are(&rows, &[(1, 1)]));
@@ -293,7 +320,7 @@ fn write_often(map: &ReaderMap, mut writer: Writer, hits: &Hits) -> Result<bool,
         let evicts = mark % 4 == 3 && hits.both();
         if evicts {
             let _ = map.evict(&mut writer, 0);
-        } else if map.fill(&mut writer, 0, 0, &marked(mark)?) == Err(FillFault::Already) {
+        } else if fill(map, &mut writer, 0, 0, &marked(mark)?)? == Err(FillFault::Already) {
             let _ = map.update(&mut writer, 0, &renewal(&rows, mark)?);
         }
     }
@@ -370,7 +397,7 @@ fn sets_are_found_whole(rt: HostRuntime) -> Result<(), Fail> {
         return Ok(());
     };
     assert_eq!(rt; spent(map.ask(&mut one, 0)), Told::Send(0));
-    assert_eq!(rt; map.fill(&mut writer, 0, 0, &marked(0)?), Ok(()));
+    assert_eq!(rt; fill(&map, &mut writer, 0, 0, &marked(0)?)?, Ok(()));
     let hits = Hits {
         one: AtomicBool::new(false),
         two: AtomicBool::new(false),

@@ -5,10 +5,9 @@ use std::marker::Model;
 pub struct View {}
 
 impl Model for View {
-    ghost use Rattle.nr_core.specs.declared.shape.Shape.{Shape};
-    ghost use Rattle.nr_map.specs.Views.{View as Knowledge, opener};
+    ghost use Rattle.nr_map.specs.Views.{View as Knowledge, no_shape, opener};
 
     ghost Value = { Knowledge };
 
-    ghost view = { λ _. opener (record { keys = 0; slots = 0; readers = 0; first_count = 0; first_number = 0 }) };
+    ghost view = { λ _. opener no_shape };
 }

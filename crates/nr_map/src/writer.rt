@@ -7,6 +7,7 @@ ghost use Rattle.nr_map.specs.Callers.{KnowsOwn, token};
 
 use crate::board::Seat;
 use nr_core::{Shape, Spare};
+use nr_model::Pile;
 use std::alloc::{AllocError, Global};
 use std::marker::Model;
 
@@ -15,6 +16,8 @@ use std::marker::Model;
 pub struct Writer {
     pub(crate) seat: Seat,
     pub(crate) spare: Spare,
+    /// The rows on which an update works, written anew by each.
+    pub(crate) pile: Pile,
 }
 
 impl Model for Writer {
@@ -40,6 +43,7 @@ impl Writer {
         ensures { IfOk result (λ writer. writer ≡ token seat) }
     {
         let spare = Spare::open(alloc, shape)?;
-        Ok(Writer { seat, spare })
+        let pile = Pile::new();
+        Ok(Writer { seat, spare, pile })
     }
 }

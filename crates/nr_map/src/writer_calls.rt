@@ -1,6 +1,7 @@
 //! The writer's calls.
-ghost use Rattle.std.specs.Prelude.{◌≡◌, ◌<◌};
-ghost use Rattle.nr_model.specs.declared.rows.TheConstants.{MAX_ROWS};
+ghost use Rattle.std.specs.Prelude.{◌≡◌, ◌<◌, ◌≤◌, length};
+ghost use Rattle.nr_model.specs.Rows.{IsRowSet};
+ghost use Rattle.nr_core.specs.declared.calls.WriterCall.TheVariants as writer;
 ghost use Rattle.nr_map.specs.Callers.{token};
 ghost use Rattle.nr_map.specs.WriterSeats.{RestsAt};
 
@@ -8,10 +9,12 @@ use crate::answers::{Evict, FillFault, Found, UpdateFault};
 use crate::board::Seat;
 use crate::only_proved::only_proved;
 use crate::reader_map::ReaderMap;
+use crate::rule::Given;
 use crate::writer::Writer;
-use nr_core::{Spare, WriterCall};
-use nr_model::{ApplyFault, Batch, RowSet};
+use nr_core::Spare;
+use nr_model::{ApplyFault, Batch, Pile, Row, RowSet};
 use nr_words::parts;
+use std::marker::Brand;
 
 // A writer's type says that it stands between two calls, and in the midst of one it doesn't. So each
 // public call lends the writer's seat and slots, one by one, to a function of its own.
@@ -25,13 +28,13 @@ impl ReaderMap {
         requires key { key < self.now.shape.keys }
         ensures { LooksAt key writer.old rows.old writer.new rows.new result }
     {
-        self.look_up(&mut writer.seat, &writer.spare, key, rows)
+        self.look_up::<Brand>(&mut writer.seat, &writer.spare, key, rows)
     }
 
-    /// Fills a key that was asked for, by the number of its request. Refused where nobody asked,
-    /// where the key is filled, where the key was asked with another number (`Stale`), and where it
-    /// needs a slot and each one is a filled key's or held by a reader. Takes 1 step where
-    /// it is refused by the key, 2n + 3 and the polls for n rows where it is done, and 1 and a poll
+    /// Fills a key that was asked for, by the number of its request, with at most `rows()` rows.
+    /// Refused where nobody asked, where the key is filled, where the key was asked with another
+    /// number (`Stale`), and where it needs a slot and each one is a filled key's or held by a
+    /// reader. Takes 1 step where it is refused by the key, 2n + 3 and the polls for n rows where it is done, and 1 and a poll
     /// of each retired slot where there is none.
     pub fn fill(
         &self,
@@ -42,9 +45,16 @@ impl ReaderMap {
     ) -> Result<(), FillFault>
         requires own { writer.old.table ≡ self.now }
         requires key { key < self.now.shape.keys }
+        requires few { length rows.now ≤ self.now.shape.rows }
         ensures { FillsKey key number rows.now writer.old writer.new result }
     {
-        self.fill_key(&mut writer.seat, &mut writer.spare, key, number, rows)
+        self.fill_key::<Brand>(
+            &mut writer.seat,
+            &mut writer.spare,
+            key,
+            number,
+            rows.as_slice(),
+        )
     }
 
     /// Applies a batch to the set of a filled key, whole or not at all. Refused where the key is not
@@ -56,9 +66,15 @@ impl ReaderMap {
     pub fn update(&self, writer: &mut Writer, key: u32, batch: &Batch) -> Result<(), UpdateFault>
         requires own { writer.old.table ≡ self.now }
         requires key { key < self.now.shape.keys }
-        ensures { UpdatesKey MAX_ROWS key batch.now writer.old writer.new result }
+        ensures { UpdatesKey self.now.shape.rows key batch.now writer.old writer.new result }
     {
-        self.update_key(&mut writer.seat, &mut writer.spare, key, batch)
+        self.update_key::<Brand>(
+            &mut writer.seat,
+            &mut writer.spare,
+            &mut writer.pile,
+            key,
+            batch,
+        )
     }
 
     /// Makes a filled key a hole, which keeps its number. Takes 2 steps, and 1 where the key is not
@@ -68,10 +84,17 @@ impl ReaderMap {
         requires key { key < self.now.shape.keys }
         ensures { EvictsKey key writer.old writer.new result }
     {
-        self.evict_key(&mut writer.seat, &mut writer.spare, key)
+        self.evict_key::<Brand>(&mut writer.seat, &mut writer.spare, key)
     }
 
-    fn look_up(&self, seat: &mut Seat, spare: &Spare, key: u32, rows: &mut RowSet) -> Found
+    fn look_up<G: Given>(
+        &self,
+        seat: &mut Seat,
+        spare: &Spare,
+        key: u32,
+        rows: &mut RowSet,
+    ) -> Found
+        requires call { G.call ≡ writer.Find key }
         requires own { (token seat.old).table ≡ self.now }
         requires rests { RestsAt (token seat.old).table spare.now seat.old }
         requires key { key < self.now.shape.keys }
@@ -79,33 +102,31 @@ impl ReaderMap {
         ensures looks { LooksAt key (token seat.old) rows.old (token seat.new) rows.new result }
     {
         only_proved(spare);
-        let call = WriterCall::Find(key);
-        let found = parts(self.board.look(seat, &call));
+        let found = parts(self.board.look::<G>(seat, key));
         if !found.filled {
             return Found::Hole;
         }
-        self.read_set(seat, &call, found.slot, rows);
+        self.read_set::<G>(seat, found.slot, rows);
         Found::Rows
     }
 
-    fn fill_key(
+    fn fill_key<G: Given>(
         &self,
         seat: &mut Seat,
         spare: &mut Spare,
         key: u32,
         number: u64,
-        rows: &RowSet,
+        rows: &[Row],
     ) -> Result<(), FillFault>
+        requires call { G.call ≡ writer.Fill key number rows.now }
+        requires row_set { IsRowSet self.now.shape.rows rows.now }
         requires own { (token seat.old).table ≡ self.now }
         requires rests { RestsAt (token seat.old).table spare.old seat.old }
         requires key { key < self.now.shape.keys }
         ensures rests { RestsAt (token seat.new).table spare.new seat.new }
         ensures fills { FillsKey key number rows.now (token seat.old) (token seat.new) result }
     {
-        // That a set is a row set is known once its length was asked for.
-        only_proved(rows.len());
-        let call = WriterCall::Fill(key, number, *rows);
-        let found = parts(self.board.look(seat, &call));
+        let found = parts(self.board.look::<G>(seat, key));
         if found.filled {
             return Err(FillFault::Already);
         }
@@ -115,52 +136,52 @@ impl ReaderMap {
         if u64::from(found.slot) != number {
             return Err(FillFault::Stale);
         }
-        if let Err(counts) = self.publish(seat, spare, &call, rows) {
+        if let Err(counts) = self.publish::<G>(seat, spare, key, rows) {
             return Err(FillFault::NoSlot(counts));
         }
         Ok(())
     }
 
-    fn update_key(
+    fn update_key<G: Given>(
         &self,
         seat: &mut Seat,
         spare: &mut Spare,
+        pile: &mut Pile,
         key: u32,
         batch: &Batch,
     ) -> Result<(), UpdateFault>
+        requires call { G.call ≡ writer.Update key batch.now }
         requires own { (token seat.old).table ≡ self.now }
         requires rests { RestsAt (token seat.old).table spare.old seat.old }
         requires key { key < self.now.shape.keys }
         ensures rests { RestsAt (token seat.new).table spare.new seat.new }
-        ensures updates { UpdatesKey MAX_ROWS key batch.now (token seat.old) (token seat.new) result }
+        ensures updates { UpdatesKey self.now.shape.rows key batch.now (token seat.old) (token seat.new) result }
     {
-        let call = WriterCall::Update(key, *batch);
-        let found = parts(self.board.look(seat, &call));
+        let found = parts(self.board.look::<G>(seat, key));
         if !found.filled {
             return Err(UpdateFault::Dropped);
         }
-        let mut rows = RowSet::new();
-        self.read_set(seat, &call, found.slot, &mut rows);
-        let new_rows = match rows.applied(batch) {
-            Ok(new_rows) => new_rows,
+        self.read_pile::<G>(seat, found.slot, pile);
+        match pile.apply(batch, self.rows()) {
+            Ok(()) => {}
             Err(ApplyFault::NoRow) => return Err(UpdateFault::NoRow),
             Err(ApplyFault::TooMany) => return Err(UpdateFault::TooMany),
-        };
-        if let Err(counts) = self.publish(seat, spare, &call, &new_rows) {
+        }
+        if let Err(counts) = self.publish::<G>(seat, spare, key, pile.as_slice()) {
             return Err(UpdateFault::NoSlot(counts));
         }
         Ok(())
     }
 
-    fn evict_key(&self, seat: &mut Seat, spare: &mut Spare, key: u32) -> Evict
+    fn evict_key<G: Given>(&self, seat: &mut Seat, spare: &mut Spare, key: u32) -> Evict
+        requires call { G.call ≡ writer.Evict key }
         requires own { (token seat.old).table ≡ self.now }
         requires rests { RestsAt (token seat.old).table spare.old seat.old }
         requires key { key < self.now.shape.keys }
         ensures rests { RestsAt (token seat.new).table spare.new seat.new }
         ensures evicts { EvictsKey key (token seat.old) (token seat.new) result }
     {
-        let call = WriterCall::Evict(key);
-        let found = parts(self.board.look(seat, &call));
+        let found = parts(self.board.look::<G>(seat, key));
         if !found.filled {
             return Evict::Nothing;
         }

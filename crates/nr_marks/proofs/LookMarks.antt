@@ -113,7 +113,7 @@ module _ {A : Type 0} (role : A → Role) (marks : A → Marks) where
     decoded_calm call (Some rows) = decided_calm call rows
 
     read_calm : (call : WriterCall) (slot : ℕ) (got : List ℕ) → Calm callers desk (read_on shape desk call slot got)
-    read_calm call slot got = by_cases (λ b. Calm callers desk (cond {A = Desk × Step} b (decoded shape desk call (decode (bound_of shape) got)) (moved_to desk (Reading call slot got), Going))) (nat_eq (length got) (2 * get_or got 0 0 + 1)) (λ _. decoded_calm call (decode (bound_of shape) got)) (λ _. (refl, refl, refl))
+    read_calm call slot got = by_cases (λ b. Calm callers desk (cond {A = Desk × Step} b (decoded shape desk call (decode got)) (moved_to desk (Reading call slot got), Going))) (nat_eq (length got) (2 * get_or got 0 0 + 1)) (λ _. decoded_calm call (decode got)) (λ _. (refl, refl, refl))
 
 none_held : (retired : List Retired) → length retired ≡ 0 → AllHeld retired []
 none_held retired none = record { many = sym none; slots = λ at entry e. absurd (let l = inside retired at entry e in omega arith); different = λ reader. omega arith }
@@ -149,7 +149,7 @@ module _ {A : Type 0} (role : A → Role) (marks : A → Marks) (shape : Shape) 
       let p : Reads shape words (map_after shape log) (held roles) (key_of call) slot got = subst (AtPlace shape words (map_after shape log) (held roles) desk.fresh desk.retired) is_at (core.knows id (Writer desk) there).place in
       let quiet : QuietEnd log entries = subst (QuietEnd log) (sym ans.1) (quiet_end log (call_of call) o.1 calm.2) in
       let NoneThere : Type 0 = (shape.slots ≤ desk.fresh) × (length desk.retired ≡ 0) × (reply_at (bound_of shape) (call_of call) (state_of (map_after shape log) (key_of call)) ≡ reply.Done) in
-      let left : (counts : NoSlot) → o.1 ≡ Ended (writer.NoSlot counts) → NoneThere = λ counts. by_cases (λ b. (cond {A = Desk × Step} b (decoded shape desk call (decode (bound_of shape) got')) (moved_to desk (Reading call slot got'), Going)).1 ≡ Ended (writer.NoSlot counts) → NoneThere) (nat_eq (length got') (2 * get_or got' 0 0 + 1))
+      let left : (counts : NoSlot) → o.1 ≡ Ended (writer.NoSlot counts) → NoneThere = λ counts. by_cases (λ b. (cond {A = Desk × Step} b (decoded shape desk call (decode got')) (moved_to desk (Reading call slot got'), Going)).1 ≡ Ended (writer.NoSlot counts) → NoneThere) (nat_eq (length got') (2 * get_or got' 0 0 + 1))
       (λ yes e. let whole = read_whole shape words roles log core (key_of call) slot got p (eqb-true (length got') (2 * get_or got' 0 0 + 1) yes) in
       let n = decided_none shape desk counts call p.rows (subst (λ o. (decoded shape desk call o).1 ≡ Ended (writer.NoSlot counts)) whole e) in (n.1, n.2, ap (reply_at (bound_of shape) (call_of call)) p.full ∙ n.3 p.number))
       (λ _ e. absurd (let z : 0 ≡ 1 = ap without e in omega arith)) in

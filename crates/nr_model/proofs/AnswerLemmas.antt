@@ -1,15 +1,12 @@
 -- A number that a reply tells, or that a fill is done under, is the key's.
-use Rattle.std.proofs.Common.{◌≡◌, ◌∙◌, ℕ, ◌+◌, ◌<◌, ◌==◌, true, false, List, [], ◌∷◌, ◌++◌, ap, sym, refl, ⊎_elim}
+use Rattle.std.proofs.Common.{◌≡◌, ◌∙◌, ℕ, ◌==◌, ap, sym, refl, ⊎_elim}
 use Rattle.std.proofs.lemmas.Bool.{cases_Bool, false≢true, eqb-true}
-use Rattle.nr_model.specs.declared.rows.Row.{Row}
-use Rattle.nr_model.specs.declared.calls.Call.{Call}
-use Rattle.nr_model.specs.declared.calls.Call.TheVariants.{Ask, Fill}
 use Rattle.nr_model.specs.declared.calls.Reply.{Reply}
 use Rattle.nr_model.specs.declared.calls.Reply.TheVariants as reply
 use Rattle.nr_model.specs.declared.states.KeyState.{KeyState}
 use Rattle.nr_model.specs.declared.states.KeyState.TheVariants.{Hole, Asked, Rows}
-use Rattle.nr_model.specs.Maps.{PartialMap, opening, state_of, number_of, ask_reply, fill_reply, reply_to}
-use Rattle.nr_model.specs.Histories.{Entry, after, IsLegal, is_send, is_done, cancels}
+use Rattle.nr_model.specs.Maps.{PartialMap, opening, number_of, ask_reply, fill_reply, reply_to}
+use Rattle.nr_model.specs.Histories.{after, is_send, is_done}
 use Rattle.nr_model.specs.Laws.{AnswersFitTheirRequests}
 use Rattle.nr_model.proofs.HistoryLemmas.{numbers_count_cancels_lem}
 use Rattle.nr_model.proofs.LawLemmas.{legal_goes_on_lem}

@@ -1,11 +1,13 @@
 -- The laws that functions of the module `laws` show.
 use Rattle.std.specs.Prelude.{ℕ, ◌≡◌, ◌+◌, ◌<◌, ◌≤◌, ◌↔◌, List, [], ◌∷◌, ◌++◌, length, IsTrue, Ok, Err}
+use Rattle.std.specs.List.{All}
 use Rattle.nr_model.specs.declared.rows.Row.{Row}
 use Rattle.nr_model.specs.declared.batches.Delta.{Delta}
 use Rattle.nr_model.specs.declared.batches.ApplyFault.TheVariants as fault
 use Rattle.nr_model.specs.Rows.{is_ascending, in_order, count_of, IsRowSet}
 use Rattle.nr_model.specs.Batches.{applied, positive_rows, negative_rows}
-use Rattle.nr_model.specs.declared.calls.Call.TheVariants.{Ask, Fill}
+use Rattle.nr_model.specs.declared.calls.Call.{Call}
+use Rattle.nr_model.specs.declared.calls.Call.TheVariants.{Find, Ask, Fill, Update, Evict, Cancel}
 use Rattle.nr_model.specs.declared.calls.Reply.TheVariants as reply
 use Rattle.nr_model.specs.declared.states.KeyState.{KeyState}
 use Rattle.nr_model.specs.declared.states.KeyState.TheVariants.{Hole, Asked, Rows}
@@ -92,3 +94,21 @@ AnswersFitTheirRequests =
     key < keys →
     ((e.call ≡ Ask key) → (e.reply ≡ reply.Send number) → number ≡ first_number + cancels history key)
     × ((rows : List Row) → (e.call ≡ Fill key number rows) → (e.reply ≡ reply.Done) → number ≡ first_number + cancels history key)
+
+-- the set of a fill is a row set within the bound
+abbrev pub BringsRowSet : ℕ → Call → Type 0
+BringsRowSet bound (Find key) = Unit {0}
+BringsRowSet bound (Ask key) = Unit {0}
+BringsRowSet bound (Fill key number rows) = IsRowSet bound rows
+BringsRowSet bound (Update key batch) = Unit {0}
+BringsRowSet bound (Evict key) = Unit {0}
+BringsRowSet bound (Cancel key) = Unit {0}
+
+-- whatever is called, each key's rows are a row set within the bound, where each fill brings one
+abbrev pub RowsStayWithinBound : Type 0
+RowsStayWithinBound =
+    (keys bound first_number key number : ℕ) (rows : List Row) (history : List Entry) →
+    All (λ e. BringsRowSet bound e.call) history →
+    key < keys →
+    state_of (after (opening keys bound first_number) history) key ≡ Rows number rows →
+    IsRowSet bound rows

@@ -36,7 +36,7 @@ pub enum BatchFault {
 pub enum ApplyFault {
     #[error("a row to be taken away is not there")]
     NoRow,
-    #[error("more than 15 rows would be left")]
+    #[error("more rows would be left than a key may have")]
     TooMany,
 }
 

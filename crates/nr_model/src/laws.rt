@@ -1,5 +1,5 @@
 //! Laws over the definitions alone. Nothing runs here: each function's contract is the law.
-ghost use Rattle.nr_model.specs.Laws.{OrderKeepsRows, CountsDecide, OrderedStay, BatchMovesRows, BatchLacksRow, LegalGoesOn, LegalBegins, SendsAreAnswered, NumbersCountCancels, AnswersFitTheirRequests};
+ghost use Rattle.nr_model.specs.Laws.{OrderKeepsRows, CountsDecide, OrderedStay, BatchMovesRows, BatchLacksRow, LegalGoesOn, LegalBegins, SendsAreAnswered, NumbersCountCancels, AnswersFitTheirRequests, RowsStayWithinBound};
 
 /// A list in order has the same rows as before, ascending.
 pub fn order_keeps_rows()
@@ -50,4 +50,10 @@ pub fn numbers_count_cancels()
 /// fill is done under that number alone: an answer to a request that was cancelled never fills.
 pub fn answers_fit_their_requests()
     ensures { AnswersFitTheirRequests }
+{}
+
+/// Whatever is called, no key has more rows than the bound, where no fill brings more; and each
+/// key's rows ascend.
+pub fn rows_stay_within_bound()
+    ensures { RowsStayWithinBound }
 {}

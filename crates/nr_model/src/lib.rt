@@ -5,18 +5,23 @@
 mod batches;
 mod calls;
 mod cells;
+mod heads;
 pub mod laws;
+mod ordered;
 mod pile;
 mod rows;
 mod seq_map;
 mod sizes;
+mod source;
 mod states;
 #[cfg(test)]
 mod tests;
 
 pub use batches::{ApplyFault, Batch, BatchFault, Delta, MAX_DELTAS};
 pub use calls::{Call, Reply};
-pub use rows::{MAX_ROWS, Row, RowSet, TooMany};
+pub use pile::Pile;
+pub use rows::{DEFAULT_ROWS, MAX_ROWS, Row, RowSet, TooMany};
 pub use seq_map::{MAX_KEYS, OpenFault, SeqMap};
 pub use sizes::is_bad_size;
+pub use source::RowSource;
 pub use states::{KeyState, LAST_NUMBER};

@@ -1,10 +1,8 @@
-//! The state of one key, and what each call makes of it.
+//! The state of one key.
 ghost use Rattle.std.specs.Prelude.{◌≡◌};
-ghost use Rattle.nr_model.specs.Maps.{find_reply, ask_reply, fill_reply, update_reply, evict_reply, cancel_reply, asked, filled, updated, evicted, cancelled, is_filled, number_of};
+ghost use Rattle.nr_model.specs.Maps.{is_filled, number_of};
 
-use crate::batches::{ApplyFault, Batch};
-use crate::calls::Reply;
-use crate::rows::{MAX_ROWS, RowSet};
+use crate::rows::RowSet;
 
 /// The last ask number that a key can have.
 pub const LAST_NUMBER: u64 = 4_194_303;
@@ -33,88 +31,6 @@ impl KeyState {
         match self {
             KeyState::Hole(number) | KeyState::Asked(number) => *number,
             KeyState::Rows(number, _) => *number,
-        }
-    }
-
-    pub(crate) fn find(&self) -> Reply
-        ensures { result ≡ find_reply self.now }
-    {
-        match self {
-            KeyState::Hole(_) | KeyState::Asked(_) => Reply::Hole,
-            KeyState::Rows(_, rows) => Reply::Rows(*rows),
-        }
-    }
-
-    pub(crate) fn ask(&mut self) -> Reply
-        ensures reply { result ≡ ask_reply self.old }
-        ensures new { self.new ≡ asked self.old }
-    {
-        match *self {
-            KeyState::Hole(number) => {
-                *self = KeyState::Asked(number);
-                Reply::Send(number)
-            }
-            KeyState::Asked(_) => Reply::Waiting,
-            KeyState::Rows(_, _) => Reply::Filled,
-        }
-    }
-
-    pub(crate) fn fill(&mut self, number: u64, rows: &RowSet) -> Reply
-        ensures reply { result ≡ fill_reply number self.old }
-        ensures new { self.new ≡ filled number rows.now self.old }
-    {
-        match *self {
-            KeyState::Hole(_) => Reply::NotAsked,
-            KeyState::Asked(asked) if asked == number => {
-                *self = KeyState::Rows(number, *rows);
-                Reply::Done
-            }
-            KeyState::Asked(_) => Reply::Stale,
-            KeyState::Rows(_, _) => Reply::Already,
-        }
-    }
-
-    pub(crate) fn update(&mut self, batch: &Batch) -> Reply
-        ensures reply { result ≡ update_reply MAX_ROWS batch.now self.old }
-        ensures new { self.new ≡ updated MAX_ROWS batch.now self.old }
-    {
-        match self {
-            KeyState::Hole(_) | KeyState::Asked(_) => Reply::Dropped,
-            KeyState::Rows(number, rows) => match rows.applied(batch) {
-                Ok(left) => {
-                    *self = KeyState::Rows(*number, left);
-                    Reply::Done
-                }
-                Err(ApplyFault::NoRow) => Reply::NoRow,
-                Err(ApplyFault::TooMany) => Reply::TooMany,
-            },
-        }
-    }
-
-    pub(crate) fn evict(&mut self) -> Reply
-        ensures reply { result ≡ evict_reply self.old }
-        ensures new { self.new ≡ evicted self.old }
-    {
-        match *self {
-            KeyState::Hole(_) | KeyState::Asked(_) => Reply::Nothing,
-            KeyState::Rows(number, _) => {
-                *self = KeyState::Hole(number);
-                Reply::Evicted
-            }
-        }
-    }
-
-    pub(crate) fn cancel(&mut self) -> Reply
-        ensures reply { result ≡ cancel_reply self.old }
-        ensures new { self.new ≡ cancelled self.old }
-    {
-        match *self {
-            KeyState::Asked(number) if number < LAST_NUMBER => {
-                *self = KeyState::Hole(number + 1);
-                Reply::Cancelled
-            }
-            KeyState::Asked(_) => Reply::Worn,
-            KeyState::Hole(_) | KeyState::Rows(_, _) => Reply::Nothing,
         }
     }
 }

@@ -1,5 +1,5 @@
 -- An opened schedule is the run of the events that its lines spell.
-use Rattle.std.proofs.Common.{ℕ, ◌≡◌, true, false, Bool, List, [], ◌∷◌, ◌++◌, length, Option, None, Some, Ok, Err, refl, sym, ◌∙◌, ap, arith}
+use Rattle.std.proofs.Common.{subst, ℕ, ◌≡◌, true, false, Bool, List, [], ◌∷◌, ◌++◌, length, Option, None, Some, Ok, Err, refl, sym, ◌∙◌, ap, arith}
 use Rattle.std.specs.Prelude.{fold, nat_le, if◌then◌else◌, option_map, option_and_then, codes}
 use Rattle.std.proofs.lemmas.List.Sums.{fold-append}
 use borrow.Author.Tests.{leb-true}
@@ -10,19 +10,26 @@ use Rattle.nr_model.specs.Rows.{in_order}
 use Rattle.nr_model.proofs.LawLemmas.{order_keeps_rows_lem}
 use Rattle.nr_core.specs.States as machine
 use Rattle.nr_core.specs.Machine.{next}
+use Rattle.nr_core.proofs.Reach.{all_keep_shape}
 use Rattle.nr_core.specs.Laws.{AllGiven}
+use Rattle.nr_core.specs.Slots.{bound_of}
 use Rattle.nr_schedule.specs.declared.command.Command.{Command}
 use Rattle.nr_schedule.specs.declared.command.Command.TheVariants as commands
 use Rattle.nr_schedule.specs.Commands.{command, one_number, two_numbers, alone, by_writer}
-use Rattle.nr_text.specs.Grammar.{words, number, row, delta, each, set_of, batch_of, filling, filling_as, updating}
+use Rattle.nr_text.specs.Grammar.{within, words, number, row, delta, each, set_of, batch_of, filling, filling_as, updating}
 use Rattle.nr_text.specs.Opening.{opening, is_in_limits}
 use Rattle.nr_text.specs.declared.opening.Opening.{Opening}
 use Rattle.nr_core.specs.Sizes.{IsShape}
 use Rattle.nr_schedule.specs.Machine.{answer, answer_tried}
-use Rattle.nr_schedule.specs.Opened.{number_now, opened, shape_of}
+use Rattle.nr_schedule.specs.Opened.{number_now, opened, shape_of, start_fill}
 use Rattle.nr_schedule.specs.ScheduleRuns.{fill_event, event_of, event_if, line_event, events, ScheduleRuns}
+use Rattle.nr_lines.specs.Dialogue.{stays_open}
 use Rattle.nr_lines.specs.Plain.{is_plain, or_bad}
 use Rattle.nr_lines.specs.Text.{after}
+
+fill_steps : (state : machine.State) (key number : ℕ) (set : Option (List Row)) → (stays_open (start_fill state key number set)).1 ≡ Some (fold next state (fill_event key number set))
+fill_steps state key number None = refl
+fill_steps state key number (Some rows) = refl
 
 command_steps : (state : machine.State) (tried : Option Command) → (answer_tried (Some state) tried).1 ≡ Some (fold next state (event_if state tried))
 command_steps state None = refl
@@ -32,10 +39,8 @@ command_steps state (Some (commands.Read reader index)) = refl
 command_steps state (Some (commands.Depart reader)) = refl
 command_steps state (Some (commands.Ask reader key)) = refl
 command_steps state (Some (commands.Find key)) = refl
-command_steps state (Some (commands.Fill key (Ok rows))) = refl
-command_steps state (Some (commands.Fill key (Err e))) = refl
-command_steps state (Some (commands.FillAs key number (Ok rows))) = refl
-command_steps state (Some (commands.FillAs key number (Err e))) = refl
+command_steps state (Some (commands.Fill key set)) = fill_steps state key (number_now state key) (within state.shape.rows set)
+command_steps state (Some (commands.FillAs key number set)) = fill_steps state key number (within state.shape.rows set)
 command_steps state (Some (commands.Update key batch)) = refl
 command_steps state (Some (commands.Evict key)) = refl
 command_steps state (Some (commands.Cancel key)) = refl
@@ -56,17 +61,19 @@ given_more : (bound : ℕ) (front back : List machine.Event) → AllGiven bound 
 given_more bound [] back front_given back_given = back_given
 given_more bound (event ∷ front) back (given, more) back_given = (given, given_more bound front back more back_given)
 
-set_given : (key number : ℕ) (rows : List Row) (few : Bool) → nat_le (length rows) MAX_ROWS ≡ few
-    → AllGiven MAX_ROWS (fill_event key number (if few then Ok (in_order rows) else Err (record {})))
-set_given key number rows true few =
-    let ordered = order_keeps_rows_lem rows in
-    ((ordered.0, omega (arith, ordered.1, leb-true _ _ few)), tt)
-set_given key number rows false few = tt
+ordered_given : (bound key number : ℕ) (rows : List Row) (few : Bool) → nat_le (length (in_order rows)) bound ≡ few
+    → AllGiven bound (fill_event key number (if few then Some (in_order rows) else None))
+ordered_given bound key number rows true few = (((order_keeps_rows_lem rows).0, leb-true _ _ few), tt)
+ordered_given bound key number rows false few = tt
+
+set_given : (bound key number : ℕ) (rows : List Row) (few : Bool) → AllGiven bound (fill_event key number (within bound (if few then Ok (in_order rows) else Err (record {}))))
+set_given bound key number rows true = ordered_given bound key number rows (nat_le (length (in_order rows)) bound) refl
+set_given bound key number rows false = tt
 
 module _ (state : machine.State) where
   -- the events of a command, if there is one, bring row sets
   record Gives (tried : Option Command) : Type 0 where
-    sets : AllGiven MAX_ROWS (event_if state tried)
+    sets : AllGiven (bound_of state.shape) (event_if state tried)
 
   gives_none : Gives None
   gives_none = record { sets = tt }
@@ -75,7 +82,7 @@ module _ (state : machine.State) where
   either_gives true first second given other = given
   either_gives false first second given other = other
 
-  mapped_gives : {A : Type 0} (made : A → Command) (spelled : Option A) → ((found : A) → AllGiven MAX_ROWS (event_of state (made found))) → Gives (option_map made spelled)
+  mapped_gives : {A : Type 0} (made : A → Command) (spelled : Option A) → ((found : A) → AllGiven (bound_of state.shape) (event_of state (made found))) → Gives (option_map made spelled)
   mapped_gives made None given = gives_none
   mapped_gives made (Some found) given = record { sets = given found }
 
@@ -83,19 +90,19 @@ module _ (state : machine.State) where
   chained_gives made None given = gives_none
   chained_gives made (Some found) given = given found
 
-  one_gives : (made : ℕ → Command) (line : List (List ℕ)) → ((n : ℕ) → AllGiven MAX_ROWS (event_of state (made n))) → Gives (one_number made line)
+  one_gives : (made : ℕ → Command) (line : List (List ℕ)) → ((n : ℕ) → AllGiven (bound_of state.shape) (event_of state (made n))) → Gives (one_number made line)
   one_gives made [] given = gives_none
   one_gives made (word ∷ []) given = mapped_gives made (number word) given
   one_gives made (word ∷ second ∷ more) given = gives_none
 
-  two_give : (made : ℕ → ℕ → Command) (line : List (List ℕ)) → ((n m : ℕ) → AllGiven MAX_ROWS (event_of state (made n m))) → Gives (two_numbers made line)
+  two_give : (made : ℕ → ℕ → Command) (line : List (List ℕ)) → ((n m : ℕ) → AllGiven (bound_of state.shape) (event_of state (made n m))) → Gives (two_numbers made line)
   two_give made [] given = gives_none
   two_give made (first ∷ []) given = gives_none
   two_give made (first ∷ second ∷ []) given =
       chained_gives (λ n. option_map (λ m. made n m) (number second)) (number first) (λ n. mapped_gives (made n) (number second) (given n))
   two_give made (first ∷ second ∷ third ∷ more) given = gives_none
 
-  alone_gives : (made : Command) (line : List (List ℕ)) → AllGiven MAX_ROWS (event_of state made) → Gives (alone made line)
+  alone_gives : (made : Command) (line : List (List ℕ)) → AllGiven (bound_of state.shape) (event_of state made) → Gives (alone made line)
   alone_gives made [] given = record { sets = given }
   alone_gives made (word ∷ more) given = gives_none
 
@@ -103,7 +110,7 @@ module _ (state : machine.State) where
   filling_gives [] = gives_none
   filling_gives (word ∷ more) =
       chained_gives (λ key. option_map (λ rows. commands.Fill key (set_of rows)) (each row more)) (number word)
-      (λ key. mapped_gives (λ rows. commands.Fill key (set_of rows)) (each row more) (λ rows. set_given key (number_now state key) rows (nat_le (length rows) MAX_ROWS) refl))
+      (λ key. mapped_gives (λ rows. commands.Fill key (set_of rows)) (each row more) (λ rows. set_given (bound_of state.shape) key (number_now state key) rows (nat_le (length rows) MAX_ROWS)))
 
   filling_as_gives : (line : List (List ℕ)) → Gives (filling_as number commands.FillAs line)
   filling_as_gives [] = gives_none
@@ -111,7 +118,7 @@ module _ (state : machine.State) where
   filling_as_gives (word ∷ spelled ∷ more) =
       chained_gives (λ key. option_and_then (λ n. option_map (λ rows. commands.FillAs key n (set_of rows)) (each row more)) (number spelled)) (number word)
       (λ key. chained_gives (λ n. option_map (λ rows. commands.FillAs key n (set_of rows)) (each row more)) (number spelled)
-      (λ n. mapped_gives (λ rows. commands.FillAs key n (set_of rows)) (each row more) (λ rows. set_given key n rows (nat_le (length rows) MAX_ROWS) refl)))
+      (λ n. mapped_gives (λ rows. commands.FillAs key n (set_of rows)) (each row more) (λ rows. set_given (bound_of state.shape) key n rows (nat_le (length rows) MAX_ROWS))))
 
   updating_gives : (line : List (List ℕ)) → Gives (updating number commands.Update line)
   updating_gives [] = gives_none
@@ -139,19 +146,26 @@ module _ (state : machine.State) where
       (either_gives _ _ _ (two_give commands.Ask more (λ n m. (tt, tt)))
       (either_gives _ _ _ (writer_gives more) (either_gives _ _ _ (alone_gives commands.Go more (tt, tt)) gives_none))))))
 
-  line_gives : (line : List ℕ) (plain : Bool) → AllGiven MAX_ROWS (if plain then event_if state (command (words line)) else [])
+  line_gives : (line : List ℕ) (plain : Bool) → AllGiven (bound_of state.shape) (if plain then event_if state (command (words line)) else [])
   line_gives line true = (command_gives (words line)).sets
   line_gives line false = tt
 
-lines_give : (lines : List (List ℕ)) (state : machine.State) → AllGiven MAX_ROWS (events state lines)
-lines_give [] state = tt
-lines_give (line ∷ more) state =
+lines_give : (bound : ℕ) (lines : List (List ℕ)) (state : machine.State) → bound_of state.shape ≡ bound → AllGiven bound (events state lines)
+lines_give bound [] state same = tt
+lines_give bound (line ∷ more) state same =
     let after_line = fold next state (line_event state line) in
-    given_more MAX_ROWS (line_event state line) (events after_line more) (line_gives state line (is_plain line)) (lines_give more after_line)
+    let given = subst (λ (b : ℕ). AllGiven b (line_event state line)) same (line_gives state line (is_plain line)) in
+    given_more bound (line_event state line) (events after_line more) given (lines_give bound more after_line (ap bound_of (all_keep_shape (line_event state line) state) ∙ same))
 
 -- sizes within their limits are a map's
 is_shape : (opening : Opening) → is_in_limits opening ≡ true → IsShape (shape_of opening)
-is_shape opening limits = record { bound = omega arith; slots = grind (arith, nat_tests); readers = grind (arith, nat_tests); number = grind (arith, nat_tests) }
+is_shape opening limits = record {
+  some = grind (arith, nat_tests);
+  bound = grind (arith, nat_tests);
+  slots = grind (arith, nat_tests);
+  readers = grind (arith, nat_tests);
+  number = grind (arith, nat_tests);
+}
 
 pub schedule_runs_lem : ScheduleRuns
-schedule_runs_lem opening lines limits = (is_shape opening limits, lines_give lines (opened opening), lines_run lines (opened opening))
+schedule_runs_lem opening lines limits = (is_shape opening limits, lines_give (bound_of (shape_of opening)) lines (opened opening) refl, lines_run lines (opened opening))

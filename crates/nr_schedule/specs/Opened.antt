@@ -1,5 +1,5 @@
 -- An opened schedule: what each command does to the step machine, and what it is answered.
-use Rattle.std.specs.Prelude.{ℕ, ◌≤◌, if◌then◌else◌, List, Result, Ok, Err}
+use Rattle.std.specs.Prelude.{ℕ, ◌≤◌, if◌then◌else◌, List, Option, None, Some, Result, Ok, Err}
 use Rattle.nr_model.specs.declared.rows.Row.{Row}
 use Rattle.nr_model.specs.declared.rows.TooMany.{TooMany}
 use Rattle.nr_model.specs.declared.seq_map.TheConstants.{MAX_KEYS}
@@ -12,6 +12,7 @@ use Rattle.nr_core.specs.Refusals.{has_key}
 use Rattle.nr_core.specs.States as machine
 use Rattle.nr_core.specs.States.{number_at}
 use Rattle.nr_core.specs.Machine.{next, arrive_answer, read_answer, depart_answer, ask_answer, start_answer, go_answer}
+use Rattle.nr_text.specs.Grammar.{within}
 use Rattle.nr_text.specs.declared.opening.Opening.{Opening}
 use Rattle.nr_schedule.specs.declared.command.Command.{Command}
 use Rattle.nr_schedule.specs.declared.command.Command.TheVariants.{Open, Arrive, Read, Depart, Ask, Find, Fill, FillAs, Update, Evict, Cancel, Go}
@@ -34,9 +35,9 @@ abbrev pub start : machine.State → WriterCall → Outcome
 start state call = (answered answers.Writer (start_answer state call), next state (machine.Start call))
 
 -- a fill of too many rows is no call
-abbrev pub start_fill : machine.State → ℕ → ℕ → Result (List Row) TooMany → Outcome
-start_fill state key number (Ok rows) = start state (calls.Fill key number rows)
-start_fill state key number (Err e) = (Err refusals.TooMany, state)
+abbrev pub start_fill : machine.State → ℕ → ℕ → Option (List Row) → Outcome
+start_fill state key number (Some rows) = start state (calls.Fill key number rows)
+start_fill state key number None = (Err refusals.TooMany, state)
 
 -- the number of a key as it stands; a key that isn't there has none, and its fill is refused whatever it names
 abbrev pub number_now : machine.State → ℕ → ℕ
@@ -50,8 +51,8 @@ answer_opened state (Read reader index) = (answered answers.Word (read_answer st
 answer_opened state (Depart reader) = (answered (λ _. answers.Ok) (depart_answer state reader), next state (machine.Depart reader))
 answer_opened state (Ask reader key) = (answered answers.Asked (ask_answer state reader key), next state (machine.Ask reader key))
 answer_opened state (Find key) = start state (calls.Find key)
-answer_opened state (Fill key rows) = start_fill state key (number_now state key) rows
-answer_opened state (FillAs key number rows) = start_fill state key number rows
+answer_opened state (Fill key rows) = start_fill state key (number_now state key) (within state.shape.rows rows)
+answer_opened state (FillAs key number rows) = start_fill state key number (within state.shape.rows rows)
 answer_opened state (Update key batch) = start state (calls.Update key batch)
 answer_opened state (Evict key) = start state (calls.Evict key)
 answer_opened state (Cancel key) = start state (calls.Cancel key)
@@ -65,6 +66,7 @@ shape_of opening = record {
   readers = opening.readers;
   first_count = opening.first_count;
   first_number = opening.first_number;
+  rows = opening.rows;
 }
 
 abbrev pub opened : Opening → machine.State

@@ -1,7 +1,6 @@
 -- Schedules as runs of the step machine: the events that their lines spell, and the law that ties the two.
-use Rattle.std.specs.Prelude.{ℕ, ◌≡◌, true, if◌then◌else◌, fold, List, [], ◌∷◌, ◌++◌, Option, None, Some, Result, Ok, Err}
+use Rattle.std.specs.Prelude.{ℕ, ◌≡◌, true, if◌then◌else◌, fold, List, [], ◌∷◌, ◌++◌, Option, None, Some}
 use Rattle.nr_model.specs.declared.rows.Row.{Row}
-use Rattle.nr_model.specs.declared.rows.TooMany.{TooMany}
 use Rattle.nr_core.specs.declared.calls.WriterCall.TheVariants as calls
 use Rattle.nr_core.specs.States.{State, Event, Arrive, Read, Depart, Ask, Start, Go}
 use Rattle.nr_core.specs.Machine.{next, run}
@@ -12,7 +11,7 @@ use Rattle.nr_text.specs.declared.opening.Opening.{Opening}
 use Rattle.nr_schedule.specs.declared.command.Command.{Command}
 use Rattle.nr_schedule.specs.declared.command.Command.TheVariants as commands
 use Rattle.nr_schedule.specs.Commands.{command}
-use Rattle.nr_text.specs.Grammar.{words}
+use Rattle.nr_text.specs.Grammar.{within, words}
 use Rattle.nr_text.specs.Opening.{is_in_limits}
 use Rattle.nr_schedule.specs.Machine.{answer}
 use Rattle.nr_schedule.specs.Opened.{number_now, opened, shape_of}
@@ -20,9 +19,9 @@ use Rattle.nr_lines.specs.Plain.{is_plain, or_bad}
 use Rattle.nr_lines.specs.Text.{after}
 
 -- the event of a command, where it is one of the machine's; a fill that names no number has that of its key as it stands
-abbrev pub fill_event : ℕ → ℕ → Result (List Row) TooMany → List Event
-fill_event key number (Ok rows) = Start (calls.Fill key number rows) ∷ []
-fill_event key number (Err e) = []
+abbrev pub fill_event : ℕ → ℕ → Option (List Row) → List Event
+fill_event key number (Some rows) = Start (calls.Fill key number rows) ∷ []
+fill_event key number None = []
 
 abbrev pub event_of : State → Command → List Event
 event_of state (commands.Open opening) = []
@@ -31,8 +30,8 @@ event_of state (commands.Read reader index) = Read reader index ∷ []
 event_of state (commands.Depart reader) = Depart reader ∷ []
 event_of state (commands.Ask reader key) = Ask reader key ∷ []
 event_of state (commands.Find key) = Start (calls.Find key) ∷ []
-event_of state (commands.Fill key rows) = fill_event key (number_now state key) rows
-event_of state (commands.FillAs key number rows) = fill_event key number rows
+event_of state (commands.Fill key rows) = fill_event key (number_now state key) (within state.shape.rows rows)
+event_of state (commands.FillAs key number rows) = fill_event key number (within state.shape.rows rows)
 event_of state (commands.Update key batch) = Start (calls.Update key batch) ∷ []
 event_of state (commands.Evict key) = Start (calls.Evict key) ∷ []
 event_of state (commands.Cancel key) = Start (calls.Cancel key) ∷ []

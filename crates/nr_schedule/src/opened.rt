@@ -1,7 +1,10 @@
 //! A schedule's machine once it is opened: the step machine, for numbers of any size.
 ghost use Rattle.std.specs.Prelude.{◌≡◌, true, false, IfOk, IfErr, MatchOption};
+ghost use Rattle.nr_model.specs.Maps.{FillFits};
+ghost use Rattle.nr_core.specs.Story.{call_of};
 ghost use Rattle.nr_core.specs.Machine.{next, arrive_answer, read_answer, depart_answer, ask_answer};
 ghost use Rattle.nr_core.specs.Refusals.{has_reader, has_key};
+ghost use Rattle.nr_text.specs.Grammar.{within};
 ghost use Rattle.nr_text.specs.Opening.{is_in_limits};
 ghost use Rattle.nr_schedule.specs.Opened.{answer_opened, number_now, start, start_fill, opened};
 
@@ -10,7 +13,7 @@ use crate::command::Command;
 use nr_core::{Arrived, AskReply, Core, Refusal, Shape, WriterCall};
 use nr_lines::RunFault;
 use nr_model::{RowSet, TooMany};
-use nr_text::Opening;
+use nr_text::{Opening, within};
 use std::alloc::Global;
 use std::marker::Model;
 
@@ -49,6 +52,7 @@ impl Opened {
             readers: opening.readers as u32,
             first_count: opening.first_count,
             first_number: opening.first_number,
+            rows: opening.rows as u32,
         };
         match Core::open_with(alloc, &shape) {
             Ok(core) => Ok(Opened { core, keys }),
@@ -145,20 +149,23 @@ impl Opened {
         rows: &Result<RowSet, TooMany>,
     ) -> Result<StepAnswer, StepRefusal>
         ensures { MatchOption number
-            (start_fill self.old key (number_now self.old key) rows.now ≡ (result, self.new))
-            (λ number. start_fill self.old key number rows.now ≡ (result, self.new)) }
+            (start_fill self.old key (number_now self.old key) (within self.old.shape.rows rows.now) ≡ (result, self.new))
+            (λ number. start_fill self.old key number (within self.old.shape.rows rows.now) ≡ (result, self.new)) }
     {
-        let rows = rows.map_err(|_| StepRefusal::TooMany)?;
+        let Some(rows) = within(rows, self.core.rows()) else {
+            return Err(StepRefusal::TooMany);
+        };
         let key = self.small(key)?;
         let number = match number {
             Some(number) => number,
             None => self.number(key),
         };
-        self.start(&WriterCall::Fill(key, number, rows))
+        self.start(&WriterCall::Fill(key, number, *rows))
     }
 
     fn start(&mut self, call: &WriterCall) -> Result<StepAnswer, StepRefusal>
-        ensures { start self.old call.now ≡ (result, self.new) }
+        requires fits { FillFits self.old.shape.rows (call_of call.now) }
+        ensures answer { start self.old call.now ≡ (result, self.new) }
     {
         let step = self.core.start(call)?;
         Ok(StepAnswer::Writer(step))

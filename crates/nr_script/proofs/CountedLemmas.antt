@@ -14,7 +14,6 @@ use Rattle.nr_model.specs.declared.calls.Reply.{Reply}
 use Rattle.nr_model.specs.declared.calls.Reply.TheVariants as reply
 use Rattle.nr_model.specs.declared.states.KeyState.{KeyState}
 use Rattle.nr_model.specs.declared.states.KeyState.TheVariants.{Hole, Asked, Rows}
-use Rattle.nr_model.specs.declared.rows.TheConstants.{MAX_ROWS}
 use Rattle.nr_model.specs.declared.seq_map.TheConstants.{MAX_KEYS}
 use Rattle.nr_model.specs.Batches.{applied}
 use Rattle.nr_model.specs.Maps.{PartialMap, opening, key_count, key_of, state_of, reply_at, state_after, reply_to, next, filled_count, is_filled, last_number, applied_reply}
@@ -177,7 +176,6 @@ module _ (map : PartialMap) (puts : List ℕ) (put_count : ℕ) (pins : List (Op
         let same : (put : ℕ) → 0 < count_of numbers put + count_of (pinned pins) put → count_of (numbers_after put_count) put ≡ count_of numbers put =
         λ put used. omega (arith, grown put, one_other put_count put (not_next put used)) in
         record {
-          rows_bound = counted.rows_bound;
           few_keys = omega (arith, counted.few_keys, keys_stay);
           few_readers = counted.few_readers;
           a_put_each = length-set puts (key_of call) put_count ∙ counted.a_put_each ∙ sym keys_stay;
@@ -219,7 +217,6 @@ module _ (map : PartialMap) (puts : List ℕ) (put_count : ℕ) (pins : List (Op
           let flip : put_at ≢ put = λ e. other (sym e) in omega (arith, changed put, one_other put_at put flip, one_other put_count put (not_next put used)) in
           let grows : (put : ℕ) → count_of (numbers_after put_count) put ≤ count_of numbers put + one (put_count == put) = λ put. omega (arith, changed put) in
           record {
-            rows_bound = counted.rows_bound;
             few_keys = omega (arith, counted.few_keys, keys_stay);
             few_readers = counted.few_readers;
             a_put_each = length-set puts (key_of call) put_count ∙ counted.a_put_each ∙ sym keys_stay;
@@ -256,7 +253,6 @@ module _ (map : PartialMap) (puts : List ℕ) (put_count : ℕ) (pins : List (Op
           let same : (put : ℕ) → put ≢ put_at → count_of (keyed (next map call).states puts) put ≡ count_of numbers put =
           λ put other. let flip : put_at ≢ put = λ e. other (sym e) in omega (arith, changed put, one_other put_at put flip) in
           record {
-            rows_bound = counted.rows_bound;
             few_keys = omega (arith, counted.few_keys, keys_stay);
             few_readers = counted.few_readers;
             a_put_each = counted.a_put_each ∙ sym keys_stay;
@@ -281,7 +277,6 @@ module _ (map : PartialMap) (puts : List ℕ) (put_count : ℕ) (pins : List (Op
         let now : count_of (numbers_after put_at) put ≡ count_of (keyed (next map call).states puts) put = ap (λ ps. count_of (keyed (next map call).states ps) put) puts_stay in
         omega (arith, moved put_at put, now, ap (λ b. one (b && (put_at == put))) same) in
         record {
-          rows_bound = counted.rows_bound;
           few_keys = omega (arith, counted.few_keys, keys_stay);
           few_readers = counted.few_readers;
           a_put_each = counted.a_put_each ∙ sym keys_stay;
@@ -342,7 +337,6 @@ module _ (map : PartialMap) (puts : List ℕ) (put_count : ℕ) (pins : List (Op
         let count : (put : ℕ) → count_of (pinned (set pins reader (Some pin))) put ≡ count_of (pinned pins) put + one (pin.put == put) =
         λ put. omega (arith, pinned-set pins reader (Some pin) put within, ap (λ o. pins_put o put) free) in
         record {
-          rows_bound = counted.rows_bound;
           few_keys = counted.few_keys;
           few_readers = omega (arith, counted.few_readers, length-set pins reader (Some pin));
           a_put_each = counted.a_put_each;
@@ -371,7 +365,6 @@ module _ (map : PartialMap) (puts : List ℕ) (put_count : ℕ) (pins : List (Op
     counted_unpin pin held =
         let count : (put : ℕ) → count_of (pinned (set pins reader None)) put ≤ count_of (pinned pins) put = λ put. omega (arith, pinned-set pins reader None put within) in
         record {
-          rows_bound = counted.rows_bound;
           few_keys = counted.few_keys;
           few_readers = omega (arith, counted.few_readers, length-set {A = Option Pin} pins reader None);
           a_put_each = counted.a_put_each;
@@ -430,12 +423,11 @@ filled-holes zero number = refl
 filled-holes (suc keys) number = filled-holes keys number
 
 -- a script as it is opened
-pub counted_opening : (keys readers number : ℕ) → keys ≤ MAX_KEYS → readers ≤ MAX_READERS → IsCounted (opening keys MAX_ROWS number) (replicate keys 0) 0 (replicate readers None) 0 0
-counted_opening keys readers number few_keys few_readers =
+pub counted_opening : (keys readers number rows : ℕ) → keys ≤ MAX_KEYS → readers ≤ MAX_READERS → IsCounted (opening keys rows number) (replicate keys 0) 0 (replicate readers None) 0 0
+counted_opening keys readers number rows few_keys few_readers =
     let no_keys = keyed-holes keys number (replicate keys 0) in
     let no_pins = pinned-none readers in
     record {
-      rows_bound = refl;
       few_keys = omega (arith, few_keys, length-replicate keys (Hole number));
       few_readers = omega (arith, few_readers, length-replicate {A = Option Pin} readers None);
       a_put_each = length-replicate keys 0 ∙ sym (length-replicate keys (Hole number));

@@ -1,7 +1,6 @@
 -- What an opened script counts as it goes, so that no command has to look through all keys.
 use Rattle.std.specs.Prelude.{ℕ, ◌≡◌, ◌+◌, ◌<◌, ◌≤◌, true, List, length, Option, Some, None, slice_index_or}
 use Rattle.nr_model.specs.Maps.{PartialMap, key_count, filled_count, is_filled, state_of}
-use Rattle.nr_model.specs.declared.rows.TheConstants.{MAX_ROWS}
 use Rattle.nr_model.specs.declared.seq_map.TheConstants.{MAX_KEYS}
 use Rattle.nr_script.specs.declared.keys.Keys.{Keys}
 use Rattle.nr_script.specs.declared.keys.Keys.TheVariants as kinds
@@ -16,7 +15,6 @@ pub record HasPut (map : PartialMap) (puts : List ℕ) (key put : ℕ) : Type 0 
   pub number : slice_index_or puts key 0 ≡ put
 
 pub record IsCounted (map : PartialMap) (puts : List ℕ) (put_count : ℕ) (pins : List (Option Pin)) (filled stray : ℕ) : Type 0 where
-  pub rows_bound : map.bound ≡ MAX_ROWS
   pub few_keys : key_count map ≤ MAX_KEYS
   pub few_readers : length pins ≤ MAX_READERS
   pub a_put_each : length puts ≡ key_count map

@@ -3,7 +3,6 @@ use Rattle.std.specs.Prelude.{ℕ, ◌+◌, ◌-◌, ◌==◌, ◌&&◌, nat_lt,
 use Rattle.std.specs.List.{filter_map}
 use Rattle.nr_model.specs.declared.rows.Row.{Row}
 use Rattle.nr_model.specs.declared.rows.TooMany.{TooMany}
-use Rattle.nr_model.specs.declared.rows.TheConstants.{MAX_ROWS}
 use Rattle.nr_model.specs.declared.states.KeyState.{KeyState}
 use Rattle.nr_model.specs.declared.states.KeyState.TheVariants as states
 use Rattle.nr_model.specs.declared.calls.Call.{Call}
@@ -25,7 +24,7 @@ use Rattle.nr_script.specs.declared.answer.Answer.{Answer}
 use Rattle.nr_script.specs.declared.answer.Answer.TheVariants as answers
 use Rattle.nr_script.specs.declared.answer.Refusal.{Refusal}
 use Rattle.nr_script.specs.declared.answer.Refusal.TheVariants as refusals
-use Rattle.nr_text.specs.Grammar.{number}
+use Rattle.nr_text.specs.Grammar.{number, within}
 use Rattle.nr_text.specs.declared.opening.Opening.{Opening}
 use Rattle.nr_model.specs.Strays.{keyed, strays}
 
@@ -127,10 +126,13 @@ found_by_reader script reader word =
     else if has_reader script reader then found_key script word
     else (Err refusals.NoReader, script)
 
--- a set that isn't of too many rows
-abbrev pub found_set : Result (List Row) TooMany → Result (List Row) Refusal
-found_set (Ok rows) = Ok rows
-found_set (Err e) = Err refusals.TooMany
+-- a set of no more rows than a key may have
+abbrev pub found_rows : Option (List Row) → Result (List Row) Refusal
+found_rows (Some rows) = Ok rows
+found_rows None = Err refusals.TooMany
+
+abbrev pub found_set : Opened → Result (List Row) TooMany → Result (List Row) Refusal
+found_set script set = found_rows (within script.map.bound set)
 
 -- no pin, and a pin
 abbrev pub found_no_pin : Option Pin → Result (Unit {0}) Refusal
@@ -165,9 +167,9 @@ answer_opened script (Open named sizes) = (Err refusals.Bad, script)
 answer_opened script (Find reader word) = with_found (found_by_reader script reader word) (λ key after. without_pin after reader (answer_call after (calls.Find key)))
 answer_opened script (Ask reader word) = with_found (found_by_reader script reader word) (λ key after. without_pin after reader (answer_call after (calls.Ask key)))
 answer_opened script (Fill word set) =
-    with_found (found_key script word) (λ key after. with_found (found_set set, after) (λ rows fits. answer_call after (calls.Fill key (number_of (state_of after.map key)) rows)))
+    with_found (found_key script word) (λ key after. with_found (found_set after set, after) (λ rows fits. answer_call after (calls.Fill key (number_of (state_of after.map key)) rows)))
 answer_opened script (FillAs word number set) =
-    with_found (found_key script word) (λ key after. with_found (found_set set, after) (λ rows fits. answer_call after (calls.Fill key number rows)))
+    with_found (found_key script word) (λ key after. with_found (found_set after set, after) (λ rows fits. answer_call after (calls.Fill key number rows)))
 answer_opened script (Update word batch) = with_found (found_key script word) (λ key after. answer_call after (calls.Update key batch))
 answer_opened script (Evict word) = with_found (found_key script word) (λ key after. answer_call after (calls.Evict key))
 answer_opened script (Cancel word) = with_found (found_key script word) (λ key after. answer_call after (calls.Cancel key))
@@ -184,4 +186,4 @@ keys_opened false count = kinds.Numbered
 
 abbrev pub opened : Bool → Opening → Opened
 opened named sizes =
-    record { keys = keys_opened named sizes.keys; map = opening sizes.keys MAX_ROWS sizes.first_number; slots = sizes.slots; puts = replicate sizes.keys 0; put_count = 0; pins = replicate sizes.readers None }
+    record { keys = keys_opened named sizes.keys; map = opening sizes.keys sizes.rows sizes.first_number; slots = sizes.slots; puts = replicate sizes.keys 0; put_count = 0; pins = replicate sizes.readers None }

@@ -1,7 +1,7 @@
 //! A script that was opened: a map, what its readers have pinned, and the slots that are in use.
 ghost use Rattle.std.specs.Prelude.{◌≡◌, ◌<◌, ◌≤◌, ◌+◌, ◌-◌, ◌^◌, ◌==◌, ◌&&◌, length, nat_lt, if◌then◌else◌, IfOk, IfErr, OnOk, Ok, Some, None};
 ghost use Rattle.std.specs.List.{list_any};
-ghost use Rattle.nr_model.specs.Maps.{key_count, key_of, reply_to, state_of};
+ghost use Rattle.nr_model.specs.Maps.{FillFits, key_count, key_of, last_number, reply_to, state_of};
 ghost use Rattle.nr_model.specs.Histories.{is_done};
 ghost use Rattle.nr_script.specs.Opened.{answer_opened, answer_call, answer_pin, is_full, has_reader, found_reader, found_key, found_by_reader, found_set, found_no_pin, found_pin, with_found, without_pin, with_pin, pins_after, pinned, pin_has_put};
 ghost use Rattle.nr_model.specs.Strays.{keyed, count_of, one_if_none, one_if_some};
@@ -12,8 +12,8 @@ use crate::keys::Keys;
 use crate::pin::Pin;
 use nr_core::MAX_READERS;
 use nr_lines::RunFault;
-use nr_model::{Call, KeyState, MAX_KEYS, Reply, RowSet, SeqMap, TooMany};
-use nr_text::Opening;
+use nr_model::{Call, KeyState, MAX_KEYS, MAX_ROWS, Reply, RowSet, SeqMap, TooMany};
+use nr_text::{Opening, within};
 use std::alloc::Global;
 use std::marker::Model;
 
@@ -50,12 +50,14 @@ impl Opened {
     pub(crate) fn open(alloc: Global, named: bool, sizes: &Opening) -> Result<Opened, RunFault>
         requires keys { (0 < sizes.now.keys) × (sizes.now.keys ≤ MAX_KEYS) }
         requires readers { sizes.now.readers ≤ MAX_READERS }
+        requires number { sizes.now.first_number ≤ last_number }
+        requires rows { (0 < sizes.now.rows) × (sizes.now.rows ≤ MAX_ROWS) }
         ensures ok { IfOk result (λ opened. opened ≡ script.opened named sizes.now) }
         ensures fault { IfErr result (λ fault. fault ≡ RunFault.Memory) }
     {
         let count = sizes.keys as u32;
         let keys = Keys::open(alloc, named, count)?;
-        let Ok(map) = SeqMap::open_with(alloc, count, sizes.first_number) else {
+        let Ok(map) = SeqMap::open_with(alloc, count, sizes.first_number, sizes.rows as u32) else {
             return Err(RunFault::Memory);
         };
         let Ok(puts) = vec![in alloc; 0; sizes.keys as usize] else {
@@ -133,6 +135,7 @@ impl Opened {
     fn call_by_reader(&mut self, reader: u64, call: &Call) -> Result<Answer, Refusal>
         requires reader { (0 < reader) × (reader ≤ length self.old.pins) }
         requires key { key_of call.now < key_count self.old.map }
+        requires fits { FillFits self.old.map.bound call.now }
         requires puts { self.old.put_count < u64.MAX }
         ensures answer { without_pin self.old reader (answer_call self.old call.now) ≡ (result, self.new) }
         ensures puts { self.new.put_count ≤ self.old.put_count + 1 }
@@ -150,18 +153,19 @@ impl Opened {
     ) -> Result<Answer, Refusal>
         requires key { key < key_count self.old.map }
         requires puts { self.old.put_count < u64.MAX }
-        ensures answer { with_found (found_set rows.now, self.old) (λ rows fits. answer_call fits (Call.Fill key number rows)) ≡ (result, self.new) }
+        ensures answer { with_found (found_set self.old rows.now, self.old) (λ rows fits. answer_call fits (Call.Fill key number rows)) ≡ (result, self.new) }
         ensures puts { self.new.put_count ≤ self.old.put_count + 1 }
     {
-        match rows {
-            Ok(rows) => Ok(self.call(&Call::Fill(key, number, *rows))),
-            Err(_) => Err(Refusal::TooMany),
+        match within(rows, self.map.rows()) {
+            Some(rows) => Ok(self.call(&Call::Fill(key, number, *rows))),
+            None => Err(Refusal::TooMany),
         }
     }
 
     /// The map's reply to a call at one of its keys, unless a set would be put and there is no slot.
     fn call(&mut self, call: &Call) -> Answer
         requires key { key_of call.now < key_count self.old.map }
+        requires fits { FillFits self.old.map.bound call.now }
         requires puts { self.old.put_count < u64.MAX }
         ensures answer { answer_call self.old call.now ≡ (Ok result, self.new) }
         ensures puts { self.new.put_count ≤ self.old.put_count + 1 }
@@ -210,7 +214,7 @@ impl Opened {
                 KeyState::Hole(_) | KeyState::Rows(_, _) => false,
             },
             Call::Update(key, batch) => match self.map.state(*key) {
-                KeyState::Rows(_, rows) => rows.applied(batch).is_ok(),
+                KeyState::Rows(_, rows) => rows.applied(batch, self.map.rows()).is_ok(),
                 KeyState::Hole(_) | KeyState::Asked(_) => false,
             },
             Call::Find(_) | Call::Ask(_) | Call::Evict(_) | Call::Cancel(_) => false,

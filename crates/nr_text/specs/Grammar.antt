@@ -53,6 +53,11 @@ delta (sign ∷ spelled) = if sign == 43 then signed true (row spelled) else if 
 abbrev pub set_of : List Row → Result (List Row) TooMany
 set_of rows = if nat_le (length rows) MAX_ROWS then Ok (in_order rows) else Err (record {})
 
+-- the rows of a set, where they are not over the bound
+abbrev pub within : ℕ → Result (List Row) TooMany → Option (List Row)
+within bound (Ok rows) = if nat_le (length rows) bound then Some rows else None
+within bound (Err e) = None
+
 -- a batch of those signed rows, if it has some and not too many
 abbrev pub batch_of : List Delta → Option (List Delta)
 batch_of deltas = if nat_lt 0 (length deltas) && nat_le (length deltas) MAX_DELTAS then Some deltas else None

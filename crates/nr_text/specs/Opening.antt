@@ -1,25 +1,29 @@
 -- Openings: the sizes that an opening line gives, and which of them a map may have.
 use Rattle.std.specs.Prelude.{ℕ, ◌&&◌, nat_lt, nat_le, Bool, List, [], ◌∷◌, Option, Some, None, option_and_then, option_map}
+use Rattle.nr_model.specs.declared.rows.TheConstants.{DEFAULT_ROWS, MAX_ROWS}
 use Rattle.nr_model.specs.declared.seq_map.TheConstants.{MAX_KEYS}
 use Rattle.nr_model.specs.Maps.{last_number}
 use Rattle.nr_core.specs.declared.shape.TheConstants.{MAX_SLOTS, MAX_READERS}
 use Rattle.nr_text.specs.declared.opening.Opening.{Opening}
 use Rattle.nr_text.specs.Grammar.{number}
 
-abbrev pub opening_of : Option ℕ → Option ℕ → Option ℕ → Option ℕ → Option ℕ → Option Opening
-opening_of keys slots readers first_count first_number =
-    option_and_then (λ k. option_and_then (λ s. option_and_then (λ r. option_and_then (λ c.
-    option_map (λ n. record { keys = k; slots = s; readers = r; first_count = c; first_number = n }) first_number) first_count) readers) slots) keys
+abbrev pub opening_of : Option ℕ → Option ℕ → Option ℕ → Option ℕ → Option ℕ → Option ℕ → Option Opening
+opening_of keys slots readers first_count first_number rows =
+    option_and_then (λ k. option_and_then (λ s. option_and_then (λ r. option_and_then (λ c. option_and_then (λ n.
+    option_map (λ l. record { keys = k; slots = s; readers = r; first_count = c; first_number = n; rows = l }) rows) first_number) first_count) readers) slots) keys
 
--- keys, slots, readers, the first count and the first number; these two are 0 where they are left out
+-- keys, slots, readers, the first count, the first number and the rows of a key; the last three are 0, 0 and 15 where they are left out
 abbrev pub opening : List (List ℕ) → Option Opening
-opening (keys ∷ slots ∷ readers ∷ []) = opening_of (number keys) (number slots) (number readers) (Some 0) (Some 0)
-opening (keys ∷ slots ∷ readers ∷ first_count ∷ []) = opening_of (number keys) (number slots) (number readers) (number first_count) (Some 0)
-opening (keys ∷ slots ∷ readers ∷ first_count ∷ first_number ∷ []) = opening_of (number keys) (number slots) (number readers) (number first_count) (number first_number)
+opening (keys ∷ slots ∷ readers ∷ []) = opening_of (number keys) (number slots) (number readers) (Some 0) (Some 0) (Some DEFAULT_ROWS)
+opening (keys ∷ slots ∷ readers ∷ first_count ∷ []) = opening_of (number keys) (number slots) (number readers) (number first_count) (Some 0) (Some DEFAULT_ROWS)
+opening (keys ∷ slots ∷ readers ∷ first_count ∷ first_number ∷ []) =
+    opening_of (number keys) (number slots) (number readers) (number first_count) (number first_number) (Some DEFAULT_ROWS)
+opening (keys ∷ slots ∷ readers ∷ first_count ∷ first_number ∷ rows ∷ []) =
+    opening_of (number keys) (number slots) (number readers) (number first_count) (number first_number) (number rows)
 opening other = None
 
--- keys, slots, readers and the first number are within their limits
+-- keys, slots, readers, the first number and the rows of a key are within their limits
 abbrev pub is_in_limits : Opening → Bool
 is_in_limits opening =
     nat_lt 0 opening.keys && (nat_le opening.keys MAX_KEYS && (nat_lt 0 opening.slots && (nat_le opening.slots MAX_SLOTS
-    && (nat_lt 0 opening.readers && (nat_le opening.readers MAX_READERS && nat_le opening.first_number last_number)))))
+    && (nat_lt 0 opening.readers && (nat_le opening.readers MAX_READERS && (nat_le opening.first_number last_number && (nat_lt 0 opening.rows && nat_le opening.rows MAX_ROWS)))))))

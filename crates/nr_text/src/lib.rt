@@ -8,6 +8,6 @@ mod spelling;
 mod words;
 
 pub use opening::Opening;
-pub use rows::{batch, set};
+pub use rows::{batch, set, within};
 pub use spelling::ReplyWord;
 pub use words::{Words, number};

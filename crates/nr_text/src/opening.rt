@@ -3,10 +3,10 @@ ghost use Rattle.std.specs.Prelude.{◌≡◌};
 
 use crate::words::{Words, number};
 use nr_core::{MAX_READERS, MAX_SLOTS};
-use nr_model::{LAST_NUMBER, MAX_KEYS};
+use nr_model::{DEFAULT_ROWS, LAST_NUMBER, MAX_KEYS, MAX_ROWS};
 
-/// How many keys, slots and readers a map is to have, the count at which each slot starts, and the
-/// number at which each key's requests start.
+/// How many keys, slots and readers a map is to have, the count at which each slot starts, the
+/// number at which each key's requests start, and how many rows a key may have.
 #[derive(Clone, Copy)]
 pub struct Opening {
     pub keys: u64,
@@ -14,13 +14,15 @@ pub struct Opening {
     pub readers: u64,
     pub first_count: u64,
     pub first_number: u64,
+    pub rows: u64,
 }
 
 impl Opening {
     ghost use Rattle.nr_text.specs.Opening.{opening, is_in_limits};
     ghost use Rattle.nr_text.specs.Words.{words_left};
 
-    /// The opening that three to five numbers spell. The last two are 0 where they are left out.
+    /// The opening that three to six numbers spell. The first count and the first number are 0 and
+    /// the rows 15 where they are left out.
     pub fn parse(mut words: Words<'_>) -> Option<Opening>
         ensures { result ≡ opening (words_left words.entry) }
     {
@@ -29,6 +31,7 @@ impl Opening {
         let readers = words.next()?;
         let first_count = words.next();
         let first_number = words.next();
+        let rows = words.next();
         if words.next().is_some() {
             return None;
         }
@@ -42,6 +45,10 @@ impl Opening {
             },
             first_number: match first_number {
                 None => 0,
+                Some(word) => number(word)?,
+            },
+            rows: match rows {
+                None => u64::from(DEFAULT_ROWS),
                 Some(word) => number(word)?,
             },
         })
@@ -58,5 +65,7 @@ impl Opening {
             && 0 < self.readers
             && self.readers <= u64::from(MAX_READERS)
             && self.first_number <= LAST_NUMBER
+            && 0 < self.rows
+            && self.rows <= MAX_ROWS as u64
     }
 }

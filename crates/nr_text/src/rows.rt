@@ -1,6 +1,6 @@
 //! Rows and signed rows, and the sets and batches that words spell.
-ghost use Rattle.std.specs.Prelude.{◌≡◌, option_map, option_and_then};
-ghost use Rattle.nr_text.specs.Grammar.{row, delta, each, set_of, batch_of};
+ghost use Rattle.std.specs.Prelude.{◌≡◌, ◌≤◌, length, IfSome, option_map, option_and_then};
+ghost use Rattle.nr_text.specs.Grammar.{row, delta, each, set_of, batch_of, within};
 ghost use Rattle.nr_text.specs.Words.{words_left};
 
 use crate::words::{Words, number, place_of};
@@ -50,6 +50,17 @@ pub fn set(words: Words<'_>) -> Option<Result<RowSet, TooMany>>
         }
     }
     Some(RowSet::of(&kept[..len]))
+}
+
+/// The set, where it has at most so many rows.
+pub fn within(set: &Result<RowSet, TooMany>, bound: u32) -> Option<&RowSet>
+    ensures value { option_map (λ rows. rows.now) result ≡ within bound set.now }
+    ensures fits { IfSome result (λ rows. length rows.now ≤ bound) }
+{
+    match set {
+        Ok(rows) if rows.len() <= bound as usize => Some(rows),
+        _ => None,
+    }
 }
 
 /// The batch of the signed rows that the words spell, if each spells one and they are 1 to 64.

@@ -1,6 +1,7 @@
 pub mod KeyWordLemmas
 pub mod SetWordLemmas
-pub mod WordLoops
+pub mod WrittenWords
 pub mod OrderLemmas
+pub mod RowPairLemmas
 pub mod PlaceLemmas
 pub mod OpeningLemmas

@@ -1,7 +1,11 @@
 -- How a row set lies in words: the number of its rows, and then two words a row.
-use Rattle.std.specs.Prelude.{ℕ, ◌≡◌, ◌*◌, Bool, ◌&&◌, nat_lt, nat_le, if◌then◌else◌, List, [], ◌∷◌, length, take, drop, slice_index, Option, Some, None}
+use Rattle.std.specs.Prelude.{ℕ, ◌≡◌, ◌+◌, ◌*◌, Bool, ◌&&◌, nat_le, if◌then◌else◌, List, [], ◌∷◌, length, take, drop, slice_index, Option, Some, None}
 use Rattle.nr_model.specs.declared.rows.Row.{Row}
 use Rattle.nr_model.specs.Rows.{is_ascending}
+
+-- how many words so many rows take
+abbrev pub content_words : ℕ → ℕ
+content_words rows = 2 * rows + 1
 
 -- the words of the rows
 abbrev pub row_words : List Row → List ℕ
@@ -29,10 +33,10 @@ row_count words = slice_index words 0
 abbrev pub rows_of : List ℕ → List Row
 rows_of words = rows_in (take (2 * row_count words) (drop 1 words))
 
--- the words spell a set: no more rows than the bound, a pair of words for each, and in ascending order
-abbrev pub is_set : ℕ → List ℕ → Bool
-is_set bound words = nat_le (row_count words) bound && nat_lt (2 * row_count words) (length words) && is_ascending (rows_of words)
+-- the words spell a set: as many of them as its rows take, and the rows in ascending order
+abbrev pub is_set : List ℕ → Bool
+is_set words = nat_le (content_words (row_count words)) (length words) && is_ascending (rows_of words)
 
 -- the set that the words spell, if they spell one
-abbrev pub decode : ℕ → List ℕ → Option (List Row)
-decode bound words = (if is_set bound words then Some (rows_of words) else None)
+abbrev pub decode : List ℕ → Option (List Row)
+decode words = (if is_set words then Some (rows_of words) else None)

@@ -7,6 +7,7 @@ mod key_words;
 pub mod laws;
 mod layout;
 mod opening;
+mod row_pairs;
 mod set_words;
 #[cfg(test)]
 mod tests;
@@ -14,4 +15,4 @@ mod tests;
 pub use key_words::{ARRIVE, COUNTS, KeyParts, hole_word, key_word, naming, parts, same_count};
 pub use layout::Layout;
 pub use opening::opening_words;
-pub use set_words::{CONTENT_WORDS, decode, encode};
+pub use set_words::{MAX_CONTENT_WORDS, decode, encode, word_at};

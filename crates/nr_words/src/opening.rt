@@ -1,10 +1,10 @@
 //! The words of a new map.
-ghost use Rattle.std.specs.Prelude.{◌≡◌, ◌<◌, ◌^◌, IfOk};
+ghost use Rattle.std.specs.Prelude.{◌≡◌, ◌<◌, ◌≤◌, ◌^◌, IfOk};
+ghost use Rattle.nr_model.specs.declared.rows.TheConstants.{MAX_ROWS};
 ghost use Rattle.nr_words.specs.Opening.{opening_words};
 
 use crate::key_words::hole_word;
 use crate::layout::Layout;
-use crate::set_words::CONTENT_WORDS;
 use std::alloc::{AllocError, Global};
 
 /// The words of a new map in their layout: every key a hole with the first ask number, which is
@@ -16,15 +16,16 @@ pub fn opening_words(
     first_count: u64,
     first_number: u64,
 ) -> Result<Vec<u64>, AllocError>
-    requires { first_number < 2 ^ 22 }
-    ensures { IfOk result (λ words. words.items ≡ opening_words CONTENT_WORDS layout first_count first_number) }
+    requires rows { layout.rows ≤ MAX_ROWS }
+    requires number { first_number < 2 ^ 22 }
+    ensures { IfOk result (λ words. words.items ≡ opening_words layout first_count first_number) }
 {
-    let mut block = [0; CONTENT_WORDS + 1];
-    block[0] = first_count;
+    let content_words = layout.content_words() as usize;
     let mut words = Vec::with_capacity(alloc, layout.total() as usize)?;
     words.resize(layout.keys as usize, hole_word(first_number, false))?;
     for _slot in 0..layout.slots {
-        words.extend_from_slice(&block)?;
+        words.push(first_count)?;
+        words.resize(words.len() + content_words, 0)?;
     }
     Ok(words)
 }

@@ -1,260 +1,265 @@
 //! The steps of the writer: each is one operation on one word.
-ghost use Rattle.std.specs.Prelude.{◌≡◌, ◌<◌, ◌≤◌, ◌*◌, ◌∷◌, ◌++◌, [], length};
-ghost use Rattle.nr_core.specs.declared.places.Place.TheVariants.{Idle, Reading, Leaving, Withdrawing, Searching, Putting};
+ghost use Rattle.std.specs.Prelude.{◌≡◌, ◌<◌, ◌≤◌, ◌*◌, ◌+◌, [], List, length, slice_index};
+ghost use Rattle.nr_model.specs.declared.rows.Row.{Row};
+ghost use Rattle.nr_model.specs.declared.rows.TheConstants.{MAX_ROWS};
+ghost use Rattle.nr_words.specs.SetWords.{decode, encode};
+ghost use Rattle.nr_core.specs.declared.places.Place.TheVariants.{Idle, Reading as ReadingAt};
+ghost use Rattle.nr_core.specs.declared.places.Stage.TheVariants.{Reading, Leaving, Withdrawing, Putting};
 ghost use Rattle.nr_core.specs.States.{Start, Go};
+ghost use Rattle.nr_core.specs.Story.{call_of};
 ghost use Rattle.nr_core.specs.Machine.{next, moved, found_by, start_answer, go_answer};
-ghost use Rattle.nr_core.specs.Writer.{looked, fill_asked, cancel_asked, decided, renewed, read_on, put_on, went, ended, moved_to};
-ghost use Rattle.nr_core.specs.Slots.{bound_of};
-ghost use Rattle.nr_words.specs.KeyWords.{naming};
+ghost use Rattle.nr_core.specs.Outcomes.{step_of, told};
+ghost use Rattle.nr_core.specs.Parts.{state_of};
+ghost use Rattle.nr_core.specs.Writer.{looked, fill_asked, cancel_asked, decoded, went, moved_to};
+ghost use Rattle.nr_core.specs.Slots.{bound_of, slot_room};
+ghost use Rattle.nr_model.specs.Maps.{FillFits};
 ghost use Rattle.nr_core.specs.Laws.{IsGivenCall};
 ghost use Rattle.nr_core.specs.Reach.{HasRoom};
 
-use crate::calls::{Refusal, Step, WReply, WriterCall};
+use crate::calls::{Refusal, WriterCall};
 use crate::machine::Machine;
-use crate::places::Place;
-use crate::words_read::WordsRead;
-use nr_model::{ApplyFault, LAST_NUMBER, Reply, RowSet};
-use nr_words::{CONTENT_WORDS, encode, hole_word, naming, parts};
+use crate::outcome::Outcome;
+use crate::places::Stage;
+use nr_model::{ApplyFault, LAST_NUMBER, RowSet};
+use nr_words::{hole_word, naming, parts, word_at};
 
 impl Machine {
     /// The look: loads the word of the call's key.
-    pub fn start(&mut self, call: &WriterCall) -> Result<Step, Refusal>
-        requires { HasRoom self.old }
-        ensures answer { result ≡ start_answer self.old call.now }
-        ensures new { self.new ≡ next self.old (Start call.now) }
-        ensures given { IsGivenCall (bound_of self.old.shape) call.now }
+    pub fn start(&mut self, call: &WriterCall) -> Result<Outcome, Refusal>
+        requires room { HasRoom (state_of self.old) }
+        requires fits { FillFits (bound_of (state_of self.old).shape) (call_of call.now) }
+        ensures answer { (found : List Row) → told found result ≡ start_answer (state_of self.old) call.now }
+        ensures new { state_of self.new ≡ next (state_of self.old) (Start call.now) }
+        ensures given { IsGivenCall (bound_of (state_of self.old).shape) call.now }
     {
         call.given();
         self.may_start(call)?;
         let word = self.words.load(self.layout.key(call.key()));
-        Ok(self.look(*call, word))
+        Ok(self.look(call, word))
     }
 
-    /// The next step of the writer's call.
-    pub fn go(&mut self) -> Result<Step, Refusal>
-        requires { HasRoom self.old }
-        ensures answer { result ≡ go_answer self.old }
-        ensures new { self.new ≡ next self.old Go }
+    /// The next step of the writer's call. The set that a find ends with is written into `found`.
+    pub fn go(&mut self, found: &mut RowSet) -> Result<Outcome, Refusal>
+        requires { HasRoom (state_of self.old) }
+        ensures answer { told found.new result ≡ go_answer (state_of self.old) }
+        ensures new { state_of self.new ≡ next (state_of self.old) Go }
     {
-        let place = self.place;
-        match place {
-            Place::Idle => Err(Refusal::NotBusy),
-            Place::Reading(call, slot, got) => Ok(self.read_on(call, slot, got)),
-            Place::Leaving(key) => Ok(self.unpublish(key)),
-            Place::Withdrawing(key) => Ok(self.withdraw(key)),
-            Place::Searching(call, rows, poll) => Ok(self.poll(call, rows, poll)),
-            Place::Putting(call, rows, slot, departed, index) => {
-                if index as usize <= 2 * rows.len() {
-                    Ok(self.put(call, rows, slot, departed, index))
+        match self.stage {
+            Stage::Idle => Err(Refusal::NotBusy),
+            Stage::Reading(slot) => Ok(self.read_on(slot, found)),
+            Stage::Leaving(key) => Ok(self.unpublish(key)),
+            Stage::Withdrawing(key) => Ok(self.withdraw(key)),
+            Stage::Searching(poll) => Ok(self.poll(poll)),
+            Stage::Putting(slot, departed, index) => {
+                if index as usize <= 2 * self.rows.len() {
+                    Ok(self.put(slot, departed, index))
                 } else {
-                    Ok(self.publish(call, rows, slot, departed, index))
+                    Ok(self.publish(slot, departed, index))
                 }
             }
         }
     }
 
     /// Where the call goes from its look, which found that word.
-    fn look(&mut self, call: WriterCall, word: u64) -> Step
-        requires { length self.old.desk.retired ≤ self.old.shape.slots }
-        ensures answer { result ≡ (looked self.old.shape self.old.desk call word).1 }
-        ensures new { self.new ≡ record self.old { desk = (looked self.old.shape self.old.desk call word).0 } }
+    fn look(&mut self, call: &WriterCall, word: u64) -> Outcome
+        requires { length self.old.spare.retired ≤ self.old.layout.slots }
+        ensures answer { (found : List Row) → step_of found result ≡ (looked (state_of self.old).shape (state_of self.old).desk call.now word).1 }
+        ensures new { state_of self.new ≡ record (state_of self.old) { desk = (looked (state_of self.old).shape (state_of self.old).desk call.now word).0 } }
     {
         let found = parts(word);
         match call {
             WriterCall::Find(_) => {
                 if found.filled {
-                    self.go_to(Place::Reading(call, found.slot, WordsRead::new()))
+                    self.read_from(call, found.slot)
                 } else {
-                    self.end(Reply::Hole)
+                    self.end(Outcome::Hole)
                 }
             }
             WriterCall::Fill(_, number, rows) => {
                 if found.filled {
-                    self.end(Reply::Already)
+                    self.end(Outcome::Already)
                 } else if found.ask {
-                    self.fill_asked(call, number, rows, u64::from(found.slot))
+                    self.fill_asked(call, *number, rows, u64::from(found.slot))
                 } else {
-                    self.end(Reply::NotAsked)
+                    self.end(Outcome::NotAsked)
                 }
             }
             WriterCall::Update(_, _) => {
                 if found.filled {
-                    self.go_to(Place::Reading(call, found.slot, WordsRead::new()))
+                    self.read_from(call, found.slot)
                 } else {
-                    self.end(Reply::Dropped)
+                    self.end(Outcome::Dropped)
                 }
             }
             WriterCall::Evict(key) => {
                 if found.filled {
-                    self.go_to(Place::Leaving(key))
+                    self.stage = Stage::Leaving(*key);
+                    Outcome::Going
                 } else {
-                    self.end(Reply::Nothing)
+                    self.end(Outcome::Nothing)
                 }
             }
             WriterCall::Cancel(key) => {
                 if found.ask && !found.filled {
-                    self.cancel_asked(key, u64::from(found.slot))
+                    self.cancel_asked(*key, u64::from(found.slot))
                 } else {
-                    self.end(Reply::Nothing)
+                    self.end(Outcome::Nothing)
                 }
             }
         }
     }
 
+    /// The call reads the words of a slot that its key names, from the first one on.
+    fn read_from(&mut self, call: &WriterCall, slot: u32) -> Outcome
+        ensures answer { result ≡ Outcome.Going }
+        ensures new { state_of self.new ≡ record (state_of self.old) { desk = moved_to (state_of self.old).desk (ReadingAt call.now slot []) } }
+    {
+        self.call = *call;
+        self.got.clear();
+        self.stage = Stage::Reading(slot);
+        Outcome::Going
+    }
+
     /// Where a fill goes whose key is asked with that number: it answers the request of its own
     /// number alone.
-    fn fill_asked(&mut self, call: WriterCall, number: u64, rows: RowSet, asked: u64) -> Step
-        requires { length self.old.desk.retired ≤ self.old.shape.slots }
-        ensures answer { result ≡ (fill_asked self.old.shape self.old.desk call number rows asked).1 }
-        ensures new { self.new ≡ record self.old { desk = (fill_asked self.old.shape self.old.desk call number rows asked).0 } }
+    fn fill_asked(&mut self, call: &WriterCall, number: u64, rows: &RowSet, asked: u64) -> Outcome
+        requires { length self.old.spare.retired ≤ self.old.layout.slots }
+        ensures answer { (found : List Row) → step_of found result ≡ (fill_asked (state_of self.old).shape (state_of self.old).desk call.now number rows.now asked).1 }
+        ensures new { state_of self.new ≡ record (state_of self.old) { desk = (fill_asked (state_of self.old).shape (state_of self.old).desk call.now number rows.now asked).0 } }
     {
-        if asked == number {
-            self.settle(call, rows)
-        } else {
-            self.end(Reply::Stale)
+        if asked != number {
+            return self.end(Outcome::Stale);
         }
+        self.call = *call;
+        self.rows = *rows;
+        self.settle()
     }
 
     /// Where a cancel goes whose key is asked with that number: the last one is not taken back.
-    fn cancel_asked(&mut self, key: u32, asked: u64) -> Step
-        ensures answer { result ≡ (cancel_asked self.old.desk key asked).1 }
-        ensures new { self.new ≡ record self.old { desk = (cancel_asked self.old.desk key asked).0 } }
+    fn cancel_asked(&mut self, key: u32, asked: u64) -> Outcome
+        ensures answer { (found : List Row) → step_of found result ≡ (cancel_asked (state_of self.old).desk key asked).1 }
+        ensures new { state_of self.new ≡ record (state_of self.old) { desk = (cancel_asked (state_of self.old).desk key asked).0 } }
     {
         if asked < LAST_NUMBER {
-            self.go_to(Place::Withdrawing(key))
+            self.stage = Stage::Withdrawing(key);
+            Outcome::Going
         } else {
-            self.end(Reply::Worn)
+            self.end(Outcome::Worn)
         }
     }
 
     /// Loads the next content word of a slot that a key names.
-    fn read_on(&mut self, call: WriterCall, slot: u32, got: WordsRead) -> Step
-        requires place { self.old.desk.place ≡ Reading call slot got }
-        requires room { HasRoom self.old }
-        ensures answer { result ≡ (read_on self.old.shape self.old.desk call slot (got ++ found_by self.old Go ∷ [])).1 }
-        ensures new { self.new ≡ moved self.old Go }
+    fn read_on(&mut self, slot: u32, found: &mut RowSet) -> Outcome
+        requires stage { self.old.stage ≡ Reading slot }
+        requires room { HasRoom (state_of self.old) }
+        ensures answer { step_of found.new result ≡ (went (state_of self.old).shape (state_of self.old).desk (state_of self.old).desk.place (found_by (state_of self.old) Go)).1 }
+        ensures new { state_of self.new ≡ moved (state_of self.old) Go }
     {
-        let word = self.words.load(self.layout.content(slot, got.len()));
-        let got = got.with(word);
-        if !got.is_whole() {
-            return self.go_to(Place::Reading(call, slot, got));
-        }
-        match got.set() {
-            Some(rows) => self.decide(call, rows),
-            None => self.go_to(Place::Idle),
+        let word = self.words.load(self.layout.content(slot, self.got.len()));
+        self.got.push(word);
+        if self.got.is_whole() {
+            self.decide(found)
+        } else {
+            Outcome::Going
         }
     }
 
     /// Where the call goes from its last read, which completes the set. Only finds and updates read.
-    fn decide(&mut self, call: WriterCall, rows: RowSet) -> Step
-        requires few { length self.old.desk.retired ≤ self.old.shape.slots }
-        ensures answer { result ≡ (decided self.old.shape self.old.desk call rows).1 }
-        ensures new { self.new ≡ record self.old { desk = (decided self.old.shape self.old.desk call rows).0 } }
+    fn decide(&mut self, found: &mut RowSet) -> Outcome
+        requires bound { bound_of (state_of self.old).shape ≤ MAX_ROWS }
+        requires fits { length self.old.got ≤ slot_room (state_of self.old).shape }
+        requires few { length self.old.spare.retired ≤ self.old.layout.slots }
+        requires whole { length self.old.got ≡ 2 * slice_index self.old.got 0 + 1 }
+        ensures answer { step_of found.new result ≡ (decoded (state_of self.old).shape (state_of self.old).desk self.old.call (decode self.old.got)).1 }
+        ensures new { state_of self.new ≡ record (state_of self.old) { desk = (decoded (state_of self.old).shape (state_of self.old).desk self.old.call (decode self.old.got)).0 } }
     {
-        match call {
-            WriterCall::Find(_) => self.end(Reply::Rows(rows)),
-            WriterCall::Update(_, batch) => self.renew(call, rows.applied(&batch)),
-            WriterCall::Fill(_, _, _) | WriterCall::Evict(_) | WriterCall::Cancel(_) => {
-                self.go_to(Place::Idle)
+        let Some(rows) = self.got.set() else {
+            return self.end(Outcome::Going);
+        };
+        match &self.call {
+            WriterCall::Find(_) => {
+                *found = rows;
+                self.end(Outcome::Rows)
             }
-        }
-    }
-
-    /// Where an update goes whose batch was applied to the set that it read.
-    fn renew(&mut self, call: WriterCall, applied: Result<RowSet, ApplyFault>) -> Step
-        requires { length self.old.desk.retired ≤ self.old.shape.slots }
-        ensures answer { result ≡ (renewed self.old.shape self.old.desk call applied).1 }
-        ensures new { self.new ≡ record self.old { desk = (renewed self.old.shape self.old.desk call applied).0 } }
-    {
-        match applied {
-            Ok(rows) => self.settle(call, rows),
-            Err(ApplyFault::NoRow) => self.end(Reply::NoRow),
-            Err(ApplyFault::TooMany) => self.end(Reply::TooMany),
+            WriterCall::Update(_, batch) => match rows.applied(batch, self.layout.rows) {
+                Ok(left) => {
+                    self.rows = left;
+                    self.settle()
+                }
+                Err(ApplyFault::NoRow) => self.end(Outcome::NoRow),
+                Err(ApplyFault::TooMany) => self.end(Outcome::TooMany),
+            },
+            WriterCall::Fill(_, _, _) | WriterCall::Evict(_) | WriterCall::Cancel(_) => {
+                self.end(Outcome::Going)
+            }
         }
     }
 
     /// Stores the next word of the set in the slot that the call took, which no key names and
     /// nobody holds.
-    fn put(&mut self, call: WriterCall, rows: RowSet, slot: u32, departed: u64, index: u32) -> Step
-        requires place { self.old.desk.place ≡ Putting call rows slot departed index }
-        requires room { HasRoom self.old }
-        requires more { index ≤ 2 * length rows }
-        ensures answer { result ≡ (put_on self.old.desk call rows slot departed index (found_by self.old Go)).1 }
-        ensures new { self.new ≡ moved self.old Go }
+    fn put(&mut self, slot: u32, departed: u64, index: u32) -> Outcome
+        requires stage { self.old.stage ≡ Putting slot departed index }
+        requires room { HasRoom (state_of self.old) }
+        requires more { index ≤ 2 * length self.old.rows }
+        ensures answer { (found : List Row) → step_of found result ≡ (went (state_of self.old).shape (state_of self.old).desk (state_of self.old).desk.place (found_by (state_of self.old) Go)).1 }
+        ensures new { state_of self.new ≡ moved (state_of self.old) Go }
     {
-        let mut words = [0; CONTENT_WORDS];
-        encode(&rows, &mut words);
-        let place = self.layout.content(slot, index);
-        self.words.store(place, words[index as usize]);
-        self.go_to(Place::Putting(call, rows, slot, departed, index + 1))
+        let word = word_at(&self.rows, index as usize);
+        self.words.store(self.layout.content(slot, index), word);
+        self.stage = Stage::Putting(slot, departed, index + 1);
+        Outcome::Going
     }
 
     /// Swaps in a word that names the slot, with the slot's departures as its arrivals. The slot
     /// that the old word named is retired.
-    fn publish(
-        &mut self,
-        call: WriterCall,
-        rows: RowSet,
-        slot: u32,
-        departed: u64,
-        index: u32,
-    ) -> Step
-        requires place { self.old.desk.place ≡ Putting call rows slot departed index }
-        requires room { HasRoom self.old }
-        requires all_put { 2 * length rows < index }
-        ensures answer { result ≡ (put_on self.old.desk call rows slot departed index (found_by self.old Go)).1 }
-        ensures new { self.new ≡ moved self.old Go }
+    fn publish(&mut self, slot: u32, departed: u64, index: u32) -> Outcome
+        requires stage { self.old.stage ≡ Putting slot departed index }
+        requires room { HasRoom (state_of self.old) }
+        requires all_put { 2 * length self.old.rows < index }
+        ensures answer { (found : List Row) → step_of found result ≡ (went (state_of self.old).shape (state_of self.old).desk (state_of self.old).desk.place (found_by (state_of self.old) Go)).1 }
+        ensures new { state_of self.new ≡ moved (state_of self.old) Go }
     {
-        let place = self.layout.key(call.key());
+        let place = self.layout.key(self.call.key());
         let word = self.words.swap(place, naming(slot, departed));
         self.retire(word);
-        Step::Ended(WReply::Reply(Reply::Done))
+        Outcome::Done
     }
 
     /// Swaps in the word of a hole with the key's number. The slot that the old word named is
     /// retired.
-    fn unpublish(&mut self, key: u32) -> Step
-        requires place { self.old.desk.place ≡ Leaving key }
-        requires room { HasRoom self.old }
-        ensures answer { result ≡ (went self.old.shape self.old.desk self.old.desk.place (found_by self.old Go)).1 }
-        ensures new { self.new ≡ moved self.old Go }
+    fn unpublish(&mut self, key: u32) -> Outcome
+        requires stage { self.old.stage ≡ Leaving key }
+        requires room { HasRoom (state_of self.old) }
+        ensures answer { (found : List Row) → step_of found result ≡ (went (state_of self.old).shape (state_of self.old).desk (state_of self.old).desk.place (found_by (state_of self.old) Go)).1 }
+        ensures new { state_of self.new ≡ moved (state_of self.old) Go }
     {
         let hole = hole_word(self.number(key), false);
         let word = self.words.swap(self.layout.key(key), hole);
         self.retire(word);
-        Step::Ended(WReply::Reply(Reply::Evicted))
+        Outcome::Evicted
     }
 
     /// Swaps in the word of a hole with the next number, so that an answer to the request that is
     /// taken back fills no later one. The old word names no slot.
-    fn withdraw(&mut self, key: u32) -> Step
-        requires place { self.old.desk.place ≡ Withdrawing key }
-        requires room { HasRoom self.old }
-        ensures answer { result ≡ (went self.old.shape self.old.desk self.old.desk.place (found_by self.old Go)).1 }
-        ensures new { self.new ≡ moved self.old Go }
+    fn withdraw(&mut self, key: u32) -> Outcome
+        requires stage { self.old.stage ≡ Withdrawing key }
+        requires room { HasRoom (state_of self.old) }
+        ensures answer { (found : List Row) → step_of found result ≡ (went (state_of self.old).shape (state_of self.old).desk (state_of self.old).desk.place (found_by (state_of self.old) Go)).1 }
+        ensures new { state_of self.new ≡ moved (state_of self.old) Go }
     {
         let number = self.number(key) + 1;
         let hole = hole_word(number, false);
         self.words.swap(self.layout.key(key), hole);
         self.spare.renumber(key, number);
-        self.end(Reply::Cancelled)
+        self.end(Outcome::Cancelled)
     }
 
-    /// The call goes on from another place.
-    pub fn go_to(&mut self, place: Place) -> Step
-        ensures answer { result ≡ Step.Going }
-        ensures new { self.new ≡ record self.old { desk = moved_to self.old.desk place } }
+    /// The call ends so.
+    fn end(&mut self, outcome: Outcome) -> Outcome
+        ensures answer { result ≡ outcome }
+        ensures new { state_of self.new ≡ record (state_of self.old) { desk = moved_to (state_of self.old).desk Idle } }
     {
-        self.place = place;
-        Step::Going
-    }
-
-    /// The call ends with that reply.
-    fn end(&mut self, reply: Reply) -> Step
-        ensures answer { result ≡ ended reply }
-        ensures new { self.new ≡ record self.old { desk = moved_to self.old.desk Idle } }
-    {
-        self.place = Place::Idle;
-        Step::Ended(WReply::Reply(reply))
+        self.stage = Stage::Idle;
+        outcome
     }
 }

@@ -277,7 +277,29 @@ const A_WORN_REQUEST_STAYS: Lines = &[
     ("writer cancel 0", "nothing"),
 ];
 
-const SCHEDULES: [Lines; 9] = [
+const A_KEY_HAS_THE_ROWS_OF_ITS_OPENING: Lines = &[
+    ("open 1 3 1 0 0 256", "bad"),
+    ("open 1 3 1 0 0 0", "bad"),
+    ("open 1 3 1 0 0 2", "ok"),
+    ("writer fill 9 1:1 2:2 3:3", "too-many"),
+    ("ask 1 0", "send"),
+    ("writer fill 0 1:1 2:2", "-"),
+    ("writer fill 0 1:1 2:2 3:3", "too-many"),
+    ("go", "-"),
+    ("go", "-"),
+    ("go", "-"),
+    ("go", "-"),
+    ("go", "-"),
+    ("go", "done"),
+    ("writer update 0 +3:3", "-"),
+    ("go", "-"),
+    ("go", "-"),
+    ("go", "-"),
+    ("go", "-"),
+    ("go", "too-many"),
+];
+
+const SCHEDULES: [Lines; 10] = [
     EVICTED_SET_STAYS_WHILE_IT_IS_HELD,
     COUNTS_WRAP,
     A_FILL_SHOWS_WHEN_IT_IS_DONE,
@@ -287,6 +309,7 @@ const SCHEDULES: [Lines; 9] = [
     REFUSALS_IN_THEIR_ORDER,
     A_LATE_FILL_IS_STALE,
     A_WORN_REQUEST_STAYS,
+    A_KEY_HAS_THE_ROWS_OF_ITS_OPENING,
 ];
 
 #[test]

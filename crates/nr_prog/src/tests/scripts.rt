@@ -340,7 +340,19 @@ const A_LATE_FILL_IS_STALE: Lines = &[
     ("look a", "rows 1:1"),
 ];
 
-const SCRIPTS: [Lines; 22] = [
+const A_KEY_HAS_THE_ROWS_OF_ITS_OPENING: Lines = &[
+    ("open 1 3 1 0 0 256", "bad"),
+    ("open 1 3 1 0 0 0", "bad"),
+    ("open 1 3 1 0 0 2", "ok"),
+    ("ask 1 0", "send"),
+    ("fill 0 1:1 2:2 3:3", "too-many"),
+    ("fill 0 1:1 2:2", "done"),
+    ("update 0 +3:3", "too-many"),
+    ("update 0 +3:3 -1:1", "done"),
+    ("find 1 0", "rows 2:2 3:3"),
+];
+
+const SCRIPTS: [Lines; 23] = [
     EMPTY_INPUT,
     FIRST_PATH,
     UNASKED_KEYS_TAKE_NOTHING,
@@ -363,6 +375,7 @@ const SCRIPTS: [Lines; 22] = [
     A_REFUSED_LINE_KEEPS_ITS_NAME,
     A_CANCELLED_REQUEST_IS_ASKED_ANEW,
     A_LATE_FILL_IS_STALE,
+    A_KEY_HAS_THE_ROWS_OF_ITS_OPENING,
 ];
 
 /// Those that are cut at each byte, which takes a run a byte.

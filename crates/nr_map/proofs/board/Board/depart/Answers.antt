@@ -3,6 +3,7 @@ use mathlib.Core.Option.{none}
 use Rattle.atomic_table.specs.Table.{Allows, step}
 use Rattle.nr_core.specs.Slots.{departures}
 use Rattle.nr_core.specs.declared.shape.Shape.{Shape}
+use Rattle.nr_map.proofs.BoardPlaces.{departures_at, departures_in, stands}
 use Rattle.nr_map.proofs.ReaderSeats.{departed_seat}
 use Rattle.nr_map.proofs.ReaderSteps.{departs_so}
 use Rattle.nr_map.specs.Callers.{Table}
@@ -12,13 +13,12 @@ use Rattle.nr_map.specs.Views.{slot_held}
 use Rattle.nr_map.proofs.board.Board.depart.Goals as goal
 
 pub fetch_add-requires : goal.fetch_add-requires
-fetch_add-requires c = let shared = c.self.inside.table.shared in let about = c.self.invariant in let seat = c.args.seat.now in let reader = c.requires.reader in
-    let slot : ℕ = slot_held seat.me.0.role in let key_is : shared.key ≡ c.args.self.now.shape = about.0 ∙ ap (λ (t : Table). t.shape) c.self.view_is in
-    let place : c.args.begin - 1 ≡ departures shared.key slot = omega (arith, reader.begin_is, ap (λ (s : Shape). s.keys) key_is) in (
+fetch_add-requires c = let shared = c.self.inside.table.shared in let board = stands c.self.view_is c.self.invariant in let seat = c.args.seat.now in let reader = c.requires.reader in
+    let slot : ℕ = slot_held seat.me.0.role in let before : c.args.begin - 1 ≡ departures c.args.self.now.shape slot = omega (arith, reader.begin_is) in (
       ap (λ (t : Table). t.id) (reader.own ∙ sym c.self.view_is),
-      omega (arith, reader.begin_is, reader.holds.inside, ap (λ (t : Table). t.shape.keys) c.self.view_is, ap (λ (t : Table). t.shape.slots) c.self.view_is),
-      subst (λ (at : ℕ). Allows (Kept shared.key) shared.table_id.slots seat.id seat.me at (λ n. (n + 1) % 2 ^ 64) (departed (step shared.table_id.slots at 1 0 none) seat.me)) (sym place)
-          (departs_so shared.key shared.table_id.slots seat.id seat.me reader.holds.is (ap (λ (t : Table). t.shape) reader.own ∙ sym key_is)),
+      departures_in board slot reader.holds.inside before,
+      subst (λ (at : ℕ). Allows (Kept shared.key) shared.table_id.slots seat.id seat.me at (λ n. (n + 1) % 2 ^ 64) (departed (step shared.table_id.slots at 1 0 none) seat.me)) (sym (departures_at board slot reader.holds.inside before))
+          (departs_so shared.key shared.table_id.slots seat.id seat.me reader.holds.is (ap (λ (t : Table). t.shape) reader.own ∙ sym board.key_is)),
     )
 
 pub returns : goal.returns

@@ -1,40 +1,56 @@
-use Rattle.std.proofs.Common.{ap, arith, sym, ◌∙◌, ◌≡◌}
+use Rattle.std.proofs.Common.{ap, arith, false, subst, sym, true, ◌≡◌}
 use Rattle.nr_model.specs.declared.calls.Reply.TheVariants as reply
-use Rattle.nr_words.specs.declared.key_words.KeyParts.{KeyParts}
-use Rattle.nr_core.specs.Writer.{settled}
-use Rattle.nr_core.specs.declared.calls.WriterCall.TheVariants as writer
-use Rattle.nr_core.specs.declared.places.Place.TheVariants.{Idle}
-use Rattle.nr_map.proofs.WriterCalls.{asked_so, fill_already, fill_not_asked, fill_settles, fill_stale, lacks_so, look_ends, look_goes, publishes_so, rests_here, rests_own, settles_so, slot_so, unasked_so}
-use Rattle.nr_marks.specs.Marks.{Marks}
-use Rattle.nr_map.specs.Spares.{desk_with}
-use Rattle.nr_map.proofs.reader_map.ReaderMap.fill_key.Goals as goal
 use Rattle.nr_words.specs.KeyWords.{slot_of}
+use Rattle.nr_core.specs.Laws.{IsGivenCall}
+use Rattle.nr_core.specs.Slots.{bound_of}
+use Rattle.nr_core.specs.States.{key_of}
+use Rattle.nr_core.specs.declared.calls.WriterCall.{WriterCall}
+use Rattle.nr_core.specs.declared.places.Place.TheVariants.{Idle}
+use Rattle.nr_map.proofs.Looks.{asked_so, fill_already, fill_not_asked, fill_settles, fill_stale, filled_so, has_looked, slot_so, unasked_so}
+use Rattle.nr_map.proofs.WriterCalls.{has_lacked, has_published, look_ends, look_settles}
+use Rattle.nr_map.specs.Callers.{Table}
+use Rattle.nr_map.specs.Spares.{desk_with}
+use Rattle.nr_map.specs.WriterSeats.{Settles}
+use Rattle.nr_map.proofs.reader_map.ReaderMap.fill_key.Goals as goal
+
+pub look-requires-clause-given : goal.look-requires-clause-given
+look-requires-clause-given g c = subst (λ (p : Table × WriterCall). IsGivenCall (bound_of p.0.shape) p.1) (λ j. (sym c.self.view_is j, sym c.requires.call j)) c.requires.row_set
 
 pub returns-then-found : goal.returns-then-found
-returns-then-found c = let told = look_ends c.self.inside.board c.args.self.now c.self.view_is c.args.spare.now c.args.seat.now c.requires.own c.requires.rests (writer.Fill c.args.key c.args.number c.args.rows.now) c.look.result c.look.new.seat c.look.ensures.leads
-    c.look.ensures.marks reply.Already (fill_already c.args.self.now.shape (desk_with c.args.spare.now Idle) c.args.key c.look.result c.args.number c.args.rows.now (ap (λ (p : KeyParts). p.filled) (sym c.parts-found.ensures.parts) ∙ c.if-found.true)) in
+returns-then-found g c = let looks = has_looked {before = c.args.seat.now} c.self.view_is c.requires.own c.requires.rests c.requires.call c.look.ensures.leads c.look.ensures.marks in let word = c.look.result in let parts = c.parts-found.ensures.parts in
+    let told = look_ends looks reply.Already (fill_already c.args.self.now.shape (desk_with c.args.spare.now Idle) c.args.key c.look.result c.args.number c.args.rows.now (filled_so word parts true c.if-found.true)) in
     record { rests = told.0; fills = told.1 }
 
 pub returns-then-not-found : goal.returns-then-not-found
-returns-then-not-found c = let told = look_ends c.self.inside.board c.args.self.now c.self.view_is c.args.spare.now c.args.seat.now c.requires.own c.requires.rests (writer.Fill c.args.key c.args.number c.args.rows.now) c.look.result c.look.new.seat c.look.ensures.leads
-    c.look.ensures.marks reply.NotAsked (fill_not_asked c.args.self.now.shape (desk_with c.args.spare.now Idle) c.args.key c.look.result c.args.number c.args.rows.now (ap (λ (p : KeyParts). p.filled) (sym c.parts-found.ensures.parts) ∙ c.if-found.false) (unasked_so c.parts-found.result c.look.result c.parts-found.ensures.parts c.if-not-found.true)) in
+returns-then-not-found g c = let looks = has_looked {before = c.args.seat.now} c.self.view_is c.requires.own c.requires.rests c.requires.call c.look.ensures.leads c.look.ensures.marks in let word = c.look.result in let parts = c.parts-found.ensures.parts in
+    let told = look_ends looks reply.NotAsked (fill_not_asked c.args.self.now.shape (desk_with c.args.spare.now Idle) c.args.key c.look.result c.args.number c.args.rows.now (filled_so word parts false c.if-found.false) (unasked_so word parts c.if-not-found.true)) in
     record { rests = told.0; fills = told.1 }
 
 pub returns-then-from-number : goal.returns-then-from-number
-returns-then-from-number c = let told = look_ends c.self.inside.board c.args.self.now c.self.view_is c.args.spare.now c.args.seat.now c.requires.own c.requires.rests (writer.Fill c.args.key c.args.number c.args.rows.now) c.look.result c.look.new.seat c.look.ensures.leads
-    c.look.ensures.marks reply.Stale (fill_stale c.args.self.now.shape (desk_with c.args.spare.now Idle) c.args.key c.look.result c.args.number c.args.rows.now (ap (λ (p : KeyParts). p.filled) (sym c.parts-found.ensures.parts) ∙ c.if-found.false) (asked_so c.parts-found.result c.look.result c.parts-found.ensures.parts c.if-not-found.false)
-    (λ (e : slot_of c.look.result ≡ c.args.number). absurd (omega (arith, slot_so c.parts-found.result c.look.result c.parts-found.ensures.parts, c.from.ensures, c.if-from-number.true)))) in
+returns-then-from-number g c = let looks = has_looked {before = c.args.seat.now} c.self.view_is c.requires.own c.requires.rests c.requires.call c.look.ensures.leads c.look.ensures.marks in let word = c.look.result in let parts = c.parts-found.ensures.parts in
+    let stale = λ (own : slot_of word ≡ c.args.number). absurd (omega (arith, own, slot_so word parts, c.from.ensures, c.if-from-number.true)) in
+    let told = look_ends looks reply.Stale (fill_stale c.args.self.now.shape (desk_with c.args.spare.now Idle) c.args.key c.look.result c.args.number c.args.rows.now (filled_so word parts false c.if-found.false) (asked_so word parts c.if-not-found.false) stale) in
     record { rests = told.0; fills = told.1 }
 
-pub publish-requires-clause-settles : goal.publish-requires-clause-settles
-publish-requires-clause-settles c = (settles_so c.args.self.now c.args.spare.now c.args.seat.now (rests_here c.args.self.now c.args.spare.now c.args.seat.now c.requires.own c.requires.rests) 1 (writer.Fill c.args.key c.args.number c.args.rows.now) c.args.rows.now c.look.new.seat (look_goes c.self.inside.board c.args.self.now c.self.view_is c.args.spare.now c.args.seat.now c.requires.own c.requires.rests (writer.Fill c.args.key c.args.number c.args.rows.now) c.look.result c.look.new.seat c.look.ensures.leads c.look.ensures.marks (settled c.args.self.now.shape (desk_with c.args.spare.now Idle) (writer.Fill c.args.key c.args.number c.args.rows.now) c.args.rows.now) (fill_settles c.args.self.now.shape (desk_with c.args.spare.now Idle) c.args.key c.look.result c.args.number c.args.rows.now (ap (λ (p : KeyParts). p.filled) (sym c.parts-found.ensures.parts) ∙ c.if-found.false) (asked_so c.parts-found.result c.look.result c.parts-found.ensures.parts c.if-not-found.false) (let own : slot_of c.look.result ≡ c.args.number = omega (arith, slot_so c.parts-found.result c.look.result c.parts-found.ensures.parts, c.from.ensures, c.if-from-number.false) in own))) (ap (λ (m : Marks). m.polls) c.look.ensures.marks)).0
+pub publish-requires : goal.publish-requires
+publish-requires g c = let looks = has_looked {before = c.args.seat.now} c.self.view_is c.requires.own c.requires.rests c.requires.call c.look.ensures.leads c.look.ensures.marks in let word = c.look.result in let parts = c.parts-found.ensures.parts in
+    let own : slot_of word ≡ c.args.number = omega (arith, slot_so word parts, c.from.ensures, c.if-from-number.false) in
+    let set = look_settles looks (fill_settles c.args.self.now.shape (desk_with c.args.spare.now Idle) c.args.key c.look.result c.args.number c.args.rows.now (filled_so word parts false c.if-found.false) (asked_so word parts c.if-not-found.false) own) in record {
+      settles = subst (λ (call : WriterCall). Settles c.args.self.now call c.args.rows.now c.args.spare.now c.look.new.seat) (sym c.requires.call) set.settles;
+      call = ap key_of (sym c.requires.call);
+      key = c.requires.key;
+    }
 
 pub returns-in-Err : goal.returns-in-Err
-returns-in-Err c = let settles = settles_so c.args.self.now c.args.spare.now c.args.seat.now (rests_here c.args.self.now c.args.spare.now c.args.seat.now c.requires.own c.requires.rests) 1 (writer.Fill c.args.key c.args.number c.args.rows.now) c.args.rows.now c.look.new.seat (look_goes c.self.inside.board c.args.self.now c.self.view_is c.args.spare.now c.args.seat.now c.requires.own c.requires.rests (writer.Fill c.args.key c.args.number c.args.rows.now) c.look.result c.look.new.seat c.look.ensures.leads c.look.ensures.marks (settled c.args.self.now.shape (desk_with c.args.spare.now Idle) (writer.Fill c.args.key c.args.number c.args.rows.now) c.args.rows.now) (fill_settles c.args.self.now.shape (desk_with c.args.spare.now Idle) c.args.key c.look.result c.args.number c.args.rows.now (ap (λ (p : KeyParts). p.filled) (sym c.parts-found.ensures.parts) ∙ c.if-found.false) (asked_so c.parts-found.result c.look.result c.parts-found.ensures.parts c.if-not-found.false) (let own : slot_of c.look.result ≡ c.args.number = omega (arith, slot_so c.parts-found.result c.look.result c.parts-found.ensures.parts, c.from.ensures, c.if-from-number.false) in own))) (ap (λ (m : Marks). m.polls) c.look.ensures.marks) in
-    let told = lacks_so c.args.self.now c.args.spare.now c.args.seat.now (rests_here c.args.self.now c.args.spare.now c.args.seat.now c.requires.own c.requires.rests) 1 (writer.Fill c.args.key c.args.number c.args.rows.now) c.args.rows.now c.look.new.seat c.publish.new.seat settles.1 c.look.ensures.marks c.publish.new.spare c.in-Err.counts c.in-Err.ensures in
-    record { rests = rests_own c.args.self.now c.publish.new.spare c.publish.new.seat told.0; fills = told.1 }
+returns-in-Err g c = let looks = has_looked {before = c.args.seat.now} c.self.view_is c.requires.own c.requires.rests c.requires.call c.look.ensures.leads c.look.ensures.marks in let word = c.look.result in let parts = c.parts-found.ensures.parts in
+    let own : slot_of word ≡ c.args.number = omega (arith, slot_so word parts, c.from.ensures, c.if-from-number.false) in
+    let set = look_settles looks (fill_settles c.args.self.now.shape (desk_with c.args.spare.now Idle) c.args.key c.look.result c.args.number c.args.rows.now (filled_so word parts false c.if-found.false) (asked_so word parts c.if-not-found.false) own) in
+    let told = has_lacked set c.requires.call c.in-Err.ensures in
+    record { rests = told.0; fills = told.1 }
 
 pub returns : goal.returns
-returns c = let settles = settles_so c.args.self.now c.args.spare.now c.args.seat.now (rests_here c.args.self.now c.args.spare.now c.args.seat.now c.requires.own c.requires.rests) 1 (writer.Fill c.args.key c.args.number c.args.rows.now) c.args.rows.now c.look.new.seat (look_goes c.self.inside.board c.args.self.now c.self.view_is c.args.spare.now c.args.seat.now c.requires.own c.requires.rests (writer.Fill c.args.key c.args.number c.args.rows.now) c.look.result c.look.new.seat c.look.ensures.leads c.look.ensures.marks (settled c.args.self.now.shape (desk_with c.args.spare.now Idle) (writer.Fill c.args.key c.args.number c.args.rows.now) c.args.rows.now) (fill_settles c.args.self.now.shape (desk_with c.args.spare.now Idle) c.args.key c.look.result c.args.number c.args.rows.now (ap (λ (p : KeyParts). p.filled) (sym c.parts-found.ensures.parts) ∙ c.if-found.false) (asked_so c.parts-found.result c.look.result c.parts-found.ensures.parts c.if-not-found.false) (let own : slot_of c.look.result ≡ c.args.number = omega (arith, slot_so c.parts-found.result c.look.result c.parts-found.ensures.parts, c.from.ensures, c.if-from-number.false) in own))) (ap (λ (m : Marks). m.polls) c.look.ensures.marks) in
-    let told = publishes_so c.args.self.now c.args.spare.now c.args.seat.now (rests_here c.args.self.now c.args.spare.now c.args.seat.now c.requires.own c.requires.rests) 1 (writer.Fill c.args.key c.args.number c.args.rows.now) c.args.rows.now c.look.new.seat c.publish.new.seat settles.1 c.look.ensures.marks c.publish.new.spare c.in_default.ensures in
-    record { rests = rests_own c.args.self.now c.publish.new.spare c.publish.new.seat told.0; fills = told.1 }
+returns g c = let looks = has_looked {before = c.args.seat.now} c.self.view_is c.requires.own c.requires.rests c.requires.call c.look.ensures.leads c.look.ensures.marks in let word = c.look.result in let parts = c.parts-found.ensures.parts in
+    let own : slot_of word ≡ c.args.number = omega (arith, slot_so word parts, c.from.ensures, c.if-from-number.false) in
+    let set = look_settles looks (fill_settles c.args.self.now.shape (desk_with c.args.spare.now Idle) c.args.key c.look.result c.args.number c.args.rows.now (filled_so word parts false c.if-found.false) (asked_so word parts c.if-not-found.false) own) in
+    let told = has_published set c.requires.call c.in_default.ensures in
+    record { rests = told.0; fills = told.1 }

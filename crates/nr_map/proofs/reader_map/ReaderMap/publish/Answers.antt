@@ -11,7 +11,7 @@ use Rattle.nr_map.specs.WriterSeats.{GoesOn, WritesAt}
 use Rattle.nr_map.proofs.reader_map.ReaderMap.publish.Goals as goal
 
 pub returns : goal.returns
-returns c = let map = c.args.self.now in let call = c.args.call.now in let rows = c.args.rows.now in let took = c.in_ok-taken.ensures in let slot = c.in_ok-taken.taken.slot in let departed = c.in_ok-taken.taken.departures in
+returns g c = let map = c.args.self.now in let call = g.G.Given.call in let rows = c.args.rows.now in let took = c.in_ok-taken.ensures in let slot = c.in_ok-taken.taken.slot in let departed = c.in_ok-taken.taken.departures in
     let before = c.args.seat.now in let at = c.take_slot.new.seat in let mid = c.put_rows.new.seat in let last : ℕ = 2 * length rows + 1 in
     let writes = subst (λ (desk : Desk). WritesAt map (moved_to desk (Putting call rows slot departed last)) mid) (ap desk_of took.writes.role) c.put_rows.ensures.writer in
     let goes = subst (λ (table : Table). GoesOn table c.publish-old_word.result mid c.publish-old_word.new.seat) c.self.view_is c.publish-old_word.ensures in

@@ -1,36 +1,33 @@
-use Rattle.std.proofs.Common.{List, ap, arith, get_or, length, refl, replicate, subst, sym, ℕ, ◌-◌, ◌∙◌, ◌≡◌}
-use Rattle.std.proofs.lemmas.List.{get_or_append_left}
-use Rattle.nr_core.specs.declared.roles.Desk.{Desk}
-use Rattle.nr_core.specs.declared.roles.Role.TheVariants.{Writer}
-use Rattle.nr_core.specs.Slots.{content}
-use Rattle.nr_words.specs.SetWords.{encode}
-use Rattle.nr_map.proofs.Publishing.{put_more}
-use Rattle.nr_map.proofs.Rows.{length-encode}
+use Rattle.std.proofs.Common.{arith, length, refl, subst, ℕ, ◌*◌, ◌+◌, ◌≡◌}
+use Rattle.nr_map.proofs.Publishing.{PutSoFar, put_more, puts_next}
+use Rattle.nr_map.proofs.Rows.{row_words_at}
 use Rattle.nr_map.proofs.Searching.{grows_none}
-use Rattle.nr_map.specs.Callers.{Table, token}
+use Rattle.nr_map.specs.Callers.{token}
 use Rattle.nr_map.specs.Views.{desk_of}
-use Rattle.nr_map.specs.WriterSeats.{IsPutting, PutsTo}
 use Rattle.nr_map.proofs.reader_map.ReaderMap.put_rows.Goals as goal
 
-pub loop-index-init : goal.loop-index-init
-loop-index-init c = record { writes = c.requires.writer; grows = grows_none (token c.args.seat.now) c.requires.knows; marks = refl }
+two_more : (i : ℕ) → 2 * i + 1 + 1 + 1 ≡ 2 * (i + 1) + 1
+two_more i = omega arith
 
 pub put-requires : goal.put-requires
-put-requires c = let rows = c.args.rows.now in let index : ℕ = c.loop-index.index in let words = length-encode rows in
-    subst (λ (table : Table). IsPutting table c.content-begin.result index (get_or c.encode.new.words index 0) c.loop-index.seat) (sym c.self.view_is) (record {
-      desk = _;
-      writes = c.loop-index.invariant.writes;
-      call = c.args.call.now;
-      rows = rows;
-      slot = c.args.taken.slot;
-      departed = c.args.taken.departures;
-      place = refl;
-      begin_is = c.content-begin.ensures ∙ ap (λ (t : Table). content t.shape c.args.taken.slot 0) c.self.view_is;
-      more = omega (arith, c.loop-index-test.true, c.len.ensures.value);
-      word_is = ap (λ (l : List ℕ). get_or l index 0) c.encode.ensures.new ∙ get_or_append_left (encode rows) (replicate (31 - length (encode rows)) 0) 0 index (omega (arith, c.loop-index-test.true, c.len.ensures.value));
-    })
+put-requires g c = let map = c.args.self.now in let board = c.self.inside.board in let desk = desk_of c.args.seat.now.me.0.role in let call = g.G.Given.call in let rows = c.args.rows.now in let slot = c.args.taken.slot in let departed = c.args.taken.departures in let seat = c.args.seat.now in
+    puts_next map board c.self.view_is desk call rows slot departed seat seat c.content-begin.result 0 (length rows) c.content-begin.ensures (record { writes = c.requires.writer; grows = grows_none (token seat) c.requires.knows; marks = refl }) (omega arith) refl
 
-pub loop-index-preserved : goal.loop-index-preserved
-loop-index-preserved c = let index : ℕ = c.loop-index.index in
-    let puts = subst (λ (table : Table). (at : Desk) → c.loop-index.seat.me.0.role ≡ Writer at → PutsTo table at c.loop-index.seat c.put.new.seat) c.self.view_is c.put.ensures in
-    put_more c.args.self.now (desk_of c.args.seat.now.me.0.role) c.args.call.now c.args.rows.now c.args.taken.slot c.args.taken.departures c.args.seat.now c.loop-index.seat c.put.new.seat index c.loop-index.invariant puts
+pub loop-i-init : goal.loop-i-init
+loop-i-init g c = let map = c.args.self.now in let board = c.self.inside.board in let desk = desk_of c.args.seat.now.me.0.role in let call = g.G.Given.call in let rows = c.args.rows.now in let slot = c.args.taken.slot in let departed = c.args.taken.departures in let seat = c.args.seat.now in
+    put_more map board c.self.view_is desk call rows slot departed seat seat c.put.new.seat 0 (record { writes = c.requires.writer; grows = grows_none (token seat) c.requires.knows; marks = refl }) c.put.ensures
+
+pub put-requires-in-loop-i : goal.put-requires-in-loop-i
+put-requires-in-loop-i g c = let map = c.args.self.now in let board = c.self.inside.board in let desk = desk_of c.args.seat.now.me.0.role in let call = g.G.Given.call in let rows = c.args.rows.now in let slot = c.args.taken.slot in let departed = c.args.taken.departures in let i = c.loop-i.i in
+    puts_next map board c.self.view_is desk call rows slot departed c.args.seat.now c.loop-i.seat c.content-begin.result (2 * i + 1) _ c.content-begin.ensures c.loop-i.invariant (omega (arith, c.loop-i-test.true)) (row_words_at rows i _ c.loop-i-test.true).0
+
+pub put-requires-in-loop-i-2 : goal.put-requires-in-loop-i-2
+put-requires-in-loop-i-2 g c = let map = c.args.self.now in let board = c.self.inside.board in let desk = desk_of c.args.seat.now.me.0.role in let call = g.G.Given.call in let rows = c.args.rows.now in let slot = c.args.taken.slot in let departed = c.args.taken.departures in let i = c.loop-i.i in
+    puts_next map board c.self.view_is desk call rows slot departed c.args.seat.now c.put-in-loop-i.new.seat c.content-begin.result (2 * i + 1 + 1) _ c.content-begin.ensures
+    (put_more map board c.self.view_is desk call rows slot departed c.args.seat.now c.loop-i.seat c.put-in-loop-i.new.seat (2 * i + 1) c.loop-i.invariant c.put-in-loop-i.ensures) (omega (arith, c.loop-i-test.true)) (row_words_at rows i _ c.loop-i-test.true).1
+
+pub loop-i-preserved : goal.loop-i-preserved
+loop-i-preserved g c = let map = c.args.self.now in let board = c.self.inside.board in let desk = desk_of c.args.seat.now.me.0.role in let call = g.G.Given.call in let rows = c.args.rows.now in let slot = c.args.taken.slot in let departed = c.args.taken.departures in let i = c.loop-i.i in
+    let first = put_more map board c.self.view_is desk call rows slot departed c.args.seat.now c.loop-i.seat c.put-in-loop-i.new.seat (2 * i + 1) c.loop-i.invariant c.put-in-loop-i.ensures in
+    subst (PutSoFar map desk call rows slot departed c.args.seat.now c.put-in-loop-i-2.new.seat) (two_more i)
+    (put_more map board c.self.view_is desk call rows slot departed c.args.seat.now c.put-in-loop-i.new.seat c.put-in-loop-i-2.new.seat (2 * i + 1 + 1) first c.put-in-loop-i-2.ensures)

@@ -22,7 +22,7 @@ pub invariant_of-self : goal.invariant_of-self
 invariant_of-self c =
     let inside = c.self.inside in
     let within = (rw (← c.self.view_is) at c.requires).key in
-    let was : is_filled (state_of inside.map c.key-key.result) ≡ c.is_filled-was_filled.result = ap is_filled (sym c.state.ensures) ∙ sym c.is_filled-was_filled.ensures in
+    let was : is_filled (state_of inside.map c.key-key.result) ≡ c.is_filled-was_filled.result = ap is_filled (sym c.state.ensures.value) ∙ sym c.is_filled-was_filled.ensures in
     let names = names_stay inside.keys inside.map c.call-reply.new.self c.args.call.now c.call-reply.ensures.new c.self.invariant.names in
     let room : inside.filled + inside.strays < inside.slots = elim c.else-is_full.branch [
       | else-is_full-via-then-is_full+else-would_be_done w ↦

@@ -10,7 +10,7 @@ returns-then-is_filled c =
     let counted = c.self.invariant.counted in
     let held = (rw (← c.self.view_is) at c.requires).held in
     let within : c.args.pin.now.key < length inside.puts.items = omega (arith, counted.pin_key _ _ held, counted.a_put_each) in
-    let filled : is_filled (state_of inside.map c.args.pin.now.key) ≡ true = ap is_filled (sym c.state.ensures) ∙ sym c.if-is_filled.ensures in
+    let filled : is_filled (state_of inside.map c.args.pin.now.key) ≡ true = ap is_filled (sym c.state.ensures.value) ∙ sym c.if-is_filled.ensures in
     rw (← c.self.view_is)
     (ap (λ n. n == c.args.pin.now.put) (sym (read_at inside.puts.items c.args.pin.now.key c.index.result.now 0 within c.index.ensures))
     ∙ ap (λ b. b && (get_or inside.puts.items c.args.pin.now.key 0 == c.args.pin.now.put)) (sym filled)

@@ -12,5 +12,5 @@ invariant_of-result c =
     (record {
       names = subst (NamesFit c.in_ok-keys.keys) (sym (length-replicate sizes.keys (Hole sizes.first_number))) c.in_ok-keys.ensures.fits;
       within = omega arith;
-      counted = counted_opening sizes.keys sizes.readers sizes.first_number c.requires.keys.1 c.requires.readers;
+      counted = counted_opening sizes.keys sizes.readers sizes.first_number sizes.rows c.requires.keys.1 c.requires.readers;
     })

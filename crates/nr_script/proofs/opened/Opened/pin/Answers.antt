@@ -10,7 +10,7 @@ invariant_of-self c =
     let requires = rw (← c.self.view_is) at c.requires in
     let free = rw (← c.self.view_is) at c.in_ok-check_no_pin.ensures.free in
     let (from_one, to_last) = requires.reader in
-    let filled : is_filled (state_of inside.map c.args.key) ≡ true = sym (ap is_filled (c.in-Rows.ensures)) in
+    let filled : is_filled (state_of inside.map c.args.key) ≡ true = sym (ap is_filled c.in-Rows.ensures.value) in
     let within : c.args.key < length inside.puts.items = omega (arith, requires.key, counted.a_put_each) in
     record {
       within = c.self.invariant.within;

@@ -1,0 +1,20 @@
+use Rattle.std.proofs.Common.{ap, arith, rules, subst, sym, ◌∙◌}
+use Rattle.nr_map.specs.Callers.{Table}
+use Rattle.nr_map.proofs.ReadingOn.{begins, reads_all}
+use Rattle.nr_map.specs.NamedRows.{ReadTo, ReadsAll}
+use Rattle.nr_map.specs.WriterSeats.{MapSeat}
+use Rattle.nr_map.proofs.reader_map.ReaderMap.read_pile.Goals as goal
+
+pub refill-requires : goal.refill-requires
+refill-requires g c = let map = c.args.self.now in let call = g.G.Given.call in let begin = c.content-begin.result in let mid = c.read_on-count.new.seat in
+    let first = begins map c.self.inside.board call begin c.args.slot c.read_on-count.result c.args.seat.now mid c.self.view_is c.content-begin.ensures c.requires.key c.requires.writer c.read_on-count.ensures in record {
+      count = first.0;
+      row_set = (first.1.row_set.0, omega (arith, first.1.row_set.1, c.self.invariant.bound, ap (λ (t : Table). t.shape.rows) c.self.view_is));
+      ready = subst (λ (before : MapSeat). ReadTo map call begin before mid 1) (sym c.of-before.ensures) first.1;
+    }
+
+pub returns : goal.returns
+returns g c = let map = c.args.self.now in let call = g.G.Given.call in let begin = c.content-begin.result in let mid = c.read_on-count.new.seat in let source = c.refill.new.source in let gave = c.refill.ensures.gave in
+    let first = begins map c.self.inside.board call begin c.args.slot c.read_on-count.result c.args.seat.now mid c.self.view_is c.content-begin.ensures c.requires.key c.requires.writer c.read_on-count.ensures in
+    subst (ReadsAll map call c.refill.new.self c.args.seat.now) (search rules)
+    (reads_all map call source.begin c.args.seat.now mid source.seat.now source.before.now.value source.map.now c.read_on-count.result c.refill.new.self first.0 c.refill.ensures.set c.refill.ensures.rows gave.1 (gave.3 ∙ c.of-before.ensures) c.refill.ensures.ready)

@@ -1,0 +1,5 @@
+pub mod Making
+pub mod Moving
+pub mod Trying
+pub mod Getting
+pub mod Serving

@@ -1,0 +1,70 @@
+-- The calls of a caller, put together.
+use Rattle.std.proofs.Common.{◌≡◌, ℕ, ◌+◌, List, [], ◌∷◌, ◌++◌, refl, sym, ap, ◌∙◌, subst, arith, append_assoc, append-nil, inl, inr, ⊎_elim}
+use Rattle.nr_model.specs.declared.calls.Call.{Call}
+use Rattle.nr_model.specs.declared.calls.Reply.{Reply}
+use Rattle.nr_model.specs.Histories.{Entry, IsLegal, entries_of}
+use Rattle.nr_core.specs.Story.{entry}
+use Rattle.nr_map.specs.Callers.{Caller, Gains, Rests, Table, opening_map}
+use Rattle.nr_map.specs.Entries.{AreCallers}
+use Rattle.nr_map.specs.Rule.{StartsWith}
+use Rattle.nr_serve.specs.Callers.{IsSound, Makes}
+
+starts_both : (a b c : List Entry) → StartsWith b a → StartsWith c b → StartsWith c a
+starts_both a b c one two = record { rest = one.rest ++ two.rest; is = two.is ∙ ap (λ (l : List Entry). l ++ two.rest) one.is ∙ append_assoc a one.rest two.rest }
+
+pub makes_by_rests : (steps : ℕ) (a b : Caller) → Rests steps a b → Makes steps a [] b
+makes_by_rests steps a b rests = record {
+  table = rests.table;
+  number = rests.number;
+  seen = record { rest = []; is = rests.seen ∙ sym (append-nil a.seen) };
+  mine = rests.mine ∙ sym (append-nil a.mine);
+  steps_made = rests.steps_made;
+  sound = inl (rests.seen, rests.mine);
+}
+
+pub makes_none : (a : Caller) → Makes 0 a [] a
+makes_none a = record {
+  table = refl;
+  number = refl;
+  seen = record { rest = []; is = sym (append-nil a.seen) };
+  mine = sym (append-nil a.mine);
+  steps_made = omega arith;
+  sound = inl (refl, refl);
+}
+
+pub makes_by_gains : (steps : ℕ) (a : Caller) (call : Call) (reply : Reply) (b : Caller) → Gains steps a call reply b → Makes steps a (entry a.number call reply ∷ []) b
+makes_by_gains steps a call reply b gains = record {
+  table = gains.table;
+  number = gains.number;
+  seen = record { rest = gains.between ++ entry a.number call reply ∷ []; is = gains.seen ∙ append_assoc a.seen gains.between (entry a.number call reply ∷ []) };
+  mine = gains.mine;
+  steps_made = gains.steps_made;
+  sound = inr (record {
+    legal = subst (λ (t : Table). IsLegal (opening_map t) b.seen) (sym gains.table) gains.legal;
+    own = gains.own;
+    callers = subst (λ (t : Table). AreCallers t.shape b.seen) (sym gains.table) gains.callers;
+  });
+}
+
+still_sound : (a b : Caller) → b.table ≡ a.table → b.number ≡ a.number → b.seen ≡ a.seen → b.mine ≡ a.mine → IsSound a → IsSound b
+still_sound a b table number seen mine sound = record {
+  legal = subst (λ (at : Table × List Entry). IsLegal (opening_map at.0) at.1) (λ i. (sym table i, sym seen i)) sound.legal;
+  own = (λ i. entries_of (seen i) (number i)) ∙ sound.own ∙ sym mine;
+  callers = subst (λ (at : Table × List Entry). AreCallers at.0.shape at.1) (λ i. (sym table i, sym seen i)) sound.callers;
+}
+
+pub makes_both : (m n sum : ℕ) (a : Caller) (es : List Entry) (b : Caller) (fs : List Entry) (c : Caller) → sum ≡ m + n → Makes m a es b → Makes n b fs c → Makes sum a (es ++ fs) c
+makes_both m n sum a es b fs c is one two = record {
+  table = two.table ∙ one.table;
+  number = two.number ∙ one.number;
+  seen = starts_both a.seen b.seen c.seen one.seen two.seen;
+  mine = two.mine ∙ ap (λ (l : List Entry). l ++ fs) one.mine ∙ append_assoc a.mine es fs;
+  steps_made = omega (arith, one.steps_made, two.steps_made);
+  sound = ⊎_elim
+      (λ (still : (c.seen ≡ b.seen) × (c.mine ≡ b.mine)). ⊎_elim
+      (λ (first : (b.seen ≡ a.seen) × (b.mine ≡ a.mine)). inl (still.0 ∙ first.0, still.1 ∙ first.1))
+      (λ (first : IsSound b). inr (still_sound b c two.table two.number still.0 still.1 first))
+      one.sound)
+      (λ (sound : IsSound c). inr sound)
+      two.sound;
+}

@@ -1,0 +1,40 @@
+-- The moves of a client's hands, put together.
+use Rattle.std.proofs.Common.{◌≡◌, ℕ, ◌+◌, ◌≤◌, List, [], ◌∷◌, ◌++◌, length, refl, sym, ap, ◌∙◌, subst, arith, append_assoc, append-nil, length-append, Option}
+use Rattle.nr_model.specs.Histories.{Entry}
+use Rattle.nr_map.specs.Tickets.{Request}
+use Rattle.nr_trigger.specs.declared.post.Upquery.{Upquery}
+use Rattle.nr_trigger.specs.Tokens.{PosterSeen}
+use Rattle.nr_serve.specs.declared.hands.Hands.{Hands}
+use Rattle.nr_serve.specs.Hands.{Moves, last_count}
+use Rattle.nr_serve.specs.Tickets.{Posts, kept_upqueries, sent, sent_by}
+use Rattle.nr_serve.proofs.Making.{makes_both, makes_none}
+
+pub sent-append : (es fs : List Entry) → sent (es ++ fs) ≡ sent es ++ sent fs
+sent-append [] fs = refl
+sent-append (e ∷ es) fs = ap (λ (l : List Upquery). sent_by e.call e.reply ++ l) (sent-append es fs) ∙ sym (append_assoc (sent_by e.call e.reply) (sent es) (sent fs))
+
+pub posts_none : (kept : Option Request) (poster : PosterSeen) → Posts kept poster [] kept poster
+posts_none kept poster = record {
+  same = record { queue = refl; keys = refl; number = refl };
+  gain = [];
+  posted = sym (append-nil poster.posted);
+  all = append-nil (kept_upqueries kept);
+}
+
+posts_both : (k₀ k₁ k₂ : Option Request) (p₀ p₁ p₂ : PosterSeen) (s₁ s₂ : List Upquery) → Posts k₀ p₀ s₁ k₁ p₁ → Posts k₁ p₁ s₂ k₂ p₂ → Posts k₀ p₀ (s₁ ++ s₂) k₂ p₂
+posts_both k₀ k₁ k₂ p₀ p₁ p₂ s₁ s₂ one two = record {
+  same = record { queue = two.same.queue ∙ one.same.queue; keys = two.same.keys ∙ one.same.keys; number = two.same.number ∙ one.same.number };
+  gain = one.gain ++ two.gain;
+  posted = two.posted ∙ ap (λ (l : List Upquery). l ++ two.gain) one.posted ∙ append_assoc p₀.posted one.gain two.gain;
+  all = sym (append_assoc (kept_upqueries k₀) s₁ s₂) ∙ ap (λ (l : List Upquery). l ++ s₂) one.all ∙ append_assoc one.gain (kept_upqueries k₁) s₂ ∙ ap (λ (l : List Upquery). one.gain ++ l) two.all ∙ sym (append_assoc one.gain two.gain (kept_upqueries k₂));
+}
+
+pub moves_both : (m n sum : ℕ) (a : Hands) (es : List Entry) (b : Hands) (fs : List Entry) (c : Hands) → sum ≡ m + n → Moves m a es b → Moves n b fs c → Moves sum a (es ++ fs) c
+moves_both m n sum a es b fs c is one two = record {
+  makes = makes_both m n sum a.reader es b.reader fs c.reader is one.makes two.makes;
+  posts = subst (λ (l : List Upquery). Posts a.kept a.poster l c.kept c.poster) (sym (sent-append es fs)) (posts_both a.kept b.kept c.kept a.poster b.poster c.poster (sent es) (sent fs) one.posts two.posts);
+  sends = omega (arith, one.sends, two.sends, ap (λ (l : List Upquery). length l) (sent-append es fs), length-append (sent es) (sent fs));
+}
+
+pub moves_none : (a : Hands) → a.sends ≤ last_count → Moves 0 a [] a
+moves_none a small = record { makes = makes_none a.reader; posts = posts_none a.kept a.poster; sends = omega (arith, small) }

@@ -1,0 +1,77 @@
+-- What one try adds.
+use Rattle.std.proofs.Common.{◌≡◌, ℕ, true, List, [], ◌∷◌, length, refl, sym, ◌*◌, ◌+◌, ◌∙◌, subst, arith, Option, is_some}
+use Rattle.std.proofs.lemmas.Bool.{and_from, and_parts}
+use Rattle.nr_model.specs.declared.rows.Row.{Row}
+use Rattle.nr_model.specs.declared.calls.Call.TheVariants as call
+use Rattle.nr_model.specs.declared.calls.Reply.{Reply}
+use Rattle.nr_model.specs.declared.calls.Reply.TheVariants as reply
+use Rattle.nr_map.specs.Callers.{Caller, Gains, Rests}
+use Rattle.nr_map.specs.Pins.{Pinned}
+use Rattle.nr_map.specs.Tickets.{Request}
+use Rattle.nr_serve.specs.declared.hands.Hands.{Hands}
+use Rattle.nr_serve.specs.declared.answers.Got.{Got}
+use Rattle.nr_serve.specs.declared.answers.Got.TheVariants as got
+use Rattle.nr_serve.specs.declared.answers.Requested.{Requested}
+use Rattle.nr_serve.specs.declared.answers.Requested.TheVariants.{NotMade, Sent, Waiting, Filled}
+use Rattle.nr_serve.specs.declared.answers.Tried.TheVariants as tried
+use Rattle.nr_serve.specs.Gets.{AnswersPin, Fits, TriesOnce, found, miss, requested}
+use Rattle.nr_serve.specs.Hands.{Moves}
+use Rattle.nr_serve.proofs.Making.{makes_by_gains, makes_by_rests}
+use Rattle.nr_serve.proofs.Moving.{moves_both, posts_none}
+
+-- a find after the post of a ticket that was kept
+finds : (steps key : ℕ) (a b : Hands) (answer : Reply) (reader : Caller) → Moves 0 a [] b → Gains steps b.reader (call.Find key) answer reader → Moves steps a (found a.reader.number key answer ∷ []) (record b { reader = reader })
+finds steps key a b answer reader posted gains =
+    let number : b.reader.number ≡ a.reader.number = posted.makes.number in
+    moves_both 0 steps steps a [] b (found a.reader.number key answer ∷ []) (record b { reader = reader }) (omega arith) posted
+    (subst (λ (by : ℕ). Moves steps b (found by key answer ∷ []) (record b { reader = reader })) number
+    (record { makes = makes_by_gains steps b.reader (call.Find key) answer reader gains; posts = posts_none b.kept b.poster; sends = omega (arith, posted.sends) }))
+
+misses_once : (key : ℕ) (a b c : Hands) (reader : Caller) (request : Requested) → Moves 0 a [] b → Gains 1 b.reader (call.Find key) reply.Hole reader → Moves (length (requested reader.number key request)) (record b { reader = reader }) (requested reader.number key request) c
+    → Moves (length (miss a.reader.number key request)) a (miss a.reader.number key request) c
+misses_once key a b c reader request posted gains asked =
+    let number : reader.number ≡ a.reader.number = gains.number ∙ posted.makes.number in
+    let asked' = subst (λ (by : ℕ). Moves (length (requested by key request)) (record b { reader = reader }) (requested by key request) c) number asked in
+    moves_both 1 (length (requested a.reader.number key request)) _ a (found a.reader.number key reply.Hole ∷ []) (record b { reader = reader }) (requested a.reader.number key request) c (omega arith) (finds 1 key a b reply.Hole reader posted gains) asked'
+
+-- a request fits the ticket that was kept before the post, too
+fits_once : (before mid after : Option Request) (request : Requested) → Fits before [] mid → Fits mid (request ∷ []) after → Fits before (request ∷ []) after
+fits_once before mid after NotMade first then = record {
+  due = and_from (is_some before) true (first.kept (and_parts (is_some mid) true then.due).0) refl;
+  kept = λ some. first.kept (then.kept some);
+}
+fits_once before mid after (Sent number) first then = record { due = refl; kept = λ _. refl }
+fits_once before mid after Waiting first then = record { due = refl; kept = then.kept }
+fits_once before mid after Filled first then = record { due = refl; kept = then.kept }
+
+-- a try that finds a hole: the post, the find, and the request with what it came from
+pub tries_hole : (key : ℕ) (a b from c : Hands) (reader : Caller) (request : Requested) (rows : List Row) → Moves 0 a [] b → Fits a.kept [] b.kept → Gains 1 b.reader (call.Find key) reply.Hole reader → from ≡ record b { reader = reader }
+    → Moves (length (requested from.reader.number key request)) from (requested from.reader.number key request) c → Fits from.kept (request ∷ []) c.kept → TriesOnce key a rows (tried.Missed request) c rows
+tries_hole key a b from c reader request rows posted first gains is asked then = (
+  misses_once key a b c reader request posted gains (subst (λ (hands : Hands). Moves (length (requested hands.reader.number key request)) hands (requested hands.reader.number key request) c) is asked),
+  fits_once a.kept b.kept c.kept request first (subst (λ (hands : Hands). Fits hands.kept (request ∷ []) c.kept) is then),
+  refl,
+)
+
+-- the find and what the reader did with its pin, after the post
+pinned_through : (steps key : ℕ) (a b : Hands) (pin : Pinned) (reader : Caller) → Moves 0 a [] b → Gains 2 b.reader (call.Find key) (reply.Rows pin.rows) pin.reader → Rests steps pin.reader reader
+    → Moves (2 + steps) a (found a.reader.number key (reply.Rows pin.rows) ∷ []) (record b { reader = reader })
+pinned_through steps key a b pin reader posted gains rests =
+    moves_both 2 steps (2 + steps) a (found a.reader.number key (reply.Rows pin.rows) ∷ []) (record b { reader = pin.reader }) [] (record b { reader = reader }) (omega arith)
+    (finds 2 key a b (reply.Rows pin.rows) pin.reader posted gains)
+    (record { makes = makes_by_rests steps pin.reader reader rests; posts = posts_none b.kept b.poster; sends = omega (arith, posted.sends) })
+
+-- a try that finds rows: the post, the find, and what became of the pin
+pub tries_pin : (key : ℕ) (a b c : Hands) (pin : Pinned) (answer : Got) (reader : Caller) (before rows : List Row) → Moves 0 a [] b → Fits a.kept [] b.kept → Gains 2 b.reader (call.Find key) (reply.Rows pin.rows) pin.reader
+    → AnswersPin pin before answer reader rows → c ≡ record b { reader = reader } → TriesOnce key a before (tried.Ended answer) c rows
+tries_pin key a b c pin got.Rows reader before rows posted first gains answers is =
+    let count : 2 + (2 * length pin.rows + 1) ≡ 2 * length pin.rows + 3 = omega arith in
+    let moved = subst (λ (n : ℕ). Moves n a (found a.reader.number key (reply.Rows pin.rows) ∷ []) (record b { reader = reader })) count (pinned_through (2 * length pin.rows + 1) key a b pin reader posted gains answers.0) in
+    let told = subst (λ (set : List Row). Moves (2 * length set + 3) a (found a.reader.number key (reply.Rows set) ∷ []) (record b { reader = reader })) (sym answers.1) moved in
+    (subst (λ (hands : Hands). Moves (2 * length rows + 3) a (found a.reader.number key (reply.Rows rows) ∷ []) hands) (sym is) told, subst (λ (hands : Hands). Fits a.kept [] hands.kept) (sym is) first)
+tries_pin key a b c pin got.GaveUp reader before rows posted first gains answers is = absurd answers
+tries_pin key a b c pin got.Barred reader before rows posted first gains answers is = (
+  (pin.rows, subst (λ (hands : Hands). Moves 3 a (found a.reader.number key (reply.Rows pin.rows) ∷ []) hands) (sym is) (pinned_through 1 key a b pin reader posted gains answers.0)),
+  subst (λ (hands : Hands). Fits a.kept [] hands.kept) (sym is) first,
+  answers.1,
+)

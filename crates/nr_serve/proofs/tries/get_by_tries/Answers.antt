@@ -1,0 +1,27 @@
+use Rattle.std.proofs.Common.{List, ◌∙◌, arith, refl, subst}
+use Rattle.nr_model.specs.declared.rows.Row.{Row}
+use Rattle.nr_serve.specs.declared.answers.Tried.{Tried}
+use Rattle.nr_serve.specs.Gets.{Gets, TriesOnce}
+use Rattle.nr_serve.proofs.Getting.{gets_by_end, missed_more, missed_none}
+use Rattle.nr_serve.proofs.tries.get_by_tries.Goals as goal
+
+pub loop-i-init : goal.loop-i-init
+loop-i-init g c = record { ready = c.requires.ready; missed = missed_none c.args.key c.args.hands c.requires.ready.few; rows = refl; at_once = λ _. refl }
+
+pub returns-in-Ended-clause-gets : goal.returns-in-Ended-clause-gets
+returns-in-Ended-clause-gets g c =
+    let so_far = c.loop-i.invariant in
+    let once = subst (λ (tried : Tried). TriesOnce c.args.key c.loop-i.hands c.loop-i.rows tried c.try_once-tried.result.1 c.try_once-tried.new.rows) c.in-Ended.is c.try_once-tried.ensures.tries in
+    subst (λ (before : List Row). Gets c.args.key c.args.tries c.args.hands before c.in-Ended.got c.try_once-tried.result.1 c.try_once-tried.new.rows) so_far.rows
+    (gets_by_end c.args.key c.loop-i.i c.args.tries c.args.hands c.loop-i.hands c.try_once-tried.result.1 c.loop-i.rows c.try_once-tried.new.rows c.in-Ended.got c.loop-i-test.true so_far.missed once)
+
+pub loop-i-preserved : goal.loop-i-preserved
+loop-i-preserved g c =
+    let so_far = c.loop-i.invariant in
+    let once = subst (λ (tried : Tried). TriesOnce c.args.key c.loop-i.hands c.loop-i.rows tried c.try_once-tried.result.1 c.try_once-tried.new.rows) c.in-Missed.is c.try_once-tried.ensures.tries in
+    record {
+      ready = c.try_once-tried.ensures.ready;
+      missed = missed_more c.args.key c.loop-i.i c.args.hands c.loop-i.hands c.try_once-tried.result.1 c.loop-i.rows c.try_once-tried.new.rows c.in-Missed.requested so_far.missed once;
+      rows = once.2 ∙ so_far.rows;
+      at_once = λ none. absurd (omega (arith, none));
+    }

@@ -1,0 +1,12 @@
+use Rattle.std.proofs.Common.{◌≡◌}
+use Rattle.nr_serve.specs.Hands.{IsReady}
+use Rattle.nr_serve.proofs.Getting.{Missed}
+use Rattle.nr_serve.proofs.tries.get_by_tries.Given as goal
+
+abbrev pub invariant-loop-i : goal.invariant-loop-i
+invariant-loop-i g l = record {
+  ready : IsReady l.places.map.now l.places.triggers.now l.hands;
+  missed : Missed l.key l.i l.fn.hands l.hands;
+  rows : l.rows ≡ l.fn.rows;
+  at_once : l.i ≡ 0 → l.hands ≡ l.fn.hands;
+}

@@ -1,0 +1,25 @@
+-- What contracts see of a dataflow, and what holds of it between its calls.
+use Rattle.std.specs.Prelude.{◌≡◌, ◌+◌, ◌<◌, ◌≤◌, Option, IfSome}
+use Rattle.nr_map.specs.Callers.{Caller, Table}
+use Rattle.nr_trigger.specs.declared.post.Post.{Post}
+use Rattle.nr_trigger.specs.Tokens.{Queue, TakerSeen}
+
+pub record FlowSeen (S : Type 0) : Type 0 where
+  pub map : Table
+  pub queue : Queue
+  pub writer : Caller
+  pub taker : TakerSeen
+  -- the trigger that it keeps
+  pub kept : Option Post
+  pub source : S
+
+-- the writer is the map's and the taker the queue's, and each key that comes out of the queue is one of the map's
+pub record IsPlaced (map : Table) (queue : Queue) (writer : Caller) (taker : TakerSeen) (kept : Option Post) : Type 0 where
+  pub writes : writer.table ≡ map
+  pub takes : taker.queue ≡ queue.id
+  pub keys : taker.keys ≤ map.shape.keys
+  pub near : IfSome kept (λ post. post.upquery.key < map.shape.keys)
+
+-- the map has a slot for each key, each reader and one more
+abbrev pub HasRoom : Table → Type 0
+HasRoom map = map.shape.keys + map.shape.readers + 1 ≤ map.shape.slots

@@ -1,0 +1,31 @@
+-- What a client has in its hands, and how its calls move it.
+use Rattle.std.specs.Prelude.{◌≡◌, ◌<◌, ◌≤◌, ◌+◌, ℕ, min, List, length, None, IfSome}
+use Rattle.nr_model.specs.Histories.{Entry}
+use Rattle.nr_map.specs.Callers.{Table}
+use Rattle.nr_trigger.specs.Tokens.{Queue}
+use Rattle.nr_serve.specs.declared.hands.Hands.{Hands}
+use Rattle.nr_serve.specs.Callers.{Makes}
+use Rattle.nr_serve.specs.Tickets.{Posts, sent}
+
+-- counts stay at the last number
+abbrev pub last_count : ℕ
+last_count = 18446744073709551615
+
+abbrev pub capped : ℕ → ℕ
+capped count = min count last_count
+
+-- the reader is the map's and the poster the queue's, which takes every key of the map
+pub record IsReady (map : Table) (queue : Queue) (hands : Hands) : Type 0 where
+  pub reads : hands.reader.table ≡ map
+  pub posts : hands.poster.queue ≡ queue.id
+  pub keys : map.shape.keys ≤ hands.poster.keys
+  pub near : IfSome hands.kept (λ ticket. ticket.key < hands.poster.keys)
+  -- the reader holds no set
+  pub idle : hands.reader.holds ≡ None
+  pub few : hands.sends ≤ last_count
+
+-- in so many steps the reader made these calls, no ticket was lost, and the requests that were sent are counted
+pub record Moves (steps : ℕ) (old : Hands) (entries : List Entry) (new : Hands) : Type 0 where
+  pub makes : Makes steps old.reader entries new.reader
+  pub posts : Posts old.kept old.poster (sent entries) new.kept new.poster
+  pub sends : new.sends ≡ capped (old.sends + length (sent entries))

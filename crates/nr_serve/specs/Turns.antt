@@ -1,0 +1,70 @@
+-- What a turn of the dataflow does.
+use Rattle.std.specs.Prelude.{◌≡◌, ◌<◌, ◌≤◌, ℕ, List, [], ◌∷◌, ◌++◌, length, Option, None, Some, Result, Ok, Err}
+use Rattle.nr_model.specs.declared.rows.Row.{Row}
+use Rattle.nr_map.specs.declared.answers.FillFault.{FillFault}
+use Rattle.nr_map.specs.declared.answers.FillFault.TheVariants as fill
+use Rattle.nr_map.specs.Answers.{FillsKey}
+use Rattle.nr_trigger.specs.declared.post.Post.{Post}
+use Rattle.nr_trigger.specs.Tokens.{IsSameTaker, TakerSeen, WasEmpty}
+use Rattle.nr_serve.specs.declared.dataflow.Turn.{Turn}
+use Rattle.nr_serve.specs.declared.dataflow.Turn.TheVariants as turn
+use Rattle.nr_serve.specs.Flows.{FlowSeen}
+
+-- the triggers that are kept, one at most
+abbrev pub kept_posts : Option Post → List Post
+kept_posts None = []
+kept_posts (Some post) = post ∷ []
+
+-- no trigger is lost: the one kept before, and then those that were taken, are those that were spent, and then the one kept after
+pub record Spends (before : Option Post) (old : TakerSeen) (spent : List Post) (after : Option Post) (new : TakerSeen) : Type 0 where
+  pub same : IsSameTaker old new
+  pub gain : List Post
+  pub taken : new.taken ≡ old.taken ++ gain
+  pub all : kept_posts before ++ gain ≡ spent ++ kept_posts after
+
+-- the key is filled, or isn't asked for, or not by the trigger's request
+abbrev pub IsPast : FillFault → Type 0
+IsPast fill.NotAsked = Unit {0}
+IsPast fill.Already = Unit {0}
+IsPast fill.Stale = Unit {0}
+IsPast (fill.NoSlot counts) = ⊥
+
+-- the trigger that is kept, or else the next one of the queue, if there is any
+pub record Takes {S : Type 0} (old : FlowSeen S) (post : Post) (new : FlowSeen S) : Type 0 where
+  pub near : post.upquery.key < old.map.shape.keys
+  pub spends : Spends old.kept old.taker [] (Some post) new.taker
+  pub rest : new ≡ record old { taker = new.taker; kept = None }
+
+abbrev pub Nexts : {S : Type 0} → FlowSeen S → Option Post → FlowSeen S → Type 0
+Nexts old None new = (old.kept ≡ None) × WasEmpty old.taker × (new ≡ old)
+Nexts old (Some post) new = Takes old post new
+
+module _ {S : Type 0} (gives : S → ℕ → List Row → S → Type 0) where
+  -- one fill of the trigger's key, by its number, with rows that the source gave in this turn
+  pub record FillsPost (old : FlowSeen S) (post : Post) (answer : Result (Unit {0}) FillFault) (new : FlowSeen S) : Type 0 where
+    pub rows : List Row
+    pub gave : gives old.source post.upquery.key rows new.source
+    pub few : length rows ≤ old.map.shape.rows
+    pub fills : FillsKey post.upquery.key post.upquery.number rows old.writer new.writer answer
+
+  -- the trigger of that key, which is one of the map's, is spent, and none is kept
+  pub record SpendsOne (old : FlowSeen S) (key : ℕ) (answer : Result (Unit {0}) FillFault) (new : FlowSeen S) : Type 0 where
+    pub near : key < old.map.shape.keys
+    pub post : Post
+    pub key_is : post.upquery.key ≡ key
+    pub answers : FillsPost old post answer new
+    pub spends : Spends old.kept old.taker (post ∷ []) None new.taker
+    pub none : new.kept ≡ None
+
+  -- the trigger is kept
+  pub record KeepsOne (old : FlowSeen S) (answer : Result (Unit {0}) FillFault) (new : FlowSeen S) : Type 0 where
+    pub post : Post
+    pub answers : FillsPost old post answer new
+    pub spends : Spends old.kept old.taker [] (Some post) new.taker
+    pub kept : new.kept ≡ Some post
+
+  abbrev pub Turns : FlowSeen S → Turn → FlowSeen S → Type 0
+  Turns old turn.Idle new = (old.kept ≡ None) × WasEmpty old.taker × (new ≡ old)
+  Turns old (turn.Filled key) new = SpendsOne old key (Ok tt) new
+  Turns old (turn.Passed key) new = (fault : FillFault) × IsPast fault × SpendsOne old key (Err fault) new
+  Turns old (turn.Kept counts) new = KeepsOne old (Err (fill.NoSlot counts)) new

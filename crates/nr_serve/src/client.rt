@@ -1,0 +1,139 @@
+//! A client, which gets rows, and asks and waits for those that are missing.
+ghost use Rattle.std.specs.Prelude.{◌≡◌, ◌<◌, ◌≤◌, ◌+◌, length, None};
+ghost use Rattle.nr_serve.specs.Clients.{since};
+ghost use Rattle.nr_serve.specs.Gets.{Gets};
+ghost use Rattle.nr_serve.specs.Hands.{capped};
+ghost use Rattle.nr_serve.specs.Tickets.{sent};
+
+use crate::answers::Got;
+use crate::gate::Gate;
+use crate::hands::Hands;
+use crate::lobby::Lobby;
+use crate::places::Places;
+use crate::tries::get_by_tries;
+use nr_map::{Reader, ReaderMap, Ticket};
+use nr_model::RowSet;
+use nr_trigger::{Poster, Triggers};
+use std::marker::Model;
+use std::snapshot::Snapshot;
+use std::sync::Wait;
+
+/// A reader of a map and a poster of its queue, in one hand. It can't be dropped, since it may keep
+/// a ticket: it must be ended.
+pub struct Client<'a, G> {
+    places: Places<'a, G>,
+    hands: Option<Hands>,
+    turns: u64,
+    opened: Snapshot<Hands>,
+}
+
+impl<'a, G> Model for Client<'a, G> {
+    ghost use Rattle.std.specs.Prelude.{IsSome, unwrap_or};
+    ghost use Rattle.nr_serve.specs.Clients.{ClientSeen, IsServing};
+
+    ghost Value = { ClientSeen };
+
+    ghost view = { λ client. record { map = client.places.map.now; queue = client.places.triggers.now; opened = client.opened.value; hands = unwrap_or client.hands client.opened.value; turns = client.turns } };
+
+    ghost invariant = { λ client. IsSome client.hands × IsServing client.places.map.now client.places.triggers.now client.opened.value (unwrap_or client.hands client.opened.value) };
+}
+
+impl<'a, G: Gate> Client<'a, G> {
+    /// A client of a map and a queue that takes the tickets of all keys of the map. Its worker
+    /// number is its reader's.
+    pub fn open(
+        map: &'a ReaderMap,
+        reader: Reader,
+        triggers: &'a Triggers,
+        poster: Poster,
+        lobby: &'a Lobby,
+        gate: &'a G,
+    ) -> Client<'a, G>
+        requires map { reader.table ≡ map.now }
+        requires queue { poster.queue ≡ triggers.now.id }
+        requires keys { map.now.shape.keys ≤ poster.keys }
+        ensures places { (result.map ≡ map.now) × (result.queue ≡ triggers.now) }
+        ensures hands { result.hands ≡ record { reader = reader; poster = poster; kept = None; sends = 0 } }
+        ensures opened { result.opened ≡ result.hands }
+        ensures turns { result.turns ≡ 0 }
+    {
+        let worker = reader.number();
+        let hands = Hands::of(reader, poster, None, 0);
+        let opened = Snapshot::of(&hands);
+        Client {
+            places: Places {
+                map,
+                triggers,
+                lobby,
+                gate,
+                worker,
+            },
+            hands: Some(hands),
+            turns: 0,
+            opened,
+        }
+    }
+
+    /// Gets the rows of a key, in at most so many tries. A try posts the ticket that is kept, if
+    /// any, and looks the key up. If it is filled, the gate is asked until it lets pass; then the
+    /// caller's set has the rows, and the get ends with `Rows`. It ends with `Barred` where the
+    /// gate said no a million times. If the key is missing, it is requested, unless a ticket is
+    /// still kept, and a ticket of that is posted, or kept where the queue is full; before the
+    /// next try the client sleeps in the lobby, unless it keeps a ticket or the key was filled
+    /// meanwhile. After the last try it ends with `GaveUp`. The set is unchanged unless it ends
+    /// with `Rows`.
+    pub fn get<R: Wait>(&mut self, rt: &R, key: u32, tries: u32, rows: &mut RowSet) -> Got
+        requires { key < self.old.map.shape.keys }
+        ensures gets { Gets key tries self.old.hands rows.old result self.new.hands rows.new }
+        ensures released { self.new.hands.reader.holds ≡ None }
+        ensures at_once { tries ≡ 0 → self.new.hands ≡ self.old.hands }
+        ensures turns { self.new.turns ≡ capped (self.old.turns + 1) }
+        ensures places { (self.new.map ≡ self.old.map) × (self.new.queue ≡ self.old.queue) }
+        ensures opened { self.new.opened ≡ self.old.opened }
+    {
+        let Some(hands) = self.hands.take() else {
+            unreachable!()
+        };
+        self.turns = self.turns.saturating_add(1);
+        let (got, hands) = get_by_tries(rt, &self.places, self.turns, key, tries, hands, rows);
+        match self.hands.replace(hands) {
+            None => got,
+            Some(_) => unreachable!(),
+        }
+    }
+
+    /// How many of its requests were answered `Send`, up to 2^64 - 1.
+    pub fn sends(&self) -> u64
+        ensures { result ≡ capped (length (sent (since self.now.opened self.now.hands))) }
+    {
+        match &self.hands {
+            Some(hands) => hands.sends,
+            None => unreachable!(),
+        }
+    }
+
+    /// Hands out what the client was opened with, and the ticket that it keeps.
+    pub fn end(self) -> (Reader, Poster, Option<Ticket>)
+        ensures reader { result.0 ≡ self.entry.hands.reader }
+        ensures poster { result.1 ≡ self.entry.hands.poster }
+        ensures kept { result.2 ≡ self.entry.hands.kept }
+    {
+        let Client {
+            places: _,
+            hands,
+            turns: _,
+            opened: _,
+        } = self;
+        match hands {
+            Some(
+                Hands {
+                    reader,
+                    poster,
+                    kept,
+                    sends: _,
+                },
+            ) => (reader, poster, kept),
+            None => unreachable!(),
+        }
+    }
+}

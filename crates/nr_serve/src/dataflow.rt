@@ -1,0 +1,208 @@
+//! The dataflow's side: it fills the keys whose tickets were posted, and keeps the map's rows right.
+ghost use Rattle.std.specs.Prelude.{◌≡◌, ◌≢◌, ◌<◌, ◌≤◌, None, Some, Err};
+ghost use Rattle.std.specs.Borrow.{sem};
+ghost use Rattle.nr_map.specs.Answers.{CancelsKey, EvictsKey, UpdatesKey};
+
+use crate::lobby::Lobby;
+use crate::source::Source;
+use nr_map::{Cancel, Evict, FillFault, NoSlot, ReaderMap, UpdateFault, Writer, laws};
+use nr_model::Batch;
+use nr_trigger::{Taker, Trigger, Triggers};
+use std::marker::Model;
+use std::sync::Wait;
+
+/// What a turn did.
+#[derive(Clone, Copy, Debug, PartialEq, Eq)]
+pub enum Turn {
+    /// No ticket had been posted.
+    Idle,
+    /// The key is filled.
+    Filled(u32),
+    /// The key needs no fill: it is filled already, or nobody asks for it any more, or by a request
+    /// of another number.
+    Passed(u32),
+    /// There was no slot for the rows; the trigger is kept and tried first in the next turn.
+    Kept(NoSlot),
+}
+
+/// A dataflow over a map: the map's one writer, with what was posted to it and where its rows come
+/// from. It can't be dropped, since it may keep a trigger: it must be ended.
+pub struct Dataflow<'a, S> {
+    map: &'a ReaderMap,
+    triggers: &'a Triggers,
+    lobby: &'a Lobby,
+    writer: Writer,
+    taker: Taker,
+    kept: Option<Trigger>,
+    source: S,
+}
+
+impl<'a, S> Model for Dataflow<'a, S> {
+    ghost use Rattle.nr_serve.specs.Flows.{FlowSeen, IsPlaced};
+
+    ghost Value = { FlowSeen S };
+
+    ghost view = { λ flow. record { map = flow.map.now; queue = flow.triggers.now; writer = flow.writer; taker = flow.taker; kept = flow.kept; source = flow.source } };
+
+    ghost invariant = { λ flow. IsPlaced flow.map.now flow.triggers.now flow.writer flow.taker flow.kept };
+}
+
+impl<'a, S: Source> Dataflow<'a, S> {
+    ghost use Rattle.nr_serve.specs.Flows.{HasRoom};
+    ghost use Rattle.nr_serve.specs.Turns.{FillsPost, Nexts, Turns};
+    ghost use Rattle.nr_serve.specs.Lending.{LendsSource};
+
+    /// The dataflow of a map and a queue, whose tickets are all of keys of the map.
+    pub fn open(
+        map: &'a ReaderMap,
+        writer: Writer,
+        triggers: &'a Triggers,
+        taker: Taker,
+        source: S,
+        lobby: &'a Lobby,
+    ) -> Dataflow<'a, S>
+        requires map { writer.table ≡ map.now }
+        requires queue { taker.queue ≡ triggers.now.id }
+        requires keys { taker.keys ≤ map.now.shape.keys }
+        ensures { result ≡ record { map = map.now; queue = triggers.now; writer = writer; taker = taker; kept = None; source = source } }
+    {
+        Dataflow {
+            map,
+            triggers,
+            lobby,
+            writer,
+            taker,
+            kept: None,
+            source,
+        }
+    }
+
+    /// Takes the trigger that is kept, or else the next one of the queue, asks the source for its
+    /// key's rows, and fills the key by the trigger's number. Raises the lobby where that spends
+    /// the trigger. A trigger that is kept is tried again in the next turn, with rows that the
+    /// source is asked for anew; on a map with a slot for each key, each reader and one more, none
+    /// is ever kept. May wait for a thread that is within a call of its own.
+    pub fn turn<R: Wait>(&mut self, rt: &R) -> Turn
+        ensures turns { Turns S.gives self.old result self.new }
+        ensures places { (self.new.map ≡ self.old.map) × (self.new.queue ≡ self.old.queue) }
+        ensures room { HasRoom self.old.map → (counts : NoSlot) → result ≢ Turn.Kept counts }
+    {
+        let Some(trigger) = self.next(rt) else {
+            return Turn::Idle;
+        };
+        let key = trigger.key();
+        match self.fill(&trigger) {
+            Ok(()) => {
+                trigger.into_key();
+                self.lobby.raise(rt);
+                Turn::Filled(key)
+            }
+            Err(FillFault::NotAsked | FillFault::Already | FillFault::Stale) => {
+                trigger.into_key();
+                self.lobby.raise(rt);
+                Turn::Passed(key)
+            }
+            Err(FillFault::NoSlot(counts)) => {
+                self.keep(trigger);
+                Turn::Kept(counts)
+            }
+        }
+    }
+
+    // The trigger that is kept, or else the next one of the queue.
+    fn next<R: Wait>(&mut self, rt: &R) -> Option<Trigger>
+        ensures { Nexts self.old result self.new }
+    {
+        match self.kept.take() {
+            Some(trigger) => Some(trigger),
+            None => self.triggers.take(rt, &mut self.taker),
+        }
+    }
+
+    // Fills the trigger's key with rows that the source gives now.
+    fn fill(&mut self, trigger: &Trigger) -> Result<(), FillFault>
+        requires key { trigger.now.upquery.key < self.old.map.shape.keys }
+        ensures answers { FillsPost S.gives self.old trigger.now result self.new }
+        ensures rest { self.new ≡ record self.old { writer = self.new.writer; source = self.new.source } }
+        ensures room { HasRoom self.old.map → (counts : NoSlot) → result ≢ Err (FillFault.NoSlot counts) }
+    {
+        laws::room_for_fills();
+        let key = trigger.key();
+        let rows = self.source.rows(key, self.map.rows());
+        self.map
+            .fill(&mut self.writer, key, trigger.number(), &rows)
+    }
+
+    fn keep(&mut self, trigger: Trigger)
+        requires none { self.old.kept ≡ None }
+        requires key { trigger.upquery.key < self.old.map.shape.keys }
+        ensures { self.new ≡ record self.old { kept = Some trigger } }
+    {
+        match self.kept.replace(trigger) {
+            None => {}
+            Some(_) => unreachable!(),
+        }
+    }
+
+    /// Applies a batch to the rows of a key, as the map's `update` does. On a map with a slot for
+    /// each key, each reader and one more there always is a slot.
+    pub fn apply(&mut self, key: u32, batch: &Batch) -> Result<(), UpdateFault>
+        requires key { key < self.old.map.shape.keys }
+        ensures updates { UpdatesKey self.old.map.shape.rows key batch.now self.old.writer self.new.writer result }
+        ensures rest { self.new ≡ record self.old { writer = self.new.writer } }
+        ensures room { HasRoom self.old.map → (counts : NoSlot) → result ≢ Err (UpdateFault.NoSlot counts) }
+    {
+        laws::room_for_updates();
+        self.map.update(&mut self.writer, key, batch)
+    }
+
+    /// Makes a filled key a hole, as the map's `evict` does.
+    pub fn evict(&mut self, key: u32) -> Evict
+        requires key { key < self.old.map.shape.keys }
+        ensures evicts { EvictsKey key self.old.writer self.new.writer result }
+        ensures rest { self.new ≡ record self.old { writer = self.new.writer } }
+    {
+        self.map.evict(&mut self.writer, key)
+    }
+
+    /// Takes the request of a key back, as the map's `cancel` does. Raises the lobby where it did,
+    /// so that clients that wait for the key ask for it anew.
+    pub fn cancel<R: Wait>(&mut self, rt: &R, key: u32) -> Cancel
+        requires key { key < self.old.map.shape.keys }
+        ensures cancels { CancelsKey key self.old.writer self.new.writer result }
+        ensures rest { self.new ≡ record self.old { writer = self.new.writer } }
+    {
+        let answer = self.map.cancel(&mut self.writer, key);
+        if answer == Cancel::Cancelled {
+            self.lobby.raise(rt);
+        }
+        answer
+    }
+
+    /// Where the rows come from.
+    pub fn source(&mut self) -> &mut S
+        ensures* lends { sem 𝓛 (LendsSource S.row self.entry result) }
+        ensures value { result.now ≡ self.old.source }
+    {
+        &mut self.source
+    }
+
+    /// Hands out what the dataflow was opened with, and the trigger that it keeps.
+    pub fn end(self) -> (Writer, Taker, Option<Trigger>, S)
+        ensures writer { result.0 ≡ self.entry.writer }
+        ensures taker { result.1 ≡ self.entry.taker }
+        ensures kept { result.2 ≡ self.entry.kept }
+        ensures source { result.3 ≡ self.entry.source }
+    {
+        let Dataflow {
+            map: _,
+            triggers: _,
+            lobby: _,
+            writer,
+            taker,
+            kept,
+            source,
+        } = self;
+        (writer, taker, kept, source)
+    }
+}

@@ -1,0 +1,24 @@
+//! The two sides of a server over the running map: the dataflow, which fills the keys that were
+//! asked for, and clients, which ask for a key and sleep until it is filled.
+#![tactic(auto)]
+
+mod answers;
+mod client;
+mod dataflow;
+mod gate;
+mod hands;
+mod lobby;
+mod places;
+mod source;
+#[cfg(test)]
+mod tests;
+#[cfg(test)]
+mod thread_tests;
+mod tries;
+
+pub use answers::Got;
+pub use client::Client;
+pub use dataflow::{Dataflow, Turn};
+pub use gate::{Gate, OpenGate};
+pub use lobby::Lobby;
+pub use source::Source;

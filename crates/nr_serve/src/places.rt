@@ -1,0 +1,25 @@
+//! What a client stands on.
+use crate::lobby::Lobby;
+use nr_map::ReaderMap;
+use nr_trigger::Triggers;
+
+/// The map, the queue, the lobby and the gate that clients share, and this one's worker number.
+pub(crate) struct Places<'a, G> {
+    pub(crate) map: &'a ReaderMap,
+    pub(crate) triggers: &'a Triggers,
+    pub(crate) lobby: &'a Lobby,
+    pub(crate) gate: &'a G,
+    pub(crate) worker: u32,
+}
+
+impl<G> Drop for Places<'_, G> {
+    fn drop(self) {
+        let Places {
+            map: _,
+            triggers: _,
+            lobby: _,
+            gate: _,
+            worker: _,
+        } = self;
+    }
+}

@@ -1,0 +1,21 @@
+//! Where the dataflow has its rows from.
+ghost use Rattle.std.specs.Prelude.{◌<◌, ◌≤◌, length};
+ghost use Rattle.nr_model.specs.declared.rows.TheConstants.{MAX_ROWS};
+
+use nr_model::RowSet;
+
+/// Answers upqueries: the rows of a key as they stand now.
+pub trait Source {
+    ghost use Rattle.std.specs.Prelude.{ℕ, List};
+    ghost use Rattle.nr_model.specs.declared.rows.Row.{Row};
+
+    /// What a source says of the rows that it gives: of itself before, the key, the rows, and
+    /// itself after. Nothing, unless it says so.
+    ghost gives: { Self → ℕ → List Row → Self → Type 0 } = { λ _ _ _ _. Unit {0} };
+
+    /// The rows of a key, at most `bound` of them, a number from 1 to `MAX_ROWS`.
+    fn rows(&mut self, key: u32, bound: u32) -> RowSet
+        requires bound { (0 < bound) × (bound ≤ MAX_ROWS) }
+        ensures few { length result ≤ bound }
+        ensures gives { gives self.old key result self.new };
+}

@@ -1,0 +1,173 @@
+//! The tries of a get.
+ghost use Rattle.std.specs.Prelude.{◌≡◌, ◌<◌, ◌+◌, ◌*◌, [], ◌∷◌, length, None};
+ghost use Rattle.nr_map.specs.Callers.{Rests};
+ghost use Rattle.nr_serve.specs.Gets.{AnswersPin, Fits, Gets, TriesOnce, requested};
+ghost use Rattle.nr_serve.specs.Hands.{IsReady, Moves};
+
+use crate::answers::{Got, Requested, Tried};
+use crate::gate::Gate;
+use crate::hands::Hands;
+use crate::places::Places;
+use nr_map::{Asked, Pin, Reader, ReaderMap};
+use nr_model::RowSet;
+use nr_trigger::Triggers;
+use std::sync::Wait;
+
+/// How often a gate is asked before a get is barred.
+const MAX_PASSES: u32 = 1_000_000;
+
+// Posts the ticket that is kept, which stays where the queue is full.
+fn post_kept<R: Wait>(rt: &R, map: &ReaderMap, triggers: &Triggers, hands: Hands) -> Hands
+    requires { IsReady map.now triggers.now hands }
+    ensures ready { IsReady map.now triggers.now result }
+    ensures moves { Moves 0 hands [] result }
+    ensures fits { Fits hands.kept [] result.kept }
+{
+    let Hands {
+        reader,
+        mut poster,
+        kept,
+        sends,
+    } = hands;
+    let kept = match kept {
+        None => None,
+        Some(ticket) => triggers.post(rt, &mut poster, ticket).err(),
+    };
+    Hands::of(reader, poster, kept, sends)
+}
+
+// Requests the key unless a ticket is kept, and posts the ticket of a request that is to be sent.
+fn request<R: Wait>(
+    rt: &R,
+    map: &ReaderMap,
+    triggers: &Triggers,
+    key: u32,
+    hands: Hands,
+) -> (Requested, Hands)
+    requires ready { IsReady map.now triggers.now hands }
+    requires key { key < map.now.shape.keys }
+    ensures ready { IsReady map.now triggers.now result.1 }
+    ensures moves { Moves (length (requested hands.reader.number key result.0)) hands (requested hands.reader.number key result.0) result.1 }
+    ensures fits { Fits hands.kept (result.0 ∷ []) result.1.kept }
+{
+    let Hands {
+        mut reader,
+        poster,
+        kept,
+        sends,
+    } = hands;
+    if let Some(ticket) = kept {
+        return (
+            Requested::NotMade,
+            Hands::of(reader, poster, Some(ticket), sends),
+        );
+    }
+    match map.ask(&mut reader, key) {
+        Asked::Send(ticket) => {
+            let number = ticket.number();
+            let hands = Hands::of(reader, poster, Some(ticket), sends.saturating_add(1));
+            (Requested::Sent(number), post_kept(rt, map, triggers, hands))
+        }
+        Asked::Waiting => (Requested::Waiting, Hands::of(reader, poster, None, sends)),
+        Asked::Filled => (Requested::Filled, Hands::of(reader, poster, None, sends)),
+    }
+}
+
+// Asks the gate until it lets pass, but not for ever.
+fn lets_pass<G: Gate, R: Wait>(rt: &R, places: &Places<'_, G>, turn: u64) -> bool {
+    for _ in 0..MAX_PASSES {
+        if places.gate.pass(places.worker, turn) {
+            return true;
+        }
+        places.lobby.count(rt);
+    }
+    false
+}
+
+// With the pin of a filled key: copies its rows for the caller, if the gate lets pass.
+fn answer<G: Gate, R: Wait>(
+    rt: &R,
+    places: &Places<'_, G>,
+    turn: u64,
+    pin: Pin,
+    rows: &mut RowSet,
+) -> (Got, Reader)
+    requires own { pin.reader.table ≡ places.now.map.now }
+    ensures answers { AnswersPin pin rows.old result.0 result.1 rows.new }
+    ensures idle { result.1.holds ≡ None }
+{
+    let mut pin = pin;
+    if !lets_pass(rt, places, turn) {
+        return (Got::Barred, pin.release(places.map));
+    }
+    pin.copy_to(places.map, rows);
+    let reader = pin.release(places.map);
+    places.gate.answered(places.worker, turn);
+    (Got::Rows, reader)
+}
+
+// One try: posts the ticket that is kept, and pins the key; asks for a hole.
+fn try_once<G: Gate, R: Wait>(
+    rt: &R,
+    places: &Places<'_, G>,
+    turn: u64,
+    key: u32,
+    hands: Hands,
+    rows: &mut RowSet,
+) -> (Tried, Hands)
+    requires ready { IsReady places.now.map.now places.now.triggers.now hands }
+    requires key { key < places.now.map.now.shape.keys }
+    ensures ready { IsReady places.now.map.now places.now.triggers.now result.1 }
+    ensures tries { TriesOnce key hands rows.old result.0 result.1 rows.new }
+{
+    let Hands {
+        reader,
+        poster,
+        kept,
+        sends,
+    } = post_kept(rt, places.map, places.triggers, hands);
+    match places.map.pin(reader, key) {
+        Ok(pin) => {
+            let (got, reader) = answer(rt, places, turn, pin, rows);
+            (Tried::Ended(got), Hands::of(reader, poster, kept, sends))
+        }
+        Err(reader) => {
+            let hands = Hands::of(reader, poster, kept, sends);
+            let (requested, hands) = request(rt, places.map, places.triggers, key, hands);
+            (Tried::Missed(requested), hands)
+        }
+    }
+}
+
+/// Tries to get the rows of a key, and sleeps in the lobby between two tries where an upquery is
+/// under way.
+pub(crate) fn get_by_tries<G: Gate, R: Wait>(
+    rt: &R,
+    places: &Places<'_, G>,
+    turn: u64,
+    key: u32,
+    tries: u32,
+    hands: Hands,
+    rows: &mut RowSet,
+) -> (Got, Hands)
+    requires ready { IsReady places.now.map.now places.now.triggers.now hands }
+    requires key { key < places.now.map.now.shape.keys }
+    ensures ready { IsReady places.now.map.now places.now.triggers.now result.1 }
+    ensures gets { Gets key tries hands rows.old result.0 result.1 rows.new }
+    ensures at_once { tries ≡ 0 → result.1 ≡ hands }
+{
+    let mut hands = hands;
+    for i in 0..tries {
+        let count = places.lobby.count(rt);
+        let (tried, left) = try_once(rt, places, turn, key, hands, rows);
+        hands = left;
+        let requested = match tried {
+            Tried::Ended(got) => return (got, hands),
+            Tried::Missed(requested) => requested,
+        };
+        if i + 1 < tries && requested.is_pending() && hands.kept.is_none() {
+            places.lobby.wait_past(rt, count);
+        }
+    }
+    (Got::GaveUp, hands)
+}
