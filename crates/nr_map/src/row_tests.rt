@@ -24,21 +24,22 @@ fn with_rows(rows: u32) -> Shape
 /// The rows `1:0` to `count:0`, or as many of them as a set has room for.
 fn numbered(count: u32) -> Result<RowSet, Fail> {
     let mut rows = [Row { a: 0, b: 0 }; MAX_ROWS];
-    let mut a = 0;
+    let mut a: u64 = 0;
     for row in rows.iter_mut() {
-        a += 1;
+        a = a.wrapping_add(1);
         row.a = a;
     }
     Ok(RowSet::of(&rows[..count.min(MAX_ROWS as u32) as usize])?)
 }
 
-fn is_numbered(rows: &RowSet, first: u32, last: u32) -> bool {
-    (first..last + 1).all(|a| rows.get((a - first) as usize)
-        == Some(Row {
-            a: u64::from(a),
-            b: 0,
-        }))
-        && rows.get((last + 1 - first) as usize).is_none()
+/// Whether the set has just the rows from `first:0` on, so many.
+fn is_numbered(rows: &RowSet, first: u64, count: u32) -> bool {
+    rows.len() == count as usize
+        && (0..rows.len()).all(|i| rows.get(i)
+            == Some(Row {
+                a: first.wrapping_add(i as u64),
+                b: 0,
+            }))
 }
 
 fn delta(plus: bool, a: u64) -> Delta {
@@ -89,7 +90,7 @@ fn is_filled_to_its_bound(
             && one_more == Err(UpdateFault::TooMany)
             && full_still
             && one_other == Ok(())
-            && is_numbered(&found, 0, bound - 1),
+            && is_numbered(&found, 0, bound),
     )
 }
 
@@ -178,6 +179,6 @@ fn the_largest_map_is_opened_and_used(rt: HostRuntime) -> Result<(), Fail> {
     assert_eq!(rt; map.update(&mut writer, last, &batch), Ok(()));
     let mut found = RowSet::new();
     assert_eq!(rt; map.find(&mut reader, last, &mut found), Found::Rows);
-    assert!(rt; is_numbered(&found, 0, 254));
+    assert!(rt; is_numbered(&found, 0, 255));
     Ok(())
 }
