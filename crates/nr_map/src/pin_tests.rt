@@ -5,6 +5,7 @@ use super::{Asked, Found, KeyKind, Reader, ReaderMap, Writer};
 use crate::tests::fill;
 use nr_model::{Batch, Delta, OpenFault, Row, RowSet};
 use std::alloc::Global;
+use std::process::Abort;
 use std::sync::atomic::{AtomicBool, Ordering};
 use std::test::Fail;
 use std::thread::{self, Threads, join};
@@ -162,6 +163,28 @@ fn delta(plus: bool, row: Row) -> Delta {
     Delta { plus, row }
 }
 
+// The writer gathers both readers: it finds its update, and knows of the request.
+fn learns_all(
+    rt: &impl Abort,
+    map: &ReaderMap,
+    mut writer: Writer,
+    mut one: Reader,
+    mut two: Reader,
+)
+    requires keys { 1 < map.now.shape.keys }
+    requires one { one.table ≡ map.now }
+    requires two { two.table ≡ map.now }
+    requires writer { writer.table ≡ map.now }
+{
+    map.gather(&mut writer, &mut one);
+    map.gather(&mut writer, &mut two);
+    let mut rows = RowSet::new();
+    assert_eq!(rt; map.look(&mut writer, 0, &mut rows), Found::Rows);
+    assert_eq!(rt; rows.len(), 1);
+    assert_eq!(rt; rows.get(0), Some(row(7, 8)));
+    assert_eq!(rt; map.state(&mut writer, 1), KeyKind::Asked);
+}
+
 #[test]
 fn pinned_set_outlives_an_update(rt: HostRuntime) -> Result<(), Fail> {
     let (map, mut writer, mut readers) = opened(rt.alloc())?;
@@ -170,17 +193,11 @@ fn pinned_set_outlives_an_update(rt: HostRuntime) -> Result<(), Fail> {
     assert!(rt; request(&map, &mut one, 0));
     fill(&map, &mut writer, 0, 0, &RowSet::of(&[row(5, 6)])?)??;
     let batch = Batch::of(&[delta(false, row(5, 6)), delta(true, row(7, 8))])?;
-    let ((held, mut one), ((updated, mut writer), (asked, mut two))) = all_three(
+    let ((held, one), ((updated, writer), (asked, two))) = all_three(
         &rt, &map, one, two, writer, &batch,
     );
     assert_eq!(rt; held, Some(row(5, 6)));
     assert!(rt; updated && asked);
-    map.gather(&mut writer, &mut one);
-    map.gather(&mut writer, &mut two);
-    let mut rows = RowSet::new();
-    assert_eq!(rt; map.look(&mut writer, 0, &mut rows), Found::Rows);
-    assert_eq!(rt; rows.len(), 1);
-    assert_eq!(rt; rows.get(0), Some(row(7, 8)));
-    assert_eq!(rt; map.state(&mut writer, 1), KeyKind::Asked);
+    learns_all(&rt, &map, writer, one, two);
     Ok(())
 }
