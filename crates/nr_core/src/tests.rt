@@ -523,11 +523,12 @@ fn counted(count: u64) -> Result<RowSet, Fail> {
 }
 
 /// Fills the key with so many rows, as many as it may have, and finds them; one more is too many.
-fn fills_to_the_bound(rt: &impl Abort, core: &mut Core, count: u64) -> Result<(), Fail> {
+fn fills_to_the_bound(rt: &impl Abort, core: &mut Core, bound: u8) -> Result<(), Fail> {
+    let count = u64::from(bound);
     let fill = WriterCall::Fill(0, 0, counted(count)?);
     let asked = [(Ask(1, 0), Sends(0)), (Start(fill), Says("-"))];
     runs(rt, core, &asked);
-    let puts = 2 * count as u32 + 1;
+    let puts = 2 * u32::from(bound) + 1;
     goes(rt, core, puts);
     runs(
         rt,
@@ -539,7 +540,7 @@ fn fills_to_the_bound(rt: &impl Abort, core: &mut Core, count: u64) -> Result<()
         (Go, Says("too-many")),
         (Arrive(1, 0), Says("held")),
         (Read(1, 0), Word(count)),
-        (Read(1, 2 * count - 1), Word(count)),
+        (Read(1, (2 * count).saturating_sub(1)), Word(count)),
         (Read(1, 2 * count), Word(0)),
         (Read(1, 2 * count + 1), Says("out-of-range")),
         (Depart(1), Says("ok")),
@@ -560,9 +561,9 @@ fn a_key_has_rows_up_to_its_bound(rt: HostRuntime) -> Result<(), Fail> {
         assert!(rt; matches!(&roomy(rt.alloc(), rows), Err(OpenFault::BadSize)));
     }
     for rows in [1, 15, 16, 255] {
-        let mut core = roomy(rt.alloc(), rows).map_err(|_| "not opened")?;
-        assert_eq!(rt; core.rows(), rows);
-        fills_to_the_bound(&rt, &mut core, u64::from(rows))?;
+        let mut core = roomy(rt.alloc(), u32::from(rows)).map_err(|_| "not opened")?;
+        assert_eq!(rt; core.rows(), u32::from(rows));
+        fills_to_the_bound(&rt, &mut core, rows)?;
     }
     Ok(())
 }
