@@ -114,6 +114,7 @@ fn ask_and_fill<R: Abort>(rt: &R, map: &ReaderMap, reader: &mut Reader, writer: 
         Asked::Send(ticket) => assert_eq!(rt; ticket.into_key(), 0),
         Asked::Waiting | Asked::Filled => panic!(rt; "the key was asked for before"),
     }
+    assert!(rt; 0 < map.rows());
     assert!(rt; map.fill(writer, 0, 0, &one_row(5, 6)).is_ok());
 }
 
