@@ -3,7 +3,7 @@ use Rattle.std.proofs.Common.{◌≡◌, ℕ, ◌+◌, ◌≤◌, List, [], ◌�
 use Rattle.nr_model.specs.Maps.{filled_count}
 use Rattle.nr_core.specs.declared.places.Retired.{Retired}
 use Rattle.nr_core.specs.declared.shape.Shape.{Shape}
-use Rattle.nr_marks.specs.MarkLaws.{DoneIsExact as DoneLaw, NoSlotIsExact as NoSlotLaw}
+use Rattle.nr_marks.specs.MarkLaws.{DoneByMarks, NoSlotByMarks}
 use Rattle.nr_marks.specs.Exact.{Took}
 use Rattle.nr_marks.specs.Marks.{Marks, Past}
 use Rattle.nr_marks.specs.Pasts.{AllReaders}
@@ -19,7 +19,7 @@ use Rattle.nr_map.specs.Callers.{Caller, Table}
 use Rattle.nr_map.specs.ExactPlaces.{DoneIsExact, NoSlotIsExact}
 use Rattle.nr_map.specs.Meetings.{desk_seen}
 
-pub no_slot_lem : NoSlotLaw → NoSlotIsExact
+pub no_slot_lem : NoSlotByMarks → NoSlotIsExact
 no_slot_lem law steps call counts old new after readers all known without learnt gathered =
     let shape = after.table.shape in let lacks = without.lacks in let lists = gathered.lists in
     let table : after.table ≡ old.table = learnt.table ∙ without.grows.table in
@@ -41,7 +41,7 @@ takes_so steps old call rows new published = ⊎_elim (λ fresh. inl fresh.0)
     let there : get_or new.marks.puts again.2.slot 0 ≡ published.number = ap (λ (s : ℕ). get_or new.marks.puts s 0) again.4 ∙ published.put in
     inr (again.1, again.2, again.3, omega (arith, count_more (old.seen ++ grows.between) (entry old.number call reply.Done), count_grows old.seen grows.between, published.count))) published.took
 
-pub done_lem : DoneLaw → DoneIsExact
+pub done_lem : DoneByMarks → DoneIsExact
 done_lem law steps call rows old new after readers gathered published learnt current =
     law old.table.shape (desk_seen old) after.retired old.marks after.marks old.seen readers gathered.lists (λ slot. refl) gathered.current current
     (subst (λ (m : Marks). Took old.table.shape (desk_seen old) m old.seen) (sym learnt.marks) (takes_so steps old call rows new published))

@@ -42,14 +42,14 @@ pub fn beginnings_meet()
 pub fn no_slot_is_exact()
     ensures { NoSlotIsExact }
 {
-    nr_marks::laws::no_slot_is_exact();
+    nr_marks::laws::no_slot_by_marks();
 }
 
 /// Where it gathers them before and after a fill or an update that was done, they were fewer.
 pub fn done_is_exact()
     ensures { DoneIsExact }
 {
-    nr_marks::laws::done_is_exact();
+    nr_marks::laws::done_by_marks();
 }
 
 /// A fill or an update that is done polls at most one slot more than there are readers.

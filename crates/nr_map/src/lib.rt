@@ -20,8 +20,6 @@
 
 mod answers;
 mod board;
-#[cfg(test)]
-mod cancel_tests;
 mod cancels;
 mod held_rows;
 pub mod laws;
@@ -29,19 +27,11 @@ mod meetings;
 mod named_rows;
 mod only_proved;
 mod pin;
-#[cfg(test)]
-mod pin_tests;
 mod publish;
 mod read_through;
 mod reader;
 mod reader_map;
-#[cfg(test)]
-mod row_tests;
 mod rule;
-#[cfg(test)]
-mod slot_tests;
-#[cfg(test)]
-mod tests;
 mod ticket;
 mod view;
 mod writer;

@@ -9,7 +9,7 @@ use crate::held_rows::HeldRows;
 use crate::only_proved::only_proved;
 use crate::reader::Reader;
 use crate::reader_map::ReaderMap;
-use nr_model::{Row, RowSet};
+use nr_model::{Row, RowRoom, RowSet};
 use nr_words::parts;
 use std::marker::Model;
 

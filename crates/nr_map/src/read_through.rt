@@ -11,18 +11,18 @@ use crate::board::Seat;
 use crate::named_rows::NamedRows;
 use crate::reader_map::ReaderMap;
 use crate::rule::Given;
-use nr_model::{Pile, RowSet};
+use nr_model::RowRoom;
 use std::marker::PhantomData;
 use std::snapshot::Snapshot;
 
 impl ReaderMap {
-    /// Writes the set of the slot that the call's key names over the caller's, by one read of each
-    /// of its words.
-    pub(crate) fn read_set<G: Given>(&self, seat: &mut Seat, slot: u32, rows: &mut RowSet)
+    /// Writes the set of the slot that the call's key names over the rows of the caller's, by one
+    /// read of each of its words.
+    pub(crate) fn read_set<G: Given, R: RowRoom>(&self, seat: &mut Seat, slot: u32, rows: &mut R)
         requires writer { WritesAt self.now (moved_to (desk_of seat.old.me.0.role) (Reading G.call slot [])) seat.old }
         requires slot { slot < self.now.shape.slots }
         requires key { key_of G.call < self.now.shape.keys }
-        ensures { ReadsAll self.now G.call rows.new seat.old seat.new }
+        ensures { ReadsAll self.now G.call (R.held rows.new) seat.old seat.new }
     {
         let before = Snapshot::of(seat);
         let begin = self.board.content(slot);
@@ -35,25 +35,5 @@ impl ReaderMap {
             given: PhantomData,
         };
         rows.refill(count as usize, &mut source);
-    }
-
-    /// The same into the pile on which an update works.
-    pub(crate) fn read_pile<G: Given>(&self, seat: &mut Seat, slot: u32, pile: &mut Pile)
-        requires writer { WritesAt self.now (moved_to (desk_of seat.old.me.0.role) (Reading G.call slot [])) seat.old }
-        requires slot { slot < self.now.shape.slots }
-        requires key { key_of G.call < self.now.shape.keys }
-        ensures { ReadsAll self.now G.call pile.new seat.old seat.new }
-    {
-        let before = Snapshot::of(seat);
-        let begin = self.board.content(slot);
-        let count = self.board.read_on(seat, begin, 0);
-        let mut source: NamedRows<G> = NamedRows {
-            map: self,
-            seat,
-            begin,
-            before: &before,
-            given: PhantomData,
-        };
-        pile.refill(count as usize, &mut source);
     }
 }

@@ -9,7 +9,7 @@ use crate::board::Seat;
 use crate::held_rows::HeldRows;
 use crate::reader_map::ReaderMap;
 use crate::ticket::Ticket;
-use nr_model::{Row, RowSet};
+use nr_model::{Row, RowRoom, RowSet};
 use nr_words::parts;
 use std::marker::Model;
 

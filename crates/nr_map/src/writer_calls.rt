@@ -106,7 +106,7 @@ impl ReaderMap {
         if !found.filled {
             return Found::Hole;
         }
-        self.read_set::<G>(seat, found.slot, rows);
+        self.read_set::<G, RowSet>(seat, found.slot, rows);
         Found::Rows
     }
 
@@ -161,7 +161,7 @@ impl ReaderMap {
         if !found.filled {
             return Err(UpdateFault::Dropped);
         }
-        self.read_pile::<G>(seat, found.slot, pile);
+        self.read_set::<G, Pile>(seat, found.slot, pile);
         match pile.apply(batch, self.rows()) {
             Ok(()) => {}
             Err(ApplyFault::NoRow) => return Err(UpdateFault::NoRow),

@@ -11,7 +11,7 @@ use Rattle.nr_marks.specs.Marks.{Marks, Past, past}
 use Rattle.nr_marks.specs.PollNotes.{Missed, Noted}
 use Rattle.nr_marks.specs.Pasts.{AllKnown, Compared, Current, Refreshed}
 use Rattle.nr_marks.specs.Exact.{pins}
-use Rattle.nr_marks.specs.MarkLaws.{DoneIsExact, NoSlotIsExact}
+use Rattle.nr_marks.specs.MarkLaws.{DoneByMarks, NoSlotByMarks}
 use Rattle.nr_marks.proofs.ByHistory.{strays_by_history}
 use Rattle.nr_marks.proofs.Strays.{Still, all_strays, one_not_stray, strays_most}
 
@@ -28,14 +28,14 @@ noted_more shape known polls slot now noted missed = record {
 }
 
 -- Where every reader was gathered before the call and again after it, with no act in between, a no-slot comes only where the filled keys and the strays are all slots.
-pub no_slot_is_exact_lem : NoSlotIsExact
-no_slot_is_exact_lem shape desk marks log known readers all before noted held lists current sum =
+pub no_slot_by_marks_lem : NoSlotByMarks
+no_slot_by_marks_lem shape desk marks log known readers all before noted held lists current sum =
     let still : Still marks.polls readers = λ i poll e. let range = noted.range i poll e in let c = all poll.reader range.0 range.1 in let b = before c.0 c.1 c.2 in (c.0, c.1, c.2, c.3, noted.newer i b.0 poll c.1 e b.1 c.3) in
     let a = all_strays desk.retired marks (put_count log) readers lists.tidy current held still in let h = strays_by_history desk marks shape log (pins readers) lists in omega arith
 
 -- A fill or an update that is done comes only where they are fewer.
-pub done_is_exact_lem : DoneIsExact
-done_is_exact_lem shape desk after marks now log readers lists free before current took =
+pub done_by_marks_lem : DoneByMarks
+done_by_marks_lem shape desk after marks now log readers lists free before current took =
     let sum = lists.slots free in let room = lists.room in let h = strays_by_history desk marks shape log (pins readers) lists in ⊎_elim
     (λ (l : desk.fresh < shape.slots). let a = strays_most desk.retired marks (put_count log) readers lists.tidy before in omega arith)
     (λ (t : (at : ℕ) × (entry : Retired) × (get_elem? desk.retired at ≡ some entry) × (put_count log ≤ get_or now.puts entry.slot 0)). let a = one_not_stray desk.retired marks (put_count log) readers lists.tidy before after now t.0 t.1 current t.2 t.3 in omega arith) took

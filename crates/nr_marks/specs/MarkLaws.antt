@@ -19,8 +19,8 @@ abbrev pub slots_in_use : Shape → List Entry → List Past → ℕ
 slots_in_use shape log readers = filled_count (map_after shape log) + strays (filled_puts shape log) (pins readers)
 
 -- Every reader was gathered before a call that ended with no slot, and again after it, and made no act in between: all slots are in use.
-abbrev pub NoSlotIsExact : Type 0
-NoSlotIsExact =
+abbrev pub NoSlotByMarks : Type 0
+NoSlotByMarks =
     (shape : Shape) (desk : Desk) (marks : Marks) (log : List Entry) (known readers : List Past) →
     AllReaders shape.readers readers →
     AllKnown known readers →
@@ -32,8 +32,8 @@ NoSlotIsExact =
     slots_in_use shape log readers ≡ shape.slots
 
 -- The same of a fill or an update that was done: before it fewer were in use.
-abbrev pub DoneIsExact : Type 0
-DoneIsExact =
+abbrev pub DoneByMarks : Type 0
+DoneByMarks =
     (shape : Shape) (desk : Desk) (after : List Retired) (marks now : Marks) (log : List Entry) (readers : List Past) →
     Lists desk marks shape log →
     ((slot : ℕ) → taken slot desk.place ≡ 0) →

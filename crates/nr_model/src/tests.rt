@@ -3,7 +3,8 @@ ghost use Rattle.nr_model.specs.declared.rows.TheConstants.{MAX_ROWS};
 
 use super::{
     ApplyFault, Batch, BatchFault, Call, DEFAULT_ROWS, Delta, KeyState, LAST_NUMBER, MAX_KEYS,
-    MAX_ROWS, OpenFault, Pile, Reply, Row, RowSet, RowSource, SeqMap, TooMany, is_bad_size,
+    MAX_ROWS, OpenFault, Pile, Reply, Row, RowRoom, RowSet, RowSource, SeqMap, TooMany,
+    is_bad_size,
 };
 use crate::heads::Head;
 use std::alloc::Global;
@@ -70,17 +71,6 @@ fn sets_are_in_order_and_keep_doubles(rt: HostRuntime) -> Result<(), Fail> {
     assert_eq!(rt; set.get(3), Some(row(7, 1)));
     assert_eq!(rt; set.get(4), None);
     assert_eq!(rt; RowSet::new().len(), 0);
-    Ok(())
-}
-
-#[test]
-fn rows_are_pushed_in_order(rt: HostRuntime) -> Result<(), Fail> {
-    let mut set = set_of(&[row(9, 9)])?;
-    set.clear();
-    assert_eq!(rt; set.len(), 0);
-    set.push(0, row(3, 9));
-    assert_eq!(rt; set.len(), 1);
-    assert_eq!(rt; set.get(0), Some(row(3, 9)));
     Ok(())
 }
 

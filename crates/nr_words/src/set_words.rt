@@ -6,7 +6,7 @@ ghost use Rattle.nr_model.specs.Padded.{padded};
 ghost use Rattle.nr_words.specs.SetWords.{content_words, encode, decode, row_count, rows_of};
 
 use crate::row_pairs::RowPairs;
-use nr_model::{MAX_ROWS, RowSet};
+use nr_model::{MAX_ROWS, RowRoom, RowSet};
 
 /// The words that the largest set takes: the number of rows, and two words for each row.
 pub const MAX_CONTENT_WORDS: usize = 2 * MAX_ROWS + 1;

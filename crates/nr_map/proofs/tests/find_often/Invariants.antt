@@ -1,5 +1,0 @@
-use Rattle.std.proofs.Common.{◌≡◌}
-use Rattle.nr_map.proofs.tests.find_often.Given as goal
-
-abbrev pub invariant-loop : goal.invariant-loop
-invariant-loop l = l.reader.table ≡ l.map

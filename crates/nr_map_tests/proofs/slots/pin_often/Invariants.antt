@@ -1,0 +1,5 @@
+use Rattle.std.proofs.Common.{◌≡◌}
+use Rattle.nr_map_tests.proofs.slots.pin_often.Given as goal
+
+abbrev pub invariant-loop : goal.invariant-loop
+invariant-loop l = l.reader.table ≡ l.map

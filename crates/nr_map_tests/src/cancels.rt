@@ -1,0 +1,422 @@
+//! Requests that are taken back, in worked calls, beside a thread that asks again, and in many
+//! scripts against the sequential model.
+ghost use Rattle.std.specs.Prelude.{◌≡◌, ◌<◌, IfOk};
+ghost use Rattle.std.specs.Bool.{OnTrue};
+ghost use Rattle.nr_model.specs.Maps.{FillFits, key_count, key_of};
+
+use crate::calls::fill;
+use nr_map::{
+    Asked, Cancel, Evict, FillFault, Found, KeyKind, Reader, ReaderMap, Shape, UpdateFault, Writer,
+};
+use nr_model::{
+    Batch, Call, DEFAULT_ROWS, Delta, KeyState, LAST_NUMBER, OpenFault, Reply, Row, RowSet, SeqMap,
+};
+use std::alloc::Global;
+use std::test::Fail;
+use std::thread::{Threads, join};
+
+/// An answer to a request, whose ticket was spent: its key and its number.
+#[derive(Clone, Copy, Debug, PartialEq, Eq)]
+enum Told {
+    Send(u32, u64),
+    Waiting,
+    Filled,
+}
+
+fn spent(asked: Asked) -> Told {
+    match asked {
+        Asked::Send(ticket) => {
+            let number = ticket.number();
+            Told::Send(ticket.into_key(), number)
+        }
+        Asked::Waiting => Told::Waiting,
+        Asked::Filled => Told::Filled,
+    }
+}
+
+fn one_row(a: u64) -> Result<RowSet, Fail> {
+    Ok(RowSet::of(&[Row { a, b: a }])?)
+}
+
+fn same_rows(one: &RowSet, other: &RowSet) -> bool {
+    one.len() == other.len() && (0..one.len()).all(|i| one.get(i) == other.get(i))
+}
+
+fn one_key(first_number: u64) -> Shape {
+    Shape {
+        keys: 1,
+        slots: 3,
+        readers: 1,
+        first_count: 0,
+        first_number,
+        rows: DEFAULT_ROWS,
+    }
+}
+
+#[test]
+fn a_late_answer_is_stale_and_the_last_number_is_worn(rt: HostRuntime) -> Result<(), Fail> {
+    let (map, mut writer, mut readers) = ReaderMap::open_with(rt.alloc(), &one_key(4_194_302))?;
+    let Some(mut reader) = readers.pop() else {
+        return Ok(());
+    };
+    let one = one_row(1)?;
+    assert_eq!(rt; spent(map.ask(&mut reader, 0)), Told::Send(0, 4_194_302));
+    assert_eq!(rt; map.cancel(&mut writer, 0), Cancel::Cancelled);
+    assert_eq!(rt; map.cancel(&mut writer, 0), Cancel::Nothing);
+    assert_eq!(rt; map.number(&writer, 0), 4_194_303);
+    assert_eq!(rt; spent(map.ask(&mut reader, 0)), Told::Send(0, 4_194_303));
+    assert_eq!(rt;
+        fill(&map, &mut writer, 0, 4_194_302, &one)?,
+        Err(FillFault::Stale)
+    );
+    assert_eq!(rt; map.cancel(&mut writer, 0), Cancel::Worn);
+    assert_eq!(rt; spent(map.ask(&mut reader, 0)), Told::Waiting);
+    assert_eq!(rt; fill(&map, &mut writer, 0, 4_194_303, &one)?, Ok(()));
+    assert_eq!(rt; map.cancel(&mut writer, 0), Cancel::Nothing);
+    assert_eq!(rt; map.evict(&mut writer, 0), Evict::Evicted);
+    assert_eq!(rt;
+        map.fill(&mut writer, 0, 0, &RowSet::new()),
+        Err(FillFault::NotAsked)
+    );
+    assert_eq!(rt; spent(map.ask(&mut reader, 0)), Told::Send(0, 4_194_303));
+    let number = map.number(&writer, 0);
+    assert_eq!(rt; fill(&map, &mut writer, 0, number, &one_row(2)?)?, Ok(()));
+    Ok(())
+}
+
+#[test]
+fn a_worn_request_is_ended_by_its_own_fill_alone(rt: HostRuntime) -> Result<(), Fail> {
+    let (map, mut writer, mut readers) = ReaderMap::open_with(rt.alloc(), &one_key(4_194_303))?;
+    let Some(mut reader) = readers.pop() else {
+        return Ok(());
+    };
+    let none = RowSet::new();
+    assert_eq!(rt; spent(map.ask(&mut reader, 0)), Told::Send(0, 4_194_303));
+    assert_eq!(rt; map.cancel(&mut writer, 0), Cancel::Worn);
+    assert_eq!(rt; map.evict(&mut writer, 0), Evict::Nothing);
+    assert_eq!(rt; map.fill(&mut writer, 0, 0, &none), Err(FillFault::Stale));
+    assert_eq!(rt;
+        map.fill(&mut writer, 0, 4_194_302, &none),
+        Err(FillFault::Stale)
+    );
+    assert_eq!(rt;
+        map.fill(&mut writer, 0, 4_194_304, &none),
+        Err(FillFault::Stale)
+    );
+    assert_eq!(rt;
+        map.fill(&mut writer, 0, u64::MAX, &none),
+        Err(FillFault::Stale)
+    );
+    assert_eq!(rt; map.cancel(&mut writer, 0), Cancel::Worn);
+    assert_eq!(rt; map.state(&mut writer, 0), KeyKind::Asked);
+    assert_eq!(rt; map.fill(&mut writer, 0, 4_194_303, &none), Ok(()));
+    assert_eq!(rt; map.state(&mut writer, 0), KeyKind::Rows);
+    Ok(())
+}
+
+#[test]
+fn first_numbers_have_their_limit(rt: HostRuntime) {
+    let opened = ReaderMap::open_with(rt.alloc(), &one_key(4_194_304));
+    assert!(rt; matches!(opened, Err(OpenFault::BadSize)));
+    assert!(rt; ReaderMap::open_with(rt.alloc(), &one_key(4_194_303)).is_ok());
+}
+
+const TURNS: u64 = 20_000;
+
+/// Requests key 0 again and again: what the last request was told that was to be sent.
+fn ask_often(map: &ReaderMap, mut reader: Reader) -> (Option<Told>, Reader)
+    requires own { reader.table ≡ map.now }
+    requires key { 0 < map.now.shape.keys }
+    ensures own { result.1.table ≡ map.now }
+{
+    let mut sent = None;
+    for _ in 0..TURNS {
+        let told = spent(map.ask(&mut reader, 0));
+        if told != Told::Waiting {
+            sent = Some(told);
+        }
+    }
+    (sent, reader)
+}
+
+/// Takes the request of key 0 back, whose number is 0, and then brings its answer again and again:
+/// whether the cancel was done and no answer was.
+fn answer_late(map: &ReaderMap, mut writer: Writer) -> (bool, Writer)
+    requires own { writer.table ≡ map.now }
+    requires key { 0 < map.now.shape.keys }
+    ensures own { result.1.table ≡ map.now }
+{
+    let mut refused = map.cancel(&mut writer, 0) == Cancel::Cancelled;
+    let late = RowSet::new();
+    for _ in 0..TURNS {
+        let filled = map.fill(&mut writer, 0, 0, &late);
+        refused = refused && matches!(filled, Err(FillFault::NotAsked | FillFault::Stale));
+    }
+    (refused, writer)
+}
+
+fn late_beside_again<R: Threads + Sync>(
+    rt: &R,
+    map: &ReaderMap,
+    writer: Writer,
+    reader: Reader,
+) -> ((bool, Writer), (Option<Told>, Reader))
+    requires writer { writer.table ≡ map.now }
+    requires reader { reader.table ≡ map.now }
+    requires key { 0 < map.now.shape.keys }
+    ensures own { (result.0.1.table ≡ map.now) × (result.1.1.table ≡ map.now) }
+{
+    join(
+        rt,
+        move || -> (bool, Writer)
+            requires { (writer.table ≡ map.now) × (0 < map.now.shape.keys) }
+            ensures { result.1.table ≡ map.entry.now }
+        { answer_late(map, writer) },
+        move || -> (Option<Told>, Reader)
+            requires { (reader.table ≡ map.now) × (0 < map.now.shape.keys) }
+            ensures { result.1.table ≡ map.entry.now }
+        { ask_often(map, reader) },
+    )
+}
+
+#[test]
+fn a_late_answer_is_refused_beside_a_reader_that_asks_again(rt: HostRuntime) -> Result<(), Fail> {
+    let (map, writer, mut readers) = ReaderMap::open(rt.alloc(), 1, 3, 1, 0)?;
+    let Some(mut reader) = readers.pop() else {
+        return Ok(());
+    };
+    assert_eq!(rt; spent(map.ask(&mut reader, 0)), Told::Send(0, 0));
+    let ((refused, mut writer), (sent, mut reader)) = late_beside_again(&rt, &map, writer, reader);
+    assert!(rt; refused);
+    let again = Told::Send(0, 1);
+    if sent != Some(again) {
+        assert_eq!(rt; sent, None);
+        assert_eq!(rt; spent(map.ask(&mut reader, 0)), again);
+    }
+    assert_eq!(rt; spent(map.ask(&mut reader, 0)), Told::Waiting);
+    assert_eq!(rt; fill(&map, &mut writer, 0, 1, &one_row(1)?)?, Ok(()));
+    assert_eq!(rt; spent(map.ask(&mut reader, 0)), Told::Filled);
+    Ok(())
+}
+
+/// Draws that a seed determines.
+#[derive(Drop)]
+struct Dice {
+    state: u64,
+}
+
+impl Dice {
+    fn roll(&mut self, sides: u64) -> u64
+        requires { 0 < sides }
+        ensures { result < sides }
+    {
+        self.state = self
+            .state
+            .wrapping_mul(6_364_136_223_846_793_005)
+            .wrapping_add(1_442_695_040_888_963_407);
+        (self.state >> 33) % sides
+    }
+
+    /// Some call at a key of the model. A fill's number is the key's, or one below or above it.
+    fn call(&mut self, model: &SeqMap) -> Result<Call, Fail>
+        ensures { IfOk result (λ call. key_of call < key_count model.now) }
+    {
+        let key = self.roll(u64::from(model.keys())) as u32;
+        Ok(match self.roll(8) {
+            0 => Call::Find(key),
+            1 | 2 => Call::Ask(key),
+            3 | 4 => {
+                let near = model.state(key).number().wrapping_add(self.roll(3));
+                Call::Fill(key, near.wrapping_sub(1), one_row(self.roll(3))?)
+            }
+            5 => {
+                let a = self.roll(3);
+                let plus = self.roll(2) == 0;
+                Call::Update(
+                    key,
+                    Batch::of(&[Delta {
+                        plus,
+                        row: Row { a, b: a },
+                    }])?,
+                )
+            }
+            6 => Call::Evict(key),
+            _ => Call::Cancel(key),
+        })
+    }
+}
+
+fn fits(call: &Call, rows: u32) -> bool
+    ensures { OnTrue result (FillFits rows call.now) }
+{
+    match call {
+        Call::Fill(_, _, set) => set.len() <= rows as usize,
+        _ => true,
+    }
+}
+
+/// Makes the call on the map: whether its answer is the reply.
+fn answers(
+    map: &ReaderMap,
+    writer: &mut Writer,
+    reader: &mut Reader,
+    call: &Call,
+    reply: &Reply,
+) -> bool
+    requires own { (writer.old.table ≡ map.now) × (reader.old.table ≡ map.now) }
+    requires key { key_of call.now < map.now.shape.keys }
+    requires fits { FillFits map.now.shape.rows call.now }
+    ensures own { (writer.new.table ≡ map.now) × (reader.new.table ≡ map.now) }
+{
+    match call {
+        Call::Find(key) => finds(map, reader, *key, reply),
+        Call::Ask(key) => {
+            let told = spent(map.ask(reader, *key));
+            match reply {
+                Reply::Send(number) => told == Told::Send(*key, *number),
+                Reply::Waiting => told == Told::Waiting,
+                Reply::Filled => told == Told::Filled,
+                _ => false,
+            }
+        }
+        Call::Fill(key, number, rows) => match map.fill(writer, *key, *number, rows) {
+            Ok(()) => matches!(reply, Reply::Done),
+            Err(FillFault::NotAsked) => matches!(reply, Reply::NotAsked),
+            Err(FillFault::Already) => matches!(reply, Reply::Already),
+            Err(FillFault::Stale) => matches!(reply, Reply::Stale),
+            Err(FillFault::NoSlot(_)) => false,
+        },
+        Call::Update(key, batch) => match map.update(writer, *key, batch) {
+            Ok(()) => matches!(reply, Reply::Done),
+            Err(UpdateFault::Dropped) => matches!(reply, Reply::Dropped),
+            Err(UpdateFault::NoRow) => matches!(reply, Reply::NoRow),
+            Err(UpdateFault::TooMany) => matches!(reply, Reply::TooMany),
+            Err(UpdateFault::NoSlot(_)) => false,
+        },
+        Call::Evict(key) => match map.evict(writer, *key) {
+            Evict::Evicted => matches!(reply, Reply::Evicted),
+            Evict::Nothing => matches!(reply, Reply::Nothing),
+        },
+        Call::Cancel(key) => match map.cancel(writer, *key) {
+            Cancel::Cancelled => matches!(reply, Reply::Cancelled),
+            Cancel::Nothing => matches!(reply, Reply::Nothing),
+            Cancel::Worn => matches!(reply, Reply::Worn),
+        },
+    }
+}
+
+fn finds(map: &ReaderMap, reader: &mut Reader, key: u32, reply: &Reply) -> bool
+    requires own { reader.old.table ≡ map.now }
+    requires key { key < map.now.shape.keys }
+    ensures own { reader.new.table ≡ map.now }
+{
+    let mut rows = RowSet::new();
+    match (map.find(reader, key, &mut rows), reply) {
+        (Found::Rows, Reply::Rows(expected)) => same_rows(&rows, expected),
+        (Found::Hole, Reply::Hole) => true,
+        _ => false,
+    }
+}
+
+/// Whether the key is in the map what it is in the model.
+fn is_as(map: &ReaderMap, writer: &mut Writer, key: u32, expected: &KeyState) -> bool
+    requires own { writer.old.table ≡ map.now }
+    requires key { key < map.now.shape.keys }
+    ensures own { writer.new.table ≡ map.now }
+{
+    let same_number = map.number(writer, key) == expected.number();
+    let mut rows = RowSet::new();
+    let kind = map.state(writer, key);
+    let found = map.look(writer, key, &mut rows);
+    same_number
+        && match expected {
+            KeyState::Hole(_) => kind == KeyKind::Hole && found == Found::Hole,
+            KeyState::Asked(_) => kind == KeyKind::Asked && found == Found::Hole,
+            KeyState::Rows(_, set) => {
+                kind == KeyKind::Rows && found == Found::Rows && same_rows(&rows, set)
+            }
+        }
+}
+
+fn all_are_as(map: &ReaderMap, writer: &mut Writer, model: &SeqMap) -> bool
+    requires own { writer.old.table ≡ map.now }
+    requires keys { key_count model.now ≡ map.now.shape.keys }
+    ensures own { writer.new.table ≡ map.now }
+{
+    let mut same = true;
+    for key in 0..model.keys() {
+        same = is_as(map, writer, key, &model.state(key)) && same;
+    }
+    same
+}
+
+/// Makes a drawn call on the map and on the model: whether the replies, and then all keys' states,
+/// agreed.
+fn agrees(
+    map: &ReaderMap,
+    writer: &mut Writer,
+    reader: &mut Reader,
+    model: &mut SeqMap,
+    dice: &mut Dice,
+) -> Result<bool, Fail>
+    requires own { (writer.old.table ≡ map.now) × (reader.old.table ≡ map.now) }
+    ensures own { (writer.new.table ≡ map.now) × (reader.new.table ≡ map.now) }
+{
+    if model.keys() != map.keys() {
+        return Ok(false);
+    }
+    let call = dice.call(model)?;
+    if !fits(&call, model.rows()) || !fits(&call, map.rows()) {
+        return Ok(false);
+    }
+    let reply = model.call(&call);
+    let same = answers(map, writer, reader, &call, &reply);
+    if model.keys() != map.keys() {
+        return Ok(false);
+    }
+    Ok(all_are_as(map, writer, model) && same)
+}
+
+fn runs_as(
+    map: &ReaderMap,
+    mut writer: Writer,
+    mut reader: Reader,
+    mut model: SeqMap,
+    mut dice: Dice,
+) -> Result<bool, Fail>
+    requires own { (writer.table ≡ map.now) × (reader.table ≡ map.now) }
+{
+    let mut same = true;
+    for _ in 0..16 {
+        same = agrees(map, &mut writer, &mut reader, &mut model, &mut dice)? && same;
+    }
+    Ok(same)
+}
+
+/// Whether a new map of drawn sizes and numbers does as the model.
+fn runs_as_the_model(alloc: Global, seed: u64) -> Result<bool, Fail> {
+    let mut dice = Dice { state: seed };
+    let keys = 1 + dice.roll(3) as u32;
+    let shape = Shape {
+        keys,
+        slots: keys + 2,
+        readers: 1,
+        first_count: seed,
+        first_number: LAST_NUMBER - dice.roll(3),
+        rows: 1 + dice.roll(3) as u32,
+    };
+    let (map, writer, mut readers) = ReaderMap::open_with(alloc, &shape)?;
+    let Some(reader) = readers.pop() else {
+        return Ok(false);
+    };
+    let model = SeqMap::open_with(alloc, keys, shape.first_number, shape.rows)?;
+    runs_as(&map, writer, reader, model, dice)
+}
+
+#[test]
+fn scripts_with_cancels_run_as_the_model(rt: HostRuntime) -> Result<(), Fail> {
+    for seed in 0..10_000 {
+        assert!(rt; runs_as_the_model(rt.alloc(), seed)?);
+    }
+    Ok(())
+}

@@ -1,0 +1,16 @@
+//! Tests of the running map, by its public calls alone: worked calls, threads, and many scripts
+//! against the sequential model.
+#![tactic(auto)]
+
+#[cfg(test)]
+mod calls;
+#[cfg(test)]
+mod cancels;
+#[cfg(test)]
+mod pins;
+#[cfg(test)]
+mod rows;
+#[cfg(test)]
+mod slots;
+#[cfg(test)]
+mod threads;

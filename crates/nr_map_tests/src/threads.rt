@@ -1,0 +1,346 @@
+//! Threads over one map. What is asserted does not depend on how their steps fall.
+ghost use Rattle.std.specs.Prelude.{◌≡◌, ◌<◌};
+
+use crate::calls::{Told, added, fill, pairs_are, rows_of, spent};
+use nr_map::{Evict, FillFault, Found, NoSlot, Reader, ReaderMap, UpdateFault, Writer};
+use nr_model::{Batch, Delta, OpenFault, Row, RowSet};
+use std::sync::atomic::{AtomicBool, Ordering};
+use std::test::Fail;
+use std::thread::{Threads, join};
+
+fn ask_once(map: &ReaderMap, mut reader: Reader) -> (Told, Reader)
+    requires own { reader.table ≡ map.now }
+    requires key { 0 < map.now.shape.keys }
+    ensures own { result.1.table ≡ map.now }
+{
+    let told = spent(map.ask(&mut reader, 0));
+    (told, reader)
+}
+
+fn both_ask<R: Threads + Sync>(
+    rt: &R,
+    map: &ReaderMap,
+    one: Reader,
+    two: Reader,
+) -> ((Told, Reader), (Told, Reader))
+    requires one { one.table ≡ map.now }
+    requires two { two.table ≡ map.now }
+    requires key { 0 < map.now.shape.keys }
+    ensures own { result.0.1.table ≡ map.now }
+{
+    join(
+        rt,
+        move || -> (Told, Reader)
+            requires { (one.table ≡ map.now) × (0 < map.now.shape.keys) }
+            ensures { result.1.table ≡ map.entry.now }
+        { ask_once(map, one) },
+        move || -> (Told, Reader)
+            requires { (two.table ≡ map.now) × (0 < map.now.shape.keys) }
+        { ask_once(map, two) },
+    )
+}
+
+#[test]
+fn one_of_two_requests_is_sent(rt: HostRuntime) -> Result<(), Fail> {
+    let (map, mut writer, mut readers) = ReaderMap::open(rt.alloc(), 1, 4, 2, 0)?;
+    let (Some(two), Some(one)) = (readers.pop(), readers.pop()) else {
+        return Ok(());
+    };
+    let ((first, mut one), (second, _two)) = both_ask(&rt, &map, one, two);
+    assert!(rt;
+        (first, second) == (Told::Send(0), Told::Waiting)
+            || (first, second) == (Told::Waiting, Told::Send(0))
+    );
+    assert_eq!(rt;
+        fill(&map, &mut writer, 0, 0, &rows_of(&[(5, 6)])?)?,
+        Ok(())
+    );
+    let mut rows = RowSet::new();
+    assert_eq!(rt; map.look(&mut writer, 0, &mut rows), Found::Rows);
+    assert!(rt; pairs_are(&rows, &[(5, 6)]));
+    let mut found = RowSet::new();
+    assert_eq!(rt; map.find(&mut one, 0, &mut found), Found::Rows);
+    assert!(rt; pairs_are(&found, &[(5, 6)]));
+    assert_eq!(rt; map.evict(&mut writer, 0), Evict::Evicted);
+    assert_eq!(rt; map.look(&mut writer, 0, &mut rows), Found::Hole);
+    assert_eq!(rt; map.find(&mut one, 0, &mut found), Found::Hole);
+    assert!(rt;
+        pairs_are(&found, &[(5, 6)]),
+        "a hole leaves the caller's set"
+    );
+    Ok(())
+}
+
+#[test]
+fn updates_use_slots_again(rt: HostRuntime) -> Result<(), Fail> {
+    let (map, mut writer, mut readers) = ReaderMap::open(rt.alloc(), 1, 2, 1, 0)?;
+    let Some(mut reader) = readers.pop() else {
+        return Ok(());
+    };
+    assert_eq!(rt; spent(map.ask(&mut reader, 0)), Told::Send(0));
+    assert_eq!(rt;
+        fill(&map, &mut writer, 0, 0, &rows_of(&[(1, 1)])?)?,
+        Ok(())
+    );
+    assert_eq!(rt; map.update(&mut writer, 0, &added(2)?), Ok(()));
+    assert_eq!(rt; map.update(&mut writer, 0, &added(3)?), Ok(()));
+    let mut rows = RowSet::new();
+    assert_eq!(rt; map.look(&mut writer, 0, &mut rows), Found::Rows);
+    assert!(rt; pairs_are(&rows, &[(1, 1), (2, 2), (3, 3)]));
+    Ok(())
+}
+
+#[test]
+fn only_a_requested_key_is_filled(rt: HostRuntime) -> Result<(), Fail> {
+    let (map, mut writer, mut readers) = ReaderMap::open(rt.alloc(), 2, 1, 1, 1_099_511_627_775)?;
+    let Some(mut reader) = readers.pop() else {
+        return Ok(());
+    };
+    assert_eq!(rt; reader.number(), 1);
+    assert_eq!(rt; (map.keys(), map.slots(), map.readers()), (2, 1, 1));
+    assert_eq!(rt;
+        fill(&map, &mut writer, 0, 0, &rows_of(&[(1, 1)])?)?,
+        Err(FillFault::NotAsked)
+    );
+    assert_eq!(rt;
+        map.update(&mut writer, 0, &added(2)?),
+        Err(UpdateFault::Dropped)
+    );
+    assert_eq!(rt; map.evict(&mut writer, 0), Evict::Nothing);
+    assert_eq!(rt; spent(map.ask(&mut reader, 0)), Told::Send(0));
+    assert_eq!(rt;
+        map.update(&mut writer, 0, &added(2)?),
+        Err(UpdateFault::Dropped)
+    );
+    assert_eq!(rt; map.evict(&mut writer, 0), Evict::Nothing);
+    Ok(())
+}
+
+#[test]
+fn a_filled_key_is_refused(rt: HostRuntime) -> Result<(), Fail> {
+    let (map, mut writer, mut readers) = ReaderMap::open(rt.alloc(), 1, 1, 1, 0)?;
+    let Some(mut reader) = readers.pop() else {
+        return Ok(());
+    };
+    let one = rows_of(&[(1, 1)])?;
+    assert_eq!(rt; spent(map.ask(&mut reader, 0)), Told::Send(0));
+    assert_eq!(rt; fill(&map, &mut writer, 0, 0, &one)?, Ok(()));
+    assert_eq!(rt;
+        fill(&map, &mut writer, 0, 0, &one)?,
+        Err(FillFault::Already)
+    );
+    assert_eq!(rt; spent(map.ask(&mut reader, 0)), Told::Filled);
+    let lacking = Batch::of(&[Delta {
+        plus: false,
+        row: Row { a: 9, b: 9 },
+    }])?;
+    assert_eq!(rt;
+        map.update(&mut writer, 0, &lacking),
+        Err(UpdateFault::NoRow)
+    );
+    let many = Batch::of(&[Delta {
+        plus: true,
+        row: Row { a: 2, b: 2 },
+    }; 15])?;
+    assert_eq!(rt;
+        map.update(&mut writer, 0, &many),
+        Err(UpdateFault::TooMany)
+    );
+    Ok(())
+}
+
+#[test]
+fn a_slot_is_free_again_once_its_key_is_evicted(rt: HostRuntime) -> Result<(), Fail> {
+    let (map, mut writer, mut readers) = ReaderMap::open(rt.alloc(), 2, 1, 1, 0)?;
+    let Some(mut reader) = readers.pop() else {
+        return Ok(());
+    };
+    let one = rows_of(&[(1, 1)])?;
+    let none = NoSlot { live: 1, held: 0 };
+    assert_eq!(rt; spent(map.ask(&mut reader, 0)), Told::Send(0));
+    assert_eq!(rt; spent(map.ask(&mut reader, 1)), Told::Send(1));
+    assert_eq!(rt; fill(&map, &mut writer, 0, 0, &one)?, Ok(()));
+    assert_eq!(rt;
+        map.update(&mut writer, 0, &added(2)?),
+        Err(UpdateFault::NoSlot(none))
+    );
+    assert_eq!(rt;
+        fill(&map, &mut writer, 1, 0, &one)?,
+        Err(FillFault::NoSlot(none))
+    );
+    assert_eq!(rt; map.evict(&mut writer, 0), Evict::Evicted);
+    assert_eq!(rt; fill(&map, &mut writer, 1, 0, &one)?, Ok(()));
+    let mut rows = RowSet::new();
+    assert_eq!(rt; map.look(&mut writer, 1, &mut rows), Found::Rows);
+    assert!(rt; pairs_are(&rows, &[(1, 1)]));
+    Ok(())
+}
+
+#[test]
+fn sizes_have_their_limits(rt: HostRuntime) {
+    for (keys, slots, readers) in [
+        (0, 1, 1),
+        (65_537, 1, 1),
+        (1, 0, 1),
+        (1, 131_073, 1),
+        (1, 1, 0),
+        (1, 1, 1025),
+    ] {
+        let opened = ReaderMap::open(rt.alloc(), keys, slots, readers, 0);
+        assert!(rt; matches!(opened, Err(OpenFault::BadSize)));
+    }
+    for (keys, slots, readers) in [(65_536, 1, 1), (1, 131_072, 1), (1, 1, 1024)] {
+        assert!(rt; ReaderMap::open(rt.alloc(), keys, slots, readers, 0).is_ok());
+    }
+}
+
+/// The rows `0:mark`, `1:mark` and `2:mark`, by which a set shows that it is whole.
+fn marked(mark: u64) -> Result<RowSet, Fail> {
+    rows_of(&[(0, mark), (1, mark), (2, mark)])
+}
+
+fn is_whole(rows: &RowSet) -> bool {
+    match rows.get(0) {
+        Some(first) => pairs_are(rows, &[(0, first.b), (1, first.b), (2, first.b)]),
+        None => false,
+    }
+}
+
+const TURNS: u64 = 20_000;
+
+/// Whether each reader has found rows. Until then the writer doesn't evict, so each is sure to.
+#[derive(Drop)]
+struct Hits {
+    one: AtomicBool,
+    two: AtomicBool,
+}
+
+impl Hits {
+    fn both(&self) -> bool {
+        self.one.load(Ordering::SeqCst) && self.two.load(Ordering::SeqCst)
+    }
+}
+
+/// Finds key 0 again and again, and requests it where it is a hole: whether each set was whole.
+fn find_often(map: &ReaderMap, mut reader: Reader, hit: &AtomicBool) -> bool
+    requires own { reader.table ≡ map.now }
+    requires key { 0 < map.now.shape.keys }
+{
+    let mut rows = RowSet::new();
+    let mut whole = true;
+    for _ in 0..TURNS {
+        match map.find(&mut reader, 0, &mut rows) {
+            Found::Rows => {
+                whole = whole && is_whole(&rows);
+                hit.store(true, Ordering::SeqCst);
+            }
+            Found::Hole => {
+                let _ = spent(map.ask(&mut reader, 0));
+            }
+        }
+    }
+    whole
+}
+
+/// Fills, updates and evicts key 0 again and again.
+fn write_often(map: &ReaderMap, mut writer: Writer, hits: &Hits) -> Result<bool, Fail>
+    requires own { writer.table ≡ map.now }
+    requires key { 0 < map.now.shape.keys }
+{
+    let mut rows = RowSet::new();
+    let mut whole = true;
+    for mark in 0..TURNS {
+        if map.look(&mut writer, 0, &mut rows) == Found::Rows {
+            whole = whole && is_whole(&rows);
+        }
+        let evicts = mark % 4 == 3 && hits.both();
+        if evicts {
+            let _ = map.evict(&mut writer, 0);
+        } else if fill(map, &mut writer, 0, 0, &marked(mark)?)? == Err(FillFault::Already) {
+            let _ = map.update(&mut writer, 0, &renewal(&rows, mark)?);
+        }
+    }
+    Ok(whole)
+}
+
+/// The batch that turns those three rows into the marked ones.
+fn renewal(rows: &RowSet, mark: u64) -> Result<Batch, Fail> {
+    let old = rows.get(0).map_or(0, |row| row.b);
+    let delta = |plus: bool, a: u64, b: u64| Delta {
+        plus,
+        row: Row { a, b },
+    };
+    Ok(Batch::of(&[
+        delta(false, 0, old),
+        delta(false, 1, old),
+        delta(false, 2, old),
+        delta(true, 0, mark),
+        delta(true, 1, mark),
+        delta(true, 2, mark),
+    ])?)
+}
+
+fn all_at_once<R: Threads + Sync>(
+    rt: &R,
+    map: &ReaderMap,
+    writer: Writer,
+    one: Reader,
+    two: Reader,
+    hits: &Hits,
+) -> (Result<bool, Fail>, (bool, bool))
+    requires writer { writer.table ≡ map.now }
+    requires one { one.table ≡ map.now }
+    requires two { two.table ≡ map.now }
+    requires key { 0 < map.now.shape.keys }
+{
+    join(
+        rt,
+        move || -> Result<bool, Fail>
+            requires { (writer.table ≡ map.now) × (0 < map.now.shape.keys) }
+        { write_often(map, writer, hits) },
+        move || -> (bool, bool)
+            requires { (one.table ≡ map.now) × (two.table ≡ map.now) × (0 < map.now.shape.keys) }
+        { both_find(rt, map, one, two, hits) },
+    )
+}
+
+fn both_find<R: Threads + Sync>(
+    rt: &R,
+    map: &ReaderMap,
+    one: Reader,
+    two: Reader,
+    hits: &Hits,
+) -> (bool, bool)
+    requires one { one.table ≡ map.now }
+    requires two { two.table ≡ map.now }
+    requires key { 0 < map.now.shape.keys }
+{
+    join(
+        rt,
+        move || -> bool
+            requires { (one.table ≡ map.now) × (0 < map.now.shape.keys) }
+        { find_often(map, one, &hits.one) },
+        move || -> bool
+            requires { (two.table ≡ map.now) × (0 < map.now.shape.keys) }
+        { find_often(map, two, &hits.two) },
+    )
+}
+
+#[test]
+fn sets_are_found_whole(rt: HostRuntime) -> Result<(), Fail> {
+    let (map, mut writer, mut readers) = ReaderMap::open(rt.alloc(), 1, 4, 2, u64::MAX)?;
+    let (Some(two), Some(mut one)) = (readers.pop(), readers.pop()) else {
+        return Ok(());
+    };
+    assert_eq!(rt; spent(map.ask(&mut one, 0)), Told::Send(0));
+    assert_eq!(rt; fill(&map, &mut writer, 0, 0, &marked(0)?)?, Ok(()));
+    let hits = Hits {
+        one: AtomicBool::new(false),
+        two: AtomicBool::new(false),
+    };
+    let (written, found) = all_at_once(&rt, &map, writer, one, two, &hits);
+    assert!(rt; written?);
+    assert_eq!(rt; found, (true, true));
+    assert!(rt; hits.both(), "each reader found rows");
+    Ok(())
+}
