@@ -1,12 +1,12 @@
 -- A script from its first line on: closed until it is opened; its reply to each line, and its text.
-use Rattle.std.specs.Prelude.{ℕ, ◌-◌, ◌^◌, if◌then◌else◌, List, Option, None, Some, Result, Ok, Err}
+use Rattle.std.specs.Prelude.{ℕ, if◌then◌else◌, List, Option, None, Some, Result, Ok, Err}
 use Rattle.nr_lines.specs.Dialogue.{answer_command, in_words}
 use Rattle.nr_lines.specs.Plain.{or_bad}
 use Rattle.nr_lines.specs.Text.{text}
 use Rattle.nr_text.specs.Grammar.{words}
 use Rattle.nr_text.specs.Opening.{is_in_limits}
-use Rattle.nr_script.specs.declared.answer.Answer.{Answer}
-use Rattle.nr_script.specs.declared.answer.Answer.TheVariants as answers
+use Rattle.nr_alone.specs.declared.answer.Answer.{Answer}
+use Rattle.nr_alone.specs.declared.answer.Answer.TheVariants as answers
 use Rattle.nr_script.specs.declared.answer.Refusal.{Refusal}
 use Rattle.nr_script.specs.declared.answer.Refusal.TheVariants as refusals
 use Rattle.nr_script.specs.declared.command.Command.{Command}
@@ -46,11 +46,3 @@ script_text lines = text (or_bad answer) start lines
 -- what the program keeps of a script
 abbrev pub state_of : ScriptMachine → State
 state_of machine = machine.opened
-
--- how many more puts its counter can take
-abbrev pub puts_left : State → ℕ
-puts_left None = 2 ^ 64 - 1
-puts_left (Some script) = 2 ^ 64 - 1 - script.put_count
-
-abbrev pub lines_left : ScriptMachine → ℕ
-lines_left machine = puts_left (state_of machine)

@@ -1,86 +1,51 @@
 -- An opened script: what each command does to its map, and what it is answered.
-use Rattle.std.specs.Prelude.{ℕ, ◌+◌, ◌-◌, ◌==◌, ◌&&◌, nat_lt, nat_le, if◌then◌else◌, Bool, false, List, length, Option, None, Some, option_map, Result, Ok, Err, slice_index, slice_index_or, slice_set, replicate, is_none, true}
-use Rattle.std.specs.List.{filter_map}
+use Rattle.std.specs.Prelude.{ℕ, ◌≡◌, ◌-◌, ◌&&◌, nat_lt, nat_le, if◌then◌else◌, Bool, false, List, length, Option, None, Some, Result, Ok, Err, is_none, true}
 use Rattle.nr_model.specs.declared.rows.Row.{Row}
 use Rattle.nr_model.specs.declared.rows.TooMany.{TooMany}
-use Rattle.nr_model.specs.declared.states.KeyState.{KeyState}
-use Rattle.nr_model.specs.declared.states.KeyState.TheVariants as states
 use Rattle.nr_model.specs.declared.calls.Call.{Call}
 use Rattle.nr_model.specs.declared.calls.Call.TheVariants as calls
-use Rattle.nr_model.specs.declared.calls.Reply.{Reply}
-use Rattle.nr_model.specs.declared.calls.Reply.TheVariants as reply
-use Rattle.nr_model.specs.Maps.{PartialMap, opening, key_count, key_of, state_of, number_of, reply_to, next, filled_count}
-use Rattle.nr_model.specs.Histories.{is_done}
+use Rattle.nr_model.specs.Maps.{key_count, state_of, number_of}
+use Rattle.nr_core.specs.declared.shape.Shape.{Shape}
+use Rattle.nr_alone.specs.declared.answer.Answer.{Answer}
+use Rattle.nr_alone.specs.declared.answer.Refusal.{Refusal as MapRefusal}
+use Rattle.nr_alone.specs.declared.answer.Refusal.TheVariants as map_refusals
+use Rattle.nr_alone.specs.MapState.{MapState, Outcome as MapOutcome, answer_call, answer_of_reader, answer_pinning, answer_show, answer_unpin, opened as map_opened}
 use Rattle.nr_names.specs.declared.faults.NameFault.{NameFault}
 use Rattle.nr_names.specs.declared.faults.NameFault.TheVariants as names
 use Rattle.nr_names.specs.declared.table.TheConstants.{LONGEST_NAME}
 use Rattle.nr_names.specs.Naming.{no_names, intern_reply, next as next_naming}
 use Rattle.nr_script.specs.declared.keys.Keys.{Keys}
 use Rattle.nr_script.specs.declared.keys.Keys.TheVariants as kinds
-use Rattle.nr_script.specs.declared.pin.Pin.{Pin}
 use Rattle.nr_script.specs.declared.command.Command.{Command}
 use Rattle.nr_script.specs.declared.command.Command.TheVariants.{Open, Find, Ask, Fill, FillAs, Update, Evict, Cancel, Look, Pin as PinKey, Show, Unpin}
-use Rattle.nr_script.specs.declared.answer.Answer.{Answer}
-use Rattle.nr_script.specs.declared.answer.Answer.TheVariants as answers
 use Rattle.nr_script.specs.declared.answer.Refusal.{Refusal}
 use Rattle.nr_script.specs.declared.answer.Refusal.TheVariants as refusals
 use Rattle.nr_text.specs.Grammar.{number, within}
 use Rattle.nr_text.specs.declared.opening.Opening.{Opening}
-use Rattle.nr_model.specs.Strays.{keyed, strays}
 
 -- a script that was opened
 pub record Opened : Type 0 where
   -- what stands for its keys: their numbers, or names
   pub keys : Keys
-  pub map : PartialMap
-  pub slots : ℕ
-  -- the put number of the set of each key that is filled
-  pub puts : List ℕ
-  -- how many sets were put: the next put number
-  pub put_count : ℕ
-  -- what each reader has pinned
-  pub pins : List (Option Pin)
-
--- the put numbers that readers pin
-abbrev pub pinned : List (Option Pin) → List ℕ
-pinned pins = filter_map (λ pin. option_map (λ (p : Pin). p.put) pin) pins
-
-abbrev pub pin_has_put : ℕ → Option Pin → Bool
-pin_has_put put None = false
-pin_has_put put (Some pin) = pin.put == put
-
--- each slot holds the set of a key, or a stray
-abbrev pub is_full : Opened → Bool
-is_full script = filled_count script.map + strays (keyed script.map.states script.puts) (pinned script.pins) == script.slots
+  -- its map, with what its readers have pinned
+  pub state : MapState
 
 -- what a command is answered, or why it is refused, and the script after it
 abbrev pub Outcome : Type 0
 Outcome = Result Answer Refusal × Opened
 
--- a call that is done puts a set
-abbrev pub puts_after : Reply → ℕ → Opened → List ℕ
-puts_after reply.Done key script = slice_set script.puts key script.put_count
-puts_after other key script = script.puts
+-- what the map answers to a call, or how the line is refused where the call is; the names stay
+abbrev pub refused : MapRefusal → Refusal
+refused map_refusals.Holding = refusals.Holding
+refused map_refusals.NotHolding = refusals.NotHolding
 
-abbrev pub put_count_after : Reply → Opened → ℕ
-put_count_after reply.Done script = script.put_count + 1
-put_count_after other script = script.put_count
-
-abbrev pub after_call : Opened → Call → Opened
-after_call script call =
-    record script { map = next script.map call; puts = puts_after (reply_to script.map call) (key_of call) script; put_count = put_count_after (reply_to script.map call) script }
-
--- the map's reply to a call, unless the call would be done and no slot is left for it
-abbrev pub answer_call : Opened → Call → Outcome
-answer_call script call =
-    if is_done (reply_to script.map call) && is_full script then (Ok answers.NoSlot, script) else (Ok (answers.Reply (reply_to script.map call)), after_call script call)
+abbrev pub by_map : Opened → MapOutcome → Outcome
+by_map script (Ok answer, state) = (Ok answer, record script { state = state })
+by_map script (Err refusal, state) = (Err (refused refusal), record script { state = state })
 
 -- the readers are numbered from 1
 abbrev pub has_reader : Opened → ℕ → Bool
-has_reader script reader = nat_lt 0 reader && nat_le reader (length script.pins)
-
-abbrev pub pin_of : Opened → ℕ → Option Pin
-pin_of script reader = slice_index_or script.pins (reader - 1) None
+has_reader script reader = nat_lt 0 reader && nat_le reader (length script.state.pins)
 
 -- What a command needs is looked for in the order of the refusals; the command goes on with what was found, or is refused.
 abbrev pub with_found : {A : Type 0} → Result A Refusal × Opened → (A → Opened → Outcome) → Outcome
@@ -103,6 +68,11 @@ named_key (Err names.TooLong) = Err refusals.TooLong
 named_key (Err names.Full) = Err refusals.Full
 named_key (Err other) = Err refusals.Bad
 
+-- as many names as keys
+abbrev pub NamesFit : Keys → ℕ → Type 0
+NamesFit kinds.Numbered count = Unit {0}
+NamesFit (kinds.Named naming) count = naming.keys ≡ count
+
 -- the key that a word stands for, of so many keys, and the names after it: a new name gets the next number
 abbrev pub key_of_word : Keys → ℕ → List ℕ → Result ℕ Refusal × Keys
 key_of_word kinds.Numbered count word = (numbered_key count (number word), kinds.Numbered)
@@ -112,7 +82,7 @@ abbrev pub with_keys : Opened → Result ℕ Refusal × Keys → Result ℕ Refu
 with_keys script (found, keys) = (found, record script { keys = keys })
 
 abbrev pub found_key : Opened → List ℕ → Result ℕ Refusal × Opened
-found_key script word = with_keys script (key_of_word script.keys (key_count script.map) word)
+found_key script word = with_keys script (key_of_word script.keys (key_count script.state.map) word)
 
 -- a word that cannot stand for a key
 abbrev pub is_no_key : Keys → List ℕ → Bool
@@ -132,58 +102,42 @@ found_rows (Some rows) = Ok rows
 found_rows None = Err refusals.TooMany
 
 abbrev pub found_set : Opened → Result (List Row) TooMany → Result (List Row) Refusal
-found_set script set = found_rows (within script.map.bound set)
+found_set script set = found_rows (within script.state.map.bound set)
 
--- no pin, and a pin
-abbrev pub found_no_pin : Option Pin → Result (Unit {0}) Refusal
-found_no_pin None = Ok tt
-found_no_pin (Some pin) = Err refusals.Holding
+-- a call of the writer, and of a reader, at its place in the map
+abbrev pub called : Opened → Call → Outcome
+called script call = by_map script (answer_call script.state call)
 
-abbrev pub found_pin : Option Pin → Result Pin Refusal
-found_pin None = Err refusals.NotHolding
-found_pin (Some pin) = Ok pin
-
--- what a reader does that must hold no pin, and what it does with its pin
-abbrev pub without_pin : Opened → ℕ → Outcome → Outcome
-without_pin script reader outcome = with_found (found_no_pin (pin_of script reader), script) (λ _ free. outcome)
-
-abbrev pub with_pin : Opened → ℕ → (Pin → Outcome) → Outcome
-with_pin script reader outcome =
-    with_found (found_reader script reader, script) (λ _ of_reader. with_found (found_pin (pin_of script reader), script) (λ pin held. outcome pin))
-
-abbrev pub pins_after : Opened → ℕ → Option Pin → Opened
-pins_after script reader pin = record script { pins = slice_set script.pins (reader - 1) pin }
-
--- a reader pins the set of a key, if the key has one
-abbrev pub answer_pin : Opened → ℕ → ℕ → KeyState → Outcome
-answer_pin script reader key (states.Hole n) = (Ok (answers.Reply reply.Hole), script)
-answer_pin script reader key (states.Asked n) = (Ok (answers.Reply reply.Hole), script)
-answer_pin script reader key (states.Rows n rows) =
-    (Ok answers.Ok, pins_after script reader (Some (record { key = key; rows = rows; put = slice_index script.puts key })))
+abbrev pub called_by : Opened → ℕ → Call → Outcome
+called_by script reader call = by_map script (answer_of_reader script.state (reader - 1) call)
 
 -- each command of an opened script; a fill that names no number has that of its key as it stands
 abbrev pub answer_opened : Opened → Command → Outcome
 answer_opened script (Open named sizes) = (Err refusals.Bad, script)
-answer_opened script (Find reader word) = with_found (found_by_reader script reader word) (λ key after. without_pin after reader (answer_call after (calls.Find key)))
-answer_opened script (Ask reader word) = with_found (found_by_reader script reader word) (λ key after. without_pin after reader (answer_call after (calls.Ask key)))
+answer_opened script (Find reader word) = with_found (found_by_reader script reader word) (λ key after. called_by after reader (calls.Find key))
+answer_opened script (Ask reader word) = with_found (found_by_reader script reader word) (λ key after. called_by after reader (calls.Ask key))
 answer_opened script (Fill word set) =
-    with_found (found_key script word) (λ key after. with_found (found_set after set, after) (λ rows fits. answer_call after (calls.Fill key (number_of (state_of after.map key)) rows)))
+    with_found (found_key script word) (λ key after. with_found (found_set after set, after) (λ rows fits. called fits (calls.Fill key (number_of (state_of fits.state.map key)) rows)))
 answer_opened script (FillAs word number set) =
-    with_found (found_key script word) (λ key after. with_found (found_set after set, after) (λ rows fits. answer_call after (calls.Fill key number rows)))
-answer_opened script (Update word batch) = with_found (found_key script word) (λ key after. answer_call after (calls.Update key batch))
-answer_opened script (Evict word) = with_found (found_key script word) (λ key after. answer_call after (calls.Evict key))
-answer_opened script (Cancel word) = with_found (found_key script word) (λ key after. answer_call after (calls.Cancel key))
-answer_opened script (Look word) = with_found (found_key script word) (λ key after. answer_call after (calls.Find key))
+    with_found (found_key script word) (λ key after. with_found (found_set after set, after) (λ rows fits. called fits (calls.Fill key number rows)))
+answer_opened script (Update word batch) = with_found (found_key script word) (λ key after. called after (calls.Update key batch))
+answer_opened script (Evict word) = with_found (found_key script word) (λ key after. called after (calls.Evict key))
+answer_opened script (Cancel word) = with_found (found_key script word) (λ key after. called after (calls.Cancel key))
+answer_opened script (Look word) = with_found (found_key script word) (λ key after. called after (calls.Find key))
 answer_opened script (PinKey reader word) =
-    with_found (found_by_reader script reader word) (λ key after. without_pin after reader (answer_pin after reader key (state_of after.map key)))
-answer_opened script (Show reader) = with_pin script reader (λ pin. (Ok (answers.Reply (reply.Rows pin.rows)), script))
-answer_opened script (Unpin reader) = with_pin script reader (λ pin. (Ok answers.Ok, pins_after script reader None))
+    with_found (found_by_reader script reader word) (λ key after. by_map after (answer_pinning after.state (reader - 1) key (state_of after.state.map key)))
+answer_opened script (Show reader) = with_found (found_reader script reader, script) (λ _ of_reader. by_map of_reader (answer_show of_reader.state (reader - 1)))
+answer_opened script (Unpin reader) = with_found (found_reader script reader, script) (λ _ of_reader. by_map of_reader (answer_unpin of_reader.state (reader - 1)))
 
 -- what stands for the keys when a script is opened
 abbrev pub keys_opened : Bool → ℕ → Keys
 keys_opened true count = kinds.Named (no_names count)
 keys_opened false count = kinds.Numbered
 
+-- the map that an opening line asks for
+abbrev pub shape_of : Opening → Shape
+shape_of sizes =
+    record { keys = sizes.keys; slots = sizes.slots; readers = sizes.readers; first_count = sizes.first_count; first_number = sizes.first_number; rows = sizes.rows }
+
 abbrev pub opened : Bool → Opening → Opened
-opened named sizes =
-    record { keys = keys_opened named sizes.keys; map = opening sizes.keys sizes.rows sizes.first_number; slots = sizes.slots; puts = replicate sizes.keys 0; put_count = 0; pins = replicate sizes.readers None }
+opened named sizes = record { keys = keys_opened named sizes.keys; state = map_opened (shape_of sizes) }

@@ -1,7 +1,6 @@
 //! What stands for a key on the lines of a script.
 ghost use Rattle.std.specs.Prelude.{◌≡◌, ◌<◌, ◌≤◌, IfOk, IfErr};
-ghost use Rattle.nr_script.specs.Opened.{keys_opened, key_of_word, numbered_key, is_no_key};
-ghost use Rattle.nr_script.specs.Counted.{NamesFit};
+ghost use Rattle.nr_script.specs.Opened.{NamesFit, keys_opened, key_of_word, numbered_key, is_no_key};
 
 use crate::answer::{Refusal, Tried};
 use crate::command::KeyWord;

@@ -1,4 +1,5 @@
-//! Scripts: lines that open a map and call it, answered one by one over the sequential map.
+//! Scripts: lines that open a map and call it, answered one by one over the running map, as
+//! the sequential map answers them.
 #![tactic(auto)]
 
 mod answer;
@@ -6,7 +7,6 @@ mod command;
 mod keys;
 mod machine;
 mod opened;
-mod pin;
 mod runs;
 
 pub use runs::{replies, run};

@@ -1,21 +1,22 @@
-//! A script over the sequential map: closed until it is opened, and then a map.
-ghost use Rattle.std.specs.Prelude.{◌≡◌, ◌<◌, ◌≤◌, ◌+◌, ℕ, List, Some, None, OnOk, IfOk, IfErr};
+//! A script over a running map: closed until it is opened, and then a map.
+ghost use Rattle.std.specs.Prelude.{◌≡◌, ℕ, List, None, IfOk, IfErr};
 
-use crate::answer::{Answer, Refusal, Tried};
+use crate::answer::{AnswerWord, Refusal, Tried};
 use crate::command::{Command, parse};
 use crate::opened::Opened;
+use nr_alone::Answer;
 use nr_lines::{Machine, RunFault, set_text};
 use std::alloc::Global;
 
-/// A script's state. It begins closed.
-#[derive(Drop)]
+/// A script's state. It begins closed. It can't be dropped: its map must be closed.
 pub(crate) struct ScriptMachine {
     opened: Option<Opened>,
 }
 
 impl Machine for ScriptMachine {
     ghost use Rattle.std.specs.Prelude.{string_bytes};
-    ghost use Rattle.nr_script.specs.Machine.{state_of, lines_left};
+    ghost use Rattle.std.specs.Prelude.{◌^◌};
+    ghost use Rattle.nr_script.specs.Machine.{state_of};
     ghost use Rattle.nr_script.specs.Machine as script;
 
     ghost State = { script.State };
@@ -24,7 +25,8 @@ impl Machine for ScriptMachine {
 
     ghost answer = { script.answer };
 
-    ghost lines_left = { lines_left };
+    // Nothing in it counts up.
+    ghost lines_left = { λ _. 2 ^ 64 };
 
     fn answer_line(
         &mut self,
@@ -33,7 +35,7 @@ impl Machine for ScriptMachine {
         reply: &mut String,
     ) -> Result<(), RunFault> {
         match self.answer(alloc, line) {
-            Ok(Ok(answer)) => set_text(reply, &answer),
+            Ok(Ok(answer)) => set_text(reply, &AnswerWord(&answer)),
             Ok(Err(refusal)) => set_text(reply, &refusal),
             Err(fault) => Err(fault),
         }
@@ -41,20 +43,17 @@ impl Machine for ScriptMachine {
 }
 
 impl ScriptMachine {
-    ghost use Rattle.nr_script.specs.Machine.{state_of, lines_left, start, answer_line, answer_closed};
+    ghost use Rattle.nr_script.specs.Machine.{state_of, start, answer_line, answer_closed};
 
     pub(crate) fn new() -> ScriptMachine
-        ensures closed { state_of result ≡ start }
-        ensures left { lines_left result ≡ u64.MAX }
+        ensures { state_of result ≡ start }
     {
         ScriptMachine { opened: None }
     }
 
     /// The answer to a plain line.
     fn answer(&mut self, alloc: Global, line: &[u8]) -> Tried<Answer>
-        requires { 0 < lines_left self.old }
         ensures answer { IfOk result (λ said. answer_line (state_of self.old) line.now ≡ (said, state_of self.new)) }
-        ensures left { OnOk result (lines_left self.old ≤ lines_left self.new + 1) }
         ensures fault { IfErr result (λ fault. fault ≡ RunFault.Memory) }
     {
         let Some(command) = parse(line) else {
@@ -70,7 +69,6 @@ impl ScriptMachine {
     fn open(&mut self, alloc: Global, command: &Command<'_>) -> Tried<Answer>
         requires { state_of self.old ≡ None }
         ensures answer { IfOk result (λ said. answer_closed command.now ≡ (said, state_of self.new)) }
-        ensures left { OnOk result (lines_left self.old ≤ lines_left self.new + 1) }
         ensures fault { IfErr result (λ fault. fault ≡ RunFault.Memory) }
     {
         let Command::Open { named, sizes } = command else {
@@ -80,7 +78,19 @@ impl ScriptMachine {
             return Ok(Err(Refusal::Bad));
         }
         let opened = Opened::open(alloc, *named, sizes)?;
-        self.opened = Some(opened);
+        match self.opened.replace(opened) {
+            None => {}
+            Some(before) => before.close(),
+        }
         Ok(Ok(Answer::Ok))
+    }
+
+    /// The script ends, and with it the map that it opened.
+    pub(crate) fn close(self) {
+        let ScriptMachine { opened } = self;
+        match opened {
+            None => {}
+            Some(script) => script.close(),
+        }
     }
 }

@@ -18,7 +18,9 @@ pub fn run<R: Read, W: Write>(alloc: Global, reader: &mut R, writer: &mut W) -> 
     ensures { Runs script_text longest_input result (R.remaining reader.old) (R.remaining reader.new) (W.contents writer.old) (W.contents writer.new) }
 {
     let mut machine = ScriptMachine::new();
-    serve(alloc, INPUT_LIMIT, &mut machine, reader, writer)
+    let served = serve(alloc, INPUT_LIMIT, &mut machine, reader, writer);
+    machine.close();
+    served
 }
 
 /// The replies to a script that lies in memory.

@@ -1,0 +1,75 @@
+-- The slots that are in use, as the state has them and as the readers' tokens show them.
+use Rattle.std.proofs.Common.{◌≡◌, ◌<◌, ℕ, suc, zero, ◌+◌, List, [], ◌∷◌, true, false, length, map, get_or, refl, sym, ap, ◌∙◌, subst, arith, eq-eqb, ne_eqb, Option, None, Some, option_map, IsSome}
+use mathlib.Core.Option.{some, some-injective, some-ne-none}
+use lib.ListN.{get_elem?}
+use Rattle.core.specs.List.{cons_option}
+use Rattle.nr_model.specs.Histories.{Entry}
+use Rattle.nr_model.specs.Strays.{keyed, strays}
+use Rattle.nr_model.specs.Maps.{filled_count}
+use Rattle.nr_core.specs.Story.{map_after}
+use Rattle.nr_alone.proofs.ListPlaces.{at_maps, at_unmap, before, inside}
+use Rattle.nr_marks.specs.Exact.{filled_puts, pin_of as past_pin, pins, put_numbers}
+use Rattle.nr_marks.specs.MarkLaws.{slots_in_use}
+use Rattle.nr_marks.specs.Marks.{Past}
+use Rattle.nr_marks.specs.Pasts.{AllCurrent, AllKnown, AllReaders, Current}
+use Rattle.nr_map.specs.Callers.{Caller, Table}
+use Rattle.nr_alone.specs.declared.seat.Seat.{Seat}
+use Rattle.nr_alone.specs.declared.seat.Seat.TheVariants.{Idle, Pinned}
+use Rattle.nr_alone.specs.MapState.{is_full, pinned, put_of}
+use Rattle.nr_alone.specs.Seats.{Fits, caller_of, how_of, pin_of}
+use Rattle.nr_alone.specs.Alone.{IsAlone, IsKnown, shown}
+
+some_put : (slot : Option ℕ) (put : ℕ) → IsSome slot → Some put ≡ option_map (λ (s : ℕ). put) slot
+some_put None put there = absurd (cc)
+some_put (Some s) put there = refl
+
+pin_same : (s : Seat) → Fits s → put_of (pin_of s) ≡ past_pin (how_of s)
+pin_same (Idle reader) fits = ap (λ (o : Option ℕ). option_map (λ (slot : ℕ). reader.marks.put) o) (sym fits)
+pin_same (Pinned pin key) fits = some_put pin.reader.holds pin.reader.marks.put fits
+
+pub pins_same : (seats : List Seat) → ((at : ℕ) (other : Seat) → at < length seats → Fits (get_or seats at other)) → pinned (map pin_of seats) ≡ pins (map how_of seats)
+pins_same [] fits = refl
+pins_same (s ∷ seats) fits =
+    ap (λ (o : Option ℕ). cons_option o (pinned (map pin_of seats))) (pin_same s (fits 0 s (omega arith)))
+    ∙ ap (λ (l : List ℕ). cons_option (past_pin (how_of s)) l) (pins_same seats (λ at other low. fits (suc at) other (omega arith)))
+
+or_is : (l : List Seat) (i : ℕ) (a d : Seat) → get_elem? l i ≡ some a → get_or l i d ≡ a
+or_is [] i a d e = absurd (some-ne-none a (sym e))
+or_is (x ∷ xs) zero a d e = some-injective x a e
+or_is (x ∷ xs) (suc i) a d e = or_is xs i a d e
+
+module _ (table : Table) (w : Caller) (seats : List Seat) (alone : IsAlone table w seats) where
+  abbrev pub readers : List Past
+  readers = map how_of seats
+
+  pub all_readers : AllReaders table.shape.readers readers
+  all_readers zero low high = absurd (omega arith)
+  all_readers (suc at) low high =
+      let size = alone.stands.count in
+      let there = before seats at (omega (arith, size)) in (
+        at,
+        how_of there.0,
+        at_maps how_of seats at there.0 there.1,
+        ap (λ (s : Seat). (caller_of s).number) (sym (or_is seats at there.0 there.0 there.1)) ∙ (alone.places at there.0 (inside seats at there.0 there.1)).number,
+      )
+
+  known_at : (at : ℕ) (one : Past) → get_elem? readers at ≡ some one → (s : Seat) × IsKnown w s × (how_of s ≡ one)
+  known_at at one is =
+      let here = at_unmap how_of seats at one is in
+      (here.0, subst (λ (s : Seat). IsKnown w s) (or_is seats at here.0 here.0 here.1) (alone.known at here.0 (inside seats at here.0 here.1)), here.2)
+
+  pub all_known : AllKnown w.pasts readers
+  all_known at one is = let k = known_at at one is in (k.1.place, k.1.known ∙ ap some k.2)
+
+  pub all_current : AllCurrent w.retired w.marks readers
+  all_current at one is = let k = known_at at one is in subst (λ (p : Past). Current w.retired w.marks p) k.2 k.1.current
+
+  -- the state's count of slots in use
+  pub in_use_is : (log : List Entry) → filled_count (map_after table.shape log) + strays (keyed (map_after table.shape log).states (put_numbers table.shape log)) (pinned (map pin_of seats)) ≡ slots_in_use table.shape log readers
+  in_use_is log = ap (λ (l : List ℕ). filled_count (map_after table.shape log) + strays (filled_puts table.shape log) l) (pins_same seats (λ at other low. (alone.places at other low).fits))
+
+  pub full : (log : List Entry) → slots_in_use table.shape log readers ≡ table.shape.slots → is_full (shown table log seats) ≡ true
+  full log all = eq-eqb _ _ (in_use_is log ∙ all)
+
+  pub not_full : (log : List Entry) → slots_in_use table.shape log readers < table.shape.slots → is_full (shown table log seats) ≡ false
+  not_full log less = ne_eqb _ _ (λ e. let same = sym (in_use_is log) ∙ e in omega arith)

@@ -1,0 +1,11 @@
+pub mod ListPlaces
+pub mod Rounds
+pub mod Exactly
+pub mod Settling
+pub mod Shown
+pub mod InUse
+pub mod Lines
+pub mod ReaderLines
+pub mod Opening
+pub mod Sizes
+pub mod Numbers

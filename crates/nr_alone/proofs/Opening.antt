@@ -1,0 +1,107 @@
+-- The opening, after which every reader is gathered once.
+use Rattle.std.proofs.Common.{◌≡◌, ◌<◌, ◌≤◌, ⊎_elim, ℕ, suc, zero, ◌+◌, List, [], ◌∷◌, ◌++◌, All, length, map, take, get_or, refl, sym, ap, ◌∙◌, subst, arith, Option, None, replicate}
+use Rattle.std.proofs.lemmas.List.{append-nil, get_or-map}
+use Rattle.std.proofs.lemmas.Option.{get_or_from_slice_get}
+use Rattle.std.proofs.lemmas.Bool.{cases_lt}
+use Rattle.std.proofs.Math.Seq.{take-nil}
+use Rattle.std.specs.List.{range_with_len}
+use Rattle.nr_model.specs.Histories.{Entry, entries_of}
+use Rattle.nr_core.specs.declared.shape.Shape.{Shape}
+use Rattle.nr_marks.specs.Marks.{no_marks}
+use Rattle.nr_marks.specs.Puts.{put_number}
+use Rattle.nr_map.specs.Callers.{Caller, Table}
+use Rattle.nr_map.specs.Opened.{IsOpened, newcomer}
+use Rattle.nr_alone.specs.declared.seat.Seat.{Seat}
+use Rattle.nr_alone.specs.declared.seat.Seat.TheVariants.{Idle}
+use Rattle.nr_alone.specs.MapState.{Pin, opened}
+use Rattle.nr_alone.specs.Seats.{Fits, caller_of, mine_of, pin_of}
+use Rattle.nr_alone.specs.Rounds.{Gathered}
+use Rattle.nr_alone.specs.Alone.{IsAlone, Laws, calls_of, log_of, made, shown_by, shown}
+use Rattle.nr_alone.specs.Lines.{IsLine, Settles}
+use Rattle.nr_alone.proofs.Rounds.{starts_same}
+use Rattle.nr_alone.proofs.Exactly.{calls_at, many_mines}
+use Rattle.nr_alone.proofs.Settling.{beyond_it, settled}
+use Rattle.nr_alone.proofs.Lines.{shown_with}
+
+many_idle : (readers : List Caller) → length (map Idle readers) ≡ length readers
+many_idle [] = refl
+many_idle (r ∷ readers) = ap suc (many_idle readers)
+
+no_pins : (readers : List Caller) → map pin_of (map Idle readers) ≡ replicate (length readers) None
+no_pins [] = refl
+no_pins (r ∷ readers) = ap (λ (l : List (Option Pin)). None ∷ l) (no_pins readers)
+
+no_puts : (a n : ℕ) → map (put_number []) (range_with_len a n) ≡ replicate n 0
+no_puts a zero = refl
+no_puts a (suc n) = ap (λ (l : List ℕ). 0 ∷ l) (no_puts (a + 1) n)
+
+module _ (laws : Laws) (shape : Shape) (table : Table) (w : Caller) (readers : List Caller) (new : IsOpened shape table w readers) (some : 0 < shape.readers) (w' : Caller) (seats' : List Seat) (g : Gathered 0 w (map Idle readers) w' seats') where
+  abbrev seats : List Seat
+  seats = map Idle readers
+
+  size : length seats ≡ shape.readers
+  size = many_idle readers ∙ new.count
+
+  seat_at : (at : ℕ) (other : Seat) → at < length seats → get_or seats at other ≡ Idle (newcomer table (at + 1) no_marks)
+  seat_at at other low =
+      let inside : at < length readers = omega (arith, many_idle readers, low) in let near : at < shape.readers = omega (arith, size, low) in
+      let c : Caller = newcomer table (at + 1) no_marks in
+      get_or-map Idle readers at c other inside ∙ ap Idle (get_or_from_slice_get readers at c c (new.reads at near))
+
+  seen_none : w.seen ≡ []
+  seen_none = ap (λ (c : Caller). c.seen) new.writes
+
+  log_none : log_of w seats ≡ []
+  log_none = ap (λ (l : List Entry). take (made w seats) l) seen_none ∙ take-nil (made w seats)
+
+  calls_none : (caller : ℕ) → calls_of w.mine (map mine_of seats) caller ≡ []
+  calls_none zero = ap (λ (c : Caller). c.mine) new.writes
+  calls_none (suc at) = ⊎_elim
+      (λ (low : at < length seats). calls_at w.mine seats at (Idle w) low ∙ ap mine_of (seat_at at (Idle w) low))
+      (λ (past : length seats ≤ at). beyond_it (map mine_of seats) at (omega (arith, many_mines seats, past)))
+      (cases_lt at (length seats))
+
+  next : (at : ℕ) → at + 1 ≡ suc at
+  next at = omega arith
+
+  line : IsLine table w seats w seats 0 []
+  line = record {
+    low = omega (arith, size, some);
+    few = omega arith;
+    same_table = refl;
+    number = refl;
+    seen = starts_same w.seen;
+    size = refl;
+    places = λ at other low. record {
+      table = ap (λ (s : Seat). (caller_of s).table) (seat_at at other low);
+      number = ap (λ (s : Seat). (caller_of s).number) (seat_at at other low) ∙ next at;
+      fits = subst Fits (sym (seat_at at other low)) refl;
+    };
+    grown = λ caller. sym (append-nil (calls_of w.mine (map mine_of seats) caller));
+    others = λ at apart. refl;
+  }
+
+  settles : Settles table w seats seats [] g.mid.seen w' seats'
+  settles = settled laws table w seats w seats 0 [] w' seats' (record {
+    own = ap (λ (c : Caller). c.table) new.writes;
+    number = ap (λ (c : Caller). c.number) new.writes;
+    count = size ∙ ap (λ (s : Shape). s.readers) (sym new.sizes);
+    some_one = omega (arith, size, some);
+    just = λ caller. ap (λ (l : List Entry). entries_of l caller) log_none ∙ sym (calls_none caller);
+  }) line g
+
+  pub alone : IsAlone table w' seats'
+  alone = settles.alone
+
+  pub shows : shown_by table w' seats' ≡ opened shape
+  shows =
+      let pins : map pin_of seats ≡ replicate shape.readers None = no_pins readers ∙ ap (λ (n : ℕ). replicate n None) new.count in
+      shown_with laws table w seats seats [] g.mid.seen w' seats' settles (replicate shape.readers None) pins
+      ∙ ap (λ (l : List Entry). record (shown table (l ++ []) seats) { pins = replicate shape.readers None }) log_none
+      ∙ ap (λ (s : Shape). record (shown (record table { shape = s }) [] seats) { pins = replicate shape.readers None }) new.sizes
+      ∙ (λ j. record (opened shape) { puts = no_puts 0 shape.keys j })
+
+pub all_idle : (t : Table) (readers : List Caller) → All (λ (r : Caller). r.table ≡ t) readers → All (λ (s : Seat). (caller_of s).table ≡ t) (map Idle readers)
+all_idle t readers own at other low =
+    let inside : at < length readers = omega (arith, many_idle readers, low) in
+    ap (λ (s : Seat). (caller_of s).table) (get_or-map Idle readers at (caller_of other) other inside) ∙ own at (caller_of other) inside

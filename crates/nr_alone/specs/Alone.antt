@@ -1,0 +1,84 @@
+-- A map whose tokens are all in one hand, gathered: what stands between two lines, and the state that it shows.
+use Rattle.std.specs.Prelude.{◌≡◌, ◌<◌, ℕ, zero, suc, ◌+◌, Bool, true, List, [], length, map, take, slice_index_or}
+use Rattle.std.specs.List.{count_by}
+use mathlib.Core.Option.{some}
+use lib.ListN.{get_elem?}
+use Rattle.nr_model.specs.Histories.{Entry, entries_of}
+use Rattle.nr_model.specs.Laws.{LegalBegins, LegalGoesOn}
+use Rattle.nr_core.specs.Story.{map_after}
+use Rattle.nr_core.specs.Sums.{total}
+use Rattle.nr_marks.specs.Exact.{put_numbers}
+use Rattle.nr_marks.specs.MarkLaws.{PutGoesOn}
+use Rattle.nr_marks.specs.Pasts.{Current}
+use Rattle.nr_marks.specs.Puts.{put_count}
+use Rattle.nr_map.specs.Callers.{Caller, Table}
+use Rattle.nr_map.specs.ExactPlaces.{DoneIsExact, NoSlotIsExact}
+use Rattle.nr_map.specs.Rounds.{EntriesAreCallers}
+use Rattle.nr_alone.specs.declared.seat.Seat.{Seat}
+use Rattle.nr_alone.specs.MapState.{MapState}
+use Rattle.nr_alone.specs.Seats.{Fits, caller_of, how_of, mine_of, pin_of}
+use Rattle.nr_alone.specs.Rounds.{IsSound}
+
+-- the calls of each caller: 0 is the writer
+abbrev pub calls_of : List Entry → List (List Entry) → ℕ → List Entry
+calls_of mine readers zero = mine
+calls_of mine readers (suc at) = slice_index_or readers at []
+
+-- the history has exactly the calls of the writer and the readers
+abbrev pub HasJust : List Entry → Caller → List Seat → Type 0
+HasJust log writer seats = (caller : ℕ) → entries_of log caller ≡ calls_of writer.mine (map mine_of seats) caller
+
+-- how many calls were made
+abbrev pub one_each : Entry → Bool
+one_each entry = true
+
+abbrev pub made : Caller → List Seat → ℕ
+made writer seats = count_by one_each writer.mine + total (λ (reader : Caller). count_by one_each reader.mine) (map caller_of seats)
+
+-- the history of these calls alone: no clause says that the writer has not seen more
+abbrev pub log_of : Caller → List Seat → List Entry
+log_of writer seats = take (made writer seats) writer.seen
+
+-- the writer knows how the reader is, and has compared it with its lists
+pub record IsKnown (writer : Caller) (seat : Seat) : Type 0 where
+  pub place : ℕ
+  pub known : get_elem? writer.pasts place ≡ some (how_of seat)
+  pub current : Current writer.retired writer.marks (how_of seat)
+
+-- the seat at a place is of the map, and its reader's number is the next one
+pub record IsSeat (map : Table) (at : ℕ) (seat : Seat) : Type 0 where
+  pub table : (caller_of seat).table ≡ map
+  pub number : (caller_of seat).number ≡ suc at
+  pub fits : Fits seat
+
+-- what stood before a line as far as its round needs it: the history has exactly the calls
+pub record Stands (table : Table) (writer : Caller) (seats : List Seat) : Type 0 where
+  pub own : writer.table ≡ table
+  pub number : writer.number ≡ 0
+  pub count : length seats ≡ table.shape.readers
+  pub some_one : 0 < length seats
+  pub just : HasJust (log_of writer seats) writer seats
+
+-- between two lines the writer knows too how each reader is
+pub record IsAlone (table : Table) (writer : Caller) (seats : List Seat) : Type 0 where
+  pub stands : Stands table writer seats
+  pub places : (at : ℕ) (other : Seat) → at < length seats → IsSeat table at (slice_index_or seats at other)
+  pub sound : IsSound writer
+  pub known : (at : ℕ) (other : Seat) → at < length seats → IsKnown writer (slice_index_or seats at other)
+
+-- the state after a history, with what is pinned
+abbrev pub shown : Table → List Entry → List Seat → MapState
+shown table log seats =
+    record { map = map_after table.shape log; slots = table.shape.slots; first_count = table.shape.first_count; puts = put_numbers table.shape log; put_count = put_count log; pins = map pin_of seats }
+
+abbrev pub shown_by : Table → Caller → List Seat → MapState
+shown_by table writer seats = shown table (log_of writer seats) seats
+
+-- the laws of the map that lines stand on
+pub record Laws : Type 0 where
+  pub entries : EntriesAreCallers
+  pub no_slot : NoSlotIsExact
+  pub done : DoneIsExact
+  pub puts : PutGoesOn
+  pub goes_on : LegalGoesOn
+  pub begins : LegalBegins

@@ -1,0 +1,200 @@
+//! A running map whose tokens are all in one hand.
+ghost use Rattle.std.specs.Prelude.{◌≡◌, ◌≤◌, ◌<◌, ◌↔◌, All, length, Ok, Err, IfOk, map as each_of};
+ghost use Rattle.nr_core.specs.Sizes.{IsBadShape};
+ghost use Rattle.nr_core.specs.States.{key_of};
+ghost use Rattle.nr_core.specs.Story.{call_of};
+ghost use Rattle.nr_model.specs.declared.rows.TheConstants.{MAX_ROWS};
+ghost use Rattle.nr_alone.specs.Seats.{caller_of};
+ghost use Rattle.nr_alone.specs.declared.seat.Seat.TheVariants.{Idle};
+
+use crate::answer::{Answer, Refusal};
+use crate::calls::{ask_at, find_at, pin_at, show_at, unpin_at};
+use crate::premises::laws;
+use crate::round::gather_round;
+use crate::seat::Seat;
+use crate::writer_calls::call_writer;
+use nr_core::WriterCall;
+use nr_map::{Reader, ReaderMap, Shape, Writer};
+use nr_model::OpenFault;
+use nr_model::laws::{legal_begins, numbers_count_cancels};
+use std::alloc::{AllocError, Global};
+use std::marker::Model;
+
+/// A map, its writer and its readers, each idle or with a pin. After each call every reader is
+/// gathered, the one that called first. It can't be dropped: it must be closed.
+pub struct Alone {
+    map: ReaderMap,
+    writer: Writer,
+    seats: Vec<Seat>,
+}
+
+impl Model for Alone {
+    ghost use Rattle.nr_alone.specs.MapState.{MapState};
+    ghost use Rattle.nr_alone.specs.Alone.{IsAlone, shown_by};
+
+    ghost Value = { MapState };
+
+    ghost view = { λ inside. shown_by inside.map inside.writer inside.seats.items };
+
+    ghost invariant = { λ inside. IsAlone inside.map inside.writer inside.seats.items };
+}
+
+impl Alone {
+    ghost use Rattle.nr_model.specs.Maps.{FillFits, key_count, number_of, state_of};
+    ghost use Rattle.nr_model.specs.declared.calls.Call.TheVariants as model;
+    ghost use Rattle.nr_alone.specs.MapState.{answer_call, answer_of_reader, answer_pinning, answer_show, answer_unpin, opened};
+
+    /// A map of that shape, each key a hole. Refused where the shape is out of its limits, and then
+    /// where there is no memory.
+    pub fn open(alloc: Global, shape: &Shape) -> Result<Alone, OpenFault>
+        ensures bad_size { (result ≡ Err OpenFault.BadSize) ↔ IsBadShape shape.now }
+        ensures ok { IfOk result (λ alone. alone ≡ opened shape.now) }
+    {
+        let (map, mut writer, readers) = ReaderMap::open_with(alloc, shape)?;
+        let mut seats = match seat_readers(alloc, readers) {
+            Ok(seats) => seats,
+            Err(_) => return Err(OpenFault::Memory),
+        };
+        laws();
+        gather_round(&map, &mut writer, seats.as_mut_slice(), 0);
+        Ok(Alone { map, writer, seats })
+    }
+
+    /// How many keys the map has. They are numbered from 0.
+    pub fn keys(&self) -> u32
+        ensures { result ≡ key_count self.now.map }
+    {
+        self.map.keys()
+    }
+
+    /// How many rows a key may have: 1 to 255.
+    pub fn rows(&self) -> u32
+        ensures value { result ≡ self.now.map.bound }
+        ensures positive { 0 < result }
+        ensures bounded { result ≤ MAX_ROWS }
+    {
+        self.map.rows()
+    }
+
+    /// How many readers the map has. Here they are numbered from 0.
+    pub fn readers(&self) -> u32
+        ensures { result ≡ length self.now.pins }
+    {
+        self.map.readers()
+    }
+
+    /// The number of a key as it stands, by which a fill answers the key's request.
+    pub fn number(&self, key: u32) -> u64
+        requires { key < key_count self.now.map }
+        ensures { result ≡ number_of (state_of self.now.map key) }
+    {
+        numbers_count_cancels();
+        legal_begins();
+        self.map.number(&self.writer, key)
+    }
+
+    /// A call of the writer's at one of the map's keys.
+    pub fn call(&mut self, call: &WriterCall) -> Answer
+        requires key { key_of call.now < key_count self.old.map }
+        requires fits { FillFits self.old.map.bound (call_of call.now) }
+        ensures { answer_call self.old (call_of call.now) ≡ (Ok result, self.new) }
+    {
+        laws();
+        let answer = call_writer(&self.map, &mut self.writer, call);
+        gather_round(&self.map, &mut self.writer, self.seats.as_mut_slice(), 0);
+        answer
+    }
+
+    /// A find of a reader's that has no pin.
+    pub fn find(&mut self, at: usize, key: u32) -> Result<Answer, Refusal>
+        requires reader { at < length self.old.pins }
+        requires key { key < key_count self.old.map }
+        ensures { answer_of_reader self.old at (model.Find key) ≡ (result, self.new) }
+    {
+        laws();
+        let answer = find_at(&self.map, &mut self.writer, &mut self.seats[at], key)?;
+        gather_round(&self.map, &mut self.writer, self.seats.as_mut_slice(), at);
+        Ok(answer)
+    }
+
+    /// A request of a reader's that has no pin.
+    pub fn ask(&mut self, at: usize, key: u32) -> Result<Answer, Refusal>
+        requires reader { at < length self.old.pins }
+        requires key { key < key_count self.old.map }
+        ensures { answer_of_reader self.old at (model.Ask key) ≡ (result, self.new) }
+    {
+        laws();
+        let answer = ask_at(&self.map, &mut self.writer, &mut self.seats[at], key)?;
+        gather_round(&self.map, &mut self.writer, self.seats.as_mut_slice(), at);
+        Ok(answer)
+    }
+
+    /// A reader that has no pin pins the set of a key, if the key has one.
+    pub fn pin(&mut self, at: usize, key: u32) -> Result<Answer, Refusal>
+        requires reader { at < length self.old.pins }
+        requires key { key < key_count self.old.map }
+        ensures { answer_pinning self.old at key (state_of self.old.map key) ≡ (result, self.new) }
+    {
+        laws();
+        let answer = pin_at(&self.map, &mut self.writer, &mut self.seats[at], key)?;
+        gather_round(&self.map, &mut self.writer, self.seats.as_mut_slice(), at);
+        Ok(answer)
+    }
+
+    /// Shows the set that a reader has pinned.
+    pub fn show(&mut self, at: usize) -> Result<Answer, Refusal>
+        requires { at < length self.old.pins }
+        ensures { answer_show self.old at ≡ (result, self.new) }
+    {
+        laws();
+        let answer = show_at(&self.map, &mut self.seats[at])?;
+        gather_round(&self.map, &mut self.writer, self.seats.as_mut_slice(), at);
+        Ok(answer)
+    }
+
+    /// Ends a reader's pin.
+    pub fn unpin(&mut self, at: usize) -> Result<Answer, Refusal>
+        requires { at < length self.old.pins }
+        ensures { answer_unpin self.old at ≡ (result, self.new) }
+    {
+        laws();
+        let answer = unpin_at(&self.map, &mut self.seats[at])?;
+        gather_round(&self.map, &mut self.writer, self.seats.as_mut_slice(), at);
+        Ok(answer)
+    }
+
+    /// The map ends: pins that are left are released.
+    pub fn close(self) {
+        let Alone {
+            map,
+            writer: _,
+            seats,
+        } = self;
+        end_seats(&map, seats);
+    }
+}
+
+// A seat for each reader, which has no pin.
+fn seat_readers(alloc: Global, readers: Vec<Reader>) -> Result<Vec<Seat>, AllocError>
+    ensures { IfOk result (λ seats. seats.items ≡ each_of Idle readers.items) }
+{
+    let mut seats = Vec::with_capacity(alloc, readers.len())?;
+    for reader in readers {
+        seats.push_reserved(Seat::Idle(reader));
+    }
+    Ok(seats)
+}
+
+fn end_seats(map: &ReaderMap, mut seats: Vec<Seat>)
+    requires { All (λ s. (caller_of s).table ≡ map.now) seats.items }
+{
+    while let Some(seat) = seats.pop() {
+        match seat {
+            Seat::Idle(_) => {}
+            Seat::Pinned(pin, _) => {
+                pin.release(map);
+            }
+        }
+    }
+    seats.destroy_empty();
+}

@@ -1,0 +1,16 @@
+//! A running map whose tokens are all in one hand: each call is answered as the sequential map
+//! answers it, and a call finds no slot exactly where all slots are in use.
+#![tactic(auto)]
+
+mod alone;
+mod answer;
+mod calls;
+mod premises;
+mod round;
+mod seat;
+#[cfg(test)]
+mod tests;
+mod writer_calls;
+
+pub use alone::Alone;
+pub use answer::{Answer, Refusal};

@@ -1,0 +1,278 @@
+//! Maps in one hand: what is answered where the slots run out, and what an opening's numbers do.
+use crate::{Alone, Answer, Refusal};
+use nr_core::WriterCall;
+use nr_map::Shape;
+use nr_model::{Batch, Delta, Reply, Row, RowSet};
+use std::test::Fail;
+
+/// What is called, by a reader at a place or by the writer, of one key. Each set has one row.
+#[derive(Clone, Copy)]
+enum Line {
+    Find(usize),
+    Ask(usize),
+    Pin(usize),
+    Show(usize),
+    Unpin(usize),
+    Fill(u64),
+    FillAs(u64, u64),
+    Update(u64, u64),
+    Evict,
+    Cancel,
+    Look,
+}
+
+#[derive(Clone, Copy, PartialEq, Eq)]
+enum Said {
+    Ok,
+    Hole,
+    Row(u64),
+    Rows(usize),
+    Send(u64),
+    Waiting,
+    Filled,
+    Done,
+    NotAsked,
+    Stale,
+    NoSlot,
+    Evicted,
+    Cancelled,
+    Worn,
+    Holding,
+    NotHolding,
+    Other,
+}
+
+/// Calls of keys, each with its answer.
+type Lines = &'static [(u32, Line, Said)];
+
+fn row(a: u64) -> Row {
+    Row { a, b: a }
+}
+
+fn reply(reply: &Reply) -> Said {
+    match reply {
+        Reply::Rows(rows) => match rows.get(0) {
+            Some(first) if rows.len() == 1 => Said::Row(first.a),
+            _ => Said::Rows(rows.len()),
+        },
+        Reply::Hole => Said::Hole,
+        Reply::Send(number) => Said::Send(*number),
+        Reply::Waiting => Said::Waiting,
+        Reply::Filled => Said::Filled,
+        Reply::Done => Said::Done,
+        Reply::NotAsked => Said::NotAsked,
+        Reply::Stale => Said::Stale,
+        Reply::Evicted => Said::Evicted,
+        Reply::Cancelled => Said::Cancelled,
+        Reply::Worn => Said::Worn,
+        _ => Said::Other,
+    }
+}
+
+fn told(answer: Result<Answer, Refusal>) -> Said {
+    match answer {
+        Ok(Answer::Ok) => Said::Ok,
+        Ok(Answer::Reply(answered)) => reply(&answered),
+        Ok(Answer::NoSlot) => Said::NoSlot,
+        Err(Refusal::Holding) => Said::Holding,
+        Err(Refusal::NotHolding) => Said::NotHolding,
+    }
+}
+
+fn filled(map: &mut Alone, key: u32, number: u64, a: u64) -> Said {
+    let Ok(rows) = RowSet::of(&[row(a)]) else {
+        return Said::Other;
+    };
+    if key >= map.keys() || rows.len() > map.rows() as usize {
+        return Said::Other;
+    }
+    told(Ok(map.call(&WriterCall::Fill(key, number, rows))))
+}
+
+fn updated(map: &mut Alone, key: u32, minus: u64, plus: u64) -> Said {
+    let deltas = [
+        Delta {
+            plus: false,
+            row: row(minus),
+        },
+        Delta {
+            plus: true,
+            row: row(plus),
+        },
+    ];
+    match Batch::of(&deltas) {
+        Ok(batch) if key < map.keys() => told(Ok(map.call(&WriterCall::Update(key, batch)))),
+        _ => Said::Other,
+    }
+}
+
+fn by_reader(map: &mut Alone, key: u32, at: usize, line: Line) -> Said {
+    if key >= map.keys() || at >= map.readers() as usize {
+        return Said::Other;
+    }
+    told(match line {
+        Line::Find(_) => map.find(at, key),
+        Line::Ask(_) => map.ask(at, key),
+        Line::Pin(_) => map.pin(at, key),
+        Line::Show(_) => map.show(at),
+        _ => map.unpin(at),
+    })
+}
+
+fn answer(map: &mut Alone, key: u32, line: Line) -> Said {
+    if key >= map.keys() {
+        return Said::Other;
+    }
+    match line {
+        Line::Find(at) | Line::Ask(at) | Line::Pin(at) | Line::Show(at) | Line::Unpin(at) => {
+            by_reader(map, key, at, line)
+        }
+        Line::Fill(a) => {
+            let number = map.number(key);
+            filled(map, key, number, a)
+        }
+        Line::FillAs(number, a) => filled(map, key, number, a),
+        Line::Update(minus, plus) => updated(map, key, minus, plus),
+        Line::Evict => told(Ok(map.call(&WriterCall::Evict(key)))),
+        Line::Cancel => told(Ok(map.call(&WriterCall::Cancel(key)))),
+        Line::Look => told(Ok(map.call(&WriterCall::Find(key)))),
+    }
+}
+
+/// Whether each line is answered so.
+fn is_answered(map: &mut Alone, lines: Lines) -> bool {
+    lines
+        .iter()
+        .all(|(key, line, said)| answer(map, *key, *line) == *said)
+}
+
+fn shape(keys: u32, slots: u32, readers: u32) -> Shape {
+    Shape {
+        keys,
+        slots,
+        readers,
+        first_count: u64::MAX,
+        first_number: 0,
+        rows: 15,
+    }
+}
+
+const FULL: Lines = &[
+    (0, Line::Ask(0), Said::Send(0)),
+    (1, Line::Ask(0), Said::Send(0)),
+    (0, Line::Fill(1), Said::Done),
+    (1, Line::Fill(2), Said::NoSlot),
+    (0, Line::Find(0), Said::Row(1)),
+    (1, Line::Find(0), Said::Hole),
+    (0, Line::Evict, Said::Evicted),
+    (1, Line::Fill(2), Said::Done),
+    (1, Line::Look, Said::Row(2)),
+    (0, Line::Fill(1), Said::NotAsked),
+];
+
+#[test]
+fn a_full_map_has_no_slot_until_a_key_is_evicted(rt: HostRuntime) -> Result<(), Fail> {
+    let mut map = Alone::open(rt.alloc(), &shape(2, 1, 1))?;
+    let answered = is_answered(&mut map, FULL);
+    map.close();
+    assert!(rt; answered);
+    Ok(())
+}
+
+// Readers 0 and 2 pin the same set, which leaves its key and takes a slot until the last of them unpins it.
+const STRAY: Lines = &[
+    (0, Line::Ask(0), Said::Send(0)),
+    (0, Line::Fill(1), Said::Done),
+    (0, Line::Pin(0), Said::Ok),
+    (0, Line::Pin(2), Said::Ok),
+    (0, Line::Find(2), Said::Holding),
+    (0, Line::Ask(2), Said::Holding),
+    (0, Line::Pin(2), Said::Holding),
+    (0, Line::Unpin(1), Said::NotHolding),
+    (0, Line::Show(1), Said::NotHolding),
+    (0, Line::Evict, Said::Evicted),
+    (0, Line::Pin(1), Said::Hole),
+    (0, Line::Ask(1), Said::Send(0)),
+    (1, Line::Ask(1), Said::Send(0)),
+    (1, Line::Fill(2), Said::Done),
+    (0, Line::Fill(3), Said::NoSlot),
+    (0, Line::Unpin(0), Said::Ok),
+    (0, Line::Fill(3), Said::NoSlot),
+    (0, Line::Show(2), Said::Row(1)),
+    (0, Line::Unpin(2), Said::Ok),
+    (0, Line::Fill(3), Said::Done),
+    (0, Line::Pin(2), Said::Ok),
+];
+
+#[test]
+fn a_stray_takes_one_slot_until_its_last_unpin(rt: HostRuntime) -> Result<(), Fail> {
+    let mut map = Alone::open(rt.alloc(), &shape(2, 2, 3))?;
+    let answered = is_answered(&mut map, STRAY);
+    map.close();
+    assert!(rt; answered);
+    Ok(())
+}
+
+// Equal rows that were put at different times count apart.
+const APART: Lines = &[
+    (0, Line::Ask(0), Said::Send(0)),
+    (0, Line::Fill(1), Said::Done),
+    (0, Line::Pin(0), Said::Ok),
+    (0, Line::Update(1, 1), Said::Done),
+    (0, Line::Pin(1), Said::Ok),
+    (0, Line::Update(1, 1), Said::Done),
+    (0, Line::Update(1, 1), Said::NoSlot),
+    (0, Line::Unpin(0), Said::Ok),
+    (0, Line::Update(1, 4), Said::Done),
+    (0, Line::Show(1), Said::Row(1)),
+    (0, Line::Find(0), Said::Row(4)),
+];
+
+#[test]
+fn sets_of_equal_rows_count_apart(rt: HostRuntime) -> Result<(), Fail> {
+    let mut map = Alone::open(rt.alloc(), &shape(1, 3, 2))?;
+    let answered = is_answered(&mut map, APART);
+    map.close();
+    assert!(rt; answered);
+    Ok(())
+}
+
+const NUMBERS: Lines = &[
+    (0, Line::Ask(0), Said::Send(4_194_302)),
+    (0, Line::Cancel, Said::Cancelled),
+    (0, Line::Ask(0), Said::Send(4_194_303)),
+    (0, Line::FillAs(4_194_302, 1), Said::Stale),
+    (0, Line::Cancel, Said::Worn),
+    (0, Line::Ask(0), Said::Waiting),
+    (0, Line::Fill(1), Said::Done),
+    (0, Line::Ask(0), Said::Filled),
+    (0, Line::Update(2, 3), Said::Other),
+];
+
+#[test]
+fn requests_have_the_numbers_of_the_opening(rt: HostRuntime) -> Result<(), Fail> {
+    let mut numbered = shape(1, 3, 1);
+    numbered.first_number = 4_194_302;
+    let mut map = Alone::open(rt.alloc(), &numbered)?;
+    let answered = is_answered(&mut map, NUMBERS);
+    map.close();
+    assert!(rt; answered);
+    Ok(())
+}
+
+const HOLES: Lines = &[
+    (65_535, Line::Find(0), Said::Hole),
+    (65_535, Line::Find(1_023), Said::Hole),
+    (0, Line::Ask(1_023), Said::Send(0)),
+    (0, Line::Ask(0), Said::Waiting),
+    (0, Line::Find(1_024), Said::Other),
+];
+
+#[test]
+fn a_map_has_all_its_readers_and_keys(rt: HostRuntime) -> Result<(), Fail> {
+    let mut map = Alone::open(rt.alloc(), &shape(65_536, 1, 1_024))?;
+    let answered = is_answered(&mut map, HOLES);
+    map.close();
+    assert!(rt; answered);
+    Ok(())
+}
