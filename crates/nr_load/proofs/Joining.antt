@@ -1,0 +1,36 @@
+-- What the promises that were kept say of the readers.
+use Rattle.std.proofs.Common.{◌≡◌, ℕ, List, [], ◌∷◌, ◌++◌, length, refl, subst, arith}
+use Rattle.std.proofs.lemmas.List.{append-nil}
+use Rattle.std.specs.declared.thread.PromisedHandle.{PromisedHandle}
+use Rattle.nr_map.specs.Callers.{Caller}
+use Rattle.nr_load.specs.declared.workers.Outcome.{Outcome}
+use Rattle.nr_load.specs.declared.workers.Serving.{Serving}
+use Rattle.nr_load.specs.Outcomes.{CarriesFirst, KeptBy, Serves, ServesFirst}
+
+-- nothing was left to join
+pub all_joined : (handles rest : List (PromisedHandle Outcome Serving)) (outcomes : List Outcome) → length rest ≡ 0 → ((more : List Outcome) → KeptBy rest more → KeptBy handles (outcomes ++ more)) → KeptBy handles outcomes
+all_joined handles [] outcomes e f = subst (λ (os : List Outcome). KeptBy handles os) (append-nil outcomes) (f [] tt)
+all_joined handles (h ∷ rest) outcomes e f = absurd (omega (arith, e))
+
+-- as many were joined as were started
+pub joined_count : (handles : List (PromisedHandle Outcome Serving)) (outcomes : List Outcome) → KeptBy handles outcomes → length outcomes ≡ length handles
+joined_count [] [] kept = refl
+joined_count [] (o ∷ os) kept = absurd kept
+joined_count (h ∷ hs) [] kept = absurd kept
+joined_count (h ∷ hs) (o ∷ os) kept = omega (arith, joined_count hs os kept.1)
+
+-- those that were started so far
+pub started : (seed gets : ℕ) (readers rest : List Caller) (handles : List (PromisedHandle Outcome Serving)) → ((more : List (PromisedHandle Outcome Serving)) → CarriesFirst seed gets rest more → CarriesFirst seed gets readers (handles ++ more)) → CarriesFirst seed gets readers handles
+started seed gets readers rest handles f = subst (λ (hs : List (PromisedHandle Outcome Serving)). CarriesFirst seed gets readers hs) (append-nil handles) (f [] tt)
+
+pub served : (seed gets : ℕ) (readers : List Caller) (handles : List (PromisedHandle Outcome Serving)) (outcomes : List Outcome) → CarriesFirst seed gets readers handles → KeptBy handles outcomes → ServesFirst seed gets readers outcomes
+served seed gets readers [] [] carries kept = tt
+served seed gets readers [] (o ∷ os) carries kept = absurd kept
+served seed gets readers (h ∷ hs) [] carries kept = absurd kept
+served seed gets [] (h ∷ hs) (o ∷ os) carries kept = absurd carries
+served seed gets (r ∷ rs) (h ∷ hs) (o ∷ os) carries kept = (
+  subst (λ (x : Caller). Serves seed gets x o) carries.2
+      (subst (λ (n : ℕ). Serves seed n h.promise.reader.value o) carries.1
+      (subst (λ (n : ℕ). Serves n h.promise.gets h.promise.reader.value o) carries.0 kept.0)),
+  served seed gets rs hs os carries.3 kept.1,
+)

@@ -1,0 +1,9 @@
+pub mod Working
+pub mod Counting
+pub mod Gaining
+pub mod Few
+pub mod Sending
+pub mod Joining
+pub mod Settling
+pub mod Balancing
+pub mod Accounting

@@ -1,0 +1,13 @@
+use Rattle.std.proofs.Common.{◌≡◌, ◌≤◌}
+use Rattle.nr_load.proofs.Working.{Begins}
+use Rattle.nr_load.proofs.gets.load_gets.Given as goal
+
+abbrev pub invariant-loop-made : goal.invariant-loop-made
+invariant-loop-made g l = record {
+  map : l.client.map ≡ l.fn.client.map;
+  queue : l.client.queue ≡ l.fn.client.queue;
+  opened : l.client.opened ≡ l.fn.client.opened;
+  keys : l.draws.keys ≡ l.fn.draws.keys;
+  few : l.answered ≤ l.made;
+  begun : Begins 1000000 l.fn.draws.keys l.made l.fn.draws.generator l.answered l.fn.client.hands l.client.hands l.draws.generator;
+}

@@ -1,0 +1,7 @@
+pub mod Faults
+pub mod Drawn
+pub mod Works
+pub mod Gained
+pub mod Flowed
+pub mod Outcomes
+pub mod Ends

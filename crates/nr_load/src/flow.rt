@@ -1,0 +1,128 @@
+//! The thread of the dataflow.
+ghost use Rattle.std.specs.Prelude.{◌≡◌, ◌≢◌, ◌<◌, ◌≤◌, ◌+◌, ℕ, Err};
+ghost use Rattle.nr_serve.specs.Flows.{HasRoom};
+ghost use Rattle.nr_serve.specs.Hands.{capped};
+ghost use Rattle.nr_load.specs.Flowed.{Flows};
+ghost use Rattle.nr_load.specs.Gained.{Gained};
+
+use crate::base::Base;
+use crate::fault::LoadFault;
+use nr_map::{NoSlot, ReaderMap, UpdateFault, Writer};
+use nr_serve::{Dataflow, Lobby, Turn};
+use nr_trigger::{Taker, Triggers};
+use std::sync::Wait;
+use std::thread;
+
+/// What the dataflow's thread gives back.
+#[derive(Drop)]
+pub struct Flowed {
+    pub writer: Writer,
+    /// How many fills were done, up to 2^64 - 1.
+    pub fills: u64,
+    pub fault: Option<LoadFault>,
+}
+
+#[derive(Clone, Copy, Debug, PartialEq, Eq)]
+enum Turned {
+    Idle,
+    Went,
+    Wrong,
+}
+
+// What becomes of a key after a fill: at each fourth one it is evicted, else its row is changed.
+fn change(flow: &mut Dataflow<'_, Base>, key: u32, fills: u64) -> Result<(), UpdateFault>
+    requires key { key < flow.old.map.shape.keys }
+    requires room { HasRoom flow.old.map }
+    ensures gained { Gained flow.old.map.shape.keys flow.old.writer flow.new.writer 0 0 }
+    ensures places { (flow.new.map ≡ flow.old.map) × (flow.new.queue ≡ flow.old.queue) }
+    ensures found_slot { (counts : NoSlot) → result ≢ Err (UpdateFault.NoSlot counts) }
+{
+    if fills % 4 == 0 {
+        flow.evict(key);
+        return Ok(());
+    }
+    let Some(batch) = flow.source().step(key) else {
+        return Ok(());
+    };
+    flow.apply(key, &batch)
+}
+
+fn turn_once<R: Wait>(rt: &R, flow: &mut Dataflow<'_, Base>, fills: &mut u64) -> Turned
+    requires room { HasRoom flow.old.map }
+    ensures gained { (count : ℕ) × Gained flow.old.map.shape.keys flow.old.writer flow.new.writer 0 count × (fills.new ≡ capped (fills.old + count)) }
+    ensures places { (flow.new.map ≡ flow.old.map) × (flow.new.queue ≡ flow.old.queue) }
+{
+    let before = *fills;
+    match flow.turn(rt) {
+        Turn::Idle => Turned::Idle,
+        Turn::Passed(_) => Turned::Went,
+        Turn::Kept(_) => Turned::Went,
+        Turn::Filled(key) => {
+            *fills = before.saturating_add(1);
+            if change(flow, key, *fills).is_ok() {
+                Turned::Went
+            } else {
+                Turned::Wrong
+            }
+        }
+    }
+}
+
+fn is_last(turned: Turned, is_closed: bool) -> bool {
+    match turned {
+        Turned::Idle => is_closed,
+        Turned::Went => false,
+        Turned::Wrong => true,
+    }
+}
+
+fn fault_of(turned: Turned) -> Option<LoadFault> {
+    if turned == Turned::Wrong {
+        Some(LoadFault::WrongRows)
+    } else {
+        None
+    }
+}
+
+/// Turns until the lobby is closed and nothing is left to fill, or until a change of rows is
+/// refused: then it closes the lobby itself.
+pub(crate) fn flow_on<R: Wait>(
+    rt: &R,
+    map: &ReaderMap,
+    writer: Writer,
+    triggers: &Triggers,
+    taker: Taker,
+    base: Base,
+    lobby: &Lobby,
+) -> Flowed
+    requires own { writer.table ≡ map.now }
+    requires room { HasRoom map.now }
+    requires queue { taker.queue ≡ triggers.now.id }
+    requires keys { taker.keys ≤ map.now.shape.keys }
+    ensures { Flows writer result }
+{
+    let mut flow = Dataflow::open(map, writer, triggers, taker, base, lobby);
+    let mut fills = 0;
+    let mut fault = None;
+    for _ in rt.forever() {
+        let is_closed = lobby.is_closed(rt);
+        let turned = turn_once(rt, &mut flow, &mut fills);
+        fault = fault_of(turned);
+        if is_last(turned, is_closed) {
+            break;
+        }
+        if turned == Turned::Idle {
+            thread::yield_now();
+        }
+    }
+    let (writer, _, kept, _) = flow.end();
+    if let Some(trigger) = kept {
+        trigger.into_key();
+    }
+    lobby.close(rt);
+    Flowed {
+        writer,
+        fills,
+        fault,
+    }
+}

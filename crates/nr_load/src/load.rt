@@ -1,0 +1,235 @@
+//! A run of load, and its report.
+ghost use Rattle.std.specs.Prelude.{◌≡◌, ◌<◌, ◌≤◌, ◌+◌, ◌*◌, ◌^◌, ◌↔◌, IfOk, IsTrue, MatchResult, All, None, Some, map as each_of, vec_len, vec_capacity};
+ghost use Rattle.nr_map.specs.Rounds.{is_cancel, is_fill, is_sent};
+ghost use Rattle.nr_serve.specs.Hands.{capped};
+ghost use Rattle.nr_tally.specs.Balance.{of_all};
+ghost use Rattle.nr_tally.specs.Rounds.{IsInOrder};
+ghost use Rattle.nr_load.specs.Ends.{Ended, told};
+ghost use Rattle.nr_load.specs.Outcomes.{answered_in, earliest, reader_of, sends_in};
+
+use crate::base::Base;
+use crate::fault::{LoadFault, earlier};
+use crate::flow::Flowed;
+use crate::workers::{Joined, Outcome, Serving, serve_all};
+use nr_map::{Reader, ReaderMap, Writer};
+use nr_serve::Gate;
+use nr_tally::tally;
+use nr_trigger::Triggers;
+use std::alloc::{AllocError, Global};
+use std::sync::Wait;
+use std::thread::{PromisedHandle, Threads};
+
+/// What a run of load is to do.
+#[derive(Clone, Copy, Debug, PartialEq, Eq)]
+pub struct Plan {
+    /// The state of each worker's generator; its stream is the worker's number.
+    pub seed: u64,
+    /// 1 to 1,024 readers, each in a thread of its own.
+    pub readers: u32,
+    /// 1 to 65,536 keys.
+    pub keys: u32,
+    /// The gets of each reader.
+    pub gets: u32,
+}
+
+/// What a run of load did.
+#[derive(Clone, Copy, Debug, PartialEq, Eq)]
+pub struct LoadReport {
+    /// The gets of all readers.
+    pub gets: u64,
+    /// Those that were answered with rows.
+    pub answered: u64,
+    /// The requests that were to be sent.
+    pub sends: u64,
+    /// The fills that were done.
+    pub fills: u64,
+    /// The keys that are asked at the end.
+    pub asked: u64,
+}
+
+impl LoadReport {
+    /// Whether each request that was sent was filled or is still pending.
+    pub fn balance(&self) -> bool
+        ensures { IsTrue result ↔ (self.now.sends ≡ self.now.fills + self.now.asked) }
+    {
+        let LoadReport {
+            gets: _,
+            answered: _,
+            sends,
+            fills,
+            asked,
+        } = *self;
+        match fills.checked_add(asked) {
+            Some(sum) => sum == sends,
+            None => false,
+        }
+    }
+}
+
+/// What the workers did, added up.
+#[derive(Drop)]
+struct Sums {
+    sends: u64,
+    answered: u64,
+    fault: Option<LoadFault>,
+}
+
+// What a load needs room for before its first thread starts.
+#[derive(Drop)]
+struct Room {
+    base: Base,
+    handles: Vec<PromisedHandle<Outcome, Serving>>,
+    outcomes: Vec<Outcome>,
+    readers: Vec<Reader>,
+}
+
+impl Room {
+    fn open(alloc: Global, keys: u32, readers: u32) -> Result<Room, AllocError>
+        ensures handles { IfOk result (λ room. (readers ≤ vec_capacity room.handles) × (vec_len room.handles ≡ 0)) }
+        ensures outcomes { IfOk result (λ room. (readers ≤ vec_capacity room.outcomes) × (vec_len room.outcomes ≡ 0)) }
+        ensures readers { IfOk result (λ room. (readers ≤ vec_capacity room.readers) × (vec_len room.readers ≡ 0)) }
+    {
+        Ok(Room {
+            base: Base::open(alloc, keys)?,
+            handles: Vec::with_capacity(alloc, readers as usize)?,
+            outcomes: Vec::with_capacity(alloc, readers as usize)?,
+            readers: Vec::with_capacity(alloc, readers as usize)?,
+        })
+    }
+}
+
+// Adds up what the workers did, and gives their readers back, in order. The room is there.
+fn collect(outcomes: Vec<Outcome>, mut readers: Vec<Reader>) -> (Sums, Vec<Reader>)
+    requires room { (vec_len outcomes ≤ vec_capacity readers) × (vec_len readers ≡ 0) }
+    requires sends { sends_in outcomes.items < 2 ^ 64 }
+    requires answered { answered_in outcomes.items < 2 ^ 64 }
+    ensures sends { result.0.sends ≡ sends_in outcomes.items }
+    ensures answered { result.0.answered ≡ answered_in outcomes.items }
+    ensures fault { result.0.fault ≡ earliest None outcomes.items }
+    ensures readers { result.1.items ≡ each_of reader_of outcomes.items }
+{
+    let mut sends: u64 = 0;
+    let mut answered: u64 = 0;
+    let mut fault = None;
+    for outcome in outcomes {
+        let Outcome {
+            reader,
+            worked,
+            sends: sent,
+        } = outcome;
+        sends += sent;
+        answered += u64::from(worked.answered);
+        fault = earlier(fault, worked.fault);
+        readers.push_reserved(reader);
+    }
+    (
+        Sums {
+            sends,
+            answered,
+            fault,
+        },
+        readers,
+    )
+}
+
+// How many keys are asked, once all tokens are back; so the account balances.
+fn account(map: &ReaderMap, writer: Writer, readers: Vec<Reader>, sends: u64, fills: u64) -> u64
+    requires writer { (writer.table ≡ map.now) × (writer.number ≡ 0) }
+    requires readers { All (λ reader. reader.table ≡ map.now) readers.items }
+    requires order { IsInOrder map.now.shape.readers readers.items }
+    requires some { 0 < map.now.shape.readers }
+    requires sends { of_all is_sent writer readers.items ≡ sends }
+    requires fills { fills ≡ capped (of_all is_fill writer readers.items) }
+    requires cancels { of_all is_cancel writer readers.items ≡ 0 }
+    ensures { sends ≡ fills + result }
+{
+    let _ = (sends, fills);
+    let (mut writer, mut readers) = (writer, readers);
+    tally(map, &mut writer, readers.as_mut_slice())
+}
+
+// The report of threads that are all joined, or of their faults the first named.
+fn settle(
+    map: &ReaderMap,
+    plan: &Plan,
+    joined: Joined,
+    room: Vec<Reader>,
+) -> Result<LoadReport, LoadFault>
+    requires ended { Ended map.now plan.now.seed plan.now.gets joined }
+    requires readers { (map.now.shape.readers ≡ plan.now.readers) × (0 < plan.now.readers) × (plan.now.readers ≤ 1024) }
+    requires room { (plan.now.readers ≤ vec_capacity room) × (vec_len room ≡ 0) }
+    ensures fault { MatchResult result (λ _. told joined ≡ None) (λ fault. told joined ≡ Some fault) }
+    ensures balance { IfOk result (λ report. report.sends ≡ report.fills + report.asked) }
+    ensures gets { IfOk result (λ report. report.gets ≡ plan.now.readers * plan.now.gets) }
+    ensures answered { IfOk result (λ report. report.answered ≤ plan.now.readers * plan.now.gets) }
+{
+    let Joined {
+        outcomes,
+        flowed,
+        is_whole,
+    } = joined;
+    let (sums, readers) = collect(outcomes, room);
+    let Flowed {
+        writer,
+        fills,
+        fault,
+    } = flowed;
+    let refused = if is_whole {
+        None
+    } else {
+        Some(LoadFault::Thread)
+    };
+    if let Some(fault) = earlier(earlier(sums.fault, fault), refused) {
+        return Err(fault);
+    }
+    let asked = account(map, writer, readers, sums.sends, fills);
+    Ok(LoadReport {
+        gets: u64::from(plan.readers) * u64::from(plan.gets),
+        answered: sums.answered,
+        sends: sums.sends,
+        fills,
+        asked,
+    })
+}
+
+/// Runs a load: opens a map with a slot for each key, each reader and one more, a queue with room for
+/// a ticket of each key, and starts a thread for each reader and one for the dataflow. Each reader
+/// makes `gets` gets, of keys that it draws. All memory but a worker's own is asked for before the
+/// first thread starts. A fault of one ends all, and each thread that was started is joined before
+/// the answer, of several faults the first named. Then all readers are gathered, and the account
+/// balances.
+pub fn run_load<R: Threads + Wait + Sync, G: Gate + Sync>(
+    rt: &R,
+    alloc: Global,
+    plan: &Plan,
+    gate: &G,
+) -> Result<LoadReport, LoadFault>
+    requires readers { (0 < plan.now.readers) × (plan.now.readers ≤ 1024) }
+    requires keys { (0 < plan.now.keys) × (plan.now.keys ≤ 65536) }
+    ensures balance { IfOk result (λ report. report.sends ≡ report.fills + report.asked) }
+    ensures gets { IfOk result (λ report. report.gets ≡ plan.now.readers * plan.now.gets) }
+    ensures answered { IfOk result (λ report. report.answered ≤ report.gets) }
+{
+    let Ok(room) = Room::open(alloc, plan.keys, plan.readers) else {
+        return Err(LoadFault::Memory);
+    };
+    let slots = plan.keys + plan.readers + 1;
+    let Ok((map, writer, readers)) = ReaderMap::open(alloc, plan.keys, slots, plan.readers, 0)
+    else {
+        return Err(LoadFault::Memory);
+    };
+    let Ok((triggers, posters, taker)) = Triggers::open(alloc, plan.keys, plan.readers) else {
+        return Err(LoadFault::Memory);
+    };
+    let Room {
+        base,
+        handles,
+        outcomes,
+        readers: spare,
+    } = room;
+    let joined = serve_all(
+        rt, alloc, &map, &triggers, gate, base, writer, taker, readers, posters, handles, outcomes,
+        plan.seed, plan.gets,
+    )?;
+    settle(&map, plan, joined, spare)
+}

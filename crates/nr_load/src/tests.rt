@@ -1,0 +1,243 @@
+//! Whole loads. What is asserted does not depend on how the threads' steps fall.
+use crate::{LoadFault, LoadReport, Plan, run_load};
+use nr_serve::{Gate, OpenGate};
+use std::sync::atomic::{AtomicBool, AtomicU64, Ordering};
+use std::test::Fail;
+use std::thread;
+
+const LOOKS: u32 = 1_000_000;
+
+/// What a gate notes of one worker: the last turn in which it came, and the last that was answered.
+#[derive(Drop)]
+struct Notes {
+    came: AtomicU64,
+    answered: AtomicU64,
+}
+
+impl Notes {
+    fn new() -> Notes {
+        Notes {
+            came: AtomicU64::new(0),
+            answered: AtomicU64::new(0),
+        }
+    }
+}
+
+/// Lets each of two workers pass once the other has come in the same turn, for which it looks within
+/// one call. After it once said no it lets nobody pass.
+#[derive(Drop)]
+struct Meeting {
+    one: Notes,
+    two: Notes,
+    has_failed: AtomicBool,
+}
+
+impl Meeting {
+    fn new() -> Meeting {
+        Meeting {
+            one: Notes::new(),
+            two: Notes::new(),
+            has_failed: AtomicBool::new(false),
+        }
+    }
+
+    fn is_there(notes: &Notes, turn: u64) -> bool {
+        for _ in 0..LOOKS {
+            if notes.came.load(Ordering::SeqCst) >= turn {
+                return true;
+            }
+            thread::yield_now();
+        }
+        false
+    }
+
+    /// Whether each turn up to that was answered once, in order.
+    fn are_answered(&self, turns: u64) -> bool {
+        !self.has_failed.load(Ordering::SeqCst)
+            && self.one.answered.load(Ordering::SeqCst) == turns
+            && self.two.answered.load(Ordering::SeqCst) == turns
+    }
+}
+
+impl Gate for Meeting {
+    fn pass(&self, worker: u32, turn: u64) -> bool {
+        if self.has_failed.load(Ordering::SeqCst) {
+            return false;
+        }
+        let (own, other) = if worker == 1 {
+            (&self.one, &self.two)
+        } else {
+            (&self.two, &self.one)
+        };
+        own.came.store(turn, Ordering::SeqCst);
+        if Meeting::is_there(other, turn) {
+            return true;
+        }
+        self.has_failed.store(true, Ordering::SeqCst);
+        false
+    }
+
+    fn answered(&self, worker: u32, turn: u64) {
+        let own = if worker == 1 { &self.one } else { &self.two };
+        let before = own.answered.swap(turn, Ordering::SeqCst);
+        if before.checked_add(1) != Some(turn) {
+            self.has_failed.store(true, Ordering::SeqCst);
+        }
+    }
+}
+
+#[test]
+fn two_workers_meet_in_one_get(rt: HostRuntime) -> Result<(), Fail> {
+    let meeting = Meeting::new();
+    let plan = Plan {
+        seed: 1,
+        readers: 2,
+        keys: 1,
+        gets: 1,
+    };
+    let report = run_load(&rt, rt.alloc(), &plan, &meeting)?;
+    let wanted = LoadReport {
+        gets: 2,
+        answered: 2,
+        sends: 1,
+        fills: 1,
+        asked: 0,
+    };
+    assert_eq!(rt; report, wanted);
+    assert!(rt; meeting.are_answered(1));
+    Ok(())
+}
+
+#[test]
+fn two_workers_meet_in_each_of_fifty_gets(rt: HostRuntime) -> Result<(), Fail> {
+    let meeting = Meeting::new();
+    let plan = Plan {
+        seed: 3,
+        readers: 2,
+        keys: 8,
+        gets: 50,
+    };
+    let report = run_load(&rt, rt.alloc(), &plan, &meeting)?;
+    assert_eq!(rt; (report.gets, report.answered), (100, 100));
+    assert!(rt; report.balance());
+    assert!(rt; meeting.are_answered(50));
+    Ok(())
+}
+
+#[test]
+fn four_readers_share_eight_keys(rt: HostRuntime) -> Result<(), Fail> {
+    let plan = Plan {
+        seed: 7,
+        readers: 4,
+        keys: 8,
+        gets: 100,
+    };
+    let report = run_load(&rt, rt.alloc(), &plan, &OpenGate)?;
+    assert_eq!(rt; (report.gets, report.answered), (400, 400));
+    assert!(rt; report.balance());
+    Ok(())
+}
+
+#[test]
+fn readers_that_make_no_gets(rt: HostRuntime) -> Result<(), Fail> {
+    let plan = Plan {
+        seed: 1,
+        readers: 1,
+        keys: 1,
+        gets: 0,
+    };
+    let report = run_load(&rt, rt.alloc(), &plan, &OpenGate)?;
+    let wanted = LoadReport {
+        gets: 0,
+        answered: 0,
+        sends: 0,
+        fills: 0,
+        asked: 0,
+    };
+    assert_eq!(rt; report, wanted);
+    Ok(())
+}
+
+/// As many readers as there may be, on one key. The system may refuse so many threads.
+#[test]
+fn a_thousand_readers_on_one_key(rt: HostRuntime) -> Result<(), Fail> {
+    let plan = Plan {
+        seed: 1,
+        readers: 1024,
+        keys: 1,
+        gets: 2,
+    };
+    match run_load(&rt, rt.alloc(), &plan, &OpenGate) {
+        Ok(report) => {
+            assert_eq!(rt; (report.gets, report.answered), (2048, 2048));
+            assert!(rt; report.balance());
+        }
+        Err(fault) => assert_eq!(rt; fault, LoadFault::Thread),
+    }
+    Ok(())
+}
+
+/// Lets nobody pass.
+#[derive(Drop)]
+struct ShutGate;
+
+impl Gate for ShutGate {
+    fn pass(&self, _worker: u32, _turn: u64) -> bool {
+        false
+    }
+
+    fn answered(&self, _worker: u32, _turn: u64) {}
+}
+
+#[test]
+fn a_gate_that_never_opens_ends_the_load(rt: HostRuntime) -> Result<(), Fail> {
+    let plan = Plan {
+        seed: 1,
+        readers: 2,
+        keys: 1,
+        gets: 1,
+    };
+    let ended = run_load(&rt, rt.alloc(), &plan, &ShutGate);
+    assert_eq!(rt; ended, Err(LoadFault::Barred));
+    Ok(())
+}
+
+/// Whichever request for memory is refused, a load says so or is not hurt.
+#[test]
+fn refused_memory_ends_a_load(rt: HostRuntime) -> Result<(), Fail> {
+    let plan = Plan {
+        seed: 5,
+        readers: 2,
+        keys: 2,
+        gets: 3,
+    };
+    match run_load(&rt, rt.alloc(), &plan, &OpenGate) {
+        Ok(report) => {
+            assert_eq!(rt; (report.gets, report.answered), (6, 6));
+            assert!(rt; report.balance());
+        }
+        Err(fault) => assert!(rt; fault == LoadFault::Memory || fault == LoadFault::Thread),
+    }
+    Ok(())
+}
+
+#[test]
+fn a_report_that_is_off(rt: HostRuntime) -> Result<(), Fail> {
+    let report = LoadReport {
+        gets: 2,
+        answered: 2,
+        sends: 3,
+        fills: 2,
+        asked: 1,
+    };
+    assert!(rt; report.balance());
+    assert!(rt; !LoadReport { fills: 3, ..report }.balance());
+    let over = LoadReport {
+        sends: 0,
+        fills: u64::MAX,
+        asked: 1,
+        ..report
+    };
+    assert!(rt; !over.balance());
+    Ok(())
+}

@@ -1,0 +1,3 @@
+pub mod Gathering
+pub mod Counting
+pub mod Telling
