@@ -1,0 +1,2 @@
+pub mod AsReaderBox
+pub mod AsWriterBox

@@ -1,0 +1,12 @@
+use Rattle.std.proofs.Common.{refl, ◌∙◌}
+use Rattle.nr_c.proofs.meets.nr_meet.Goals as goal
+
+pub returns : goal.returns
+returns c = (
+  c.take_reader-idle.result,
+  c.meet.new.reader,
+  c.side-other.result.now.writer,
+  record { old = c.side-side.result.now; new = _; led = c.side-side.ensures.value; leads = refl; map = c.put.ensures.map ∙ c.take_reader-idle.ensures.map; old_hand = c.take_reader-idle.ensures.reader; new_hand = c.put.ensures.hand },
+  record { old = c.side-other.result.now; new = _; was = c.side-other.ensures.value; is = refl; map = refl; spare = refl; made = (refl, c.meet.ensures.writer) },
+  c.meet.ensures.reader,
+)

@@ -1,0 +1,22 @@
+use Rattle.std.proofs.Common.{refl, ap, Some, ◌∙◌}
+use Rattle.nr_map.specs.Callers.{Caller}
+use Rattle.nr_c.specs.declared.hand.Hand.TheVariants.{Idle}
+use Rattle.nr_c.proofs.meets.nr_meet_readers.Goals as goal
+
+pub returns : goal.returns
+returns c = (
+  c.take_reader-idle.result,
+  c.meet_readers.new.reader,
+  c.take_reader-friend.result,
+  record { old = c.side-side.result.now; new = _; led = c.side-side.ensures.value; leads = refl; map = c.put.ensures.map ∙ c.take_reader-idle.ensures.map; old_hand = c.take_reader-idle.ensures.reader; new_hand = c.put.ensures.hand },
+  record {
+    old = c.side-theirs.result.now;
+    new = _;
+    led = c.side-theirs.ensures.value;
+    leads = refl;
+    map = c.put-2.ensures.map ∙ c.take_reader-friend.ensures.map;
+    old_hand = c.take_reader-friend.ensures.reader;
+    new_hand = c.put-2.ensures.hand ∙ ap (λ (r : Caller). Some (Idle r)) c.meet_readers.ensures.other;
+  },
+  c.meet_readers.ensures.reader,
+)

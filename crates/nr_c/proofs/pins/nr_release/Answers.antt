@@ -1,0 +1,10 @@
+use Rattle.std.proofs.Common.{refl, ◌∙◌}
+use Rattle.nr_c.proofs.pins.nr_release.Goals as goal
+
+pub returns : goal.returns
+returns c = (
+  c.take_pin-pin.result,
+  c.release-idle.result,
+  record { old = c.side-side.result.now; new = _; led = c.side-side.ensures.value; leads = refl; map = c.put.ensures.map ∙ c.take_pin-pin.ensures.map; old_hand = c.take_pin-pin.ensures.pin; new_hand = c.put.ensures.hand },
+  c.release-idle.ensures.rests,
+)

@@ -1,0 +1,13 @@
+pub mod Codes
+pub mod RowCells
+pub mod Hands
+pub mod Sizes
+pub mod ReaderHandles
+pub mod ReaderFollows
+pub mod WriterHandles
+pub mod WriterFollows
+pub mod Openings
+pub mod Live
+pub mod Meets
+pub mod Pins
+pub mod Writes

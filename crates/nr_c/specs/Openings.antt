@@ -1,0 +1,44 @@
+-- What opens a map and its handles.
+use Rattle.std.specs.Prelude.{ℕ, ◌≡◌, ◌⊎◌, List, [], ◌∷◌, ◌++◌, Some}
+use Rattle.nr_core.specs.declared.shape.Shape.{Shape}
+use Rattle.nr_map.specs.Callers.{Caller}
+use Rattle.nr_map.specs.Opened.{IsOpened}
+use Rattle.nr_c.specs.declared.codes.TheConstants.{NR_BAD_SIZE, NR_DONE, NR_NO_MEMORY, NR_NO_READER}
+use Rattle.nr_c.specs.declared.hand.Hand.TheVariants.{Idle}
+use Rattle.nr_c.specs.declared.reader_side.ReaderSide.{ReaderSide}
+use Rattle.nr_c.specs.declared.writer_side.WriterSide.{WriterSide}
+
+-- the writer's side of a new map of that shape: its writer, and its readers, none of which has a handle
+abbrev pub IsNewWriter : Shape → WriterSide → Type 0
+IsNewWriter shape side = IsOpened shape side.map.value side.writer side.spare.items
+
+-- an opening by its code: the handle leads to the side of a new map, or nowhere
+abbrev pub Opens : Shape → ℕ → List WriterSide → Type 0
+Opens shape code after = ((code ≡ NR_DONE) × (side : WriterSide) × (after ≡ side ∷ []) × IsNewWriter shape side) ⊎ (((code ≡ NR_BAD_SIZE) ⊎ (code ≡ NR_NO_MEMORY)) × (after ≡ []))
+
+-- the writer's handle leads to one side, of the same map and with the same writer, and these readers have no handle
+pub record Keeps (before after : List WriterSide) (had has : List Caller) : Type 0 where
+  pub old : WriterSide
+  pub new : WriterSide
+  pub was : before ≡ old ∷ []
+  pub is : after ≡ new ∷ []
+  pub map : new.map ≡ old.map
+  pub writer : new.writer ≡ old.writer
+  pub had_spare : old.spare.items ≡ had
+  pub has_spare : new.spare.items ≡ has
+
+-- the reader's handle leads to the side of that reader, of the writer's map, which holds nothing
+pub record LeadsTo (before : List WriterSide) (reader : Caller) (handle : List ReaderSide) : Type 0 where
+  pub held : WriterSide
+  pub side : ReaderSide
+  pub was : before ≡ held ∷ []
+  pub is : handle ≡ side ∷ []
+  pub map : side.map.value ≡ held.map.value
+  pub idle : side.hand ≡ Some (Idle reader)
+
+-- the last reader without a handle gets one; or none has none, or there is no memory
+abbrev pub TakesReader : ℕ → List WriterSide → List WriterSide → List ReaderSide → Type 0
+TakesReader code before after handle =
+    ((code ≡ NR_DONE) × (rest : List Caller) × (reader : Caller) × Keeps before after (rest ++ reader ∷ []) rest × LeadsTo before reader handle)
+    ⊎ ((code ≡ NR_NO_READER) × Keeps before after [] [] × (handle ≡ []))
+    ⊎ ((code ≡ NR_NO_MEMORY) × (spare : List Caller) × Keeps before after spare spare × (handle ≡ []))

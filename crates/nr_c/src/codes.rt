@@ -1,0 +1,137 @@
+//! The numbers that stand for answers. C has them as constants of the same names, and each answer
+//! has one of its own, whichever call it answers.
+ghost use Rattle.std.specs.Prelude.{◌≡◌};
+ghost use Rattle.nr_c.specs.Codes.{cancel_code, evict_code, fill_code, found_code, kind_code, update_code};
+
+use nr_map::{Cancel, Evict, FillFault, Found, KeyKind, UpdateFault};
+
+/// To a find: the rows of a filled key.
+pub const NR_ROWS: u32 = 0;
+
+/// To a find: the key is not filled.
+pub const NR_HOLE: u32 = 1;
+
+/// To a request: nobody asked before, so whoever asked sends the upquery.
+pub const NR_SEND: u32 = 2;
+
+/// To a request: an upquery is under way.
+pub const NR_WAITING: u32 = 3;
+
+/// To a request: the key is filled.
+pub const NR_FILLED: u32 = 4;
+
+/// To a fill or an update: the rows stand. To what opens: the handle is live.
+pub const NR_DONE: u32 = 5;
+
+/// To a fill: nobody asked for the key.
+pub const NR_NOT_ASKED: u32 = 6;
+
+/// To a fill: the key is filled.
+pub const NR_ALREADY: u32 = 7;
+
+/// To a fill: the request that it answers was taken back.
+pub const NR_STALE: u32 = 8;
+
+/// To an update: the key is not filled.
+pub const NR_DROPPED: u32 = 9;
+
+/// To an update: a row to be taken away is not there.
+pub const NR_NO_ROW: u32 = 10;
+
+/// To a fill or an update: more rows than a key may have.
+pub const NR_TOO_MANY: u32 = 11;
+
+/// To a fill or an update: no slot is to be had.
+pub const NR_NO_SLOT: u32 = 12;
+
+/// To an eviction: the key was filled and is a hole now.
+pub const NR_EVICTED: u32 = 13;
+
+/// To a cancel: the key was asked and is a hole now, with the next number.
+pub const NR_CANCELLED: u32 = 14;
+
+/// To an eviction: the key was not filled. To a cancel: the key was not asked.
+pub const NR_NOTHING: u32 = 15;
+
+/// To a cancel: the key is asked with the last number.
+pub const NR_WORN: u32 = 16;
+
+/// To a look at a key's state: an upquery is under way.
+pub const NR_ASKED: u32 = 17;
+
+/// To an update: its batch has no rows, or more than 64.
+pub const NR_BAD_BATCH: u32 = 18;
+
+/// To a fill: its rows are not in ascending order.
+pub const NR_NOT_SORTED: u32 = 19;
+
+/// To an opening: a size is out of its limits.
+pub const NR_BAD_SIZE: u32 = 20;
+
+/// To an opening: there is no memory.
+pub const NR_NO_MEMORY: u32 = 21;
+
+/// To the opening of a reader: all readers have handles.
+pub const NR_NO_READER: u32 = 22;
+
+pub fn of_found(found: Found) -> u32
+    ensures { result ≡ found_code found }
+{
+    match found {
+        Found::Rows => NR_ROWS,
+        Found::Hole => NR_HOLE,
+    }
+}
+
+pub fn of_fill(answer: Result<(), FillFault>) -> u32
+    ensures { result ≡ fill_code answer }
+{
+    match answer {
+        Ok(()) => NR_DONE,
+        Err(FillFault::NotAsked) => NR_NOT_ASKED,
+        Err(FillFault::Already) => NR_ALREADY,
+        Err(FillFault::Stale) => NR_STALE,
+        Err(FillFault::NoSlot(_)) => NR_NO_SLOT,
+    }
+}
+
+pub fn of_update(answer: Result<(), UpdateFault>) -> u32
+    ensures { result ≡ update_code answer }
+{
+    match answer {
+        Ok(()) => NR_DONE,
+        Err(UpdateFault::Dropped) => NR_DROPPED,
+        Err(UpdateFault::NoRow) => NR_NO_ROW,
+        Err(UpdateFault::TooMany) => NR_TOO_MANY,
+        Err(UpdateFault::NoSlot(_)) => NR_NO_SLOT,
+    }
+}
+
+pub fn of_evict(answer: Evict) -> u32
+    ensures { result ≡ evict_code answer }
+{
+    match answer {
+        Evict::Evicted => NR_EVICTED,
+        Evict::Nothing => NR_NOTHING,
+    }
+}
+
+pub fn of_cancel(answer: Cancel) -> u32
+    ensures { result ≡ cancel_code answer }
+{
+    match answer {
+        Cancel::Cancelled => NR_CANCELLED,
+        Cancel::Nothing => NR_NOTHING,
+        Cancel::Worn => NR_WORN,
+    }
+}
+
+pub fn of_kind(kind: KeyKind) -> u32
+    ensures { result ≡ kind_code kind }
+{
+    match kind {
+        KeyKind::Hole => NR_HOLE,
+        KeyKind::Asked => NR_ASKED,
+        KeyKind::Rows => NR_ROWS,
+    }
+}

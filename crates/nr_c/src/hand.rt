@@ -1,0 +1,8 @@
+//! A reader between two calls.
+use nr_map::{Pin, Reader};
+
+/// A reader that holds nothing, or one that holds a set.
+pub enum Hand {
+    Idle(Reader),
+    Holds(Pin),
+}

@@ -1,0 +1,29 @@
+//! The running map for programs that aren't written in Rattle: a static library whose functions C
+//! calls. There is no algorithm here. Each function calls one of the map's and states its clauses
+//! again, of the token that a handle leads to; so the history that all callers share is the same
+//! one whichever language its callers are written in.
+//!
+//! C has a handle for each reader and one for the writer. A handle is one word, the place of a
+//! token on the heap or none, and contracts see the token. What C owes is each function's
+//! `requires`, and stands beside it in the header too: the handle is live and in the hands of one
+//! call at a time, a key is one of the map's. What costs nothing to test is tested.
+#![tactic(auto)]
+
+mod codes;
+mod deltas;
+mod hand;
+mod meets;
+mod open;
+mod parts;
+mod pins;
+mod reader_handle;
+mod reader_lend;
+mod reader_side;
+mod reads;
+mod rows;
+mod showing;
+mod sizes;
+mod writer_handle;
+mod writer_lend;
+mod writer_side;
+mod writes;

@@ -1,0 +1,65 @@
+//! A reader that holds a set.
+ghost use Rattle.std.specs.Prelude.{◌≡◌, ◌<◌, [], ◌∷◌, Some};
+ghost use Rattle.nr_map.specs.Callers.{Caller};
+ghost use Rattle.nr_map.specs.Pins.{Pinned};
+ghost use Rattle.nr_c.specs.declared.hand.Hand.TheVariants as hand;
+ghost use Rattle.nr_c.specs.declared.reader_side.ReaderSide.{ReaderSide as Held};
+ghost use Rattle.nr_c.specs.Pins.{PinsCells, Releases, ReadsRow};
+
+use crate::codes::{NR_HOLE, NR_NO_ROW, NR_ROWS};
+use crate::hand::Hand;
+use crate::reader_handle::NrReader;
+use crate::rows::NrRow;
+
+/// Finds a key, and holds its set, which stays as it is until the reader is released, whatever is
+/// filled, updated or evicted meanwhile. Answers `NR_ROWS` after 2 steps, and then `count` is the
+/// number of its rows; or `NR_HOLE` after 1, and then the reader holds nothing and `count` stays.
+#[unsafe(no_mangle)]
+pub extern "C" fn nr_pin(reader: &mut NrReader, key: u32, count: &mut u32) -> u32
+    requires live { (held : Held) × (idle : Caller) × (reader.old.live ≡ held ∷ []) × (held.hand ≡ Some (hand.Idle idle)) × (key < held.map.value.shape.keys) }
+    ensures { PinsCells key count.old count.new result reader.old.live reader.new.live }
+{
+    let side = reader.side();
+    let idle = side.take_reader();
+    match side.map.pin(idle, key) {
+        Ok(pin) => {
+            *count = pin.len();
+            side.put(Hand::Holds(pin));
+            NR_ROWS
+        }
+        Err(idle) => {
+            side.put(Hand::Idle(idle));
+            NR_HOLE
+        }
+    }
+}
+
+/// A row of the held set, from 0, in 2 steps: `NR_ROWS`. `NR_NO_ROW` where it has no such row, with
+/// no step, and `row` stays.
+#[unsafe(no_mangle)]
+pub extern "C" fn nr_row_at(reader: &mut NrReader, place: u32, row: &mut NrRow) -> u32
+    requires live { (held : Held) × (pin : Pinned) × (reader.old.live ≡ held ∷ []) × (held.hand ≡ Some (hand.Holds pin)) }
+    ensures { ReadsRow place row.old row.new result reader.old.live reader.new.live }
+{
+    let side = reader.side();
+    let mut pin = side.take_pin();
+    if place >= pin.len() {
+        side.put(Hand::Holds(pin));
+        return NR_NO_ROW;
+    }
+    *row = NrRow::of(pin.row(&side.map, place));
+    side.put(Hand::Holds(pin));
+    NR_ROWS
+}
+
+/// Ends the hold, in 1 step.
+#[unsafe(no_mangle)]
+pub extern "C" fn nr_release(reader: &mut NrReader)
+    requires live { (held : Held) × (pin : Pinned) × (reader.old.live ≡ held ∷ []) × (held.hand ≡ Some (hand.Holds pin)) }
+    ensures { Releases reader.old.live reader.new.live }
+{
+    let side = reader.side();
+    let pin = side.take_pin();
+    let idle = pin.release(&side.map);
+    side.put(Hand::Idle(idle));
+}

@@ -1,0 +1,63 @@
+//! A reader's handle: a box of a reader's side, or none, whose type names no other type, so that C
+//! may hold it.
+ghost use Rattle.std.specs.Prelude.{◌≡◌, List, [], ◌∷◌};
+ghost use base.Stored.{coded_list};
+ghost use Rattle.nr_c.specs.declared.reader_side.ReaderSide.{ReaderSide};
+ghost use Rattle.nr_c.specs.ReaderHandles.{side_coded, handle_owns};
+
+use crate::parts::Parts;
+use crate::reader_side::ReaderSide;
+use std::alloc::Global;
+use std::marker::Model;
+
+/// C starts one as zeros, which leads nowhere, and never copies one that leads somewhere.
+#[repr(C)]
+#[derive(Drop)]
+pub struct NrReader {
+    pub(crate) ptr: *mut u8,
+    alloc: Global,
+    pub ghost live: { List ReaderSide } by { coded_list side_coded },
+}
+
+impl Model for NrReader {
+    ghost also_owns = { λ s. handle_owns s.alloc s.ptr s.live };
+}
+
+// C may hand it to another thread.
+unsafe impl Send for NrReader {}
+
+impl NrReader {
+    pub fn new(b: Box<ReaderSide, Global>) -> NrReader
+        ensures { result.live ≡ b.value ∷ [] }
+    {
+        NrReader::of_parts(Parts::of(b))
+    }
+
+    pub fn into_box(self) -> Box<ReaderSide, Global>
+        requires { (side : ReaderSide) × (self.live ≡ side ∷ []) }
+        ensures { self.live ≡ result.value ∷ [] }
+    {
+        self.into_parts().into_box()
+    }
+
+    fn of_parts(parts: Parts<ReaderSide, Global>) -> NrReader
+        ensures { result.live ≡ parts.value ∷ [] }
+    {
+        let Parts { ptr, alloc } = parts;
+        NrReader {
+            ptr: ptr as *mut u8,
+            alloc,
+        }
+    }
+
+    fn into_parts(self) -> Parts<ReaderSide, Global>
+        requires { (side : ReaderSide) × (self.live ≡ side ∷ []) }
+        ensures { self.live ≡ result.value ∷ [] }
+    {
+        let NrReader { ptr, alloc } = self;
+        Parts {
+            ptr: ptr as *mut ReaderSide,
+            alloc,
+        }
+    }
+}

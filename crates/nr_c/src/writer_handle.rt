@@ -1,0 +1,63 @@
+//! The writer's handle: a box of the writer's side, or none, whose type names no other type, so that C
+//! may hold it.
+ghost use Rattle.std.specs.Prelude.{◌≡◌, List, [], ◌∷◌};
+ghost use base.Stored.{coded_list};
+ghost use Rattle.nr_c.specs.declared.writer_side.WriterSide.{WriterSide};
+ghost use Rattle.nr_c.specs.WriterHandles.{side_coded, handle_owns};
+
+use crate::parts::Parts;
+use crate::writer_side::WriterSide;
+use std::alloc::Global;
+use std::marker::Model;
+
+/// C starts one as zeros, which leads nowhere, and never copies one that leads somewhere.
+#[repr(C)]
+#[derive(Drop)]
+pub struct NrWriter {
+    pub(crate) ptr: *mut u8,
+    alloc: Global,
+    pub ghost live: { List WriterSide } by { coded_list side_coded },
+}
+
+impl Model for NrWriter {
+    ghost also_owns = { λ s. handle_owns s.alloc s.ptr s.live };
+}
+
+// C may hand it to another thread.
+unsafe impl Send for NrWriter {}
+
+impl NrWriter {
+    pub fn new(b: Box<WriterSide, Global>) -> NrWriter
+        ensures { result.live ≡ b.value ∷ [] }
+    {
+        NrWriter::of_parts(Parts::of(b))
+    }
+
+    pub fn into_box(self) -> Box<WriterSide, Global>
+        requires { (side : WriterSide) × (self.live ≡ side ∷ []) }
+        ensures { self.live ≡ result.value ∷ [] }
+    {
+        self.into_parts().into_box()
+    }
+
+    fn of_parts(parts: Parts<WriterSide, Global>) -> NrWriter
+        ensures { result.live ≡ parts.value ∷ [] }
+    {
+        let Parts { ptr, alloc } = parts;
+        NrWriter {
+            ptr: ptr as *mut u8,
+            alloc,
+        }
+    }
+
+    fn into_parts(self) -> Parts<WriterSide, Global>
+        requires { (side : WriterSide) × (self.live ≡ side ∷ []) }
+        ensures { self.live ≡ result.value ∷ [] }
+    {
+        let NrWriter { ptr, alloc } = self;
+        Parts {
+            ptr: ptr as *mut WriterSide,
+            alloc,
+        }
+    }
+}

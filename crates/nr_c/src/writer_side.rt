@@ -1,0 +1,19 @@
+//! What the writer's handle leads to.
+ghost use Rattle.std.specs.Prelude.{◌≡◌, All};
+
+use nr_map::{Reader, ReaderMap, Writer};
+use nr_model::RowSet;
+use std::alloc::Global;
+use std::sync::Arc;
+
+/// The writer with its share of the map, the set that goes to its calls and comes from them, and
+/// the readers that no handle has yet.
+#[derive(Drop)]
+pub struct WriterSide {
+    pub map: Arc<ReaderMap, Global>,
+    pub writer: Writer,
+    pub rows: RowSet,
+    pub spare: Vec<Reader, Global>,
+    ghost own: { writer.table ≡ map.value },
+    ghost spares: { All (λ reader. reader.table ≡ map.value) spare.items },
+}

@@ -1,0 +1,100 @@
+//! What the writer calls.
+ghost use Rattle.std.specs.Prelude.{◌≡◌, ◌<◌, [], ◌∷◌};
+ghost use Rattle.nr_c.specs.declared.writer_side.WriterSide.{WriterSide as Held};
+ghost use Rattle.nr_c.specs.Live.{WriterCalls};
+ghost use Rattle.nr_c.specs.Writes.{Cancels, Evicts, Fills, Looks, States, Updates};
+
+use crate::codes::{
+    NR_BAD_BATCH, NR_HOLE, NR_NOT_SORTED, NR_ROWS, NR_TOO_MANY, of_cancel, of_evict, of_fill,
+    of_kind, of_update,
+};
+use crate::deltas::batch_of;
+use crate::rows::{LentRows, NrDelta, NrRow, NrRows};
+use crate::writer_handle::NrWriter;
+use nr_map::Found;
+use nr_model::RowRoom;
+
+/// A find of the writer's own. 1 step for a hole, and 2n + 2 for n rows. Answers `NR_ROWS` or
+/// `NR_HOLE`, and the caller's cells stay as they are where the key is a hole.
+#[unsafe(no_mangle)]
+pub extern "C" fn nr_look(writer: &mut NrWriter, key: u32, rows: &mut NrRows) -> u32
+    requires live { (held : Held) × (writer.old.live ≡ held ∷ []) × (key < held.map.value.shape.keys) }
+    ensures { WriterCalls (Looks key rows.old rows.new result) writer.old.live writer.new.live }
+{
+    let side = writer.side();
+    match side.map.look(&mut side.writer, key, &mut side.rows) {
+        Found::Rows => {
+            rows.show(&side.rows);
+            NR_ROWS
+        }
+        Found::Hole => NR_HOLE,
+    }
+}
+
+/// Fills a key that was asked for, by the number of its request, with rows in ascending order.
+/// Answers `NR_TOO_MANY` where they are more than a key may have, and `NR_NOT_SORTED` where one is
+/// below the one before it, with no step; and else as the map's fill does: `NR_DONE`,
+/// `NR_NOT_ASKED`, `NR_ALREADY`, `NR_STALE` or `NR_NO_SLOT`.
+#[unsafe(no_mangle)]
+pub extern "C" fn nr_fill(writer: &mut NrWriter, key: u32, number: u64, rows: &[NrRow]) -> u32
+    requires live { (held : Held) × (writer.old.live ≡ held ∷ []) × (key < held.map.value.shape.keys) }
+    ensures { WriterCalls (Fills key number rows.now result) writer.old.live writer.new.live }
+{
+    let side = writer.side();
+    let mut lent = LentRows { rows };
+    if rows.len() > side.map.rows() as usize {
+        return NR_TOO_MANY;
+    }
+    if !lent.is_ascending() {
+        return NR_NOT_SORTED;
+    }
+    side.rows.refill(rows.len(), &mut lent);
+    of_fill(side.map.fill(&mut side.writer, key, number, &side.rows))
+}
+
+/// Applies a batch of 1 to 64 signed rows to the rows of a filled key, whole or not at all. Answers
+/// `NR_BAD_BATCH` where they are none or more, with no step; and else as the map's update does:
+/// `NR_DONE`, `NR_DROPPED`, `NR_NO_ROW`, `NR_TOO_MANY` or `NR_NO_SLOT`.
+#[unsafe(no_mangle)]
+pub extern "C" fn nr_update(writer: &mut NrWriter, key: u32, deltas: &[NrDelta]) -> u32
+    requires live { (held : Held) × (writer.old.live ≡ held ∷ []) × (key < held.map.value.shape.keys) }
+    ensures { WriterCalls (Updates key deltas.now result) writer.old.live writer.new.live }
+{
+    let side = writer.side();
+    let Some(batch) = batch_of(deltas) else {
+        return NR_BAD_BATCH;
+    };
+    of_update(side.map.update(&mut side.writer, key, &batch))
+}
+
+/// Makes a filled key a hole, in 2 steps, and 1 where it is not filled. Answers `NR_EVICTED` or
+/// `NR_NOTHING`.
+#[unsafe(no_mangle)]
+pub extern "C" fn nr_evict(writer: &mut NrWriter, key: u32) -> u32
+    requires live { (held : Held) × (writer.old.live ≡ held ∷ []) × (key < held.map.value.shape.keys) }
+    ensures { WriterCalls (Evicts key result) writer.old.live writer.new.live }
+{
+    let side = writer.side();
+    of_evict(side.map.evict(&mut side.writer, key))
+}
+
+/// Takes the request of a key back, in 2 steps, and 1 where nothing happens. Answers
+/// `NR_CANCELLED`, `NR_NOTHING` or `NR_WORN`.
+#[unsafe(no_mangle)]
+pub extern "C" fn nr_cancel(writer: &mut NrWriter, key: u32) -> u32
+    requires live { (held : Held) × (writer.old.live ≡ held ∷ []) × (key < held.map.value.shape.keys) }
+    ensures { WriterCalls (Cancels key result) writer.old.live writer.new.live }
+{
+    let side = writer.side();
+    of_cancel(side.map.cancel(&mut side.writer, key))
+}
+
+/// What a key is, in 1 step: `NR_HOLE`, `NR_ASKED` or `NR_ROWS`.
+#[unsafe(no_mangle)]
+pub extern "C" fn nr_state(writer: &mut NrWriter, key: u32) -> u32
+    requires live { (held : Held) × (writer.old.live ≡ held ∷ []) × (key < held.map.value.shape.keys) }
+    ensures { WriterCalls (States key result) writer.old.live writer.new.live }
+{
+    let side = writer.side();
+    of_kind(side.map.state(&mut side.writer, key))
+}

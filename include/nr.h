@@ -1,0 +1,188 @@
+/* A reader map for a partially stateful dataflow: many threads look keys up without a lock while one
+   fills, updates and evicts them. Each function calls the proved map of this repository; what it does
+   to the history that all callers share is its contract in crates/nr_c.
+
+   What the caller owes, in each function that takes them, and nothing tests:
+   - a handle starts as zeros, is live once its opening answered NR_DONE, and until it is closed. While
+     it is live nobody copies it or writes to it.
+   - a live handle is used by one call at a time. It goes to another thread by that thread's start or
+     join, by a lock, or by a sequentially consistent atomic.
+   - a key is below the keys that the map was opened with.
+   - a pointer leads to one value of its type that nobody else uses during the call; `rows` and `deltas`
+     lead to as many as the number after them says, which nobody writes during the call.
+   - no call is made from a signal handler, or in the forked child of a process with threads.
+
+   A step is one atomic operation on one 64-bit word. No call takes a lock or waits, and none but those
+   that open takes memory. Link: libnr.a (or libnr.so), and nothing else but the C library. */
+#ifndef NR_H
+#define NR_H
+
+#include <stddef.h>
+#include <stdint.h>
+
+#ifdef __cplusplus
+extern "C" {
+#endif
+
+/* ANSWERS. Each has a number of its own, whichever call it answers. */
+
+#define NR_ROWS 0u       /* the key is filled, and its rows stand where they were asked for */
+#define NR_HOLE 1u       /* the key is not filled */
+#define NR_SEND 2u       /* nobody asked before: the caller sends the request up */
+#define NR_WAITING 3u    /* a request is under way */
+#define NR_FILLED 4u     /* the key is filled */
+#define NR_DONE 5u       /* done; of an opening: the handle is live */
+#define NR_NOT_ASKED 6u  /* nobody asked for the key */
+#define NR_ALREADY 7u    /* the key is filled */
+#define NR_STALE 8u      /* the request that the fill answers was taken back */
+#define NR_DROPPED 9u    /* the key is not filled, so the update is dropped */
+#define NR_NO_ROW 10u    /* a row to be taken away is not there */
+#define NR_TOO_MANY 11u  /* more rows than a key may have */
+#define NR_NO_SLOT 12u   /* each slot is a filled key's or held by a reader */
+#define NR_EVICTED 13u   /* the key was filled and is a hole now */
+#define NR_CANCELLED 14u /* the request is taken back; the key's next one gets the next number */
+#define NR_NOTHING 15u   /* there was nothing to evict or to cancel */
+#define NR_WORN 16u      /* the request has the last number, 4,194,303: its own fill alone ends it */
+#define NR_ASKED 17u     /* a request is under way */
+#define NR_BAD_BATCH 18u /* no signed rows, or more than 64 */
+#define NR_NOT_SORTED 19u /* a row is below the one before it */
+#define NR_BAD_SIZE 20u  /* a size is out of its limits */
+#define NR_NO_MEMORY 21u /* there is no memory */
+#define NR_NO_READER 22u /* each reader had a handle already */
+
+/* VALUES */
+
+/* A row: two numbers, ordered by the first and then by the second. */
+typedef struct nr_row {
+  uint64_t a;
+  uint64_t b;
+} nr_row;
+
+/* Room for the rows of a key. The first `count` are in use, in ascending order. */
+typedef struct nr_rows {
+  uint64_t count;
+  nr_row row[255];
+} nr_rows;
+
+/* A row to be added where `plus` is not 0, and else to be taken away. */
+typedef struct nr_delta {
+  nr_row row;
+  uint64_t plus;
+} nr_delta;
+
+/* What a map is opened with: 1 to 65,536 keys, 1 to 131,072 slots, 1 to 1,024 readers, 1 to 255 rows a
+   key; any count at which the slots' departures begin, and a first number of requests up to 4,194,303.
+   With a slot for each key, each reader and one more no fill or update answers NR_NO_SLOT. The map
+   takes 8 bytes a key and 16 * rows + 16 a slot. */
+typedef struct nr_shape {
+  uint32_t keys;
+  uint32_t slots;
+  uint32_t readers;
+  uint32_t rows;
+  uint64_t first_count;
+  uint64_t first_number;
+} nr_shape;
+
+typedef struct nr_size {
+  uint32_t keys;
+  uint32_t slots;
+  uint32_t readers;
+  uint32_t rows;
+} nr_size;
+
+/* Handles: the writer's, of which a map has one, and a reader's. */
+typedef struct nr_writer {
+  void *at;
+} nr_writer;
+
+typedef struct nr_reader {
+  void *at;
+} nr_reader;
+
+/* OPENING AND CLOSING */
+
+/* Opens a map, and makes the writer's handle live. NR_DONE; NR_BAD_SIZE or NR_NO_MEMORY, and then the
+   handle stays as it was. Owed: `writer` is not live. */
+uint32_t nr_open(const nr_shape *shape, nr_writer *writer);
+
+/* Makes the handle of one of the map's readers live, those of higher numbers first. NR_DONE;
+   NR_NO_READER or NR_NO_MEMORY, and then the handle stays as it was. Owed: `writer` is live, `reader`
+   is not. */
+uint32_t nr_open_reader(nr_writer *writer, nr_reader *reader);
+
+/* End a handle, which is then not live. The map's memory goes with its last handle. The number of a
+   reader that was closed is not given again. Owed: the handle is live. */
+void nr_close_reader(nr_reader reader);
+void nr_close_writer(nr_writer writer);
+
+/* WHAT A READER CALLS. Owed: `reader` is live and holds no set, `key` is below the map's keys. */
+
+/* Looks a key up. NR_ROWS, and `rows` has its rows, after 2n + 3 steps for n of them; NR_HOLE after 1
+   step, and `rows` stays as it was. */
+uint32_t nr_find(nr_reader *reader, uint32_t key, nr_rows *rows);
+
+/* Requests a key, in 1 step. NR_SEND to the first since the key became a hole, and `number` is the
+   number of the request, which its fill has to name; NR_WAITING; NR_FILLED. `number` stays as it was
+   where it isn't NR_SEND. */
+uint32_t nr_ask(nr_reader *reader, uint32_t key, uint64_t *number);
+
+/* Finds a key and holds its set, which stays as it is until it is released, whatever is filled, updated
+   or evicted meanwhile; its slot isn't used anew before. NR_ROWS after 2 steps, and `count` is the number
+   of its rows; NR_HOLE after 1, and then the reader holds nothing and `count` stays. */
+uint32_t nr_pin(nr_reader *reader, uint32_t key, uint32_t *count);
+
+/* A row of the held set, from 0, in 2 steps: NR_ROWS. NR_NO_ROW where it has no such row, without a step,
+   and `row` stays. Owed: `reader` is live and holds a set. */
+uint32_t nr_row_at(nr_reader *reader, uint32_t place, nr_row *row);
+
+/* Ends the hold, in 1 step. Owed: `reader` is live and holds a set. A reader that is closed while it
+   holds a set is released. */
+void nr_release(nr_reader *reader);
+
+/* The map's sizes. No step. Owed: `reader` is live. */
+void nr_sizes(nr_reader *reader, nr_size *sizes);
+
+/* WHAT THE WRITER CALLS. Owed: `writer` is live, `key` is below the map's keys. */
+
+/* The writer's own find. NR_ROWS after 2n + 2 steps for n rows; NR_HOLE after 1, and `rows` stays as it
+   was. */
+uint32_t nr_look(nr_writer *writer, uint32_t key, nr_rows *rows);
+
+/* Fills a key that was asked for, by the number of its request, with n rows in ascending order, doubles
+   kept. NR_TOO_MANY and NR_NOT_SORTED without a step; NR_NOT_ASKED, NR_ALREADY or NR_STALE after 1;
+   NR_DONE after 2n + 3 and a step for each slot that it polled, at most one more than there are
+   readers; NR_NO_SLOT. */
+uint32_t nr_fill(nr_writer *writer, uint32_t key, uint64_t number, const nr_row *rows, size_t n);
+
+/* Applies 1 to 64 signed rows to the rows of a filled key, whole or not at all; all rows to be added
+   come before any is taken away. NR_BAD_BATCH without a step; NR_DROPPED after 1; with o rows before and
+   n after, NR_NO_ROW or NR_TOO_MANY after 2o + 2, NR_DONE after 2o + 2n + 4 and the polls; NR_NO_SLOT. */
+uint32_t nr_update(nr_writer *writer, uint32_t key, const nr_delta *deltas, size_t n);
+
+/* Makes a filled key a hole. NR_EVICTED after 2 steps, NR_NOTHING after 1. */
+uint32_t nr_evict(nr_writer *writer, uint32_t key);
+
+/* Takes the request of a key back, so that the next one is sent anew and a late answer to the old one is
+   NR_STALE. NR_CANCELLED after 2 steps; NR_NOTHING or NR_WORN after 1. */
+uint32_t nr_cancel(nr_writer *writer, uint32_t key);
+
+/* What a key is, in 1 step: NR_HOLE, NR_ASKED or NR_ROWS. */
+uint32_t nr_state(nr_writer *writer, uint32_t key);
+
+/* WHAT TOKENS LEARN OF EACH OTHER, in 3 steps for each that learns. It changes no key and no answer: it says
+   whose calls the one history has, in the contracts. Owed: both handles are live and of one map; the
+   readers hold no set, but that of nr_gather_pin holds one. */
+
+/* The reader learns all that the writer, or the other reader, has seen. */
+void nr_meet(nr_reader *reader, nr_writer *writer);
+void nr_meet_readers(nr_reader *reader, nr_reader *other);
+
+/* The writer learns all that the reader has seen, and then the reader all that the writer has. */
+void nr_gather(nr_writer *writer, nr_reader *reader);
+void nr_gather_pin(nr_writer *writer, nr_reader *reader);
+
+#ifdef __cplusplus
+}
+#endif
+
+#endif
