@@ -1,8 +1,8 @@
 //! A reader holds a set in a thread of its own while the writer updates its key.
 ghost use Rattle.std.specs.Prelude.{◌≡◌, ◌<◌, All, IfOk};
 
-use nr_map::{Asked, Found, KeyKind, Reader, ReaderMap, Writer};
 use crate::calls::fill;
+use nr_map::{Asked, Found, KeyKind, Reader, ReaderMap, Writer};
 use nr_model::{Batch, Delta, OpenFault, Row, RowSet};
 use std::alloc::Global;
 use std::process::Abort;
