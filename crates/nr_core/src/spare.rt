@@ -84,7 +84,11 @@ impl Spare {
         requires { place < length self.old.retired }
         ensures { self.new ≡ record self.old { retired = remove self.old.retired place } }
     {
-        self.retired.remove(place);
+        if place == 0 {
+            self.retired.pop_front();
+        } else {
+            self.retired.remove(place);
+        }
     }
 
     /// Retires the slot that a key's old word names, if it names one.

@@ -34,8 +34,8 @@ impl ReaderMap {
     /// Fills a key that was asked for, by the number of its request, with at most `rows()` rows.
     /// Refused where nobody asked, where the key is filled, where the key was asked with another
     /// number (`Stale`), and where it needs a slot and each one is a filled key's or held by a
-    /// reader. Takes 1 step where it is refused by the key, 2n + 3 and the polls for n rows where it is done, and 1 and a poll
-    /// of each retired slot where there is none.
+    /// reader. Takes 1 step where it is refused by the key, 2n + 3 and the polls for n rows where
+    /// it is done, and 1 and a poll of each retired slot where there is none.
     pub fn fill(
         &self,
         writer: &mut Writer,

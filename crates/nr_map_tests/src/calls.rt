@@ -7,14 +7,14 @@ use std::test::Fail;
 
 /// An answer to a request, whose ticket was spent.
 #[derive(Clone, Copy, Debug, PartialEq, Eq)]
-pub enum Told {
+pub(crate) enum Told {
     Send(u32),
     Waiting,
     Filled,
 }
 
 /// Spends a request's ticket.
-pub fn spent(asked: Asked) -> Told {
+pub(crate) fn spent(asked: Asked) -> Told {
     match asked {
         Asked::Send(ticket) => Told::Send(ticket.into_key()),
         Asked::Waiting => Told::Waiting,
@@ -23,7 +23,7 @@ pub fn spent(asked: Asked) -> Told {
 }
 
 /// The set of those rows.
-pub fn rows_of(pairs: &[(u64, u64)]) -> Result<RowSet, Fail> {
+pub(crate) fn rows_of(pairs: &[(u64, u64)]) -> Result<RowSet, Fail> {
     let mut rows = RowSet::new();
     for (a, b) in pairs {
         let mut batch = [Delta {
@@ -36,7 +36,7 @@ pub fn rows_of(pairs: &[(u64, u64)]) -> Result<RowSet, Fail> {
 }
 
 /// Fills a key. Fails where the set has more rows than a key may have.
-pub fn fill(
+pub(crate) fn fill(
     map: &ReaderMap,
     writer: &mut Writer,
     key: u32,
@@ -54,7 +54,7 @@ pub fn fill(
 }
 
 /// Whether the set has just these rows.
-pub fn pairs_are(rows: &RowSet, pairs: &[(u64, u64)]) -> bool {
+pub(crate) fn pairs_are(rows: &RowSet, pairs: &[(u64, u64)]) -> bool {
     rows.len() == pairs.len()
         && (0..pairs.len()).all(|i| rows.get(i)
             == Some(Row {
@@ -64,7 +64,7 @@ pub fn pairs_are(rows: &RowSet, pairs: &[(u64, u64)]) -> bool {
 }
 
 /// A batch that adds one row.
-pub fn added(number: u64) -> Result<Batch, Fail> {
+pub(crate) fn added(number: u64) -> Result<Batch, Fail> {
     Ok(Batch::of(&[Delta {
         plus: true,
         row: Row {
