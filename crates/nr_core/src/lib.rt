@@ -43,8 +43,6 @@ mod reached;
 mod roles;
 mod shape;
 mod spare;
-#[cfg(test)]
-mod tests;
 mod words;
 mod words_read;
 

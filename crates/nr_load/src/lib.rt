@@ -8,8 +8,6 @@ mod fault;
 mod flow;
 mod gets;
 mod load;
-#[cfg(test)]
-mod tests;
 mod workers;
 
 pub use draws::Draws;

@@ -4,7 +4,7 @@ ghost use Rattle.std.specs.Prelude.{◌≡◌, ◌<◌, IfOk};
 ghost use Rattle.std.specs.Bool.{OnTrue};
 ghost use Rattle.nr_model.specs.Maps.{FillFits, key_count, key_of};
 
-use crate::calls::fill;
+use crate::calls::{Told, ask, cancel, evict, fill, find, look, state, update};
 use nr_map::{
     Asked, Cancel, Evict, FillFault, Found, KeyKind, Reader, ReaderMap, Shape, UpdateFault, Writer,
 };
@@ -14,25 +14,6 @@ use nr_model::{
 use std::alloc::Global;
 use std::test::Fail;
 use std::thread::{Threads, join};
-
-/// An answer to a request, whose ticket was spent: its key and its number.
-#[derive(Clone, Copy, Debug, PartialEq, Eq)]
-enum Told {
-    Send(u32, u64),
-    Waiting,
-    Filled,
-}
-
-fn spent(asked: Asked) -> Told {
-    match asked {
-        Asked::Send(ticket) => {
-            let number = ticket.number();
-            Told::Send(ticket.into_key(), number)
-        }
-        Asked::Waiting => Told::Waiting,
-        Asked::Filled => Told::Filled,
-    }
-}
 
 fn one_row(a: u64) -> Result<RowSet, Fail> {
     Ok(RowSet::of(&[Row { a, b: a }])?)
@@ -60,25 +41,25 @@ fn a_late_answer_is_stale_and_the_last_number_is_worn(rt: HostRuntime) -> Result
         return Ok(());
     };
     let one = one_row(1)?;
-    assert_eq!(rt; spent(map.ask(&mut reader, 0)), Told::Send(0, 4_194_302));
-    assert_eq!(rt; map.cancel(&mut writer, 0), Cancel::Cancelled);
-    assert_eq!(rt; map.cancel(&mut writer, 0), Cancel::Nothing);
+    assert_eq!(rt; ask(&map, &mut reader, 0), Told::Send(0, 4_194_302));
+    assert_eq!(rt; cancel(&map, &mut writer, 0), Cancel::Cancelled);
+    assert_eq!(rt; cancel(&map, &mut writer, 0), Cancel::Nothing);
     assert_eq!(rt; map.number(&writer, 0), 4_194_303);
-    assert_eq!(rt; spent(map.ask(&mut reader, 0)), Told::Send(0, 4_194_303));
+    assert_eq!(rt; ask(&map, &mut reader, 0), Told::Send(0, 4_194_303));
     assert_eq!(rt;
         fill(&map, &mut writer, 0, 4_194_302, &one)?,
         Err(FillFault::Stale)
     );
-    assert_eq!(rt; map.cancel(&mut writer, 0), Cancel::Worn);
-    assert_eq!(rt; spent(map.ask(&mut reader, 0)), Told::Waiting);
+    assert_eq!(rt; cancel(&map, &mut writer, 0), Cancel::Worn);
+    assert_eq!(rt; ask(&map, &mut reader, 0), Told::Waiting);
     assert_eq!(rt; fill(&map, &mut writer, 0, 4_194_303, &one)?, Ok(()));
-    assert_eq!(rt; map.cancel(&mut writer, 0), Cancel::Nothing);
-    assert_eq!(rt; map.evict(&mut writer, 0), Evict::Evicted);
+    assert_eq!(rt; cancel(&map, &mut writer, 0), Cancel::Nothing);
+    assert_eq!(rt; evict(&map, &mut writer, 0), Evict::Evicted);
     assert_eq!(rt;
-        map.fill(&mut writer, 0, 0, &RowSet::new()),
+        fill(&map, &mut writer, 0, 0, &RowSet::new())?,
         Err(FillFault::NotAsked)
     );
-    assert_eq!(rt; spent(map.ask(&mut reader, 0)), Told::Send(0, 4_194_303));
+    assert_eq!(rt; ask(&map, &mut reader, 0), Told::Send(0, 4_194_303));
     let number = map.number(&writer, 0);
     assert_eq!(rt; fill(&map, &mut writer, 0, number, &one_row(2)?)?, Ok(()));
     Ok(())
@@ -91,26 +72,29 @@ fn a_worn_request_is_ended_by_its_own_fill_alone(rt: HostRuntime) -> Result<(), 
         return Ok(());
     };
     let none = RowSet::new();
-    assert_eq!(rt; spent(map.ask(&mut reader, 0)), Told::Send(0, 4_194_303));
-    assert_eq!(rt; map.cancel(&mut writer, 0), Cancel::Worn);
-    assert_eq!(rt; map.evict(&mut writer, 0), Evict::Nothing);
-    assert_eq!(rt; map.fill(&mut writer, 0, 0, &none), Err(FillFault::Stale));
+    assert_eq!(rt; ask(&map, &mut reader, 0), Told::Send(0, 4_194_303));
+    assert_eq!(rt; cancel(&map, &mut writer, 0), Cancel::Worn);
+    assert_eq!(rt; evict(&map, &mut writer, 0), Evict::Nothing);
     assert_eq!(rt;
-        map.fill(&mut writer, 0, 4_194_302, &none),
+        fill(&map, &mut writer, 0, 0, &none)?,
         Err(FillFault::Stale)
     );
     assert_eq!(rt;
-        map.fill(&mut writer, 0, 4_194_304, &none),
+        fill(&map, &mut writer, 0, 4_194_302, &none)?,
         Err(FillFault::Stale)
     );
     assert_eq!(rt;
-        map.fill(&mut writer, 0, u64::MAX, &none),
+        fill(&map, &mut writer, 0, 4_194_304, &none)?,
         Err(FillFault::Stale)
     );
-    assert_eq!(rt; map.cancel(&mut writer, 0), Cancel::Worn);
-    assert_eq!(rt; map.state(&mut writer, 0), KeyKind::Asked);
-    assert_eq!(rt; map.fill(&mut writer, 0, 4_194_303, &none), Ok(()));
-    assert_eq!(rt; map.state(&mut writer, 0), KeyKind::Rows);
+    assert_eq!(rt;
+        fill(&map, &mut writer, 0, u64::MAX, &none)?,
+        Err(FillFault::Stale)
+    );
+    assert_eq!(rt; cancel(&map, &mut writer, 0), Cancel::Worn);
+    assert_eq!(rt; state(&map, &mut writer, 0), KeyKind::Asked);
+    assert_eq!(rt; fill(&map, &mut writer, 0, 4_194_303, &none)?, Ok(()));
+    assert_eq!(rt; state(&map, &mut writer, 0), KeyKind::Rows);
     Ok(())
 }
 
@@ -131,7 +115,7 @@ fn ask_often(map: &ReaderMap, mut reader: Reader) -> (Option<Told>, Reader)
 {
     let mut sent = None;
     for _ in 0..TURNS {
-        let told = spent(map.ask(&mut reader, 0));
+        let told = ask(map, &mut reader, 0);
         if told != Told::Waiting {
             sent = Some(told);
         }
@@ -146,7 +130,7 @@ fn answer_late(map: &ReaderMap, mut writer: Writer) -> (bool, Writer)
     requires key { 0 < map.now.shape.keys }
     ensures own { result.1.table ≡ map.now }
 {
-    let mut refused = map.cancel(&mut writer, 0) == Cancel::Cancelled;
+    let mut refused = cancel(map, &mut writer, 0) == Cancel::Cancelled;
     let late = RowSet::new();
     for _ in 0..TURNS {
         let filled = map.fill(&mut writer, 0, 0, &late);
@@ -185,17 +169,17 @@ fn a_late_answer_is_refused_beside_a_reader_that_asks_again(rt: HostRuntime) -> 
     let Some(mut reader) = readers.pop() else {
         return Ok(());
     };
-    assert_eq!(rt; spent(map.ask(&mut reader, 0)), Told::Send(0, 0));
+    assert_eq!(rt; ask(&map, &mut reader, 0), Told::Send(0, 0));
     let ((refused, mut writer), (sent, mut reader)) = late_beside_again(&rt, &map, writer, reader);
     assert!(rt; refused);
     let again = Told::Send(0, 1);
     if sent != Some(again) {
         assert_eq!(rt; sent, None);
-        assert_eq!(rt; spent(map.ask(&mut reader, 0)), again);
+        assert_eq!(rt; ask(&map, &mut reader, 0), again);
     }
-    assert_eq!(rt; spent(map.ask(&mut reader, 0)), Told::Waiting);
+    assert_eq!(rt; ask(&map, &mut reader, 0), Told::Waiting);
     assert_eq!(rt; fill(&map, &mut writer, 0, 1, &one_row(1)?)?, Ok(()));
-    assert_eq!(rt; spent(map.ask(&mut reader, 0)), Told::Filled);
+    assert_eq!(rt; ask(&map, &mut reader, 0), Told::Filled);
     Ok(())
 }
 
@@ -271,7 +255,7 @@ fn answers(
     match call {
         Call::Find(key) => finds(map, reader, *key, reply),
         Call::Ask(key) => {
-            let told = spent(map.ask(reader, *key));
+            let told = ask(map, reader, *key);
             match reply {
                 Reply::Send(number) => told == Told::Send(*key, *number),
                 Reply::Waiting => told == Told::Waiting,
@@ -286,18 +270,18 @@ fn answers(
             Err(FillFault::Stale) => matches!(reply, Reply::Stale),
             Err(FillFault::NoSlot(_)) => false,
         },
-        Call::Update(key, batch) => match map.update(writer, *key, batch) {
+        Call::Update(key, batch) => match update(map, writer, *key, batch) {
             Ok(()) => matches!(reply, Reply::Done),
             Err(UpdateFault::Dropped) => matches!(reply, Reply::Dropped),
             Err(UpdateFault::NoRow) => matches!(reply, Reply::NoRow),
             Err(UpdateFault::TooMany) => matches!(reply, Reply::TooMany),
             Err(UpdateFault::NoSlot(_)) => false,
         },
-        Call::Evict(key) => match map.evict(writer, *key) {
+        Call::Evict(key) => match evict(map, writer, *key) {
             Evict::Evicted => matches!(reply, Reply::Evicted),
             Evict::Nothing => matches!(reply, Reply::Nothing),
         },
-        Call::Cancel(key) => match map.cancel(writer, *key) {
+        Call::Cancel(key) => match cancel(map, writer, *key) {
             Cancel::Cancelled => matches!(reply, Reply::Cancelled),
             Cancel::Nothing => matches!(reply, Reply::Nothing),
             Cancel::Worn => matches!(reply, Reply::Worn),
@@ -311,7 +295,7 @@ fn finds(map: &ReaderMap, reader: &mut Reader, key: u32, reply: &Reply) -> bool
     ensures own { reader.new.table ≡ map.now }
 {
     let mut rows = RowSet::new();
-    match (map.find(reader, key, &mut rows), reply) {
+    match (find(map, reader, key, &mut rows), reply) {
         (Found::Rows, Reply::Rows(expected)) => same_rows(&rows, expected),
         (Found::Hole, Reply::Hole) => true,
         _ => false,
@@ -326,8 +310,8 @@ fn is_as(map: &ReaderMap, writer: &mut Writer, key: u32, expected: &KeyState) ->
 {
     let same_number = map.number(writer, key) == expected.number();
     let mut rows = RowSet::new();
-    let kind = map.state(writer, key);
-    let found = map.look(writer, key, &mut rows);
+    let kind = state(map, writer, key);
+    let found = look(map, writer, key, &mut rows);
     same_number
         && match expected {
             KeyState::Hole(_) => kind == KeyKind::Hole && found == Found::Hole,

@@ -1,7 +1,7 @@
 //! A reader holds a set in a thread of its own while the writer updates its key.
 ghost use Rattle.std.specs.Prelude.{◌≡◌, ◌<◌, All, IfOk};
 
-use crate::calls::fill;
+use crate::calls::{fill, look, state};
 use nr_map::{Asked, Found, KeyKind, Reader, ReaderMap, Writer};
 use nr_model::{Batch, Delta, OpenFault, Row, RowSet};
 use std::alloc::Global;
@@ -179,10 +179,10 @@ fn learns_all(
     map.gather(&mut writer, &mut one);
     map.gather(&mut writer, &mut two);
     let mut rows = RowSet::new();
-    assert_eq!(rt; map.look(&mut writer, 0, &mut rows), Found::Rows);
+    assert_eq!(rt; look(map, &mut writer, 0, &mut rows), Found::Rows);
     assert_eq!(rt; rows.len(), 1);
     assert_eq!(rt; rows.get(0), Some(row(7, 8)));
-    assert_eq!(rt; map.state(&mut writer, 1), KeyKind::Asked);
+    assert_eq!(rt; state(map, &mut writer, 1), KeyKind::Asked);
 }
 
 #[test]

@@ -1,7 +1,7 @@
 //! Maps whose keys may have few rows or many, and what a find leaves of a caller's old rows.
 ghost use Rattle.std.specs.Prelude.{◌≡◌, ◌<◌, IfOk};
 
-use crate::calls::{Told, fill, pairs_are, rows_of, spent};
+use crate::calls::{Told, ask, fill, find, look, pairs_are, rows_of, update};
 use nr_map::{Found, MAX_READERS, MAX_SLOTS, Reader, ReaderMap, Shape, UpdateFault, Writer};
 use nr_model::{Batch, Delta, MAX_KEYS, MAX_ROWS, OpenFault, Row, RowSet};
 use std::alloc::Global;
@@ -69,22 +69,23 @@ fn is_filled_to_its_bound(
     requires key { 2 < map.now.shape.keys }
 {
     let bound = map.rows();
-    let asked = spent(map.ask(reader, 2));
+    let asked = ask(map, reader, 2);
     let filled = fill(map, writer, 2, 0, &numbered(bound)?)?;
     let mut found = RowSet::new();
-    map.find(reader, 2, &mut found);
+    find(map, reader, 2, &mut found);
     let full = is_numbered(&found, 1, bound);
-    let one_more = map.update(writer, 2, &Batch::of(&[delta(true, 0)])?);
-    map.find(reader, 2, &mut found);
+    let one_more = update(map, writer, 2, &Batch::of(&[delta(true, 0)])?);
+    find(map, reader, 2, &mut found);
     let full_still = is_numbered(&found, 1, bound);
-    let one_other = map.update(
+    let one_other = update(
+        map,
         writer,
         2,
         &Batch::of(&[delta(true, 0), delta(false, u64::from(bound))])?,
     );
-    map.find(reader, 2, &mut found);
+    find(map, reader, 2, &mut found);
     Ok(
-        asked == Told::Send(2)
+        asked == Told::Send(2, 0)
             && filled == Ok(())
             && full
             && one_more == Err(UpdateFault::TooMany)
@@ -126,8 +127,8 @@ fn shows(
     ensures reader { reader.new.table ≡ map.now }
 {
     let mut looked = *set;
-    let found = map.find(reader, key, set);
-    let seen = map.look(writer, key, &mut looked);
+    let found = find(map, reader, key, set);
+    let seen = look(map, writer, key, &mut looked);
     found == Found::Rows
         && seen == Found::Rows
         && pairs_are(set, pairs)
@@ -142,9 +143,9 @@ fn a_find_leaves_nothing_of_the_old_rows(rt: HostRuntime) -> Result<(), Fail> {
     };
     let many = [(1, 9), (2, 8), (3, 7), (4, 6), (5, 5)];
     let few = [(0, 4), (6, 3)];
-    assert_eq!(rt; spent(map.ask(&mut reader, 0)), Told::Send(0));
-    assert_eq!(rt; spent(map.ask(&mut reader, 1)), Told::Send(1));
-    assert_eq!(rt; spent(map.ask(&mut reader, 2)), Told::Send(2));
+    assert_eq!(rt; ask(&map, &mut reader, 0), Told::Send(0, 0));
+    assert_eq!(rt; ask(&map, &mut reader, 1), Told::Send(1, 0));
+    assert_eq!(rt; ask(&map, &mut reader, 2), Told::Send(2, 0));
     assert_eq!(rt; fill(&map, &mut writer, 0, 0, &rows_of(&many)?)?, Ok(()));
     assert_eq!(rt; fill(&map, &mut writer, 1, 0, &rows_of(&few)?)?, Ok(()));
     assert_eq!(rt; fill(&map, &mut writer, 2, 0, &RowSet::new())?, Ok(()));
@@ -173,12 +174,12 @@ fn the_largest_map_is_opened_and_used(rt: HostRuntime) -> Result<(), Fail> {
     };
     assert_eq!(rt; reader.number(), MAX_READERS);
     let last = MAX_KEYS - 1;
-    assert_eq!(rt; spent(map.ask(&mut reader, last)), Told::Send(last));
+    assert_eq!(rt; ask(&map, &mut reader, last), Told::Send(last, 0));
     assert_eq!(rt; fill(&map, &mut writer, last, 0, &numbered(255)?)?, Ok(()));
     let batch = Batch::of(&[delta(true, 0), delta(false, 255)])?;
-    assert_eq!(rt; map.update(&mut writer, last, &batch), Ok(()));
+    assert_eq!(rt; update(&map, &mut writer, last, &batch), Ok(()));
     let mut found = RowSet::new();
-    assert_eq!(rt; map.find(&mut reader, last, &mut found), Found::Rows);
+    assert_eq!(rt; find(&map, &mut reader, last, &mut found), Found::Rows);
     assert!(rt; is_numbered(&found, 0, 255));
     Ok(())
 }

@@ -2,7 +2,7 @@
 //! the threads' steps fall.
 ghost use Rattle.std.specs.Prelude.{◌≡◌, ◌<◌};
 
-use crate::calls::{Told, added, fill, pairs_are, rows_of, spent};
+use crate::calls::{Told, added, ask, fill, find, look, pairs_are, rows_of, state, update};
 use nr_map::{Asked, Found, KeyKind, NoSlot, Pin, Reader, ReaderMap, UpdateFault, Writer};
 use nr_model::{Batch, Delta, Row, RowSet};
 use std::test::Fail;
@@ -49,7 +49,7 @@ fn update_between_pins(
     let Ok(mut first) = map.pin(one, 0) else {
         return Err(Fail::from("the first reader found a hole"));
     };
-    let by_two = map.update(writer, 0, &two_more);
+    let by_two = update(map, writer, 0, &two_more);
     let mut second = match map.pin(two, 0) {
         Ok(second) => second,
         Err(_) => {
@@ -57,9 +57,9 @@ fn update_between_pins(
             return Err(Fail::from("the second reader found a hole"));
         }
     };
-    let by_three = map.update(writer, 0, &three_more);
-    let by_four = map.update(writer, 0, &four_more);
-    let by_five = map.update(writer, 0, &five_more);
+    let by_three = update(map, writer, 0, &three_more);
+    let by_four = update(map, writer, 0, &four_more);
+    let by_five = update(map, writer, 0, &five_more);
     let pinned = Pinned {
         one: [shown(map, &mut first, 0), shown(map, &mut first, 1)],
         two: [
@@ -79,7 +79,7 @@ fn with_slots(rt: &HostRuntime, slots: u32) -> Result<Pinned, Fail> {
     let (map, mut writer, mut readers) = ReaderMap::open(rt.alloc(), 1, slots, 2, 0)?;
     let two = readers.pop().ok_or("no second reader")?;
     let mut one = readers.pop().ok_or("no first reader")?;
-    if spent(map.ask(&mut one, 0)) != Told::Send(0) {
+    if ask(&map, &mut one, 0) != Told::Send(0, 0) {
         return Err(Fail::from("the key was asked for already"));
     }
     fill(&map, &mut writer, 0, 0, &rows_of(&[(1, 1)])?)??;
@@ -145,7 +145,7 @@ fn update_often(map: &ReaderMap, mut writer: Writer) -> Result<u32, Fail>
     let mut done = 0;
     for turn in 0..TURNS {
         let batch = if turn % 2 == 0 { &plus } else { &minus };
-        if map.update(&mut writer, 0, batch).is_ok() {
+        if update(map, &mut writer, 0, batch).is_ok() {
             done = u32::min(done, TURNS) + 1;
         }
     }
@@ -225,8 +225,8 @@ fn updates_beside_pins_are_all_done(rt: HostRuntime) -> Result<(), Fail> {
     let Some(mut one) = readers.pop() else {
         return Err(Fail::from("too few readers"));
     };
-    assert_eq!(rt; spent(map.ask(&mut one, 0)), Told::Send(0));
-    map.fill(&mut writer, 0, 0, &RowSet::new())?;
+    assert_eq!(rt; ask(&map, &mut one, 0), Told::Send(0, 0));
+    fill(&map, &mut writer, 0, 0, &RowSet::new())??;
     let (updates, pins) = update_beside(&rt, &map, writer, one, two, three);
     assert_eq!(rt; updates?, TURNS);
     assert_eq!(rt; pins, (TURNS, (TURNS, TURNS)));
@@ -278,7 +278,7 @@ fn finds_by_meeting(
 {
     map.meet(one, writer);
     map.meet_readers(two, one);
-    map.find(two, 0, rows)
+    find(map, two, 0, rows)
 }
 
 #[test]
@@ -295,7 +295,7 @@ fn tokens_meet(rt: HostRuntime) -> Result<(), Fail> {
     assert!(rt; pairs_are(&rows, &[(5, 5)]));
     assert_eq!(rt; gathered(&map, &mut writer, one), Some((1, row(5))));
     map.gather(&mut writer, &mut two);
-    assert_eq!(rt; map.state(&mut writer, 0), KeyKind::Rows);
-    assert_eq!(rt; map.state(&mut writer, 1), KeyKind::Asked);
+    assert_eq!(rt; state(&map, &mut writer, 0), KeyKind::Rows);
+    assert_eq!(rt; state(&map, &mut writer, 1), KeyKind::Asked);
     Ok(())
 }

@@ -1,7 +1,7 @@
 //! Threads over one map. What is asserted does not depend on how their steps fall.
 ghost use Rattle.std.specs.Prelude.{◌≡◌, ◌<◌};
 
-use crate::calls::{Told, added, fill, pairs_are, rows_of, spent};
+use crate::calls::{Told, added, ask, evict, fill, find, look, pairs_are, rows_of, update};
 use nr_map::{Evict, FillFault, Found, NoSlot, Reader, ReaderMap, UpdateFault, Writer};
 use nr_model::{Batch, Delta, OpenFault, Row, RowSet};
 use std::sync::atomic::{AtomicBool, Ordering};
@@ -13,7 +13,7 @@ fn ask_once(map: &ReaderMap, mut reader: Reader) -> (Told, Reader)
     requires key { 0 < map.now.shape.keys }
     ensures own { result.1.table ≡ map.now }
 {
-    let told = spent(map.ask(&mut reader, 0));
+    let told = ask(map, &mut reader, 0);
     (told, reader)
 }
 
@@ -48,22 +48,22 @@ fn one_of_two_requests_is_sent(rt: HostRuntime) -> Result<(), Fail> {
     };
     let ((first, mut one), (second, _two)) = both_ask(&rt, &map, one, two);
     assert!(rt;
-        (first, second) == (Told::Send(0), Told::Waiting)
-            || (first, second) == (Told::Waiting, Told::Send(0))
+        (first, second) == (Told::Send(0, 0), Told::Waiting)
+            || (first, second) == (Told::Waiting, Told::Send(0, 0))
     );
     assert_eq!(rt;
         fill(&map, &mut writer, 0, 0, &rows_of(&[(5, 6)])?)?,
         Ok(())
     );
     let mut rows = RowSet::new();
-    assert_eq!(rt; map.look(&mut writer, 0, &mut rows), Found::Rows);
+    assert_eq!(rt; look(&map, &mut writer, 0, &mut rows), Found::Rows);
     assert!(rt; pairs_are(&rows, &[(5, 6)]));
     let mut found = RowSet::new();
-    assert_eq!(rt; map.find(&mut one, 0, &mut found), Found::Rows);
+    assert_eq!(rt; find(&map, &mut one, 0, &mut found), Found::Rows);
     assert!(rt; pairs_are(&found, &[(5, 6)]));
-    assert_eq!(rt; map.evict(&mut writer, 0), Evict::Evicted);
-    assert_eq!(rt; map.look(&mut writer, 0, &mut rows), Found::Hole);
-    assert_eq!(rt; map.find(&mut one, 0, &mut found), Found::Hole);
+    assert_eq!(rt; evict(&map, &mut writer, 0), Evict::Evicted);
+    assert_eq!(rt; look(&map, &mut writer, 0, &mut rows), Found::Hole);
+    assert_eq!(rt; find(&map, &mut one, 0, &mut found), Found::Hole);
     assert!(rt;
         pairs_are(&found, &[(5, 6)]),
         "a hole leaves the caller's set"
@@ -77,15 +77,15 @@ fn updates_use_slots_again(rt: HostRuntime) -> Result<(), Fail> {
     let Some(mut reader) = readers.pop() else {
         return Ok(());
     };
-    assert_eq!(rt; spent(map.ask(&mut reader, 0)), Told::Send(0));
+    assert_eq!(rt; ask(&map, &mut reader, 0), Told::Send(0, 0));
     assert_eq!(rt;
         fill(&map, &mut writer, 0, 0, &rows_of(&[(1, 1)])?)?,
         Ok(())
     );
-    assert_eq!(rt; map.update(&mut writer, 0, &added(2)?), Ok(()));
-    assert_eq!(rt; map.update(&mut writer, 0, &added(3)?), Ok(()));
+    assert_eq!(rt; update(&map, &mut writer, 0, &added(2)?), Ok(()));
+    assert_eq!(rt; update(&map, &mut writer, 0, &added(3)?), Ok(()));
     let mut rows = RowSet::new();
-    assert_eq!(rt; map.look(&mut writer, 0, &mut rows), Found::Rows);
+    assert_eq!(rt; look(&map, &mut writer, 0, &mut rows), Found::Rows);
     assert!(rt; pairs_are(&rows, &[(1, 1), (2, 2), (3, 3)]));
     Ok(())
 }
@@ -103,16 +103,16 @@ fn only_a_requested_key_is_filled(rt: HostRuntime) -> Result<(), Fail> {
         Err(FillFault::NotAsked)
     );
     assert_eq!(rt;
-        map.update(&mut writer, 0, &added(2)?),
+        update(&map, &mut writer, 0, &added(2)?),
         Err(UpdateFault::Dropped)
     );
-    assert_eq!(rt; map.evict(&mut writer, 0), Evict::Nothing);
-    assert_eq!(rt; spent(map.ask(&mut reader, 0)), Told::Send(0));
+    assert_eq!(rt; evict(&map, &mut writer, 0), Evict::Nothing);
+    assert_eq!(rt; ask(&map, &mut reader, 0), Told::Send(0, 0));
     assert_eq!(rt;
-        map.update(&mut writer, 0, &added(2)?),
+        update(&map, &mut writer, 0, &added(2)?),
         Err(UpdateFault::Dropped)
     );
-    assert_eq!(rt; map.evict(&mut writer, 0), Evict::Nothing);
+    assert_eq!(rt; evict(&map, &mut writer, 0), Evict::Nothing);
     Ok(())
 }
 
@@ -123,19 +123,19 @@ fn a_filled_key_is_refused(rt: HostRuntime) -> Result<(), Fail> {
         return Ok(());
     };
     let one = rows_of(&[(1, 1)])?;
-    assert_eq!(rt; spent(map.ask(&mut reader, 0)), Told::Send(0));
+    assert_eq!(rt; ask(&map, &mut reader, 0), Told::Send(0, 0));
     assert_eq!(rt; fill(&map, &mut writer, 0, 0, &one)?, Ok(()));
     assert_eq!(rt;
         fill(&map, &mut writer, 0, 0, &one)?,
         Err(FillFault::Already)
     );
-    assert_eq!(rt; spent(map.ask(&mut reader, 0)), Told::Filled);
+    assert_eq!(rt; ask(&map, &mut reader, 0), Told::Filled);
     let lacking = Batch::of(&[Delta {
         plus: false,
         row: Row { a: 9, b: 9 },
     }])?;
     assert_eq!(rt;
-        map.update(&mut writer, 0, &lacking),
+        update(&map, &mut writer, 0, &lacking),
         Err(UpdateFault::NoRow)
     );
     let many = Batch::of(&[Delta {
@@ -143,7 +143,7 @@ fn a_filled_key_is_refused(rt: HostRuntime) -> Result<(), Fail> {
         row: Row { a: 2, b: 2 },
     }; 15])?;
     assert_eq!(rt;
-        map.update(&mut writer, 0, &many),
+        update(&map, &mut writer, 0, &many),
         Err(UpdateFault::TooMany)
     );
     Ok(())
@@ -157,21 +157,21 @@ fn a_slot_is_free_again_once_its_key_is_evicted(rt: HostRuntime) -> Result<(), F
     };
     let one = rows_of(&[(1, 1)])?;
     let none = NoSlot { live: 1, held: 0 };
-    assert_eq!(rt; spent(map.ask(&mut reader, 0)), Told::Send(0));
-    assert_eq!(rt; spent(map.ask(&mut reader, 1)), Told::Send(1));
+    assert_eq!(rt; ask(&map, &mut reader, 0), Told::Send(0, 0));
+    assert_eq!(rt; ask(&map, &mut reader, 1), Told::Send(1, 0));
     assert_eq!(rt; fill(&map, &mut writer, 0, 0, &one)?, Ok(()));
     assert_eq!(rt;
-        map.update(&mut writer, 0, &added(2)?),
+        update(&map, &mut writer, 0, &added(2)?),
         Err(UpdateFault::NoSlot(none))
     );
     assert_eq!(rt;
         fill(&map, &mut writer, 1, 0, &one)?,
         Err(FillFault::NoSlot(none))
     );
-    assert_eq!(rt; map.evict(&mut writer, 0), Evict::Evicted);
+    assert_eq!(rt; evict(&map, &mut writer, 0), Evict::Evicted);
     assert_eq!(rt; fill(&map, &mut writer, 1, 0, &one)?, Ok(()));
     let mut rows = RowSet::new();
-    assert_eq!(rt; map.look(&mut writer, 1, &mut rows), Found::Rows);
+    assert_eq!(rt; look(&map, &mut writer, 1, &mut rows), Found::Rows);
     assert!(rt; pairs_are(&rows, &[(1, 1)]));
     Ok(())
 }
@@ -229,13 +229,13 @@ fn find_often(map: &ReaderMap, mut reader: Reader, hit: &AtomicBool) -> bool
     let mut rows = RowSet::new();
     let mut whole = true;
     for _ in 0..TURNS {
-        match map.find(&mut reader, 0, &mut rows) {
+        match find(map, &mut reader, 0, &mut rows) {
             Found::Rows => {
                 whole = whole && is_whole(&rows);
                 hit.store(true, Ordering::SeqCst);
             }
             Found::Hole => {
-                let _ = spent(map.ask(&mut reader, 0));
+                let _ = ask(map, &mut reader, 0);
             }
         }
     }
@@ -250,14 +250,14 @@ fn write_often(map: &ReaderMap, mut writer: Writer, hits: &Hits) -> Result<bool,
     let mut rows = RowSet::new();
     let mut whole = true;
     for mark in 0..TURNS {
-        if map.look(&mut writer, 0, &mut rows) == Found::Rows {
+        if look(map, &mut writer, 0, &mut rows) == Found::Rows {
             whole = whole && is_whole(&rows);
         }
         let evicts = mark % 4 == 3 && hits.both();
         if evicts {
-            let _ = map.evict(&mut writer, 0);
+            let _ = evict(map, &mut writer, 0);
         } else if fill(map, &mut writer, 0, 0, &marked(mark)?)? == Err(FillFault::Already) {
-            let _ = map.update(&mut writer, 0, &renewal(&rows, mark)?);
+            let _ = update(map, &mut writer, 0, &renewal(&rows, mark)?);
         }
     }
     Ok(whole)
@@ -332,7 +332,7 @@ fn sets_are_found_whole(rt: HostRuntime) -> Result<(), Fail> {
     let (Some(two), Some(mut one)) = (readers.pop(), readers.pop()) else {
         return Ok(());
     };
-    assert_eq!(rt; spent(map.ask(&mut one, 0)), Told::Send(0));
+    assert_eq!(rt; ask(&map, &mut one, 0), Told::Send(0, 0));
     assert_eq!(rt; fill(&map, &mut writer, 0, 0, &marked(0)?)?, Ok(()));
     let hits = Hits {
         one: AtomicBool::new(false),

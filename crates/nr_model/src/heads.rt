@@ -21,6 +21,9 @@ pub enum Head {
     Rows(u64, usize),
 }
 
+// What a key takes at fifteen rows.
+const _: () = prove!(size_of::<Head>() + 15 * size_of::<Row>() == 264);
+
 impl Head {
     /// The key's state.
     pub fn state(&self, run: &[Row]) -> KeyState

@@ -14,8 +14,6 @@ mod seq_map;
 mod sizes;
 mod source;
 mod states;
-#[cfg(test)]
-mod tests;
 
 pub use batches::{ApplyFault, Batch, BatchFault, Delta, MAX_DELTAS};
 pub use calls::{Call, Reply};

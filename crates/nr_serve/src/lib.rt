@@ -10,10 +10,6 @@ mod hands;
 mod lobby;
 mod places;
 mod source;
-#[cfg(test)]
-mod tests;
-#[cfg(test)]
-mod thread_tests;
 mod tries;
 
 pub use answers::Got;

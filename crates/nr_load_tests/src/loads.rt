@@ -1,5 +1,5 @@
 //! Whole loads. What is asserted does not depend on how the threads' steps fall.
-use crate::{LoadFault, LoadReport, Plan, run_load};
+use nr_load::{LoadFault, LoadReport, Plan, run_load};
 use nr_serve::{Gate, OpenGate};
 use std::sync::atomic::{AtomicBool, AtomicU64, Ordering};
 use std::test::Fail;

@@ -3,7 +3,7 @@ ghost use Rattle.std.specs.Prelude.{IsTrue};
 ghost use Rattle.nr_model.specs.Maps.{FillFits};
 ghost use Rattle.nr_core.specs.Story.{call_of};
 
-use super::{
+use nr_core::{
     Arrived, AskReply, Core, MAX_READERS, MAX_SLOTS, NoSlot, OpenFault, Refusal, Shape, Step,
     WReply, WriterCall,
 };

@@ -2,9 +2,9 @@
 ghost use Rattle.std.specs.Prelude.{◌≡◌, ◌≤◌, ℕ, All, IfOk, length};
 ghost use Rattle.nr_model.specs.declared.rows.TheConstants.{MAX_ROWS};
 
-use crate::{Client, Dataflow, Gate, Got, Lobby, OpenGate, Source, Turn};
 use nr_map::{Cancel, Evict, NoSlot, Reader, ReaderMap, Shape, UpdateFault, Writer};
 use nr_model::{Batch, Delta, MAX_ROWS, OpenFault, Row, RowSet, TooMany};
+use nr_serve::{Client, Dataflow, Gate, Got, Lobby, OpenGate, Source, Turn};
 use nr_trigger::{Poster, Taker, Triggers};
 use std::alloc::Global;
 use std::process::Abort;

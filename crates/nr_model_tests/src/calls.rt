@@ -1,12 +1,12 @@
+//! Calls of the sequential map, sets and batches, with the answers that they must give.
 ghost use Rattle.std.specs.Prelude.{◌≡◌, ◌<◌, ◌≤◌, length, IfOk};
 ghost use Rattle.nr_model.specs.declared.rows.TheConstants.{MAX_ROWS};
 
-use super::{
+use nr_model::{
     ApplyFault, Batch, BatchFault, Call, DEFAULT_ROWS, Delta, KeyState, LAST_NUMBER, MAX_KEYS,
     MAX_ROWS, OpenFault, Pile, Reply, Row, RowRoom, RowSet, RowSource, SeqMap, TooMany,
     is_bad_size,
 };
-use crate::heads::Head;
 use std::alloc::Global;
 use std::process::Abort;
 use std::test::Fail;
@@ -334,12 +334,6 @@ fn a_key_is_filled_with_255_rows(rt: HostRuntime) -> Result<(), Fail> {
         return Err("the key was not found".into());
     };
     assert!(rt; is_numbered(&rows));
-    Ok(())
-}
-
-#[test]
-fn at_fifteen_rows_a_key_takes_264_bytes(rt: HostRuntime) -> Result<(), Fail> {
-    assert_eq!(rt; size_of::<Head>() + 15 * size_of::<Row>(), 264);
     Ok(())
 }
 

@@ -1,10 +1,10 @@
 //! Clients in threads of their own. What is asserted does not depend on how their steps fall.
 ghost use Rattle.std.specs.Prelude.{◌≡◌};
 
-use crate::tests::{Plain, end_client, end_flow, is_row, map_of, one_row, queue_of};
-use crate::{Client, Dataflow, Gate, Got, Lobby, OpenGate, Turn};
+use crate::calls::{Plain, end_client, end_flow, is_row, map_of, one_row, queue_of};
 use nr_map::{Asked, Cancel, Reader, ReaderMap, Writer};
 use nr_model::RowSet;
+use nr_serve::{Client, Dataflow, Gate, Got, Lobby, OpenGate, Turn};
 use nr_trigger::{Poster, Taker, Triggers};
 use std::process::Abort;
 use std::sync::Wait;

@@ -1,0 +1,8 @@
+//! Tests of the dataflow's turns and the clients' gets, by their public calls alone: one after
+//! another, and in threads of their own.
+#![tactic(auto)]
+
+#[cfg(test)]
+mod calls;
+#[cfg(test)]
+mod threads;
