@@ -1,1 +1,3 @@
+mod KnownWords
 mod ProgramLemmas
+mod TaskLemmas

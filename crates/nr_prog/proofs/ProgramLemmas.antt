@@ -1,10 +1,12 @@
 -- How a run ended, and what was told of it, is the end of the program.
-use Rattle.std.proofs.Common.{ℕ, ◌≡◌, ◌≤◌, ◌<◌, List, [], ◌∷◌, length, get_or, refl, Option, Result, Ok, Err, inl, inr, arith}
+use Rattle.std.proofs.Common.{ℕ, ◌≡◌, List, Option, Result, Ok, Err, inl, inr, subst}
 use Rattle.std.specs.Prelude.{MatchResult}
 use Rattle.nr_lines.specs.declared.fault.RunFault.{RunFault}
 use Rattle.nr_lines.specs.Output.{Sends}
-use Rattle.nr_prog.specs.Program.{EndsRun, line_of}
 use Rattle.nr_lines.specs.Run.{Runs}
+use Rattle.nr_prog.specs.declared.task.Task.{Task}
+use Rattle.nr_prog.specs.Faults.{line_of}
+use Rattle.nr_prog.specs.Program.{Ends, EndsRun}
 
 pub run_ends : (text : List (List ℕ) → List ℕ) (limit status : ℕ) (told ran : Result (Unit {0}) RunFault) (had left held wrote holds : Option (List ℕ))
     → Runs text limit ran had left held wrote
@@ -13,8 +15,11 @@ pub run_ends : (text : List (List ℕ) → List ℕ) (limit status : ℕ) (told 
 run_ends text limit status told (Ok u) had left held wrote holds runs (zero, same) = inl (zero, rw same runs)
 run_ends text limit status told (Err fault) had left held wrote holds runs (one, line) = inr (one, (fault, wrote, runs, line))
 
--- the only element
-pub only_one : {A : Type 0} (list : List A) (only : A) → 1 ≤ length list → length list < 2 → only ≡ get_or list 0 only → list ≡ only ∷ []
-only_one [] only some few is = absurd (omega arith)
-only_one (first ∷ []) only some few is = rw is refl
-only_one (first ∷ second ∷ more) only some few is = absurd (omega arith)
+-- the end of what was asked for
+pub asked_ends : (done asked : Task) (status : ℕ) (told : Result (Unit {0}) RunFault) (had left held holds : Option (List ℕ))
+    → done ≡ asked → Ends done status told had left held holds → (told : Result (Unit {0}) RunFault) × Ends asked status told had left held holds
+asked_ends done asked status told had left held holds is ends = (told, subst (λ (task : Task). Ends task status told had left held holds) is ends)
+
+-- the line that is told, under its other name
+pub tells_line : (held holds : Option (List ℕ)) (told : Result (Unit {0}) RunFault) (line other : List ℕ) → line ≡ other → Sends held holds line told → Sends held holds other told
+tells_line held holds told line other is sends = subst (λ (text : List ℕ). Sends held holds text told) is sends

@@ -1,1 +1,4 @@
+pub mod Faults
+pub mod Tasks
+pub mod Loads
 pub mod Program

@@ -1,21 +1,15 @@
--- How the program ends: its exit status, and its last line where it has one.
-use Rattle.std.specs.Prelude.{ℕ, ◌≡◌, ◌⊎◌, List, [], ◌∷◌, ◌++◌, codes, Option, Result, Ok, Err}
+-- How the program ends: its exit status, and its last lines where it has some.
+use Rattle.std.specs.Prelude.{ℕ, ◌≡◌, ◌⊎◌, List, Option, Result, Ok, Err}
 use Rattle.nr_lines.specs.declared.fault.RunFault.{RunFault}
-use Rattle.nr_lines.specs.declared.fault.RunFault.TheVariants as faults
-use Rattle.nr_lines.specs.Lines.{line_feed}
+use Rattle.nr_lines.specs.Limits.{longest_input}
 use Rattle.nr_lines.specs.Output.{Sends}
 use Rattle.nr_lines.specs.Run.{Runs}
-
--- the line of a fault
-abbrev pub line_of : RunFault → List ℕ
-line_of faults.Read = codes "nr: the input could not be read" ++ line_feed ∷ []
-line_of faults.Write = codes "nr: the output could not be written" ++ line_feed ∷ []
-line_of faults.Memory = codes "nr: no memory" ++ line_feed ∷ []
-line_of faults.TooMuch = codes "nr: the input is over 268435456 bytes" ++ line_feed ∷ []
-
--- the line on how the program is used
-abbrev pub usage : List ℕ
-usage = codes "nr: usage: nr, nr steps, nr load SEED READERS KEYS GETS" ++ line_feed ∷ []
+use Rattle.nr_schedule.specs.Machine.{schedule_text}
+use Rattle.nr_script.specs.Machine.{script_text}
+use Rattle.nr_prog.specs.declared.task.Task.{Task}
+use Rattle.nr_prog.specs.declared.task.Task.TheVariants.{Script, Schedule, Load, Explain}
+use Rattle.nr_prog.specs.Faults.{line_of, line_of_misuse}
+use Rattle.nr_prog.specs.Loads.{EndsLoad}
 
 -- A run ends with a fault, and then that fault's line is written, or some of it where a write fails: `told` says which.
 abbrev pub TellsFault : (List (List ℕ) → List ℕ) → ℕ → Result (Unit {0}) RunFault → Option (List ℕ) → Option (List ℕ) → Option (List ℕ) → Option (List ℕ) → Type 0
@@ -27,6 +21,16 @@ abbrev pub EndsRun : (List (List ℕ) → List ℕ) → ℕ → ℕ → Result (
 EndsRun text limit status told had left held holds =
     ((status ≡ 0) × Runs text limit (Ok tt) had left held holds) ⊎ ((status ≡ 1) × TellsFault text limit told had left held holds)
 
--- arguments that are none of the program's: the line on its usage, with status 2
-abbrev pub EndsUnused : ℕ → Result (Unit {0}) RunFault → Option (List ℕ) → Option (List ℕ) → Type 0
-EndsUnused status told held holds = (status ≡ 2) × Sends held holds usage told
+-- each task's end; words that ask for nothing have their line, with status 2
+abbrev pub Ends : Task → ℕ → Result (Unit {0}) RunFault → Option (List ℕ) → Option (List ℕ) → Option (List ℕ) → Option (List ℕ) → Type 0
+Ends Script status told had left held holds = EndsRun script_text longest_input status told had left held holds
+Ends Schedule status told had left held holds = EndsRun schedule_text longest_input status told had left held holds
+Ends (Load plan) status told had left held holds = EndsLoad plan status told held holds
+Ends (Explain misuse) status told had left held holds = (status ≡ 2) × Sends held holds (line_of_misuse misuse) told
+
+-- what the task reads
+abbrev pub ReadsNothing : Task → Type 0
+ReadsNothing Script = ⊥
+ReadsNothing Schedule = ⊥
+ReadsNothing (Load plan) = Unit {0}
+ReadsNothing (Explain misuse) = Unit {0}

@@ -1,8 +1,10 @@
 //! The program: what its arguments ask for, and what it tells of a fault. Scripts are nr_script's and
-//! schedules nr_schedule's; both are served by nr_lines.
+//! schedules nr_schedule's; both are served by nr_lines. A load is nr_load's.
 #![tactic(auto)]
 
 mod program;
+mod report;
+mod task;
 #[cfg(test)]
 mod tests;
 

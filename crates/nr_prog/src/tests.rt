@@ -4,6 +4,7 @@ use std::io;
 use std::io::{ErrorKind, Read, Write};
 
 mod arguments;
+mod loads;
 mod schedules;
 mod scripts;
 

@@ -34,15 +34,15 @@ impl Write for Tripping {
     }
 }
 
-/// The status of the program, and what it wrote.
-fn program<T: Threads + Wait + AllocGlobal, R: Read>(
+/// The status of the program with these words, and what it wrote.
+pub(super) fn program<T: Threads + Wait + Sync + AllocGlobal, R: Read>(
     rt: &T,
-    word: Option<&str>,
+    words: &[&str],
     reader: &mut R,
     fails_at: usize,
 ) -> Result<(u8, Vec<u8>), AllocError> {
     let mut args = Vec::new(rt.alloc());
-    if let Some(word) = word {
+    for word in words {
         args.push(String::from_str(rt.alloc(), word)?)?;
     }
     let mut writer = Tripping {
@@ -59,7 +59,7 @@ fn the_program_tells_its_faults(rt: HostRuntime) -> Result<(), Fail> {
     let script: &[u8] = b"find 1 0\nfind 1 0\n";
 
     let mut whole = script;
-    let (status, written) = program(&rt, None, &mut whole, usize::MAX)?;
+    let (status, written) = program(&rt, &[], &mut whole, usize::MAX)?;
     assert_eq!(rt; status, 0);
     assert_eq!(rt; written.as_slice(), b"closed\nclosed\n".as_slice());
 
@@ -68,13 +68,13 @@ fn the_program_tells_its_faults(rt: HostRuntime) -> Result<(), Fail> {
         calls: 0,
         fails_at: 12,
     };
-    let (status, written) = program(&rt, None, &mut failing, usize::MAX)?;
+    let (status, written) = program(&rt, &[], &mut failing, usize::MAX)?;
     assert_eq!(rt; status, 1);
     let text: &[u8] = b"closed\nnr: the input could not be read\n";
     assert_eq!(rt; written.as_slice(), text);
 
     let mut whole = script;
-    let (status, written) = program(&rt, None, &mut whole, 1)?;
+    let (status, written) = program(&rt, &[], &mut whole, 1)?;
     assert_eq!(rt; status, 1);
     let text: &[u8] = b"closed\nnr: the output could not be written\n";
     assert_eq!(rt; written.as_slice(), text);
@@ -101,7 +101,7 @@ fn each_fault_has_its_line(rt: HostRuntime) {
 fn the_program_tells_its_usage(rt: HostRuntime) -> Result<(), Fail> {
     for word in ["load", "", "step", "x"] {
         let mut script: &[u8] = b"find 1 0\n";
-        let (status, written) = program(&rt, Some(word), &mut script, usize::MAX)?;
+        let (status, written) = program(&rt, &[word], &mut script, usize::MAX)?;
         assert_eq!(rt; status, 2, "{word}");
         let usage: &[u8] = b"nr: usage: nr, nr steps, nr load SEED READERS KEYS GETS\n";
         assert_eq!(rt; written.as_slice(), usage, "{word}");

@@ -1,0 +1,50 @@
+-- What the program tells of a load.
+use Rattle.std.specs.Prelude.{ℕ, ◌≡◌, ◌≤◌, ◌+◌, ◌*◌, ◌==◌, ◌⊎◌, Bool, if◌then◌else◌, List, ◌++◌, codes, Option, Result, Ok, Err}
+use Rattle.std.specs.Fmt.{decimal}
+use Rattle.std.specs.Io.KnownBytes.{Appends}
+use Rattle.nr_lines.specs.declared.fault.RunFault.{RunFault}
+use Rattle.nr_lines.specs.declared.fault.RunFault.TheVariants as faults
+use Rattle.nr_lines.specs.Output.{AppendsSome, Sends}
+use Rattle.nr_load.specs.declared.fault.LoadFault.{LoadFault}
+use Rattle.nr_load.specs.declared.fault.LoadFault.TheVariants as load_faults
+use Rattle.nr_load.specs.declared.load.LoadReport.{LoadReport}
+use Rattle.nr_load.specs.declared.load.Plan.{Plan}
+use Rattle.nr_prog.specs.Faults.{line, line_of}
+
+-- each request that was sent was filled or is still pending
+abbrev pub is_balanced : LoadReport → Bool
+is_balanced report = report.sends == report.fills + report.asked
+
+abbrev pub balance_word : LoadReport → List ℕ
+balance_word report = if is_balanced report then codes "ok" else codes "off"
+
+-- the three lines of a report
+abbrev pub report_text : LoadReport → List ℕ
+report_text report = codes "gets " ++ decimal report.gets ++ codes "\nanswered " ++ decimal report.answered ++ codes "\nbalance " ++ balance_word report ++ codes "\n"
+
+-- 0 where each get was answered and the account balances
+abbrev pub report_status : LoadReport → ℕ
+report_status report = if report.answered == report.gets then (if is_balanced report then 0 else 1) else 1
+
+-- the line of a load's fault
+abbrev pub line_of_load : LoadFault → List ℕ
+line_of_load load_faults.Memory = line (codes "nr: no memory")
+line_of_load load_faults.Thread = line (codes "nr: a thread could not be started")
+line_of_load load_faults.Barred = line (codes "nr: a gate did not open")
+line_of_load load_faults.WrongRows = line (codes "nr: a get gave wrong rows")
+
+-- what a load may come to: it makes all its gets, and its account balances, or it ends with a fault
+abbrev pub MayComeTo : Plan → Result LoadReport LoadFault → Type 0
+MayComeTo plan (Ok report) = (report.gets ≡ plan.readers * plan.gets) × (report.answered ≤ report.gets) × (report.sends ≡ report.fills + report.asked)
+MayComeTo plan (Err fault) = Unit {0}
+
+-- The report is written, or some of it by a fault of the writer, whose line follows; a load's fault has its line alone.
+abbrev pub TellsLoad : Result LoadReport LoadFault → ℕ → Result (Unit {0}) RunFault → Option (List ℕ) → Option (List ℕ) → Type 0
+TellsLoad (Ok report) status told held holds =
+    ((status ≡ report_status report) × Appends held holds (report_text report))
+    ⊎ ((status ≡ 1) × (wrote : Option (List ℕ)) × AppendsSome held wrote (report_text report) × Sends wrote holds (line_of faults.Write) told)
+TellsLoad (Err fault) status told held holds = (status ≡ 1) × Sends held holds (line_of_load fault) told
+
+-- a load of this plan is run, and what it came to is told
+abbrev pub EndsLoad : Plan → ℕ → Result (Unit {0}) RunFault → Option (List ℕ) → Option (List ℕ) → Type 0
+EndsLoad plan status told held holds = (ended : Result LoadReport LoadFault) × MayComeTo plan ended × TellsLoad ended status told held holds

@@ -1,0 +1,136 @@
+//! Loads, and what the program tells of them.
+use super::arguments::program;
+use super::{Failing, Narrow};
+use crate::main_with;
+use crate::program::line_of_load;
+use nr_load::LoadFault;
+use std::test::Fail;
+
+/// Words after `load`, and what is written of them.
+type Told = (&'static [&'static str], &'static str);
+
+const USAGE: &str = "nr: usage: nr, nr steps, nr load SEED READERS KEYS GETS\n";
+
+const SEED: &str = "nr: seed must be 0 to 18446744073709551615\n";
+
+const READERS: &str = "nr: readers must be 1 to 1024\n";
+
+const KEYS: &str = "nr: keys must be 1 to 65536\n";
+
+const GETS: &str = "nr: gets must be 0 to 1000000\n";
+
+const REPORTS: [Told; 5] = [
+    (
+        &["load", "7", "4", "8", "100"],
+        "gets 400\nanswered 400\nbalance ok\n",
+    ),
+    (
+        &["load", "1", "1", "1", "0"],
+        "gets 0\nanswered 0\nbalance ok\n",
+    ),
+    (
+        &["load", "18446744073709551615", "1", "65536", "1"],
+        "gets 1\nanswered 1\nbalance ok\n",
+    ),
+    (
+        &["load", "0", "3", "1", "2"],
+        "gets 6\nanswered 6\nbalance ok\n",
+    ),
+    (
+        &["load", "00000000000000000007", "02", "0008", "0"],
+        "gets 0\nanswered 0\nbalance ok\n",
+    ),
+];
+
+const MISUSES: [Told; 28] = [
+    (&["load", "7", "0", "8", "100"], READERS),
+    (&["load", "1", "1", "65537", "0"], KEYS),
+    (&["load", "x", "0", "0", "0"], SEED),
+    (&["load", "1", "2"], USAGE),
+    (&["load"], USAGE),
+    (&["load", "1", "1", "1"], USAGE),
+    (&["load", "x", "1", "1", "0", "0"], USAGE),
+    (&["Load", "1", "1", "1", "0"], USAGE),
+    (&["loads", "1", "1", "1", "0"], USAGE),
+    (&["steps", "1", "1", "1", "0"], USAGE),
+    (&["", "1", "1", "1", "0"], USAGE),
+    (&["1", "1", "1", "0", "load"], USAGE),
+    (&["load", "18446744073709551616", "1", "1", "0"], SEED),
+    (&["load", "000000000000000000001", "1", "1", "0"], SEED),
+    (&["load", "", "1", "1", "0"], SEED),
+    (&["load", "+1", "1", "1", "0"], SEED),
+    (&["load", "-1", "1", "1", "0"], SEED),
+    (&["load", " 1", "1", "1", "0"], SEED),
+    (&["load", "1", "1025", "1", "0"], READERS),
+    (&["load", "1", "4294967297", "1", "0"], READERS),
+    (&["load", "1", "x", "x", "x"], READERS),
+    (&["load", "1", "1", "0", "0"], KEYS),
+    (&["load", "1", "1", "4294967297", "0"], KEYS),
+    (&["load", "1", "1", "1x", "x"], KEYS),
+    (&["load", "1", "1", "1", "1000001"], GETS),
+    (&["load", "1", "1", "1", "4294967296"], GETS),
+    (&["load", "1", "1", "1", "-0"], GETS),
+    (&["load", "1", "1", "1", ""], GETS),
+];
+
+#[test]
+fn a_load_is_reported(rt: HostRuntime) -> Result<(), Fail> {
+    for (words, text) in REPORTS {
+        let mut unread = Failing { bytes: b"" };
+        let (status, written) = program(&rt, words, &mut unread, usize::MAX)?;
+        assert_eq!(rt; written.as_slice(), text.as_bytes(), "{words:?}");
+        assert_eq!(rt; status, 0, "{words:?}");
+    }
+    Ok(())
+}
+
+#[test]
+fn words_of_a_load_are_looked_at_in_order(rt: HostRuntime) -> Result<(), Fail> {
+    for (words, line) in MISUSES {
+        let mut unread = Failing { bytes: b"" };
+        let (status, written) = program(&rt, words, &mut unread, usize::MAX)?;
+        assert_eq!(rt; written.as_slice(), line.as_bytes(), "{words:?}");
+        assert_eq!(rt; status, 2, "{words:?}");
+    }
+    Ok(())
+}
+
+#[test]
+fn each_fault_of_a_load_has_its_line(rt: HostRuntime) {
+    let lines: [(LoadFault, &[u8]); 4] = [
+        (LoadFault::Memory, b"nr: no memory\n"),
+        (LoadFault::Thread, b"nr: a thread could not be started\n"),
+        (LoadFault::Barred, b"nr: a gate did not open\n"),
+        (LoadFault::WrongRows, b"nr: a get gave wrong rows\n"),
+    ];
+    for (fault, line) in lines {
+        assert_eq!(rt; line_of_load(fault), line);
+    }
+}
+
+#[test]
+fn a_report_that_can_not_be_written_is_a_fault(rt: HostRuntime) -> Result<(), Fail> {
+    let words = ["load", "1", "1", "1", "1"];
+    let mut unread = Failing { bytes: b"" };
+    let (status, written) = program(&rt, &words, &mut unread, 0)?;
+    assert_eq!(rt; status, 1);
+    let line: &[u8] = b"nr: the output could not be written\n";
+    assert_eq!(rt; written.as_slice(), line);
+
+    let text: &[u8] = b"gets 1\nanswered 1\nbalance ok\n";
+    let mut args = Vec::new(rt.alloc());
+    for word in words {
+        args.push(String::from_str(rt.alloc(), word)?)?;
+    }
+    for room in 0..text.len() {
+        let mut writer = Narrow {
+            held: Vec::new(rt.alloc()),
+            width: 1,
+            room,
+        };
+        let status = main_with(&rt, rt.alloc(), args.as_slice(), &mut unread, &mut writer);
+        assert_eq!(rt; status, 1, "at {room}");
+        assert_eq!(rt; writer.held.as_slice(), &text[..room], "at {room}");
+    }
+    Ok(())
+}
