@@ -187,7 +187,8 @@ int main(int arguments, char **argument) {
       for (int m = 0; m < count; m++) over[c][m][rounds] = each[c][m][rounds] / each[c][0][rounds];
   }
   for (int c = 0; c < COLUMNS; c++)
-    for (int m = 0; m < count; m++) tell(names[c], m, at_part(each[c][m], rounds, 0.5), at_part(over[c][m], rounds, 0.5));
+    for (int m = 0; m < count; m++)
+      tell(names[c], m, at_part(each[c][m], rounds, 0.5), at_part(over[c][m], rounds, 0.5));
   for (int m = 0; m < count; m++) tell("bytes a key", m, bytes[m], bytes[m] / bytes[0]);
   fprintf(stderr, "%u rows: %d rounds\n", rows, rounds);
   return 0;

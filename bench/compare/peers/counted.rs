@@ -1,5 +1,6 @@
-//! A word for each key with the place of its set and a count of those who took it. A reader adds one to take the set and
-//! one to the set's own count to leave it; the writer swaps another set in, and whoever leaves last frees the old one.
+//! A word for each key with the place of its set and a count of those who took it. A reader adds one to take
+//! the set and one to the set's own count to leave it; the writer swaps another set in, and whoever leaves last
+//! frees the old one.
 use crate::{Kind, Map, Row, Rows};
 use std::ptr::null_mut;
 use std::sync::atomic::{AtomicU64, Ordering::SeqCst};

@@ -146,7 +146,13 @@ pub unsafe extern "C" fn nr_ask(reader: &mut Handle<Reader>, key: u32, number: &
 }
 
 #[no_mangle]
-pub unsafe extern "C" fn nr_fill(writer: &mut Handle<Writer>, key: u32, number: u64, rows: *const Row, n: usize) -> u32 {
+pub unsafe extern "C" fn nr_fill(
+    writer: &mut Handle<Writer>,
+    key: u32,
+    number: u64,
+    rows: *const Row,
+    n: usize,
+) -> u32 {
     let Writer { map, own, rows: most, first_number, .. } = &mut *writer.0;
     let rows = slice::from_raw_parts(rows, n);
     if n > *most {
