@@ -7,7 +7,7 @@
      it is live nobody copies it or writes to it.
    - a live handle is used by one call at a time. It goes to another thread by that thread's start or
      join, by a lock, or by a sequentially consistent atomic.
-   - a key is below the keys that the map was opened with.
+   - a key is below the keys that the map, or the queue, was opened with.
    - a pointer leads to one value of its type that nobody else uses during the call; `rows` and `deltas`
      lead to as many as the number after them says, which nobody writes during the call.
    - no call is made from a signal handler, or in the forked child of a process with threads.
@@ -49,6 +49,9 @@ extern "C" {
 #define NR_BAD_SIZE 20u  /* a size is out of its limits */
 #define NR_NO_MEMORY 21u /* there is no memory */
 #define NR_NO_READER 22u /* each reader had a handle already */
+#define NR_NO_POSTER 23u /* each poster had a handle already */
+#define NR_NOT_POSTED 24u /* the queue is full, or another thread is in the way */
+#define NR_NOT_TAKEN 25u /* the queue is empty, or another thread is in the way */
 
 /* VALUES */
 
@@ -90,7 +93,8 @@ typedef struct nr_size {
   uint32_t rows;
 } nr_size;
 
-/* Handles: the writer's, of which a map has one, and a reader's. */
+/* Handles: the writer's, of which a map has one, and a reader's; the taker's, of which a queue has one, and
+   a poster's. */
 typedef struct nr_writer {
   void *at;
 } nr_writer;
@@ -98,6 +102,14 @@ typedef struct nr_writer {
 typedef struct nr_reader {
   void *at;
 } nr_reader;
+
+typedef struct nr_taker {
+  void *at;
+} nr_taker;
+
+typedef struct nr_poster {
+  void *at;
+} nr_poster;
 
 /* OPENING AND CLOSING */
 
@@ -169,6 +181,10 @@ uint32_t nr_cancel(nr_writer *writer, uint32_t key);
 /* What a key is, in 1 step: NR_HOLE, NR_ASKED or NR_ROWS. */
 uint32_t nr_state(nr_writer *writer, uint32_t key);
 
+/* The number of a key's request, or of its next one where nobody asks: its fill has to name that number. No
+   step. */
+uint64_t nr_number(nr_writer *writer, uint32_t key);
+
 /* WHAT TOKENS LEARN OF EACH OTHER, in 3 steps for each that learns. It changes no key and no answer: it says
    whose calls the one history has, in the contracts. Owed: both handles are live and of one map; the
    readers hold no set, but that of nr_gather_pin holds one. */
@@ -180,6 +196,34 @@ void nr_meet_readers(nr_reader *reader, nr_reader *other);
 /* The writer learns all that the reader has seen, and then the reader all that the writer has. */
 void nr_gather(nr_writer *writer, nr_reader *reader);
 void nr_gather_pin(nr_writer *writer, nr_reader *reader);
+
+/* REQUESTS ON THEIR WAY TO WHOEVER FILLS THEM: a queue without a lock, for many threads that post and one
+   that takes, first in first out. It knows nothing of a map but how many keys it has. What was taken, and
+   after it what the queue holds, is what was posted: each request once, and each poster's in their order.
+   A call makes one attempt and waits for nobody; where it was answered NR_NOT_POSTED or NR_NOT_TAKEN
+   nothing has changed, and it may be made again. */
+
+/* Opens a queue of 1 to 65,536 requests of keys below `keys`, with 1 to 1,024 posters, and makes the
+   taker's handle live. NR_DONE; NR_BAD_SIZE or NR_NO_MEMORY, and then the handle stays as it was. A map's
+   requests fit into as many places as it has keys, where none is taken back. Owed: `taker` is not live. */
+uint32_t nr_open_queue(uint32_t keys, uint32_t capacity, uint32_t posters, nr_taker *taker);
+
+/* Makes the handle of one of the queue's posters live. NR_DONE; NR_NO_POSTER or NR_NO_MEMORY, and then the
+   handle stays as it was. Owed: `taker` is live, `poster` is not. */
+uint32_t nr_open_poster(nr_taker *taker, nr_poster *poster);
+
+/* End a handle, which is then not live. The queue's memory goes with its last handle, and so do the
+   requests that it holds. Owed: the handle is live. */
+void nr_close_poster(nr_poster poster);
+void nr_close_taker(nr_taker taker);
+
+/* Puts a request at the back. NR_DONE; NR_NOT_POSTED, also once the queue has carried 2^62 of them. Owed:
+   `poster` is live, `key` is below the queue's keys. */
+uint32_t nr_post(nr_poster *poster, uint32_t key, uint64_t number);
+
+/* Takes the request at the front. NR_DONE, and `key` and `number` are its own; NR_NOT_TAKEN, and they stay
+   as they were. Owed: `taker` is live. */
+uint32_t nr_take(nr_taker *taker, uint32_t *key, uint64_t *number);
 
 #ifdef __cplusplus
 }

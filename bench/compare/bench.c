@@ -3,32 +3,9 @@
    Usage: bench ROUNDS KEYS ROWS BOUND NAME=LIBRARY.so[@ITS-BOUND] ..
    With RETIRED=n in the environment there are n slots more, all retired. With REPEAT=find, ask, fill or update it makes
    ROUNDS thousand such calls of the first library and nothing else, for an instruction counter. */
-#define _GNU_SOURCE
-#include "../../include/nr.h"
-#include <dlfcn.h>
-#include <pthread.h>
-#include <stdio.h>
-#include <stdlib.h>
-#include <string.h>
-#include <time.h>
+#include "library.h"
 
-enum { ORDER = 8192, READERS = 4, MOST = 8, MOST_ROUNDS = 201 };
-
-typedef struct {
-  const char *name;
-  uint32_t (*open)(const nr_shape *, nr_writer *);
-  uint32_t (*open_reader)(nr_writer *, nr_reader *);
-  uint32_t (*find)(nr_reader *, uint32_t, nr_rows *);
-  uint32_t (*ask)(nr_reader *, uint32_t, uint64_t *);
-  uint32_t (*fill)(nr_writer *, uint32_t, uint64_t, const nr_row *, size_t);
-  uint32_t (*update)(nr_writer *, uint32_t, const nr_delta *, size_t);
-  uint32_t (*evict)(nr_writer *, uint32_t);
-  nr_writer writer;
-  struct {
-    nr_reader handle;
-    char apart[120];
-  } reader[READERS];
-} library;
+enum { MOST_ROUNDS = 201 };
 
 static library libraries[MOST];
 static int count;
@@ -36,23 +13,6 @@ static uint32_t keys, rows, bound;
 static uint32_t order[READERS][ORDER];
 static nr_row set[255];
 static nr_delta there[2], back[2];
-
-static void stop(const char *why) {
-  fprintf(stderr, "bench: %s\n", why);
-  exit(1);
-}
-
-static double now(void) {
-  struct timespec t;
-  clock_gettime(CLOCK_MONOTONIC, &t);
-  return (double)t.tv_sec * 1e9 + (double)t.tv_nsec;
-}
-
-static void *function(void *from, const char *name) {
-  void *found = dlsym(from, name);
-  if (!found) stop(name);
-  return found;
-}
 
 static void fill_all(library *l) {
   for (uint32_t key = 0; key < keys; key++) {
@@ -62,24 +22,12 @@ static void fill_all(library *l) {
   }
 }
 
-static void load(const char *name, const char *path, uint32_t slots, uint32_t most) {
-  void *from = dlopen(path, RTLD_NOW | RTLD_LOCAL);
-  if (!from) stop(dlerror());
+/* Opens a map of a library, and fills it. */
+static void begin(const char *name, const char *path, uint32_t slots, uint32_t most) {
   library *l = &libraries[count++];
-  l->name = name;
-  *(void **)&l->open = function(from, "nr_open");
-  *(void **)&l->open_reader = function(from, "nr_open_reader");
-  *(void **)&l->find = function(from, "nr_find");
-  *(void **)&l->ask = function(from, "nr_ask");
-  *(void **)&l->fill = function(from, "nr_fill");
-  *(void **)&l->update = function(from, "nr_update");
-  *(void **)&l->evict = function(from, "nr_evict");
-  nr_shape shape = {keys, slots, READERS, most, 0, 0};
-  if (l->open(&shape, &l->writer) != NR_DONE) stop("an opening");
-  for (int i = 0; i < READERS; i++)
-    if (l->open_reader(&l->writer, &l->reader[i].handle) != NR_DONE) stop("a reader");
+  load(l, name, path, (nr_shape){keys, slots, READERS, most, 0, 0});
   void (*keep)(nr_writer *, const nr_delta *, size_t, const nr_delta *, size_t) = 0;
-  *(void **)&keep = dlsym(from, "nr_keep");
+  *(void **)&keep = dlsym(l->from, "nr_keep");
   if (keep) keep(&l->writer, there, 2, back, 2);
   fill_all(l);
 }
@@ -169,16 +117,6 @@ static double update(library *l) {
   return (now() - began) / (2 * part);
 }
 
-static int by_size(const void *a, const void *b) {
-  double x = *(const double *)a, y = *(const double *)b;
-  return (x > y) - (x < y);
-}
-
-static double median(double *values, int n) {
-  qsort(values, (size_t)n, sizeof *values, by_size);
-  return values[n / 2];
-}
-
 static void column(const char *name, int rounds, double (*measure)(library *)) {
   static double each[MOST][MOST_ROUNDS], over[MOST][MOST_ROUNDS];
   for (int r = 0; r < rounds; r++) {
@@ -190,7 +128,7 @@ static void column(const char *name, int rounds, double (*measure)(library *)) {
   }
   printf("%-8s rows %3u of %3u, keys %5u:", name, rows, bound, keys);
   for (int i = 0; i < count; i++)
-    printf("  %s %.1f ns (%.2f)", libraries[i].name, median(each[i], rounds), median(over[i], rounds));
+    printf("  %s %.1f ns (%.2f)", libraries[i].name, at_part(each[i], rounds, 0.5), at_part(over[i], rounds, 0.5));
   puts("");
   fflush(stdout);
 }
@@ -223,19 +161,14 @@ int main(int arguments, char **argument) {
   nr_row old = set[rows / 2], other = {old.a, 1000};
   there[0] = (nr_delta){old, 0}, there[1] = (nr_delta){other, 1};
   back[0] = (nr_delta){other, 0}, back[1] = (nr_delta){old, 1};
-  uint64_t s = 88172645463325252u;
-  for (int t = 0; t < READERS; t++)
-    for (int i = 0; i < ORDER; i++) {
-      s ^= s << 13, s ^= s >> 7, s ^= s << 17;
-      order[t][i] = (uint32_t)(s >> 20) % keys;
-    }
+  shuffle(order, keys);
   for (int i = 5; i < arguments; i++) {
     char *split = strchr(argument[i], '=');
     if (!split) stop("NAME=LIBRARY.so");
     *split = 0;
     char *own = strchr(split + 1, '@');
     if (own) *own = 0;
-    load(argument[i], split + 1, slots, own ? (uint32_t)atoi(own + 1) : bound);
+    begin(argument[i], split + 1, slots, own ? (uint32_t)atoi(own + 1) : bound);
   }
   /* Uses every slot once, so that what is taken from here on is the oldest retired one. */
   for (int i = 0; i < count && rows; i++)

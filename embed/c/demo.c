@@ -1,8 +1,8 @@
-/* Two readers and a dataflow over one map. A reader that finds a key missing requests it; the first to do so puts the key
-   with its number into a queue, which the dataflow takes and fills. The queue here is a lock round an array: it is the
-   program's own, and so is what it says of order. */
+/* Two readers and a dataflow over one map. A reader that finds a key missing requests it; the first to do so posts the key
+   with its number, and the dataflow takes it and fills it. */
 #include "../../include/nr.h"
 #include <pthread.h>
+#include <sched.h>
 #include <stdatomic.h>
 #include <stdio.h>
 #include <stdlib.h>
@@ -10,13 +10,10 @@
 enum { KEYS = 1000, READERS = 2 };
 
 typedef struct {
-  uint32_t key;
-  uint64_t number;
-} request;
+  nr_reader reader;
+  nr_poster poster;
+} client;
 
-static pthread_mutex_t lock = PTHREAD_MUTEX_INITIALIZER;
-static request queue[KEYS];
-static int posted, taken;
 static atomic_int done;
 
 static void stop(const char *why) {
@@ -24,29 +21,17 @@ static void stop(const char *why) {
   exit(1);
 }
 
-static void post(uint32_t key, uint64_t number) {
-  pthread_mutex_lock(&lock);
-  if (posted == KEYS) stop("a key was sent twice");
-  queue[posted++] = (request){key, number};
-  pthread_mutex_unlock(&lock);
-}
-
-static int take(request *next) {
-  pthread_mutex_lock(&lock);
-  int any = taken < posted;
-  if (any) *next = queue[taken++];
-  pthread_mutex_unlock(&lock);
-  return any;
-}
-
 /* Gets each key once: its rows are the key and its square, and the key and its cube. */
 static void *reads(void *given) {
-  nr_reader *reader = given;
+  client *own = given;
+  nr_reader *reader = &own->reader;
   static _Thread_local nr_rows rows;
   for (uint32_t key = 0; key < KEYS; key++) {
     while (nr_find(reader, key, &rows) == NR_HOLE) {
       uint64_t number;
-      if (nr_ask(reader, key, &number) == NR_SEND) post(key, number);
+      if (nr_ask(reader, key, &number) == NR_SEND)
+        while (nr_post(&own->poster, key, number) != NR_DONE) sched_yield();
+      sched_yield();
     }
     uint64_t k = key, cube = k * k * k;
     if (rows.count != 2 || rows.row[0].a != k || rows.row[1].a != k || rows.row[0].b != k * k || rows.row[1].b != cube)
@@ -62,50 +47,100 @@ static void *reads(void *given) {
   return NULL;
 }
 
-int main(void) {
-  nr_shape shape = {KEYS, KEYS + READERS + 1, READERS, 15, 0, 0};
-  nr_writer writer = {0};
-  nr_reader readers[READERS] = {{0}, {0}}, none = {0};
-  if (nr_open(&shape, &writer) != NR_DONE) stop("an opening");
-  for (int i = 0; i < READERS; i++)
-    if (nr_open_reader(&writer, &readers[i]) != NR_DONE) stop("a reader");
-  if (nr_open_reader(&writer, &none) != NR_NO_READER) stop("one reader too many");
-  pthread_t threads[READERS];
-  for (int i = 0; i < READERS; i++)
-    if (pthread_create(&threads[i], NULL, reads, &readers[i])) stop("a thread");
-  int filled = 0;
-  while (atomic_load(&done) < READERS) {
-    request next;
-    if (!take(&next)) continue;
-    uint64_t k = next.key;
-    nr_row rows[2] = {{k, k * k}, {k, k * k * k}};
-    if (nr_fill(&writer, next.key, next.number, rows, 2) != NR_DONE) stop("a fill");
-    filled++;
-  }
-  for (int i = 0; i < READERS; i++) pthread_join(threads[i], NULL);
-  if (filled != KEYS) stop("not each key was filled once");
+/* A queue that nobody else uses is first in first out, full at its capacity, and empty at the end. */
+static void test_queue(nr_taker *taker, nr_poster *poster) {
+  uint32_t key = 77;
+  uint64_t number = 88;
+  if (nr_take(taker, &key, &number) != NR_NOT_TAKEN || key != 77 || number != 88) stop("a take of nothing");
+  for (uint32_t i = 0; i < KEYS; i++)
+    if (nr_post(poster, i, i + 5) != NR_DONE) stop("a post");
+  if (nr_post(poster, 1, 1) != NR_NOT_POSTED) stop("a post too many");
+  for (uint32_t i = 0; i < KEYS; i++)
+    if (nr_take(taker, &key, &number) != NR_DONE || key != i || number != i + 5) stop("a take");
+  if (nr_take(taker, &key, &number) != NR_NOT_TAKEN) stop("a take too many");
+  nr_taker small = {0};
+  if (nr_open_queue(KEYS, 0, 1, &small) != NR_BAD_SIZE) stop("a queue without room");
+  if (nr_open_queue(KEYS, 1, 1025, &small) != NR_BAD_SIZE) stop("1,025 posters");
+}
+
+/* The calls of one thread, at the end. */
+static void test_calls(nr_writer *writer, nr_reader *one, nr_reader *two) {
   nr_delta batch[2] = {{{7, 49}, 0}, {{9, 9}, 1}};
   nr_rows rows;
-  if (nr_update(&writer, 7, batch, 2) != NR_DONE || nr_update(&writer, 7, batch, 2) != NR_NO_ROW) stop("an update");
-  if (nr_update(&writer, 7, batch, 0) != NR_BAD_BATCH) stop("a batch of none");
-  if (nr_look(&writer, 7, &rows) != NR_ROWS || rows.count != 2 || rows.row[1].a != 9) stop("a look");
-  if (nr_evict(&writer, 7) != NR_EVICTED || nr_evict(&writer, 7) != NR_NOTHING) stop("an eviction");
+  if (nr_update(writer, 7, batch, 2) != NR_DONE || nr_update(writer, 7, batch, 2) != NR_NO_ROW) stop("an update");
+  if (nr_update(writer, 7, batch, 0) != NR_BAD_BATCH) stop("a batch of none");
+  if (nr_look(writer, 7, &rows) != NR_ROWS || rows.count != 2 || rows.row[1].a != 9) stop("a look");
+  if (nr_evict(writer, 7) != NR_EVICTED || nr_evict(writer, 7) != NR_NOTHING) stop("an eviction");
   uint64_t number;
-  if (nr_ask(&readers[0], 7, &number) != NR_SEND || number != 0) stop("a request");
-  if (nr_cancel(&writer, 7) != NR_CANCELLED || nr_state(&writer, 7) != NR_HOLE) stop("a cancel");
-  if (nr_ask(&readers[0], 7, &number) != NR_SEND || number != 1) stop("a request after a cancel");
+  if (nr_ask(one, 7, &number) != NR_SEND || number != 0) stop("a request");
+  if (nr_cancel(writer, 7) != NR_CANCELLED || nr_state(writer, 7) != NR_HOLE) stop("a cancel");
+  if (nr_number(writer, 7) != 1) stop("a number");
+  if (nr_ask(one, 7, &number) != NR_SEND || number != 1) stop("a request after a cancel");
   nr_row apart[2] = {{2, 0}, {1, 0}};
-  if (nr_fill(&writer, 7, 0, apart, 1) != NR_STALE || nr_fill(&writer, 7, 1, apart, 2) != NR_NOT_SORTED) stop("a late fill");
-  nr_meet(&readers[0], &writer);
-  nr_meet_readers(&readers[0], &readers[1]);
-  nr_gather(&writer, &readers[1]);
+  if (nr_fill(writer, 7, 0, apart, 1) != NR_STALE || nr_fill(writer, 7, 1, apart, 2) != NR_NOT_SORTED) stop("a late fill");
+  nr_meet(one, writer);
+  nr_meet_readers(one, two);
+  nr_gather(writer, two);
   uint32_t held;
-  if (nr_pin(&readers[0], 8, &held) != NR_ROWS || held != 2) stop("a pin at the end");
-  nr_gather_pin(&writer, &readers[0]);
-  for (int i = 0; i < READERS; i++) nr_close_reader(readers[i]);
+  if (nr_pin(one, 8, &held) != NR_ROWS || held != 2) stop("a pin at the end");
+  nr_gather_pin(writer, one);
+  nr_size sizes;
+  nr_sizes(one, &sizes);
+  if (sizes.keys != KEYS || sizes.slots != KEYS + READERS + 1 || sizes.readers != READERS || sizes.rows != 15) stop("sizes");
+}
+
+/* The dataflow: fills what is requested until the readers are done; how often. */
+static int fills(nr_writer *writer, nr_taker *taker) {
+  int filled = 0;
+  while (atomic_load(&done) < READERS) {
+    uint32_t key;
+    uint64_t number;
+    if (nr_take(taker, &key, &number) != NR_DONE) {
+      sched_yield();
+      continue;
+    }
+    uint64_t k = key;
+    nr_row rows[2] = {{k, k * k}, {k, k * k * k}};
+    if (nr_fill(writer, key, number, rows, 2) != NR_DONE) stop("a fill");
+    filled++;
+  }
+  return filled;
+}
+
+static void open_all(nr_writer *writer, nr_taker *taker, client *clients) {
+  nr_shape shape = {KEYS, KEYS + READERS + 1, READERS, 256, 0, 0};
+  if (nr_open(&shape, writer) != NR_BAD_SIZE) stop("256 rows");
+  shape.rows = 15;
+  if (nr_open(&shape, writer) != NR_DONE) stop("an opening");
+  if (nr_open_queue(KEYS, KEYS, READERS, taker) != NR_DONE) stop("a queue");
+  for (int i = 0; i < READERS; i++) {
+    if (nr_open_reader(writer, &clients[i].reader) != NR_DONE) stop("a reader");
+    if (nr_open_poster(taker, &clients[i].poster) != NR_DONE) stop("a poster");
+  }
+  nr_reader no_reader = {0};
+  nr_poster no_poster = {0};
+  if (nr_open_reader(writer, &no_reader) != NR_NO_READER) stop("one reader too many");
+  if (nr_open_poster(taker, &no_poster) != NR_NO_POSTER) stop("one poster too many");
+}
+
+int main(void) {
+  nr_writer writer = {0};
+  nr_taker taker = {0};
+  client clients[READERS] = {{{0}, {0}}, {{0}, {0}}};
+  open_all(&writer, &taker, clients);
+  pthread_t threads[READERS];
+  for (int i = 0; i < READERS; i++)
+    if (pthread_create(&threads[i], NULL, reads, &clients[i])) stop("a thread");
+  if (fills(&writer, &taker) != KEYS) stop("not each key was filled once");
+  for (int i = 0; i < READERS; i++) pthread_join(threads[i], NULL);
+  test_queue(&taker, &clients[0].poster);
+  test_calls(&writer, &clients[0].reader, &clients[1].reader);
+  for (int i = 0; i < READERS; i++) {
+    nr_close_reader(clients[i].reader);
+    nr_close_poster(clients[i].poster);
+  }
   nr_close_writer(writer);
-  shape.rows = 256;
-  if (nr_open(&shape, &writer) != NR_BAD_SIZE) stop("256 rows");
+  nr_close_taker(taker);
   puts("each key was sent and filled once");
   return 0;
 }

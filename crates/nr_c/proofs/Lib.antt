@@ -1,2 +1,4 @@
 pub mod AsReaderBox
 pub mod AsWriterBox
+pub mod AsPosterBox
+pub mod AsTakerBox

@@ -11,3 +11,9 @@ pub mod Live
 pub mod Meets
 pub mod Pins
 pub mod Writes
+pub mod PosterHandles
+pub mod PosterFollows
+pub mod TakerHandles
+pub mod TakerFollows
+pub mod Queues
+pub mod Posting

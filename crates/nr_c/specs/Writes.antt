@@ -4,6 +4,7 @@ use Rattle.nr_model.specs.declared.batches.TheConstants.{MAX_DELTAS}
 use Rattle.nr_model.specs.declared.calls.Call.TheVariants as model
 use Rattle.nr_model.specs.declared.calls.Reply.TheVariants as reply
 use Rattle.nr_model.specs.declared.rows.Row.{Row}
+use Rattle.nr_model.specs.Maps.{number_of, state_of}
 use Rattle.nr_model.specs.Rows.{is_ascending}
 use Rattle.nr_map.specs.declared.answers.Cancel.{Cancel}
 use Rattle.nr_map.specs.declared.answers.Evict.{Evict}
@@ -13,7 +14,7 @@ use Rattle.nr_map.specs.declared.answers.Found.TheVariants as found
 use Rattle.nr_map.specs.declared.answers.KeyKind.{KeyKind}
 use Rattle.nr_map.specs.declared.answers.UpdateFault.{UpdateFault}
 use Rattle.nr_map.specs.Answers.{CancelsKey, EvictsKey, FillsKey, SlotsStay, UpdatesKey}
-use Rattle.nr_map.specs.Callers.{Caller, Gains}
+use Rattle.nr_map.specs.Callers.{Caller, Gains, map_seen}
 use Rattle.nr_map.specs.Meetings.{StatesKey}
 use Rattle.nr_c.specs.declared.codes.TheConstants.{NR_BAD_BATCH, NR_NOT_SORTED, NR_TOO_MANY}
 use Rattle.nr_c.specs.declared.rows.NrDelta.{NrDelta}
@@ -58,3 +59,7 @@ Cancels key code old new = (answer : Cancel) × (code ≡ cancel_code answer) ×
 
 abbrev pub States : ℕ → ℕ → Caller → Caller → Type 0
 States key code old new = (kind : KeyKind) × (code ≡ kind_code kind) × StatesKey key old new kind
+
+-- the number of a key's request, or of its next one, after all that the writer has seen; the writer stays
+abbrev pub IsNumber : ℕ → ℕ → Caller → Caller → Type 0
+IsNumber key told old new = (told ≡ number_of (state_of (map_seen old) key)) × (new ≡ old)

@@ -74,6 +74,15 @@ pub const NR_NO_MEMORY: u32 = 21;
 /// To the opening of a reader: all readers have handles.
 pub const NR_NO_READER: u32 = 22;
 
+/// To an opening of a poster: each poster had a handle already.
+pub const NR_NO_POSTER: u32 = 23;
+
+/// To a post: the queue is full, or another thread is in the way.
+pub const NR_NOT_POSTED: u32 = 24;
+
+/// To a take: the queue is empty, or another thread is in the way.
+pub const NR_NOT_TAKEN: u32 = 25;
+
 pub fn of_found(found: Found) -> u32
     ensures { result ≡ found_code found }
 {

@@ -3,7 +3,8 @@
 //! again, of the token that a handle leads to; so the history that all callers share is the same
 //! one whichever language its callers are written in.
 //!
-//! C has a handle for each reader and one for the writer. A handle is one word, the place of a
+//! C has a handle for each reader and one for the writer, and of a queue of requests one for each
+//! poster and one for the taker. A handle is one word, the place of a
 //! token on the heap or none, and contracts see the token. What C owes is each function's
 //! `requires`, and stands beside it in the header too: the handle is live and in the hands of one
 //! call at a time, a key is one of the map's. What costs nothing to test is tested.
@@ -16,6 +17,11 @@ mod meets;
 mod open;
 mod parts;
 mod pins;
+mod poster_handle;
+mod poster_lend;
+mod poster_side;
+mod posts;
+mod queues;
 mod reader_handle;
 mod reader_lend;
 mod reader_side;
@@ -23,6 +29,9 @@ mod reads;
 mod rows;
 mod showing;
 mod sizes;
+mod taker_handle;
+mod taker_lend;
+mod taker_side;
 mod writer_handle;
 mod writer_lend;
 mod writer_side;

@@ -2,7 +2,7 @@
 ghost use Rattle.std.specs.Prelude.{◌≡◌, ◌<◌, [], ◌∷◌};
 ghost use Rattle.nr_c.specs.declared.writer_side.WriterSide.{WriterSide as Held};
 ghost use Rattle.nr_c.specs.Live.{WriterCalls};
-ghost use Rattle.nr_c.specs.Writes.{Cancels, Evicts, Fills, Looks, States, Updates};
+ghost use Rattle.nr_c.specs.Writes.{Cancels, Evicts, Fills, IsNumber, Looks, States, Updates};
 
 use crate::codes::{
     NR_BAD_BATCH, NR_HOLE, NR_NOT_SORTED, NR_ROWS, NR_TOO_MANY, of_cancel, of_evict, of_fill,
@@ -97,4 +97,15 @@ pub extern "C" fn nr_state(writer: &mut NrWriter, key: u32) -> u32
 {
     let side = writer.side();
     of_kind(side.map.state(&mut side.writer, key))
+}
+
+/// The number of a key's request, or of its next one where nobody asks: the answer to it names that
+/// number. No step.
+#[unsafe(no_mangle)]
+pub extern "C" fn nr_number(writer: &mut NrWriter, key: u32) -> u64
+    requires live { (held : Held) × (writer.old.live ≡ held ∷ []) × (key < held.map.value.shape.keys) }
+    ensures { WriterCalls (IsNumber key result) writer.old.live writer.new.live }
+{
+    let side = writer.side();
+    side.map.number(&side.writer, key)
 }

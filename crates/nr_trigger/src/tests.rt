@@ -3,7 +3,7 @@
 //! (`rt try --test --fail-alloc N`, for each N from 1 on).
 ghost use Rattle.std.specs.Prelude.{◌≡◌, ◌<◌, ◌≤◌, ◌+◌, All, IfOk};
 
-use crate::{Poster, Taker, Triggers};
+use crate::{Poster, Taker, Triggers, Upquery};
 use nr_map::{Asked, Reader, ReaderMap, Ticket, Writer};
 use nr_model::OpenFault;
 use std::alloc::Global;
@@ -110,6 +110,42 @@ fn a_full_queue_hands_the_ticket_back(rt: HostRuntime) -> Result<(), Fail> {
     post_now(&rt, &triggers, &mut poster, second);
     assert_eq!(rt; taken(&rt, &triggers, &mut taker), Some((1, 0)));
     assert_eq!(rt; taken(&rt, &triggers, &mut taker), None);
+    Ok(())
+}
+
+// Whether one attempt posted it.
+fn try_now(triggers: &Triggers, poster: &mut Poster, upquery: Upquery) -> bool
+    requires own { poster.old.queue ≡ triggers.now.id }
+    requires key { upquery.key < poster.old.keys }
+    ensures own { (poster.new.queue ≡ triggers.now.id) × (poster.new.keys ≡ poster.old.keys) }
+{
+    triggers.try_post(poster, upquery).is_ok()
+}
+
+/// What one attempt took from the front.
+fn taken_at_once(triggers: &Triggers, taker: &mut Taker) -> Option<(u32, u64)>
+    requires own { taker.old.queue ≡ triggers.now.id }
+    ensures own { taker.new.queue ≡ triggers.now.id }
+{
+    let trigger = triggers.try_take(taker)?;
+    let number = trigger.number();
+    Some((trigger.into_key(), number))
+}
+
+#[test]
+fn one_attempt_posts_and_takes_where_nobody_is_in_the_way(rt: HostRuntime) -> Result<(), Fail> {
+    let (triggers, mut posters, mut taker) = queue_of(rt.alloc(), 1, 1)?;
+    let Some(mut poster) = posters.pop() else {
+        return Ok(());
+    };
+    let first = Upquery { key: 3, number: 5 };
+    let second = Upquery { key: 4, number: 6 };
+    assert_eq!(rt; taken_at_once(&triggers, &mut taker), None);
+    assert!(rt; try_now(&triggers, &mut poster, first));
+    assert!(rt; !try_now(&triggers, &mut poster, second));
+    assert_eq!(rt; taken_at_once(&triggers, &mut taker), Some((3, 5)));
+    assert!(rt; try_now(&triggers, &mut poster, second));
+    assert_eq!(rt; taken_at_once(&triggers, &mut taker), Some((4, 6)));
     Ok(())
 }
 

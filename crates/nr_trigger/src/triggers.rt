@@ -84,6 +84,36 @@ impl Triggers {
         Some(Trigger::of(self.pop(rt, taker)?))
     }
 
+    /// One attempt to put a request at the back, for callers that may not wait; theirs is the ticket's
+    /// end too. The request comes back where the queue is full, where another thread is in the way
+    /// within a call of its own, and where the queue has carried 2^62 of them. Waits for nobody.
+    pub fn try_post(&self, poster: &mut Poster, upquery: Upquery) -> Result<(), Upquery>
+        requires own { poster.old.queue ≡ self.now.id }
+        requires key { upquery.key < poster.old.keys }
+        ensures own { IsSamePoster poster.old poster.new }
+        ensures posted { MatchResult result (λ _. poster.new.posted ≡ poster.old.posted ++ upquery ∷ []) (λ back. (back ≡ upquery) × (poster.new ≡ poster.old)) }
+    {
+        let post = Post {
+            poster: poster.number,
+            upquery,
+        };
+        match self.queue.try_push_as::<Pushes>(&mut poster.seat, post) {
+            Ok(()) => Ok(()),
+            Err(back) => Err(back.upquery),
+        }
+    }
+
+    /// One attempt to take what is at the front. None where the queue is empty, and where another
+    /// thread is in the way within a call of its own. Waits for nobody.
+    pub fn try_take(&self, taker: &mut Taker) -> Option<Trigger>
+        requires own { taker.old.queue ≡ self.now.id }
+        ensures own { IsSameTaker taker.old taker.new }
+        ensures taken { MatchOption result (taker.new ≡ taker.old) (λ trigger. (taker.new.taken ≡ taker.old.taken ++ trigger ∷ []) × (trigger.upquery.key < taker.old.keys)) }
+    {
+        let post = self.queue.try_pop_as::<Pops>(&mut taker.seat)?;
+        Some(Trigger::of(post))
+    }
+
     // Puts it at the back, as this poster's.
     fn push<R: Wait>(&self, rt: &R, poster: &mut Poster, upquery: Upquery) -> Result<(), Post>
         requires own { poster.old.queue ≡ self.now.id }

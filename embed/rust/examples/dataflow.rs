@@ -1,42 +1,60 @@
-//! Two readers and a dataflow over one map, with a channel of the program's own for the requests.
-use nr::{Asked, Row, Rows, Shape, Ticket};
-use std::sync::mpsc::{channel, Sender};
+//! Two readers and a dataflow over one map. A reader that finds a key missing requests it; the first to do so posts its
+//! ticket, and the dataflow takes it and fills the key.
+use nr::{Asked, Poster, Queue, Reader, ReaderMap, Row, Rows, Shape, Taker, Ticket, Writer};
 use std::thread;
 
 const KEYS: u32 = 1000;
 
-fn read(mut reader: nr::Reader, requests: Sender<Ticket>) {
+fn rows_of(key: u32) -> [Row; 2] {
+    let k = u64::from(key);
+    [Row { a: k, b: k * k }, Row { a: k, b: k * k * k }]
+}
+
+fn post(poster: &mut Poster, mut ticket: Ticket) {
+    while let Err(back) = poster.post(ticket) {
+        ticket = back;
+        thread::yield_now();
+    }
+}
+
+fn read(mut reader: Reader, mut poster: Poster) {
     let mut rows = Rows::new();
     for key in 0..KEYS {
         while reader.find(key, &mut rows).is_none() {
             if let Asked::Send(ticket) = reader.ask(key) {
-                requests.send(ticket).expect("the dataflow waits for requests");
+                post(&mut poster, ticket);
             }
+            thread::yield_now();
         }
-        let k = u64::from(key);
-        assert_eq!(rows.as_slice(), [Row { a: k, b: k * k }, Row { a: k, b: k * k * k }]);
+        assert_eq!(rows.as_slice(), rows_of(key));
     }
 }
 
-fn main() -> Result<(), nr::Fault> {
-    let (mut writer, readers) = nr::open(&Shape::new(KEYS, KEYS + 3, 2))?;
-    let (requests, dataflow) = channel();
-    let threads: Vec<_> = readers
-        .into_iter()
-        .map(|reader| {
-            let requests = requests.clone();
-            thread::spawn(move || read(reader, requests))
-        })
-        .collect();
-    drop(requests);
+/// Fills each key once, as it is requested.
+fn fill(writer: &mut Writer, taker: &mut Taker) -> Result<(), nr::Fault> {
     let mut filled = 0;
-    for ticket in dataflow {
-        let k = u64::from(ticket.key);
-        writer.fill(ticket, &[Row { a: k, b: k * k }, Row { a: k, b: k * k * k }])?;
+    while filled < KEYS {
+        let Some(ticket) = taker.take() else {
+            thread::yield_now();
+            continue;
+        };
+        let rows = rows_of(ticket.key);
+        writer.fill(ticket, &rows)?;
         filled += 1;
     }
-    threads.into_iter().for_each(|thread| thread.join().expect("a reader ends"));
-    assert_eq!(filled, KEYS);
+    Ok(())
+}
+
+fn main() -> Result<(), nr::Fault> {
+    let ReaderMap { mut writer, readers } = ReaderMap::open(&Shape::new(KEYS, KEYS + 3, 2))?;
+    let Queue { mut taker, posters } = Queue::open(KEYS, KEYS, 2)?;
+    thread::scope(|scope| {
+        for (reader, poster) in readers.into_iter().zip(posters) {
+            scope.spawn(move || read(reader, poster));
+        }
+        fill(&mut writer, &mut taker)
+    })?;
+    assert!(taker.take().is_none());
     println!("each key was sent and filled once");
     Ok(())
 }

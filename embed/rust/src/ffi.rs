@@ -1,10 +1,42 @@
 //! The functions of `include/nr.h`.
-use crate::{Delta, Row, Rows, Shape};
+use crate::{Delta, Row, Rows, Shape, Sizes};
 use std::ffi::c_void;
 
 /// Where a handle leads.
 #[repr(C)]
-pub struct Handle(pub *mut c_void);
+pub struct Handle(*mut c_void);
+
+impl Handle {
+    /// One that leads nowhere, to be opened.
+    pub const fn empty() -> Handle {
+        Handle(std::ptr::null_mut())
+    }
+
+    /// The same place, to close it: the handle isn't used any more.
+    pub fn last(&mut self) -> Handle {
+        Handle(self.0)
+    }
+}
+
+pub const NR_ROWS: u32 = 0;
+pub const NR_HOLE: u32 = 1;
+pub const NR_SEND: u32 = 2;
+pub const NR_WAITING: u32 = 3;
+pub const NR_DONE: u32 = 5;
+pub const NR_NOT_ASKED: u32 = 6;
+pub const NR_ALREADY: u32 = 7;
+pub const NR_STALE: u32 = 8;
+pub const NR_DROPPED: u32 = 9;
+pub const NR_NO_ROW: u32 = 10;
+pub const NR_TOO_MANY: u32 = 11;
+pub const NR_NO_SLOT: u32 = 12;
+pub const NR_EVICTED: u32 = 13;
+pub const NR_CANCELLED: u32 = 14;
+pub const NR_NOTHING: u32 = 15;
+pub const NR_BAD_BATCH: u32 = 18;
+pub const NR_NOT_SORTED: u32 = 19;
+pub const NR_BAD_SIZE: u32 = 20;
+pub const NR_NO_MEMORY: u32 = 21;
 
 extern "C" {
     pub fn nr_open(shape: *const Shape, writer: *mut Handle) -> u32;
@@ -22,4 +54,16 @@ extern "C" {
     pub fn nr_evict(writer: *mut Handle, key: u32) -> u32;
     pub fn nr_cancel(writer: *mut Handle, key: u32) -> u32;
     pub fn nr_state(writer: *mut Handle, key: u32) -> u32;
+    pub fn nr_number(writer: *mut Handle, key: u32) -> u64;
+    pub fn nr_sizes(reader: *mut Handle, sizes: *mut Sizes);
+    pub fn nr_meet(reader: *mut Handle, writer: *mut Handle);
+    pub fn nr_meet_readers(reader: *mut Handle, other: *mut Handle);
+    pub fn nr_gather(writer: *mut Handle, reader: *mut Handle);
+    pub fn nr_gather_pin(writer: *mut Handle, reader: *mut Handle);
+    pub fn nr_open_queue(keys: u32, capacity: u32, posters: u32, taker: *mut Handle) -> u32;
+    pub fn nr_open_poster(taker: *mut Handle, poster: *mut Handle) -> u32;
+    pub fn nr_close_poster(poster: Handle);
+    pub fn nr_close_taker(taker: Handle);
+    pub fn nr_post(poster: *mut Handle, key: u32, number: u64) -> u32;
+    pub fn nr_take(taker: *mut Handle, key: *mut u32, number: *mut u64) -> u32;
 }

@@ -1,0 +1,195 @@
+/* Measures maps that have the functions of nr.h against each other, in one process: rounds in turn, each beginning with
+   another map, until the time is over, at least five. Prints a line for each column and map: the rows of a key, the
+   column, the map, the median of its times, and the median of its times over the first map's in the same round.
+   Usage: peers SECONDS ROWS NAME=LIBRARY.so .. */
+#define _GNU_SOURCE
+#include "library.h"
+#include <malloc.h>
+#include <sched.h>
+#include <stdatomic.h>
+
+enum { KEYS = 8192, MOST_ROUNDS = 2000, SAMPLES = 4000, PART = 1024, BESIDE = 3 };
+
+static const double WINDOW = 2e6;
+
+typedef enum { READ_1, READ_3, HOT_3, BESIDE_WRITER, UPDATE, HALF, LAST, FILL, EVICT, COLUMNS } column;
+
+static const char *const names[COLUMNS] = {"read by 1", "read by 3", "hot key by 3", "read by 3 beside writer",
+    "update beside 3 readers", "p50 of a read beside writer", "p99.9 of a read beside writer", "fill", "eviction"};
+
+static library maps[MOST];
+static double each[COLUMNS][MOST][MOST_ROUNDS], over[COLUMNS][MOST][MOST_ROUNDS];
+static double bytes[MOST];
+static int count, deltas;
+static uint32_t rows;
+static uint32_t order[READERS][ORDER];
+static nr_row set[255];
+static nr_delta there[2], back[2];
+static char is_there[MOST][KEYS];
+static int from[MOST];
+
+typedef struct {
+  library *map;
+  int id, hot;
+  double each;
+} job;
+
+/* A round's threads begin together, and its writer ends when its readers have. */
+static atomic_int ready, running;
+static atomic_bool go;
+
+static void wait_for_all(void) {
+  atomic_fetch_add(&ready, 1);
+  while (!atomic_load(&go)) sched_yield();
+}
+
+static void find(const job *j, int i, nr_rows *found) {
+  uint32_t key = j->hot ? 17 : order[j->id][i % ORDER];
+  if (j->map->find(&j->map->reader[j->id].handle, key, found) != NR_ROWS) stop("a find");
+  if (found->count != rows && (rows || found->count > 1)) stop("a number of rows");
+}
+
+static void *reads(void *given) {
+  job *j = given;
+  static _Thread_local nr_rows found;
+  wait_for_all();
+  double began = now(), ended;
+  int made = 0;
+  do {
+    for (int i = 0; i < 64; i++) find(j, made++, &found);
+    ended = now();
+  } while (ended - began < WINDOW);
+  j->each = (ended - began) / made;
+  atomic_fetch_sub(&running, 1);
+  return NULL;
+}
+
+/* The time of each read by itself, with what the clock costs. */
+static double samples[SAMPLES];
+
+static void *reads_apart(void *given) {
+  job *j = given;
+  static _Thread_local nr_rows found;
+  wait_for_all();
+  for (int i = 0; i < SAMPLES; i++) {
+    double began = now();
+    find(j, i, &found);
+    samples[i] = now() - began;
+  }
+  atomic_fetch_sub(&running, 1);
+  return NULL;
+}
+
+static void update(library *l, uint32_t key) {
+  char *is = &is_there[l - maps][key];
+  if (l->update(&l->writer, key, *is ? back : there, (size_t)deltas) != NR_DONE) stop("an update");
+  *is = !*is;
+}
+
+/* Runs readers, and beside them a writer, if there is one; what one update took. */
+static double run(library *l, int threads, void *(*body)(void *), int hot, int writes, double *read) {
+  pthread_t t[READERS];
+  job jobs[READERS];
+  atomic_store(&ready, 0);
+  atomic_store(&running, threads);
+  atomic_store(&go, 0);
+  for (int i = 0; i < threads; i++) {
+    jobs[i] = (job){l, i, hot, 0};
+    if (pthread_create(&t[i], NULL, body, &jobs[i])) stop("a thread");
+  }
+  while (atomic_load(&ready) < threads) sched_yield();
+  double began = now();
+  int made = 0, *place = &from[l - maps];
+  atomic_store(&go, 1);
+  while (writes && atomic_load(&running)) {
+    update(l, order[READERS - 1][(*place)++ % ORDER]);
+    made++;
+  }
+  double took = now() - began;
+  *read = 0;
+  for (int i = 0; i < threads; i++) {
+    pthread_join(t[i], NULL);
+    *read += jobs[i].each / threads;
+  }
+  return made ? took / made : took;
+}
+
+/* Evicts keys, requests them, and fills them. */
+static void fill_again(library *l, int round, double *fill, double *evict) {
+  uint64_t number;
+  uint32_t first = (uint32_t)round * PART % KEYS;
+  double began = now();
+  for (uint32_t key = first; key < first + PART; key++)
+    if (l->evict(&l->writer, key) != NR_EVICTED) stop("an eviction");
+  *evict = (now() - began) / PART;
+  for (uint32_t key = first; key < first + PART; key++)
+    if (l->ask(&l->reader[0].handle, key, &number) != NR_SEND) stop("a request");
+  began = now();
+  for (uint32_t key = first; key < first + PART; key++)
+    if (l->fill(&l->writer, key, 0, set, rows) != NR_DONE) stop("a fill");
+  *fill = (now() - began) / PART;
+  memset(&is_there[l - maps][first], 0, PART);
+}
+
+static void measure(int m, int r) {
+  library *l = &maps[m];
+  double none;
+  run(l, 1, reads, 0, 0, &each[READ_1][m][r]);
+  run(l, 3, reads, 0, 0, &each[READ_3][m][r]);
+  run(l, 3, reads, 1, 0, &each[HOT_3][m][r]);
+  each[UPDATE][m][r] = run(l, BESIDE, reads, 0, 1, &each[BESIDE_WRITER][m][r]);
+  run(l, 1, reads_apart, 0, 1, &none);
+  each[HALF][m][r] = at_part(samples, SAMPLES, 0.5);
+  each[LAST][m][r] = at_part(samples, SAMPLES, 0.999);
+  fill_again(l, r, &each[FILL][m][r], &each[EVICT][m][r]);
+}
+
+static double in_use(void) {
+  struct mallinfo2 info = mallinfo2();
+  return (double)info.uordblks + (double)info.hblkhd;
+}
+
+static void begin(char *argument) {
+  char *split = strchr(argument, '=');
+  if (!split || count == MOST) stop("NAME=LIBRARY.so");
+  *split = 0;
+  library *l = &maps[count];
+  double before = in_use();
+  load(l, argument, split + 1, (nr_shape){KEYS, KEYS + READERS + 1, READERS, rows > 15 ? rows : 15, 0, 0});
+  for (uint32_t key = 0; key < KEYS; key++) {
+    uint64_t number;
+    if (l->ask(&l->reader[0].handle, key, &number) != NR_SEND) stop("a request");
+    if (l->fill(&l->writer, key, number, set, rows) != NR_DONE) stop("a fill");
+  }
+  bytes[count++] = (in_use() - before) / KEYS;
+}
+
+static void tell(const char *column, int m, double value, double ratio) {
+  printf("%u\t%s\t%s\t%.1f\t%.2f\n", rows, column, maps[m].name, value, ratio);
+}
+
+int main(int arguments, char **argument) {
+  if (arguments < 4) stop("usage: peers SECONDS ROWS NAME=LIBRARY.so ..");
+  double until = now() + atof(argument[1]) * 1e9;
+  rows = (uint32_t)atoi(argument[2]);
+  for (uint32_t i = 0; i < 255; i++) set[i] = (nr_row){7 + i / 4, i % 4};
+  nr_row old = set[rows / 2], other = {old.a, 1000};
+  /* An update takes one row and puts another; without rows it puts one, and then takes it. */
+  deltas = rows ? 2 : 1;
+  there[0] = (nr_delta){other, 1}, there[1] = (nr_delta){old, 0};
+  back[0] = (nr_delta){other, 0}, back[1] = (nr_delta){old, 1};
+  shuffle(order, KEYS);
+  for (int i = 3; i < arguments; i++) begin(argument[i]);
+  int rounds = 0;
+  for (; rounds < MOST_ROUNDS && (rounds < 5 || now() < until); rounds++) {
+    for (int i = 0; i < count; i++) measure((i + rounds) % count, rounds);
+    for (int c = 0; c < COLUMNS; c++)
+      for (int m = 0; m < count; m++) over[c][m][rounds] = each[c][m][rounds] / each[c][0][rounds];
+  }
+  for (int c = 0; c < COLUMNS; c++)
+    for (int m = 0; m < count; m++)
+      tell(names[c], m, at_part(each[c][m], rounds, 0.5), at_part(over[c][m], rounds, 0.5));
+  for (int m = 0; m < count; m++) tell("bytes a key", m, bytes[m], bytes[m] / bytes[0]);
+  fprintf(stderr, "%u rows: %d rounds\n", rows, rounds);
+  return 0;
+}

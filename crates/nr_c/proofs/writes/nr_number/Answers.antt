@@ -1,0 +1,5 @@
+use Rattle.std.proofs.Common.{refl}
+use Rattle.nr_c.proofs.writes.nr_number.Goals as goal
+
+pub returns : goal.returns
+returns c = record { old = c.side-side.result.now; new = _; was = c.side-side.ensures.value; is = refl; map = refl; spare = refl; made = (c.number.ensures.number, refl) }

@@ -1,0 +1,41 @@
+-- What a post and a take say of their tokens, by their codes.
+use Rattle.std.specs.Prelude.{ℕ, ◌≡◌, ◌<◌, ◌⊎◌, List, [], ◌∷◌, ◌++◌}
+use Rattle.nr_trigger.specs.declared.post.Post.{Post}
+use Rattle.nr_trigger.specs.declared.post.Upquery.{Upquery}
+use Rattle.nr_trigger.specs.Tokens.{IsSamePoster, IsSameTaker, PosterSeen, TakerSeen}
+use Rattle.nr_c.specs.declared.codes.TheConstants.{NR_DONE, NR_NOT_POSTED, NR_NOT_TAKEN}
+use Rattle.nr_c.specs.declared.poster_side.PosterSide.{PosterSide}
+use Rattle.nr_c.specs.declared.taker_side.TakerSide.{TakerSide}
+
+-- the handle leads to one side, of the same queue before and after, whose poster became another
+pub record PosterCalls (became : PosterSeen → PosterSeen → Type 0) (before after : List PosterSide) : Type 0 where
+  pub old : PosterSide
+  pub new : PosterSide
+  pub was : before ≡ old ∷ []
+  pub is : after ≡ new ∷ []
+  pub queue : new.queue ≡ old.queue
+  pub made : became old.poster new.poster
+
+-- and the taker's, whose posters without a handle stay
+pub record TakerCalls (became : TakerSeen → TakerSeen → Type 0) (before after : List TakerSide) : Type 0 where
+  pub old : TakerSide
+  pub new : TakerSide
+  pub was : before ≡ old ∷ []
+  pub is : after ≡ new ∷ []
+  pub queue : new.queue ≡ old.queue
+  pub spare : new.spare ≡ old.spare
+  pub made : became old.taker new.taker
+
+abbrev pub request_of : ℕ → ℕ → Upquery
+request_of key number = record { key = key; number = number }
+
+-- a post by its code: the poster has posted the request, or nothing
+abbrev pub Posts : ℕ → ℕ → ℕ → PosterSeen → PosterSeen → Type 0
+Posts key number code old new =
+    IsSamePoster old new × (((code ≡ NR_DONE) × (new.posted ≡ old.posted ++ request_of key number ∷ [])) ⊎ ((code ≡ NR_NOT_POSTED) × (new ≡ old)))
+
+-- a take by its code: the taker has taken a request of a key below the number, which is told, or nothing, and what stood there stays
+abbrev pub Takes : ℕ → ℕ → ℕ → ℕ → ℕ → TakerSeen → TakerSeen → Type 0
+Takes key number key' number' code old new =
+    IsSameTaker old new
+    × (((code ≡ NR_DONE) × (post : Post) × (new.taken ≡ old.taken ++ post ∷ []) × (post.upquery ≡ request_of key' number') × (key' < old.keys)) ⊎ ((code ≡ NR_NOT_TAKEN) × (new ≡ old) × (key' ≡ key) × (number' ≡ number)))

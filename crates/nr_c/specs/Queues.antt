@@ -1,0 +1,42 @@
+-- What opens a queue of requests and its handles.
+use Rattle.std.specs.Prelude.{ℕ, ◌≡◌, ◌⊎◌, List, [], ◌∷◌, ◌++◌}
+use Rattle.nr_trigger.specs.Tokens.{IsOpened, PosterSeen}
+use Rattle.nr_c.specs.declared.codes.TheConstants.{NR_BAD_SIZE, NR_DONE, NR_NO_MEMORY, NR_NO_POSTER}
+use Rattle.nr_c.specs.declared.poster_side.PosterSide.{PosterSide}
+use Rattle.nr_c.specs.declared.taker_side.TakerSide.{TakerSide}
+
+-- the taker's side of a new queue of that capacity for keys below the number, with so many posters, none of which has a handle
+abbrev pub IsNewQueue : ℕ → ℕ → ℕ → TakerSide → Type 0
+IsNewQueue capacity posters keys side = IsOpened capacity posters keys side.queue.value side.spare.items side.taker
+
+-- an opening by its code: the handle leads to the side of a new queue, or nowhere
+abbrev pub OpensQueue : ℕ → ℕ → ℕ → ℕ → List TakerSide → Type 0
+OpensQueue capacity posters keys code after =
+    ((code ≡ NR_DONE) × (side : TakerSide) × (after ≡ side ∷ []) × IsNewQueue capacity posters keys side) ⊎ (((code ≡ NR_BAD_SIZE) ⊎ (code ≡ NR_NO_MEMORY)) × (after ≡ []))
+
+-- the taker's handle leads to one side, of the same queue and with the same taker, and these posters have no handle
+pub record KeepsTaker (before after : List TakerSide) (had has : List PosterSeen) : Type 0 where
+  pub old : TakerSide
+  pub new : TakerSide
+  pub was : before ≡ old ∷ []
+  pub is : after ≡ new ∷ []
+  pub queue : new.queue ≡ old.queue
+  pub taker : new.taker ≡ old.taker
+  pub had_spare : old.spare.items ≡ had
+  pub has_spare : new.spare.items ≡ has
+
+-- the poster's handle leads to the side of that poster, of the taker's queue
+pub record LeadsToPoster (before : List TakerSide) (poster : PosterSeen) (handle : List PosterSide) : Type 0 where
+  pub held : TakerSide
+  pub side : PosterSide
+  pub was : before ≡ held ∷ []
+  pub is : handle ≡ side ∷ []
+  pub queue : side.queue.value ≡ held.queue.value
+  pub poster_is : side.poster ≡ poster
+
+-- the last poster without a handle gets one; or none has none, or there is no memory
+abbrev pub TakesPoster : ℕ → List TakerSide → List TakerSide → List PosterSide → Type 0
+TakesPoster code before after handle =
+    ((code ≡ NR_DONE) × (rest : List PosterSeen) × (poster : PosterSeen) × KeepsTaker before after (rest ++ poster ∷ []) rest × LeadsToPoster before poster handle)
+    ⊎ ((code ≡ NR_NO_POSTER) × KeepsTaker before after [] [] × (handle ≡ []))
+    ⊎ ((code ≡ NR_NO_MEMORY) × (spare : List PosterSeen) × KeepsTaker before after spare spare × (handle ≡ []))

@@ -1,0 +1,16 @@
+-- What a handle owns: the same as a box of its token, or nothing.
+use mathlib.Core.List.{List, [], ◌∷◌}
+use base.Fml.{Fml, ftrue}
+use base.Stored.{Coded}
+use denote.RawPtr.{Ptr}
+use Rattle.std.specs.Box.Ownership.{box_owns}
+use Rattle.std.specs.Global.{Global}
+use Rattle.std_heap.specs.contracts.GlobalAllocator.TheImpl.{ghosts}
+use Rattle.nr_c.specs.contracts.taker_side.TakerSide.{the_row}
+
+abbrev pub handle_owns : Global → Ptr → List the_row.Denot → Fml
+handle_owns a p [] = ftrue
+handle_owns a p (t ∷ ts) = box_owns (ghosts.dealloc_token a) the_row p t
+
+abbrev pub side_coded : Coded the_row.Denot
+side_coded = the_row.coded

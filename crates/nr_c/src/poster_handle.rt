@@ -1,0 +1,63 @@
+//! A poster's handle: a box of a poster's side, or none, whose type names no other type, so that C
+//! may hold it.
+ghost use Rattle.std.specs.Prelude.{◌≡◌, List, [], ◌∷◌};
+ghost use base.Stored.{coded_list};
+ghost use Rattle.nr_c.specs.declared.poster_side.PosterSide.{PosterSide};
+ghost use Rattle.nr_c.specs.PosterHandles.{side_coded, handle_owns};
+
+use crate::parts::Parts;
+use crate::poster_side::PosterSide;
+use std::alloc::Global;
+use std::marker::Model;
+
+/// C starts one as zeros, which leads nowhere, and never copies one that leads somewhere.
+#[repr(C)]
+#[derive(Drop)]
+pub struct NrPoster {
+    pub(crate) ptr: *mut u8,
+    alloc: Global,
+    pub ghost live: { List PosterSide } by { coded_list side_coded },
+}
+
+impl Model for NrPoster {
+    ghost also_owns = { λ s. handle_owns s.alloc s.ptr s.live };
+}
+
+// C may hand it to another thread.
+unsafe impl Send for NrPoster {}
+
+impl NrPoster {
+    pub fn new(b: Box<PosterSide, Global>) -> NrPoster
+        ensures { result.live ≡ b.value ∷ [] }
+    {
+        NrPoster::of_parts(Parts::of(b))
+    }
+
+    pub fn into_box(self) -> Box<PosterSide, Global>
+        requires { (side : PosterSide) × (self.live ≡ side ∷ []) }
+        ensures { self.live ≡ result.value ∷ [] }
+    {
+        self.into_parts().into_box()
+    }
+
+    fn of_parts(parts: Parts<PosterSide, Global>) -> NrPoster
+        ensures { result.live ≡ parts.value ∷ [] }
+    {
+        let Parts { ptr, alloc } = parts;
+        NrPoster {
+            ptr: ptr as *mut u8,
+            alloc,
+        }
+    }
+
+    fn into_parts(self) -> Parts<PosterSide, Global>
+        requires { (side : PosterSide) × (self.live ≡ side ∷ []) }
+        ensures { self.live ≡ result.value ∷ [] }
+    {
+        let NrPoster { ptr, alloc } = self;
+        Parts {
+            ptr: ptr as *mut PosterSide,
+            alloc,
+        }
+    }
+}

@@ -1,0 +1,14 @@
+//! What a poster's handle leads to.
+ghost use Rattle.std.specs.Prelude.{◌≡◌};
+
+use nr_trigger::{Poster, Triggers};
+use std::alloc::Global;
+use std::sync::Arc;
+
+/// A poster with its share of the queue.
+#[derive(Drop)]
+pub struct PosterSide {
+    pub queue: Arc<Triggers, Global>,
+    pub poster: Poster,
+    ghost own: { poster.queue ≡ queue.value.id },
+}

@@ -1,0 +1,129 @@
+//! What opens a queue of requests and its handles, and what ends them.
+ghost use Rattle.std.specs.Prelude.{◌≡◌, ◌↔◌, ◌⊎◌, ℕ, [], ◌∷◌, Err, IfOk, IfErr};
+ghost use Rattle.nr_model.specs.Sizes.{IsBadSize};
+ghost use Rattle.nr_trigger.specs.declared.triggers.TheConstants.{MAX_CAPACITY, MAX_POSTERS};
+ghost use Rattle.nr_c.specs.declared.codes.TheConstants.{NR_BAD_SIZE};
+ghost use Rattle.nr_c.specs.declared.poster_side.PosterSide.{PosterSide as PosterHeld};
+ghost use Rattle.nr_c.specs.declared.taker_side.TakerSide.{TakerSide as TakerHeld};
+ghost use Rattle.nr_c.specs.Queues.{IsNewQueue, OpensQueue, TakesPoster};
+
+use crate::codes::{NR_BAD_SIZE, NR_DONE, NR_NO_MEMORY, NR_NO_POSTER};
+use crate::poster_handle::NrPoster;
+use crate::poster_side::PosterSide;
+use crate::taker_handle::NrTaker;
+use crate::taker_side::TakerSide;
+use nr_model::OpenFault;
+use nr_trigger::{Poster, Triggers};
+use std::alloc::Global;
+use std::sync::Arc;
+
+/// Opens a queue for requests of keys below a number, and makes the taker's handle live. Answers
+/// `NR_DONE`; `NR_BAD_SIZE` where a size is out of its limits, a capacity of 1 to 65,536 requests
+/// and 1 to 1,024 posters; or `NR_NO_MEMORY`. The handle stays empty where it isn't done.
+#[unsafe(no_mangle)]
+pub extern "C" fn nr_open_queue(
+    alloc: Global,
+    keys: u32,
+    capacity: u32,
+    posters: u32,
+    taker: &mut NrTaker,
+) -> u32
+    requires empty { taker.old.live ≡ [] }
+    ensures bad_size { (result ≡ NR_BAD_SIZE) ↔ (IsBadSize MAX_CAPACITY capacity ⊎ IsBadSize MAX_POSTERS posters) }
+    ensures opens { OpensQueue capacity posters keys result taker.new.live }
+{
+    match opened_queue(alloc, keys, capacity, posters) {
+        Ok(side) => {
+            *taker = NrTaker::new(side);
+            NR_DONE
+        }
+        Err(OpenFault::BadSize) => NR_BAD_SIZE,
+        Err(OpenFault::Memory) => NR_NO_MEMORY,
+    }
+}
+
+// A queue's taker's side. Contracts are told the number by whoever calls this.
+fn opened_queue(
+    alloc: Global,
+    keys: u32,
+    capacity: u32,
+    posters: u32,
+) -> Result<Box<TakerSide, Global>, OpenFault>
+    ghost below: { ℕ }
+    ensures bad_size { (result ≡ Err OpenFault.BadSize) ↔ (IsBadSize MAX_CAPACITY capacity ⊎ IsBadSize MAX_POSTERS posters) }
+    ensures ok { IfOk result (λ side. IsNewQueue capacity posters below side.value) }
+{
+    let _ = keys;
+    let (queue, spare, taker) = Triggers::open(alloc, capacity, posters)?;
+    let queue = Arc::new(alloc, queue).map_err(|_| OpenFault::Memory)?;
+    let side = TakerSide {
+        queue,
+        taker,
+        spare,
+    };
+    Ok(Box::new(alloc, side).map_err(|_| OpenFault::Memory)?)
+}
+
+/// Makes the handle of one more poster live. Answers `NR_DONE`; `NR_NO_POSTER` where each poster
+/// has a handle; or `NR_NO_MEMORY`. The handle stays empty where it isn't done, and the taker's
+/// stays as it is.
+#[unsafe(no_mangle)]
+pub extern "C" fn nr_open_poster(alloc: Global, taker: &mut NrTaker, poster: &mut NrPoster) -> u32
+    requires live { (held : TakerHeld) × (taker.old.live ≡ held ∷ []) }
+    requires empty { poster.old.live ≡ [] }
+    ensures { TakesPoster result taker.old.live taker.new.live poster.new.live }
+{
+    let side = taker.side();
+    let Some(next) = side.spare.pop() else {
+        return NR_NO_POSTER;
+    };
+    match posting(alloc, &side.queue, next) {
+        Ok(made) => {
+            *poster = NrPoster::new(made);
+            NR_DONE
+        }
+        Err(next) => {
+            side.spare.push_reserved(next);
+            NR_NO_MEMORY
+        }
+    }
+}
+
+// A poster's side. The poster comes back where there is no memory.
+fn posting(
+    alloc: Global,
+    queue: &Arc<Triggers, Global>,
+    poster: Poster,
+) -> Result<Box<PosterSide, Global>, Poster>
+    requires own { poster.queue ≡ queue.now.value.id }
+    ensures ok { IfOk result (λ side. (side.value.queue.value ≡ queue.now.value) × (side.value.poster ≡ poster)) }
+    ensures back { IfErr result (λ back. back ≡ poster) }
+{
+    let Ok(queue) = Arc::try_clone(queue) else {
+        return Err(poster);
+    };
+    match Box::new(alloc, PosterSide { queue, poster }) {
+        Ok(side) => Ok(side),
+        Err(failed) => {
+            let PosterSide { queue, poster } = failed.value;
+            drop(queue);
+            Err(poster)
+        }
+    }
+}
+
+/// Ends a poster, which no handle gets again.
+#[unsafe(no_mangle)]
+pub extern "C" fn nr_close_poster(poster: NrPoster)
+    requires live { (held : PosterHeld) × (poster.live ≡ held ∷ []) }
+{
+    drop(poster.into_box());
+}
+
+/// Ends the taker. The memory of the queue goes with the last handle.
+#[unsafe(no_mangle)]
+pub extern "C" fn nr_close_taker(taker: NrTaker)
+    requires live { (held : TakerHeld) × (taker.live ≡ held ∷ []) }
+{
+    drop(taker.into_box());
+}

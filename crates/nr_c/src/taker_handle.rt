@@ -1,0 +1,63 @@
+//! The taker's handle: a box of the taker's side, or none, whose type names no other type, so that C
+//! may hold it.
+ghost use Rattle.std.specs.Prelude.{◌≡◌, List, [], ◌∷◌};
+ghost use base.Stored.{coded_list};
+ghost use Rattle.nr_c.specs.declared.taker_side.TakerSide.{TakerSide};
+ghost use Rattle.nr_c.specs.TakerHandles.{side_coded, handle_owns};
+
+use crate::parts::Parts;
+use crate::taker_side::TakerSide;
+use std::alloc::Global;
+use std::marker::Model;
+
+/// C starts one as zeros, which leads nowhere, and never copies one that leads somewhere.
+#[repr(C)]
+#[derive(Drop)]
+pub struct NrTaker {
+    pub(crate) ptr: *mut u8,
+    alloc: Global,
+    pub ghost live: { List TakerSide } by { coded_list side_coded },
+}
+
+impl Model for NrTaker {
+    ghost also_owns = { λ s. handle_owns s.alloc s.ptr s.live };
+}
+
+// C may hand it to another thread.
+unsafe impl Send for NrTaker {}
+
+impl NrTaker {
+    pub fn new(b: Box<TakerSide, Global>) -> NrTaker
+        ensures { result.live ≡ b.value ∷ [] }
+    {
+        NrTaker::of_parts(Parts::of(b))
+    }
+
+    pub fn into_box(self) -> Box<TakerSide, Global>
+        requires { (side : TakerSide) × (self.live ≡ side ∷ []) }
+        ensures { self.live ≡ result.value ∷ [] }
+    {
+        self.into_parts().into_box()
+    }
+
+    fn of_parts(parts: Parts<TakerSide, Global>) -> NrTaker
+        ensures { result.live ≡ parts.value ∷ [] }
+    {
+        let Parts { ptr, alloc } = parts;
+        NrTaker {
+            ptr: ptr as *mut u8,
+            alloc,
+        }
+    }
+
+    fn into_parts(self) -> Parts<TakerSide, Global>
+        requires { (side : TakerSide) × (self.live ≡ side ∷ []) }
+        ensures { self.live ≡ result.value ∷ [] }
+    {
+        let NrTaker { ptr, alloc } = self;
+        Parts {
+            ptr: ptr as *mut TakerSide,
+            alloc,
+        }
+    }
+}

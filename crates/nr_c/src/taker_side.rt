@@ -1,0 +1,16 @@
+//! What the taker's handle leads to.
+ghost use Rattle.std.specs.Prelude.{◌≡◌, All};
+
+use nr_trigger::{Poster, Taker, Triggers};
+use std::alloc::Global;
+use std::sync::Arc;
+
+/// The taker with its share of the queue, and the posters that no handle has yet.
+#[derive(Drop)]
+pub struct TakerSide {
+    pub queue: Arc<Triggers, Global>,
+    pub taker: Taker,
+    pub spare: Vec<Poster, Global>,
+    ghost own: { taker.queue ≡ queue.value.id },
+    ghost spares: { All (λ poster. poster.queue ≡ queue.value.id) spare.items },
+}
