@@ -19,15 +19,15 @@ use Rattle.nr_map.specs.Answers.{HasNoSlot, Publishes}
 use Rattle.nr_map.specs.Callers.{Caller, Gains, Grows, Table, opening_map}
 use Rattle.nr_map.specs.ExactPlaces.{OnlyLearnt}
 use Rattle.nr_map.specs.Rule.{StartsWith}
-use Rattle.nr_alone.specs.declared.answer.Answer.{Answer}
-use Rattle.nr_alone.specs.declared.answer.Answer.TheVariants as answers
+use Rattle.nr_alone.specs.Answers.{Answer}
+use Rattle.nr_alone.specs.Answers as answers
 use Rattle.nr_alone.specs.declared.seat.Seat.{Seat}
 use Rattle.nr_alone.specs.MapState.{Pin, MapState, after_call, answer_call, is_full}
 use Rattle.nr_alone.specs.Seats.{Fits, caller_of, how_of, mine_of, pin_of}
 use Rattle.nr_alone.specs.Rounds.{Gathered}
 use Rattle.nr_alone.specs.Alone.{IsAlone, IsSeat, Laws, calls_of, log_of, shown_by, shown}
 use Rattle.nr_alone.specs.Lines.{IsLine, Settles}
-use Rattle.nr_alone.specs.WriterCalls.{LacksSlot, PutsSet, Replies, WriterMakes}
+use Rattle.nr_alone.specs.WriterMakes.{LacksSlot, PutsSet, Replies, WriterMakes}
 use Rattle.nr_alone.proofs.Rounds.{starts_both, starts_then}
 use Rattle.nr_alone.proofs.Exactly.{calls_at, entries_other, entries_own, log_begins, many_mines}
 use Rattle.nr_alone.proofs.Settling.{settled}

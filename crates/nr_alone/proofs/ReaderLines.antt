@@ -17,8 +17,8 @@ use Rattle.nr_core.specs.Story.{entry, map_after}
 use Rattle.nr_marks.specs.Puts.{put_number}
 use Rattle.nr_map.specs.Callers.{Caller, Rests, Table, opening_map}
 use Rattle.nr_map.specs.Rule.{StartsWith}
-use Rattle.nr_alone.specs.declared.answer.Answer.{Answer}
-use Rattle.nr_alone.specs.declared.answer.Answer.TheVariants as answers
+use Rattle.nr_alone.specs.Answers.{Answer}
+use Rattle.nr_alone.specs.Answers as answers
 use Rattle.nr_alone.specs.declared.answer.Refusal.TheVariants as refusals
 use Rattle.nr_alone.specs.declared.seat.Seat.{Seat}
 use Rattle.nr_alone.specs.MapState.{Outcome, Pin, MapState, answer_call, answer_pin, pin_at, pins_after, with_pin, without_pin}

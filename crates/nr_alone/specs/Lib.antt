@@ -1,6 +1,9 @@
+pub mod Answers
+pub mod Said
+pub mod WriterCalls
 pub mod MapState
 pub mod Seats
 pub mod Rounds
 pub mod Alone
 pub mod Lines
-pub mod WriterCalls
+pub mod WriterMakes

@@ -11,8 +11,8 @@ use Rattle.nr_model.specs.Maps.{PartialMap, opening, key_of, reply_to, next, fil
 use Rattle.nr_model.specs.Histories.{is_done}
 use Rattle.nr_model.specs.Strays.{keyed, strays}
 use Rattle.nr_core.specs.declared.shape.Shape.{Shape}
-use Rattle.nr_alone.specs.declared.answer.Answer.{Answer}
-use Rattle.nr_alone.specs.declared.answer.Answer.TheVariants as answers
+use Rattle.nr_alone.specs.Answers.{Answer}
+use Rattle.nr_alone.specs.Answers as answers
 use Rattle.nr_alone.specs.declared.answer.Refusal.{Refusal}
 use Rattle.nr_alone.specs.declared.answer.Refusal.TheVariants as refusals
 

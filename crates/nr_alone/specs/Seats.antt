@@ -13,8 +13,8 @@ use Rattle.nr_map.specs.Callers.{Caller, Gains, KnowsOwn, Rests, Table}
 use Rattle.nr_map.specs.Meetings.{how_is}
 use Rattle.nr_map.specs.Rule.{StartsWith}
 use Rattle.nr_alone.specs.MapState.{Pin}
-use Rattle.nr_alone.specs.declared.answer.Answer.{Answer}
-use Rattle.nr_alone.specs.declared.answer.Answer.TheVariants as answers
+use Rattle.nr_alone.specs.Answers.{Answer}
+use Rattle.nr_alone.specs.Answers as answers
 use Rattle.nr_alone.specs.declared.answer.Refusal.{Refusal}
 use Rattle.nr_alone.specs.declared.answer.Refusal.TheVariants as refusals
 use Rattle.nr_alone.specs.declared.seat.Seat.{Seat}

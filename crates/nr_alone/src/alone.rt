@@ -1,10 +1,9 @@
 //! A running map whose tokens are all in one hand.
 ghost use Rattle.std.specs.Prelude.{◌≡◌, ◌≤◌, ◌<◌, ◌↔◌, All, length, Ok, Err, IfOk, map as each_of};
 ghost use Rattle.nr_core.specs.Sizes.{IsBadShape};
-ghost use Rattle.nr_core.specs.States.{key_of};
-ghost use Rattle.nr_core.specs.Story.{call_of};
 ghost use Rattle.nr_model.specs.declared.rows.TheConstants.{MAX_ROWS};
 ghost use Rattle.nr_alone.specs.Seats.{caller_of};
+ghost use Rattle.nr_alone.specs.WriterCalls.{call_of, key_of};
 ghost use Rattle.nr_alone.specs.declared.seat.Seat.TheVariants.{Idle};
 
 use crate::answer::{Answer, Refusal};
@@ -12,11 +11,10 @@ use crate::calls::{ask_at, find_at, pin_at, show_at, unpin_at};
 use crate::premises::laws;
 use crate::round::gather_round;
 use crate::seat::Seat;
-use crate::writer_calls::call_writer;
-use nr_core::WriterCall;
+use crate::writer_calls::{WriterCall, call_writer};
 use nr_map::{Reader, ReaderMap, Shape, Writer};
-use nr_model::OpenFault;
 use nr_model::laws::{legal_begins, numbers_count_cancels};
+use nr_model::{OpenFault, RowSet};
 use std::alloc::{AllocError, Global};
 use std::marker::Model;
 
@@ -93,32 +91,37 @@ impl Alone {
         self.map.number(&self.writer, key)
     }
 
-    /// A call of the writer's at one of the map's keys.
-    pub fn call(&mut self, call: &WriterCall) -> Answer
+    /// A call of the writer's at one of the map's keys. The rows of a find are written into the set.
+    pub fn call<'a>(&mut self, call: &WriterCall<'_>, rows: &'a mut RowSet) -> Answer<'a>
         requires key { key_of call.now < key_count self.old.map }
         requires fits { FillFits self.old.map.bound (call_of call.now) }
         ensures { answer_call self.old (call_of call.now) ≡ (Ok result, self.new) }
     {
         laws();
-        let answer = call_writer(&self.map, &mut self.writer, call);
+        let answer = call_writer(&self.map, &mut self.writer, call, rows);
         gather_round(&self.map, &mut self.writer, self.seats.as_mut_slice(), 0);
         answer
     }
 
-    /// A find of a reader's that has no pin.
-    pub fn find(&mut self, at: usize, key: u32) -> Result<Answer, Refusal>
+    /// A find of a reader's that has no pin. The rows are written into the set.
+    pub fn find<'a>(
+        &mut self,
+        at: usize,
+        key: u32,
+        rows: &'a mut RowSet,
+    ) -> Result<Answer<'a>, Refusal>
         requires reader { at < length self.old.pins }
         requires key { key < key_count self.old.map }
         ensures { answer_of_reader self.old at (model.Find key) ≡ (result, self.new) }
     {
         laws();
-        let answer = find_at(&self.map, &mut self.writer, &mut self.seats[at], key)?;
+        let answer = find_at(&self.map, &mut self.writer, &mut self.seats[at], key, rows)?;
         gather_round(&self.map, &mut self.writer, self.seats.as_mut_slice(), at);
         Ok(answer)
     }
 
     /// A request of a reader's that has no pin.
-    pub fn ask(&mut self, at: usize, key: u32) -> Result<Answer, Refusal>
+    pub fn ask(&mut self, at: usize, key: u32) -> Result<Answer<'static>, Refusal>
         requires reader { at < length self.old.pins }
         requires key { key < key_count self.old.map }
         ensures { answer_of_reader self.old at (model.Ask key) ≡ (result, self.new) }
@@ -130,7 +133,7 @@ impl Alone {
     }
 
     /// A reader that has no pin pins the set of a key, if the key has one.
-    pub fn pin(&mut self, at: usize, key: u32) -> Result<Answer, Refusal>
+    pub fn pin(&mut self, at: usize, key: u32) -> Result<Answer<'static>, Refusal>
         requires reader { at < length self.old.pins }
         requires key { key < key_count self.old.map }
         ensures { answer_pinning self.old at key (state_of self.old.map key) ≡ (result, self.new) }
@@ -141,19 +144,19 @@ impl Alone {
         Ok(answer)
     }
 
-    /// Shows the set that a reader has pinned.
-    pub fn show(&mut self, at: usize) -> Result<Answer, Refusal>
+    /// Shows the set that a reader has pinned: its rows are written into the set.
+    pub fn show<'a>(&mut self, at: usize, rows: &'a mut RowSet) -> Result<Answer<'a>, Refusal>
         requires { at < length self.old.pins }
         ensures { answer_show self.old at ≡ (result, self.new) }
     {
         laws();
-        let answer = show_at(&self.map, &mut self.seats[at])?;
+        let answer = show_at(&self.map, &mut self.seats[at], rows)?;
         gather_round(&self.map, &mut self.writer, self.seats.as_mut_slice(), at);
         Ok(answer)
     }
 
     /// Ends a reader's pin.
-    pub fn unpin(&mut self, at: usize) -> Result<Answer, Refusal>
+    pub fn unpin(&mut self, at: usize) -> Result<Answer<'static>, Refusal>
         requires { at < length self.old.pins }
         ensures { answer_unpin self.old at ≡ (result, self.new) }
     {

@@ -3,20 +3,21 @@ ghost use Rattle.std.specs.Prelude.{◌≡◌, ◌<◌};
 ghost use Rattle.nr_model.specs.declared.calls.Call.TheVariants as model;
 ghost use Rattle.nr_alone.specs.Seats.{caller_of, Finds, MakesCall, Pins, PinsBy, Shows, Unpins};
 
-use crate::answer::{Answer, Refusal};
+use crate::answer::{Answer, Refusal, Said};
 use crate::seat::Seat;
 use core::mem::replace_with;
 use nr_map::{Asked, Found, ReaderMap, Writer};
-use nr_model::{Reply, RowSet};
+use nr_model::RowSet;
 
 // A reader that has no pin meets the writer before its call, so that its call comes after all that the writer had seen.
 
-pub(crate) fn find_at(
+pub(crate) fn find_at<'a>(
     map: &ReaderMap,
     writer: &mut Writer,
     seat: &mut Seat,
     key: u32,
-) -> Result<Answer, Refusal>
+    rows: &'a mut RowSet,
+) -> Result<Answer<'a>, Refusal>
     requires own { (writer.old.table ≡ map.now) × ((caller_of seat.old).table ≡ map.now) }
     requires key { key < map.now.shape.keys }
     ensures writer { writer.new ≡ writer.old }
@@ -26,11 +27,11 @@ pub(crate) fn find_at(
         return Err(Refusal::Holding);
     };
     map.meet(reader, writer);
-    let mut rows = RowSet::new();
-    match map.find(reader, key, &mut rows) {
-        Found::Rows => Ok(Answer::Reply(Reply::Rows(rows))),
-        Found::Hole => Ok(Answer::Reply(Reply::Hole)),
-    }
+    let said = match map.find(reader, key, rows) {
+        Found::Rows => Said::Rows(rows),
+        Found::Hole => Said::Hole,
+    };
+    Ok(Answer { said })
 }
 
 pub(crate) fn ask_at(
@@ -38,7 +39,7 @@ pub(crate) fn ask_at(
     writer: &mut Writer,
     seat: &mut Seat,
     key: u32,
-) -> Result<Answer, Refusal>
+) -> Result<Answer<'static>, Refusal>
     requires own { (writer.old.table ≡ map.now) × ((caller_of seat.old).table ≡ map.now) }
     requires key { key < map.now.shape.keys }
     ensures writer { writer.new ≡ writer.old }
@@ -48,15 +49,16 @@ pub(crate) fn ask_at(
         return Err(Refusal::Holding);
     };
     map.meet(asker, writer);
-    match map.ask(asker, key) {
+    let said = match map.ask(asker, key) {
         Asked::Send(ticket) => {
             let number = ticket.number();
             ticket.into_key();
-            Ok(Answer::Reply(Reply::Send(number)))
+            Said::Send(number)
         }
-        Asked::Waiting => Ok(Answer::Reply(Reply::Waiting)),
-        Asked::Filled => Ok(Answer::Reply(Reply::Filled)),
-    }
+        Asked::Waiting => Said::Waiting,
+        Asked::Filled => Said::Filled,
+    };
+    Ok(Answer { said })
 }
 
 pub(crate) fn pin_at(
@@ -64,7 +66,7 @@ pub(crate) fn pin_at(
     writer: &mut Writer,
     seat: &mut Seat,
     key: u32,
-) -> Result<Answer, Refusal>
+) -> Result<Answer<'static>, Refusal>
     requires own { (writer.old.table ≡ map.now) × ((caller_of seat.old).table ≡ map.now) }
     requires key { key < map.now.shape.keys }
     ensures writer { writer.new ≡ writer.old }
@@ -77,7 +79,7 @@ pub(crate) fn pin_at(
     replace_with(seat, (map, key), pinned)
 }
 
-fn pinned(seat: Seat, asked: (&ReaderMap, u32)) -> (Seat, Result<Answer, Refusal>)
+fn pinned(seat: Seat, asked: (&ReaderMap, u32)) -> (Seat, Result<Answer<'static>, Refusal>)
     requires own { (caller_of seat).table ≡ asked.0.now }
     requires key { asked.1 < asked.0.now.shape.keys }
     ensures { PinsBy (Finds asked.entry.1) asked.entry.1 seat result.0 result.1 }
@@ -85,41 +87,46 @@ fn pinned(seat: Seat, asked: (&ReaderMap, u32)) -> (Seat, Result<Answer, Refusal
     let (map, key) = asked;
     match seat {
         Seat::Idle(reader) => match map.pin(reader, key) {
-            Ok(pin) => (Seat::Pinned(pin, key), Ok(Answer::Ok)),
-            Err(reader) => (Seat::Idle(reader), Ok(Answer::Reply(Reply::Hole))),
+            Ok(pin) => (Seat::Pinned(pin, key), Ok(Answer { said: Said::Ok })),
+            Err(reader) => (Seat::Idle(reader), Ok(Answer { said: Said::Hole })),
         },
         Seat::Pinned(pin, key) => (Seat::Pinned(pin, key), Err(Refusal::Holding)),
     }
 }
 
 /// The rows that a reader has pinned.
-pub(crate) fn show_at(map: &ReaderMap, seat: &mut Seat) -> Result<Answer, Refusal>
+pub(crate) fn show_at<'a>(
+    map: &ReaderMap,
+    seat: &mut Seat,
+    rows: &'a mut RowSet,
+) -> Result<Answer<'a>, Refusal>
     requires { (caller_of seat.old).table ≡ map.now }
     ensures { Shows seat.old seat.new result }
 {
     match seat {
         Seat::Idle(_) => Err(Refusal::NotHolding),
         Seat::Pinned(pin, _) => {
-            let mut rows = RowSet::new();
-            pin.copy_to(map, &mut rows);
-            Ok(Answer::Reply(Reply::Rows(rows)))
+            pin.copy_to(map, rows);
+            Ok(Answer {
+                said: Said::Rows(rows),
+            })
         }
     }
 }
 
-pub(crate) fn unpin_at(map: &ReaderMap, seat: &mut Seat) -> Result<Answer, Refusal>
+pub(crate) fn unpin_at(map: &ReaderMap, seat: &mut Seat) -> Result<Answer<'static>, Refusal>
     requires { (caller_of seat.old).table ≡ map.now }
     ensures { Unpins seat.old seat.new result }
 {
     replace_with(seat, map, released)
 }
 
-fn released(seat: Seat, map: &ReaderMap) -> (Seat, Result<Answer, Refusal>)
+fn released(seat: Seat, map: &ReaderMap) -> (Seat, Result<Answer<'static>, Refusal>)
     requires { (caller_of seat).table ≡ map.now }
     ensures { Unpins seat result.0 result.1 }
 {
     match seat {
         Seat::Idle(reader) => (Seat::Idle(reader), Err(Refusal::NotHolding)),
-        Seat::Pinned(pin, _) => (Seat::Idle(pin.release(map)), Ok(Answer::Ok)),
+        Seat::Pinned(pin, _) => (Seat::Idle(pin.release(map)), Ok(Answer { said: Said::Ok })),
     }
 }

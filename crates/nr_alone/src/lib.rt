@@ -13,4 +13,5 @@ mod tests;
 mod writer_calls;
 
 pub use alone::Alone;
-pub use answer::{Answer, Refusal};
+pub use answer::{Answer, Refusal, Said};
+pub use writer_calls::WriterCall;

@@ -1,8 +1,7 @@
 //! Maps in one hand: what is answered where the slots run out, and what an opening's numbers do.
-use crate::{Alone, Answer, Refusal};
-use nr_core::WriterCall;
+use crate::{Alone, Answer, Refusal, Said as Told, WriterCall};
 use nr_map::Shape;
-use nr_model::{Batch, Delta, Reply, Row, RowSet};
+use nr_model::{Batch, Delta, Row, RowSet};
 use std::test::Fail;
 
 /// What is called, by a reader at a place or by the writer, of one key. Each set has one row.
@@ -49,31 +48,27 @@ fn row(a: u64) -> Row {
     Row { a, b: a }
 }
 
-fn reply(reply: &Reply) -> Said {
-    match reply {
-        Reply::Rows(rows) => match rows.get(0) {
-            Some(first) if rows.len() == 1 => Said::Row(first.a),
-            _ => Said::Rows(rows.len()),
-        },
-        Reply::Hole => Said::Hole,
-        Reply::Send(number) => Said::Send(*number),
-        Reply::Waiting => Said::Waiting,
-        Reply::Filled => Said::Filled,
-        Reply::Done => Said::Done,
-        Reply::NotAsked => Said::NotAsked,
-        Reply::Stale => Said::Stale,
-        Reply::Evicted => Said::Evicted,
-        Reply::Cancelled => Said::Cancelled,
-        Reply::Worn => Said::Worn,
-        _ => Said::Other,
-    }
-}
-
-fn told(answer: Result<Answer, Refusal>) -> Said {
+fn told(answer: Result<Answer<'_>, Refusal>) -> Said {
     match answer {
-        Ok(Answer::Ok) => Said::Ok,
-        Ok(Answer::Reply(answered)) => reply(&answered),
-        Ok(Answer::NoSlot) => Said::NoSlot,
+        Ok(answer) => match answer.said() {
+            Told::Ok => Said::Ok,
+            Told::Rows(rows) => match rows.get(0) {
+                Some(first) if rows.len() == 1 => Said::Row(first.a),
+                _ => Said::Rows(rows.len()),
+            },
+            Told::Hole => Said::Hole,
+            Told::Send(number) => Said::Send(*number),
+            Told::Waiting => Said::Waiting,
+            Told::Filled => Said::Filled,
+            Told::Done => Said::Done,
+            Told::NotAsked => Said::NotAsked,
+            Told::Stale => Said::Stale,
+            Told::Evicted => Said::Evicted,
+            Told::Cancelled => Said::Cancelled,
+            Told::Worn => Said::Worn,
+            Told::NoSlot => Said::NoSlot,
+            _ => Said::Other,
+        },
         Err(Refusal::Holding) => Said::Holding,
         Err(Refusal::NotHolding) => Said::NotHolding,
     }
@@ -86,7 +81,8 @@ fn filled(map: &mut Alone, key: u32, number: u64, a: u64) -> Said {
     if key >= map.keys() || rows.len() > map.rows() as usize {
         return Said::Other;
     }
-    told(Ok(map.call(&WriterCall::Fill(key, number, rows))))
+    let mut found = RowSet::new();
+    told(Ok(map.call(&WriterCall::Fill(key, number, &rows), &mut found)))
 }
 
 fn updated(map: &mut Alone, key: u32, minus: u64, plus: u64) -> Said {
@@ -100,8 +96,11 @@ fn updated(map: &mut Alone, key: u32, minus: u64, plus: u64) -> Said {
             row: row(plus),
         },
     ];
+    let mut found = RowSet::new();
     match Batch::of(&deltas) {
-        Ok(batch) if key < map.keys() => told(Ok(map.call(&WriterCall::Update(key, batch)))),
+        Ok(batch) if key < map.keys() => {
+            told(Ok(map.call(&WriterCall::Update(key, &batch), &mut found)))
+        }
         _ => Said::Other,
     }
 }
@@ -110,11 +109,12 @@ fn by_reader(map: &mut Alone, key: u32, at: usize, line: Line) -> Said {
     if key >= map.keys() || at >= map.readers() as usize {
         return Said::Other;
     }
+    let mut rows = RowSet::new();
     told(match line {
-        Line::Find(_) => map.find(at, key),
+        Line::Find(_) => map.find(at, key, &mut rows),
         Line::Ask(_) => map.ask(at, key),
         Line::Pin(_) => map.pin(at, key),
-        Line::Show(_) => map.show(at),
+        Line::Show(_) => map.show(at, &mut rows),
         _ => map.unpin(at),
     })
 }
@@ -123,6 +123,7 @@ fn answer(map: &mut Alone, key: u32, line: Line) -> Said {
     if key >= map.keys() {
         return Said::Other;
     }
+    let mut found = RowSet::new();
     match line {
         Line::Find(at) | Line::Ask(at) | Line::Pin(at) | Line::Show(at) | Line::Unpin(at) => {
             by_reader(map, key, at, line)
@@ -133,9 +134,9 @@ fn answer(map: &mut Alone, key: u32, line: Line) -> Said {
         }
         Line::FillAs(number, a) => filled(map, key, number, a),
         Line::Update(minus, plus) => updated(map, key, minus, plus),
-        Line::Evict => told(Ok(map.call(&WriterCall::Evict(key)))),
-        Line::Cancel => told(Ok(map.call(&WriterCall::Cancel(key)))),
-        Line::Look => told(Ok(map.call(&WriterCall::Find(key)))),
+        Line::Evict => told(Ok(map.call(&WriterCall::Evict(key), &mut found))),
+        Line::Cancel => told(Ok(map.call(&WriterCall::Cancel(key), &mut found))),
+        Line::Look => told(Ok(map.call(&WriterCall::Find(key), &mut found))),
     }
 }
 

@@ -1,52 +1,68 @@
 //! The calls of the writer.
 ghost use Rattle.std.specs.Prelude.{◌≡◌, ◌<◌};
 ghost use Rattle.nr_model.specs.Maps.{FillFits};
-ghost use Rattle.nr_core.specs.States.{key_of};
-ghost use Rattle.nr_core.specs.Story.{call_of};
-ghost use Rattle.nr_alone.specs.WriterCalls.{WriterMakes};
+ghost use Rattle.nr_alone.specs.WriterCalls.{call_of, key_of};
+ghost use Rattle.nr_alone.specs.WriterMakes.{WriterMakes};
 
-use crate::answer::Answer;
-use nr_core::WriterCall;
+use crate::answer::{Answer, Said};
 use nr_map::{Cancel, Evict, FillFault, Found, ReaderMap, UpdateFault, Writer};
-use nr_model::{Reply, RowSet};
+use nr_model::{Batch, RowSet};
 
-/// A call of the writer's, with its answer.
-pub(crate) fn call_writer(map: &ReaderMap, writer: &mut Writer, call: &WriterCall) -> Answer
+/// A call of the writer's, at a key. Its rows and its batch lie elsewhere.
+#[derive(Drop)]
+pub enum WriterCall<'a> {
+    /// Looks the key up.
+    Find(u32),
+    /// Answers the request of that number with the key's rows.
+    Fill(u32, u64, &'a RowSet),
+    /// Applies a batch to the key's rows.
+    Update(u32, &'a Batch),
+    /// Makes the key missing again.
+    Evict(u32),
+    /// Takes the request of the key back.
+    Cancel(u32),
+}
+
+/// A call of the writer's, with its answer. The rows of a find are written into the set.
+pub(crate) fn call_writer<'a>(
+    map: &ReaderMap,
+    writer: &mut Writer,
+    call: &WriterCall<'_>,
+    rows: &'a mut RowSet,
+) -> Answer<'a>
     requires own { writer.old.table ≡ map.now }
     requires key { key_of call.now < map.now.shape.keys }
     requires fits { FillFits map.now.shape.rows (call_of call.now) }
     ensures { WriterMakes (call_of call.now) writer.old writer.new result }
 {
-    match call {
-        WriterCall::Find(key) => {
-            let mut rows = RowSet::new();
-            match map.look(writer, *key, &mut rows) {
-                Found::Rows => Answer::Reply(Reply::Rows(rows)),
-                Found::Hole => Answer::Reply(Reply::Hole),
-            }
-        }
-        WriterCall::Fill(key, number, rows) => match map.fill(writer, *key, *number, rows) {
-            Ok(()) => Answer::Reply(Reply::Done),
-            Err(FillFault::NotAsked) => Answer::Reply(Reply::NotAsked),
-            Err(FillFault::Already) => Answer::Reply(Reply::Already),
-            Err(FillFault::Stale) => Answer::Reply(Reply::Stale),
-            Err(FillFault::NoSlot(_)) => Answer::NoSlot,
+    let said = match call {
+        WriterCall::Find(key) => match map.look(writer, *key, rows) {
+            Found::Rows => Said::Rows(rows),
+            Found::Hole => Said::Hole,
+        },
+        WriterCall::Fill(key, number, set) => match map.fill(writer, *key, *number, set) {
+            Ok(()) => Said::Done,
+            Err(FillFault::NotAsked) => Said::NotAsked,
+            Err(FillFault::Already) => Said::Already,
+            Err(FillFault::Stale) => Said::Stale,
+            Err(FillFault::NoSlot(_)) => Said::NoSlot,
         },
         WriterCall::Update(key, batch) => match map.update(writer, *key, batch) {
-            Ok(()) => Answer::Reply(Reply::Done),
-            Err(UpdateFault::Dropped) => Answer::Reply(Reply::Dropped),
-            Err(UpdateFault::NoRow) => Answer::Reply(Reply::NoRow),
-            Err(UpdateFault::TooMany) => Answer::Reply(Reply::TooMany),
-            Err(UpdateFault::NoSlot(_)) => Answer::NoSlot,
+            Ok(()) => Said::Done,
+            Err(UpdateFault::Dropped) => Said::Dropped,
+            Err(UpdateFault::NoRow) => Said::NoRow,
+            Err(UpdateFault::TooMany) => Said::TooMany,
+            Err(UpdateFault::NoSlot(_)) => Said::NoSlot,
         },
         WriterCall::Evict(key) => match map.evict(writer, *key) {
-            Evict::Evicted => Answer::Reply(Reply::Evicted),
-            Evict::Nothing => Answer::Reply(Reply::Nothing),
+            Evict::Evicted => Said::Evicted,
+            Evict::Nothing => Said::Nothing,
         },
         WriterCall::Cancel(key) => match map.cancel(writer, *key) {
-            Cancel::Cancelled => Answer::Reply(Reply::Cancelled),
-            Cancel::Nothing => Answer::Reply(Reply::Nothing),
-            Cancel::Worn => Answer::Reply(Reply::Worn),
+            Cancel::Cancelled => Said::Cancelled,
+            Cancel::Nothing => Said::Nothing,
+            Cancel::Worn => Said::Worn,
         },
-    }
+    };
+    Answer { said }
 }

@@ -5,8 +5,8 @@ use Rattle.nr_lines.specs.Plain.{or_bad}
 use Rattle.nr_lines.specs.Text.{text}
 use Rattle.nr_text.specs.Grammar.{words}
 use Rattle.nr_text.specs.Opening.{is_in_limits}
-use Rattle.nr_alone.specs.declared.answer.Answer.{Answer}
-use Rattle.nr_alone.specs.declared.answer.Answer.TheVariants as answers
+use Rattle.nr_alone.specs.Answers.{Answer}
+use Rattle.nr_alone.specs.Answers as answers
 use Rattle.nr_script.specs.declared.answer.Refusal.{Refusal}
 use Rattle.nr_script.specs.declared.answer.Refusal.TheVariants as refusals
 use Rattle.nr_script.specs.declared.command.Command.{Command}

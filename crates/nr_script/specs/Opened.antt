@@ -6,7 +6,7 @@ use Rattle.nr_model.specs.declared.calls.Call.{Call}
 use Rattle.nr_model.specs.declared.calls.Call.TheVariants as calls
 use Rattle.nr_model.specs.Maps.{key_count, state_of, number_of}
 use Rattle.nr_core.specs.declared.shape.Shape.{Shape}
-use Rattle.nr_alone.specs.declared.answer.Answer.{Answer}
+use Rattle.nr_alone.specs.Answers.{Answer}
 use Rattle.nr_alone.specs.declared.answer.Refusal.{Refusal as MapRefusal}
 use Rattle.nr_alone.specs.declared.answer.Refusal.TheVariants as map_refusals
 use Rattle.nr_alone.specs.MapState.{MapState, Outcome as MapOutcome, answer_call, answer_of_reader, answer_pinning, answer_show, answer_unpin, opened as map_opened}

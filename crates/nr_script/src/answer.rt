@@ -1,7 +1,7 @@
 //! What a line is answered.
-use nr_alone::Answer;
+use nr_alone::Said;
 use nr_lines::RunFault;
-use nr_text::ReplyWord;
+use nr_text::Rows;
 use std::fmt;
 use std::fmt::Write;
 
@@ -38,22 +38,38 @@ impl From<nr_alone::Refusal> for Refusal {
 
 /// An answer, as it is written.
 #[derive(Drop)]
-pub(crate) struct AnswerWord<'a>(pub(crate) &'a Answer);
+pub(crate) struct AnswerWord<'a>(pub(crate) &'a Said<'a>);
 
 impl fmt::Display for AnswerWord<'_> {
     ghost use Rattle.std.specs.Prelude.{Some};
+    ghost use Rattle.nr_alone.specs.Said.{told};
     ghost use Rattle.nr_script.specs.Spelling.{spelled_answer};
 
-    ghost output = { λ word. Some (spelled_answer word.0.now) };
+    ghost output = { λ word. Some (spelled_answer (told word.0.now)) };
 
     fn fmt<W: fmt::Write>(&self, f: &mut fmt::Formatter<W>) -> fmt::Result {
         match self.0 {
-            Answer::Ok => f.write_str("ok"),
-            Answer::Reply(reply) => {
-                let word = ReplyWord(reply);
-                write!(f, "{word}")
+            Said::Ok => f.write_str("ok"),
+            Said::Rows(rows) => {
+                let rows = Rows(rows);
+                write!(f, "{rows}")
             }
-            Answer::NoSlot => f.write_str("no-slot"),
+            Said::Hole => f.write_str("hole"),
+            Said::Send(_) => f.write_str("send"),
+            Said::Waiting => f.write_str("waiting"),
+            Said::Filled => f.write_str("filled"),
+            Said::Done => f.write_str("done"),
+            Said::NotAsked => f.write_str("not-asked"),
+            Said::Stale => f.write_str("stale"),
+            Said::Already => f.write_str("already"),
+            Said::Dropped => f.write_str("dropped"),
+            Said::NoRow => f.write_str("no-row"),
+            Said::TooMany => f.write_str("too-many"),
+            Said::Evicted => f.write_str("evicted"),
+            Said::Nothing => f.write_str("nothing"),
+            Said::Cancelled => f.write_str("cancelled"),
+            Said::Worn => f.write_str("worn"),
+            Said::NoSlot => f.write_str("no-slot"),
         }
     }
 }

@@ -7,7 +7,7 @@ ghost use Rattle.nr_script.specs.Commands.{command, is_name_byte, key, reader_an
 ghost use Rattle.nr_text.specs.Grammar.{words, number, filling, filling_as, updating};
 ghost use Rattle.nr_text.specs.Words.{words_left};
 
-use nr_model::{Batch, RowSet, TooMany};
+use crate::given::{Given, GivenBatch, GivenRows};
 use nr_text::{Opening, Words, batch, number, set};
 use std::marker::Model;
 
@@ -67,16 +67,16 @@ pub(crate) enum Command<'a> {
     },
     Fill {
         key: KeyWord<'a>,
-        rows: Result<RowSet, TooMany>,
+        rows: GivenRows<'a>,
     },
     FillAs {
         key: KeyWord<'a>,
         number: u64,
-        rows: Result<RowSet, TooMany>,
+        rows: GivenRows<'a>,
     },
     Update {
         key: KeyWord<'a>,
-        batch: Batch,
+        batch: GivenBatch<'a>,
     },
     Evict {
         key: KeyWord<'a>,
@@ -99,8 +99,9 @@ pub(crate) enum Command<'a> {
     },
 }
 
-/// The command of a line, or none where it doesn't fit the grammar.
-pub(crate) fn parse(line: &[u8]) -> Option<Command<'_>>
+/// The command of a line, or none where it doesn't fit the grammar. A set or a batch that the line
+/// gives is put into the room for it.
+pub(crate) fn parse<'a>(line: &'a [u8], given: &'a mut Given) -> Option<Command<'a>>
     ensures { result ≡ command (words line.now) }
 {
     let mut words = Words::new(line);
@@ -125,13 +126,13 @@ pub(crate) fn parse(line: &[u8]) -> Option<Command<'_>>
         return Some(Command::Ask { reader, key });
     }
     if name == b"fill".as_slice() {
-        return filling(words);
+        return filling(words, given);
     }
     if name == b"fill-as".as_slice() {
-        return filling_as(words);
+        return filling_as(words, given);
     }
     if name == b"update".as_slice() {
-        return updating(words);
+        return updating(words, given);
     }
     if name == b"evict".as_slice() {
         let key = key_alone(words)?;
@@ -206,29 +207,29 @@ fn is_name(word: &[u8]) -> bool
     word.iter().all(|b| *b >= 33 && *b <= 126)
 }
 
-fn filling(mut words: Words<'_>) -> Option<Command<'_>>
+fn filling<'a>(mut words: Words<'a>, given: &'a mut Given) -> Option<Command<'a>>
     ensures { result ≡ filling key Fill (words_left words.entry) }
 {
     let key = key(words.next()?)?;
-    let rows = set(words)?;
+    let rows = given.put_rows(set(words)?);
     Some(Command::Fill { key, rows })
 }
 
-fn filling_as(mut words: Words<'_>) -> Option<Command<'_>>
+fn filling_as<'a>(mut words: Words<'a>, given: &'a mut Given) -> Option<Command<'a>>
     ensures { result ≡ filling_as key FillAs (words_left words.entry) }
 {
     let word = words.next()?;
     let spelled = words.next()?;
     let key = key(word)?;
     let number = number(spelled)?;
-    let rows = set(words)?;
+    let rows = given.put_rows(set(words)?);
     Some(Command::FillAs { key, number, rows })
 }
 
-fn updating(mut words: Words<'_>) -> Option<Command<'_>>
+fn updating<'a>(mut words: Words<'a>, given: &'a mut Given) -> Option<Command<'a>>
     ensures { result ≡ updating key Update (words_left words.entry) }
 {
     let key = key(words.next()?)?;
-    let batch = batch(words)?;
+    let batch = given.put_batch(batch(words)?);
     Some(Command::Update { key, batch })
 }

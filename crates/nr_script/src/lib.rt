@@ -4,6 +4,7 @@
 
 mod answer;
 mod command;
+mod given;
 mod keys;
 mod machine;
 mod opened;

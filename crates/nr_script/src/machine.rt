@@ -1,16 +1,21 @@
 //! A script over a running map: closed until it is opened, and then a map.
 ghost use Rattle.std.specs.Prelude.{◌≡◌, ℕ, List, None, IfOk, IfErr};
+ghost use Rattle.nr_script.specs.Machine.{answer_line, answer_closed};
 
 use crate::answer::{AnswerWord, Refusal, Tried};
 use crate::command::{Command, parse};
+use crate::given::Given;
 use crate::opened::Opened;
 use nr_alone::Answer;
 use nr_lines::{Machine, RunFault, set_text};
+use nr_model::RowSet;
 use std::alloc::Global;
 
 /// A script's state. It begins closed. It can't be dropped: its map must be closed.
 pub(crate) struct ScriptMachine {
     opened: Option<Opened>,
+    given: Given,
+    found: RowSet,
 }
 
 impl Machine for ScriptMachine {
@@ -34,8 +39,15 @@ impl Machine for ScriptMachine {
         line: &[u8],
         reply: &mut String,
     ) -> Result<(), RunFault> {
-        match self.answer(alloc, line) {
-            Ok(Ok(answer)) => set_text(reply, &AnswerWord(&answer)),
+        let said = answer_plain(
+            &mut self.opened,
+            alloc,
+            line,
+            &mut self.given,
+            &mut self.found,
+        );
+        match said {
+            Ok(Ok(answer)) => set_text(reply, &AnswerWord(answer.said())),
             Ok(Err(refusal)) => set_text(reply, &refusal),
             Err(fault) => Err(fault),
         }
@@ -43,54 +55,68 @@ impl Machine for ScriptMachine {
 }
 
 impl ScriptMachine {
-    ghost use Rattle.nr_script.specs.Machine.{state_of, start, answer_line, answer_closed};
+    ghost use Rattle.nr_script.specs.Machine.{state_of, start};
 
     pub(crate) fn new() -> ScriptMachine
         ensures { state_of result ≡ start }
     {
-        ScriptMachine { opened: None }
-    }
-
-    /// The answer to a plain line.
-    fn answer(&mut self, alloc: Global, line: &[u8]) -> Tried<Answer>
-        ensures answer { IfOk result (λ said. answer_line (state_of self.old) line.now ≡ (said, state_of self.new)) }
-        ensures fault { IfErr result (λ fault. fault ≡ RunFault.Memory) }
-    {
-        let Some(command) = parse(line) else {
-            return Ok(Err(Refusal::Bad));
-        };
-        match &mut self.opened {
-            Some(script) => script.answer(&command),
-            None => self.open(alloc, &command),
+        ScriptMachine {
+            opened: None,
+            given: Given::new(),
+            found: RowSet::new(),
         }
-    }
-
-    /// The answer to a command before the script is opened.
-    fn open(&mut self, alloc: Global, command: &Command<'_>) -> Tried<Answer>
-        requires { state_of self.old ≡ None }
-        ensures answer { IfOk result (λ said. answer_closed command.now ≡ (said, state_of self.new)) }
-        ensures fault { IfErr result (λ fault. fault ≡ RunFault.Memory) }
-    {
-        let Command::Open { named, sizes } = command else {
-            return Ok(Err(Refusal::Closed));
-        };
-        if !sizes.is_in_limits() {
-            return Ok(Err(Refusal::Bad));
-        }
-        let opened = Opened::open(alloc, *named, sizes)?;
-        match self.opened.replace(opened) {
-            None => {}
-            Some(before) => before.close(),
-        }
-        Ok(Ok(Answer::Ok))
     }
 
     /// The script ends, and with it the map that it opened.
     pub(crate) fn close(self) {
-        let ScriptMachine { opened } = self;
+        let ScriptMachine {
+            opened,
+            given: _,
+            found: _,
+        } = self;
         match opened {
             None => {}
             Some(script) => script.close(),
         }
     }
+}
+
+// The answer to a plain line. What the line gives and what it finds has its room, so that nothing carries a set.
+fn answer_plain<'a>(
+    opened: &mut Option<Opened>,
+    alloc: Global,
+    line: &[u8],
+    given: &mut Given,
+    found: &'a mut RowSet,
+) -> Tried<Answer<'a>>
+    ensures answer { IfOk result (λ said. answer_line opened.old line.now ≡ (said, opened.new)) }
+    ensures fault { IfErr result (λ fault. fault ≡ RunFault.Memory) }
+{
+    let Some(command) = parse(line, given) else {
+        return Ok(Err(Refusal::Bad));
+    };
+    match opened {
+        Some(script) => script.answer(&command, found),
+        None => open(opened, alloc, &command),
+    }
+}
+
+// The answer to a command before the script is opened.
+fn open(opened: &mut Option<Opened>, alloc: Global, command: &Command<'_>) -> Tried<Answer<'static>>
+    requires { opened.old ≡ None }
+    ensures answer { IfOk result (λ said. answer_closed command.now ≡ (said, opened.new)) }
+    ensures fault { IfErr result (λ fault. fault ≡ RunFault.Memory) }
+{
+    let Command::Open { named, sizes } = command else {
+        return Ok(Err(Refusal::Closed));
+    };
+    if !sizes.is_in_limits() {
+        return Ok(Err(Refusal::Bad));
+    }
+    let script = Opened::open(alloc, *named, sizes)?;
+    match opened.replace(script) {
+        None => {}
+        Some(before) => before.close(),
+    }
+    Ok(Ok(Answer::ok()))
 }

@@ -1,20 +1,20 @@
 //! A script that was opened: a map, and what stands for its keys on the script's lines.
 ghost use Rattle.std.specs.Prelude.{◌≡◌, ◌<◌, ◌≤◌, ◌-◌, length, IfOk, IfErr, OnOk, Ok, Err};
 ghost use Rattle.nr_model.specs.Maps.{FillFits, key_count, last_number, state_of};
-ghost use Rattle.nr_core.specs.States.{key_of};
-ghost use Rattle.nr_core.specs.Story.{call_of};
 ghost use Rattle.nr_model.specs.declared.calls.Call.TheVariants as model;
 ghost use Rattle.nr_alone.specs.MapState.{answer_pinning, answer_show, answer_unpin};
+ghost use Rattle.nr_alone.specs.WriterCalls.{call_of, key_of};
 ghost use Rattle.nr_script.specs.Opened.{answer_opened, by_map, called, called_by, found_by_reader, found_key, found_reader, found_set, has_reader, with_found};
 
 use crate::answer::{Refusal, Tried};
 use crate::command::{Command, KeyWord};
+use crate::given::GivenRows;
 use crate::keys::Keys;
-use nr_alone::{Alone, Answer};
-use nr_core::{MAX_READERS, MAX_SLOTS, Shape, WriterCall};
+use nr_alone::{Alone, Answer, WriterCall};
+use nr_core::{MAX_READERS, MAX_SLOTS, Shape};
 use nr_lines::RunFault;
-use nr_model::{MAX_KEYS, MAX_ROWS, RowSet, TooMany};
-use nr_text::{Opening, within};
+use nr_model::{MAX_KEYS, MAX_ROWS, RowSet};
+use nr_text::Opening;
 use std::alloc::Global;
 use std::marker::Model;
 
@@ -72,15 +72,20 @@ impl Opened {
         map.close();
     }
 
-    /// The answer to a command, or the first refusal that fits.
-    pub(crate) fn answer(&mut self, command: &Command<'_>) -> Tried<Answer>
+    /// The answer to a command, or the first refusal that fits. Rows that it tells are written into
+    /// the set.
+    pub(crate) fn answer<'a>(
+        &mut self,
+        command: &Command<'_>,
+        found: &'a mut RowSet,
+    ) -> Tried<Answer<'a>>
         ensures answer { IfOk result (λ said. answer_opened self.old command.now ≡ (said, self.new)) }
         ensures fault { IfErr result (λ fault. fault ≡ RunFault.Memory) }
     {
         match command {
             Command::Open { .. } => Ok(Err(Refusal::Bad)),
             Command::Find { reader, key } => match self.key_by_reader(*reader, key)? {
-                Ok(key) => Ok(self.find(*reader, key)),
+                Ok(key) => Ok(self.find(*reader, key, found)),
                 Err(refusal) => Ok(Err(refusal)),
             },
             Command::Ask { reader, key } => match self.key_by_reader(*reader, key)? {
@@ -90,73 +95,79 @@ impl Opened {
             Command::Fill { key, rows } => match self.key(key)? {
                 Ok(key) => {
                     let number = self.map.number(key);
-                    Ok(self.fill(key, number, rows))
+                    Ok(self.fill(key, number, rows, found))
                 }
                 Err(refusal) => Ok(Err(refusal)),
             },
             Command::FillAs { key, number, rows } => match self.key(key)? {
-                Ok(key) => Ok(self.fill(key, *number, rows)),
+                Ok(key) => Ok(self.fill(key, *number, rows, found)),
                 Err(refusal) => Ok(Err(refusal)),
             },
             Command::Update { key, batch } => match self.key(key)? {
-                Ok(key) => Ok(Ok(self.call(&WriterCall::Update(key, *batch)))),
+                Ok(key) => Ok(Ok(self.call(&WriterCall::Update(key, batch.batch()), found))),
                 Err(refusal) => Ok(Err(refusal)),
             },
             Command::Evict { key } => match self.key(key)? {
-                Ok(key) => Ok(Ok(self.call(&WriterCall::Evict(key)))),
+                Ok(key) => Ok(Ok(self.call(&WriterCall::Evict(key), found))),
                 Err(refusal) => Ok(Err(refusal)),
             },
             Command::Cancel { key } => match self.key(key)? {
-                Ok(key) => Ok(Ok(self.call(&WriterCall::Cancel(key)))),
+                Ok(key) => Ok(Ok(self.call(&WriterCall::Cancel(key), found))),
                 Err(refusal) => Ok(Err(refusal)),
             },
             Command::Look { key } => match self.key(key)? {
-                Ok(key) => Ok(Ok(self.call(&WriterCall::Find(key)))),
+                Ok(key) => Ok(Ok(self.call(&WriterCall::Find(key), found))),
                 Err(refusal) => Ok(Err(refusal)),
             },
             Command::Pin { reader, key } => match self.key_by_reader(*reader, key)? {
                 Ok(key) => Ok(self.pin(*reader, key)),
                 Err(refusal) => Ok(Err(refusal)),
             },
-            Command::Show { reader } => Ok(self.show(*reader)),
+            Command::Show { reader } => Ok(self.show(*reader, found)),
             Command::Unpin { reader } => Ok(self.unpin(*reader)),
         }
     }
 
     /// A fill that answers the request of that number, unless there are too many rows.
-    fn fill(
+    fn fill<'a>(
         &mut self,
         key: u32,
         number: u64,
-        rows: &Result<RowSet, TooMany>,
-    ) -> Result<Answer, Refusal>
+        rows: &GivenRows<'_>,
+        found: &'a mut RowSet,
+    ) -> Result<Answer<'a>, Refusal>
         requires key { key < key_count self.old.state.map }
         ensures { with_found (found_set self.old rows.now, self.old) (λ rows fits. called fits (model.Fill key number rows)) ≡ (result, self.new) }
     {
-        match within(rows, self.map.rows()) {
-            Some(rows) => Ok(self.call(&WriterCall::Fill(key, number, *rows))),
+        match rows.within(self.map.rows()) {
+            Some(rows) => Ok(self.call(&WriterCall::Fill(key, number, rows), found)),
             None => Err(Refusal::TooMany),
         }
     }
 
     /// A call of the writer's at one of the map's keys.
-    fn call(&mut self, call: &WriterCall) -> Answer
+    fn call<'a>(&mut self, call: &WriterCall<'_>, found: &'a mut RowSet) -> Answer<'a>
         requires key { key_of call.now < key_count self.old.state.map }
         requires fits { FillFits self.old.state.map.bound (call_of call.now) }
         ensures { called self.old (call_of call.now) ≡ (Ok result, self.new) }
     {
-        self.map.call(call)
+        self.map.call(call, found)
     }
 
-    fn find(&mut self, reader: u64, key: u32) -> Result<Answer, Refusal>
+    fn find<'a>(
+        &mut self,
+        reader: u64,
+        key: u32,
+        found: &'a mut RowSet,
+    ) -> Result<Answer<'a>, Refusal>
         requires reader { (0 < reader) × (reader ≤ length self.old.state.pins) }
         requires key { key < key_count self.old.state.map }
         ensures { called_by self.old reader (model.Find key) ≡ (result, self.new) }
     {
-        Ok(self.map.find(place(reader), key)?)
+        Ok(self.map.find(place(reader), key, found)?)
     }
 
-    fn ask(&mut self, reader: u64, key: u32) -> Result<Answer, Refusal>
+    fn ask(&mut self, reader: u64, key: u32) -> Result<Answer<'static>, Refusal>
         requires reader { (0 < reader) × (reader ≤ length self.old.state.pins) }
         requires key { key < key_count self.old.state.map }
         ensures { called_by self.old reader (model.Ask key) ≡ (result, self.new) }
@@ -164,7 +175,7 @@ impl Opened {
         Ok(self.map.ask(place(reader), key)?)
     }
 
-    fn pin(&mut self, reader: u64, key: u32) -> Result<Answer, Refusal>
+    fn pin(&mut self, reader: u64, key: u32) -> Result<Answer<'static>, Refusal>
         requires reader { (0 < reader) × (reader ≤ length self.old.state.pins) }
         requires key { key < key_count self.old.state.map }
         ensures { by_map self.old (answer_pinning self.old.state (reader - 1) key (state_of self.old.state.map key)) ≡ (result, self.new) }
@@ -172,14 +183,14 @@ impl Opened {
         Ok(self.map.pin(place(reader), key)?)
     }
 
-    fn show(&mut self, reader: u64) -> Result<Answer, Refusal>
+    fn show<'a>(&mut self, reader: u64, found: &'a mut RowSet) -> Result<Answer<'a>, Refusal>
         ensures { with_found (found_reader self.old reader, self.old) (λ _ of_reader. by_map of_reader (answer_show of_reader.state (reader - 1))) ≡ (result, self.new) }
     {
         self.check_reader(reader)?;
-        Ok(self.map.show(place(reader))?)
+        Ok(self.map.show(place(reader), found)?)
     }
 
-    fn unpin(&mut self, reader: u64) -> Result<Answer, Refusal>
+    fn unpin(&mut self, reader: u64) -> Result<Answer<'static>, Refusal>
         ensures { with_found (found_reader self.old reader, self.old) (λ _ of_reader. by_map of_reader (answer_unpin of_reader.state (reader - 1))) ≡ (result, self.new) }
     {
         self.check_reader(reader)?;

@@ -9,5 +9,5 @@ mod words;
 
 pub use opening::Opening;
 pub use rows::{batch, set, within};
-pub use spelling::ReplyWord;
+pub use spelling::{ReplyWord, Rows};
 pub use words::{Words, number};

@@ -40,7 +40,7 @@ impl fmt::Display for ReplyWord<'_> {
 
 /// A row set, as it is written.
 #[derive(Drop)]
-struct Rows<'a>(&'a RowSet);
+pub struct Rows<'a>(pub &'a RowSet);
 
 impl fmt::Display for Rows<'_> {
     ghost use Rattle.std.specs.Prelude.{Some};

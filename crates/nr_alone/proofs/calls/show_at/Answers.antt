@@ -1,7 +1,7 @@
 use Rattle.std.proofs.Common.{◌*◌, length, sym, ap, ◌∙◌, subst, Some}
 use Rattle.nr_map.specs.Callers.{Rests}
 use Rattle.nr_model.specs.declared.calls.Reply.TheVariants as reply
-use Rattle.nr_alone.specs.declared.answer.Answer.TheVariants as answers
+use Rattle.nr_alone.specs.Answers as answers
 use Rattle.nr_alone.specs.MapState.{Pin}
 use Rattle.nr_alone.specs.Seats.{caller_of, pin_of}
 use Rattle.nr_alone.proofs.calls.show_at.Goals as goal

@@ -4,7 +4,7 @@ use Rattle.std.specs.Vec.{with_item, with_items}
 use Rattle.nr_map.specs.Callers.{Caller}
 use Rattle.nr_model.specs.Maps.{key_count}
 use Rattle.nr_model.specs.declared.calls.Call.TheVariants as model
-use Rattle.nr_alone.specs.declared.answer.Answer.{Answer}
+use Rattle.nr_alone.specs.Answers.{Answer}
 use Rattle.nr_alone.specs.declared.answer.Refusal.{Refusal}
 use Rattle.nr_alone.specs.declared.seat.Seat.{Seat}
 use Rattle.nr_alone.specs.Alone.{IsAlone, log_of, shown_by}

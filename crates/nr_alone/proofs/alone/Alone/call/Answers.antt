@@ -2,8 +2,8 @@ use Rattle.std.proofs.Common.{◌≡◌, ◌<◌, ℕ, List, length, sym, ap, �
 use Rattle.std.specs.Prelude.{Ok}
 use Rattle.std.proofs.lemmas.List.{with_items_is}
 use Rattle.nr_model.specs.Maps.{FillFits, key_count}
-use Rattle.nr_core.specs.States.{key_of}
-use Rattle.nr_core.specs.Story.{call_of}
+use Rattle.nr_alone.specs.WriterCalls.{key_of}
+use Rattle.nr_alone.specs.WriterCalls.{call_of}
 use Rattle.nr_alone.specs.declared.seat.Seat.{Seat}
 use Rattle.nr_alone.specs.Alone.{IsAlone, log_of, shown_by}
 use Rattle.nr_alone.specs.Rounds.{Gathered}

@@ -1,0 +1,34 @@
+-- A call of the writer, by its answer.
+use Rattle.std.specs.Prelude.{◌≡◌, ℕ, List, false}
+use Rattle.nr_model.specs.declared.rows.Row.{Row}
+use Rattle.nr_model.specs.declared.calls.Call.{Call}
+use Rattle.nr_model.specs.declared.calls.Reply.{Reply}
+use Rattle.nr_model.specs.declared.calls.Reply.TheVariants as reply
+use Rattle.nr_model.specs.Histories.{is_done}
+use Rattle.nr_core.specs.declared.calls.NoSlot.{NoSlot}
+use Rattle.nr_map.specs.Answers.{HasNoSlot, Publishes}
+use Rattle.nr_map.specs.Callers.{Caller, Gains}
+use Rattle.nr_alone.specs.Answers.{Answer}
+use Rattle.nr_alone.specs.Answers as answers
+
+-- a reply but Done
+pub record Replies (call : Call) (reply' : Reply) (old new : Caller) : Type 0 where
+  pub steps : ℕ
+  pub quiet : is_done reply' ≡ false
+  pub gains : Gains steps old call reply' new
+
+pub record PutsSet (call : Call) (old new : Caller) : Type 0 where
+  pub steps : ℕ
+  pub rows : List Row
+  pub publishes : Publishes steps old call rows new
+
+pub record LacksSlot (call : Call) (old new : Caller) : Type 0 where
+  pub steps : ℕ
+  pub counts : NoSlot
+  pub lacks : HasNoSlot steps old call counts new
+
+abbrev pub WriterMakes : Call → Caller → Caller → Answer → Type 0
+WriterMakes call old new answers.Ok = ⊥
+WriterMakes call old new answers.NoSlot = LacksSlot call old new
+WriterMakes call old new (answers.Reply reply.Done) = PutsSet call old new
+WriterMakes call old new (answers.Reply other) = Replies call other old new
