@@ -10,4 +10,4 @@ mod machine;
 mod opened;
 mod runs;
 
-pub use runs::{replies, run};
+pub use runs::{replies, run, run_within};

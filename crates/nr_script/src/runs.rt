@@ -17,8 +17,20 @@ use std::io::{Read, Write};
 pub fn run<R: Read, W: Write>(alloc: Global, reader: &mut R, writer: &mut W) -> Result<(), RunFault>
     ensures { Runs script_text longest_input result (R.remaining reader.old) (R.remaining reader.new) (W.contents writer.old) (W.contents writer.new) }
 {
+    run_within(alloc, INPUT_LIMIT, reader, writer)
+}
+
+/// The same as `run`, for an input of at most `limit` bytes.
+pub fn run_within<R: Read, W: Write>(
+    alloc: Global,
+    limit: u64,
+    reader: &mut R,
+    writer: &mut W,
+) -> Result<(), RunFault>
+    ensures { Runs script_text limit result (R.remaining reader.old) (R.remaining reader.new) (W.contents writer.old) (W.contents writer.new) }
+{
     let mut machine = ScriptMachine::new();
-    let served = serve(alloc, INPUT_LIMIT, &mut machine, reader, writer);
+    let served = serve(alloc, limit, &mut machine, reader, writer);
     machine.close();
     served
 }
