@@ -75,7 +75,7 @@ pub enum Cancel {
 /// What a key is, without its rows.
 #[derive(Clone, Copy, Debug, PartialEq, Eq)]
 pub enum KeyKind {
-    /// Nobody asked for the key since it was filled last.
+    /// The key is not filled, and no request of it is under way.
     Hole,
     /// An upquery is under way.
     Asked,
