@@ -4,8 +4,7 @@ ghost use Rattle.std.specs.Prelude.{◌≡◌, ◌<◌};
 use nr_map::{
     Asked, Cancel, Evict, FillFault, Found, KeyKind, Reader, ReaderMap, UpdateFault, Writer,
 };
-use nr_model::{Batch, DEFAULT_ROWS, Delta, Row, RowSet};
-use std::test::Fail;
+use nr_model::{Batch, Delta, MAX_ROWS, Row, RowSet};
 
 /// An answer to a request, whose ticket was spent: its key and its number.
 #[derive(Clone, Copy, Debug, PartialEq, Eq)]
@@ -15,17 +14,18 @@ pub(crate) enum Told {
     Filled,
 }
 
-/// The set of those rows.
-pub(crate) fn rows_of(pairs: &[(u64, u64)]) -> Result<RowSet, Fail> {
-    let mut rows = RowSet::new();
-    for (a, b) in pairs {
-        let mut batch = [Delta {
-            plus: true,
-            row: Row { a: *a, b: *b },
-        }];
-        rows = rows.applied(&Batch::of(&batch)?, DEFAULT_ROWS)?;
+/// What a fill or an update that was done came to.
+pub(crate) const FILLED: Option<Result<(), FillFault>> = Some(Ok(()));
+
+pub(crate) const UPDATED: Option<Result<(), UpdateFault>> = Some(Ok(()));
+
+/// The set of those rows, which are not too many.
+pub(crate) fn rows_of(pairs: &[(u64, u64)]) -> RowSet {
+    let mut rows = [Row { a: 0, b: 0 }; MAX_ROWS];
+    for (row, (a, b)) in rows.iter_mut().zip(pairs) {
+        *row = Row { a: *a, b: *b };
     }
-    Ok(rows)
+    RowSet::of(&rows[..pairs.len().min(MAX_ROWS)]).unwrap_or(RowSet::new())
 }
 
 /// Requests a key, and spends the ticket.
@@ -62,36 +62,39 @@ pub(crate) fn look(map: &ReaderMap, writer: &mut Writer, key: u32, rows: &mut Ro
     map.look(writer, key, rows)
 }
 
-/// Fills a key. Fails where the set has more rows than a key may have.
+/// Fills a key. `None` where the set has more rows than a key may have.
 pub(crate) fn fill(
     map: &ReaderMap,
     writer: &mut Writer,
     key: u32,
     number: u64,
     rows: &RowSet,
-) -> Result<Result<(), FillFault>, Fail>
+) -> Option<Result<(), FillFault>>
     requires own { writer.old.table ≡ map.now }
     requires key { key < map.now.shape.keys }
     ensures own { writer.new.table ≡ map.now }
 {
     if rows.len() > map.rows() as usize {
-        return Err(Fail::new("too many rows for a key"));
+        return None;
     }
-    Ok(map.fill(writer, key, number, rows))
+    Some(map.fill(writer, key, number, rows))
 }
 
-/// Updates a key.
+/// Updates a key. `None` where the deltas are no batch.
 pub(crate) fn update(
     map: &ReaderMap,
     writer: &mut Writer,
     key: u32,
-    batch: &Batch,
-) -> Result<(), UpdateFault>
+    deltas: &[Delta],
+) -> Option<Result<(), UpdateFault>>
     requires own { writer.old.table ≡ map.now }
     requires key { key < map.now.shape.keys }
     ensures own { writer.new.table ≡ map.now }
 {
-    map.update(writer, key, batch)
+    match Batch::of(deltas) {
+        Ok(batch) => Some(map.update(writer, key, &batch)),
+        Err(_) => None,
+    }
 }
 
 /// Evicts a key.
@@ -131,13 +134,18 @@ pub(crate) fn pairs_are(rows: &RowSet, pairs: &[(u64, u64)]) -> bool {
             }))
 }
 
-/// A batch that adds one row.
-pub(crate) fn added(number: u64) -> Result<Batch, Fail> {
-    Ok(Batch::of(&[Delta {
+/// One row more.
+pub(crate) fn plus(a: u64, b: u64) -> Delta {
+    Delta {
         plus: true,
-        row: Row {
-            a: number,
-            b: number,
-        },
-    }])?)
+        row: Row { a, b },
+    }
+}
+
+/// One row less.
+pub(crate) fn minus(a: u64, b: u64) -> Delta {
+    Delta {
+        plus: false,
+        row: Row { a, b },
+    }
 }

@@ -4,7 +4,7 @@ ghost use Rattle.std.specs.Prelude.{◌≡◌, ◌<◌, IfOk};
 ghost use Rattle.std.specs.Bool.{OnTrue};
 ghost use Rattle.nr_model.specs.Maps.{FillFits, key_count, key_of};
 
-use crate::calls::{Told, ask, cancel, evict, fill, find, look, state, update};
+use crate::calls::{FILLED, Told, ask, cancel, evict, fill, find, look, rows_of, state};
 use nr_map::{
     Asked, Cancel, Evict, FillFault, Found, KeyKind, Reader, ReaderMap, Shape, UpdateFault, Writer,
 };
@@ -15,8 +15,8 @@ use std::alloc::Global;
 use std::test::Fail;
 use std::thread::{Threads, join};
 
-fn one_row(a: u64) -> Result<RowSet, Fail> {
-    Ok(RowSet::of(&[Row { a, b: a }])?)
+fn one_row(a: u64) -> RowSet {
+    rows_of(&[(a, a)])
 }
 
 fn same_rows(one: &RowSet, other: &RowSet) -> bool {
@@ -40,28 +40,28 @@ fn a_late_answer_is_stale_and_the_last_number_is_worn(rt: HostRuntime) -> Result
     let Some(mut reader) = readers.pop() else {
         return Ok(());
     };
-    let one = one_row(1)?;
+    let one = one_row(1);
     assert_eq!(rt; ask(&map, &mut reader, 0), Told::Send(0, 4_194_302));
     assert_eq!(rt; cancel(&map, &mut writer, 0), Cancel::Cancelled);
     assert_eq!(rt; cancel(&map, &mut writer, 0), Cancel::Nothing);
     assert_eq!(rt; map.number(&writer, 0), 4_194_303);
     assert_eq!(rt; ask(&map, &mut reader, 0), Told::Send(0, 4_194_303));
     assert_eq!(rt;
-        fill(&map, &mut writer, 0, 4_194_302, &one)?,
-        Err(FillFault::Stale)
+        fill(&map, &mut writer, 0, 4_194_302, &one),
+        Some(Err(FillFault::Stale))
     );
     assert_eq!(rt; cancel(&map, &mut writer, 0), Cancel::Worn);
     assert_eq!(rt; ask(&map, &mut reader, 0), Told::Waiting);
-    assert_eq!(rt; fill(&map, &mut writer, 0, 4_194_303, &one)?, Ok(()));
+    assert_eq!(rt; fill(&map, &mut writer, 0, 4_194_303, &one), FILLED);
     assert_eq!(rt; cancel(&map, &mut writer, 0), Cancel::Nothing);
     assert_eq!(rt; evict(&map, &mut writer, 0), Evict::Evicted);
     assert_eq!(rt;
-        fill(&map, &mut writer, 0, 0, &RowSet::new())?,
-        Err(FillFault::NotAsked)
+        fill(&map, &mut writer, 0, 0, &RowSet::new()),
+        Some(Err(FillFault::NotAsked))
     );
     assert_eq!(rt; ask(&map, &mut reader, 0), Told::Send(0, 4_194_303));
     let number = map.number(&writer, 0);
-    assert_eq!(rt; fill(&map, &mut writer, 0, number, &one_row(2)?)?, Ok(()));
+    assert_eq!(rt; fill(&map, &mut writer, 0, number, &one_row(2)), FILLED);
     Ok(())
 }
 
@@ -76,24 +76,24 @@ fn a_worn_request_is_ended_by_its_own_fill_alone(rt: HostRuntime) -> Result<(), 
     assert_eq!(rt; cancel(&map, &mut writer, 0), Cancel::Worn);
     assert_eq!(rt; evict(&map, &mut writer, 0), Evict::Nothing);
     assert_eq!(rt;
-        fill(&map, &mut writer, 0, 0, &none)?,
-        Err(FillFault::Stale)
+        fill(&map, &mut writer, 0, 0, &none),
+        Some(Err(FillFault::Stale))
     );
     assert_eq!(rt;
-        fill(&map, &mut writer, 0, 4_194_302, &none)?,
-        Err(FillFault::Stale)
+        fill(&map, &mut writer, 0, 4_194_302, &none),
+        Some(Err(FillFault::Stale))
     );
     assert_eq!(rt;
-        fill(&map, &mut writer, 0, 4_194_304, &none)?,
-        Err(FillFault::Stale)
+        fill(&map, &mut writer, 0, 4_194_304, &none),
+        Some(Err(FillFault::Stale))
     );
     assert_eq!(rt;
-        fill(&map, &mut writer, 0, u64::MAX, &none)?,
-        Err(FillFault::Stale)
+        fill(&map, &mut writer, 0, u64::MAX, &none),
+        Some(Err(FillFault::Stale))
     );
     assert_eq!(rt; cancel(&map, &mut writer, 0), Cancel::Worn);
     assert_eq!(rt; state(&map, &mut writer, 0), KeyKind::Asked);
-    assert_eq!(rt; fill(&map, &mut writer, 0, 4_194_303, &none)?, Ok(()));
+    assert_eq!(rt; fill(&map, &mut writer, 0, 4_194_303, &none), FILLED);
     assert_eq!(rt; state(&map, &mut writer, 0), KeyKind::Rows);
     Ok(())
 }
@@ -178,7 +178,7 @@ fn a_late_answer_is_refused_beside_a_reader_that_asks_again(rt: HostRuntime) -> 
         assert_eq!(rt; ask(&map, &mut reader, 0), again);
     }
     assert_eq!(rt; ask(&map, &mut reader, 0), Told::Waiting);
-    assert_eq!(rt; fill(&map, &mut writer, 0, 1, &one_row(1)?)?, Ok(()));
+    assert_eq!(rt; fill(&map, &mut writer, 0, 1, &one_row(1)), FILLED);
     assert_eq!(rt; ask(&map, &mut reader, 0), Told::Filled);
     Ok(())
 }
@@ -211,7 +211,7 @@ impl Dice {
             1 | 2 => Call::Ask(key),
             3 | 4 => {
                 let near = model.state(key).number().wrapping_add(self.roll(3));
-                Call::Fill(key, near.wrapping_sub(1), one_row(self.roll(3))?)
+                Call::Fill(key, near.wrapping_sub(1), one_row(self.roll(3)))
             }
             5 => {
                 let a = self.roll(3);
@@ -270,7 +270,7 @@ fn answers(
             Err(FillFault::Stale) => matches!(reply, Reply::Stale),
             Err(FillFault::NoSlot(_)) => false,
         },
-        Call::Update(key, batch) => match update(map, writer, *key, batch) {
+        Call::Update(key, batch) => match map.update(writer, *key, batch) {
             Ok(()) => matches!(reply, Reply::Done),
             Err(UpdateFault::Dropped) => matches!(reply, Reply::Dropped),
             Err(UpdateFault::NoRow) => matches!(reply, Reply::NoRow),

@@ -1,7 +1,7 @@
 //! A reader holds a set in a thread of its own while the writer updates its key.
 ghost use Rattle.std.specs.Prelude.{◌≡◌, ◌<◌, All, IfOk};
 
-use crate::calls::{fill, look, state};
+use crate::calls::{FILLED, fill, look, rows_of, state};
 use nr_map::{Asked, Found, KeyKind, Reader, ReaderMap, Writer};
 use nr_model::{Batch, Delta, OpenFault, Row, RowSet};
 use std::alloc::Global;
@@ -191,7 +191,7 @@ fn pinned_set_outlives_an_update(rt: HostRuntime) -> Result<(), Fail> {
     let two = readers.pop().ok_or("no second reader")?;
     let mut one = readers.pop().ok_or("no first reader")?;
     assert!(rt; request(&map, &mut one, 0));
-    fill(&map, &mut writer, 0, 0, &RowSet::of(&[row(5, 6)])?)??;
+    assert_eq!(rt; fill(&map, &mut writer, 0, 0, &rows_of(&[(5, 6)])), FILLED);
     let batch = Batch::of(&[delta(false, row(5, 6)), delta(true, row(7, 8))])?;
     let ((held, one), ((updated, writer), (asked, two))) = all_three(
         &rt, &map, one, two, writer, &batch,

@@ -1,9 +1,11 @@
 //! Maps whose keys may have few rows or many, and what a find leaves of a caller's old rows.
 ghost use Rattle.std.specs.Prelude.{◌≡◌, ◌<◌, IfOk};
 
-use crate::calls::{Told, ask, fill, find, look, pairs_are, rows_of, update};
+use crate::calls::{
+    FILLED, Told, UPDATED, ask, fill, find, look, minus, pairs_are, plus, rows_of, update,
+};
 use nr_map::{Found, MAX_READERS, MAX_SLOTS, Reader, ReaderMap, Shape, UpdateFault, Writer};
-use nr_model::{Batch, Delta, MAX_KEYS, MAX_ROWS, OpenFault, Row, RowSet};
+use nr_model::{MAX_KEYS, MAX_ROWS, OpenFault, Row, RowSet};
 use std::alloc::Global;
 use std::test::Fail;
 
@@ -22,14 +24,14 @@ fn with_rows(rows: u32) -> Shape
 }
 
 /// The rows `1:0` to `count:0`, or as many of them as a set has room for.
-fn numbered(count: u32) -> Result<RowSet, Fail> {
+fn numbered(count: u32) -> RowSet {
     let mut rows = [Row { a: 0, b: 0 }; MAX_ROWS];
     let mut a: u64 = 0;
     for row in rows.iter_mut() {
         a = a.wrapping_add(1);
         row.a = a;
     }
-    Ok(RowSet::of(&rows[..count.min(MAX_ROWS as u32) as usize])?)
+    RowSet::of(&rows[..count.min(MAX_ROWS as u32) as usize]).unwrap_or(RowSet::new())
 }
 
 /// Whether the set has just the rows from `first:0` on, so many.
@@ -42,13 +44,6 @@ fn is_numbered(rows: &RowSet, first: u64, count: u32) -> bool {
             }))
 }
 
-fn delta(plus: bool, a: u64) -> Delta {
-    Delta {
-        plus,
-        row: Row { a, b: 0 },
-    }
-}
-
 #[test]
 fn a_key_may_have_1_to_255_rows(rt: HostRuntime) {
     for rows in [0, 256, u32::MAX] {
@@ -59,40 +54,29 @@ fn a_key_may_have_1_to_255_rows(rt: HostRuntime) {
 
 /// Fills a key with as many rows as it may have, and then with one more and one less: whether it
 /// has just those that it is to have.
-fn is_filled_to_its_bound(
-    map: &ReaderMap,
-    writer: &mut Writer,
-    reader: &mut Reader,
-) -> Result<bool, Fail>
+fn is_filled_to_its_bound(map: &ReaderMap, writer: &mut Writer, reader: &mut Reader) -> bool
     requires writer { writer.old.table ≡ map.now }
     requires reader { reader.old.table ≡ map.now }
     requires key { 2 < map.now.shape.keys }
 {
     let bound = map.rows();
     let asked = ask(map, reader, 2);
-    let filled = fill(map, writer, 2, 0, &numbered(bound)?)?;
+    let filled = fill(map, writer, 2, 0, &numbered(bound));
     let mut found = RowSet::new();
     find(map, reader, 2, &mut found);
     let full = is_numbered(&found, 1, bound);
-    let one_more = update(map, writer, 2, &Batch::of(&[delta(true, 0)])?);
+    let one_more = update(map, writer, 2, &[plus(0, 0)]);
     find(map, reader, 2, &mut found);
     let full_still = is_numbered(&found, 1, bound);
-    let one_other = update(
-        map,
-        writer,
-        2,
-        &Batch::of(&[delta(true, 0), delta(false, u64::from(bound))])?,
-    );
+    let one_other = update(map, writer, 2, &[plus(0, 0), minus(u64::from(bound), 0)]);
     find(map, reader, 2, &mut found);
-    Ok(
-        asked == Told::Send(2, 0)
-            && filled == Ok(())
-            && full
-            && one_more == Err(UpdateFault::TooMany)
-            && full_still
-            && one_other == Ok(())
-            && is_numbered(&found, 0, bound),
-    )
+    asked == Told::Send(2, 0)
+        && filled == FILLED
+        && full
+        && one_more == Some(Err(UpdateFault::TooMany))
+        && full_still
+        && one_other == UPDATED
+        && is_numbered(&found, 0, bound)
 }
 
 fn map_is_filled_to_its_bound(alloc: Global, rows: u32) -> Result<bool, Fail> {
@@ -100,7 +84,7 @@ fn map_is_filled_to_its_bound(alloc: Global, rows: u32) -> Result<bool, Fail> {
     let Some(mut reader) = readers.pop() else {
         return Ok(false);
     };
-    Ok(map.rows() == rows && is_filled_to_its_bound(&map, &mut writer, &mut reader)?)
+    Ok(map.rows() == rows && is_filled_to_its_bound(&map, &mut writer, &mut reader))
 }
 
 #[test]
@@ -146,9 +130,9 @@ fn a_find_leaves_nothing_of_the_old_rows(rt: HostRuntime) -> Result<(), Fail> {
     assert_eq!(rt; ask(&map, &mut reader, 0), Told::Send(0, 0));
     assert_eq!(rt; ask(&map, &mut reader, 1), Told::Send(1, 0));
     assert_eq!(rt; ask(&map, &mut reader, 2), Told::Send(2, 0));
-    assert_eq!(rt; fill(&map, &mut writer, 0, 0, &rows_of(&many)?)?, Ok(()));
-    assert_eq!(rt; fill(&map, &mut writer, 1, 0, &rows_of(&few)?)?, Ok(()));
-    assert_eq!(rt; fill(&map, &mut writer, 2, 0, &RowSet::new())?, Ok(()));
+    assert_eq!(rt; fill(&map, &mut writer, 0, 0, &rows_of(&many)), FILLED);
+    assert_eq!(rt; fill(&map, &mut writer, 1, 0, &rows_of(&few)), FILLED);
+    assert_eq!(rt; fill(&map, &mut writer, 2, 0, &RowSet::new()), FILLED);
     let mut set = RowSet::new();
     assert!(rt; shows(&map, &mut writer, &mut reader, 0, &mut set, &many));
     assert!(rt; shows(&map, &mut writer, &mut reader, 1, &mut set, &few));
@@ -175,9 +159,9 @@ fn the_largest_map_is_opened_and_used(rt: HostRuntime) -> Result<(), Fail> {
     assert_eq!(rt; reader.number(), MAX_READERS);
     let last = MAX_KEYS - 1;
     assert_eq!(rt; ask(&map, &mut reader, last), Told::Send(last, 0));
-    assert_eq!(rt; fill(&map, &mut writer, last, 0, &numbered(255)?)?, Ok(()));
-    let batch = Batch::of(&[delta(true, 0), delta(false, 255)])?;
-    assert_eq!(rt; update(&map, &mut writer, last, &batch), Ok(()));
+    assert_eq!(rt; fill(&map, &mut writer, last, 0, &numbered(255)), FILLED);
+    let one_other = [plus(0, 0), minus(255, 0)];
+    assert_eq!(rt; update(&map, &mut writer, last, &one_other), UPDATED);
     let mut found = RowSet::new();
     assert_eq!(rt; find(&map, &mut reader, last, &mut found), Found::Rows);
     assert!(rt; is_numbered(&found, 0, 255));

@@ -2,9 +2,11 @@
 //! the threads' steps fall.
 ghost use Rattle.std.specs.Prelude.{◌≡◌, ◌<◌};
 
-use crate::calls::{Told, added, ask, fill, find, look, pairs_are, rows_of, state, update};
+use crate::calls::{
+    FILLED, Told, UPDATED, ask, fill, find, look, minus, pairs_are, plus, rows_of, state, update,
+};
 use nr_map::{Asked, Found, KeyKind, NoSlot, Pin, Reader, ReaderMap, UpdateFault, Writer};
-use nr_model::{Batch, Delta, Row, RowSet};
+use nr_model::{Row, RowSet};
 use std::test::Fail;
 use std::thread::{Threads, join};
 
@@ -33,7 +35,7 @@ fn shown(map: &ReaderMap, pin: &mut Pin, i: u32) -> Option<Row>
 struct Pinned {
     one: [Option<Row>; 2],
     two: [Option<Row>; 3],
-    updates: [Result<(), UpdateFault>; 4],
+    updates: [Option<Result<(), UpdateFault>>; 4],
 }
 
 fn update_between_pins(
@@ -45,11 +47,10 @@ fn update_between_pins(
     requires own { (writer.old.table ≡ map.now) × (one.table ≡ map.now) × (two.table ≡ map.now) }
     requires key { 0 < map.now.shape.keys }
 {
-    let (two_more, three_more, four_more, five_more) = (added(2)?, added(3)?, added(4)?, added(5)?);
     let Ok(mut first) = map.pin(one, 0) else {
         return Err(Fail::from("the first reader found a hole"));
     };
-    let by_two = update(map, writer, 0, &two_more);
+    let by_two = update(map, writer, 0, &[plus(2, 2)]);
     let mut second = match map.pin(two, 0) {
         Ok(second) => second,
         Err(_) => {
@@ -57,9 +58,9 @@ fn update_between_pins(
             return Err(Fail::from("the second reader found a hole"));
         }
     };
-    let by_three = update(map, writer, 0, &three_more);
-    let by_four = update(map, writer, 0, &four_more);
-    let by_five = update(map, writer, 0, &five_more);
+    let by_three = update(map, writer, 0, &[plus(3, 3)]);
+    let by_four = update(map, writer, 0, &[plus(4, 4)]);
+    let by_five = update(map, writer, 0, &[plus(5, 5)]);
     let pinned = Pinned {
         one: [shown(map, &mut first, 0), shown(map, &mut first, 1)],
         two: [
@@ -82,7 +83,9 @@ fn with_slots(rt: &HostRuntime, slots: u32) -> Result<Pinned, Fail> {
     if ask(&map, &mut one, 0) != Told::Send(0, 0) {
         return Err(Fail::from("the key was asked for already"));
     }
-    fill(&map, &mut writer, 0, 0, &rows_of(&[(1, 1)])?)??;
+    if fill(&map, &mut writer, 0, 0, &rows_of(&[(1, 1)])) != FILLED {
+        return Err(Fail::from("the key was not filled"));
+    }
     update_between_pins(&map, &mut writer, one, two)
 }
 
@@ -91,7 +94,7 @@ fn a_slot_more_than_keys_and_readers_is_enough(rt: HostRuntime) -> Result<(), Fa
     let pinned = Pinned {
         one: [row(1), None],
         two: [row(1), row(2), None],
-        updates: [Ok(()); 4],
+        updates: [UPDATED; 4],
     };
     assert_eq!(rt; with_slots(&rt, 4)?, pinned);
     Ok(())
@@ -99,11 +102,11 @@ fn a_slot_more_than_keys_and_readers_is_enough(rt: HostRuntime) -> Result<(), Fa
 
 #[test]
 fn polls_find_pinned_sets_held(rt: HostRuntime) -> Result<(), Fail> {
-    let none = Err(UpdateFault::NoSlot(NoSlot { live: 1, held: 2 }));
+    let none = Some(Err(UpdateFault::NoSlot(NoSlot { live: 1, held: 2 })));
     let pinned = Pinned {
         one: [row(1), None],
         two: [row(1), row(2), None],
-        updates: [Ok(()), Ok(()), none, none],
+        updates: [UPDATED, UPDATED, none, none],
     };
     assert_eq!(rt; with_slots(&rt, 3)?, pinned);
     Ok(())
@@ -129,27 +132,23 @@ fn pin_often(map: &ReaderMap, mut reader: Reader) -> u32
     held
 }
 
-fn changed(plus: bool) -> Result<Batch, Fail> {
-    Ok(Batch::of(&[Delta {
-        plus,
-        row: Row { a: 1, b: 1 },
-    }])?)
-}
-
 // Adds a row and takes it away again and again: how often it was done.
-fn update_often(map: &ReaderMap, mut writer: Writer) -> Result<u32, Fail>
+fn update_often(map: &ReaderMap, mut writer: Writer) -> u32
     requires own { writer.table ≡ map.now }
     requires key { 0 < map.now.shape.keys }
 {
-    let (plus, minus) = (changed(true)?, changed(false)?);
     let mut done = 0;
     for turn in 0..TURNS {
-        let batch = if turn % 2 == 0 { &plus } else { &minus };
-        if update(map, &mut writer, 0, batch).is_ok() {
+        let delta = if turn % 2 == 0 {
+            plus(1, 1)
+        } else {
+            minus(1, 1)
+        };
+        if update(map, &mut writer, 0, &[delta]) == UPDATED {
             done = u32::min(done, TURNS) + 1;
         }
     }
-    Ok(done)
+    done
 }
 
 fn two_pin<R: Threads + Sync>(rt: &R, map: &ReaderMap, one: Reader, two: Reader) -> (u32, u32)
@@ -198,7 +197,7 @@ fn update_beside<R: Threads + Sync>(
     one: Reader,
     two: Reader,
     three: Reader,
-) -> (Result<u32, Fail>, (u32, (u32, u32)))
+) -> (u32, (u32, (u32, u32)))
     requires writer { writer.table ≡ map.now }
     requires one { one.table ≡ map.now }
     requires two { two.table ≡ map.now }
@@ -207,7 +206,7 @@ fn update_beside<R: Threads + Sync>(
 {
     join(
         rt,
-        move || -> Result<u32, Fail>
+        move || -> u32
             requires { (writer.table ≡ map.now) × (0 < map.now.shape.keys) }
         { update_often(map, writer) },
         move || -> (u32, (u32, u32))
@@ -226,9 +225,9 @@ fn updates_beside_pins_are_all_done(rt: HostRuntime) -> Result<(), Fail> {
         return Err(Fail::from("too few readers"));
     };
     assert_eq!(rt; ask(&map, &mut one, 0), Told::Send(0, 0));
-    fill(&map, &mut writer, 0, 0, &RowSet::new())??;
+    assert_eq!(rt; fill(&map, &mut writer, 0, 0, &RowSet::new()), FILLED);
     let (updates, pins) = update_beside(&rt, &map, writer, one, two, three);
-    assert_eq!(rt; updates?, TURNS);
+    assert_eq!(rt; updates, TURNS);
     assert_eq!(rt; pins, (TURNS, (TURNS, TURNS)));
     Ok(())
 }
@@ -288,7 +287,7 @@ fn tokens_meet(rt: HostRuntime) -> Result<(), Fail> {
     let mut one = readers.pop().ok_or("no first reader")?;
     assert!(rt; is_sent(map.ask(&mut one, 1), 1));
     assert!(rt; is_sent(map.ask(&mut one, 0), 0));
-    fill(&map, &mut writer, 0, 0, &rows_of(&[(5, 5)])?)??;
+    assert_eq!(rt; fill(&map, &mut writer, 0, 0, &rows_of(&[(5, 5)])), FILLED);
     let mut rows = RowSet::new();
     let found = finds_by_meeting(&map, &mut writer, &mut one, &mut two, &mut rows);
     assert_eq!(rt; found, Found::Rows);

@@ -1,9 +1,11 @@
 //! Threads over one map. What is asserted does not depend on how their steps fall.
 ghost use Rattle.std.specs.Prelude.{◌≡◌, ◌<◌};
 
-use crate::calls::{Told, added, ask, evict, fill, find, look, pairs_are, rows_of, update};
+use crate::calls::{
+    FILLED, Told, UPDATED, ask, evict, fill, find, look, minus, pairs_are, plus, rows_of, update,
+};
 use nr_map::{Evict, FillFault, Found, NoSlot, Reader, ReaderMap, UpdateFault, Writer};
-use nr_model::{Batch, Delta, OpenFault, Row, RowSet};
+use nr_model::{Delta, OpenFault, RowSet};
 use std::sync::atomic::{AtomicBool, Ordering};
 use std::test::Fail;
 use std::thread::{Threads, join};
@@ -51,10 +53,7 @@ fn one_of_two_requests_is_sent(rt: HostRuntime) -> Result<(), Fail> {
         (first, second) == (Told::Send(0, 0), Told::Waiting)
             || (first, second) == (Told::Waiting, Told::Send(0, 0))
     );
-    assert_eq!(rt;
-        fill(&map, &mut writer, 0, 0, &rows_of(&[(5, 6)])?)?,
-        Ok(())
-    );
+    assert_eq!(rt; fill(&map, &mut writer, 0, 0, &rows_of(&[(5, 6)])), FILLED);
     let mut rows = RowSet::new();
     assert_eq!(rt; look(&map, &mut writer, 0, &mut rows), Found::Rows);
     assert!(rt; pairs_are(&rows, &[(5, 6)]));
@@ -78,12 +77,9 @@ fn updates_use_slots_again(rt: HostRuntime) -> Result<(), Fail> {
         return Ok(());
     };
     assert_eq!(rt; ask(&map, &mut reader, 0), Told::Send(0, 0));
-    assert_eq!(rt;
-        fill(&map, &mut writer, 0, 0, &rows_of(&[(1, 1)])?)?,
-        Ok(())
-    );
-    assert_eq!(rt; update(&map, &mut writer, 0, &added(2)?), Ok(()));
-    assert_eq!(rt; update(&map, &mut writer, 0, &added(3)?), Ok(()));
+    assert_eq!(rt; fill(&map, &mut writer, 0, 0, &rows_of(&[(1, 1)])), FILLED);
+    assert_eq!(rt; update(&map, &mut writer, 0, &[plus(2, 2)]), UPDATED);
+    assert_eq!(rt; update(&map, &mut writer, 0, &[plus(3, 3)]), UPDATED);
     let mut rows = RowSet::new();
     assert_eq!(rt; look(&map, &mut writer, 0, &mut rows), Found::Rows);
     assert!(rt; pairs_are(&rows, &[(1, 1), (2, 2), (3, 3)]));
@@ -99,18 +95,18 @@ fn only_a_requested_key_is_filled(rt: HostRuntime) -> Result<(), Fail> {
     assert_eq!(rt; reader.number(), 1);
     assert_eq!(rt; (map.keys(), map.slots(), map.readers()), (2, 1, 1));
     assert_eq!(rt;
-        fill(&map, &mut writer, 0, 0, &rows_of(&[(1, 1)])?)?,
-        Err(FillFault::NotAsked)
+        fill(&map, &mut writer, 0, 0, &rows_of(&[(1, 1)])),
+        Some(Err(FillFault::NotAsked))
     );
     assert_eq!(rt;
-        update(&map, &mut writer, 0, &added(2)?),
-        Err(UpdateFault::Dropped)
+        update(&map, &mut writer, 0, &[plus(2, 2)]),
+        Some(Err(UpdateFault::Dropped))
     );
     assert_eq!(rt; evict(&map, &mut writer, 0), Evict::Nothing);
     assert_eq!(rt; ask(&map, &mut reader, 0), Told::Send(0, 0));
     assert_eq!(rt;
-        update(&map, &mut writer, 0, &added(2)?),
-        Err(UpdateFault::Dropped)
+        update(&map, &mut writer, 0, &[plus(2, 2)]),
+        Some(Err(UpdateFault::Dropped))
     );
     assert_eq!(rt; evict(&map, &mut writer, 0), Evict::Nothing);
     Ok(())
@@ -122,29 +118,21 @@ fn a_filled_key_is_refused(rt: HostRuntime) -> Result<(), Fail> {
     let Some(mut reader) = readers.pop() else {
         return Ok(());
     };
-    let one = rows_of(&[(1, 1)])?;
+    let one = rows_of(&[(1, 1)]);
     assert_eq!(rt; ask(&map, &mut reader, 0), Told::Send(0, 0));
-    assert_eq!(rt; fill(&map, &mut writer, 0, 0, &one)?, Ok(()));
+    assert_eq!(rt; fill(&map, &mut writer, 0, 0, &one), FILLED);
     assert_eq!(rt;
-        fill(&map, &mut writer, 0, 0, &one)?,
-        Err(FillFault::Already)
+        fill(&map, &mut writer, 0, 0, &one),
+        Some(Err(FillFault::Already))
     );
     assert_eq!(rt; ask(&map, &mut reader, 0), Told::Filled);
-    let lacking = Batch::of(&[Delta {
-        plus: false,
-        row: Row { a: 9, b: 9 },
-    }])?;
     assert_eq!(rt;
-        update(&map, &mut writer, 0, &lacking),
-        Err(UpdateFault::NoRow)
+        update(&map, &mut writer, 0, &[minus(9, 9)]),
+        Some(Err(UpdateFault::NoRow))
     );
-    let many = Batch::of(&[Delta {
-        plus: true,
-        row: Row { a: 2, b: 2 },
-    }; 15])?;
     assert_eq!(rt;
-        update(&map, &mut writer, 0, &many),
-        Err(UpdateFault::TooMany)
+        update(&map, &mut writer, 0, &[plus(2, 2); 15]),
+        Some(Err(UpdateFault::TooMany))
     );
     Ok(())
 }
@@ -155,21 +143,21 @@ fn a_slot_is_free_again_once_its_key_is_evicted(rt: HostRuntime) -> Result<(), F
     let Some(mut reader) = readers.pop() else {
         return Ok(());
     };
-    let one = rows_of(&[(1, 1)])?;
+    let one = rows_of(&[(1, 1)]);
     let none = NoSlot { live: 1, held: 0 };
     assert_eq!(rt; ask(&map, &mut reader, 0), Told::Send(0, 0));
     assert_eq!(rt; ask(&map, &mut reader, 1), Told::Send(1, 0));
-    assert_eq!(rt; fill(&map, &mut writer, 0, 0, &one)?, Ok(()));
+    assert_eq!(rt; fill(&map, &mut writer, 0, 0, &one), FILLED);
     assert_eq!(rt;
-        update(&map, &mut writer, 0, &added(2)?),
-        Err(UpdateFault::NoSlot(none))
+        update(&map, &mut writer, 0, &[plus(2, 2)]),
+        Some(Err(UpdateFault::NoSlot(none)))
     );
     assert_eq!(rt;
-        fill(&map, &mut writer, 1, 0, &one)?,
-        Err(FillFault::NoSlot(none))
+        fill(&map, &mut writer, 1, 0, &one),
+        Some(Err(FillFault::NoSlot(none)))
     );
     assert_eq!(rt; evict(&map, &mut writer, 0), Evict::Evicted);
-    assert_eq!(rt; fill(&map, &mut writer, 1, 0, &one)?, Ok(()));
+    assert_eq!(rt; fill(&map, &mut writer, 1, 0, &one), FILLED);
     let mut rows = RowSet::new();
     assert_eq!(rt; look(&map, &mut writer, 1, &mut rows), Found::Rows);
     assert!(rt; pairs_are(&rows, &[(1, 1)]));
@@ -195,7 +183,7 @@ fn sizes_have_their_limits(rt: HostRuntime) {
 }
 
 /// The rows `0:mark`, `1:mark` and `2:mark`, by which a set shows that it is whole.
-fn marked(mark: u64) -> Result<RowSet, Fail> {
+fn marked(mark: u64) -> RowSet {
     rows_of(&[(0, mark), (1, mark), (2, mark)])
 }
 
@@ -243,7 +231,7 @@ fn find_often(map: &ReaderMap, mut reader: Reader, hit: &AtomicBool) -> bool
 }
 
 /// Fills, updates and evicts key 0 again and again.
-fn write_often(map: &ReaderMap, mut writer: Writer, hits: &Hits) -> Result<bool, Fail>
+fn write_often(map: &ReaderMap, mut writer: Writer, hits: &Hits) -> bool
     requires own { writer.table ≡ map.now }
     requires key { 0 < map.now.shape.keys }
 {
@@ -256,28 +244,24 @@ fn write_often(map: &ReaderMap, mut writer: Writer, hits: &Hits) -> Result<bool,
         let evicts = mark % 4 == 3 && hits.both();
         if evicts {
             let _ = evict(map, &mut writer, 0);
-        } else if fill(map, &mut writer, 0, 0, &marked(mark)?)? == Err(FillFault::Already) {
-            let _ = update(map, &mut writer, 0, &renewal(&rows, mark)?);
+        } else if fill(map, &mut writer, 0, 0, &marked(mark)) == Some(Err(FillFault::Already)) {
+            let _ = update(map, &mut writer, 0, &renewal(&rows, mark));
         }
     }
-    Ok(whole)
+    whole
 }
 
-/// The batch that turns those three rows into the marked ones.
-fn renewal(rows: &RowSet, mark: u64) -> Result<Batch, Fail> {
+/// The deltas that turn those three rows into the marked ones.
+fn renewal(rows: &RowSet, mark: u64) -> [Delta; 6] {
     let old = rows.get(0).map_or(0, |row| row.b);
-    let delta = |plus: bool, a: u64, b: u64| Delta {
-        plus,
-        row: Row { a, b },
-    };
-    Ok(Batch::of(&[
-        delta(false, 0, old),
-        delta(false, 1, old),
-        delta(false, 2, old),
-        delta(true, 0, mark),
-        delta(true, 1, mark),
-        delta(true, 2, mark),
-    ])?)
+    [
+        minus(0, old),
+        minus(1, old),
+        minus(2, old),
+        plus(0, mark),
+        plus(1, mark),
+        plus(2, mark),
+    ]
 }
 
 fn all_at_once<R: Threads + Sync>(
@@ -287,7 +271,7 @@ fn all_at_once<R: Threads + Sync>(
     one: Reader,
     two: Reader,
     hits: &Hits,
-) -> (Result<bool, Fail>, (bool, bool))
+) -> (bool, (bool, bool))
     requires writer { writer.table ≡ map.now }
     requires one { one.table ≡ map.now }
     requires two { two.table ≡ map.now }
@@ -295,7 +279,7 @@ fn all_at_once<R: Threads + Sync>(
 {
     join(
         rt,
-        move || -> Result<bool, Fail>
+        move || -> bool
             requires { (writer.table ≡ map.now) × (0 < map.now.shape.keys) }
         { write_often(map, writer, hits) },
         move || -> (bool, bool)
@@ -333,13 +317,13 @@ fn sets_are_found_whole(rt: HostRuntime) -> Result<(), Fail> {
         return Ok(());
     };
     assert_eq!(rt; ask(&map, &mut one, 0), Told::Send(0, 0));
-    assert_eq!(rt; fill(&map, &mut writer, 0, 0, &marked(0)?)?, Ok(()));
+    assert_eq!(rt; fill(&map, &mut writer, 0, 0, &marked(0)), FILLED);
     let hits = Hits {
         one: AtomicBool::new(false),
         two: AtomicBool::new(false),
     };
     let (written, found) = all_at_once(&rt, &map, writer, one, two, &hits);
-    assert!(rt; written?);
+    assert!(rt; written);
     assert_eq!(rt; found, (true, true));
     assert!(rt; hits.both(), "each reader found rows");
     Ok(())
