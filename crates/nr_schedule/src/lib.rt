@@ -8,4 +8,4 @@ mod machine;
 mod opened;
 mod runs;
 
-pub use runs::run_steps;
+pub use runs::{run_steps, run_within};

@@ -20,6 +20,18 @@ pub fn run_steps<R: Read, W: Write>(
 ) -> Result<(), RunFault>
     ensures { Runs schedule_text longest_input result (R.remaining reader.old) (R.remaining reader.new) (W.contents writer.old) (W.contents writer.new) }
 {
+    run_within(alloc, INPUT_LIMIT, reader, writer)
+}
+
+/// The same as `run_steps`, for an input of at most `limit` bytes.
+pub fn run_within<R: Read, W: Write>(
+    alloc: Global,
+    limit: u64,
+    reader: &mut R,
+    writer: &mut W,
+) -> Result<(), RunFault>
+    ensures { Runs schedule_text limit result (R.remaining reader.old) (R.remaining reader.new) (W.contents writer.old) (W.contents writer.new) }
+{
     let mut machine = ScheduleMachine::new();
-    serve(alloc, INPUT_LIMIT, &mut machine, reader, writer)
+    serve(alloc, limit, &mut machine, reader, writer)
 }
