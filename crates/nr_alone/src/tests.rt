@@ -110,13 +110,13 @@ fn by_reader(map: &mut Alone, key: u32, at: usize, line: Line) -> Said {
         return Said::Other;
     }
     let mut rows = RowSet::new();
-    told(match line {
-        Line::Find(_) => map.find(at, key, &mut rows),
-        Line::Ask(_) => map.ask(at, key),
-        Line::Pin(_) => map.pin(at, key),
-        Line::Show(_) => map.show(at, &mut rows),
-        _ => map.unpin(at),
-    })
+    match line {
+        Line::Find(_) => told(map.find(at, key, &mut rows)),
+        Line::Ask(_) => told(map.ask(at, key)),
+        Line::Pin(_) => told(map.pin(at, key)),
+        Line::Show(_) => told(map.show(at, &mut rows)),
+        _ => told(map.unpin(at)),
+    }
 }
 
 fn answer(map: &mut Alone, key: u32, line: Line) -> Said {
