@@ -17,6 +17,7 @@ use std::sync::Wait;
 const MAX_PASSES: u32 = 1_000_000;
 
 // Posts the ticket that is kept, which stays where the queue is full.
+#[inline(always)]
 fn post_kept<R: Wait>(rt: &R, map: &ReaderMap, triggers: &Triggers, hands: Hands) -> Hands
     requires { IsReady map.now triggers.now hands }
     ensures ready { IsReady map.now triggers.now result }
@@ -37,6 +38,7 @@ fn post_kept<R: Wait>(rt: &R, map: &ReaderMap, triggers: &Triggers, hands: Hands
 }
 
 // Requests the key unless a ticket is kept, and posts the ticket of a request that is to be sent.
+#[inline(never)]
 fn request<R: Wait>(
     rt: &R,
     map: &ReaderMap,
@@ -85,6 +87,7 @@ fn lets_pass<G: Gate, R: Wait>(rt: &R, places: &Places<'_, G>, turn: u64) -> boo
 }
 
 // With the pin of a filled key: copies its rows for the caller, if the gate lets pass.
+#[inline(always)]
 fn answer<G: Gate, R: Wait>(
     rt: &R,
     places: &Places<'_, G>,
@@ -107,6 +110,7 @@ fn answer<G: Gate, R: Wait>(
 }
 
 // One try: posts the ticket that is kept, and pins the key; asks for a hole.
+#[inline(always)]
 fn try_once<G: Gate, R: Wait>(
     rt: &R,
     places: &Places<'_, G>,
