@@ -87,8 +87,17 @@ impl Spare {
         if place == 0 {
             self.retired.pop_front();
         } else {
-            self.retired.remove(place);
+            self.take_behind(place);
         }
+    }
+
+    // A slot behind others is taken where readers hold those. It stays out of the way of the first.
+    #[inline(never)]
+    fn take_behind(&mut self, place: usize)
+        requires { place < length self.old.retired }
+        ensures { self.new ≡ record self.old { retired = remove self.old.retired place } }
+    {
+        self.retired.remove(place);
     }
 
     /// Retires the slot that a key's old word names, if it names one.

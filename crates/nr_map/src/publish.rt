@@ -28,6 +28,7 @@ impl ReaderMap {
     /// Takes a slot for the set of a call, puts the set there, and names the slot at the call's
     /// key; the slot that the key named before is retired. Takes the polls of the search, a put for
     /// each word of the set, and one swap.
+    #[inline(always)]
     pub(crate) fn publish<G: Given>(
         &self,
         seat: &mut Seat,
@@ -49,6 +50,7 @@ impl ReaderMap {
 
     // Takes a slot for the set of a call: the next one that was never taken, without a step, or
     // else the first retired one that no reader holds, by one poll of each up to it.
+    #[inline(always)]
     fn take_slot<G: Given>(
         &self,
         seat: &mut Seat,
@@ -65,6 +67,7 @@ impl ReaderMap {
         self.poll_retired::<G>(seat, spare, rows)
     }
 
+    #[inline(always)]
     fn poll_retired<G: Given>(
         &self,
         seat: &mut Seat,
