@@ -1,14 +1,32 @@
 //! A tour of the map for whoever wants to use it: a chapter in each file, and what it prints in
 //! `stdout` beside this folder. Each chapter opens a map of its own, makes its calls in one function
-//! and prints in another, so that no token or pin lives while a line may fail to be written.
+//! and prints in another, so that no token or pin lives where a line may fail to be written.
 #![tactic(auto)]
 
+mod calls;
+mod cancels;
 mod lookups;
 mod opening;
-mod rows;
+mod pins;
+mod slots;
+mod threads;
+mod upkeep;
+
+use crate::calls::CHANGE;
+use nr_model::Batch;
 
 fn main(rt: HostRuntime) -> anyhow::Result<()> {
     let alloc = rt.alloc();
+    let change = Batch::of(&CHANGE)?;
     lookups::show(&rt, &lookups::first_read(alloc)?)?;
+    threads::show(&rt, &threads::asked_at_once(&rt, alloc)?)?;
+    upkeep::show(&rt, &upkeep::kept_up(alloc, &change)?)?;
+    if let Some(told) = pins::kept_over_update(alloc, &change)? {
+        pins::show(&rt, &told)?;
+    }
+    if let Some(told) = slots::short_of_slots(alloc, &change)? {
+        slots::show(&rt, &told)?;
+    }
+    cancels::show(&rt, &cancels::taken_back(alloc)?)?;
     Ok(())
 }
