@@ -5,9 +5,12 @@
 
 mod calls;
 mod cancels;
+mod clients;
 mod lookups;
+mod meetings;
 mod opening;
 mod pins;
+mod queue;
 mod slots;
 mod threads;
 mod upkeep;
@@ -28,5 +31,8 @@ fn main(rt: HostRuntime) -> anyhow::Result<()> {
         slots::show(&rt, &told)?;
     }
     cancels::show(&rt, &cancels::taken_back(alloc)?)?;
+    meetings::show(&rt, &meetings::learnt(alloc)?)?;
+    queue::show(&rt, &queue::passed_on(&rt, alloc)?)?;
+    clients::show(&rt, &clients::waited_for(&rt, alloc)?)?;
     Ok(())
 }
