@@ -17,22 +17,33 @@ mod upkeep;
 
 use crate::calls::CHANGE;
 use nr_model::Batch;
+use std::io::Print;
+use std::sync::Wait;
+use std::thread::Threads;
 
-fn main(rt: HostRuntime) -> anyhow::Result<()> {
+// The map alone.
+fn show_map<R: AllocGlobal + Print + Threads + Sync>(rt: &R) -> anyhow::Result<()> {
     let alloc = rt.alloc();
     let change = Batch::of(&CHANGE)?;
-    lookups::show(&rt, &lookups::first_read(alloc)?)?;
-    threads::show(&rt, &threads::asked_at_once(&rt, alloc)?)?;
-    upkeep::show(&rt, &upkeep::kept_up(alloc, &change)?)?;
-    if let Some(told) = pins::kept_over_update(alloc, &change)? {
-        pins::show(&rt, &told)?;
-    }
-    if let Some(told) = slots::short_of_slots(alloc, &change)? {
-        slots::show(&rt, &told)?;
-    }
-    cancels::show(&rt, &cancels::taken_back(alloc)?)?;
-    meetings::show(&rt, &meetings::learnt(alloc)?)?;
-    queue::show(&rt, &queue::passed_on(&rt, alloc)?)?;
-    clients::show(&rt, &clients::waited_for(&rt, alloc)?)?;
+    lookups::show(rt, &lookups::first_read(alloc)?)?;
+    threads::show(rt, &threads::asked_at_once(rt, alloc)?)?;
+    upkeep::show(rt, &upkeep::kept_up(alloc, &change)?)?;
+    pins::show(rt, &pins::kept_over_update(alloc, &change)?)?;
+    slots::show(rt, &slots::short_of_slots(alloc, &change)?)?;
     Ok(())
+}
+
+// What else a server needs.
+fn show_server<R: AllocGlobal + Print + Threads + Wait + Sync>(rt: &R) -> anyhow::Result<()> {
+    let alloc = rt.alloc();
+    cancels::show(rt, &cancels::taken_back(alloc)?)?;
+    meetings::show(rt, &meetings::learnt(alloc)?)?;
+    queue::show(rt, &queue::passed_on(rt, alloc)?)?;
+    clients::show(rt, &clients::waited_for(rt, alloc)?)?;
+    Ok(())
+}
+
+fn main(rt: HostRuntime) -> anyhow::Result<()> {
+    show_map(&rt)?;
+    show_server(&rt)
 }

@@ -4,7 +4,7 @@ ghost use Rattle.std.specs.Prelude.{◌≡◌, ◌<◌};
 use crate::calls::{ask, fill};
 use crate::opening::opened;
 use nr_map::{Reader, ReaderMap, UpdateFault, Writer};
-use nr_model::{Batch, OpenFault, RowSet};
+use nr_model::{Batch, OpenFault, Row, RowSet};
 use std::alloc::Global;
 use std::io::{self, Print};
 
@@ -12,6 +12,7 @@ use std::io::{self, Print};
 pub struct Kept {
     updated: Result<(), UpdateFault>,
     pinned: RowSet,
+    first: Option<Row>,
     found: RowSet,
 }
 
@@ -35,12 +36,18 @@ fn hold_over_update(
     let updated = map.update(writer, 0, change);
     let mut pinned = RowSet::new();
     pin.copy_to(map, &mut pinned);
+    let first = if 0 < pin.len() {
+        Some(pin.row(map, 0))
+    } else {
+        None
+    };
     let mut found = RowSet::new();
     map.find(two, 0, &mut found);
     pin.release(map);
     Some(Kept {
         updated,
         pinned,
+        first,
         found,
     })
 }
@@ -53,11 +60,15 @@ pub fn kept_over_update(alloc: Global, change: &Batch) -> Result<Option<Kept>, O
     Ok(hold_over_update(&map, &mut writer, one, &mut two, change))
 }
 
-pub fn show<R: Print>(rt: &R, told: &Kept) -> io::Result<()> {
+pub fn show<R: Print>(rt: &R, told: &Option<Kept>) -> io::Result<()> {
+    let Some(told) = told else {
+        return Ok(());
+    };
     println!(rt;
-        "A pin\n  an update beside it: {:?}\n  it has {:?}\n  reader 2 finds {:?}",
+        "A pin\n  an update beside it: {:?}\n  it has {:?}\n  its first row: {:?}\n  reader 2 finds {:?}",
         told.updated,
         told.pinned.as_slice(),
+        told.first,
         told.found.as_slice()
     )
 }

@@ -90,25 +90,49 @@ fn spend(ticket: Option<Ticket>) -> bool {
     }
 }
 
-/// Reader 1 misses both keys, and there is room for one ticket: the second is posted once the first was
-/// taken.
-pub fn passed_on<R: Wait>(rt: &R, alloc: Global) -> Result<Queued, OpenFault> {
-    let (map, mut writer, mut one, _two) = opened(alloc, 2, 5)?;
-    let (triggers, mut poster, mut taker) = opened_queue(alloc, 1)?;
-    let first = request(&map, &mut one, 0);
-    let second = request(&map, &mut one, 1);
-    let first = post(rt, &triggers, &mut poster, first);
-    let second = post(rt, &triggers, &mut poster, second);
+// Two tickets and room for one: the second is posted once the first was taken.
+fn post_in_turn<R: Wait>(
+    rt: &R,
+    map: &ReaderMap,
+    triggers: &Triggers,
+    reader: &mut Reader,
+    poster: &mut Poster,
+    writer: &mut Writer,
+    taker: &mut Taker,
+) -> Queued
+    requires map { (reader.old.table ≡ map.now) × (writer.old.table ≡ map.now) × (map.now.shape.keys ≡ 2) }
+    requires poster { (poster.old.queue ≡ triggers.now.id) × (poster.old.keys ≡ 2) }
+    requires taker { (taker.old.queue ≡ triggers.now.id) × (taker.old.keys ≡ 2) }
+{
+    let first = request(map, reader, 0);
+    let second = request(map, reader, 1);
+    let first = post(rt, triggers, poster, first);
+    let second = post(rt, triggers, poster, second);
     let was_full = second.is_some();
-    let one = answer_next(rt, &map, &triggers, &mut writer, &mut taker);
-    let second = post(rt, &triggers, &mut poster, second);
-    let two = answer_next(rt, &map, &triggers, &mut writer, &mut taker);
-    let none = answer_next(rt, &map, &triggers, &mut writer, &mut taker);
-    Ok(Queued {
+    let one = answer_next(rt, map, triggers, writer, taker);
+    let second = post(rt, triggers, poster, second);
+    let two = answer_next(rt, map, triggers, writer, taker);
+    let none = answer_next(rt, map, triggers, writer, taker);
+    Queued {
         was_full,
         answers: [one, two, none],
         kept: (spend(first), spend(second)),
-    })
+    }
+}
+
+/// Reader 1 misses both keys, and the dataflow answers in the order of the tickets.
+pub fn passed_on<R: Wait>(rt: &R, alloc: Global) -> Result<Queued, OpenFault> {
+    let (map, mut writer, mut one, _two) = opened(alloc, 2, 5)?;
+    let (triggers, mut poster, mut taker) = opened_queue(alloc, 1)?;
+    Ok(post_in_turn(
+        rt,
+        &map,
+        &triggers,
+        &mut one,
+        &mut poster,
+        &mut writer,
+        &mut taker,
+    ))
 }
 
 pub fn show<R: Print>(rt: &R, told: &Queued) -> io::Result<()> {

@@ -10,7 +10,7 @@ use std::io::{self, Print};
 
 #[derive(Drop)]
 pub struct Short {
-    held: Held,
+    held: Option<Held>,
     full: Full,
 }
 
@@ -76,22 +76,22 @@ fn evict_another(map: &ReaderMap, writer: &mut Writer, change: &Batch) -> Full
 
 /// A map of 2 keys, 2 readers and 2 slots only. With 5 it would never come to this: one for each
 /// key, each reader and one more.
-pub fn short_of_slots(alloc: Global, change: &Batch) -> Result<Option<Short>, OpenFault> {
+pub fn short_of_slots(alloc: Global, change: &Batch) -> Result<Short, OpenFault> {
     let (map, mut writer, mut one, mut two) = opened(alloc, 2, 2)?;
     ask(&map, &mut one, 0);
     let _filled = fill(&map, &mut writer, 0);
-    let Some(held) = wait_for_pin(&map, &mut writer, one, &mut two, change) else {
-        return Ok(None);
-    };
+    let held = wait_for_pin(&map, &mut writer, one, &mut two, change);
     let full = evict_another(&map, &mut writer, change);
-    Ok(Some(Short { held, full }))
+    Ok(Short { held, full })
 }
 
 pub fn show<R: Print>(rt: &R, told: &Short) -> io::Result<()> {
-    println!(rt;
-        "No slot\n  a fill beside a pin: {:?}\n  the key is asked for: {:?}\n  the fill after the release: {:?}",
-        told.held.none, told.held.still, told.held.filled
-    )?;
+    if let Some(held) = &told.held {
+        println!(rt;
+            "No slot\n  a fill beside a pin: {:?}\n  the key is asked for: {:?}\n  the fill after the release: {:?}",
+            held.none, held.still, held.filled
+        )?;
+    }
     println!(rt;
         "  an update among filled keys: {:?}\n  another key: {:?}\n  the update again: {:?}",
         told.full.none, told.full.evicted, told.full.updated
