@@ -1,8 +1,7 @@
 //! Clients that wait for their rows, and the dataflow that brings them.
 ghost use Rattle.std.specs.Prelude.{◌≡◌, ◌≤◌, length};
 
-use crate::opening::opened;
-use crate::queue::opened_queue;
+use crate::queue::{Server, opened_server};
 use nr_map::{Reader, ReaderMap, Writer};
 use nr_model::{OpenFault, Row, RowSet};
 use nr_serve::{Client, Dataflow, Got, Lobby, OpenGate, Source, Turn};
@@ -117,9 +116,15 @@ fn both<R: Threads + Wait + Sync>(
 
 /// A client gets key 1 while the dataflow takes turns.
 pub fn waited_for<R: Threads + Wait + Sync>(rt: &R, alloc: Global) -> Result<Served, OpenFault> {
-    let (map, writer, one, _two) = opened(alloc, 2, 5)?;
-    let (triggers, poster, taker) = opened_queue(alloc, 4)?;
-    Ok(both(rt, &map, &triggers, one, poster, writer, taker))
+    let Server {
+        map,
+        writer,
+        reader,
+        triggers,
+        poster,
+        taker,
+    } = opened_server(alloc, 4)?;
+    Ok(both(rt, &map, &triggers, reader, poster, writer, taker))
 }
 
 pub fn show<R: Print>(rt: &R, told: &Served) -> io::Result<()> {

@@ -17,10 +17,10 @@ pub struct Queued {
     kept: (bool, bool),
 }
 
-/// A queue for so many tickets of keys below 2, with one poster and the taker. A poster and a taker
-/// are of this one queue. The number of keys is told to contracts alone, in this function's
-/// `Invariants.antt`: each posted key is below it, and so each key that is taken.
-pub fn opened_queue(alloc: Global, capacity: u32) -> Result<(Triggers, Poster, Taker), OpenFault>
+// A queue for so many tickets of keys below 2, with one poster and the taker. A poster and a taker
+// are of this one queue. The number of keys is told to contracts alone, in this function's
+// `Invariants.antt`: each posted key is below it, and so each key that is taken.
+fn opened_queue(alloc: Global, capacity: u32) -> Result<(Triggers, Poster, Taker), OpenFault>
     ensures poster { IfOk result (λ opened. (opened.1.queue ≡ opened.0.id) × (opened.1.keys ≡ 2)) }
     ensures taker { IfOk result (λ opened. (opened.2.queue ≡ opened.0.id) × (opened.2.keys ≡ 2)) }
 {
@@ -29,6 +29,34 @@ pub fn opened_queue(alloc: Global, capacity: u32) -> Result<(Triggers, Poster, T
         return Err(OpenFault::Memory);
     };
     Ok((triggers, poster, taker))
+}
+
+/// A map of 2 keys and a queue for them, with the tokens of both.
+#[derive(Drop)]
+pub struct Server {
+    pub map: ReaderMap,
+    pub writer: Writer,
+    pub reader: Reader,
+    pub triggers: Triggers,
+    pub poster: Poster,
+    pub taker: Taker,
+}
+
+pub fn opened_server(alloc: Global, capacity: u32) -> Result<Server, OpenFault>
+    ensures map { IfOk result (λ server. (server.writer.table ≡ server.map) × (server.reader.table ≡ server.map) × (server.map.shape.keys ≡ 2)) }
+    ensures poster { IfOk result (λ server. (server.poster.queue ≡ server.triggers.id) × (server.poster.keys ≡ 2)) }
+    ensures taker { IfOk result (λ server. (server.taker.queue ≡ server.triggers.id) × (server.taker.keys ≡ 2)) }
+{
+    let (triggers, poster, taker) = opened_queue(alloc, capacity)?;
+    let (map, writer, reader, _) = opened(alloc, 2, 5)?;
+    Ok(Server {
+        map,
+        writer,
+        reader,
+        triggers,
+        poster,
+        taker,
+    })
 }
 
 // Posts a ticket. Where the queue is full it comes back, and whoever has it still owes its upquery.
@@ -122,13 +150,19 @@ fn post_in_turn<R: Wait>(
 
 /// Reader 1 misses both keys, and the dataflow answers in the order of the tickets.
 pub fn passed_on<R: Wait>(rt: &R, alloc: Global) -> Result<Queued, OpenFault> {
-    let (map, mut writer, mut one, _two) = opened(alloc, 2, 5)?;
-    let (triggers, mut poster, mut taker) = opened_queue(alloc, 1)?;
+    let Server {
+        map,
+        mut writer,
+        mut reader,
+        triggers,
+        mut poster,
+        mut taker,
+    } = opened_server(alloc, 1)?;
     Ok(post_in_turn(
         rt,
         &map,
         &triggers,
-        &mut one,
+        &mut reader,
         &mut poster,
         &mut writer,
         &mut taker,
