@@ -6,7 +6,8 @@ use nr_model::OpenFault;
 use std::alloc::Global;
 
 /// A map of so many keys and slots with two readers, and its tokens. A token is of this one map, and
-/// every call asks that of its token: hence the clause.
+/// every call asks that of its token: hence the clause. The list has just the readers that were asked
+/// for, so nobody has to look whether one is missing.
 pub fn opened(
     alloc: Global,
     keys: u32,
@@ -17,7 +18,7 @@ pub fn opened(
 {
     let (map, writer, mut readers) = ReaderMap::open(alloc, keys, slots, 2, 0)?;
     let (Some(two), Some(one)) = (readers.pop(), readers.pop()) else {
-        return Err(OpenFault::Memory);
+        unreachable!()
     };
     Ok((map, writer, one, two))
 }

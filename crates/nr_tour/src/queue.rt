@@ -26,7 +26,7 @@ fn opened_queue(alloc: Global, capacity: u32) -> Result<(Triggers, Poster, Taker
 {
     let (triggers, mut posters, taker) = Triggers::open(alloc, capacity, 1)?;
     let Some(poster) = posters.pop() else {
-        return Err(OpenFault::Memory);
+        unreachable!()
     };
     Ok((triggers, poster, taker))
 }
