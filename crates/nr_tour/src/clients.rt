@@ -9,7 +9,7 @@ use nr_trigger::{Poster, Taker, Triggers};
 use std::alloc::Global;
 use std::io::{self, Print};
 use std::sync::Wait;
-use std::thread::{self, Threads, join};
+use std::thread::{self, Threads};
 
 #[derive(Drop)]
 pub struct Served {
@@ -87,7 +87,10 @@ fn fill_one<R: Wait>(
     }
 }
 
-fn both<R: Threads + Wait + Sync>(
+// The dataflow has a thread of its own and the client this one. None where no thread is to be had.
+// `join` won't do here: without a second thread it runs one closure after the other, and a client
+// whose dataflow comes later sleeps for ever.
+fn serve_beside<R: Threads + Wait + Sync>(
     rt: &R,
     map: &ReaderMap,
     triggers: &Triggers,
@@ -95,27 +98,39 @@ fn both<R: Threads + Wait + Sync>(
     poster: Poster,
     writer: Writer,
     taker: Taker,
-) -> Served
+) -> Option<Served>
     requires map { (reader.table ≡ map.now) × (writer.table ≡ map.now) × (map.now.shape.keys ≡ 2) }
     requires poster { (poster.queue ≡ triggers.now.id) × (poster.keys ≡ 2) }
     requires taker { (taker.queue ≡ triggers.now.id) × (taker.keys ≡ 2) }
 {
     let lobby = Lobby::open();
     let lobby = &lobby;
-    let (served, ()) = join(
+    thread::scope(
+        thread::scope_env(),
         rt,
-        move || -> Served
-            requires { (reader.table ≡ map.now) × (map.now.shape.keys ≡ 2) × (poster.queue ≡ triggers.now.id) × (poster.keys ≡ 2) }
-        { get_rows(rt, map, triggers, lobby, reader, poster) },
-        move ||
-            requires { (writer.table ≡ map.now) × (map.now.shape.keys ≡ 2) × (taker.queue ≡ triggers.now.id) × (taker.keys ≡ 2) }
-        { fill_one(rt, map, triggers, lobby, writer, taker) },
-    );
-    served
+        |scope| -> Option<Served>
+            requires map { (reader.table ≡ map.now) × (writer.table ≡ map.now) × (map.now.shape.keys ≡ 2) }
+            requires poster { (poster.queue ≡ triggers.now.id) × (poster.keys ≡ 2) }
+            requires taker { (taker.queue ≡ triggers.now.id) × (taker.keys ≡ 2) }
+        {
+            let flow = scope.spawn(
+                move ||
+                    requires { (writer.table ≡ map.now) × (map.now.shape.keys ≡ 2) × (taker.queue ≡ triggers.now.id) × (taker.keys ≡ 2) }
+                { fill_one(rt, map, triggers, lobby, writer, taker) },
+            );
+            if flow.is_err() {
+                return None;
+            }
+            Some(get_rows(rt, map, triggers, lobby, reader, poster))
+        },
+    )
 }
 
 /// A client gets key 1 while the dataflow takes turns.
-pub fn waited_for<R: Threads + Wait + Sync>(rt: &R, alloc: Global) -> Result<Served, OpenFault> {
+pub fn waited_for<R: Threads + Wait + Sync>(
+    rt: &R,
+    alloc: Global,
+) -> Result<Option<Served>, OpenFault> {
     let Server {
         map,
         writer,
@@ -124,10 +139,13 @@ pub fn waited_for<R: Threads + Wait + Sync>(rt: &R, alloc: Global) -> Result<Ser
         poster,
         taker,
     } = opened_server(alloc, 4)?;
-    Ok(both(rt, &map, &triggers, reader, poster, writer, taker))
+    Ok(serve_beside(rt, &map, &triggers, reader, poster, writer, taker))
 }
 
-pub fn show<R: Print>(rt: &R, told: &Served) -> io::Result<()> {
+pub fn show<R: Print>(rt: &R, told: &Option<Served>) -> io::Result<()> {
+    let Some(told) = told else {
+        return println!(rt; "A client\n  there was no thread for the dataflow");
+    };
     println!(rt;
         "A client\n  it got {:?}: {:?}\n  requests to be sent: {}",
         told.got,

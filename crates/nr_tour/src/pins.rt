@@ -62,7 +62,7 @@ pub fn kept_over_update(alloc: Global, change: &Batch) -> Result<Option<Kept>, O
 
 pub fn show<R: Print>(rt: &R, told: &Option<Kept>) -> io::Result<()> {
     let Some(told) = told else {
-        return Ok(());
+        return println!(rt; "A pin\n  the key was a hole");
     };
     println!(rt;
         "A pin\n  an update beside it: {:?}\n  it has {:?}\n  its first row: {:?}\n  reader 2 finds {:?}",
