@@ -1,5 +1,5 @@
 //! Clients that wait for their rows, and the dataflow that brings them.
-ghost use Rattle.std.specs.Prelude.{◌≡◌, ◌≤◌, length};
+ghost use Rattle.std.specs.Prelude.{◌≡◌};
 
 use crate::queue::{Server, opened_server};
 use nr_map::{Reader, ReaderMap, Writer};
