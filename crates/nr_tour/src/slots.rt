@@ -28,8 +28,8 @@ struct Full {
     updated: Result<(), UpdateFault>,
 }
 
-// With two slots, one of them key 0's and the other one's old set pinned, there is none for key 1
-// until the pin is released. The key stays asked meanwhile, so the same answer fills it later.
+// Of two slots key 0 has one, and a pin holds its old set in the other: there is none for key 1 until
+// the pin is released. The key stays asked meanwhile, so the same answer fills it later.
 fn wait_for_pin(
     map: &ReaderMap,
     writer: &mut Writer,
