@@ -1,0 +1,155 @@
+//! Clients that wait for their rows, and the dataflow that brings them.
+ghost use Rattle.std.specs.Prelude.{◌≡◌};
+
+use crate::queue::{Server, opened_server};
+use nr_map::{Reader, ReaderMap, Writer};
+use nr_model::{OpenFault, Row, RowSet};
+use nr_serve::{Client, Dataflow, Got, Lobby, OpenGate, Source, Turn};
+use nr_trigger::{Poster, Taker, Triggers};
+use std::alloc::Global;
+use std::io::{self, Print};
+use std::sync::Wait;
+use std::thread::{self, Threads};
+
+#[derive(Drop)]
+pub struct Served {
+    got: Got,
+    rows: RowSet,
+    sends: u64,
+}
+
+/// Where the dataflow has its rows from: key `k` has the one row `k:100`.
+#[derive(Drop)]
+struct Shelf;
+
+impl Source for Shelf {
+    fn rows(&mut self, key: u32, _bound: u32) -> RowSet {
+        let row = Row {
+            a: u64::from(key),
+            b: 100,
+        };
+        match RowSet::of(&[row]) {
+            Ok(rows) => rows,
+            Err(_) => RowSet::new(),
+        }
+    }
+}
+
+// A client's thread: a reader and a poster in one hand. It asks where the key is missing, posts the
+// ticket, and sleeps in the lobby until the dataflow has done something.
+fn get_rows<R: Wait>(
+    rt: &R,
+    map: &ReaderMap,
+    triggers: &Triggers,
+    lobby: &Lobby,
+    reader: Reader,
+    poster: Poster,
+) -> Served
+    requires map { (reader.table ≡ map.now) × (map.now.shape.keys ≡ 2) }
+    requires queue { (poster.queue ≡ triggers.now.id) × (poster.keys ≡ 2) }
+{
+    let gate = OpenGate;
+    let mut client = Client::open(map, reader, triggers, poster, lobby, &gate);
+    let mut rows = RowSet::new();
+    let got = client.get(rt, 1, 3, &mut rows);
+    let sends = client.sends();
+    // A client can't be dropped either, since it may keep a ticket that the full queue handed back.
+    let (_reader, _poster, kept) = client.end();
+    if let Some(ticket) = kept {
+        ticket.into_key();
+    }
+    Served { got, rows, sends }
+}
+
+// The dataflow's thread: a turn takes a ticket, asks the source and fills. This one ends with the
+// first key that it filled.
+fn fill_one<R: Wait>(
+    rt: &R,
+    map: &ReaderMap,
+    triggers: &Triggers,
+    lobby: &Lobby,
+    writer: Writer,
+    taker: Taker,
+)
+    requires map { (writer.table ≡ map.now) × (map.now.shape.keys ≡ 2) }
+    requires queue { (taker.queue ≡ triggers.now.id) × (taker.keys ≡ 2) }
+{
+    let mut flow = Dataflow::open(map, writer, triggers, taker, Shelf, lobby);
+    for _ in rt.forever() {
+        match flow.turn(rt) {
+            Turn::Filled(_) => break,
+            Turn::Idle | Turn::Passed(_) | Turn::Kept(_) => thread::yield_now(),
+        }
+    }
+    let (_writer, _taker, kept, _source) = flow.end();
+    if let Some(trigger) = kept {
+        trigger.into_key();
+    }
+}
+
+// The dataflow has a thread of its own and the client this one. None where no thread is to be had.
+// `join` won't do here: without a second thread it runs one closure after the other, and a client
+// whose dataflow comes later sleeps for ever.
+fn serve_beside<R: Threads + Wait + Sync>(
+    rt: &R,
+    map: &ReaderMap,
+    triggers: &Triggers,
+    reader: Reader,
+    poster: Poster,
+    writer: Writer,
+    taker: Taker,
+) -> Option<Served>
+    requires map { (reader.table ≡ map.now) × (writer.table ≡ map.now) × (map.now.shape.keys ≡ 2) }
+    requires poster { (poster.queue ≡ triggers.now.id) × (poster.keys ≡ 2) }
+    requires taker { (taker.queue ≡ triggers.now.id) × (taker.keys ≡ 2) }
+{
+    let lobby = Lobby::open();
+    let lobby = &lobby;
+    thread::scope(
+        thread::scope_env(),
+        rt,
+        |scope| -> Option<Served>
+            requires map { (reader.table ≡ map.now) × (writer.table ≡ map.now) × (map.now.shape.keys ≡ 2) }
+            requires poster { (poster.queue ≡ triggers.now.id) × (poster.keys ≡ 2) }
+            requires taker { (taker.queue ≡ triggers.now.id) × (taker.keys ≡ 2) }
+        {
+            let flow = scope.spawn(
+                move ||
+                    requires { (writer.table ≡ map.now) × (map.now.shape.keys ≡ 2) × (taker.queue ≡ triggers.now.id) × (taker.keys ≡ 2) }
+                { fill_one(rt, map, triggers, lobby, writer, taker) },
+            );
+            if flow.is_err() {
+                return None;
+            }
+            Some(get_rows(rt, map, triggers, lobby, reader, poster))
+        },
+    )
+}
+
+/// A client gets key 1 while the dataflow takes turns.
+pub fn waited_for<R: Threads + Wait + Sync>(
+    rt: &R,
+    alloc: Global,
+) -> Result<Option<Served>, OpenFault> {
+    let Server {
+        map,
+        writer,
+        reader,
+        triggers,
+        poster,
+        taker,
+    } = opened_server(alloc, 4)?;
+    Ok(serve_beside(rt, &map, &triggers, reader, poster, writer, taker))
+}
+
+pub fn show<R: Print>(rt: &R, told: &Option<Served>) -> io::Result<()> {
+    let Some(told) = told else {
+        return println!(rt; "A client\n  there was no thread for the dataflow");
+    };
+    println!(rt;
+        "A client\n  it got {:?}: {:?}\n  requests to be sent: {}",
+        told.got,
+        told.rows.as_slice(),
+        told.sends
+    )
+}

@@ -1,0 +1,49 @@
+//! A tour of the map for whoever wants to use it: a chapter in each file, and what it prints in
+//! `stdout` beside this folder. Each chapter opens a map of its own, makes its calls in one function
+//! and prints in another, so that no token or pin lives where a line may fail to be written.
+#![tactic(auto)]
+
+mod calls;
+mod cancels;
+mod clients;
+mod lookups;
+mod meetings;
+mod opening;
+mod pins;
+mod queue;
+mod slots;
+mod threads;
+mod upkeep;
+
+use crate::calls::CHANGE;
+use nr_model::Batch;
+use std::io::Print;
+use std::sync::Wait;
+use std::thread::Threads;
+
+// The map alone.
+fn show_map<R: AllocGlobal + Print + Threads + Sync>(rt: &R) -> anyhow::Result<()> {
+    let alloc = rt.alloc();
+    let change = Batch::of(&CHANGE)?;
+    lookups::show(rt, &lookups::first_read(alloc)?)?;
+    threads::show(rt, &threads::asked_at_once(rt, alloc)?)?;
+    upkeep::show(rt, &upkeep::kept_up(alloc, &change)?)?;
+    pins::show(rt, &pins::kept_over_update(alloc, &change)?)?;
+    slots::show(rt, &slots::short_of_slots(alloc, &change)?)?;
+    Ok(())
+}
+
+// What else a server needs.
+fn show_server<R: AllocGlobal + Print + Threads + Wait + Sync>(rt: &R) -> anyhow::Result<()> {
+    let alloc = rt.alloc();
+    cancels::show(rt, &cancels::taken_back(alloc)?)?;
+    meetings::show(rt, &meetings::learnt(alloc)?)?;
+    queue::show(rt, &queue::passed_on(rt, alloc)?)?;
+    clients::show(rt, &clients::waited_for(rt, alloc)?)?;
+    Ok(())
+}
+
+fn main(rt: HostRuntime) -> anyhow::Result<()> {
+    show_map(&rt)?;
+    show_server(&rt)
+}

@@ -1,0 +1,24 @@
+//! How a map is opened.
+ghost use Rattle.std.specs.Prelude.{◌≡◌, IfOk};
+
+use nr_map::{Reader, ReaderMap, Writer};
+use nr_model::OpenFault;
+use std::alloc::Global;
+
+/// A map of so many keys and slots with two readers, and its tokens. A token is of this one map, and
+/// every call asks that of its token: hence the clause. The list has just the readers that were asked
+/// for, so nobody has to look whether one is missing.
+pub fn opened(
+    alloc: Global,
+    keys: u32,
+    slots: u32,
+) -> Result<(ReaderMap, Writer, Reader, Reader), OpenFault>
+    ensures keys { IfOk result (λ opened. opened.0.shape.keys ≡ keys) }
+    ensures own { IfOk result (λ opened. (opened.1.table ≡ opened.0) × (opened.2.table ≡ opened.0) × (opened.3.table ≡ opened.0)) }
+{
+    let (map, writer, mut readers) = ReaderMap::open(alloc, keys, slots, 2, 0)?;
+    let (Some(two), Some(one)) = (readers.pop(), readers.pop()) else {
+        unreachable!()
+    };
+    Ok((map, writer, one, two))
+}

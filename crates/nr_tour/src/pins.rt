@@ -1,0 +1,74 @@
+//! A set that a reader holds stays as it was.
+ghost use Rattle.std.specs.Prelude.{◌≡◌, ◌<◌};
+
+use crate::calls::{ask, fill};
+use crate::opening::opened;
+use nr_map::{Reader, ReaderMap, UpdateFault, Writer};
+use nr_model::{Batch, OpenFault, Row, RowSet};
+use std::alloc::Global;
+use std::io::{self, Print};
+
+#[derive(Drop)]
+pub struct Kept {
+    updated: Result<(), UpdateFault>,
+    pinned: RowSet,
+    first: Option<Row>,
+    found: RowSet,
+}
+
+// None where the key is a hole: then the reader comes back in place of a pin, and ends here.
+fn hold_over_update(
+    map: &ReaderMap,
+    writer: &mut Writer,
+    one: Reader,
+    two: &mut Reader,
+    change: &Batch,
+) -> Option<Kept>
+    requires readers { (one.table ≡ map.now) × (two.old.table ≡ map.now) }
+    requires writer { writer.old.table ≡ map.now }
+    requires key { 0 < map.now.shape.keys }
+{
+    let mut pin = match map.pin(one, 0) {
+        Ok(pin) => pin,
+        Err(_) => return None,
+    };
+    // A pin can't be dropped, so from here to its release there is no way out: no `?`.
+    let updated = map.update(writer, 0, change);
+    let mut pinned = RowSet::new();
+    pin.copy_to(map, &mut pinned);
+    let first = if 0 < pin.len() {
+        Some(pin.row(map, 0))
+    } else {
+        None
+    };
+    let mut found = RowSet::new();
+    map.find(two, 0, &mut found);
+    pin.release(map);
+    Some(Kept {
+        updated,
+        pinned,
+        first,
+        found,
+    })
+}
+
+/// Reader 1 holds key 0's set while the key is updated; reader 2 finds the new one.
+pub fn kept_over_update(alloc: Global, change: &Batch) -> Result<Option<Kept>, OpenFault> {
+    let (map, mut writer, mut one, mut two) = opened(alloc, 2, 5)?;
+    ask(&map, &mut one, 0);
+    let _filled = fill(&map, &mut writer, 0);
+    Ok(hold_over_update(&map, &mut writer, one, &mut two, change))
+}
+
+pub fn show<R: Print>(rt: &R, told: &Option<Kept>) -> io::Result<()> {
+    let Some(told) = told else {
+        return println!(rt; "A pin\n  the key was a hole");
+    };
+    println!(rt;
+        "A pin\n  an update beside it: {:?}\n  it has {:?}\n  its first row: {:?}\n  reader 2 finds {:?}",
+        told.updated,
+        told.pinned.as_slice(),
+        told.first,
+        told.found.as_slice()
+    )
+}

@@ -1,0 +1,177 @@
+//! Tickets on their way from the readers to the dataflow.
+ghost use Rattle.std.specs.Prelude.{◌≡◌, ◌<◌, ◌≤◌, IfOk, MatchOption};
+
+use crate::calls::{ROWS, set_of};
+use crate::opening::opened;
+use nr_map::{Asked, FillFault, Reader, ReaderMap, Ticket, Writer};
+use nr_model::OpenFault;
+use nr_trigger::{Poster, Taker, Triggers};
+use std::alloc::Global;
+use std::io::{self, Print};
+use std::sync::Wait;
+
+#[derive(Drop)]
+pub struct Queued {
+    was_full: bool,
+    answers: [Option<(u32, Result<(), FillFault>)>; 3],
+    kept: (bool, bool),
+}
+
+// A queue for so many tickets of keys below 2, with one poster and the taker. A poster and a taker
+// are of this one queue. The number of keys is told to contracts alone, in this function's
+// `Invariants.antt`: each posted key is below it, and so each key that is taken.
+fn opened_queue(alloc: Global, capacity: u32) -> Result<(Triggers, Poster, Taker), OpenFault>
+    ensures poster { IfOk result (λ opened. (opened.1.queue ≡ opened.0.id) × (opened.1.keys ≡ 2)) }
+    ensures taker { IfOk result (λ opened. (opened.2.queue ≡ opened.0.id) × (opened.2.keys ≡ 2)) }
+{
+    let (triggers, mut posters, taker) = Triggers::open(alloc, capacity, 1)?;
+    let Some(poster) = posters.pop() else {
+        unreachable!()
+    };
+    Ok((triggers, poster, taker))
+}
+
+/// A map of 2 keys and a queue for them, with the tokens of both.
+#[derive(Drop)]
+pub struct Server {
+    pub map: ReaderMap,
+    pub writer: Writer,
+    pub reader: Reader,
+    pub triggers: Triggers,
+    pub poster: Poster,
+    pub taker: Taker,
+}
+
+pub fn opened_server(alloc: Global, capacity: u32) -> Result<Server, OpenFault>
+    ensures map { IfOk result (λ server. (server.writer.table ≡ server.map) × (server.reader.table ≡ server.map) × (server.map.shape.keys ≡ 2)) }
+    ensures poster { IfOk result (λ server. (server.poster.queue ≡ server.triggers.id) × (server.poster.keys ≡ 2)) }
+    ensures taker { IfOk result (λ server. (server.taker.queue ≡ server.triggers.id) × (server.taker.keys ≡ 2)) }
+{
+    let (triggers, poster, taker) = opened_queue(alloc, capacity)?;
+    let (map, writer, reader, _) = opened(alloc, 2, 5)?;
+    Ok(Server {
+        map,
+        writer,
+        reader,
+        triggers,
+        poster,
+        taker,
+    })
+}
+
+// Posts a ticket. Where the queue is full it comes back, and whoever has it still owes its upquery.
+fn post<R: Wait>(
+    rt: &R,
+    triggers: &Triggers,
+    poster: &mut Poster,
+    ticket: Option<Ticket>,
+) -> Option<Ticket>
+    requires queue { poster.old.queue ≡ triggers.now.id }
+    requires key { MatchOption ticket (Unit {0}) (λ ticket. ticket.key < poster.old.keys) }
+    ensures queue { (poster.new.queue ≡ triggers.now.id) × (poster.new.keys ≡ poster.old.keys) }
+    ensures key { MatchOption result (Unit {0}) (λ ticket. ticket.key < poster.new.keys) }
+{
+    triggers.post(rt, poster, ticket?).err()
+}
+
+// Requests a key, and gives the ticket of a request that is to be sent.
+fn request(map: &ReaderMap, reader: &mut Reader, key: u32) -> Option<Ticket>
+    requires own { reader.old.table ≡ map.now }
+    requires key { key < map.now.shape.keys }
+    ensures own { reader.new.table ≡ map.now }
+    ensures key { MatchOption result (Unit {0}) (λ ticket. ticket.key ≡ key) }
+{
+    match map.ask(reader, key) {
+        Asked::Send(ticket) => Some(ticket),
+        Asked::Waiting | Asked::Filled => None,
+    }
+}
+
+// The dataflow's side: takes the next trigger, fills its key by its number, and spends it. This map
+// always has a slot; on a smaller one a trigger whose fill found none is kept and tried again.
+fn answer_next<R: Wait>(
+    rt: &R,
+    map: &ReaderMap,
+    triggers: &Triggers,
+    writer: &mut Writer,
+    taker: &mut Taker,
+) -> Option<(u32, Result<(), FillFault>)>
+    requires own { writer.old.table ≡ map.now }
+    requires queue { (taker.old.queue ≡ triggers.now.id) × (taker.old.keys ≤ map.now.shape.keys) }
+    ensures own { writer.new.table ≡ map.now }
+    ensures queue { (taker.new.queue ≡ triggers.now.id) × (taker.new.keys ≡ taker.old.keys) }
+{
+    let trigger = triggers.take(rt, taker)?;
+    let filled = map.fill(writer, trigger.key(), trigger.number(), &set_of(map, &ROWS));
+    Some((trigger.into_key(), filled))
+}
+
+// A ticket that nobody will post is spent all the same: it can't be dropped. Its key stays asked until
+// the dataflow fills it or takes the request back.
+fn spend(ticket: Option<Ticket>) -> bool {
+    match ticket {
+        Some(ticket) => {
+            ticket.into_key();
+            true
+        }
+        None => false,
+    }
+}
+
+// Two tickets and room for one: the second is posted once the first was taken.
+fn post_in_turn<R: Wait>(
+    rt: &R,
+    map: &ReaderMap,
+    triggers: &Triggers,
+    reader: &mut Reader,
+    poster: &mut Poster,
+    writer: &mut Writer,
+    taker: &mut Taker,
+) -> Queued
+    requires map { (reader.old.table ≡ map.now) × (writer.old.table ≡ map.now) × (map.now.shape.keys ≡ 2) }
+    requires poster { (poster.old.queue ≡ triggers.now.id) × (poster.old.keys ≡ 2) }
+    requires taker { (taker.old.queue ≡ triggers.now.id) × (taker.old.keys ≡ 2) }
+{
+    let first = request(map, reader, 0);
+    let second = request(map, reader, 1);
+    let first = post(rt, triggers, poster, first);
+    let second = post(rt, triggers, poster, second);
+    let was_full = second.is_some();
+    let one = answer_next(rt, map, triggers, writer, taker);
+    let second = post(rt, triggers, poster, second);
+    let two = answer_next(rt, map, triggers, writer, taker);
+    let none = answer_next(rt, map, triggers, writer, taker);
+    Queued {
+        was_full,
+        answers: [one, two, none],
+        kept: (spend(first), spend(second)),
+    }
+}
+
+/// Reader 1 misses both keys, and the dataflow answers in the order of the tickets.
+pub fn passed_on<R: Wait>(rt: &R, alloc: Global) -> Result<Queued, OpenFault> {
+    let Server {
+        map,
+        mut writer,
+        mut reader,
+        triggers,
+        mut poster,
+        mut taker,
+    } = opened_server(alloc, 1)?;
+    Ok(post_in_turn(
+        rt,
+        &map,
+        &triggers,
+        &mut reader,
+        &mut poster,
+        &mut writer,
+        &mut taker,
+    ))
+}
+
+pub fn show<R: Print>(rt: &R, told: &Queued) -> io::Result<()> {
+    println!(rt;
+        "A queue of one\n  the second ticket comes back: {}\n  answers: {:?}\n  tickets left: {:?}",
+        told.was_full, told.answers, told.kept
+    )
+}
