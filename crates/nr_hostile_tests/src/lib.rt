@@ -8,3 +8,5 @@ mod devices;
 mod faults;
 #[cfg(test)]
 mod lines;
+#[cfg(test)]
+mod refused_memory;

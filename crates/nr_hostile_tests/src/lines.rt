@@ -77,3 +77,36 @@ fn damaged_lines_of_schedules_are_bad(rt: HostRuntime) -> Result<(), Fail> {
     }
     Ok(())
 }
+
+/// So many bytes after a line that ends, where 64 bytes are allowed in all; the end, and what is written.
+const UP_TO_64: [(usize, Result<(), RunFault>, &str); 5] = [
+    (0, Ok(()), "closed\n"),
+    (55, Ok(()), "closed\nbad\n"),
+    (56, Ok(()), "closed\nbad\n"),
+    (57, Err(RunFault::TooMuch), "closed\n"),
+    (64, Err(RunFault::TooMuch), "closed\n"),
+];
+
+fn ends_by_64(rt: &(impl Abort + AllocGlobal), kind: Kind) -> Result<(), AllocError> {
+    for (bytes, end, text) in UP_TO_64 {
+        let letters = "a".repeat(rt.alloc(), bytes)?;
+        let input = format!(in rt.alloc(); "ask 1 0\n{letters}")?;
+        let trial = Trial {
+            limit: 64,
+            ..Trial::new(kind, input.as_bytes(), text.as_bytes())
+        };
+        let wanted = Outcome {
+            end,
+            ..trial.whole()
+        };
+        assert_eq!(rt; trial.run(rt.alloc()), wanted, "{bytes} bytes");
+    }
+    Ok(())
+}
+
+#[test]
+fn an_input_of_64_bytes_may_be_allowed_and_no_more(rt: HostRuntime) -> Result<(), Fail> {
+    ends_by_64(&rt, Kind::Script)?;
+    ends_by_64(&rt, Kind::Schedule)?;
+    Ok(())
+}
