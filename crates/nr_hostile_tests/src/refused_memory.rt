@@ -31,12 +31,12 @@ fn map(alloc: Global) -> Result<(ReaderMap, Writer, Vec<Reader>), OpenFault> {
 }
 
 #[test]
-fn a_reader_map_opens(rt: HostRuntime) -> Result<(), Fail> {
-    let (map, _, mut readers) = map(rt.alloc()).map_err(|_| "refused twice")?;
-    assert_eq!(rt; (map.keys(), map.slots(), map.readers()), (2, 3, 1));
-    let reader = readers.pop().ok_or("no reader")?;
-    assert_eq!(rt; reader.number(), 1);
-    Ok(())
+fn a_reader_map_opens(rt: HostRuntime) {
+    let sizes = match map(rt.alloc()) {
+        Ok((map, _writer, readers)) => Some((map.slots(), readers.len())),
+        Err(_fault) => None,
+    };
+    assert_eq!(rt; sizes, Some((3, 1)));
 }
 
 /// A run to which memory is refused writes a beginning of its text. The next one writes all of it.
