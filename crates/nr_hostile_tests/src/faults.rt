@@ -187,3 +187,19 @@ fn a_write_that_takes_nothing_is_a_fault(rt: HostRuntime) {
         assert_eq!(rt; refusing.run(rt.alloc()), ended(RunFault::Write, 0));
     }
 }
+
+#[test]
+fn a_line_that_is_cut_is_not_answered(rt: HostRuntime) {
+    let input: &[u8] = b"open 2 3 1\nfind 1 0\nask 1 0\nask 1 0\nfill 0 7:1 3:9\nfind 1 0\n";
+    let five_lines = b"ok\nhole\nsend\nwaiting\ndone\n";
+    let cut = Trial {
+        read_width: 1,
+        failing_read: input.len() - 4,
+        ..Trial::new(Kind::Script, input, five_lines)
+    };
+    let wanted = Outcome {
+        end: Err(RunFault::Read),
+        ..cut.whole()
+    };
+    assert_eq!(rt; cut.run(rt.alloc()), wanted);
+}

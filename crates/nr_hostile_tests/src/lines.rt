@@ -8,17 +8,21 @@ use std::test::Fail;
 /// A line: its front, a piece that follows so many times, and its reply.
 type Line = (&'static str, &'static str, usize, &'static str);
 
-const OF_SCRIPTS: [Line; 18] = [
+const OF_SCRIPTS: [Line; 22] = [
     ("find 1 ", "a", 255, "hole"),
     ("find 1 ", "a", 256, "too-long"),
     ("find 1 ", "a", 4089, "too-long"),
     ("find 1 ", "a", 4090, "bad"),
+    ("find 1 ", "a", 8993, "bad"),
     ("find 1 a\r", "", 0, "bad"),
     ("find  1 a", "", 0, "bad"),
     ("find 1  a", "", 0, "bad"),
     ("find 1 a ", "", 0, "bad"),
     (" find 1 a", "", 0, "bad"),
     ("find 1 a\0", "", 0, "bad"),
+    ("find 1 \x1f", "", 0, "bad"),
+    ("find 1 ~", "", 0, "hole"),
+    ("find 1 \x7f", "", 0, "bad"),
     ("find 1 \u{e9}", "", 0, "bad"),
     ("find 000000000000000000001 a", "", 0, "bad"),
     ("find 00000000000000000001 a", "", 0, "hole"),
@@ -46,7 +50,7 @@ const OF_SCHEDULES: [Line; 14] = [
     ("writer update 0", " +1:1", 65, "bad"),
 ];
 
-/// Runs the line after an opening one, with a line feed and without.
+/// Runs the line after an opening one, and before one that opens again.
 fn answers(
     rt: &(impl Abort + AllocGlobal),
     kind: Kind,
@@ -55,8 +59,8 @@ fn answers(
 ) -> Result<(), AllocError> {
     let (front, piece, times, reply) = *line;
     let pieces = piece.repeat(rt.alloc(), times)?;
-    let input = format!(in rt.alloc(); "{opening}\n{front}{pieces}\n")?;
-    let text = format!(in rt.alloc(); "ok\n{reply}\n")?;
+    let input = format!(in rt.alloc(); "{opening}\n{front}{pieces}\n{opening}\n")?;
+    let text = format!(in rt.alloc(); "ok\n{reply}\nbad\n")?;
     let trial = Trial::new(kind, input.as_bytes(), text.as_bytes());
     assert_eq!(rt; trial.run(rt.alloc()), trial.whole(), "{line:?}");
     Ok(())
