@@ -1,6 +1,6 @@
 //! Schedules, and the replies that their lines must get.
-use super::{Failing, Lines, input_and_text};
-use crate::{RunFault, run_steps};
+use super::{Lines, input_and_text};
+use crate::run_steps;
 use std::test::Fail;
 
 const EVICTED_SET_STAYS_WHILE_IT_IS_HELD: Lines = &[
@@ -331,45 +331,4 @@ fn the_empty_input_has_no_reply(rt: HostRuntime) -> Result<(), Fail> {
     run_steps(rt.alloc(), &mut reader, &mut written)?;
     assert!(rt; written.is_empty());
     Ok(())
-}
-
-#[test]
-fn a_line_that_is_cut_is_not_answered(rt: HostRuntime) -> Result<(), Fail> {
-    let mut reader = Failing {
-        bytes: b"open 1 1 1\nask 1 0\nask 1 0",
-    };
-    let mut written = Vec::new(rt.alloc());
-    let ended = run_steps(rt.alloc(), &mut reader, &mut written);
-    assert_eq!(rt; ended, Err(RunFault::Read));
-    assert_eq!(rt; written.as_slice(), b"ok\nsend\n".as_slice());
-    Ok(())
-}
-
-#[test]
-fn a_full_output_ends_the_run(rt: HostRuntime) {
-    let mut reader: &[u8] = b"open 1 1 1\nask 1 0\nask 1 0\n";
-    let mut room = [0u8; 5];
-    let mut writer = room.as_mut_slice();
-    let ended = run_steps(rt.alloc(), &mut reader, &mut writer);
-    assert_eq!(rt; ended, Err(RunFault::Write));
-    assert_eq!(rt; room.as_slice(), b"ok\nse".as_slice());
-}
-
-// Passes as well where any one request for memory is refused (`rt try --test --fail-alloc N`).
-#[test]
-fn want_of_memory_ends_the_run(rt: HostRuntime) {
-    let text: &[u8] = b"ok\nsend\nnot-holding\nout-of-range\n";
-    for _ in 0..2 {
-        let mut reader: &[u8] = b"open 2 3 1\nask 1 1\nread 1 0\nwriter evict 2\n";
-        let mut room = [0u8; 64];
-        let mut writer = room.as_mut_slice();
-        let ended = run_steps(rt.alloc(), &mut reader, &mut writer);
-        let written = room.split(|b| *b == 0).next().unwrap_or(b"");
-        if ended.is_ok() {
-            assert_eq!(rt; written, text);
-        } else {
-            assert_eq!(rt; ended, Err(RunFault::Memory));
-            assert!(rt; text.starts_with(written));
-        }
-    }
 }

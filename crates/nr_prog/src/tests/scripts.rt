@@ -1,6 +1,6 @@
 //! Scripts, and the replies that their lines must get.
-use super::{Dripping, Lines, Narrow, input_and_text};
-use crate::{RunFault, replies, run};
+use super::{Lines, input_and_text};
+use crate::replies;
 use std::test::Fail;
 
 const EMPTY_INPUT: Lines = &[];
@@ -378,23 +378,6 @@ const SCRIPTS: [Lines; 23] = [
     A_KEY_HAS_THE_ROWS_OF_ITS_OPENING,
 ];
 
-/// Those that are cut at each byte, which takes a run a byte.
-const CUT_SCRIPTS: [Lines; 2] = [FIRST_PATH, PINNED_SET_KEEPS_ITS_SLOT];
-
-/// The front of a text that answers as many lines as the input's front has ended.
-fn answered<'a>(input: &[u8], text: &'a [u8]) -> &'a [u8] {
-    let mut lines = input.iter().filter(|b| **b == b'\n').count();
-    for (i, b) in text.iter().enumerate() {
-        if lines == 0 {
-            return &text[..i];
-        }
-        if *b == b'\n' {
-            lines -= 1;
-        }
-    }
-    text
-}
-
 #[test]
 fn scripts_are_answered(rt: HostRuntime) -> Result<(), Fail> {
     for script in SCRIPTS {
@@ -418,127 +401,5 @@ fn a_last_line_needs_no_feed(rt: HostRuntime) -> Result<(), Fail> {
             }
         }
     }
-    Ok(())
-}
-
-#[test]
-fn bytes_may_come_and_go_one_by_one(rt: HostRuntime) -> Result<(), Fail> {
-    for script in SCRIPTS {
-        let (input, text) = input_and_text(rt.alloc(), script)?;
-        let mut reader = Dripping {
-            bytes: input.as_slice(),
-            calls: 0,
-            fails_at: usize::MAX,
-        };
-        let mut writer = Narrow {
-            held: Vec::new(rt.alloc()),
-            width: 1,
-            room: usize::MAX,
-        };
-        run(rt.alloc(), &mut reader, &mut writer)?;
-        assert_eq!(rt; writer.held.as_slice(), text.as_slice());
-    }
-    Ok(())
-}
-
-#[test]
-fn a_read_that_fails_ends_the_run(rt: HostRuntime) -> Result<(), Fail> {
-    for script in CUT_SCRIPTS {
-        let (input, text) = input_and_text(rt.alloc(), script)?;
-        let bytes = input.as_slice();
-        for fails_at in 0..bytes.len() + 1 {
-            let mut reader = Dripping {
-                bytes,
-                calls: 0,
-                fails_at,
-            };
-            let mut written = Vec::new(rt.alloc());
-            let result = run(rt.alloc(), &mut reader, &mut written);
-            assert_eq!(rt; result, Err(RunFault::Read), "at {fails_at}");
-            let whole = answered(&bytes[..fails_at], text.as_slice());
-            assert_eq!(rt; written.as_slice(), whole, "at {fails_at}");
-        }
-    }
-    Ok(())
-}
-
-#[test]
-fn a_line_that_is_cut_is_not_answered(rt: HostRuntime) -> Result<(), Fail> {
-    let (input, _) = input_and_text(rt.alloc(), FIRST_PATH)?;
-    let mut reader = Dripping {
-        bytes: input.as_slice(),
-        calls: 0,
-        fails_at: input.len().saturating_sub(4),
-    };
-    let mut written = Vec::new(rt.alloc());
-    let result = run(rt.alloc(), &mut reader, &mut written);
-    assert_eq!(rt; result, Err(RunFault::Read));
-    let five_lines: &[u8] = b"ok\nhole\nsend\nwaiting\ndone\n";
-    assert_eq!(rt; written.as_slice(), five_lines);
-    Ok(())
-}
-
-#[test]
-fn a_write_that_fails_ends_the_run(rt: HostRuntime) -> Result<(), Fail> {
-    for script in CUT_SCRIPTS {
-        let (input, text) = input_and_text(rt.alloc(), script)?;
-        let text = text.as_slice();
-        for room in 0..text.len() {
-            let mut reader = input.as_slice();
-            let mut writer = Narrow {
-                held: Vec::new(rt.alloc()),
-                width: 1,
-                room,
-            };
-            let result = run(rt.alloc(), &mut reader, &mut writer);
-            assert_eq!(rt; result, Err(RunFault::Write), "at {room}");
-            assert_eq!(rt; writer.held.as_slice(), &text[..room], "at {room}");
-        }
-    }
-    Ok(())
-}
-
-#[test]
-fn a_write_of_no_bytes_is_a_fault(rt: HostRuntime) -> Result<(), Fail> {
-    let mut reader: &[u8] = b"find 1 0\n";
-    let mut writer = Narrow {
-        held: Vec::new(rt.alloc()),
-        width: 0,
-        room: usize::MAX,
-    };
-    let result = run(rt.alloc(), &mut reader, &mut writer);
-    assert_eq!(rt; result, Err(RunFault::Write));
-    assert!(rt; writer.held.is_empty());
-    Ok(())
-}
-
-#[test]
-fn a_line_may_have_4096_bytes(rt: HostRuntime) -> Result<(), Fail> {
-    for (bytes, reply) in [(4096, "closed\n"), (4097, "bad\n"), (9000, "bad\n")] {
-        let mut input = Vec::new(rt.alloc());
-        input.extend_from_slice(b"find 1 ")?;
-        for _ in 7..bytes {
-            input.push(b'a')?;
-        }
-        let written = replies(rt.alloc(), input.as_slice())?;
-        assert_eq!(rt; written.as_slice(), reply.as_bytes(), "{bytes} bytes");
-        input.push(b'\n')?;
-        input.extend_from_slice(b"find 1 a")?;
-        let both = replies(rt.alloc(), input.as_slice())?;
-        assert!(rt;
-            both.as_slice().starts_with(reply.as_bytes()),
-            "{bytes} bytes"
-        );
-        assert!(rt; both.as_slice().ends_with(b"\nclosed\n"), "{bytes} bytes");
-    }
-    Ok(())
-}
-
-#[test]
-fn bytes_outside_print_are_bad(rt: HostRuntime) -> Result<(), Fail> {
-    let input: &[u8] = b"find 1 ~\nfind 1 \x7f\nfind 1 \x1f\nfind 1 \xc3\xa9\n\0\n";
-    let written = replies(rt.alloc(), input)?;
-    let text: &[u8] = b"closed\nbad\nbad\nbad\nbad\n";
-    assert_eq!(rt; written.as_slice(), text);
     Ok(())
 }
