@@ -8,8 +8,6 @@ mod calls;
 mod premises;
 mod round;
 mod seat;
-#[cfg(test)]
-mod tests;
 mod writer_calls;
 
 pub use alone::Alone;

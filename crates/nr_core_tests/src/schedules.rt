@@ -1,5 +1,5 @@
 //! Schedules as calls of the machine, with the answers that they must give.
-ghost use Rattle.std.specs.Prelude.{IsTrue};
+ghost use Rattle.std.specs.Prelude.{◌≡◌, IsTrue, IfOk};
 ghost use Rattle.nr_model.specs.Maps.{FillFits};
 ghost use Rattle.nr_core.specs.Story.{call_of};
 
@@ -7,20 +7,28 @@ use nr_core::{
     Arrived, AskReply, Core, MAX_READERS, MAX_SLOTS, NoSlot, OpenFault, Refusal, Shape, Step,
     WReply, WriterCall,
 };
-use nr_model::{Batch, Delta, MAX_KEYS, Reply, Row, RowSet};
+use nr_model::{Batch, Delta, MAX_KEYS, MAX_ROWS, Reply, Row, RowSet};
 use std::alloc::Global;
 use std::process::Abort;
 use std::test::Fail;
 
-/// One step that a schedule attempts.
+/// One step that a schedule attempts. The writer's calls are of key 0, but for a find.
 #[derive(Clone, Copy)]
 enum Line {
     Arrive(u32, u32),
     Read(u32, u64),
     Depart(u32),
     Ask(u32, u32),
-    Start(WriterCall),
+    Find(u32),
+    /// A fill with that number, and with these rows.
+    Fill(u64, &'static [(u64, u64)]),
+    Plus(u64, u64),
+    Minus(u64, u64),
+    Evict,
+    Cancel,
     Go,
+    /// So many steps, which must be answered alike.
+    Goes(u32),
 }
 
 /// What the machine answers. `Says("-")` is a step after which the writer's call goes on, and
@@ -33,8 +41,11 @@ enum Told {
     Without(NoSlot),
 }
 
-use Line::{Arrive, Ask, Depart, Go, Read, Start};
+use Line::{Arrive, Ask, Cancel, Depart, Evict, Fill, Find, Go, Goes, Minus, Plus, Read};
 use Told::{Says, Sends, Without, Word};
+
+/// Steps, each with its answer.
+type Lines = &'static [(Line, Told)];
 
 fn answer(core: &mut Core, line: &Line) -> Told {
     match line {
@@ -51,20 +62,32 @@ fn answer(core: &mut Core, line: &Line) -> Told {
             Ok(()) => Says("ok"),
             Err(why) => refused(why),
         },
-        Ask(reader, key) => match core.ask(*reader, *key) {
-            Ok(AskReply::Send(number)) => Sends(number),
-            Ok(AskReply::Waiting) => Says("waiting"),
-            Ok(AskReply::Filled) => Says("filled"),
-            Err(why) => refused(why),
-        },
-        Start(call) => {
-            if fits(core, call) {
-                stepped(&core.start(call))
-            } else {
-                Says("more rows than a slot has room for")
-            }
-        }
+        Ask(reader, key) => asked(core, *reader, *key),
+        Find(key) => started(core, &WriterCall::Find(*key)),
+        Fill(number, rows) => started(core, &WriterCall::Fill(0, *number, rows_of(rows))),
+        Plus(a, b) => updated(core, plus(*a, *b)),
+        Minus(a, b) => updated(core, minus(*a, *b)),
+        Evict => started(core, &WriterCall::Evict(0)),
+        Cancel => started(core, &WriterCall::Cancel(0)),
         Go => stepped(&core.go()),
+        Goes(times) => gone(core, *times),
+    }
+}
+
+fn asked(core: &mut Core, reader: u32, key: u32) -> Told {
+    match core.ask(reader, key) {
+        Ok(AskReply::Send(number)) => Sends(number),
+        Ok(AskReply::Waiting) => Says("waiting"),
+        Ok(AskReply::Filled) => Says("filled"),
+        Err(why) => refused(why),
+    }
+}
+
+fn started(core: &mut Core, call: &WriterCall) -> Told {
+    if fits(core, call) {
+        stepped(&core.start(call))
+    } else {
+        Says("more rows than a slot has room for")
     }
 }
 
@@ -76,6 +99,24 @@ fn fits(core: &Core, call: &WriterCall) -> bool
         WriterCall::Fill(_, _, rows) => rows.len() <= core.rows() as usize,
         _ => true,
     }
+}
+
+fn updated(core: &mut Core, delta: Delta) -> Told {
+    match Batch::of(&[delta]) {
+        Ok(batch) => started(core, &WriterCall::Update(0, batch)),
+        Err(_) => Says("no batch"),
+    }
+}
+
+/// What the first of these steps is answered that ends the writer's call, or is refused.
+fn gone(core: &mut Core, times: u32) -> Told {
+    for _ in 0..times {
+        let told = stepped(&core.go());
+        if told != Says("-") {
+            return told;
+        }
+    }
+    Says("-")
 }
 
 fn stepped(step: &Result<Step, Refusal>) -> Told {
@@ -117,29 +158,39 @@ fn refused(why: Refusal) -> Told {
 }
 
 /// Makes the steps in their order, each of which must be answered as the line says.
-fn runs(rt: &impl Abort, core: &mut Core, lines: &[(Line, Told)]) {
+fn runs(rt: &impl Abort, core: &mut Core, lines: Lines) {
     for (at, (line, told)) in lines.iter().enumerate() {
         assert_eq!(rt; answer(core, line), *told, "line {at}");
     }
 }
 
-/// Goes on so many times, each time without an end of the writer's call.
-fn goes(rt: &impl Abort, core: &mut Core, times: u32) {
-    for at in 0..times {
-        assert_eq!(rt; stepped(&core.go()), Says("-"), "step {at}");
-    }
+/// Makes the steps on a new machine.
+fn runs_anew(rt: &(impl Abort + AllocGlobal), shape: &Shape, lines: Lines) -> Result<(), Fail> {
+    let mut core = opened(rt.alloc(), shape)?;
+    runs(rt, &mut core, lines);
+    Ok(())
+}
+
+fn opened(alloc: Global, shape: &Shape) -> Result<Core, Fail>
+    ensures { IfOk result (λ core. core.shape ≡ shape.now) }
+{
+    Ok(Core::open_with(alloc, shape).map_err(|_| "not opened")?)
 }
 
 /// The rows that a find ended with.
-fn found(step: &Result<Step, Refusal>) -> Result<RowSet, Fail> {
+fn found(step: &Result<Step, Refusal>) -> Option<RowSet> {
     match step {
-        Ok(Step::Ended(WReply::Reply(Reply::Rows(rows)))) => Ok(*rows),
-        _ => Err("the find did not end with rows".into()),
+        Ok(Step::Ended(WReply::Reply(Reply::Rows(rows)))) => Some(*rows),
+        _ => None,
     }
 }
 
-fn opened(alloc: Global, slots: u32, readers: u32, first_count: u64) -> Result<Core, Fail> {
-    Ok(Core::open(alloc, 1, slots, readers, first_count).map_err(|_| "not opened")?)
+/// Makes the last step of a find, which must end with these rows.
+fn finds(rt: &impl Abort, core: &mut Core, rows: &RowSet) {
+    let Some(found) = found(&core.go()) else {
+        panic!(rt; "the find did not end with rows")
+    };
+    assert_eq!(rt; found.as_slice(), rows.as_slice());
 }
 
 fn row(a: u64, b: u64) -> Row {
@@ -160,410 +211,410 @@ fn minus(a: u64, b: u64) -> Delta {
     }
 }
 
-/// A fill of key 0 as long as none of its requests was cancelled.
-fn fill(rows: &[Row]) -> Result<Line, Fail> {
-    fill_as(0, rows)
+/// The set of those rows, which are not too many.
+fn rows_of(pairs: &[(u64, u64)]) -> RowSet {
+    let mut rows = [row(0, 0); MAX_ROWS];
+    for (row, (a, b)) in rows.iter_mut().zip(pairs) {
+        *row = Row { a: *a, b: *b };
+    }
+    RowSet::of(&rows[..pairs.len().min(MAX_ROWS)]).unwrap_or(RowSet::new())
 }
 
-fn fill_as(number: u64, rows: &[Row]) -> Result<Line, Fail> {
-    let set = RowSet::of(rows).map_err(|_| "too many rows")?;
-    Ok(Start(WriterCall::Fill(0, number, set)))
+/// A map of one key.
+fn sized(slots: u32, readers: u32, first_count: u64) -> Shape
+    ensures { result.keys ≡ 1 }
+{
+    Shape {
+        keys: 1,
+        slots,
+        readers,
+        first_count,
+        first_number: 0,
+        rows: 15,
+    }
 }
 
-fn update(delta: Delta) -> Result<Line, Fail> {
-    let batch = Batch::of(&[delta]).map_err(|_| "no batch")?;
-    Ok(Start(WriterCall::Update(0, batch)))
+/// A map of one key and 3 slots, whose first request has that number.
+fn numbered(first_number: u64) -> Shape
+    ensures { result.keys ≡ 1 }
+{
+    let mut shape = sized(3, 1, 0);
+    shape.first_number = first_number;
+    shape
 }
+
+/// A map of one key and 3 slots, whose key may have so many rows.
+fn roomy(rows: u32) -> Shape {
+    let mut shape = sized(3, 1, 0);
+    shape.rows = rows;
+    shape
+}
+
+const HELD: Lines = &[
+    (Ask(1, 0), Sends(0)),
+    (Fill(0, &[(5, 6)]), Says("-")),
+    (Go, Says("-")),
+    (Go, Says("-")),
+    (Go, Says("-")),
+    (Go, Says("done")),
+    (Arrive(1, 0), Says("held")),
+    (Evict, Says("-")),
+    (Go, Says("evicted")),
+    (Read(1, 0), Word(1)),
+    (Read(1, 1), Word(5)),
+    (Read(1, 2), Word(6)),
+    (Depart(1), Says("ok")),
+    (Arrive(1, 0), Says("hole")),
+];
 
 #[test]
 fn a_held_slot_outlives_its_eviction(rt: HostRuntime) -> Result<(), Fail> {
-    let mut core = opened(rt.alloc(), 3, 1, 0)?;
-    let lines = [
-        (Ask(1, 0), Sends(0)),
-        (fill(&[row(5, 6)])?, Says("-")),
-        (Go, Says("-")),
-        (Go, Says("-")),
-        (Go, Says("-")),
-        (Go, Says("done")),
-        (Arrive(1, 0), Says("held")),
-        (Start(WriterCall::Evict(0)), Says("-")),
-        (Go, Says("evicted")),
-        (Read(1, 0), Word(1)),
-        (Read(1, 1), Word(5)),
-        (Read(1, 2), Word(6)),
-        (Depart(1), Says("ok")),
-        (Arrive(1, 0), Says("hole")),
-    ];
-    runs(&rt, &mut core, &lines);
-    Ok(())
+    runs_anew(&rt, &sized(3, 1, 0), HELD)
 }
+
+const WRAPPED: Lines = &[
+    (Ask(1, 0), Sends(0)),
+    (Fill(0, &[(5, 6)]), Says("-")),
+    (Go, Says("-")),
+    (Go, Says("-")),
+    (Go, Says("-")),
+    (Go, Says("done")),
+    (Arrive(1, 0), Says("held")),
+    (Evict, Says("-")),
+    (Go, Says("evicted")),
+    (Ask(2, 0), Sends(0)),
+    (Fill(0, &[(7, 8)]), Says("-")),
+    (Go, Without(NoSlot { live: 0, held: 1 })),
+    (Read(1, 0), Word(1)),
+    (Read(1, 1), Word(5)),
+    (Depart(1), Says("ok")),
+    (Fill(0, &[(7, 8)]), Says("-")),
+    (Go, Says("-")),
+    (Go, Says("-")),
+    (Go, Says("-")),
+    (Go, Says("-")),
+    (Go, Says("done")),
+    (Arrive(2, 0), Says("held")),
+    (Read(2, 0), Word(1)),
+    (Read(2, 1), Word(7)),
+    (Depart(2), Says("ok")),
+];
 
 #[test]
 fn counts_wrap(rt: HostRuntime) -> Result<(), Fail> {
-    let mut core = opened(rt.alloc(), 1, 2, 1_099_511_627_775)?;
-    let lines = [
-        (Ask(1, 0), Sends(0)),
-        (fill(&[row(5, 6)])?, Says("-")),
-        (Go, Says("-")),
-        (Go, Says("-")),
-        (Go, Says("-")),
-        (Go, Says("done")),
-        (Arrive(1, 0), Says("held")),
-        (Start(WriterCall::Evict(0)), Says("-")),
-        (Go, Says("evicted")),
-        (Ask(2, 0), Sends(0)),
-        (fill(&[row(7, 8)])?, Says("-")),
-        (Go, Without(NoSlot { live: 0, held: 1 })),
-        (Read(1, 0), Word(1)),
-        (Read(1, 1), Word(5)),
-        (Depart(1), Says("ok")),
-        (fill(&[row(7, 8)])?, Says("-")),
-        (Go, Says("-")),
-        (Go, Says("-")),
-        (Go, Says("-")),
-        (Go, Says("-")),
-        (Go, Says("done")),
-        (Arrive(2, 0), Says("held")),
-        (Read(2, 0), Word(1)),
-        (Read(2, 1), Word(7)),
-        (Depart(2), Says("ok")),
-    ];
-    runs(&rt, &mut core, &lines);
-    Ok(())
+    runs_anew(&rt, &sized(1, 2, 1_099_511_627_775), WRAPPED)
 }
+
+const PUBLISHED: Lines = &[
+    (Ask(1, 0), Sends(0)),
+    (Fill(0, &[(4, 4)]), Says("-")),
+    (Arrive(2, 0), Says("hole")),
+    (Go, Says("-")),
+    (Go, Says("-")),
+    (Go, Says("-")),
+    (Arrive(2, 0), Says("hole")),
+    (Go, Says("done")),
+    (Arrive(2, 0), Says("held")),
+];
 
 #[test]
 fn a_fill_is_found_from_its_publish_on(rt: HostRuntime) -> Result<(), Fail> {
-    let mut core = opened(rt.alloc(), 3, 2, 0)?;
-    let lines = [
-        (Ask(1, 0), Sends(0)),
-        (fill(&[row(4, 4)])?, Says("-")),
-        (Arrive(2, 0), Says("hole")),
-        (Go, Says("-")),
-        (Go, Says("-")),
-        (Go, Says("-")),
-        (Arrive(2, 0), Says("hole")),
-        (Go, Says("done")),
-        (Arrive(2, 0), Says("held")),
-    ];
-    runs(&rt, &mut core, &lines);
-    Ok(())
+    runs_anew(&rt, &sized(3, 2, 0), PUBLISHED)
 }
+
+const UPDATES_OF_ONE_SLOT: Lines = &[
+    (Ask(1, 0), Sends(0)),
+    (Fill(0, &[(4, 4)]), Says("-")),
+    (Go, Says("-")),
+    (Go, Says("-")),
+    (Go, Says("-")),
+    (Go, Says("done")),
+    (Minus(9, 9), Says("-")),
+    (Go, Says("-")),
+    (Go, Says("-")),
+    (Go, Says("no-row")),
+    (Plus(5, 5), Says("-")),
+    (Go, Says("-")),
+    (Go, Says("-")),
+    (Go, Without(NoSlot { live: 1, held: 0 })),
+    (Find(0), Says("-")),
+    (Go, Says("-")),
+    (Go, Says("-")),
+];
+
+const REFUSALS: Lines = &[
+    (Go, Says("not-busy")),
+    (Arrive(1, 0), Says("held")),
+    (Read(1, 1), Says("out-of-range")),
+    (Read(1, 0), Word(1)),
+    (Read(1, 3), Says("out-of-range")),
+    (Ask(1, 0), Says("holding")),
+    (Depart(1), Says("ok")),
+    (Read(1, 0), Says("not-holding")),
+    (Evict, Says("-")),
+    (Evict, Says("busy")),
+    (Go, Says("evicted")),
+];
 
 #[test]
 fn one_slot_serves_one_key(rt: HostRuntime) -> Result<(), Fail> {
-    let mut core = opened(rt.alloc(), 1, 1, 0)?;
-    let updates = [
-        (Ask(1, 0), Sends(0)),
-        (fill(&[row(4, 4)])?, Says("-")),
-        (Go, Says("-")),
-        (Go, Says("-")),
-        (Go, Says("-")),
-        (Go, Says("done")),
-        (update(minus(9, 9))?, Says("-")),
-        (Go, Says("-")),
-        (Go, Says("-")),
-        (Go, Says("no-row")),
-        (update(plus(5, 5))?, Says("-")),
-        (Go, Says("-")),
-        (Go, Says("-")),
-        (Go, Without(NoSlot { live: 1, held: 0 })),
-        (Start(WriterCall::Find(0)), Says("-")),
-        (Go, Says("-")),
-        (Go, Says("-")),
-    ];
-    runs(&rt, &mut core, &updates);
-    let rows = found(&core.go())?;
-    assert_eq!(rt; (rows.len(), rows.get(0)), (1, Some(row(4, 4))));
-
-    let refusals = [
-        (Go, Says("not-busy")),
-        (Arrive(1, 0), Says("held")),
-        (Read(1, 1), Says("out-of-range")),
-        (Read(1, 0), Word(1)),
-        (Read(1, 3), Says("out-of-range")),
-        (Ask(1, 0), Says("holding")),
-        (Depart(1), Says("ok")),
-        (Read(1, 0), Says("not-holding")),
-        (Start(WriterCall::Evict(0)), Says("-")),
-        (Start(WriterCall::Evict(0)), Says("busy")),
-        (Go, Says("evicted")),
-    ];
-    runs(&rt, &mut core, &refusals);
+    let mut core = opened(rt.alloc(), &sized(1, 1, 0))?;
+    runs(&rt, &mut core, UPDATES_OF_ONE_SLOT);
+    finds(&rt, &mut core, &rows_of(&[(4, 4)]));
+    runs(&rt, &mut core, REFUSALS);
     Ok(())
 }
+
+// the last update makes five reads, two polls and seven puts
+const UPDATES: Lines = &[
+    (Ask(1, 0), Sends(0)),
+    (Fill(0, &[]), Says("-")),
+    (Go, Says("-")),
+    (Go, Says("done")),
+    (Arrive(1, 0), Says("held")),
+    (Plus(1, 1), Says("-")),
+    (Goes(4), Says("-")),
+    (Go, Says("done")),
+    (Plus(2, 2), Says("-")),
+    (Goes(8), Says("-")),
+    (Go, Says("done")),
+    (Plus(3, 3), Says("-")),
+    (Goes(14), Says("-")),
+    (Go, Says("done")),
+    (Read(1, 0), Word(0)),
+    (Depart(1), Says("ok")),
+    (Find(0), Says("-")),
+    (Goes(6), Says("-")),
+];
 
 #[test]
 fn updates_pass_by_a_held_slot(rt: HostRuntime) -> Result<(), Fail> {
-    let mut core = opened(rt.alloc(), 3, 1, 0)?;
-    let filled = [
-        (Ask(1, 0), Sends(0)),
-        (fill(&[])?, Says("-")),
-        (Go, Says("-")),
-        (Go, Says("done")),
-        (Arrive(1, 0), Says("held")),
-    ];
-    runs(&rt, &mut core, &filled);
-
-    // the last one makes five reads, two polls and seven puts
-    for (number, steps) in [(1, 4), (2, 8), (3, 14)] {
-        runs(
-            &rt,
-            &mut core,
-            &[(update(plus(number, number))?, Says("-"))],
-        );
-        goes(&rt, &mut core, steps);
-        runs(&rt, &mut core, &[(Go, Says("done"))]);
-    }
-    runs(
-        &rt,
-        &mut core,
-        &[(Read(1, 0), Word(0)), (Depart(1), Says("ok"))],
-    );
-
-    runs(&rt, &mut core, &[(Start(WriterCall::Find(0)), Says("-"))]);
-    goes(&rt, &mut core, 6);
-    let rows = found(&core.go())?;
-    assert_eq!(rt; rows.len(), 3);
-    assert_eq!(rt; rows.get(0), Some(row(1, 1)));
-    assert_eq!(rt; rows.get(1), Some(row(2, 2)));
-    assert_eq!(rt; rows.get(2), Some(row(3, 3)));
+    let mut core = opened(rt.alloc(), &sized(3, 1, 0))?;
+    runs(&rt, &mut core, UPDATES);
+    finds(&rt, &mut core, &rows_of(&[(1, 1), (2, 2), (3, 3)]));
     Ok(())
 }
+
+const ALIKE: [(u64, u64); 15] = [(1, 1); 15];
+
+const NOTHING_TO_DO: Lines = &[
+    (Find(0), Says("hole")),
+    (Fill(0, &[(1, 1)]), Says("not-asked")),
+    (Plus(1, 1), Says("dropped")),
+    (Evict, Says("nothing")),
+    (Ask(1, 0), Sends(0)),
+    (Ask(1, 0), Says("waiting")),
+    (Plus(1, 1), Says("dropped")),
+    (Fill(0, &ALIKE), Says("-")),
+    (Goes(31), Says("-")),
+    (Go, Says("done")),
+    (Ask(1, 0), Says("filled")),
+    (Fill(0, &[]), Says("already")),
+    (Plus(1, 1), Says("-")),
+    (Goes(30), Says("-")),
+    (Go, Says("too-many")),
+];
 
 #[test]
 fn calls_end_where_nothing_is_to_do(rt: HostRuntime) -> Result<(), Fail> {
-    let mut core = opened(rt.alloc(), 3, 1, 0)?;
-    let looks = [
-        (Start(WriterCall::Find(0)), Says("hole")),
-        (fill(&[row(1, 1)])?, Says("not-asked")),
-        (update(plus(1, 1))?, Says("dropped")),
-        (Start(WriterCall::Evict(0)), Says("nothing")),
-        (Ask(1, 0), Sends(0)),
-        (Ask(1, 0), Says("waiting")),
-        (update(plus(1, 1))?, Says("dropped")),
-        (fill(&[row(1, 1); 15])?, Says("-")),
-    ];
-    runs(&rt, &mut core, &looks);
-    goes(&rt, &mut core, 31);
-    let filled = [
-        (Go, Says("done")),
-        (Ask(1, 0), Says("filled")),
-        (fill(&[])?, Says("already")),
-        (update(plus(1, 1))?, Says("-")),
-    ];
-    runs(&rt, &mut core, &filled);
-    goes(&rt, &mut core, 30);
-    runs(&rt, &mut core, &[(Go, Says("too-many"))]);
-    Ok(())
+    runs_anew(&rt, &sized(3, 1, 0), NOTHING_TO_DO)
 }
+
+const RANGES: Lines = &[
+    (Arrive(0, 0), Says("out-of-range")),
+    (Arrive(2, 0), Says("out-of-range")),
+    (Arrive(1, 1), Says("out-of-range")),
+    (Ask(0, 0), Says("out-of-range")),
+    (Ask(2, 0), Says("out-of-range")),
+    (Ask(1, 1), Says("out-of-range")),
+    (Read(0, 0), Says("out-of-range")),
+    (Read(2, 0), Says("out-of-range")),
+    (Read(1, u64::MAX), Says("not-holding")),
+    (Depart(0), Says("out-of-range")),
+    (Depart(2), Says("out-of-range")),
+    (Depart(1), Says("not-holding")),
+    (Find(1), Says("out-of-range")),
+    (Go, Says("not-busy")),
+    (Ask(1, 0), Sends(0)),
+    (Fill(0, &[]), Says("-")),
+    (Find(0), Says("busy")),
+    (Find(1), Says("out-of-range")),
+    (Go, Says("-")),
+    (Go, Says("done")),
+    (Arrive(1, 0), Says("held")),
+    (Arrive(1, 0), Says("holding")),
+    (Arrive(1, 1), Says("out-of-range")),
+    (Ask(1, 0), Says("holding")),
+    (Ask(1, 1), Says("out-of-range")),
+    (Read(1, u64::MAX), Says("out-of-range")),
+    (Read(1, 0), Word(0)),
+    (Read(1, 1), Says("out-of-range")),
+];
 
 #[test]
 fn a_range_is_refused_first_and_an_index_last(rt: HostRuntime) -> Result<(), Fail> {
-    let mut core = opened(rt.alloc(), 2, 1, 0)?;
-    let empty_handed = [
-        (Arrive(0, 0), Says("out-of-range")),
-        (Arrive(2, 0), Says("out-of-range")),
-        (Arrive(1, 1), Says("out-of-range")),
-        (Ask(0, 0), Says("out-of-range")),
-        (Ask(2, 0), Says("out-of-range")),
-        (Ask(1, 1), Says("out-of-range")),
-        (Read(0, 0), Says("out-of-range")),
-        (Read(2, 0), Says("out-of-range")),
-        (Read(1, u64::MAX), Says("not-holding")),
-        (Depart(0), Says("out-of-range")),
-        (Depart(2), Says("out-of-range")),
-        (Depart(1), Says("not-holding")),
-        (Start(WriterCall::Find(1)), Says("out-of-range")),
-        (Go, Says("not-busy")),
-    ];
-    runs(&rt, &mut core, &empty_handed);
-    let holding = [
-        (Ask(1, 0), Sends(0)),
-        (fill(&[])?, Says("-")),
-        (Start(WriterCall::Find(0)), Says("busy")),
-        (Start(WriterCall::Find(1)), Says("out-of-range")),
-        (Go, Says("-")),
-        (Go, Says("done")),
-        (Arrive(1, 0), Says("held")),
-        (Arrive(1, 0), Says("holding")),
-        (Arrive(1, 1), Says("out-of-range")),
-        (Ask(1, 0), Says("holding")),
-        (Ask(1, 1), Says("out-of-range")),
-        (Read(1, u64::MAX), Says("out-of-range")),
-        (Read(1, 0), Word(0)),
-        (Read(1, 1), Says("out-of-range")),
-    ];
-    runs(&rt, &mut core, &holding);
-    Ok(())
+    runs_anew(&rt, &sized(2, 1, 0), RANGES)
 }
 
+const BAD_SIZES: [(u32, u32, u32); 6] = [
+    (0, 1, 1),
+    (1, 0, 1),
+    (1, 1, 0),
+    (MAX_KEYS + 1, 1, 1),
+    (1, MAX_SLOTS + 1, 1),
+    (1, 1, MAX_READERS + 1),
+];
+
 #[test]
-fn sizes_have_their_limits(rt: HostRuntime) -> Result<(), Fail> {
-    let bad = [
-        (0, 1, 1),
-        (1, 0, 1),
-        (1, 1, 0),
-        (MAX_KEYS + 1, 1, 1),
-        (1, MAX_SLOTS + 1, 1),
-        (1, 1, MAX_READERS + 1),
-    ];
-    for (keys, slots, readers) in bad {
+fn sizes_have_their_limits(rt: HostRuntime) {
+    for (keys, slots, readers) in BAD_SIZES {
         let opened = Core::open(rt.alloc(), keys, slots, readers, 0);
         assert!(rt;
             matches!(&opened, Err(OpenFault::BadSize)),
             "{keys} {slots} {readers}"
         );
     }
-    let mut core = Core::open(rt.alloc(), 65_536, 131_072, 1_024, u64::MAX).map_err(
-        |_| "not opened",
-    )?;
+}
+
+#[test]
+fn the_largest_map_opens(rt: HostRuntime) -> Result<(), Fail> {
+    let largest = Core::open(rt.alloc(), 65_536, 131_072, 1_024, u64::MAX);
+    let mut core = largest.map_err(|_| "not opened")?;
     assert_eq!(rt; core.ask(1_024, 65_535), Ok(AskReply::Send(0)));
     Ok(())
 }
 
-/// A map of one key, 3 slots and that many readers, whose first request has that number.
-fn numbered(first_number: u64, readers: u32) -> Shape {
-    Shape {
-        keys: 1,
-        slots: 3,
-        readers,
-        first_count: 0,
-        first_number,
-        rows: 15,
-    }
-}
-
 #[test]
 fn a_first_number_has_its_limit(rt: HostRuntime) -> Result<(), Fail> {
-    let over = Core::open_with(rt.alloc(), &numbered(4_194_304, 1));
-    assert!(rt; matches!(&over, Err(OpenFault::BadSize)));
-    let last = Core::open_with(rt.alloc(), &numbered(4_194_303, 1)).map_err(|_| "not opened")?;
+    assert!(rt; is_bad(rt.alloc(), &numbered(4_194_304)));
+    assert!(rt; is_bad(rt.alloc(), &sized(3, 0, 0)));
+    let last = opened(rt.alloc(), &numbered(4_194_303))?;
     assert_eq!(rt; last.number(0), 4_194_303);
-    let unread = Shape {
-        readers: 0,
-        ..numbered(0, 1)
-    };
-    let unread = Core::open_with(rt.alloc(), &unread);
-    assert!(rt; matches!(&unread, Err(OpenFault::BadSize)));
     Ok(())
 }
+
+fn is_bad(alloc: Global, shape: &Shape) -> bool {
+    matches!(&Core::open_with(alloc, shape), Err(OpenFault::BadSize))
+}
+
+const LATE: Lines = &[
+    (Ask(1, 0), Sends(0)),
+    (Cancel, Says("-")),
+    (Ask(2, 0), Says("waiting")),
+    (Go, Says("cancelled")),
+    (Ask(2, 0), Sends(1)),
+    (Fill(0, &[(5, 6)]), Says("stale")),
+    (Fill(1, &[(5, 6)]), Says("-")),
+    (Go, Says("-")),
+    (Go, Says("-")),
+    (Go, Says("-")),
+    (Go, Says("done")),
+    (Cancel, Says("nothing")),
+];
 
 #[test]
 fn a_late_answer_fills_no_newer_request(rt: HostRuntime) -> Result<(), Fail> {
-    let mut core = opened(rt.alloc(), 3, 2, 0)?;
-    let lines = [
-        (Ask(1, 0), Sends(0)),
-        (Start(WriterCall::Cancel(0)), Says("-")),
-        (Ask(2, 0), Says("waiting")),
-        (Go, Says("cancelled")),
-        (Ask(2, 0), Sends(1)),
-        (fill_as(0, &[row(5, 6)])?, Says("stale")),
-        (fill_as(1, &[row(5, 6)])?, Says("-")),
-        (Go, Says("-")),
-        (Go, Says("-")),
-        (Go, Says("-")),
-        (Go, Says("done")),
-        (Start(WriterCall::Cancel(0)), Says("nothing")),
-    ];
-    runs(&rt, &mut core, &lines);
-    Ok(())
+    runs_anew(&rt, &sized(3, 2, 0), LATE)
 }
+
+const WORN: Lines = &[
+    (Ask(1, 0), Sends(4_194_302)),
+    (Cancel, Says("-")),
+    (Go, Says("cancelled")),
+    (Cancel, Says("nothing")),
+    (Ask(1, 0), Sends(4_194_303)),
+    (Fill(4_194_302, &[(1, 1)]), Says("stale")),
+    (Fill(u64::MAX, &[(1, 1)]), Says("stale")),
+    (Cancel, Says("worn")),
+    (Ask(1, 0), Says("waiting")),
+    (Fill(4_194_303, &[(1, 1)]), Says("-")),
+    (Go, Says("-")),
+    (Go, Says("-")),
+    (Go, Says("-")),
+    (Go, Says("done")),
+    (Evict, Says("-")),
+    (Go, Says("evicted")),
+    (Fill(0, &[]), Says("not-asked")),
+    (Ask(1, 0), Sends(4_194_303)),
+    (Fill(4_194_303, &[(2, 2)]), Says("-")),
+    (Goes(3), Says("-")),
+    (Go, Says("done")),
+];
 
 #[test]
 fn the_last_number_cannot_be_cancelled(rt: HostRuntime) -> Result<(), Fail> {
-    let mut core = Core::open_with(rt.alloc(), &numbered(4_194_302, 1)).map_err(|_| "not opened")?;
+    let mut core = opened(rt.alloc(), &numbered(4_194_302))?;
     assert_eq!(rt; core.number(0), 4_194_302);
-    let lines = [
-        (Ask(1, 0), Sends(4_194_302)),
-        (Start(WriterCall::Cancel(0)), Says("-")),
-        (Go, Says("cancelled")),
-        (Start(WriterCall::Cancel(0)), Says("nothing")),
-        (Ask(1, 0), Sends(4_194_303)),
-        (fill_as(4_194_302, &[row(1, 1)])?, Says("stale")),
-        (fill_as(u64::MAX, &[row(1, 1)])?, Says("stale")),
-        (Start(WriterCall::Cancel(0)), Says("worn")),
-        (Ask(1, 0), Says("waiting")),
-        (fill_as(4_194_303, &[row(1, 1)])?, Says("-")),
-        (Go, Says("-")),
-        (Go, Says("-")),
-        (Go, Says("-")),
-        (Go, Says("done")),
-        (Start(WriterCall::Evict(0)), Says("-")),
-        (Go, Says("evicted")),
-        (fill_as(0, &[])?, Says("not-asked")),
-        (Ask(1, 0), Sends(4_194_303)),
-        (fill_as(4_194_303, &[row(2, 2)])?, Says("-")),
-    ];
-    runs(&rt, &mut core, &lines);
-    goes(&rt, &mut core, 3);
-    runs(&rt, &mut core, &[(Go, Says("done"))]);
+    runs(&rt, &mut core, WORN);
     Ok(())
-}
-
-/// A map of one key, 3 slots and one reader, whose key may have so many rows.
-fn roomy(alloc: Global, rows: u32) -> Result<Core, OpenFault> {
-    let shape = Shape {
-        rows,
-        ..numbered(0, 1)
-    };
-    Core::open_with(alloc, &shape)
 }
 
 /// The rows `1:0`, `2:0`, .. up to that number of them.
-fn counted(count: u64) -> Result<RowSet, Fail> {
-    let mut rows = [row(0, 0); 255];
-    for (a, row) in (1..=count).zip(rows.iter_mut()) {
+fn counted(count: u8) -> RowSet {
+    let mut rows = [row(0, 0); MAX_ROWS];
+    for (a, row) in (1..).zip(rows.iter_mut()) {
         row.a = a;
     }
-    let Some(some) = rows.get(..count as usize) else {
-        return Err("too many rows".into());
-    };
-    Ok(RowSet::of(some).map_err(|_| "too many rows")?)
+    RowSet::of(&rows[..usize::from(count)]).unwrap_or(RowSet::new())
 }
 
-/// Fills the key with so many rows, as many as it may have, and finds them; one more is too many.
-fn fills_to_the_bound(rt: &impl Abort, core: &mut Core, bound: u8) -> Result<(), Fail> {
-    let count = u64::from(bound);
-    let fill = WriterCall::Fill(0, 0, counted(count)?);
-    let asked = [(Ask(1, 0), Sends(0)), (Start(fill), Says("-"))];
-    runs(rt, core, &asked);
+/// Makes one step, which must be answered so.
+fn is_told(rt: &impl Abort, core: &mut Core, line: Line, told: Told) {
+    assert_eq!(rt; answer(core, &line), told);
+}
+
+/// Fills the key with so many rows, as many as it may have. One more is too many.
+fn fills_to_the_bound(rt: &impl Abort, core: &mut Core, bound: u8) {
     let puts = 2 * u32::from(bound) + 1;
-    goes(rt, core, puts);
-    runs(
+    is_told(rt, core, Ask(1, 0), Sends(0));
+    assert_eq!(rt;
+        started(core, &WriterCall::Fill(0, 0, counted(bound))),
+        Says("-")
+    );
+    is_told(rt, core, Goes(puts), Says("-"));
+    is_told(rt, core, Go, Says("done"));
+    is_told(rt, core, Plus(0, 0), Says("-"));
+    is_told(rt, core, Goes(puts - 1), Says("-"));
+    is_told(rt, core, Go, Says("too-many"));
+}
+
+/// Reads the first and the last words of a set that is as large as the bound.
+fn reads_to_the_bound(rt: &impl Abort, core: &mut Core, bound: u8) {
+    let count = u64::from(bound);
+    is_told(rt, core, Arrive(1, 0), Says("held"));
+    is_told(rt, core, Read(1, 0), Word(count));
+    is_told(
         rt,
         core,
-        &[(Go, Says("done")), (update(plus(0, 0))?, Says("-"))],
+        Read(1, (2 * count).saturating_sub(1)),
+        Word(count),
     );
-    goes(rt, core, puts - 1);
-    let read = [
-        (Go, Says("too-many")),
-        (Arrive(1, 0), Says("held")),
-        (Read(1, 0), Word(count)),
-        (Read(1, (2 * count).saturating_sub(1)), Word(count)),
-        (Read(1, 2 * count), Word(0)),
-        (Read(1, 2 * count + 1), Says("out-of-range")),
-        (Depart(1), Says("ok")),
-        (Start(WriterCall::Find(0)), Says("-")),
-    ];
-    runs(rt, core, &read);
-    goes(rt, core, puts - 1);
-    let rows = found(&core.go())?;
-    assert_eq!(rt; rows.len() as u64, count);
-    assert_eq!(rt; rows.get(0), Some(row(1, 0)));
-    assert_eq!(rt; rows.get(rows.len() - 1), Some(row(count, 0)));
-    Ok(())
+    is_told(rt, core, Read(1, 2 * count), Word(0));
+    is_told(rt, core, Read(1, 2 * count + 1), Says("out-of-range"));
+    is_told(rt, core, Depart(1), Says("ok"));
+}
+
+fn finds_to_the_bound(rt: &impl Abort, core: &mut Core, bound: u8) {
+    is_told(rt, core, Find(0), Says("-"));
+    is_told(rt, core, Goes(2 * u32::from(bound)), Says("-"));
+    finds(rt, core, &counted(bound));
 }
 
 #[test]
 fn a_key_has_rows_up_to_its_bound(rt: HostRuntime) -> Result<(), Fail> {
-    for rows in [0, 256] {
-        assert!(rt; matches!(&roomy(rt.alloc(), rows), Err(OpenFault::BadSize)));
-    }
     for rows in [1, 15, 16, 255] {
-        let mut core = roomy(rt.alloc(), u32::from(rows)).map_err(|_| "not opened")?;
+        let mut core = opened(rt.alloc(), &roomy(u32::from(rows)))?;
         assert_eq!(rt; core.rows(), u32::from(rows));
-        fills_to_the_bound(&rt, &mut core, rows)?;
+        fills_to_the_bound(&rt, &mut core, rows);
+        reads_to_the_bound(&rt, &mut core, rows);
+        finds_to_the_bound(&rt, &mut core, rows);
     }
     Ok(())
+}
+
+#[test]
+fn a_bound_of_rows_has_its_limits(rt: HostRuntime) {
+    for rows in [0, 256] {
+        assert!(rt; is_bad(rt.alloc(), &roomy(rows)), "{rows}");
+    }
 }

@@ -8,8 +8,6 @@ mod input;
 mod line;
 mod machine;
 mod output;
-#[cfg(test)]
-mod tests;
 
 pub use fault::RunFault;
 pub use input::INPUT_LIMIT;

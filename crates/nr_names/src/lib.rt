@@ -8,6 +8,3 @@ mod table;
 pub use faults::NameFault;
 pub use shared::Names;
 pub use table::NameTable;
-
-#[cfg(test)]
-mod refused_memory;

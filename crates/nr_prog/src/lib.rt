@@ -5,8 +5,6 @@
 mod program;
 mod report;
 mod task;
-#[cfg(test)]
-mod tests;
 
 pub use nr_lines::RunFault;
 pub use nr_schedule::{laws, run_steps};

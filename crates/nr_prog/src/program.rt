@@ -124,7 +124,7 @@ impl End {
 }
 
 /// The line that the program writes of a run's fault.
-pub(crate) fn line_of(fault: RunFault) -> &'static [u8]
+fn line_of(fault: RunFault) -> &'static [u8]
     ensures { result.now ≡ line_of fault }
 {
     match fault {
@@ -136,7 +136,7 @@ pub(crate) fn line_of(fault: RunFault) -> &'static [u8]
 }
 
 /// The line that the program writes of a load's fault.
-pub(crate) fn line_of_load(fault: LoadFault) -> &'static [u8]
+fn line_of_load(fault: LoadFault) -> &'static [u8]
     ensures { result.now ≡ line_of_load fault }
 {
     match fault {

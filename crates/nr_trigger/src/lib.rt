@@ -10,8 +10,6 @@
 pub mod laws;
 mod post;
 mod rule;
-#[cfg(test)]
-mod tests;
 mod tokens;
 mod trigger;
 mod triggers;

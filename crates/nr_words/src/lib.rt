@@ -9,8 +9,6 @@ mod layout;
 mod opening;
 mod row_pairs;
 mod set_words;
-#[cfg(test)]
-mod tests;
 
 pub use key_words::{ARRIVE, COUNTS, KeyParts, hole_word, key_word, naming, parts, same_count};
 pub use layout::Layout;

@@ -1,9 +1,7 @@
 //! Loads, and what the program tells of them.
-use super::arguments::program;
-use super::{Failing, Narrow};
-use crate::main_with;
-use crate::program::line_of_load;
-use nr_load::LoadFault;
+use crate::arguments::{arguments, assert_ends};
+use crate::streams::{Failing, Narrow};
+use nr_prog::main_with;
 use std::test::Fail;
 
 /// Words after `load`, and what is written of them.
@@ -19,7 +17,7 @@ const KEYS: &str = "nr: keys must be 1 to 65536\n";
 
 const GETS: &str = "nr: gets must be 0 to 1000000\n";
 
-const REPORTS: [Told; 5] = [
+const REPORTS: &[Told] = &[
     (
         &["load", "7", "4", "8", "100"],
         "gets 400\nanswered 400\nbalance ok\n",
@@ -42,7 +40,7 @@ const REPORTS: [Told; 5] = [
     ),
 ];
 
-const MISUSES: [Told; 28] = [
+const MISUSES: &[Told] = &[
     (&["load", "7", "0", "8", "100"], READERS),
     (&["load", "1", "1", "65537", "0"], KEYS),
     (&["load", "x", "0", "0", "0"], SEED),
@@ -74,55 +72,36 @@ const MISUSES: [Told; 28] = [
 ];
 
 #[test]
-fn a_load_is_reported(rt: HostRuntime) -> Result<(), Fail> {
+fn a_load_is_reported(rt: HostRuntime) {
     for (words, text) in REPORTS {
         let mut unread = Failing { bytes: b"" };
-        let (status, written) = program(&rt, words, &mut unread, usize::MAX)?;
-        assert_eq!(rt; written.as_slice(), text.as_bytes(), "{words:?}");
-        assert_eq!(rt; status, 0, "{words:?}");
+        assert_ends(&rt, words, &mut unread, usize::MAX, (0, text.as_bytes()));
     }
-    Ok(())
 }
 
 #[test]
-fn words_of_a_load_are_looked_at_in_order(rt: HostRuntime) -> Result<(), Fail> {
+fn words_of_a_load_are_looked_at_in_order(rt: HostRuntime) {
     for (words, line) in MISUSES {
         let mut unread = Failing { bytes: b"" };
-        let (status, written) = program(&rt, words, &mut unread, usize::MAX)?;
-        assert_eq!(rt; written.as_slice(), line.as_bytes(), "{words:?}");
-        assert_eq!(rt; status, 2, "{words:?}");
-    }
-    Ok(())
-}
-
-#[test]
-fn each_fault_of_a_load_has_its_line(rt: HostRuntime) {
-    let lines: [(LoadFault, &[u8]); 4] = [
-        (LoadFault::Memory, b"nr: no memory\n"),
-        (LoadFault::Thread, b"nr: a thread could not be started\n"),
-        (LoadFault::Barred, b"nr: a gate did not open\n"),
-        (LoadFault::WrongRows, b"nr: a get gave wrong rows\n"),
-    ];
-    for (fault, line) in lines {
-        assert_eq!(rt; line_of_load(fault), line);
+        assert_ends(&rt, words, &mut unread, usize::MAX, (2, line.as_bytes()));
     }
 }
 
+const SMALLEST: &[&str] = &["load", "1", "1", "1", "1"];
+
 #[test]
-fn a_report_that_can_not_be_written_is_a_fault(rt: HostRuntime) -> Result<(), Fail> {
-    let words = ["load", "1", "1", "1", "1"];
+fn a_report_that_can_not_be_written_is_a_fault(rt: HostRuntime) {
     let mut unread = Failing { bytes: b"" };
-    let (status, written) = program(&rt, &words, &mut unread, 0)?;
-    assert_eq!(rt; status, 1);
     let line: &[u8] = b"nr: the output could not be written\n";
-    assert_eq!(rt; written.as_slice(), line);
+    assert_ends(&rt, SMALLEST, &mut unread, 0, (1, line));
+}
 
+#[test]
+fn a_report_may_be_cut_anywhere(rt: HostRuntime) -> Result<(), Fail> {
     let text: &[u8] = b"gets 1\nanswered 1\nbalance ok\n";
-    let mut args = Vec::new(rt.alloc());
-    for word in words {
-        args.push(String::from_str(rt.alloc(), word)?)?;
-    }
+    let args = arguments(rt.alloc(), SMALLEST)?;
     for room in 0..text.len() {
+        let mut unread = Failing { bytes: b"" };
         let mut writer = Narrow {
             held: Vec::new(rt.alloc()),
             width: 1,

@@ -1,10 +1,11 @@
+//! Words, sets and layouts, with what they must be.
 ghost use Rattle.std.specs.Prelude.{◌<◌, ◌^◌};
 
-use super::{
+use nr_model::{MAX_ROWS, Row, RowSet};
+use nr_words::{
     ARRIVE, KeyParts, Layout, MAX_CONTENT_WORDS, decode, encode, hole_word, key_word, naming,
     opening_words, parts, same_count, word_at,
 };
-use nr_model::{Row, RowSet};
 use std::process::Abort;
 use std::test::Fail;
 
@@ -72,39 +73,61 @@ fn counts_wrap(rt: HostRuntime) {
 /// The content words of a slot with room for fifteen rows.
 const WORDS_OF_15: usize = 31;
 
-#[test]
-fn sets_lie_in_words(rt: HostRuntime) -> Result<(), Fail> {
-    let set = RowSet::of(&[row(7, 1), row(3, 9)]).map_err(|_| "too many rows")?;
-    let mut words = [u64::MAX; WORDS_OF_15];
-    encode(&set, &mut words);
-    let mut expected = [0; WORDS_OF_15];
-    expected[0] = 2;
-    expected[1] = 3;
-    expected[2] = 9;
-    expected[3] = 7;
-    expected[4] = 1;
-    assert_eq!(rt; words, expected);
-    let back = decode(&words).ok_or("no set")?;
-    assert_eq!(rt; back.len(), 2);
-    assert_eq!(rt; back.get(0), Some(row(3, 9)));
-    assert_eq!(rt; back.get(1), Some(row(7, 1)));
-    encode(&RowSet::new(), &mut words);
-    assert_eq!(rt; words, [0; WORDS_OF_15]);
-    assert_eq!(rt; decode(&words).ok_or("no set")?.len(), 0);
-    Ok(())
+/// The words of the rows `3:9` and `7:1` there.
+const TWO_ROWS: [u64; WORDS_OF_15] = [
+    2, 3, 9, 7, 1, 0, 0, 0, 0, 0, 0, 0, 0, 0, 0, 0, 0, 0, 0, 0, 0, 0, 0, 0, 0, 0, 0, 0, 0, 0, 0,
+];
+
+/// The same rows, but not in their order.
+const ROWS_IN_NO_ORDER: [u64; WORDS_OF_15] = [
+    2, 7, 1, 3, 9, 0, 0, 0, 0, 0, 0, 0, 0, 0, 0, 0, 0, 0, 0, 0, 0, 0, 0, 0, 0, 0, 0, 0, 0, 0, 0,
+];
+
+/// The set of the rows lies in these words, whatever stood there before, and comes back in order.
+fn assert_lies(rt: &impl Abort, rows: &[Row], ascending: &[Row], expected: &[u64]) {
+    let Ok(set) = RowSet::of(rows) else {
+        panic!(rt; "too many rows")
+    };
+    let mut room = [u64::MAX; MAX_CONTENT_WORDS];
+    let count = expected.len().min(MAX_CONTENT_WORDS);
+    assert!(rt; 2 * set.len() < count);
+    encode(&set, &mut room[..count]);
+    assert_eq!(rt; &room[..count], expected);
+    assert_spells(rt, expected, ascending);
+}
+
+/// The words spell the set of just these rows.
+fn assert_spells(rt: &impl Abort, words: &[u64], ascending: &[Row]) {
+    assert!(rt; words.len() <= MAX_CONTENT_WORDS);
+    let Some(set) = decode(words) else {
+        panic!(rt; "no set")
+    };
+    assert_eq!(rt; set.as_slice(), ascending);
 }
 
 #[test]
-fn each_word_of_a_set_is_found_alone(rt: HostRuntime) -> Result<(), Fail> {
-    let set = RowSet::of(&[row(7, 1), row(3, 9)]).map_err(|_| "too many rows")?;
-    let words = [2, 3, 9, 7, 1, 0, 0];
-    for (index, word) in words.iter().enumerate() {
+fn sets_lie_in_words(rt: HostRuntime) {
+    let ascending = [row(3, 9), row(7, 1)];
+    assert_lies(&rt, &[row(7, 1), row(3, 9)], &ascending, &TWO_ROWS);
+    assert_lies(&rt, &[], &[], &[0; WORDS_OF_15]);
+}
+
+#[test]
+fn one_row_fills_the_smallest_slot(rt: HostRuntime) {
+    assert_lies(&rt, &[row(3, 9)], &[row(3, 9)], &[1, 3, 9]);
+}
+
+#[test]
+fn each_word_of_a_set_is_found_alone(rt: HostRuntime) {
+    let Ok(set) = RowSet::of(&[row(7, 1), row(3, 9)]) else {
+        panic!(rt; "too many rows")
+    };
+    for (index, word) in TWO_ROWS.iter().enumerate() {
         assert_eq!(rt; word_at(&set, index), *word);
     }
     assert_eq!(rt; word_at(&set, 510), 0);
     assert_eq!(rt; word_at(&RowSet::new(), 0), 0);
     assert_eq!(rt; word_at(&RowSet::new(), 1), 0);
-    Ok(())
 }
 
 #[test]
@@ -112,55 +135,52 @@ fn words_that_spell_no_set(rt: HostRuntime) {
     let mut words = [0; WORDS_OF_15];
     words[0] = 16;
     assert!(rt; decode(&words).is_none());
-    words[0] = 2;
-    words[1] = 7;
-    words[2] = 1;
-    words[3] = 3;
-    words[4] = 9;
-    assert!(rt; decode(&words).is_none());
+    assert!(rt; decode(&ROWS_IN_NO_ORDER).is_none());
     assert!(rt; decode(&[2, 3, 9]).is_none());
     assert!(rt; decode(&[u64::MAX, 3, 9]).is_none());
 }
 
-#[test]
-fn the_largest_set_fills_the_largest_slot(rt: HostRuntime) -> Result<(), Fail> {
-    let mut rows = [row(0, 0); 255];
-    for (place, each) in rows.iter_mut().enumerate() {
-        *each = row(place as u64 + 1, 0);
+/// The rows `1:0`, `2:0`, .. `255:0`.
+fn most_rows() -> [Row; MAX_ROWS] {
+    let mut rows = [row(0, 0); MAX_ROWS];
+    for (a, row) in (1..).zip(rows.iter_mut()) {
+        row.a = a;
     }
-    let set = RowSet::of(&rows).map_err(|_| "too many rows")?;
-    assert_eq!(rt; MAX_CONTENT_WORDS, 511);
-    let mut words = [u64::MAX; MAX_CONTENT_WORDS];
-    encode(&set, &mut words);
-    for (index, word) in words.iter().enumerate() {
-        let expected = match index {
-            0 => 255,
-            _ if index % 2 == 1 => index as u64 / 2 + 1,
-            _ => 0,
-        };
-        assert_eq!(rt; *word, expected);
-        assert_eq!(rt; word_at(&set, index), expected);
+    rows
+}
+
+/// The words in which they lie.
+fn words_of_most_rows() -> [u64; MAX_CONTENT_WORDS] {
+    let mut words = [0; MAX_CONTENT_WORDS];
+    words[0] = 255;
+    for (a, word) in (1..).zip(words.iter_mut().skip(1).step_by(2)) {
+        *word = a;
     }
-    let back = decode(&words).ok_or("no set")?;
-    assert_eq!(rt; back.len(), 255);
-    for (place, each) in rows.iter().enumerate() {
-        assert_eq!(rt; back.get(place), Some(*each));
-    }
-    words[0] = 256;
-    assert!(rt; decode(&words).is_none());
-    Ok(())
+    words
 }
 
 #[test]
-fn one_row_fills_the_smallest_slot(rt: HostRuntime) -> Result<(), Fail> {
-    let set = RowSet::of(&[row(3, 9)]).map_err(|_| "too many rows")?;
-    let mut words = [u64::MAX; 3];
-    encode(&set, &mut words);
-    assert_eq!(rt; words, [1, 3, 9]);
-    let back = decode(&words).ok_or("no set")?;
-    assert_eq!(rt; back.len(), 1);
-    assert_eq!(rt; back.get(0), Some(row(3, 9)));
-    Ok(())
+fn the_largest_set_fills_the_largest_slot(rt: HostRuntime) {
+    let rows = most_rows();
+    assert_eq!(rt; (rows.len(), MAX_CONTENT_WORDS), (255, 511));
+    assert_lies(&rt, &rows, &rows, &words_of_most_rows());
+}
+
+#[test]
+fn each_word_of_the_largest_set_is_found_alone(rt: HostRuntime) {
+    let Ok(set) = RowSet::of(&most_rows()) else {
+        panic!(rt; "too many rows")
+    };
+    for (index, word) in words_of_most_rows().iter().enumerate() {
+        assert_eq!(rt; word_at(&set, index), *word);
+    }
+}
+
+#[test]
+fn more_rows_than_a_set_has_are_no_set(rt: HostRuntime) {
+    let mut words = words_of_most_rows();
+    words[0] = 256;
+    assert!(rt; decode(&words).is_none());
 }
 
 #[test]

@@ -1,4 +1,5 @@
-use crate::{Machine, RunFault, serve};
+//! What is served, read and written, by a machine with one answer.
+use nr_lines::{Machine, RunFault, serve};
 use std::alloc::Global;
 use std::cell::Cell;
 use std::io;

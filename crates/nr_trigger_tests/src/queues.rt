@@ -3,9 +3,9 @@
 //! (`rt try --test --fail-alloc N`, for each N from 1 on).
 ghost use Rattle.std.specs.Prelude.{◌≡◌, ◌<◌, ◌≤◌, ◌+◌, All, IfOk};
 
-use crate::{Poster, Taker, Triggers, Upquery};
 use nr_map::{Asked, Reader, ReaderMap, Ticket, Writer};
 use nr_model::OpenFault;
+use nr_trigger::{Poster, Taker, Triggers, Upquery};
 use std::alloc::Global;
 use std::process::Abort;
 use std::sync::Wait;
@@ -94,22 +94,36 @@ fn taken(rt: &impl Wait, triggers: &Triggers, taker: &mut Taker) -> Option<(u32,
     Some((key, number))
 }
 
+fn post_to_a_queue_of_one<R: Abort + Wait>(
+    rt: &R,
+    map: &ReaderMap,
+    triggers: &Triggers,
+    reader: &mut Reader,
+    poster: &mut Poster,
+    taker: &mut Taker,
+)
+    requires map { (reader.old.table ≡ map.now) × (map.now.shape.keys ≡ 2) }
+    requires poster { (poster.old.queue ≡ triggers.now.id) × (poster.old.keys ≡ 20) }
+    requires taker { taker.old.queue ≡ triggers.now.id }
+{
+    let first = sent(rt, map, reader, 0);
+    post_now(rt, triggers, poster, first);
+    let second = sent(rt, map, reader, 1);
+    let second = handed_back(rt, triggers, poster, second);
+    assert_eq!(rt; second.key(), 1);
+    assert_eq!(rt; taken(rt, triggers, taker), Some((0, 0)));
+    post_now(rt, triggers, poster, second);
+    assert_eq!(rt; taken(rt, triggers, taker), Some((1, 0)));
+    assert_eq!(rt; taken(rt, triggers, taker), None);
+}
+
 #[test]
 fn a_full_queue_hands_the_ticket_back(rt: HostRuntime) -> Result<(), Fail> {
     let (map, _writer, mut readers) = map_of(rt.alloc(), 2, 1)?;
     let (triggers, mut posters, mut taker) = queue_of(rt.alloc(), 1, 1)?;
-    let (Some(mut reader), Some(mut poster)) = (readers.pop(), posters.pop()) else {
-        return Ok(());
-    };
-    let first = sent(&rt, &map, &mut reader, 0);
-    post_now(&rt, &triggers, &mut poster, first);
-    let second = sent(&rt, &map, &mut reader, 1);
-    let second = handed_back(&rt, &triggers, &mut poster, second);
-    assert_eq!(rt; second.key(), 1);
-    assert_eq!(rt; taken(&rt, &triggers, &mut taker), Some((0, 0)));
-    post_now(&rt, &triggers, &mut poster, second);
-    assert_eq!(rt; taken(&rt, &triggers, &mut taker), Some((1, 0)));
-    assert_eq!(rt; taken(&rt, &triggers, &mut taker), None);
+    if let (Some(mut reader), Some(mut poster)) = (readers.pop(), posters.pop()) {
+        post_to_a_queue_of_one(&rt, &map, &triggers, &mut reader, &mut poster, &mut taker);
+    }
     Ok(())
 }
 
@@ -132,20 +146,26 @@ fn taken_at_once(triggers: &Triggers, taker: &mut Taker) -> Option<(u32, u64)>
     Some((trigger.into_key(), number))
 }
 
+fn try_a_queue_of_one(rt: &impl Abort, triggers: &Triggers, poster: &mut Poster, taker: &mut Taker)
+    requires poster { (poster.old.queue ≡ triggers.now.id) × (poster.old.keys ≡ 20) }
+    requires taker { taker.old.queue ≡ triggers.now.id }
+{
+    let first = Upquery { key: 3, number: 5 };
+    let second = Upquery { key: 4, number: 6 };
+    assert_eq!(rt; taken_at_once(triggers, taker), None);
+    assert!(rt; try_now(triggers, poster, first));
+    assert!(rt; !try_now(triggers, poster, second));
+    assert_eq!(rt; taken_at_once(triggers, taker), Some((3, 5)));
+    assert!(rt; try_now(triggers, poster, second));
+    assert_eq!(rt; taken_at_once(triggers, taker), Some((4, 6)));
+}
+
 #[test]
 fn one_attempt_posts_and_takes_where_nobody_is_in_the_way(rt: HostRuntime) -> Result<(), Fail> {
     let (triggers, mut posters, mut taker) = queue_of(rt.alloc(), 1, 1)?;
-    let Some(mut poster) = posters.pop() else {
-        return Ok(());
-    };
-    let first = Upquery { key: 3, number: 5 };
-    let second = Upquery { key: 4, number: 6 };
-    assert_eq!(rt; taken_at_once(&triggers, &mut taker), None);
-    assert!(rt; try_now(&triggers, &mut poster, first));
-    assert!(rt; !try_now(&triggers, &mut poster, second));
-    assert_eq!(rt; taken_at_once(&triggers, &mut taker), Some((3, 5)));
-    assert!(rt; try_now(&triggers, &mut poster, second));
-    assert_eq!(rt; taken_at_once(&triggers, &mut taker), Some((4, 6)));
+    if let Some(mut poster) = posters.pop() {
+        try_a_queue_of_one(&rt, &triggers, &mut poster, &mut taker);
+    }
     Ok(())
 }
 
@@ -278,17 +298,8 @@ fn all_at_once<R: Abort + Threads + Wait + Sync>(
     keys
 }
 
-#[test]
-fn each_ticket_comes_once_and_in_order(rt: HostRuntime) -> Result<(), Fail> {
-    let (map, _writer, mut readers) = map_of(rt.alloc(), 20, 2)?;
-    let (triggers, mut posters, taker) = queue_of(rt.alloc(), 3, 2)?;
-    let (Some(one), Some(two)) = (readers.pop(), readers.pop()) else {
-        return Ok(());
-    };
-    let (Some(first), Some(second)) = (posters.pop(), posters.pop()) else {
-        return Ok(());
-    };
-    let keys = all_at_once(&rt, &map, &triggers, (one, two), (first, second), taker);
+/// Each key below 20 came once, those below 10 in their order and the others in theirs.
+fn assert_in_order(rt: &impl Abort, keys: [u32; 20]) {
     let mut low = 0;
     let mut high = 10;
     for key in keys {
@@ -301,5 +312,18 @@ fn each_ticket_comes_once_and_in_order(rt: HostRuntime) -> Result<(), Fail> {
         }
     }
     assert_eq!(rt; (low, high), (10, 20));
+}
+
+#[test]
+fn each_ticket_comes_once_and_in_order(rt: HostRuntime) -> Result<(), Fail> {
+    let (map, _writer, mut readers) = map_of(rt.alloc(), 20, 2)?;
+    let (triggers, mut posters, taker) = queue_of(rt.alloc(), 3, 2)?;
+    let (Some(one), Some(two)) = (readers.pop(), readers.pop()) else {
+        return Ok(());
+    };
+    if let (Some(first), Some(second)) = (posters.pop(), posters.pop()) {
+        let keys = all_at_once(&rt, &map, &triggers, (one, two), (first, second), taker);
+        assert_in_order(&rt, keys);
+    }
     Ok(())
 }

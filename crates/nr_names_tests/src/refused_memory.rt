@@ -3,7 +3,7 @@
 ghost use Rattle.std.specs.Prelude.{◌<◌, ◌≤◌};
 ghost use Rattle.nr_names.specs.declared.table.TheConstants.{MAX_KEYS};
 
-use super::{NameFault, NameTable, Names};
+use nr_names::{NameFault, NameTable, Names};
 use std::alloc::Global;
 use std::process::Abort;
 use std::sync::Wait;

@@ -1,7 +1,8 @@
 //! Maps in one hand: what is answered where the slots run out, and what an opening's numbers do.
-use crate::{Alone, Answer, Refusal, Said as Told, WriterCall};
+use nr_alone::{Alone, Answer, Refusal, Said as Told, WriterCall};
 use nr_map::Shape;
 use nr_model::{Batch, Delta, Row, RowSet};
+use std::process::Abort;
 use std::test::Fail;
 
 /// What is called, by a reader at a place or by the writer, of one key. Each set has one row.
@@ -140,11 +141,20 @@ fn answer(map: &mut Alone, key: u32, line: Line) -> Said {
     }
 }
 
-/// Whether each line is answered so.
-fn is_answered(map: &mut Alone, lines: Lines) -> bool {
+/// The first line that is answered otherwise.
+fn first_wrong(map: &mut Alone, lines: Lines) -> Option<usize> {
     lines
         .iter()
-        .all(|(key, line, said)| answer(map, *key, *line) == *said)
+        .position(|(key, line, said)| answer(map, *key, *line) != *said)
+}
+
+/// Makes the calls on a new map, each of which must be answered so.
+fn runs(rt: &(impl Abort + AllocGlobal), shape: &Shape, lines: Lines) -> Result<(), Fail> {
+    let mut map = Alone::open(rt.alloc(), shape)?;
+    let wrong = first_wrong(&mut map, lines);
+    map.close();
+    assert_eq!(rt; wrong, None);
+    Ok(())
 }
 
 fn shape(keys: u32, slots: u32, readers: u32) -> Shape {
@@ -173,11 +183,7 @@ const FULL: Lines = &[
 
 #[test]
 fn a_full_map_has_no_slot_until_a_key_is_evicted(rt: HostRuntime) -> Result<(), Fail> {
-    let mut map = Alone::open(rt.alloc(), &shape(2, 1, 1))?;
-    let answered = is_answered(&mut map, FULL);
-    map.close();
-    assert!(rt; answered);
-    Ok(())
+    runs(&rt, &shape(2, 1, 1), FULL)
 }
 
 // Readers 0 and 2 pin the same set, which leaves its key and takes a slot until the last of them unpins it.
@@ -207,11 +213,7 @@ const STRAY: Lines = &[
 
 #[test]
 fn a_stray_takes_one_slot_until_its_last_unpin(rt: HostRuntime) -> Result<(), Fail> {
-    let mut map = Alone::open(rt.alloc(), &shape(2, 2, 3))?;
-    let answered = is_answered(&mut map, STRAY);
-    map.close();
-    assert!(rt; answered);
-    Ok(())
+    runs(&rt, &shape(2, 2, 3), STRAY)
 }
 
 // Equal rows that were put at different times count apart.
@@ -231,11 +233,7 @@ const APART: Lines = &[
 
 #[test]
 fn sets_of_equal_rows_count_apart(rt: HostRuntime) -> Result<(), Fail> {
-    let mut map = Alone::open(rt.alloc(), &shape(1, 3, 2))?;
-    let answered = is_answered(&mut map, APART);
-    map.close();
-    assert!(rt; answered);
-    Ok(())
+    runs(&rt, &shape(1, 3, 2), APART)
 }
 
 const NUMBERS: Lines = &[
@@ -254,11 +252,7 @@ const NUMBERS: Lines = &[
 fn requests_have_the_numbers_of_the_opening(rt: HostRuntime) -> Result<(), Fail> {
     let mut numbered = shape(1, 3, 1);
     numbered.first_number = 4_194_302;
-    let mut map = Alone::open(rt.alloc(), &numbered)?;
-    let answered = is_answered(&mut map, NUMBERS);
-    map.close();
-    assert!(rt; answered);
-    Ok(())
+    runs(&rt, &numbered, NUMBERS)
 }
 
 const HOLES: Lines = &[
@@ -271,9 +265,5 @@ const HOLES: Lines = &[
 
 #[test]
 fn a_map_has_all_its_readers_and_keys(rt: HostRuntime) -> Result<(), Fail> {
-    let mut map = Alone::open(rt.alloc(), &shape(65_536, 1, 1_024))?;
-    let answered = is_answered(&mut map, HOLES);
-    map.close();
-    assert!(rt; answered);
-    Ok(())
+    runs(&rt, &shape(65_536, 1, 1_024), HOLES)
 }

@@ -2,34 +2,46 @@
 use std::alloc::{AllocError, Global};
 use std::io;
 use std::io::{ErrorKind, Read, Write};
+use std::process::Abort;
 
-mod arguments;
-mod loads;
-mod schedules;
-mod scripts;
-
-/// Lines, each with its reply.
-type Lines = &'static [(&'static str, &'static str)];
+/// Lines, each with a bar and its reply. A table of pairs takes long to prove.
+pub(crate) type Lines = &'static str;
 
 /// The lines, each ended by a line feed, and their replies.
+pub(crate) fn spelled(rt: &(impl Abort + AllocGlobal), lines: Lines) -> (Vec<u8>, Vec<u8>) {
+    match input_and_text(rt.alloc(), lines) {
+        Ok(both) => both,
+        Err(_) => panic!(rt; "no memory"),
+    }
+}
+
 fn input_and_text(alloc: Global, lines: Lines) -> Result<(Vec<u8>, Vec<u8>), AllocError> {
     let mut input = Vec::new(alloc);
     let mut text = Vec::new(alloc);
-    for (line, reply) in lines {
-        input.extend_from_slice(line.as_bytes())?;
-        input.push(b'\n')?;
-        text.extend_from_slice(reply.as_bytes())?;
-        text.push(b'\n')?;
+    let mut is_reply = false;
+    for byte in lines.as_bytes() {
+        match byte {
+            b'|' => {
+                input.push(b'\n')?;
+                is_reply = true;
+            }
+            b'\n' => {
+                text.push(b'\n')?;
+                is_reply = false;
+            }
+            _ if is_reply => text.push(*byte)?,
+            _ => input.push(*byte)?,
+        }
     }
     Ok((input, text))
 }
 
 /// Gives its bytes one at a time, and fails at one call.
 #[derive(Drop)]
-struct Dripping<'a> {
-    bytes: &'a [u8],
-    calls: usize,
-    fails_at: usize,
+pub(crate) struct Dripping<'a> {
+    pub(crate) bytes: &'a [u8],
+    pub(crate) calls: usize,
+    pub(crate) fails_at: usize,
 }
 
 impl Read for Dripping<'_> {
@@ -49,10 +61,10 @@ impl Read for Dripping<'_> {
 
 /// Takes at most some bytes a call, and fails once it holds so many.
 #[derive(Drop)]
-struct Narrow {
-    held: Vec<u8>,
-    width: usize,
-    room: usize,
+pub(crate) struct Narrow {
+    pub(crate) held: Vec<u8>,
+    pub(crate) width: usize,
+    pub(crate) room: usize,
 }
 
 impl Write for Narrow {
@@ -76,8 +88,8 @@ impl Write for Narrow {
 
 /// Gives its bytes, and then fails.
 #[derive(Drop)]
-struct Failing<'a> {
-    bytes: &'a [u8],
+pub(crate) struct Failing<'a> {
+    pub(crate) bytes: &'a [u8],
 }
 
 impl Read for Failing<'_> {

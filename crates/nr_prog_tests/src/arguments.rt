@@ -1,0 +1,133 @@
+//! What the program does with its arguments, and what it tells of a fault.
+use crate::schedules::COUNTS_WRAP;
+use crate::streams::{Dripping, Failing, spelled};
+use nr_prog::main_with;
+use std::alloc::{AllocError, Global};
+use std::io;
+use std::io::{ErrorKind, Read, Write};
+use std::process::Abort;
+use std::sync::Wait;
+use std::thread::Threads;
+
+/// Takes all bytes at each call but one, which fails.
+#[derive(Drop)]
+struct Tripping {
+    held: Vec<u8>,
+    calls: usize,
+    fails_at: usize,
+}
+
+impl Write for Tripping {
+    fn write(&mut self, buf: &[u8]) -> io::Result<usize> {
+        let call = self.calls;
+        self.calls = self.calls.saturating_add(1);
+        if call == self.fails_at {
+            return Err(ErrorKind::BrokenPipe.into());
+        }
+        self.held.extend_from_slice(buf)?;
+        Ok(buf.len())
+    }
+
+    fn flush(&mut self) -> io::Result<()> {
+        Ok(())
+    }
+}
+
+pub(crate) fn arguments(alloc: Global, words: &[&str]) -> Result<Vec<String>, AllocError> {
+    let mut args = Vec::new(alloc);
+    for word in words {
+        args.push(String::from_str(alloc, word)?)?;
+    }
+    Ok(args)
+}
+
+/// The program with these words, whose write of that number fails, ends with this status, and has
+/// written this text.
+pub(crate) fn assert_ends<T: Threads + Wait + Sync + AllocGlobal + Abort, R: Read>(
+    rt: &T,
+    words: &[&str],
+    reader: &mut R,
+    fails_at: usize,
+    (status, text): (u8, &[u8]),
+) {
+    let Ok(args) = arguments(rt.alloc(), words) else {
+        panic!(rt; "no memory for {words:?}")
+    };
+    let mut writer = Tripping {
+        held: Vec::new(rt.alloc()),
+        calls: 0,
+        fails_at,
+    };
+    let got = main_with(rt, rt.alloc(), args.as_slice(), reader, &mut writer);
+    assert_eq!(rt; writer.held.as_slice(), text, "{words:?}");
+    assert_eq!(rt; got, status, "{words:?}");
+}
+
+const TWO_LINES: &[u8] = b"find 1 0\nfind 1 0\n";
+
+#[test]
+fn the_program_answers_its_lines(rt: HostRuntime) {
+    let mut whole = TWO_LINES;
+    let text: &[u8] = b"closed\nclosed\n";
+    assert_ends(&rt, &[], &mut whole, usize::MAX, (0, text));
+}
+
+#[test]
+fn a_failed_read_is_told(rt: HostRuntime) {
+    let mut failing = Dripping {
+        bytes: TWO_LINES,
+        calls: 0,
+        fails_at: 12,
+    };
+    let text: &[u8] = b"closed\nnr: the input could not be read\n";
+    assert_ends(&rt, &[], &mut failing, usize::MAX, (1, text));
+}
+
+#[test]
+fn a_failed_write_is_told(rt: HostRuntime) {
+    let mut whole = TWO_LINES;
+    let text: &[u8] = b"closed\nnr: the output could not be written\n";
+    assert_ends(&rt, &[], &mut whole, 1, (1, text));
+}
+
+const USAGE: &[u8] = b"nr: usage: nr, nr steps, nr load SEED READERS KEYS GETS\n";
+
+#[test]
+fn the_program_tells_its_usage(rt: HostRuntime) {
+    for word in ["load", "", "step", "x"] {
+        let mut unread = Failing { bytes: b"" };
+        assert_ends(&rt, &[word], &mut unread, usize::MAX, (2, USAGE));
+    }
+}
+
+#[test]
+fn the_program_takes_steps_once(rt: HostRuntime) {
+    let mut unread = Failing { bytes: b"" };
+    assert_ends(
+        &rt,
+        &["steps", "steps"],
+        &mut unread,
+        usize::MAX,
+        (2, USAGE),
+    );
+}
+
+#[test]
+fn the_program_runs_a_schedule(rt: HostRuntime) {
+    let (input, text) = spelled(&rt, COUNTS_WRAP);
+    let mut reader = input.as_slice();
+    assert_ends(
+        &rt,
+        &["steps"],
+        &mut reader,
+        usize::MAX,
+        (0, text.as_slice()),
+    );
+}
+
+#[test]
+fn a_failed_read_of_a_schedule_is_told(rt: HostRuntime) {
+    let mut cut = Failing { bytes: b"go\ngo" };
+    let text: &[u8] = b"closed\nnr: the input could not be read\n";
+    assert_ends(&rt, &["steps"], &mut cut, usize::MAX, (1, text));
+}

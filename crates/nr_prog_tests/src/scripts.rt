@@ -1,0 +1,526 @@
+//! Scripts, and the replies that their lines must get.
+use crate::streams::{Dripping, Lines, Narrow, spelled};
+use nr_prog::{RunFault, replies, run};
+use std::alloc::{AllocError, Global};
+use std::process::Abort;
+
+const EMPTY_INPUT: Lines = "";
+
+const FIRST_PATH: Lines = "open 2 3 1|ok
+find 1 0|hole
+ask 1 0|send
+ask 1 0|waiting
+fill 0 7:1 3:9|done
+find 1 0|rows 3:9 7:1
+";
+
+const UNASKED_KEYS_TAKE_NOTHING: Lines = "open 1 2 1|ok
+fill 0 1:1|not-asked
+update 0 +1:1|dropped
+ask 1 0|send
+update 0 +1:1|dropped
+evict 0|nothing
+ask 1 0|waiting
+";
+
+const BATCHES_APPLY_WHOLE: Lines = "open 1 3 1|ok
+ask 1 0|send
+fill 0 5:5 5:5|done
+update 0 -5:5 +6:0|done
+find 1 0|rows 5:5 6:0
+update 0 +9:9 -8:8|no-row
+find 1 0|rows 5:5 6:0
+";
+
+const EMPTY_SET_IS_NO_HOLE: Lines = "open 1 3 1|ok
+ask 1 0|send
+fill 0|done
+find 1 0|rows
+";
+
+const FIFTEEN_ROWS_FIT: Lines = "open 1 3 1|ok
+ask 1 0|send
+fill 0 1:1 2:1 3:1 4:1 5:1 6:1 7:1 8:1 9:1 10:1 11:1 12:1 13:1 14:1 15:1 16:1|too-many
+fill 0 1:1 2:1 3:1 4:1 5:1 6:1 7:1 8:1 9:1 10:1 11:1 12:1 13:1 14:1 15:1|done
+update 0 +1:1|too-many
+update 0 +1:1 -2:1|done
+find 1 0|rows 1:1 1:1 3:1 4:1 5:1 6:1 7:1 8:1 9:1 10:1 11:1 12:1 13:1 14:1 15:1
+";
+
+const EVICTED_KEY_IS_ASKED_ANEW: Lines = "open 1 3 1|ok
+ask 1 0|send
+fill 0 1:1|done
+ask 1 0|filled
+fill 0 1:1|already
+evict 0|evicted
+find 1 0|hole
+ask 1 0|send
+";
+
+const PINNED_SET_KEEPS_ITS_SLOT: Lines = "open 1 2 1|ok
+ask 1 0|send
+fill 0 1:1|done
+pin 1 0|ok
+update 0 +2:2|done
+update 0 +3:3|no-slot
+show 1|rows 1:1
+look 0|rows 1:1 2:2
+unpin 1|ok
+update 0 +3:3|done
+find 1 0|rows 1:1 2:2 3:3
+";
+
+const ONE_SLOT_MORE_IS_USED_AGAIN: Lines = "open 1 3 1|ok
+ask 1 0|send
+fill 0 1:1|done
+pin 1 0|ok
+update 0 +2:2|done
+update 0 +3:3|done
+update 0 +4:4|done
+show 1|rows 1:1
+";
+
+const REFUSALS_OF_LINES: Lines = "find 1 0|closed
+open 2 3 1|ok
+find 1 18446744073709551616|bad
+find 1 2|no-key
+find 2 0|no-reader
+find 2 9|no-reader
+find 01 00|hole
+|bad
+ask 1 0|send
+fill 0|done
+pin 1 0|ok
+find 1 0|holding
+open 1 1 1|bad
+unpin 1|ok
+unpin 1|not-holding
+";
+
+const SLOTS_RUN_OUT: Lines = "open 0 1 1|bad
+open 65537 1 1|bad
+open 2 1 1|ok
+ask 1 0|send
+ask 1 1|send
+fill 0 18446744073709551615:0|done
+fill 1 1:1|no-slot
+evict 0|evicted
+fill 1 1:1|done
+find 1 1|rows 1:1
+";
+
+const AN_EVICTION_GIVES_ITS_SLOT_BACK: Lines = "open 2 1 1|ok
+ask 1 0|send
+ask 1 1|send
+fill 0|done
+fill 1 1:1|no-slot
+evict 0|evicted
+fill 0 2:2|not-asked
+find 1 0|hole
+";
+
+const TWO_PINS_OF_ONE_SET_COUNT_ONCE: Lines = "open 1 2 2|ok
+ask 1 0|send
+fill 0 1:1|done
+pin 1 0|ok
+pin 2 0|ok
+update 0 +2:2|done
+update 0 -2:2|no-slot
+unpin 1|ok
+update 0 -2:2|no-slot
+unpin 2|ok
+update 0 -2:2|done
+look 0|rows 1:1
+";
+
+const EQUAL_SETS_PUT_TWICE_COUNT_APART: Lines = "open 1 3 2|ok
+ask 1 0|send
+fill 0 1:1|done
+pin 1 0|ok
+evict 0|evicted
+ask 2 0|send
+fill 0 1:1|done
+pin 2 0|ok
+update 0 +2:2|done
+update 0 +3:3|no-slot
+unpin 1|ok
+update 0 +3:3|done
+show 2|rows 1:1
+";
+
+const NO_SLOT_COMES_LAST: Lines = "open 2 1 1|ok
+ask 1 0|send
+fill 0 4:4|done
+fill 0 5:5|already
+fill 1 5:5|not-asked
+update 1 +5:5|dropped
+update 0 -9:9|no-row
+update 0 -7:7 +7:7|no-slot
+update 0 +1:1 +1:1 +1:1 +1:1 +1:1 +1:1 +1:1 +1:1 +1:1 +1:1 +1:1 +1:1 +1:1 +1:1 +1:1|too-many
+look 0|rows 4:4
+";
+
+const REFUSALS_IN_THEIR_ORDER: Lines = "find 9 apple|closed
+find 9 18446744073709551616|closed
+fill 0 1|bad
+cancel 0|closed
+fill-as 0 0|closed
+open 1 0 1|bad
+open 1 131073 1|bad
+open 1 1 0|bad
+open 1 1 1025|bad
+open 1 1|bad
+open 1 1 1 0 4194304|bad
+open 1 1 1 0 0 0 0|bad
+show 1|closed
+open 65536 131072 1024 18446744073709551615|ok
+open 1 1 1|bad
+find 0 65536|no-reader
+find 1025 65536|no-reader
+find 1024 65536|no-key
+find 0 apple|bad
+find 1 65535|hole
+fill 65536 1:1 1:1 1:1 1:1 1:1 1:1 1:1 1:1 1:1 1:1 1:1 1:1 1:1 1:1 1:1 1:1|no-key
+pin 1 0|hole
+ask 1 0|send
+fill 0 1:1|done
+pin 1 0|ok
+pin 1 65536|no-key
+pin 1 0|holding
+ask 1 0|holding
+find 1 0|holding
+look 0|rows 1:1
+show 1025|no-reader
+show 2|not-holding
+unpin 2|not-holding
+unpin 0|no-reader
+";
+
+const WORDS_OF_LINES: Lines = " open 1 1 1|bad
+open 1 1 1 |bad
+open  1 1 1|bad
+open\t1 1 1|bad
+open +1 1 1|bad
+open 1 1 1\r|bad
+Open 1 1 1|bad
+open 00000000000000000001 1 1|ok
+find 000000000000000000001 0|bad
+ask 1 0|send
+fill 0 1|bad
+fill 0 1:|bad
+fill 0 :1|bad
+fill 0 1:1:1|bad
+fill 0 +1:1|bad
+fill 0 18446744073709551616:0|bad
+fill 0 007:00|done
+look 0|rows 7:0
+update 0|bad
+update 0 1:1|bad
+update 0 + 1:1|bad
+update 0 +1|bad
+update 0 -7:0 +7:0|no-slot
+evict 0 0|bad
+look|bad
+";
+
+const NAMED_KEYS: Lines = "open-named 2 3 1|ok
+ask 2 x|no-reader
+ask 1 y|send
+fill z 1:1 2:1 3:1 4:1 5:1 6:1 7:1 8:1 9:1 10:1 11:1 12:1 13:1 14:1 15:1 16:1|too-many
+find 1 x|full
+find 1 z|hole
+";
+
+const A_LONG_NAME_IS_REFUSED: Lines = "open-named 1 2 1|ok
+find 1 apple|hole
+ask 1 pear|full
+ask 1 apple|send
+fill apple 1:2|done
+find 1 apple|rows 1:2
+evict aaaaaaaaaaaaaaaaaaaaaaaaaaaaaaaaaaaaaaaaaaaaaaaaaaaaaaaaaaaaaaaaaaaaaaaaaaaaaaaaaaaaaaaaaaaaaaaaaaaaaaaaaaaaaaaaaaaaaaaaaaaaaaaaaaaaaaaaaaaaaaaaaaaaaaaaaaaaaaaaaaaaaaaaaaaaaaaaaaaaaaaaaaaaaaaaaaaaaaaaaaaaaaaaaaaaaaaaaaaaaaaaaaaaaaaaaaaaaaaaaaaaaaaaaaaaaaaa|too-long
+";
+
+const A_REFUSED_LINE_KEEPS_ITS_NAME: Lines = "find 1 z|closed
+open-named 3 3 1 7|ok
+find 2 b|no-reader
+ask 1 a|send
+fill a 1:1|done
+pin 1 a|ok
+find 1 b|holding
+unpin 1|ok
+evict 0|nothing
+evict c|full
+update +1:1 +2:2|full
+update b 1:1|bad
+evict b|nothing
+evict a|evicted
+open-named 1 1 1|bad
+";
+
+const A_CANCELLED_REQUEST_IS_ASKED_ANEW: Lines = "open 1 3 1 0 4194302|ok
+ask 1 0|send
+cancel 0|cancelled
+cancel 0|nothing
+ask 1 0|send
+fill-as 0 4194302 1:1|stale
+cancel 0|worn
+ask 1 0|waiting
+fill-as 0 4194303 1:1|done
+evict 0|evicted
+fill-as 0 0|not-asked
+ask 1 0|send
+fill 0 2:2|done
+";
+
+const A_LATE_FILL_IS_STALE: Lines = "open-named 2 1 1 0 0|ok
+cancel a 0|bad
+cancel|bad
+fill-as a|bad
+fill-as a x|bad
+fill-as a 18446744073709551616|bad
+fill-as a 0 1:1 2:1 3:1 4:1 5:1 6:1 7:1 8:1 9:1 10:1 11:1 12:1 13:1 14:1 15:1 16:1|too-many
+fill-as a 9 1:1|not-asked
+cancel b|nothing
+cancel c|full
+ask 1 a|send
+fill-as a 18446744073709551615 1:1|stale
+fill-as a 4194304 1:1|stale
+fill-as a 0 1:1|done
+fill-as a 9 1:1|already
+cancel a|nothing
+ask 1 b|send
+fill-as b 1 2:2|stale
+fill-as b 0 2:2|no-slot
+cancel b|cancelled
+fill b 2:2|not-asked
+look a|rows 1:1
+";
+
+const A_KEY_HAS_THE_ROWS_OF_ITS_OPENING: Lines = "open 1 3 1 0 0 256|bad
+open 1 3 1 0 0 0|bad
+open 1 3 1 0 0 2|ok
+ask 1 0|send
+fill 0 1:1 2:2 3:3|too-many
+fill 0 1:1 2:2|done
+update 0 +3:3|too-many
+update 0 +3:3 -1:1|done
+find 1 0|rows 2:2 3:3
+";
+
+const SCRIPTS: [Lines; 23] = [
+    EMPTY_INPUT,
+    FIRST_PATH,
+    UNASKED_KEYS_TAKE_NOTHING,
+    BATCHES_APPLY_WHOLE,
+    EMPTY_SET_IS_NO_HOLE,
+    FIFTEEN_ROWS_FIT,
+    EVICTED_KEY_IS_ASKED_ANEW,
+    PINNED_SET_KEEPS_ITS_SLOT,
+    ONE_SLOT_MORE_IS_USED_AGAIN,
+    REFUSALS_OF_LINES,
+    SLOTS_RUN_OUT,
+    AN_EVICTION_GIVES_ITS_SLOT_BACK,
+    TWO_PINS_OF_ONE_SET_COUNT_ONCE,
+    EQUAL_SETS_PUT_TWICE_COUNT_APART,
+    NO_SLOT_COMES_LAST,
+    REFUSALS_IN_THEIR_ORDER,
+    WORDS_OF_LINES,
+    NAMED_KEYS,
+    A_LONG_NAME_IS_REFUSED,
+    A_REFUSED_LINE_KEEPS_ITS_NAME,
+    A_CANCELLED_REQUEST_IS_ASKED_ANEW,
+    A_LATE_FILL_IS_STALE,
+    A_KEY_HAS_THE_ROWS_OF_ITS_OPENING,
+];
+
+/// Those that are cut at each byte, which takes a run a byte.
+const CUT_SCRIPTS: [Lines; 2] = [FIRST_PATH, PINNED_SET_KEEPS_ITS_SLOT];
+
+/// The front of a text that answers as many lines as the input's front has ended.
+fn answered<'a>(input: &[u8], text: &'a [u8]) -> &'a [u8] {
+    let mut lines = input.iter().filter(|b| **b == b'\n').count();
+    for (i, b) in text.iter().enumerate() {
+        if lines == 0 {
+            return &text[..i];
+        }
+        if *b == b'\n' {
+            lines -= 1;
+        }
+    }
+    text
+}
+
+/// The script of these bytes has this text.
+fn assert_replies(rt: &(impl Abort + AllocGlobal), input: &[u8], text: &[u8]) {
+    let Ok(written) = replies(rt.alloc(), input) else {
+        panic!(rt; "no replies")
+    };
+    assert_eq!(rt; written.as_slice(), text);
+}
+
+fn assert_answered(rt: &(impl Abort + AllocGlobal), script: Lines) {
+    let (input, text) = spelled(rt, script);
+    assert_replies(rt, input.as_slice(), text.as_slice());
+}
+
+#[test]
+fn scripts_are_answered(rt: HostRuntime) {
+    for script in SCRIPTS {
+        assert_answered(&rt, script);
+    }
+}
+
+/// A script whose last line isn't empty is answered also without its last line feed.
+fn assert_needs_no_feed(rt: &(impl Abort + AllocGlobal), script: Lines) {
+    let (input, text) = spelled(rt, script);
+    if let [cut @ .., _] = input.as_slice() {
+        let ends_empty = cut.is_empty() || cut.ends_with(b"\n");
+        if !ends_empty {
+            assert_replies(rt, cut, text.as_slice());
+        }
+    }
+}
+
+#[test]
+fn a_last_line_needs_no_feed(rt: HostRuntime) {
+    for script in SCRIPTS {
+        assert_needs_no_feed(&rt, script);
+    }
+}
+
+/// The run over these bytes, which come one at a time until a call fails, is answered so.
+fn assert_drips(
+    rt: &(impl Abort + AllocGlobal),
+    bytes: &[u8],
+    fails_at: usize,
+    end: Result<(), RunFault>,
+    text: &[u8],
+) {
+    let mut reader = Dripping {
+        bytes,
+        calls: 0,
+        fails_at,
+    };
+    let mut writer = Narrow {
+        held: Vec::new(rt.alloc()),
+        width: 1,
+        room: usize::MAX,
+    };
+    let ended = run(rt.alloc(), &mut reader, &mut writer);
+    assert_eq!(rt; ended, end, "at {fails_at}");
+    assert_eq!(rt; writer.held.as_slice(), text, "at {fails_at}");
+}
+
+fn assert_drips_whole(rt: &(impl Abort + AllocGlobal), script: Lines) {
+    let (input, text) = spelled(rt, script);
+    assert_drips(rt, input.as_slice(), usize::MAX, Ok(()), text.as_slice());
+}
+
+#[test]
+fn bytes_may_come_and_go_one_by_one(rt: HostRuntime) {
+    for script in SCRIPTS {
+        assert_drips_whole(&rt, script);
+    }
+}
+
+fn assert_reads_may_fail(rt: &(impl Abort + AllocGlobal), bytes: &[u8], text: &[u8]) {
+    for fails_at in 0..=bytes.len() {
+        let whole = answered(&bytes[..fails_at], text);
+        assert_drips(rt, bytes, fails_at, Err(RunFault::Read), whole);
+    }
+}
+
+#[test]
+fn a_read_that_fails_ends_the_run(rt: HostRuntime) {
+    for script in CUT_SCRIPTS {
+        let (input, text) = spelled(&rt, script);
+        assert_reads_may_fail(&rt, input.as_slice(), text.as_slice());
+    }
+}
+
+#[test]
+fn a_line_that_is_cut_is_not_answered(rt: HostRuntime) {
+    let (input, _) = spelled(&rt, FIRST_PATH);
+    let fails_at = input.len().saturating_sub(4);
+    let five_lines: &[u8] = b"ok\nhole\nsend\nwaiting\ndone\n";
+    assert_drips(
+        &rt,
+        input.as_slice(),
+        fails_at,
+        Err(RunFault::Read),
+        five_lines,
+    );
+}
+
+/// The run with a writer that takes so many bytes at a call, and fails once it holds so many, ends by
+/// that fault, with a beginning of the text written.
+fn assert_cut(
+    rt: &(impl Abort + AllocGlobal),
+    input: &[u8],
+    width: usize,
+    room: usize,
+    written: &[u8],
+) {
+    let mut reader = input;
+    let mut writer = Narrow {
+        held: Vec::new(rt.alloc()),
+        width,
+        room,
+    };
+    let ended = run(rt.alloc(), &mut reader, &mut writer);
+    assert_eq!(rt; ended, Err(RunFault::Write), "at {room}");
+    assert_eq!(rt; writer.held.as_slice(), written, "at {room}");
+}
+
+fn assert_writes_may_fail(rt: &(impl Abort + AllocGlobal), input: &[u8], text: &[u8]) {
+    for room in 0..text.len() {
+        assert_cut(rt, input, 1, room, &text[..room]);
+    }
+}
+
+#[test]
+fn a_write_that_fails_ends_the_run(rt: HostRuntime) {
+    for script in CUT_SCRIPTS {
+        let (input, text) = spelled(&rt, script);
+        assert_writes_may_fail(&rt, input.as_slice(), text.as_slice());
+    }
+}
+
+#[test]
+fn a_write_of_no_bytes_is_a_fault(rt: HostRuntime) {
+    assert_cut(&rt, b"find 1 0\n", 0, usize::MAX, b"");
+}
+
+/// A find whose line has so many bytes.
+fn long_line(alloc: Global, bytes: usize) -> Result<Vec<u8>, AllocError> {
+    let mut line = Vec::new(alloc);
+    line.extend_from_slice(b"find 1 ")?;
+    for _ in 7..bytes {
+        line.push(b'a')?;
+    }
+    Ok(line)
+}
+
+/// A line of so many bytes is answered so alone, and so where another follows it.
+fn assert_long(rt: &(impl Abort + AllocGlobal), bytes: usize, alone: &[u8], followed: &[u8]) {
+    let Ok(mut input) = long_line(rt.alloc(), bytes) else {
+        panic!(rt; "no memory")
+    };
+    assert_replies(rt, input.as_slice(), alone);
+    assert!(rt; input.extend_from_slice(b"\nfind 1 a").is_ok());
+    assert_replies(rt, input.as_slice(), followed);
+}
+
+#[test]
+fn a_line_may_have_4096_bytes(rt: HostRuntime) {
+    assert_long(&rt, 4096, b"closed\n", b"closed\nclosed\n");
+    assert_long(&rt, 4097, b"bad\n", b"bad\nclosed\n");
+    assert_long(&rt, 9000, b"bad\n", b"bad\nclosed\n");
+}
+
+#[test]
+fn bytes_outside_print_are_bad(rt: HostRuntime) {
+    let input: &[u8] = b"find 1 ~\nfind 1 \x7f\nfind 1 \x1f\nfind 1 \xc3\xa9\n\0\n";
+    let text: &[u8] = b"closed\nbad\nbad\nbad\nbad\n";
+    assert_replies(&rt, input, text);
+}

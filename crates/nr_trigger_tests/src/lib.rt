@@ -1,0 +1,5 @@
+//! Tests of the tickets' way to the dataflow, by public calls alone: full queues, sizes, threads.
+#![tactic(auto)]
+
+#[cfg(test)]
+mod queues;
