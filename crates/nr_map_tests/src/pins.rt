@@ -1,7 +1,8 @@
 //! A reader holds a set in a thread of its own while the writer updates its key.
 ghost use Rattle.std.specs.Prelude.{◌≡◌, ◌<◌, All, IfOk};
 
-use crate::calls::{FILLED, fill, look, rows_of, state};
+use crate::calls::{Told, look, state};
+use crate::worked::Worked;
 use nr_map::{Asked, Found, KeyKind, Reader, ReaderMap, Writer};
 use nr_model::{Batch, Delta, OpenFault, Row, RowSet};
 use std::alloc::Global;
@@ -113,12 +114,31 @@ fn update_and_ask<R: Threads + Sync>(
     )
 }
 
+// A map of two keys with two readers. It is opened anew where memory was refused once.
 fn opened(alloc: Global) -> Result<(ReaderMap, Writer, Vec<Reader>), OpenFault>
     ensures { IfOk result (λ opened. (opened.0.shape.keys ≡ 2) × (opened.1.table ≡ opened.0) × All (λ reader. reader.table ≡ opened.0) opened.2.items) }
 {
     match ReaderMap::open(alloc, 2, 5, 2, 0) {
         Err(OpenFault::Memory) => ReaderMap::open(alloc, 2, 5, 2, 0),
         opened => opened,
+    }
+}
+
+// Its tokens, and the second reader beside them.
+fn with_second(alloc: Global) -> Result<(Worked, Reader), Fail>
+    ensures { IfOk result (λ opened. (opened.0.shape.keys ≡ 2) × (opened.1.table ≡ opened.0)) }
+{
+    let (map, writer, mut readers) = opened(alloc)?;
+    match (readers.pop(), readers.pop()) {
+        (Some(two), Some(reader)) => Ok((
+            Worked {
+                map,
+                writer,
+                reader,
+            },
+            two,
+        )),
+        _ => Err(Fail::from("too few readers")),
     }
 }
 
@@ -187,12 +207,15 @@ fn learns_all(
 
 #[test]
 fn pinned_set_outlives_an_update(rt: HostRuntime) -> Result<(), Fail> {
-    let (map, mut writer, mut readers) = opened(rt.alloc())?;
-    let two = readers.pop().ok_or("no second reader")?;
-    let mut one = readers.pop().ok_or("no first reader")?;
-    assert!(rt; request(&map, &mut one, 0));
-    assert_eq!(rt; fill(&map, &mut writer, 0, 0, &rows_of(&[(5, 6)])), FILLED);
     let batch = Batch::of(&[delta(false, row(5, 6)), delta(true, row(7, 8))])?;
+    let (mut worked, two) = with_second(rt.alloc())?;
+    worked.asks(&rt, 0, Told::Send(0, 0));
+    worked.fills(&rt, 0, 0, &[(5, 6)], Ok(()));
+    let Worked {
+        map,
+        writer,
+        reader: one,
+    } = worked;
     let ((held, one), ((updated, writer), (asked, two))) = all_three(
         &rt, &map, one, two, writer, &batch,
     );
