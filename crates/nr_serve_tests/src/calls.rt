@@ -245,10 +245,16 @@ pub(crate) fn end_flow<S: Source + Drop>(flow: Dataflow<'_, S>) -> Option<u32> {
     }
 }
 
-// Ends both, where neither keeps anything.
-fn ends<G: Gate, S: Source + Drop, R: Abort>(rt: &R, client: Client<'_, G>, flow: Dataflow<'_, S>) {
-    assert_eq!(rt; end_client(client), None);
-    assert_eq!(rt; end_flow(flow), None);
+fn client_ends<G: Gate, R: Abort>(rt: &R, client: Client<'_, G>, kept: Option<u32>) {
+    assert_eq!(rt; end_client(client), kept);
+}
+
+fn flow_ends<S: Source + Drop, R: Abort>(rt: &R, flow: Dataflow<'_, S>, kept: Option<u32>) {
+    assert_eq!(rt; end_flow(flow), kept);
+}
+
+fn was_raised<R: Abort + Wait>(rt: &R, lobby: &Lobby, count: u64) {
+    assert_eq!(rt; lobby.count(rt), count);
 }
 
 // A get of one try.
@@ -321,9 +327,10 @@ fn two_clients_take_turns<R: Abort + Wait>(rt: &R, opened: Opened, other: Reader
     let mut two = Client::open(&map, other, &triggers, second, &lobby, &gate);
     let mut flow = Dataflow::open(&map, writer, &triggers, taker, source, &lobby);
     take_turns(rt, &mut one, &mut two, &mut flow);
-    assert_eq!(rt; lobby.count(rt), 2);
-    ends(rt, one, flow);
-    assert_eq!(rt; end_client(two), None);
+    was_raised(rt, &lobby, 2);
+    client_ends(rt, one, None);
+    client_ends(rt, two, None);
+    flow_ends(rt, flow, None);
 }
 
 #[test]
@@ -345,7 +352,7 @@ fn pinned<R: Abort>(rt: &R, map: &ReaderMap, reader: Reader) -> Pin
     }
 }
 
-// The key's set is held, and so there is no slot for its next one.
+// The key's set is held, so that there is no slot for its next one.
 fn keeps_its_trigger<R: Abort + Wait>(
     rt: &R,
     client: &mut Client<'_, OpenGate>,
@@ -361,6 +368,25 @@ fn keeps_its_trigger<R: Abort + Wait>(
     turns(rt, flow, Turn::Kept(none));
     let asked = flow.source().asked;
     assert_eq!(rt; asked, 3);
+}
+
+// The same while a reader holds the set.
+fn keeps_beside_pin<R: Abort + Wait>(
+    rt: &R,
+    map: &ReaderMap,
+    reader: Reader,
+    client: &mut Client<'_, OpenGate>,
+    flow: &mut Dataflow<'_, Plain>,
+    lobby: &Lobby,
+)
+    requires map { (reader.table ≡ map.now) × (map.now.shape.keys ≡ 1) }
+    requires client { client.old.map.shape.keys ≡ 1 }
+    requires flow { flow.old.map.shape.keys ≡ 1 }
+{
+    let pin = pinned(rt, map, reader);
+    keeps_its_trigger(rt, client, flow);
+    was_raised(rt, lobby, 1);
+    pin.release(map);
 }
 
 fn a_slot_is_held<R: Abort + Wait>(rt: &R, opened: Opened, other: Reader)
@@ -382,12 +408,9 @@ fn a_slot_is_held<R: Abort + Wait>(rt: &R, opened: Opened, other: Reader)
     let mut flow = Dataflow::open(&map, writer, &triggers, taker, source, &lobby);
     gets(rt, &mut client, 0, &mut RowSet::new(), Got::GaveUp);
     turns(rt, &mut flow, Turn::Filled(0));
-    let pin = pinned(rt, &map, other);
-    keeps_its_trigger(rt, &mut client, &mut flow);
-    assert_eq!(rt; lobby.count(rt), 1);
-    pin.release(&map);
-    assert_eq!(rt; end_client(client), None);
-    assert_eq!(rt; end_flow(flow), Some(0));
+    keeps_beside_pin(rt, &map, other, &mut client, &mut flow, &lobby);
+    client_ends(rt, client, None);
+    flow_ends(rt, flow, Some(0));
 }
 
 #[test]
@@ -425,9 +448,16 @@ fn nobody_sleeps<R: Abort + Wait>(rt: &R, opened: Opened)
     lobby.close(rt);
     let mut client = Client::open(&map, reader, &triggers, poster, &lobby, &gate);
     gives_up(rt, &mut client);
-    assert_eq!(rt; end_client(client), None);
-    assert_eq!(rt; key_taken(rt, &triggers, &mut taker), Some(0));
-    assert_eq!(rt; key_taken(rt, &triggers, &mut taker), None);
+    client_ends(rt, client, None);
+    takes_one(rt, &triggers, &mut taker);
+}
+
+// The ticket of key 0 was posted, and no other.
+fn takes_one<R: Abort + Wait>(rt: &R, triggers: &Triggers, taker: &mut Taker)
+    requires { taker.old.queue ≡ triggers.now.id }
+{
+    assert_eq!(rt; key_taken(rt, triggers, taker), Some(0));
+    assert_eq!(rt; key_taken(rt, triggers, taker), None);
 }
 
 fn key_taken<R: Wait>(rt: &R, triggers: &Triggers, taker: &mut Taker) -> Option<u32>
@@ -459,7 +489,7 @@ fn asks_twice<R: Abort + Wait>(
     assert_eq!(rt; flow.cancel(rt, 0), Cancel::Nothing);
     gets(rt, client, 0, &mut rows, Got::GaveUp);
     assert_eq!(rt; flow.cancel(rt, 0), Cancel::Cancelled);
-    assert_eq!(rt; lobby.count(rt), 1);
+    was_raised(rt, lobby, 1);
     gets(rt, client, 0, &mut rows, Got::GaveUp);
     has_sent(rt, client, 2);
 }
@@ -501,8 +531,9 @@ fn a_request_is_cancelled<R: Abort + Wait>(rt: &R, opened: Opened)
     let mut flow = Dataflow::open(&map, writer, &triggers, taker, source, &lobby);
     asks_twice(rt, &mut client, &mut flow, &lobby);
     passes_the_first(rt, &mut client, &mut flow);
-    assert_eq!(rt; lobby.count(rt), 3);
-    ends(rt, client, flow);
+    was_raised(rt, &lobby, 3);
+    client_ends(rt, client, None);
+    flow_ends(rt, flow, None);
 }
 
 #[test]
@@ -598,7 +629,8 @@ fn all_rows_are_got<R: Abort + Wait>(rt: &R, opened: Opened)
     let mut flow = Dataflow::open(&map, writer, &triggers, taker, source, &lobby);
     gets_all(rt, &mut client, &mut flow);
     adds_one(rt, &mut flow);
-    ends(rt, client, flow);
+    client_ends(rt, client, None);
+    flow_ends(rt, flow, None);
 }
 
 // A map of one key that may have 255 rows, 3 slots and one reader.
@@ -721,7 +753,8 @@ fn a_get_is_barred<R: Abort + Wait>(rt: &R, opened: Opened)
     assert!(rt; is_row(&rows, 8, 9));
     turns(rt, &mut flow, Turn::Filled(0));
     is_barred_and_passes(rt, &gate, &mut client);
-    ends(rt, client, flow);
+    client_ends(rt, client, None);
+    flow_ends(rt, flow, None);
 }
 
 #[test]
