@@ -42,7 +42,7 @@ fn a_late_answer_is_stale_and_the_last_number_is_worn(rt: HostRuntime) -> Result
     worked.asks(&rt, 0, Told::Send(0, 4_194_302));
     worked.cancels(&rt, 0, Cancel::Cancelled);
     worked.cancels(&rt, 0, Cancel::Nothing);
-    assert_eq!(rt; worked.number(&rt, 0), 4_194_303);
+    worked.has_number(&rt, 0, 4_194_303);
     worked.asks(&rt, 0, Told::Send(0, 4_194_303));
     worked.fills(&rt, 0, 4_194_302, &[(1, 1)], Err(FillFault::Stale));
     worked.cancels(&rt, 0, Cancel::Worn);

@@ -55,15 +55,16 @@ fn a_key_may_have_1_to_255_rows(rt: HostRuntime) {
     assert!(rt; is_bad(rt.alloc(), u32::MAX));
 }
 
-/// A find of key 2 writes just the rows from `first:0` on, so many, over the set's old ones.
+/// A find of a key writes just the rows from `first:0` on, so many, over the set's old ones.
 fn finds_numbered<R: Abort>(
     rt: &R,
     worked: &mut Worked,
+    key: u32,
     found: &mut RowSet,
     first: u64,
     count: u32,
 ) {
-    assert_eq!(rt; worked.find(rt, 2, found), Found::Rows);
+    assert_eq!(rt; worked.find(rt, key, found), Found::Rows);
     assert!(rt; is_numbered(found, first, count));
 }
 
@@ -75,11 +76,11 @@ fn is_filled_to_its_bound<R: Abort>(rt: &R, alloc: Global, rows: u32) -> Result<
     worked.asks(rt, 2, Told::Send(2, 0));
     worked.fills_set(rt, 2, 0, &numbered(rows), Ok(()));
     let mut found = RowSet::new();
-    finds_numbered(rt, &mut worked, &mut found, 1, rows);
+    finds_numbered(rt, &mut worked, 2, &mut found, 1, rows);
     worked.updates(rt, 2, &[plus(0, 0)], Err(UpdateFault::TooMany));
-    finds_numbered(rt, &mut worked, &mut found, 1, rows);
+    finds_numbered(rt, &mut worked, 2, &mut found, 1, rows);
     worked.updates(rt, 2, &[plus(0, 0), minus(u64::from(rows), 0)], Ok(()));
-    finds_numbered(rt, &mut worked, &mut found, 0, rows);
+    finds_numbered(rt, &mut worked, 2, &mut found, 0, rows);
     Ok(())
 }
 
@@ -139,8 +140,6 @@ fn the_largest_map_is_opened_and_used(rt: HostRuntime) -> Result<(), Fail> {
     worked.asks(&rt, last, Told::Send(last, 0));
     worked.fills_set(&rt, last, 0, &numbered(255), Ok(()));
     worked.updates(&rt, last, &[plus(0, 0), minus(255, 0)], Ok(()));
-    let mut found = RowSet::new();
-    assert_eq!(rt; worked.find(&rt, last, &mut found), Found::Rows);
-    assert!(rt; is_numbered(&found, 0, 255));
+    finds_numbered(&rt, &mut worked, last, &mut RowSet::new(), 0, 255);
     Ok(())
 }

@@ -92,12 +92,16 @@ fn updates_use_slots_again(rt: HostRuntime) -> Result<(), Fail> {
     Ok(())
 }
 
+/// So many keys, slots and readers.
+fn has_sizes<R: Abort>(rt: &R, map: &ReaderMap, sizes: (u32, u32, u32)) {
+    assert_eq!(rt; (map.keys(), map.slots(), map.readers()), sizes);
+}
+
 #[test]
 fn only_a_requested_key_is_filled(rt: HostRuntime) -> Result<(), Fail> {
     let mut worked = Worked::open(rt.alloc(), 2, 1, 1, 1_099_511_627_775)?;
     assert_eq!(rt; worked.reader.number(), 1);
-    let map = &worked.map;
-    assert_eq!(rt; (map.keys(), map.slots(), map.readers()), (2, 1, 1));
+    has_sizes(&rt, &worked.map, (2, 1, 1));
     worked.fills(&rt, 0, 0, &[(1, 1)], Err(FillFault::NotAsked));
     worked.updates(&rt, 0, &[plus(2, 2)], Err(UpdateFault::Dropped));
     worked.evicts(&rt, 0, Evict::Nothing);

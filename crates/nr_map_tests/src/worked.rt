@@ -62,11 +62,16 @@ impl Worked {
         ensures { IfOk result (λ opened. (opened.0.shape.keys ≡ keys) × (opened.1.table ≡ opened.0)) }
     {
         let (map, writer, mut readers) = ReaderMap::open(alloc, keys, slots, 2, first_count)?;
-        let second = readers.pop();
-        let worked = Worked::of(map, writer, readers.pop())?;
-        match second {
-            Some(second) => Ok((worked, second)),
-            None => Err(Fail::from("no second reader")),
+        match (readers.pop(), readers.pop()) {
+            (Some(second), Some(reader)) => Ok((
+                Worked {
+                    map,
+                    writer,
+                    reader,
+                },
+                second,
+            )),
+            _ => Err(Fail::from("too few readers")),
         }
     }
 
@@ -185,6 +190,10 @@ impl Worked {
     {
         assert!(rt; key < self.map.keys());
         assert_eq!(rt; state(&self.map, &mut self.writer, key), kind);
+    }
+
+    pub(crate) fn has_number<R: Abort>(&self, rt: &R, key: u32, number: u64) {
+        assert_eq!(rt; self.number(rt, key), number);
     }
 
     /// The number of a key.
