@@ -14,9 +14,7 @@ pub(crate) enum Told {
     Filled,
 }
 
-/// What a fill or an update that was done came to.
-pub(crate) const FILLED: Option<Result<(), FillFault>> = Some(Ok(()));
-
+/// What an update that was done came to.
 pub(crate) const UPDATED: Option<Result<(), UpdateFault>> = Some(Ok(()));
 
 /// The set of those rows, which are not too many.

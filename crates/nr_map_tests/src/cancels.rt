@@ -4,14 +4,16 @@ ghost use Rattle.std.specs.Prelude.{◌≡◌, ◌<◌, IfOk};
 ghost use Rattle.std.specs.Bool.{OnTrue};
 ghost use Rattle.nr_model.specs.Maps.{FillFits, key_count, key_of};
 
-use crate::calls::{FILLED, Told, ask, cancel, evict, fill, find, look, rows_of, state};
+use crate::calls::{Told, ask, cancel, evict, find, look, rows_of, state};
+use crate::worked::Worked;
 use nr_map::{
-    Asked, Cancel, Evict, FillFault, Found, KeyKind, Reader, ReaderMap, Shape, UpdateFault, Writer,
+    Cancel, Evict, FillFault, Found, KeyKind, Reader, ReaderMap, Shape, UpdateFault, Writer,
 };
 use nr_model::{
     Batch, Call, DEFAULT_ROWS, Delta, KeyState, LAST_NUMBER, OpenFault, Reply, Row, RowSet, SeqMap,
 };
 use std::alloc::Global;
+use std::process::Abort;
 use std::test::Fail;
 use std::thread::{Threads, join};
 
@@ -36,65 +38,39 @@ fn one_key(first_number: u64) -> Shape {
 
 #[test]
 fn a_late_answer_is_stale_and_the_last_number_is_worn(rt: HostRuntime) -> Result<(), Fail> {
-    let (map, mut writer, mut readers) = ReaderMap::open_with(rt.alloc(), &one_key(4_194_302))?;
-    let Some(mut reader) = readers.pop() else {
-        return Ok(());
-    };
-    let one = one_row(1);
-    assert_eq!(rt; ask(&map, &mut reader, 0), Told::Send(0, 4_194_302));
-    assert_eq!(rt; cancel(&map, &mut writer, 0), Cancel::Cancelled);
-    assert_eq!(rt; cancel(&map, &mut writer, 0), Cancel::Nothing);
-    assert_eq!(rt; map.number(&writer, 0), 4_194_303);
-    assert_eq!(rt; ask(&map, &mut reader, 0), Told::Send(0, 4_194_303));
-    assert_eq!(rt;
-        fill(&map, &mut writer, 0, 4_194_302, &one),
-        Some(Err(FillFault::Stale))
-    );
-    assert_eq!(rt; cancel(&map, &mut writer, 0), Cancel::Worn);
-    assert_eq!(rt; ask(&map, &mut reader, 0), Told::Waiting);
-    assert_eq!(rt; fill(&map, &mut writer, 0, 4_194_303, &one), FILLED);
-    assert_eq!(rt; cancel(&map, &mut writer, 0), Cancel::Nothing);
-    assert_eq!(rt; evict(&map, &mut writer, 0), Evict::Evicted);
-    assert_eq!(rt;
-        fill(&map, &mut writer, 0, 0, &RowSet::new()),
-        Some(Err(FillFault::NotAsked))
-    );
-    assert_eq!(rt; ask(&map, &mut reader, 0), Told::Send(0, 4_194_303));
-    let number = map.number(&writer, 0);
-    assert_eq!(rt; fill(&map, &mut writer, 0, number, &one_row(2)), FILLED);
+    let mut worked = Worked::open_with(rt.alloc(), &one_key(4_194_302))?;
+    worked.asks(&rt, 0, Told::Send(0, 4_194_302));
+    worked.cancels(&rt, 0, Cancel::Cancelled);
+    worked.cancels(&rt, 0, Cancel::Nothing);
+    worked.has_number(&rt, 0, 4_194_303);
+    worked.asks(&rt, 0, Told::Send(0, 4_194_303));
+    worked.fills(&rt, 0, 4_194_302, &[(1, 1)], Err(FillFault::Stale));
+    worked.cancels(&rt, 0, Cancel::Worn);
+    worked.asks(&rt, 0, Told::Waiting);
+    worked.fills(&rt, 0, 4_194_303, &[(1, 1)], Ok(()));
+    worked.cancels(&rt, 0, Cancel::Nothing);
+    worked.evicts(&rt, 0, Evict::Evicted);
+    worked.fills(&rt, 0, 0, &[], Err(FillFault::NotAsked));
+    worked.asks(&rt, 0, Told::Send(0, 4_194_303));
+    let number = worked.number(&rt, 0);
+    worked.fills(&rt, 0, number, &[(2, 2)], Ok(()));
     Ok(())
 }
 
 #[test]
 fn a_worn_request_is_ended_by_its_own_fill_alone(rt: HostRuntime) -> Result<(), Fail> {
-    let (map, mut writer, mut readers) = ReaderMap::open_with(rt.alloc(), &one_key(4_194_303))?;
-    let Some(mut reader) = readers.pop() else {
-        return Ok(());
-    };
-    let none = RowSet::new();
-    assert_eq!(rt; ask(&map, &mut reader, 0), Told::Send(0, 4_194_303));
-    assert_eq!(rt; cancel(&map, &mut writer, 0), Cancel::Worn);
-    assert_eq!(rt; evict(&map, &mut writer, 0), Evict::Nothing);
-    assert_eq!(rt;
-        fill(&map, &mut writer, 0, 0, &none),
-        Some(Err(FillFault::Stale))
-    );
-    assert_eq!(rt;
-        fill(&map, &mut writer, 0, 4_194_302, &none),
-        Some(Err(FillFault::Stale))
-    );
-    assert_eq!(rt;
-        fill(&map, &mut writer, 0, 4_194_304, &none),
-        Some(Err(FillFault::Stale))
-    );
-    assert_eq!(rt;
-        fill(&map, &mut writer, 0, u64::MAX, &none),
-        Some(Err(FillFault::Stale))
-    );
-    assert_eq!(rt; cancel(&map, &mut writer, 0), Cancel::Worn);
-    assert_eq!(rt; state(&map, &mut writer, 0), KeyKind::Asked);
-    assert_eq!(rt; fill(&map, &mut writer, 0, 4_194_303, &none), FILLED);
-    assert_eq!(rt; state(&map, &mut writer, 0), KeyKind::Rows);
+    let mut worked = Worked::open_with(rt.alloc(), &one_key(4_194_303))?;
+    worked.asks(&rt, 0, Told::Send(0, 4_194_303));
+    worked.cancels(&rt, 0, Cancel::Worn);
+    worked.evicts(&rt, 0, Evict::Nothing);
+    worked.fills(&rt, 0, 0, &[], Err(FillFault::Stale));
+    worked.fills(&rt, 0, 4_194_302, &[], Err(FillFault::Stale));
+    worked.fills(&rt, 0, 4_194_304, &[], Err(FillFault::Stale));
+    worked.fills(&rt, 0, u64::MAX, &[], Err(FillFault::Stale));
+    worked.cancels(&rt, 0, Cancel::Worn);
+    worked.stands(&rt, 0, KeyKind::Asked);
+    worked.fills(&rt, 0, 4_194_303, &[], Ok(()));
+    worked.stands(&rt, 0, KeyKind::Rows);
     Ok(())
 }
 
@@ -165,22 +141,34 @@ fn late_beside_again<R: Threads + Sync>(
 
 #[test]
 fn a_late_answer_is_refused_beside_a_reader_that_asks_again(rt: HostRuntime) -> Result<(), Fail> {
-    let (map, writer, mut readers) = ReaderMap::open(rt.alloc(), 1, 3, 1, 0)?;
-    let Some(mut reader) = readers.pop() else {
-        return Ok(());
-    };
-    assert_eq!(rt; ask(&map, &mut reader, 0), Told::Send(0, 0));
-    let ((refused, mut writer), (sent, mut reader)) = late_beside_again(&rt, &map, writer, reader);
+    let mut worked = Worked::open(rt.alloc(), 1, 3, 1, 0)?;
+    worked.asks(&rt, 0, Told::Send(0, 0));
+    let Worked {
+        map,
+        writer,
+        reader,
+    } = worked;
+    let ((refused, writer), (sent, reader)) = late_beside_again(&rt, &map, writer, reader);
     assert!(rt; refused);
+    let mut worked = Worked {
+        map,
+        writer,
+        reader,
+    };
+    is_asked_again(&rt, &mut worked, sent);
+    worked.asks(&rt, 0, Told::Waiting);
+    worked.fills(&rt, 0, 1, &[(1, 1)], Ok(()));
+    worked.asks(&rt, 0, Told::Filled);
+    Ok(())
+}
+
+/// The new request was sent beside the cancel, or is sent now.
+fn is_asked_again<R: Abort>(rt: &R, worked: &mut Worked, sent: Option<Told>) {
     let again = Told::Send(0, 1);
     if sent != Some(again) {
         assert_eq!(rt; sent, None);
-        assert_eq!(rt; ask(&map, &mut reader, 0), again);
+        worked.asks(rt, 0, again);
     }
-    assert_eq!(rt; ask(&map, &mut reader, 0), Told::Waiting);
-    assert_eq!(rt; fill(&map, &mut writer, 0, 1, &one_row(1)), FILLED);
-    assert_eq!(rt; ask(&map, &mut reader, 0), Told::Filled);
-    Ok(())
 }
 
 /// Draws that a seed determines.
@@ -201,32 +189,37 @@ impl Dice {
         (self.state >> 33) % sides
     }
 
-    /// Some call at a key of the model. A fill's number is the key's, or one below or above it.
+    /// Some call at a key of the model.
     fn call(&mut self, model: &SeqMap) -> Result<Call, Fail>
         ensures { IfOk result (λ call. key_of call < key_count model.now) }
     {
         let key = self.roll(u64::from(model.keys())) as u32;
-        Ok(match self.roll(8) {
-            0 => Call::Find(key),
-            1 | 2 => Call::Ask(key),
-            3 | 4 => {
-                let near = model.state(key).number().wrapping_add(self.roll(3));
-                Call::Fill(key, near.wrapping_sub(1), one_row(self.roll(3)))
-            }
-            5 => {
-                let a = self.roll(3);
-                let plus = self.roll(2) == 0;
-                Call::Update(
-                    key,
-                    Batch::of(&[Delta {
-                        plus,
-                        row: Row { a, b: a },
-                    }])?,
-                )
-            }
-            6 => Call::Evict(key),
-            _ => Call::Cancel(key),
-        })
+        match self.roll(8) {
+            0 => Ok(Call::Find(key)),
+            1 | 2 => Ok(Call::Ask(key)),
+            3 | 4 => Ok(self.fill(key, model.state(key).number())),
+            5 => self.update(key),
+            6 => Ok(Call::Evict(key)),
+            _ => Ok(Call::Cancel(key)),
+        }
+    }
+
+    /// A fill by that number, or by one below or above it.
+    fn fill(&mut self, key: u32, number: u64) -> Call
+        ensures { key_of result ≡ key }
+    {
+        let near = number.wrapping_add(self.roll(3));
+        Call::Fill(key, near.wrapping_sub(1), one_row(self.roll(3)))
+    }
+
+    /// An update by one row more or less.
+    fn update(&mut self, key: u32) -> Result<Call, Fail>
+        ensures { IfOk result (λ call. key_of call ≡ key) }
+    {
+        let a = self.roll(3);
+        let plus = self.roll(2) == 0;
+        let row = Row { a, b: a };
+        Ok(Call::Update(key, Batch::of(&[Delta { plus, row }])?))
     }
 }
 

@@ -14,3 +14,5 @@ mod rows;
 mod slots;
 #[cfg(test)]
 mod threads;
+#[cfg(test)]
+mod worked;

@@ -1,9 +1,10 @@
 //! A reader holds a set in a thread of its own while the writer updates its key.
 ghost use Rattle.std.specs.Prelude.{◌≡◌, ◌<◌, All, IfOk};
 
-use crate::calls::{FILLED, fill, look, rows_of, state};
-use nr_map::{Asked, Found, KeyKind, Reader, ReaderMap, Writer};
-use nr_model::{Batch, Delta, OpenFault, Row, RowSet};
+use crate::calls::Told;
+use crate::worked::Worked;
+use nr_map::{Asked, KeyKind, Reader, ReaderMap, Writer};
+use nr_model::{Batch, Delta, OpenFault, Row};
 use std::alloc::Global;
 use std::process::Abort;
 use std::sync::atomic::{AtomicBool, Ordering};
@@ -113,12 +114,31 @@ fn update_and_ask<R: Threads + Sync>(
     )
 }
 
+// A map of two keys with two readers. It is opened anew where memory was refused once.
 fn opened(alloc: Global) -> Result<(ReaderMap, Writer, Vec<Reader>), OpenFault>
     ensures { IfOk result (λ opened. (opened.0.shape.keys ≡ 2) × (opened.1.table ≡ opened.0) × All (λ reader. reader.table ≡ opened.0) opened.2.items) }
 {
     match ReaderMap::open(alloc, 2, 5, 2, 0) {
         Err(OpenFault::Memory) => ReaderMap::open(alloc, 2, 5, 2, 0),
         opened => opened,
+    }
+}
+
+// Its tokens, and the second reader beside them.
+fn with_second(alloc: Global) -> Result<(Worked, Reader), Fail>
+    ensures { IfOk result (λ opened. (opened.0.shape.keys ≡ 2) × (opened.1.table ≡ opened.0)) }
+{
+    let (map, writer, mut readers) = opened(alloc)?;
+    match (readers.pop(), readers.pop()) {
+        (Some(two), Some(reader)) => Ok((
+            Worked {
+                map,
+                writer,
+                reader,
+            },
+            two,
+        )),
+        _ => Err(Fail::from("too few readers")),
     }
 }
 
@@ -163,41 +183,46 @@ fn delta(plus: bool, row: Row) -> Delta {
     Delta { plus, row }
 }
 
-// The writer gathers both readers: it finds its update, and knows of the request.
-fn learns_all(
-    rt: &impl Abort,
-    map: &ReaderMap,
-    mut writer: Writer,
-    mut one: Reader,
-    mut two: Reader,
-)
-    requires keys { 1 < map.now.shape.keys }
-    requires one { one.table ≡ map.now }
-    requires two { two.table ≡ map.now }
-    requires writer { writer.table ≡ map.now }
+// The writer gathers both readers.
+fn gathers_both(worked: &mut Worked, two: &mut Reader)
+    requires { two.old.table ≡ worked.old }
 {
-    map.gather(&mut writer, &mut one);
-    map.gather(&mut writer, &mut two);
-    let mut rows = RowSet::new();
-    assert_eq!(rt; look(map, &mut writer, 0, &mut rows), Found::Rows);
-    assert_eq!(rt; rows.len(), 1);
-    assert_eq!(rt; rows.get(0), Some(row(7, 8)));
-    assert_eq!(rt; state(map, &mut writer, 1), KeyKind::Asked);
+    worked.map.gather(&mut worked.writer, &mut worked.reader);
+    worked.map.gather(&mut worked.writer, two);
+}
+
+// The reader still holds the old row when key 1 was requested, after the update. Then the writer
+// finds its update, and knows of the request.
+fn holds_beside<R: Abort + Threads + Sync>(rt: &R, worked: Worked, two: Reader, batch: &Batch)
+    requires keys { worked.shape.keys ≡ 2 }
+    requires two { two.table ≡ worked }
+{
+    let Worked {
+        map,
+        writer,
+        reader,
+    } = worked;
+    let ((held, reader), ((updated, writer), (asked, mut two))) = all_three(
+        rt, &map, reader, two, writer, batch,
+    );
+    assert_eq!(rt; held, Some(row(5, 6)));
+    assert!(rt; updated && asked);
+    let mut worked = Worked {
+        map,
+        writer,
+        reader,
+    };
+    gathers_both(&mut worked, &mut two);
+    worked.looks(rt, 0, &[(7, 8)]);
+    worked.stands(rt, 1, KeyKind::Asked);
 }
 
 #[test]
 fn pinned_set_outlives_an_update(rt: HostRuntime) -> Result<(), Fail> {
-    let (map, mut writer, mut readers) = opened(rt.alloc())?;
-    let two = readers.pop().ok_or("no second reader")?;
-    let mut one = readers.pop().ok_or("no first reader")?;
-    assert!(rt; request(&map, &mut one, 0));
-    assert_eq!(rt; fill(&map, &mut writer, 0, 0, &rows_of(&[(5, 6)])), FILLED);
     let batch = Batch::of(&[delta(false, row(5, 6)), delta(true, row(7, 8))])?;
-    let ((held, one), ((updated, writer), (asked, two))) = all_three(
-        &rt, &map, one, two, writer, &batch,
-    );
-    assert_eq!(rt; held, Some(row(5, 6)));
-    assert!(rt; updated && asked);
-    learns_all(&rt, &map, writer, one, two);
+    let (mut worked, two) = with_second(rt.alloc())?;
+    worked.asks(&rt, 0, Told::Send(0, 0));
+    worked.fills(&rt, 0, 0, &[(5, 6)], Ok(()));
+    holds_beside(&rt, worked, two, &batch);
     Ok(())
 }

@@ -1,12 +1,13 @@
 //! Readers hold sets, and the writer's polls find them held. What is asserted does not depend on how
 //! the threads' steps fall.
-ghost use Rattle.std.specs.Prelude.{◌≡◌, ◌<◌};
+ghost use Rattle.std.specs.Prelude.{◌≡◌, ◌<◌, IfOk};
 
-use crate::calls::{
-    FILLED, Told, UPDATED, ask, fill, find, look, minus, pairs_are, plus, rows_of, state, update,
-};
+use crate::calls::{Told, UPDATED, find, minus, pairs_are, plus, state, update};
+use crate::worked::Worked;
 use nr_map::{Asked, Found, KeyKind, NoSlot, Pin, Reader, ReaderMap, UpdateFault, Writer};
 use nr_model::{Row, RowSet};
+use std::alloc::Global;
+use std::process::Abort;
 use std::test::Fail;
 use std::thread::{Threads, join};
 
@@ -29,87 +30,100 @@ fn shown(map: &ReaderMap, pin: &mut Pin, i: u32) -> Option<Row>
     }
 }
 
-// What the two readers have pinned, and what the updates by 2, 3, 4 and 5 answered: one reader pins
-// the key before the first of them, the other after it.
-#[derive(Clone, Copy, Debug, PartialEq, Eq)]
-struct Pinned {
-    one: [Option<Row>; 2],
-    two: [Option<Row>; 3],
-    updates: [Option<Result<(), UpdateFault>>; 4],
+// Pins key 0, which is filled.
+fn pinned<R: Abort>(rt: &R, map: &ReaderMap, reader: Reader) -> Pin
+    requires own { reader.table ≡ map.now }
+    requires key { 0 < map.now.shape.keys }
+    ensures own { result.reader.table ≡ map.now }
+{
+    match map.pin(reader, 0) {
+        Ok(pin) => pin,
+        Err(_) => panic!(rt; "the reader found a hole"),
+    }
 }
 
-fn update_between_pins(
+// Updates key 0 by one row more.
+fn adds<R: Abort>(
+    rt: &R,
+    map: &ReaderMap,
+    writer: &mut Writer,
+    number: u64,
+    answer: Result<(), UpdateFault>,
+)
+    requires own { writer.old.table ≡ map.now }
+    requires key { 0 < map.now.shape.keys }
+    ensures own { writer.new.table ≡ map.now }
+{
+    let updated = update(map, writer, 0, &[plus(number, number)]);
+    assert_eq!(rt; updated, Some(answer));
+}
+
+// A pinned set has that row, or is at its end.
+fn holds<R: Abort>(rt: &R, map: &ReaderMap, pin: &mut Pin, i: u32, row: Option<Row>)
+    requires own { pin.old.reader.table ≡ map.now }
+    ensures own { pin.new.reader.table ≡ map.now }
+{
+    assert_eq!(rt; shown(map, pin, i), row);
+}
+
+// One reader pins the key before the first update, and the other after it. The first two updates
+// are done, and the last two are answered so. Each reader still has what it pinned.
+fn update_between_pins<R: Abort>(
+    rt: &R,
     map: &ReaderMap,
     writer: &mut Writer,
     one: Reader,
     two: Reader,
-) -> Result<Pinned, Fail>
-    requires own { (writer.old.table ≡ map.now) × (one.table ≡ map.now) × (two.table ≡ map.now) }
+    last: Result<(), UpdateFault>,
+)
+    requires writer { writer.old.table ≡ map.now }
+    requires one { one.table ≡ map.now }
+    requires two { two.table ≡ map.now }
     requires key { 0 < map.now.shape.keys }
 {
-    let Ok(mut first) = map.pin(one, 0) else {
-        return Err(Fail::from("the first reader found a hole"));
-    };
-    let by_two = update(map, writer, 0, &[plus(2, 2)]);
-    let mut second = match map.pin(two, 0) {
-        Ok(second) => second,
-        Err(_) => {
-            let _ = first.release(map);
-            return Err(Fail::from("the second reader found a hole"));
-        }
-    };
-    let by_three = update(map, writer, 0, &[plus(3, 3)]);
-    let by_four = update(map, writer, 0, &[plus(4, 4)]);
-    let by_five = update(map, writer, 0, &[plus(5, 5)]);
-    let pinned = Pinned {
-        one: [shown(map, &mut first, 0), shown(map, &mut first, 1)],
-        two: [
-            shown(map, &mut second, 0),
-            shown(map, &mut second, 1),
-            shown(map, &mut second, 2),
-        ],
-        updates: [by_two, by_three, by_four, by_five],
-    };
-    let _ = first.release(map);
-    let _ = second.release(map);
-    Ok(pinned)
+    let mut first = pinned(rt, map, one);
+    adds(rt, map, writer, 2, Ok(()));
+    let mut second = pinned(rt, map, two);
+    adds(rt, map, writer, 3, Ok(()));
+    adds(rt, map, writer, 4, last);
+    adds(rt, map, writer, 5, last);
+    holds(rt, map, &mut first, 0, row(1));
+    holds(rt, map, &mut first, 1, None);
+    holds(rt, map, &mut second, 0, row(1));
+    holds(rt, map, &mut second, 1, row(2));
+    holds(rt, map, &mut second, 2, None);
+    first.release(map);
+    second.release(map);
 }
 
 // The same on a new map of one key, so many slots and two readers.
-fn with_slots(rt: &HostRuntime, slots: u32) -> Result<Pinned, Fail> {
-    let (map, mut writer, mut readers) = ReaderMap::open(rt.alloc(), 1, slots, 2, 0)?;
-    let two = readers.pop().ok_or("no second reader")?;
-    let mut one = readers.pop().ok_or("no first reader")?;
-    if ask(&map, &mut one, 0) != Told::Send(0, 0) {
-        return Err(Fail::from("the key was asked for already"));
-    }
-    if fill(&map, &mut writer, 0, 0, &rows_of(&[(1, 1)])) != FILLED {
-        return Err(Fail::from("the key was not filled"));
-    }
-    update_between_pins(&map, &mut writer, one, two)
+fn with_slots<R: Abort>(
+    rt: &R,
+    alloc: Global,
+    slots: u32,
+    last: Result<(), UpdateFault>,
+) -> Result<(), Fail> {
+    let (mut worked, two) = Worked::open_two(alloc, 1, slots, 0)?;
+    worked.asks(rt, 0, Told::Send(0, 0));
+    worked.fills(rt, 0, 0, &[(1, 1)], Ok(()));
+    let Worked {
+        map,
+        mut writer,
+        reader: one,
+    } = worked;
+    update_between_pins(rt, &map, &mut writer, one, two, last);
+    Ok(())
 }
 
 #[test]
 fn a_slot_more_than_keys_and_readers_is_enough(rt: HostRuntime) -> Result<(), Fail> {
-    let pinned = Pinned {
-        one: [row(1), None],
-        two: [row(1), row(2), None],
-        updates: [UPDATED; 4],
-    };
-    assert_eq!(rt; with_slots(&rt, 4)?, pinned);
-    Ok(())
+    with_slots(&rt, rt.alloc(), 4, Ok(()))
 }
 
 #[test]
 fn polls_find_pinned_sets_held(rt: HostRuntime) -> Result<(), Fail> {
-    let none = Some(Err(UpdateFault::NoSlot(NoSlot { live: 1, held: 2 })));
-    let pinned = Pinned {
-        one: [row(1), None],
-        two: [row(1), row(2), None],
-        updates: [UPDATED, UPDATED, none, none],
-    };
-    assert_eq!(rt; with_slots(&rt, 3)?, pinned);
-    Ok(())
+    let none = NoSlot { live: 1, held: 2 };
+    with_slots(&rt, rt.alloc(), 3, Err(UpdateFault::NoSlot(none)))
 }
 
 const TURNS: u32 = 1_000;
@@ -215,17 +229,36 @@ fn update_beside<R: Threads + Sync>(
     )
 }
 
+// A map of two keys with three readers.
+fn with_three(alloc: Global) -> Result<(Worked, Reader, Reader), Fail>
+    ensures keys { IfOk result (λ opened. opened.0.shape.keys ≡ 2) }
+    ensures readers { IfOk result (λ opened. (opened.1.table ≡ opened.0) × (opened.2.table ≡ opened.0)) }
+{
+    let (map, writer, mut readers) = ReaderMap::open(alloc, 2, 6, 3, u64::MAX)?;
+    match (readers.pop(), readers.pop(), readers.pop()) {
+        (Some(three), Some(two), Some(reader)) => Ok((
+            Worked {
+                map,
+                writer,
+                reader,
+            },
+            two,
+            three,
+        )),
+        _ => Err(Fail::from("too few readers")),
+    }
+}
+
 #[test]
 fn updates_beside_pins_are_all_done(rt: HostRuntime) -> Result<(), Fail> {
-    let (map, mut writer, mut readers) = ReaderMap::open(rt.alloc(), 2, 6, 3, u64::MAX)?;
-    let (Some(three), Some(two)) = (readers.pop(), readers.pop()) else {
-        return Err(Fail::from("too few readers"));
-    };
-    let Some(mut one) = readers.pop() else {
-        return Err(Fail::from("too few readers"));
-    };
-    assert_eq!(rt; ask(&map, &mut one, 0), Told::Send(0, 0));
-    assert_eq!(rt; fill(&map, &mut writer, 0, 0, &RowSet::new()), FILLED);
+    let (mut worked, two, three) = with_three(rt.alloc())?;
+    worked.asks(&rt, 0, Told::Send(0, 0));
+    worked.fills(&rt, 0, 0, &[], Ok(()));
+    let Worked {
+        map,
+        writer,
+        reader: one,
+    } = worked;
     let (updates, pins) = update_beside(&rt, &map, writer, one, two, three);
     assert_eq!(rt; updates, TURNS);
     assert_eq!(rt; pins, (TURNS, (TURNS, TURNS)));
@@ -243,58 +276,66 @@ fn is_sent(asked: Asked, key: u32) -> bool {
     }
 }
 
-// Gathers the writer and a reader that holds key 0: the reader's number, and the row that it holds.
-fn gathered(map: &ReaderMap, writer: &mut Writer, reader: Reader) -> Option<(u32, Option<Row>)>
-    requires own { (writer.old.table ≡ map.now) × (reader.table ≡ map.now) }
-    requires key { 0 < map.now.shape.keys }
-    ensures { writer.new.table ≡ map.now }
+// Requests a key, by a ticket of it.
+fn sends<R: Abort>(rt: &R, worked: &mut Worked, key: u32)
+    ensures { worked.new ≡ worked.old }
 {
-    let Ok(mut pin) = map.pin(reader, 0) else {
-        return None;
-    };
-    map.gather_pin(writer, &mut pin);
-    let number = pin.number();
-    let held = shown(map, &mut pin, 0);
-    let _ = pin.release(map);
-    Some((number, held))
+    assert!(rt; key < worked.map.keys());
+    assert!(rt; is_sent(worked.map.ask(&mut worked.reader, key), key));
 }
 
 // The second reader finds key 0 after it met the first one, which had met the writer.
-fn finds_by_meeting(
-    map: &ReaderMap,
-    writer: &mut Writer,
-    one: &mut Reader,
-    two: &mut Reader,
-    rows: &mut RowSet,
-) -> Found
+fn finds_by_meeting<R: Abort>(rt: &R, worked: &mut Worked, two: &mut Reader)
+    requires own { two.old.table ≡ worked.old }
+    requires key { 0 < worked.old.shape.keys }
+    ensures map { worked.new ≡ worked.old }
+    ensures own { two.new.table ≡ worked.old }
+{
+    worked.map.meet(&mut worked.reader, &mut worked.writer);
+    worked.map.meet_readers(two, &mut worked.reader);
+    let mut rows = RowSet::new();
+    assert_eq!(rt; find(&worked.map, two, 0, &mut rows), Found::Rows);
+    assert!(rt; pairs_are(&rows, &[(5, 5)]));
+}
+
+// Gathers the writer and the first reader, which holds key 0.
+fn gathers_pinned<R: Abort>(rt: &R, map: &ReaderMap, writer: &mut Writer, one: Reader)
     requires writer { writer.old.table ≡ map.now }
-    requires one { one.old.table ≡ map.now }
-    requires two { two.old.table ≡ map.now }
+    requires one { one.table ≡ map.now }
     requires key { 0 < map.now.shape.keys }
     ensures writer { writer.new.table ≡ map.now }
-    ensures one { one.new.table ≡ map.now }
-    ensures two { two.new.table ≡ map.now }
 {
-    map.meet(one, writer);
-    map.meet_readers(two, one);
-    find(map, two, 0, rows)
+    let mut pin = pinned(rt, map, one);
+    map.gather_pin(writer, &mut pin);
+    assert_eq!(rt; pin.number(), 1);
+    holds(rt, map, &mut pin, 0, row(5));
+    pin.release(map);
+}
+
+// Gathers the writer and the second reader: key 0 is filled, and key 1 is asked for.
+fn gathers_all<R: Abort>(rt: &R, map: &ReaderMap, writer: &mut Writer, two: &mut Reader)
+    requires writer { writer.old.table ≡ map.now }
+    requires two { two.old.table ≡ map.now }
+    requires keys { 1 < map.now.shape.keys }
+{
+    map.gather(writer, two);
+    assert_eq!(rt; state(map, writer, 0), KeyKind::Rows);
+    assert_eq!(rt; state(map, writer, 1), KeyKind::Asked);
 }
 
 #[test]
 fn tokens_meet(rt: HostRuntime) -> Result<(), Fail> {
-    let (map, mut writer, mut readers) = ReaderMap::open(rt.alloc(), 2, 3, 2, 0)?;
-    let mut two = readers.pop().ok_or("no second reader")?;
-    let mut one = readers.pop().ok_or("no first reader")?;
-    assert!(rt; is_sent(map.ask(&mut one, 1), 1));
-    assert!(rt; is_sent(map.ask(&mut one, 0), 0));
-    assert_eq!(rt; fill(&map, &mut writer, 0, 0, &rows_of(&[(5, 5)])), FILLED);
-    let mut rows = RowSet::new();
-    let found = finds_by_meeting(&map, &mut writer, &mut one, &mut two, &mut rows);
-    assert_eq!(rt; found, Found::Rows);
-    assert!(rt; pairs_are(&rows, &[(5, 5)]));
-    assert_eq!(rt; gathered(&map, &mut writer, one), Some((1, row(5))));
-    map.gather(&mut writer, &mut two);
-    assert_eq!(rt; state(&map, &mut writer, 0), KeyKind::Rows);
-    assert_eq!(rt; state(&map, &mut writer, 1), KeyKind::Asked);
+    let (mut worked, mut two) = Worked::open_two(rt.alloc(), 2, 3, 0)?;
+    sends(&rt, &mut worked, 1);
+    sends(&rt, &mut worked, 0);
+    worked.fills(&rt, 0, 0, &[(5, 5)], Ok(()));
+    finds_by_meeting(&rt, &mut worked, &mut two);
+    let Worked {
+        map,
+        mut writer,
+        reader: one,
+    } = worked;
+    gathers_pinned(&rt, &map, &mut writer, one);
+    gathers_all(&rt, &map, &mut writer, &mut two);
     Ok(())
 }

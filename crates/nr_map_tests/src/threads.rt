@@ -1,11 +1,12 @@
 //! Threads over one map. What is asserted does not depend on how their steps fall.
 ghost use Rattle.std.specs.Prelude.{◌≡◌, ◌<◌};
 
-use crate::calls::{
-    FILLED, Told, UPDATED, ask, evict, fill, find, look, minus, pairs_are, plus, rows_of, update,
-};
+use crate::calls::{Told, ask, evict, fill, find, look, minus, pairs_are, plus, rows_of, update};
+use crate::worked::Worked;
 use nr_map::{Evict, FillFault, Found, NoSlot, Reader, ReaderMap, UpdateFault, Writer};
 use nr_model::{Delta, OpenFault, RowSet};
+use std::alloc::Global;
+use std::process::Abort;
 use std::sync::atomic::{AtomicBool, Ordering};
 use std::test::Fail;
 use std::thread::{Threads, join};
@@ -42,126 +43,104 @@ fn both_ask<R: Threads + Sync>(
     )
 }
 
-#[test]
-fn one_of_two_requests_is_sent(rt: HostRuntime) -> Result<(), Fail> {
-    let (map, mut writer, mut readers) = ReaderMap::open(rt.alloc(), 1, 4, 2, 0)?;
-    let (Some(two), Some(one)) = (readers.pop(), readers.pop()) else {
-        return Ok(());
-    };
-    let ((first, mut one), (second, _two)) = both_ask(&rt, &map, one, two);
-    assert!(rt;
-        (first, second) == (Told::Send(0, 0), Told::Waiting)
-            || (first, second) == (Told::Waiting, Told::Send(0, 0))
-    );
-    assert_eq!(rt; fill(&map, &mut writer, 0, 0, &rows_of(&[(5, 6)])), FILLED);
-    let mut rows = RowSet::new();
-    assert_eq!(rt; look(&map, &mut writer, 0, &mut rows), Found::Rows);
-    assert!(rt; pairs_are(&rows, &[(5, 6)]));
+/// Finds a key's rows, and once it is evicted a hole, which leaves the caller's set as it is.
+fn finds_until_evicted<R: Abort>(rt: &R, worked: &mut Worked) {
     let mut found = RowSet::new();
-    assert_eq!(rt; find(&map, &mut one, 0, &mut found), Found::Rows);
+    assert_eq!(rt; worked.find(rt, 0, &mut found), Found::Rows);
     assert!(rt; pairs_are(&found, &[(5, 6)]));
-    assert_eq!(rt; evict(&map, &mut writer, 0), Evict::Evicted);
-    assert_eq!(rt; look(&map, &mut writer, 0, &mut rows), Found::Hole);
-    assert_eq!(rt; find(&map, &mut one, 0, &mut found), Found::Hole);
+    worked.evicts(rt, 0, Evict::Evicted);
+    assert_eq!(rt; worked.look(rt, 0, &mut RowSet::new()), Found::Hole);
+    assert_eq!(rt; worked.find(rt, 0, &mut found), Found::Hole);
     assert!(rt;
         pairs_are(&found, &[(5, 6)]),
         "a hole leaves the caller's set"
     );
+}
+
+#[test]
+fn one_of_two_requests_is_sent(rt: HostRuntime) -> Result<(), Fail> {
+    let (worked, two) = Worked::open_two(rt.alloc(), 1, 4, 0)?;
+    let Worked {
+        map,
+        writer,
+        reader: one,
+    } = worked;
+    let ((first, one), (second, _two)) = both_ask(&rt, &map, one, two);
+    assert!(rt;
+        (first, second) == (Told::Send(0, 0), Told::Waiting)
+            || (first, second) == (Told::Waiting, Told::Send(0, 0))
+    );
+    let mut worked = Worked {
+        map,
+        writer,
+        reader: one,
+    };
+    worked.fills(&rt, 0, 0, &[(5, 6)], Ok(()));
+    worked.looks(&rt, 0, &[(5, 6)]);
+    finds_until_evicted(&rt, &mut worked);
     Ok(())
 }
 
 #[test]
 fn updates_use_slots_again(rt: HostRuntime) -> Result<(), Fail> {
-    let (map, mut writer, mut readers) = ReaderMap::open(rt.alloc(), 1, 2, 1, 0)?;
-    let Some(mut reader) = readers.pop() else {
-        return Ok(());
-    };
-    assert_eq!(rt; ask(&map, &mut reader, 0), Told::Send(0, 0));
-    assert_eq!(rt; fill(&map, &mut writer, 0, 0, &rows_of(&[(1, 1)])), FILLED);
-    assert_eq!(rt; update(&map, &mut writer, 0, &[plus(2, 2)]), UPDATED);
-    assert_eq!(rt; update(&map, &mut writer, 0, &[plus(3, 3)]), UPDATED);
-    let mut rows = RowSet::new();
-    assert_eq!(rt; look(&map, &mut writer, 0, &mut rows), Found::Rows);
-    assert!(rt; pairs_are(&rows, &[(1, 1), (2, 2), (3, 3)]));
+    let mut worked = Worked::open(rt.alloc(), 1, 2, 1, 0)?;
+    worked.asks(&rt, 0, Told::Send(0, 0));
+    worked.fills(&rt, 0, 0, &[(1, 1)], Ok(()));
+    worked.updates(&rt, 0, &[plus(2, 2)], Ok(()));
+    worked.updates(&rt, 0, &[plus(3, 3)], Ok(()));
+    worked.looks(&rt, 0, &[(1, 1), (2, 2), (3, 3)]);
     Ok(())
+}
+
+/// So many keys, slots and readers.
+fn has_sizes<R: Abort>(rt: &R, map: &ReaderMap, sizes: (u32, u32, u32)) {
+    assert_eq!(rt; (map.keys(), map.slots(), map.readers()), sizes);
 }
 
 #[test]
 fn only_a_requested_key_is_filled(rt: HostRuntime) -> Result<(), Fail> {
-    let (map, mut writer, mut readers) = ReaderMap::open(rt.alloc(), 2, 1, 1, 1_099_511_627_775)?;
-    let Some(mut reader) = readers.pop() else {
-        return Ok(());
-    };
-    assert_eq!(rt; reader.number(), 1);
-    assert_eq!(rt; (map.keys(), map.slots(), map.readers()), (2, 1, 1));
-    assert_eq!(rt;
-        fill(&map, &mut writer, 0, 0, &rows_of(&[(1, 1)])),
-        Some(Err(FillFault::NotAsked))
-    );
-    assert_eq!(rt;
-        update(&map, &mut writer, 0, &[plus(2, 2)]),
-        Some(Err(UpdateFault::Dropped))
-    );
-    assert_eq!(rt; evict(&map, &mut writer, 0), Evict::Nothing);
-    assert_eq!(rt; ask(&map, &mut reader, 0), Told::Send(0, 0));
-    assert_eq!(rt;
-        update(&map, &mut writer, 0, &[plus(2, 2)]),
-        Some(Err(UpdateFault::Dropped))
-    );
-    assert_eq!(rt; evict(&map, &mut writer, 0), Evict::Nothing);
+    let mut worked = Worked::open(rt.alloc(), 2, 1, 1, 1_099_511_627_775)?;
+    assert_eq!(rt; worked.reader.number(), 1);
+    has_sizes(&rt, &worked.map, (2, 1, 1));
+    worked.fills(&rt, 0, 0, &[(1, 1)], Err(FillFault::NotAsked));
+    worked.updates(&rt, 0, &[plus(2, 2)], Err(UpdateFault::Dropped));
+    worked.evicts(&rt, 0, Evict::Nothing);
+    worked.asks(&rt, 0, Told::Send(0, 0));
+    worked.updates(&rt, 0, &[plus(2, 2)], Err(UpdateFault::Dropped));
+    worked.evicts(&rt, 0, Evict::Nothing);
     Ok(())
 }
 
 #[test]
 fn a_filled_key_is_refused(rt: HostRuntime) -> Result<(), Fail> {
-    let (map, mut writer, mut readers) = ReaderMap::open(rt.alloc(), 1, 1, 1, 0)?;
-    let Some(mut reader) = readers.pop() else {
-        return Ok(());
-    };
-    let one = rows_of(&[(1, 1)]);
-    assert_eq!(rt; ask(&map, &mut reader, 0), Told::Send(0, 0));
-    assert_eq!(rt; fill(&map, &mut writer, 0, 0, &one), FILLED);
-    assert_eq!(rt;
-        fill(&map, &mut writer, 0, 0, &one),
-        Some(Err(FillFault::Already))
-    );
-    assert_eq!(rt; ask(&map, &mut reader, 0), Told::Filled);
-    assert_eq!(rt;
-        update(&map, &mut writer, 0, &[minus(9, 9)]),
-        Some(Err(UpdateFault::NoRow))
-    );
-    assert_eq!(rt;
-        update(&map, &mut writer, 0, &[plus(2, 2); 15]),
-        Some(Err(UpdateFault::TooMany))
-    );
+    let mut worked = Worked::open(rt.alloc(), 1, 1, 1, 0)?;
+    worked.asks(&rt, 0, Told::Send(0, 0));
+    worked.fills(&rt, 0, 0, &[(1, 1)], Ok(()));
+    worked.fills(&rt, 0, 0, &[(1, 1)], Err(FillFault::Already));
+    worked.asks(&rt, 0, Told::Filled);
+    worked.updates(&rt, 0, &[minus(9, 9)], Err(UpdateFault::NoRow));
+    worked.updates(&rt, 0, &[plus(2, 2); 15], Err(UpdateFault::TooMany));
     Ok(())
 }
 
 #[test]
 fn a_slot_is_free_again_once_its_key_is_evicted(rt: HostRuntime) -> Result<(), Fail> {
-    let (map, mut writer, mut readers) = ReaderMap::open(rt.alloc(), 2, 1, 1, 0)?;
-    let Some(mut reader) = readers.pop() else {
-        return Ok(());
-    };
-    let one = rows_of(&[(1, 1)]);
+    let mut worked = Worked::open(rt.alloc(), 2, 1, 1, 0)?;
     let none = NoSlot { live: 1, held: 0 };
-    assert_eq!(rt; ask(&map, &mut reader, 0), Told::Send(0, 0));
-    assert_eq!(rt; ask(&map, &mut reader, 1), Told::Send(1, 0));
-    assert_eq!(rt; fill(&map, &mut writer, 0, 0, &one), FILLED);
-    assert_eq!(rt;
-        update(&map, &mut writer, 0, &[plus(2, 2)]),
-        Some(Err(UpdateFault::NoSlot(none)))
-    );
-    assert_eq!(rt;
-        fill(&map, &mut writer, 1, 0, &one),
-        Some(Err(FillFault::NoSlot(none)))
-    );
-    assert_eq!(rt; evict(&map, &mut writer, 0), Evict::Evicted);
-    assert_eq!(rt; fill(&map, &mut writer, 1, 0, &one), FILLED);
-    let mut rows = RowSet::new();
-    assert_eq!(rt; look(&map, &mut writer, 1, &mut rows), Found::Rows);
-    assert!(rt; pairs_are(&rows, &[(1, 1)]));
+    worked.asks(&rt, 0, Told::Send(0, 0));
+    worked.asks(&rt, 1, Told::Send(1, 0));
+    worked.fills(&rt, 0, 0, &[(1, 1)], Ok(()));
+    worked.updates(&rt, 0, &[plus(2, 2)], Err(UpdateFault::NoSlot(none)));
+    worked.fills(&rt, 1, 0, &[(1, 1)], Err(FillFault::NoSlot(none)));
+    worked.evicts(&rt, 0, Evict::Evicted);
+    worked.fills(&rt, 1, 0, &[(1, 1)], Ok(()));
+    worked.looks(&rt, 1, &[(1, 1)]);
     Ok(())
+}
+
+/// How a map of those sizes is refused, if it is.
+fn refusal(alloc: Global, keys: u32, slots: u32, readers: u32) -> Option<OpenFault> {
+    ReaderMap::open(alloc, keys, slots, readers, 0).err()
 }
 
 #[test]
@@ -174,11 +153,11 @@ fn sizes_have_their_limits(rt: HostRuntime) {
         (1, 1, 0),
         (1, 1, 1025),
     ] {
-        let opened = ReaderMap::open(rt.alloc(), keys, slots, readers, 0);
-        assert!(rt; matches!(opened, Err(OpenFault::BadSize)));
+        let refused = refusal(rt.alloc(), keys, slots, readers);
+        assert!(rt; matches!(refused, Some(OpenFault::BadSize)));
     }
     for (keys, slots, readers) in [(65_536, 1, 1), (1, 131_072, 1), (1, 1, 1024)] {
-        assert!(rt; ReaderMap::open(rt.alloc(), keys, slots, readers, 0).is_ok());
+        assert!(rt; refusal(rt.alloc(), keys, slots, readers).is_none());
     }
 }
 
@@ -312,12 +291,14 @@ fn both_find<R: Threads + Sync>(
 
 #[test]
 fn sets_are_found_whole(rt: HostRuntime) -> Result<(), Fail> {
-    let (map, mut writer, mut readers) = ReaderMap::open(rt.alloc(), 1, 4, 2, u64::MAX)?;
-    let (Some(two), Some(mut one)) = (readers.pop(), readers.pop()) else {
-        return Ok(());
-    };
-    assert_eq!(rt; ask(&map, &mut one, 0), Told::Send(0, 0));
-    assert_eq!(rt; fill(&map, &mut writer, 0, 0, &marked(0)), FILLED);
+    let (mut worked, two) = Worked::open_two(rt.alloc(), 1, 4, u64::MAX)?;
+    worked.asks(&rt, 0, Told::Send(0, 0));
+    worked.fills_set(&rt, 0, 0, &marked(0), Ok(()));
+    let Worked {
+        map,
+        writer,
+        reader: one,
+    } = worked;
     let hits = Hits {
         one: AtomicBool::new(false),
         two: AtomicBool::new(false),

@@ -1,7 +1,7 @@
 //! Clients in threads of their own. What is asserted does not depend on how their steps fall.
 ghost use Rattle.std.specs.Prelude.{◌≡◌};
 
-use crate::calls::{Plain, end_client, end_flow, is_row, map_of, one_row, queue_of};
+use crate::calls::{Opened, Plain, end_client, end_flow, is_row, one_row};
 use nr_map::{Asked, Cancel, Reader, ReaderMap, Writer};
 use nr_model::RowSet;
 use nr_serve::{Client, Dataflow, Gate, Got, Lobby, OpenGate, Turn};
@@ -118,22 +118,30 @@ fn ask_and_fill<R: Abort>(rt: &R, map: &ReaderMap, reader: &mut Reader, writer: 
     assert!(rt; map.fill(writer, 0, 0, &one_row(5, 6)).is_ok());
 }
 
+impl Meeting {
+    // Nobody has come.
+    fn new() -> Meeting {
+        Meeting {
+            first: AtomicBool::new(false),
+            second: AtomicBool::new(false),
+            failed: AtomicBool::new(false),
+        }
+    }
+}
+
 #[test]
 fn two_clients_meet_at_a_gate(rt: HostRuntime) -> Result<(), Fail> {
-    let (map, mut writer, mut readers) = map_of(rt.alloc(), 1, 4, 2)?;
-    let (triggers, mut posters, _taker) = queue_of(rt.alloc(), 1, 2, 1)?;
-    let (Some(two), Some(mut one)) = (readers.pop(), readers.pop()) else {
-        return Ok(());
-    };
-    let (Some(second), Some(first)) = (posters.pop(), posters.pop()) else {
-        return Ok(());
-    };
+    let (opened, two, second) = Opened::open_two(rt.alloc(), 1, 4, 1)?;
+    let Opened {
+        map,
+        triggers,
+        mut writer,
+        taker: _,
+        reader: mut one,
+        poster: first,
+    } = opened;
     ask_and_fill(&rt, &map, &mut one, &mut writer);
-    let gate = Meeting {
-        first: AtomicBool::new(false),
-        second: AtomicBool::new(false),
-        failed: AtomicBool::new(false),
-    };
+    let gate = Meeting::new();
     let both = both_get(&rt, &map, &triggers, &gate, (one, two), (first, second));
     assert_eq!(rt; both, (true, true));
     Ok(())
@@ -239,11 +247,15 @@ fn both_sides<R: Threads + Wait + Sync>(
 
 #[test]
 fn a_cancel_wakes_who_waits(rt: HostRuntime) -> Result<(), Fail> {
-    let (map, writer, mut readers) = map_of(rt.alloc(), 1, 3, 1)?;
-    let (triggers, mut posters, taker) = queue_of(rt.alloc(), 4, 1, 1)?;
-    let (Some(reader), Some(poster)) = (readers.pop(), posters.pop()) else {
-        return Ok(());
-    };
+    let opened = Opened::open(rt.alloc(), 1, 3, 4)?;
+    let Opened {
+        map,
+        triggers,
+        writer,
+        taker,
+        reader,
+        poster,
+    } = opened;
     let lobby = Lobby::open();
     let (waited, cancelled) = both_sides(
         &rt, &map, &triggers, &lobby, reader, poster, writer, taker,
