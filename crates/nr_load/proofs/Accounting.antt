@@ -9,7 +9,7 @@ use Rattle.nr_map.specs.Rounds.{is_cancel, is_fill, is_sent}
 use Rattle.nr_serve.specs.Hands.{capped}
 use Rattle.nr_tally.specs.Balance.{of_all}
 use Rattle.nr_tally.specs.Rounds.{IsInOrder}
-use Rattle.nr_load.specs.declared.workers.Joined.{Joined}
+use Rattle.nr_load.specs.declared.threads.Joined.{Joined}
 use Rattle.nr_load.specs.Ends.{Ended}
 use Rattle.nr_load.specs.Outcomes.{answered_in, reader_of, sends_in}
 use Rattle.nr_load.proofs.Settling.{IsNew, all_new, all_own, counts_gained, numbered, same_numbers, served_answered, total_cancelled, total_filled, total_sent}

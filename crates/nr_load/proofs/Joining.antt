@@ -29,8 +29,8 @@ served seed gets readers [] (o ∷ os) carries kept = absurd kept
 served seed gets readers (h ∷ hs) [] carries kept = absurd kept
 served seed gets [] (h ∷ hs) (o ∷ os) carries kept = absurd carries
 served seed gets (r ∷ rs) (h ∷ hs) (o ∷ os) carries kept = (
-  subst (λ (x : Caller). Serves seed gets x o) carries.2
-      (subst (λ (n : ℕ). Serves seed n h.promise.reader.value o) carries.1
-      (subst (λ (n : ℕ). Serves n h.promise.gets h.promise.reader.value o) carries.0 kept.0)),
-  served seed gets rs hs os carries.3 kept.1,
+  subst (λ (x : Caller). Serves seed gets x o) carries.0.2
+      (subst (λ (n : ℕ). Serves seed n h.promise.reader.value o) carries.0.1
+      (subst (λ (n : ℕ). Serves n h.promise.gets h.promise.reader.value o) carries.0.0 kept.0)),
+  served seed gets rs hs os carries.1 kept.1,
 )

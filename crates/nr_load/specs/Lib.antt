@@ -4,4 +4,5 @@ pub mod Works
 pub mod Gained
 pub mod Flowed
 pub mod Outcomes
+pub mod Handed
 pub mod Ends

@@ -35,12 +35,15 @@ ServesFirst seed gets readers [] = Unit {0}
 ServesFirst seed gets [] (outcome ∷ outcomes) = ⊥
 ServesFirst seed gets (reader ∷ readers) (outcome ∷ outcomes) = Serves seed gets reader outcome × ServesFirst seed gets readers outcomes
 
+-- the handle carries the promise of that reader's worker
+abbrev pub Carries : ℕ → ℕ → Caller → PromisedHandle Outcome Serving → Type 0
+Carries seed gets reader handle = (handle.promise.seed ≡ seed) × (handle.promise.gets ≡ gets) × (handle.promise.reader.value ≡ reader)
+
 -- the first readers have their handles, in order
 abbrev pub CarriesFirst : ℕ → ℕ → List Caller → List (PromisedHandle Outcome Serving) → Type 0
 CarriesFirst seed gets readers [] = Unit {0}
 CarriesFirst seed gets [] (handle ∷ handles) = ⊥
-CarriesFirst seed gets (reader ∷ readers) (handle ∷ handles) =
-    (handle.promise.seed ≡ seed) × (handle.promise.gets ≡ gets) × (handle.promise.reader.value ≡ reader) × CarriesFirst seed gets readers handles
+CarriesFirst seed gets (reader ∷ readers) (handle ∷ handles) = Carries seed gets reader handle × CarriesFirst seed gets readers handles
 
 -- each handle was joined, and its promise is kept, in order
 abbrev pub KeptBy : List (PromisedHandle Outcome Serving) → List Outcome → Type 0

@@ -4,12 +4,14 @@ ghost use Rattle.nr_serve.specs.Flows.{HasRoom};
 ghost use Rattle.nr_serve.specs.Hands.{capped};
 ghost use Rattle.nr_load.specs.Flowed.{Flows};
 ghost use Rattle.nr_load.specs.Gained.{Gained};
+ghost use Rattle.nr_load.specs.Handed.{IsTakerOf};
 
 use crate::base::Base;
 use crate::fault::LoadFault;
-use nr_map::{NoSlot, ReaderMap, UpdateFault, Writer};
-use nr_serve::{Dataflow, Lobby, Turn};
-use nr_trigger::{Taker, Triggers};
+use crate::shared::Shared;
+use nr_map::{NoSlot, UpdateFault, Writer};
+use nr_serve::{Dataflow, Turn};
+use nr_trigger::Taker;
 use std::sync::Wait;
 use std::thread;
 
@@ -85,23 +87,20 @@ fn fault_of(turned: Turned) -> Option<LoadFault> {
 }
 
 /// Turns until the lobby is closed and nothing is left to fill, or until a change of rows is
-/// refused: then it closes the lobby itself.
+/// refused. Then it ends the load.
 pub(crate) fn flow_on<R: Wait>(
     rt: &R,
-    map: &ReaderMap,
+    shared: &Shared,
     writer: Writer,
-    triggers: &Triggers,
     taker: Taker,
     base: Base,
-    lobby: &Lobby,
 ) -> Flowed
-    requires own { writer.table ≡ map.now }
-    requires room { HasRoom map.now }
-    requires queue { taker.queue ≡ triggers.now.id }
-    requires keys { taker.keys ≤ map.now.shape.keys }
+    requires own { writer.table ≡ shared.now.map }
+    requires queue { IsTakerOf shared.now.map shared.now.triggers taker }
     ensures { Flows writer result }
 {
-    let mut flow = Dataflow::open(map, writer, triggers, taker, base, lobby);
+    let lobby = &shared.lobby;
+    let mut flow = Dataflow::open(&shared.map, writer, &shared.triggers, taker, base, lobby);
     let mut fills = 0;
     let mut fault = None;
     for _ in rt.forever() {
@@ -119,7 +118,7 @@ pub(crate) fn flow_on<R: Wait>(
     if let Some(trigger) = kept {
         trigger.into_key();
     }
-    lobby.close(rt);
+    shared.end(rt);
     Flowed {
         writer,
         fills,

@@ -8,6 +8,8 @@ mod fault;
 mod flow;
 mod gets;
 mod load;
+mod shared;
+mod threads;
 mod workers;
 
 pub use draws::Draws;

@@ -5,19 +5,22 @@ ghost use Rattle.nr_serve.specs.Hands.{capped};
 ghost use Rattle.nr_tally.specs.Balance.{of_all};
 ghost use Rattle.nr_tally.specs.Rounds.{IsInOrder};
 ghost use Rattle.nr_load.specs.Ends.{Ended, told};
+ghost use Rattle.nr_load.specs.Handed.{HasRoomFor};
 ghost use Rattle.nr_load.specs.Outcomes.{answered_in, earliest, reader_of, sends_in};
 
 use crate::base::Base;
 use crate::fault::{LoadFault, earlier};
 use crate::flow::Flowed;
-use crate::workers::{Joined, Outcome, Serving, serve_all};
+use crate::shared::Shared;
+use crate::threads::{Joined, Lists, Tokens, serve_all};
+use crate::workers::Outcome;
 use nr_map::{Reader, ReaderMap, Writer};
-use nr_serve::Gate;
+use nr_serve::{Gate, Lobby};
 use nr_tally::tally;
 use nr_trigger::Triggers;
 use std::alloc::{AllocError, Global};
 use std::sync::Wait;
-use std::thread::{PromisedHandle, Threads};
+use std::thread::Threads;
 
 /// What a run of load is to do.
 #[derive(Clone, Copy, Debug, PartialEq, Eq)]
@@ -78,21 +81,21 @@ struct Sums {
 #[derive(Drop)]
 struct Room {
     base: Base,
-    handles: Vec<PromisedHandle<Outcome, Serving>>,
-    outcomes: Vec<Outcome>,
+    lists: Lists,
     readers: Vec<Reader>,
 }
 
 impl Room {
     fn open(alloc: Global, keys: u32, readers: u32) -> Result<Room, AllocError>
-        ensures handles { IfOk result (λ room. (readers ≤ vec_capacity room.handles) × (vec_len room.handles ≡ 0)) }
-        ensures outcomes { IfOk result (λ room. (readers ≤ vec_capacity room.outcomes) × (vec_len room.outcomes ≡ 0)) }
+        ensures lists { IfOk result (λ room. HasRoomFor readers room.lists) }
         ensures readers { IfOk result (λ room. (readers ≤ vec_capacity room.readers) × (vec_len room.readers ≡ 0)) }
     {
         Ok(Room {
             base: Base::open(alloc, keys)?,
-            handles: Vec::with_capacity(alloc, readers as usize)?,
-            outcomes: Vec::with_capacity(alloc, readers as usize)?,
+            lists: Lists {
+                handles: Vec::with_capacity(alloc, readers as usize)?,
+                outcomes: Vec::with_capacity(alloc, readers as usize)?,
+            },
             readers: Vec::with_capacity(alloc, readers as usize)?,
         })
     }
@@ -221,15 +224,19 @@ pub fn run_load<R: Threads + Wait + Sync, G: Gate + Sync>(
     let Ok((triggers, posters, taker)) = Triggers::open(alloc, plan.keys, plan.readers) else {
         return Err(LoadFault::Memory);
     };
-    let Room {
-        base,
-        handles,
-        outcomes,
-        readers: spare,
-    } = room;
-    let joined = serve_all(
-        rt, alloc, &map, &triggers, gate, base, writer, taker, readers, posters, handles, outcomes,
-        plan.seed, plan.gets,
-    )?;
-    settle(&map, plan, joined, spare)
+    let tokens = Tokens {
+        writer,
+        taker,
+        readers,
+        posters,
+    };
+    let shared = Shared {
+        alloc,
+        plan: *plan,
+        map,
+        triggers,
+        lobby: Lobby::open(),
+    };
+    let joined = serve_all(rt, gate, &shared, tokens, room.base, room.lists)?;
+    settle(&shared.map, plan, joined, room.readers)
 }

@@ -1,21 +1,18 @@
-//! One thread for each reader and one for the dataflow.
-ghost use Rattle.std.specs.Prelude.{◌≡◌, ◌<◌, ◌≤◌, IfOk, All, length, true, vec_len, vec_capacity};
-ghost use Rattle.nr_serve.specs.Flows.{HasRoom};
-ghost use Rattle.nr_load.specs.Flowed.{Flows};
-ghost use Rattle.nr_load.specs.Outcomes.{KeptBy, Serves, ServesFirst};
+//! One thread for each reader.
+ghost use Rattle.std.specs.Prelude.{◌≡◌, ◌≤◌, IfOk, All, length, true, vec_len, vec_capacity};
+ghost use Rattle.nr_load.specs.Outcomes.{Carries, CarriesFirst, KeptBy, Serves};
+ghost use Rattle.nr_load.specs.Handed.{IsPosterOf};
 
-use crate::base::Base;
 use crate::draws::Draws;
 use crate::fault::LoadFault;
-use crate::flow::{Flowed, flow_on};
 use crate::gets::{Worked, load_gets};
-use nr_map::{Reader, ReaderMap, Writer};
-use nr_serve::{Client, Gate, Lobby};
-use nr_trigger::{Poster, Taker, Triggers};
-use std::alloc::Global;
+use crate::shared::Shared;
+use nr_map::Reader;
+use nr_serve::{Client, Gate};
+use nr_trigger::Poster;
 use std::snapshot::Snapshot;
 use std::sync::Wait;
-use std::thread::{self, Promise, PromisedHandle, Threads};
+use std::thread::{Promise, PromisedHandle, Scope, Threads};
 
 /// What a worker's thread gives back.
 #[derive(Drop)]
@@ -24,15 +21,6 @@ pub struct Outcome {
     pub worked: Worked,
     /// How many of its requests were to be sent.
     pub sends: u64,
-}
-
-/// What all threads that were started gave back.
-#[derive(Drop)]
-pub(crate) struct Joined {
-    pub(crate) outcomes: Vec<Outcome>,
-    pub(crate) flowed: Flowed,
-    /// Whether no thread was refused.
-    pub(crate) is_whole: bool,
 }
 
 /// The promise of a worker's thread.
@@ -49,16 +37,12 @@ impl Promise<Outcome> for Serving {
     ghost kept_by = { λ promise outcome. Serves promise.seed promise.gets promise.reader.value outcome };
 }
 
-/// The promise of the dataflow's thread.
+/// The threads that were started for the readers.
 #[derive(Drop)]
-pub(crate) struct Flowing {
-    writer: Snapshot<Writer>,
-}
-
-impl Promise<Flowed> for Flowing {
-    ghost use Rattle.nr_load.specs.Flowed.{Flows};
-
-    ghost kept_by = { λ promise flowed. Flows promise.writer.value flowed };
+pub(crate) struct Started {
+    pub(crate) handles: Vec<PromisedHandle<Outcome, Serving>>,
+    /// Whether none was refused.
+    pub(crate) is_whole: bool,
 }
 
 fn promise_to_serve(reader: &Reader, seed: u64, gets: u32) -> Serving
@@ -71,38 +55,31 @@ fn promise_to_serve(reader: &Reader, seed: u64, gets: u32) -> Serving
     }
 }
 
-fn promise_to_flow(writer: &Writer) -> Flowing
-    ensures { result.writer.value ≡ writer.now }
-{
-    Flowing {
-        writer: Snapshot::of(writer),
-    }
-}
-
 /// What a worker's thread does: its gets, of the keys that it draws. A fault closes the lobby, so
 /// that the others end too.
 fn work<R: Wait, G: Gate>(
     rt: &R,
-    alloc: Global,
-    map: &ReaderMap,
-    triggers: &Triggers,
-    lobby: &Lobby,
     gate: &G,
+    shared: &Shared,
     reader: Reader,
     poster: Poster,
-    seed: u64,
-    gets: u32,
 ) -> Outcome
-    requires own { reader.table ≡ map.now }
-    requires queue { (poster.queue ≡ triggers.now.id) × (map.now.shape.keys ≤ poster.keys) }
-    requires keys { (0 < map.now.shape.keys) × (map.now.shape.keys ≤ 65536) }
-    ensures { Serves seed gets reader result }
+    requires own { reader.table ≡ shared.now.map }
+    requires queue { IsPosterOf shared.now.map shared.now.triggers poster }
+    ensures { Serves shared.now.plan.seed shared.now.plan.gets reader result }
 {
-    let mut draws = Draws::open(seed, reader.number(), map.keys());
+    let Shared {
+        alloc,
+        plan,
+        map,
+        triggers,
+        lobby,
+    } = shared;
+    let mut draws = Draws::open(plan.seed, reader.number(), map.keys());
     let mut client = Client::open(map, reader, triggers, poster, lobby, gate);
-    let worked = load_gets(rt, alloc, &mut client, &mut draws, gets, lobby);
+    let worked = load_gets(rt, *alloc, &mut client, &mut draws, plan.gets, lobby);
     if worked.fault.is_some() {
-        lobby.close(rt);
+        shared.end(rt);
     }
     let sends = client.sends();
     let (reader, _, kept) = client.end();
@@ -116,8 +93,72 @@ fn work<R: Wait, G: Gate>(
     }
 }
 
+/// Starts the thread of one worker, or tells that it was refused.
+fn start_worker<'s, E, R: Wait + Sync, G: Gate + Sync>(
+    scope: &Scope<'s, E>,
+    rt: &'s R,
+    gate: &'s G,
+    shared: &'s Shared,
+    reader: Reader,
+    poster: Poster,
+) -> Result<PromisedHandle<Outcome, Serving>, LoadFault>
+    requires own { reader.table ≡ shared.now.map }
+    requires queue { IsPosterOf shared.now.map shared.now.triggers poster }
+    ensures { IfOk result (λ handle. Carries shared.now.plan.seed shared.now.plan.gets reader handle) }
+{
+    let promise = promise_to_serve(&reader, shared.plan.seed, shared.plan.gets);
+    match scope.spawn_with(
+        promise,
+        move || -> Outcome
+            requires own { reader.table ≡ shared.now.map }
+            requires queue { IsPosterOf shared.now.map shared.now.triggers poster }
+            ensures { Serves shared.entry.now.plan.seed shared.entry.now.plan.gets reader result }
+        { work(rt, gate, shared, reader, poster) },
+    ) {
+        Ok(handle) => Ok(handle),
+        Err(_) => Err(LoadFault::Thread),
+    }
+}
+
+/// Starts a thread for each reader, in order. Where one is refused no more are started, and the load
+/// ends. The list has room for all.
+pub(crate) fn start_workers<'s, E, R: Wait + Sync, G: Gate + Sync>(
+    scope: &Scope<'s, E>,
+    rt: &'s R,
+    gate: &'s G,
+    shared: &'s Shared,
+    readers: Vec<Reader>,
+    posters: Vec<Poster>,
+    mut handles: Vec<PromisedHandle<Outcome, Serving>>,
+) -> Started
+    requires readers { All (λ reader. reader.table ≡ shared.now.map) readers.items }
+    requires posters { All (λ poster. IsPosterOf shared.now.map shared.now.triggers poster) posters.items }
+    requires count { vec_len posters ≡ vec_len readers }
+    requires room { (vec_len readers ≤ vec_capacity handles) × (vec_len handles ≡ 0) }
+    ensures readers { CarriesFirst shared.now.plan.seed shared.now.plan.gets readers.items result.handles.items }
+    ensures few { vec_len result.handles ≤ vec_len readers }
+    ensures whole { result.is_whole ≡ true → length result.handles.items ≡ length readers.items }
+{
+    let mut posters = posters.into_iter();
+    let mut is_whole = true;
+    for reader in readers {
+        let Some(poster) = posters.next() else {
+            unreachable!()
+        };
+        match start_worker(scope, rt, gate, shared, reader, poster) {
+            Ok(handle) => handles.push_reserved(handle),
+            Err(_) => {
+                shared.end(rt);
+                is_whole = false;
+                break;
+            }
+        }
+    }
+    Started { handles, is_whole }
+}
+
 /// Joins each thread, and gives what they gave, in order. The room is there.
-fn join_all<R: Threads>(
+pub(crate) fn join_all<R: Threads>(
     rt: &R,
     handles: Vec<PromisedHandle<Outcome, Serving>>,
     mut outcomes: Vec<Outcome>,
@@ -130,107 +171,4 @@ fn join_all<R: Threads>(
         outcomes.push_reserved(handle.join(rt));
     }
     outcomes
-}
-
-/// Starts a thread for the dataflow and one for each reader, and joins all that were started. Where
-/// one is refused no more are started, and the lobby is closed, so that the others end. `Thread` where
-/// the first is refused. The lists have room for all.
-pub(crate) fn serve_all<R: Threads + Wait + Sync, G: Gate + Sync>(
-    rt: &R,
-    alloc: Global,
-    map: &ReaderMap,
-    triggers: &Triggers,
-    gate: &G,
-    base: Base,
-    writer: Writer,
-    taker: Taker,
-    readers: Vec<Reader>,
-    posters: Vec<Poster>,
-    handles: Vec<PromisedHandle<Outcome, Serving>>,
-    outcomes: Vec<Outcome>,
-    seed: u64,
-    gets: u32,
-) -> Result<Joined, LoadFault>
-    requires keys { (0 < map.now.shape.keys) × (map.now.shape.keys ≤ 65536) }
-    requires slots { HasRoom map.now }
-    requires writer { writer.table ≡ map.now }
-    requires taker { (taker.queue ≡ triggers.now.id) × (taker.keys ≤ map.now.shape.keys) }
-    requires readers { All (λ reader. reader.table ≡ map.now) readers.items }
-    requires posters { All (λ poster. (poster.queue ≡ triggers.now.id) × (map.now.shape.keys ≤ poster.keys)) posters.items }
-    requires count { vec_len posters ≡ vec_len readers }
-    requires room { (vec_len readers ≤ vec_capacity handles) × (vec_len readers ≤ vec_capacity outcomes) × (vec_len handles ≡ 0) × (vec_len outcomes ≡ 0) }
-    ensures readers { IfOk result (λ joined. ServesFirst seed gets readers.items joined.outcomes.items) }
-    ensures whole { IfOk result (λ joined. joined.is_whole ≡ true → length joined.outcomes.items ≡ length readers.items) }
-    ensures writer { IfOk result (λ joined. Flows writer joined.flowed) }
-{
-    let lobby = Lobby::open();
-    let lobby = &lobby;
-    thread::scope(
-        thread::scope_env(),
-        rt,
-        |scope| -> Result<Joined, LoadFault>
-            requires keys { (0 < map.now.shape.keys) × (map.now.shape.keys ≤ 65536) }
-            requires slots { HasRoom map.now }
-            requires writer { writer.table ≡ map.now }
-            requires taker { (taker.queue ≡ triggers.now.id) × (taker.keys ≤ map.now.shape.keys) }
-            requires readers { All (λ reader. reader.table ≡ map.now) readers.items }
-            requires posters { All (λ poster. (poster.queue ≡ triggers.now.id) × (map.now.shape.keys ≤ poster.keys)) posters.items }
-            requires count { vec_len posters ≡ vec_len readers }
-            requires room { (vec_len readers ≤ vec_capacity handles) × (vec_len readers ≤ vec_capacity outcomes) × (vec_len handles ≡ 0) × (vec_len outcomes ≡ 0) }
-            ensures readers { IfOk result (λ joined. ServesFirst seed gets readers.items joined.outcomes.items) }
-            ensures whole { IfOk result (λ joined. joined.is_whole ≡ true → length joined.outcomes.items ≡ length readers.items) }
-            ensures writer { IfOk result (λ joined. Flows writer joined.flowed) }
-        {
-            let promise = promise_to_flow(&writer);
-            let flow = match scope.spawn_with(
-                promise,
-                move || -> Flowed
-                    requires own { writer.table ≡ map.now }
-                    requires slots { HasRoom map.now }
-                    requires queue { (taker.queue ≡ triggers.now.id) × (taker.keys ≤ map.now.shape.keys) }
-                    ensures { Flows writer result }
-                { flow_on(rt, map, writer, triggers, taker, base, lobby) },
-            ) {
-                Ok(flow) => flow,
-                Err(_) => return Err(LoadFault::Thread),
-            };
-            let mut handles = handles;
-            let mut posters = posters.into_iter();
-            let mut is_whole = true;
-            for reader in readers {
-                let Some(poster) = posters.next() else {
-                    unreachable!()
-                };
-                let promise = promise_to_serve(&reader, seed, gets);
-                match scope.spawn_with(
-                    promise,
-                    move || -> Outcome
-                        requires own { reader.table ≡ map.now }
-                        requires queue { (poster.queue ≡ triggers.now.id) × (map.now.shape.keys ≤ poster.keys) }
-                        requires keys { (0 < map.now.shape.keys) × (map.now.shape.keys ≤ 65536) }
-                        ensures { Serves seed gets reader result }
-                    {
-                        work(
-                            rt, alloc, map, triggers, lobby, gate, reader, poster, seed, gets,
-                        )
-                    },
-                ) {
-                    Ok(handle) => handles.push_reserved(handle),
-                    Err(_) => {
-                        lobby.close(rt);
-                        is_whole = false;
-                        break;
-                    }
-                }
-            }
-            let outcomes = join_all(rt, handles, outcomes);
-            lobby.close(rt);
-            let flowed = flow.join(rt);
-            Ok(Joined {
-                outcomes,
-                flowed,
-                is_whole,
-            })
-        },
-    )
 }

@@ -22,7 +22,7 @@ loop-init g c =
     let opened = c.open-flow.ensures in
     record {
       map = ap (λ f. f.map) opened ∙ sym c.requires.own;
-      room = subst HasRoom (sym (ap (λ f. f.map) opened)) c.requires.room;
+      room = subst HasRoom (sym (ap (λ f. f.map) opened)) c.args.shared.now.slots;
       count = 0;
       gained = gained_none c.args.writer.table.shape.keys c.args.writer c.open-flow.result.writer (ap (λ f. f.writer) opened);
       fills = refl;
