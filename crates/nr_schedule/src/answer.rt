@@ -4,15 +4,50 @@ use nr_lines::RunFault;
 use nr_text::ReplyWord;
 use std::fmt;
 use std::fmt::Write;
+use std::marker::Model;
+
+/// A step of the writer's. It has room for a whole set, so it stays where the machine put it.
+#[derive(Drop)]
+pub(crate) struct WriterStep<'a> {
+    step: &'a Step,
+}
+
+impl<'a> Model for WriterStep<'a> {
+    ghost use Rattle.nr_core.specs.declared.calls.Step.{Step};
+
+    ghost Value = { Step };
+
+    ghost view = { λ told. told.step.now };
+}
+
+impl<'a> WriterStep<'a> {
+    ghost use Rattle.std.specs.Prelude.{◌≡◌};
+
+    /// The step, unless the machine refused it.
+    pub(crate) fn of(tried: &'a Result<Step, Refusal>) -> Result<WriterStep<'a>, Refusal>
+        ensures { result ≡ tried.now }
+    {
+        match tried {
+            Ok(step) => Ok(WriterStep { step }),
+            Err(why) => Err(*why),
+        }
+    }
+
+    fn step(&self) -> &Step
+        ensures { result.now ≡ self.now }
+    {
+        self.step
+    }
+}
 
 /// The answer to a command that isn't refused.
-#[derive(Clone, Copy)]
-pub(crate) enum StepAnswer {
+#[derive(Drop)]
+pub(crate) enum StepAnswer<'a> {
     Ok,
     Arrived(Arrived),
     Word(u64),
     Asked(AskReply),
-    Writer(Step),
+    Writer(WriterStep<'a>),
 }
 
 /// Why a line is refused, in the order in which that is tried.
@@ -38,7 +73,7 @@ impl From<Refusal> for StepRefusal {
 /// What a line, or a part of it, comes to where the run goes on: what it asks for, or a refusal.
 pub(crate) type Tried<T> = Result<Result<T, StepRefusal>, RunFault>;
 
-impl fmt::Display for StepAnswer {
+impl fmt::Display for StepAnswer<'_> {
     ghost use Rattle.std.specs.Prelude.{Some};
     ghost use Rattle.nr_schedule.specs.Spelling.{spelled_answer};
 
@@ -53,14 +88,16 @@ impl fmt::Display for StepAnswer {
             StepAnswer::Asked(AskReply::Send(_)) => f.write_str("send"),
             StepAnswer::Asked(AskReply::Waiting) => f.write_str("waiting"),
             StepAnswer::Asked(AskReply::Filled) => f.write_str("filled"),
-            StepAnswer::Writer(Step::Going) => f.write_str("-"),
-            StepAnswer::Writer(Step::Ended(WReply::Reply(reply))) => {
-                let reply = ReplyWord(reply);
-                write!(f, "{reply}")
-            }
-            StepAnswer::Writer(Step::Ended(WReply::NoSlot(NoSlot { live, held }))) => {
-                write!(f, "no-slot {live} {held}")
-            }
+            StepAnswer::Writer(told) => match told.step() {
+                Step::Going => f.write_str("-"),
+                Step::Ended(WReply::Reply(reply)) => {
+                    let reply = ReplyWord(reply);
+                    write!(f, "{reply}")
+                }
+                Step::Ended(WReply::NoSlot(NoSlot { live, held })) => {
+                    write!(f, "no-slot {live} {held}")
+                }
+            },
         }
     }
 }

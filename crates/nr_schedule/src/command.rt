@@ -1,16 +1,16 @@
 //! What a line of a schedule commands.
 ghost use Rattle.std.specs.Prelude.{◌≡◌, ℕ, option_map};
 ghost use Rattle.nr_schedule.specs.declared.command.Command.{Command};
+ghost use Rattle.nr_schedule.specs.declared.command.Command.TheVariants.{Fill, FillAs, Update};
 ghost use Rattle.nr_schedule.specs.Commands.{command, by_writer, one_number, two_numbers};
-ghost use Rattle.nr_text.specs.Grammar.{words};
+ghost use Rattle.nr_text.specs.Grammar.{words, number, filling, filling_as, updating};
 ghost use Rattle.nr_text.specs.Words.{words_left};
 
-use nr_model::{Batch, RowSet, TooMany};
-use nr_text::{Opening, Words, batch, number, set};
+use nr_text::{Given, GivenBatch, GivenRows, Opening, Words, batch, number, set};
 
 /// What a line of a schedule asks for, where it fits the grammar. Its numbers may be out of range.
 #[derive(Drop)]
-pub(crate) enum Command {
+pub(crate) enum Command<'a> {
     Open(Opening),
     Arrive {
         reader: u64,
@@ -33,16 +33,16 @@ pub(crate) enum Command {
     },
     Fill {
         key: u64,
-        rows: Result<RowSet, TooMany>,
+        rows: GivenRows<'a>,
     },
     FillAs {
         key: u64,
         number: u64,
-        rows: Result<RowSet, TooMany>,
+        rows: GivenRows<'a>,
     },
     Update {
         key: u64,
-        batch: Batch,
+        batch: GivenBatch<'a>,
     },
     Evict {
         key: u64,
@@ -53,8 +53,9 @@ pub(crate) enum Command {
     Go,
 }
 
-/// The command of a line, or none where it doesn't fit the grammar.
-pub(crate) fn parse(line: &[u8]) -> Option<Command>
+/// The command of a line, or none where it doesn't fit the grammar. A set or a batch that the line
+/// gives is put into the room for it.
+pub(crate) fn parse<'a>(line: &'a [u8], given: &'a mut Given) -> Option<Command<'a>>
     ensures { result ≡ command (words line.now) }
 {
     let mut words = Words::new(line);
@@ -80,7 +81,7 @@ pub(crate) fn parse(line: &[u8]) -> Option<Command>
         return Some(Command::Ask { reader, key });
     }
     if name == b"writer".as_slice() {
-        return by_writer(words);
+        return by_writer(words, given);
     }
     if name == b"go".as_slice() && words.next().is_none() {
         return Some(Command::Go);
@@ -88,7 +89,7 @@ pub(crate) fn parse(line: &[u8]) -> Option<Command>
     None
 }
 
-fn by_writer(mut words: Words<'_>) -> Option<Command>
+fn by_writer<'a>(mut words: Words<'a>, given: &'a mut Given) -> Option<Command<'a>>
     ensures { result ≡ by_writer (words_left words.entry) }
 {
     let name = words.next()?;
@@ -97,22 +98,13 @@ fn by_writer(mut words: Words<'_>) -> Option<Command>
         return Some(Command::Find { key });
     }
     if name == b"fill".as_slice() {
-        let key = number(words.next()?)?;
-        let rows = set(words)?;
-        return Some(Command::Fill { key, rows });
+        return filling(words, given);
     }
     if name == b"fill-as".as_slice() {
-        let word = words.next()?;
-        let spelled = words.next()?;
-        let key = number(word)?;
-        let number = number(spelled)?;
-        let rows = set(words)?;
-        return Some(Command::FillAs { key, number, rows });
+        return filling_as(words, given);
     }
     if name == b"update".as_slice() {
-        let key = number(words.next()?)?;
-        let batch = batch(words)?;
-        return Some(Command::Update { key, batch });
+        return updating(words, given);
     }
     if name == b"evict".as_slice() {
         let key = one_number(words)?;
@@ -123,6 +115,33 @@ fn by_writer(mut words: Words<'_>) -> Option<Command>
         return Some(Command::Cancel { key });
     }
     None
+}
+
+fn filling<'a>(mut words: Words<'a>, given: &'a mut Given) -> Option<Command<'a>>
+    ensures { result ≡ filling number Fill (words_left words.entry) }
+{
+    let key = number(words.next()?)?;
+    let rows = given.put_rows(set(words)?);
+    Some(Command::Fill { key, rows })
+}
+
+fn filling_as<'a>(mut words: Words<'a>, given: &'a mut Given) -> Option<Command<'a>>
+    ensures { result ≡ filling_as number FillAs (words_left words.entry) }
+{
+    let word = words.next()?;
+    let spelled = words.next()?;
+    let key = number(word)?;
+    let number = number(spelled)?;
+    let rows = given.put_rows(set(words)?);
+    Some(Command::FillAs { key, number, rows })
+}
+
+fn updating<'a>(mut words: Words<'a>, given: &'a mut Given) -> Option<Command<'a>>
+    ensures { result ≡ updating number Update (words_left words.entry) }
+{
+    let key = number(words.next()?)?;
+    let batch = given.put_batch(batch(words)?);
+    Some(Command::Update { key, batch })
 }
 
 fn one_number(mut words: Words<'_>) -> Option<u64>

@@ -1,16 +1,22 @@
 //! A schedule: closed until it is opened, and then the step machine.
-ghost use Rattle.std.specs.Prelude.{◌≡◌, ◌<◌, ◌≤◌, ◌+◌, ℕ, List, Some, None, OnOk, IfOk, IfErr};
+ghost use Rattle.std.specs.Prelude.{◌≡◌, None, IfOk, IfErr};
+ghost use Rattle.nr_schedule.specs.Machine.{answer_line, answer_closed};
 
 use crate::answer::{StepAnswer, StepRefusal, Tried};
 use crate::command::{Command, parse};
 use crate::opened::Opened;
+use nr_core::{Refusal, Step};
 use nr_lines::{Machine, RunFault, set_text};
+use nr_text::Given;
 use std::alloc::Global;
 
-/// A schedule's state. It begins closed.
+/// A schedule's state. It begins closed. What a line gives and the writer's step that it makes have
+/// their room here, so that nothing carries a set.
 #[derive(Drop)]
 pub(crate) struct ScheduleMachine {
     opened: Option<Opened>,
+    given: Given,
+    tried: Result<Step, Refusal>,
 }
 
 impl Machine for ScheduleMachine {
@@ -32,7 +38,14 @@ impl Machine for ScheduleMachine {
         line: &[u8],
         reply: &mut String,
     ) -> Result<(), RunFault> {
-        match self.answer(alloc, line) {
+        let said = answer_plain(
+            &mut self.opened,
+            alloc,
+            line,
+            &mut self.given,
+            &mut self.tried,
+        );
+        match said {
             Ok(Ok(answer)) => set_text(reply, &answer),
             Ok(Err(refusal)) => set_text(reply, &refusal),
             Err(fault) => Err(fault),
@@ -41,42 +54,56 @@ impl Machine for ScheduleMachine {
 }
 
 impl ScheduleMachine {
-    ghost use Rattle.nr_schedule.specs.Machine.{closed, answer_line, answer_closed};
+    ghost use Rattle.nr_schedule.specs.Machine.{closed};
 
     pub(crate) fn new() -> ScheduleMachine
         ensures { result.opened ≡ closed }
     {
-        ScheduleMachine { opened: None }
-    }
-
-    /// The answer to a plain line.
-    fn answer(&mut self, alloc: Global, line: &[u8]) -> Tried<StepAnswer>
-        ensures answer { IfOk result (λ said. answer_line self.old.opened line.now ≡ (said, self.new.opened)) }
-        ensures fault { IfErr result (λ fault. fault ≡ RunFault.Memory) }
-    {
-        let Some(command) = parse(line) else {
-            return Ok(Err(StepRefusal::Bad));
-        };
-        match &mut self.opened {
-            Some(schedule) => Ok(schedule.answer(&command)),
-            None => self.open(alloc, &command),
+        ScheduleMachine {
+            opened: None,
+            given: Given::new(),
+            tried: Ok(Step::Going),
         }
     }
+}
 
-    /// The answer to a command before the schedule is opened.
-    fn open(&mut self, alloc: Global, command: &Command) -> Tried<StepAnswer>
-        requires { self.old.opened ≡ None }
-        ensures answer { IfOk result (λ said. answer_closed command.now ≡ (said, self.new.opened)) }
-        ensures fault { IfErr result (λ fault. fault ≡ RunFault.Memory) }
-    {
-        let Command::Open(opening) = command else {
-            return Ok(Err(StepRefusal::Closed));
-        };
-        if !opening.is_in_limits() {
-            return Ok(Err(StepRefusal::Bad));
-        }
-        let schedule = Opened::open(alloc, opening)?;
-        self.opened = Some(schedule);
-        Ok(Ok(StepAnswer::Ok))
+/// The answer to a plain line.
+fn answer_plain<'a>(
+    opened: &mut Option<Opened>,
+    alloc: Global,
+    line: &[u8],
+    given: &mut Given,
+    tried: &'a mut Result<Step, Refusal>,
+) -> Tried<StepAnswer<'a>>
+    ensures answer { IfOk result (λ said. answer_line opened.old line.now ≡ (said, opened.new)) }
+    ensures fault { IfErr result (λ fault. fault ≡ RunFault.Memory) }
+{
+    let Some(command) = parse(line, given) else {
+        return Ok(Err(StepRefusal::Bad));
+    };
+    match opened {
+        Some(schedule) => Ok(schedule.answer(&command, tried)),
+        None => open(opened, alloc, &command),
     }
+}
+
+/// The answer to a command before the schedule is opened.
+fn open(
+    opened: &mut Option<Opened>,
+    alloc: Global,
+    command: &Command<'_>,
+) -> Tried<StepAnswer<'static>>
+    requires { opened.old ≡ None }
+    ensures answer { IfOk result (λ said. answer_closed command.now ≡ (said, opened.new)) }
+    ensures fault { IfErr result (λ fault. fault ≡ RunFault.Memory) }
+{
+    let Command::Open(opening) = command else {
+        return Ok(Err(StepRefusal::Closed));
+    };
+    if !opening.is_in_limits() {
+        return Ok(Err(StepRefusal::Bad));
+    }
+    let schedule = Opened::open(alloc, opening)?;
+    *opened = Some(schedule);
+    Ok(Ok(StepAnswer::Ok))
 }

@@ -2,18 +2,19 @@
 ghost use Rattle.std.specs.Prelude.{◌≡◌, true, false, IfOk, IfErr, MatchOption};
 ghost use Rattle.nr_model.specs.Maps.{FillFits};
 ghost use Rattle.nr_core.specs.Story.{call_of};
-ghost use Rattle.nr_core.specs.Machine.{next, arrive_answer, read_answer, depart_answer, ask_answer};
+ghost use Rattle.nr_core.specs.Machine.{next, arrive_answer, read_answer, depart_answer, ask_answer, go_answer};
+ghost use Rattle.nr_core.specs.declared.calls.WriterCall.TheVariants as calls;
 ghost use Rattle.nr_core.specs.Refusals.{has_reader, has_key};
 ghost use Rattle.nr_text.specs.Grammar.{within};
 ghost use Rattle.nr_text.specs.Opening.{is_in_limits};
-ghost use Rattle.nr_schedule.specs.Opened.{answer_opened, number_now, start, start_fill, opened};
+ghost use Rattle.nr_schedule.specs.Opened.{answer_opened, answered, number_now, start, start_fill, opened};
+ghost use Rattle.nr_schedule.specs.declared.answer.StepAnswer.TheVariants as answers;
 
-use crate::answer::{StepAnswer, StepRefusal};
+use crate::answer::{StepAnswer, StepRefusal, WriterStep};
 use crate::command::Command;
-use nr_core::{Arrived, AskReply, Core, Refusal, Shape, WriterCall};
+use nr_core::{Arrived, AskReply, Core, Refusal, Shape, Step, WriterCall};
 use nr_lines::RunFault;
-use nr_model::{RowSet, TooMany};
-use nr_text::{Opening, within};
+use nr_text::{GivenBatch, GivenRows, Opening};
 use std::alloc::Global;
 use std::marker::Model;
 
@@ -60,8 +61,13 @@ impl Opened {
         }
     }
 
-    /// The answer to a command, or the first refusal that fits.
-    pub(crate) fn answer(&mut self, command: &Command) -> Result<StepAnswer, StepRefusal>
+    /// The answer to a command, or the first refusal that fits. A step of the writer's is put into
+    /// the room for it.
+    pub(crate) fn answer<'a>(
+        &mut self,
+        command: &Command<'_>,
+        tried: &'a mut Result<Step, Refusal>,
+    ) -> Result<StepAnswer<'a>, StepRefusal>
         ensures { answer_opened self.old command.now ≡ (result, self.new) }
     {
         match command {
@@ -82,28 +88,13 @@ impl Opened {
                 let reply = self.ask(*reader, *key)?;
                 Ok(StepAnswer::Asked(reply))
             }
-            Command::Find { key } => {
-                let key = self.small(*key)?;
-                self.start(&WriterCall::Find(key))
-            }
-            Command::Fill { key, rows } => self.fill(*key, None, rows),
-            Command::FillAs { key, number, rows } => self.fill(*key, Some(*number), rows),
-            Command::Update { key, batch } => {
-                let key = self.small(*key)?;
-                self.start(&WriterCall::Update(key, *batch))
-            }
-            Command::Evict { key } => {
-                let key = self.small(*key)?;
-                self.start(&WriterCall::Evict(key))
-            }
-            Command::Cancel { key } => {
-                let key = self.small(*key)?;
-                self.start(&WriterCall::Cancel(key))
-            }
-            Command::Go => {
-                let step = self.core.go()?;
-                Ok(StepAnswer::Writer(step))
-            }
+            Command::Find { key } => self.find(*key, tried),
+            Command::Fill { key, rows } => self.fill(*key, None, rows, tried),
+            Command::FillAs { key, number, rows } => self.fill(*key, Some(*number), rows, tried),
+            Command::Update { key, batch } => self.update(*key, batch, tried),
+            Command::Evict { key } => self.evict(*key, tried),
+            Command::Cancel { key } => self.cancel(*key, tried),
+            Command::Go => self.go(tried),
         }
     }
 
@@ -142,17 +133,18 @@ impl Opened {
     }
 
     /// A fill that answers the request of that number, or else of the key's number as it stands.
-    fn fill(
+    fn fill<'a>(
         &mut self,
         key: u64,
         number: Option<u64>,
-        rows: &Result<RowSet, TooMany>,
-    ) -> Result<StepAnswer, StepRefusal>
+        rows: &GivenRows<'_>,
+        tried: &'a mut Result<Step, Refusal>,
+    ) -> Result<StepAnswer<'a>, StepRefusal>
         ensures { MatchOption number
             (start_fill self.old key (number_now self.old key) (within self.old.shape.rows rows.now) ≡ (result, self.new))
             (λ number. start_fill self.old key number (within self.old.shape.rows rows.now) ≡ (result, self.new)) }
     {
-        let Some(rows) = within(rows, self.core.rows()) else {
+        let Some(rows) = rows.within(self.core.rows()) else {
             return Err(StepRefusal::TooMany);
         };
         let key = self.small(key)?;
@@ -160,14 +152,76 @@ impl Opened {
             Some(number) => number,
             None => self.number(key),
         };
-        self.start(&WriterCall::Fill(key, number, *rows))
+        self.start(&WriterCall::Fill(key, number, *rows), tried)
     }
 
-    fn start(&mut self, call: &WriterCall) -> Result<StepAnswer, StepRefusal>
+    fn find<'a>(
+        &mut self,
+        key: u64,
+        tried: &'a mut Result<Step, Refusal>,
+    ) -> Result<StepAnswer<'a>, StepRefusal>
+        ensures { start self.old (calls.Find key) ≡ (result, self.new) }
+    {
+        let key = self.small(key)?;
+        self.start(&WriterCall::Find(key), tried)
+    }
+
+    fn update<'a>(
+        &mut self,
+        key: u64,
+        batch: &GivenBatch<'_>,
+        tried: &'a mut Result<Step, Refusal>,
+    ) -> Result<StepAnswer<'a>, StepRefusal>
+        ensures { start self.old (calls.Update key batch.now) ≡ (result, self.new) }
+    {
+        let key = self.small(key)?;
+        self.start(&WriterCall::Update(key, *batch.batch()), tried)
+    }
+
+    fn evict<'a>(
+        &mut self,
+        key: u64,
+        tried: &'a mut Result<Step, Refusal>,
+    ) -> Result<StepAnswer<'a>, StepRefusal>
+        ensures { start self.old (calls.Evict key) ≡ (result, self.new) }
+    {
+        let key = self.small(key)?;
+        self.start(&WriterCall::Evict(key), tried)
+    }
+
+    fn cancel<'a>(
+        &mut self,
+        key: u64,
+        tried: &'a mut Result<Step, Refusal>,
+    ) -> Result<StepAnswer<'a>, StepRefusal>
+        ensures { start self.old (calls.Cancel key) ≡ (result, self.new) }
+    {
+        let key = self.small(key)?;
+        self.start(&WriterCall::Cancel(key), tried)
+    }
+
+    fn start<'a>(
+        &mut self,
+        call: &WriterCall,
+        tried: &'a mut Result<Step, Refusal>,
+    ) -> Result<StepAnswer<'a>, StepRefusal>
         requires fits { FillFits self.old.shape.rows (call_of call.now) }
         ensures answer { start self.old call.now ≡ (result, self.new) }
     {
-        let step = self.core.start(call)?;
+        *tried = self.core.start(call);
+        let step = WriterStep::of(tried)?;
+        Ok(StepAnswer::Writer(step))
+    }
+
+    fn go<'a>(
+        &mut self,
+        tried: &'a mut Result<Step, Refusal>,
+    ) -> Result<StepAnswer<'a>, StepRefusal>
+        ensures answer { result ≡ answered answers.Writer (go_answer self.old) }
+        ensures new { self.new ≡ next self.old machine.Go }
+    {
+        *tried = self.core.go();
+        let step = WriterStep::of(tried)?;
         Ok(StepAnswer::Writer(step))
     }
 

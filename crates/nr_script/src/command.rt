@@ -7,8 +7,7 @@ ghost use Rattle.nr_script.specs.Commands.{command, is_name_byte, key, reader_an
 ghost use Rattle.nr_text.specs.Grammar.{words, number, filling, filling_as, updating};
 ghost use Rattle.nr_text.specs.Words.{words_left};
 
-use crate::given::{Given, GivenBatch, GivenRows};
-use nr_text::{Opening, Words, batch, number, set};
+use nr_text::{Given, GivenBatch, GivenRows, Opening, Words, batch, number, set};
 use std::marker::Model;
 
 /// The word that stands for a key.

@@ -4,7 +4,6 @@
 
 mod answer;
 mod command;
-mod given;
 mod keys;
 mod machine;
 mod opened;

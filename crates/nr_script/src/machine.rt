@@ -4,11 +4,11 @@ ghost use Rattle.nr_script.specs.Machine.{answer_line, answer_closed};
 
 use crate::answer::{AnswerWord, Refusal, Tried};
 use crate::command::{Command, parse};
-use crate::given::Given;
 use crate::opened::Opened;
 use nr_alone::Answer;
 use nr_lines::{Machine, RunFault, set_text};
 use nr_model::RowSet;
+use nr_text::Given;
 use std::alloc::Global;
 
 /// A script's state. It begins closed. It can't be dropped: its map must be closed.

@@ -8,13 +8,12 @@ ghost use Rattle.nr_script.specs.Opened.{answer_opened, by_map, called, called_b
 
 use crate::answer::{Refusal, Tried};
 use crate::command::{Command, KeyWord};
-use crate::given::GivenRows;
 use crate::keys::Keys;
 use nr_alone::{Alone, Answer, WriterCall};
 use nr_core::{MAX_READERS, MAX_SLOTS, Shape};
 use nr_lines::RunFault;
 use nr_model::{MAX_KEYS, MAX_ROWS, RowSet};
-use nr_text::Opening;
+use nr_text::{GivenRows, Opening};
 use std::alloc::Global;
 use std::marker::Model;
 

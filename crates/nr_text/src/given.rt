@@ -2,19 +2,20 @@
 ghost use Rattle.std.specs.Prelude.{◌≡◌, ◌≤◌, length, IfSome, option_map};
 ghost use Rattle.nr_text.specs.Grammar.{within};
 
+use crate::rows::within;
 use nr_model::{Batch, RowSet, TooMany};
-use nr_text::within;
 use std::marker::Model;
 
 /// The room for the set and the batch of one line after another.
 #[derive(Drop)]
-pub(crate) struct Given {
+pub struct Given {
     rows: Result<RowSet, TooMany>,
     batch: Option<Batch>,
 }
 
 impl Given {
-    pub(crate) fn new() -> Given {
+    /// Room, with nothing of a line in it.
+    pub fn new() -> Given {
         Given {
             rows: Ok(RowSet::new()),
             batch: None,
@@ -22,7 +23,7 @@ impl Given {
     }
 
     /// Puts a set into its room.
-    pub(crate) fn put_rows(&mut self, rows: Result<RowSet, TooMany>) -> GivenRows<'_>
+    pub fn put_rows(&mut self, rows: Result<RowSet, TooMany>) -> GivenRows<'_>
         ensures { result ≡ rows }
     {
         self.rows = rows;
@@ -30,7 +31,7 @@ impl Given {
     }
 
     /// Puts a batch into its room.
-    pub(crate) fn put_batch(&mut self, batch: Batch) -> GivenBatch<'_>
+    pub fn put_batch(&mut self, batch: Batch) -> GivenBatch<'_>
         ensures { result ≡ batch }
     {
         self.batch = Some(batch);
@@ -43,7 +44,7 @@ impl Given {
 
 /// The set that a line gives, or that its rows are too many.
 #[derive(Drop)]
-pub(crate) struct GivenRows<'a> {
+pub struct GivenRows<'a> {
     rows: &'a Result<RowSet, TooMany>,
 }
 
@@ -59,7 +60,7 @@ impl<'a> Model for GivenRows<'a> {
 
 impl GivenRows<'_> {
     /// The set, where it has at most so many rows.
-    pub(crate) fn within(&self, bound: u32) -> Option<&RowSet>
+    pub fn within(&self, bound: u32) -> Option<&RowSet>
         ensures value { option_map (λ rows. rows.now) result ≡ within bound self.now }
         ensures fits { IfSome result (λ rows. length rows.now ≤ bound) }
     {
@@ -69,7 +70,7 @@ impl GivenRows<'_> {
 
 /// The batch that a line gives.
 #[derive(Drop)]
-pub(crate) struct GivenBatch<'a> {
+pub struct GivenBatch<'a> {
     batch: &'a Batch,
 }
 
@@ -83,7 +84,8 @@ impl<'a> Model for GivenBatch<'a> {
 }
 
 impl GivenBatch<'_> {
-    pub(crate) fn batch(&self) -> &Batch
+    /// The batch, where it lies.
+    pub fn batch(&self) -> &Batch
         ensures { result.now ≡ self.now }
     {
         self.batch
