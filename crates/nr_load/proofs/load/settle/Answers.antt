@@ -1,20 +1,22 @@
-use Rattle.std.proofs.Common.{◌≡◌, ◌≤◌, ◌<◌, ℕ, true, List, length, All, sym, ap, ◌∙◌, subst, arith, Option, None, Some}
+use Rattle.std.proofs.Common.{◌≡◌, ◌≤◌, ◌<◌, ◌==◌, ◌*◌, ℕ, true, List, length, All, sym, ap, ◌∙◌, subst, arith, Option, None, Some}
 use Rattle.nr_map.specs.Callers.{Caller}
 use Rattle.nr_map.specs.Rounds.{is_cancel, is_fill, is_sent}
 use Rattle.nr_serve.specs.Hands.{capped}
 use Rattle.nr_tally.specs.Balance.{of_all}
 use Rattle.nr_tally.specs.Rounds.{IsInOrder}
-use Rattle.nr_load.specs.declared.fault.LoadFault.{LoadFault}
-use Rattle.nr_load.specs.declared.fault.LoadFault.TheVariants as faults
 use Rattle.nr_load.proofs.Accounting.{all_cancelled, all_filled, all_sent, few_answered, in_order, own_readers}
-use Rattle.nr_load.proofs.Settling.{answers_fit, none_told, sends_fit, served_few}
+use Rattle.nr_load.proofs.Settling.{answers_fit, gets_fit, none_told, sends_fit, served_few}
 use Rattle.nr_load.proofs.load.settle.Goals as goal
-use Rattle.nr_load.proofs.load.settle.Goals.{then-is_whole, else-is_whole}
 
 pub collect-readers-requires-clause-room : goal.collect-readers-requires-clause-room
 collect-readers-requires-clause-room c =
     let e = c.requires.ended in
     (omega (arith, served_few c.args.plan.now.seed c.args.plan.now.gets e.readers c.args.joined.outcomes.items e.served, e.opened.count, c.requires.readers.0, c.requires.room.0, c.args.joined.outcomes.ok), c.requires.room.1)
+
+pub collect-readers-requires-clause-made : goal.collect-readers-requires-clause-made
+collect-readers-requires-clause-made c =
+    let e = c.requires.ended in
+    gets_fit c.args.plan.now.seed c.args.plan.now.gets e.readers _ (omega (arith, c.fits-plan)) (omega (arith, e.opened.count, c.requires.readers.0, c.requires.readers.2)) e.served
 
 pub collect-readers-requires-clause-sends : goal.collect-readers-requires-clause-sends
 collect-readers-requires-clause-sends c =
@@ -31,11 +33,8 @@ account-asked-requires-clause-readers c = subst (λ (rs : List Caller). All (λ 
 
 pub account-asked-requires-clause-order : goal.account-asked-requires-clause-order
 account-asked-requires-clause-order c =
-    let refused : c.if-is_whole.refused ≡ None = (none_told c.earlier.result c.if-is_whole.refused (sym c.earlier-2.ensures ∙ c.in_default.is)).1 in
-    let whole : c.args.joined.is_whole ≡ true = elim c.if-is_whole.branch [
-      | then-is_whole w ↦ w.if-is_whole.true
-      | else-is_whole w ↦ let no : Some faults.Thread ≡ None = sym w.refused-is ∙ refused in absurd (cc)
-    ] in
+    let sums = c.collect-readers.result.0 in
+    let whole : c.args.joined.is_whole ≡ true = (none_told sums.fault c.args.joined.flowed.fault c.args.joined.is_whole (sums.made == c.from.result * c.from-2.result) (sym c.first_fault.ensures ∙ c.in_default.is)).0 in
     subst (λ (rs : List Caller). IsInOrder c.args.map.now.shape.readers rs) (sym c.collect-readers.ensures.readers) (in_order _ _ _ c.args.joined c.requires.ended whole)
 
 pub account-asked-requires-clause-sends : goal.account-asked-requires-clause-sends
