@@ -17,6 +17,7 @@ pub record DrawsItsOwn (seed : ℕ) (reader : Caller) (outcome : Outcome) : Type
   pub old : Hands
   pub new : Hands
   pub begins : old.reader ≡ reader
+  pub empty : old.kept ≡ None
   pub ends : new.reader ≡ outcome.reader
   pub generator : Lcg
   pub works : Works 1000000 reader.table.shape.keys outcome.worked.made (stream_of seed reader.number) outcome.worked.answered old new generator
