@@ -7,6 +7,7 @@ ghost use Rattle.nr_tally.specs.Rounds.{IsInOrder};
 ghost use Rattle.nr_load.specs.Ends.{Ended, first_of, told};
 ghost use Rattle.nr_load.specs.Handed.{HasRoomFor};
 ghost use Rattle.nr_load.specs.Outcomes.{answered_in, earliest, made_in, reader_of, sends_in};
+ghost use Rattle.nr_load.specs.Reports.{ComesTo, IsAccount, shape_of};
 
 use crate::base::Base;
 use crate::fault::{LoadFault, earlier};
@@ -14,7 +15,7 @@ use crate::flow::Flowed;
 use crate::shared::Shared;
 use crate::threads::{Joined, Lists, Tokens, serve_all};
 use crate::workers::Outcome;
-use nr_map::{Reader, ReaderMap, Writer};
+use nr_map::{Reader, ReaderMap, Writer, laws};
 use nr_serve::{Gate, Lobby};
 use nr_tally::tally;
 use nr_trigger::Triggers;
@@ -150,9 +151,12 @@ fn account(map: &ReaderMap, writer: Writer, readers: Vec<Reader>, sends: u64, fi
     requires sends { of_all is_sent writer readers.items ≡ sends }
     requires fills { fills ≡ capped (of_all is_fill writer readers.items) }
     requires cancels { of_all is_cancel writer readers.items ≡ 0 }
-    ensures { sends ≡ fills + result }
+    ensures account { IsAccount map.now writer readers.items result }
+    ensures fills { fills ≡ of_all is_fill writer readers.items }
+    ensures balance { sends ≡ fills + result }
 {
     let _ = (sends, fills);
+    laws::entries_are_callers();
     let (mut writer, mut readers) = (writer, readers);
     tally(map, &mut writer, readers.as_mut_slice())
 }
@@ -188,12 +192,11 @@ fn settle(
     room: Vec<Reader>,
 ) -> Result<LoadReport, LoadFault>
     requires ended { Ended map.now plan.now.seed plan.now.gets joined }
-    requires readers { (map.now.shape.readers ≡ plan.now.readers) × (0 < plan.now.readers) × (plan.now.readers ≤ 1024) }
+    requires sizes { map.now.shape ≡ shape_of plan.now }
+    requires readers { (0 < plan.now.readers) × (plan.now.readers ≤ 1024) }
     requires room { (plan.now.readers ≤ vec_capacity room) × (vec_len room ≡ 0) }
     ensures fault { MatchResult result (λ _. told (plan.now.readers * plan.now.gets) joined ≡ None) (λ fault. told (plan.now.readers * plan.now.gets) joined ≡ Some fault) }
-    ensures balance { IfOk result (λ report. report.sends ≡ report.fills + report.asked) }
-    ensures gets { IfOk result (λ report. report.gets ≡ plan.now.readers * plan.now.gets) }
-    ensures answered { IfOk result (λ report. report.answered ≤ plan.now.readers * plan.now.gets) }
+    ensures report { IfOk result (ComesTo plan.now) }
 {
     let Joined {
         outcomes,
@@ -234,9 +237,7 @@ pub fn run_load<R: Threads + Wait + Sync, G: Gate + Sync>(
 ) -> Result<LoadReport, LoadFault>
     requires readers { (0 < plan.now.readers) × (plan.now.readers ≤ 1024) }
     requires keys { (0 < plan.now.keys) × (plan.now.keys ≤ 65536) }
-    ensures balance { IfOk result (λ report. report.sends ≡ report.fills + report.asked) }
-    ensures gets { IfOk result (λ report. report.gets ≡ plan.now.readers * plan.now.gets) }
-    ensures answered { IfOk result (λ report. report.answered ≤ report.gets) }
+    ensures { IfOk result (ComesTo plan.now) }
 {
     let Ok(room) = Room::open(alloc, plan.keys, plan.readers) else {
         return Err(LoadFault::Memory);
