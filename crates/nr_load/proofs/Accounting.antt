@@ -18,7 +18,7 @@ module _ (t : Table) (seed gets : ℕ) (joined : Joined) (e : Ended t seed gets 
   new_readers : All IsNew e.readers
   new_readers = all_new t e.readers t.shape.readers e.opened.count e.opened.reads
 
-  new_writer : e.writer.mine ≡ []
+  pub new_writer : e.writer.mine ≡ []
   new_writer = ap (λ (c : Caller). c.mine) e.opened.writes
 
   by_writer : (test : Entry → Bool) (n : ℕ) → count_by test e.flowed.gained.entries ≡ n → count_by test joined.flowed.writer.mine ≡ n
@@ -27,8 +27,11 @@ module _ (t : Table) (seed gets : ℕ) (joined : Joined) (e : Ended t seed gets 
   pub all_sent : of_all is_sent joined.flowed.writer (map reader_of joined.outcomes.items) ≡ sends_in joined.outcomes.items
   all_sent = omega (arith, by_writer is_sent 0 e.flowed.gained.tells.sent, total_sent seed gets e.readers joined.outcomes.items new_readers e.served)
 
+  pub writer_filled : of_all is_fill joined.flowed.writer (map reader_of joined.outcomes.items) ≡ e.flowed.count
+  writer_filled = omega (arith, by_writer is_fill e.flowed.count e.flowed.gained.tells.filled, total_filled seed gets e.readers joined.outcomes.items new_readers e.served)
+
   pub all_filled : joined.flowed.fills ≡ capped (of_all is_fill joined.flowed.writer (map reader_of joined.outcomes.items))
-  all_filled = omega (arith, e.flowed.fills, by_writer is_fill e.flowed.count e.flowed.gained.tells.filled, total_filled seed gets e.readers joined.outcomes.items new_readers e.served)
+  all_filled = e.flowed.fills ∙ ap capped (sym writer_filled)
 
   pub all_cancelled : of_all is_cancel joined.flowed.writer (map reader_of joined.outcomes.items) ≡ 0
   all_cancelled = omega (arith, by_writer is_cancel 0 e.flowed.gained.tells.cancelled, total_cancelled seed gets e.readers joined.outcomes.items new_readers e.served)

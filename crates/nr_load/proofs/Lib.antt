@@ -7,3 +7,4 @@ pub mod Joining
 pub mod Settling
 pub mod Balancing
 pub mod Accounting
+pub mod Reporting

@@ -11,10 +11,12 @@ use Rattle.nr_map.specs.Callers.{Caller, Table}
 use Rattle.nr_map.specs.Opened.{IsOpened, newcomer}
 use Rattle.nr_map.specs.Rounds.{is_cancel, is_fill, is_sent}
 use Rattle.nr_load.specs.declared.fault.LoadFault.{LoadFault}
+use Rattle.nr_load.specs.declared.fault.LoadFault.TheVariants as faults
 use Rattle.nr_load.specs.declared.workers.Outcome.{Outcome}
+use Rattle.nr_load.specs.Ends.{first_of}
 use Rattle.nr_load.specs.Faults.{earlier}
 use Rattle.nr_load.specs.Gained.{Gained}
-use Rattle.nr_load.specs.Outcomes.{ServesFirst, answered_in, reader_of, sends_in}
+use Rattle.nr_load.specs.Outcomes.{ServesFirst, answered_in, made_in, reader_of, sends_in}
 
 -- a token that has made no call
 abbrev pub IsNew : Caller → Type 0
@@ -72,6 +74,11 @@ served_few seed gets rs [] serves = omega arith
 served_few seed gets [] (o ∷ os) serves = absurd serves
 served_few seed gets (r ∷ rs) (o ∷ os) serves = omega (arith, served_few seed gets rs os serves.1)
 
+pub served_made : (seed gets : ℕ) (rs : List Caller) (os : List Outcome) → ServesFirst seed gets rs os → made_in os ≤ gets * length rs
+served_made seed gets rs [] serves = omega arith
+served_made seed gets [] (o ∷ os) serves = absurd serves
+served_made seed gets (r ∷ rs) (o ∷ os) serves = omega (arith, served_made seed gets rs os serves.1, serves.0.made, mul-suc gets (length rs))
+
 served_sends : (seed gets : ℕ) (rs : List Caller) (os : List Outcome) → ServesFirst seed gets rs os → sends_in os ≤ 1000000 * gets * length rs
 served_sends seed gets rs [] serves = omega arith
 served_sends seed gets [] (o ∷ os) serves = absurd serves
@@ -86,6 +93,9 @@ served_answered seed gets (r ∷ rs) (o ∷ os) serves = omega (arith, served_an
 pub sends_fit : (seed gets : ℕ) (rs : List Caller) (os : List Outcome) → gets < 4294967296 → length rs ≤ 1024 → ServesFirst seed gets rs os → sends_in os < 18446744073709551616
 sends_fit seed gets rs os low few serves = omega (arith, served_sends seed gets rs os serves, mul-le-mul_left {m = length rs} {n = 1024} (1000000 * gets) few)
 
+pub gets_fit : (seed gets : ℕ) (rs : List Caller) (os : List Outcome) → gets < 4294967296 → length rs ≤ 1024 → ServesFirst seed gets rs os → made_in os < 18446744073709551616
+gets_fit seed gets rs os low few serves = omega (arith, served_made seed gets rs os serves, mul-le-mul_left {m = length rs} {n = 1024} gets few)
+
 pub answers_fit : (seed gets : ℕ) (rs : List Caller) (os : List Outcome) → gets < 4294967296 → length rs ≤ 1024 → ServesFirst seed gets rs os → answered_in os < 18446744073709551616
 answers_fit seed gets rs os low few serves = omega (arith, served_answered seed gets rs os serves, mul-le-mul_left {m = length rs} {n = 1024} gets few)
 
@@ -93,8 +103,18 @@ no_choice : (b : Bool) (f g : LoadFault) → (if b then Some f else Some g) ≡ 
 no_choice true f g e = cc
 no_choice false f g e = cc
 
--- where no fault is told there was none
-pub none_told : (fault other : Option LoadFault) → earlier fault other ≡ None → (fault ≡ None) × (other ≡ None)
-none_told None other e = (refl, e)
-none_told (Some f) None e = absurd (cc)
-none_told (Some f) (Some g) e = absurd (no_choice _ f g e)
+none_of : (fault other : Option LoadFault) → earlier fault other ≡ None → (fault ≡ None) × (other ≡ None)
+none_of None other e = (refl, e)
+none_of (Some f) None e = absurd (cc)
+none_of (Some f) (Some g) e = absurd (no_choice _ f g e)
+
+is_so : (b : Bool) (f : LoadFault) → (if b then None else Some f) ≡ None → b ≡ true
+is_so true f e = refl
+is_so false f e = absurd (cc)
+
+-- where no fault is told, no thread was refused and all gets were made
+pub none_told : (one other : Option LoadFault) (is_whole is_all : Bool) → first_of one other is_whole is_all ≡ None → (is_whole ≡ true) × (is_all ≡ true)
+none_told one other is_whole is_all e =
+    let last = none_of (earlier (earlier one other) (if is_whole then None else Some faults.Thread)) (if is_all then None else Some faults.WrongRows) e in
+    let refused = none_of (earlier one other) (if is_whole then None else Some faults.Thread) last.0 in
+    (is_so is_whole faults.Thread refused.1, is_so is_all faults.WrongRows last.1)

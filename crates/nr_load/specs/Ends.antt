@@ -1,5 +1,5 @@
 -- All threads of a load are joined.
-use Rattle.std.specs.Prelude.{◌≡◌, ℕ, List, length, true, if◌then◌else◌, Option, None, Some}
+use Rattle.std.specs.Prelude.{◌≡◌, ◌==◌, ℕ, Bool, List, length, true, if◌then◌else◌, Option, None, Some}
 use Rattle.nr_map.specs.Callers.{Caller, Table}
 use Rattle.nr_map.specs.Opened.{IsOpened}
 use Rattle.nr_load.specs.declared.fault.LoadFault.{LoadFault}
@@ -8,7 +8,7 @@ use Rattle.nr_load.specs.declared.threads.Joined.{Joined}
 use Rattle.nr_load.specs.declared.threads.Tokens.{Tokens}
 use Rattle.nr_load.specs.Faults.{earlier}
 use Rattle.nr_load.specs.Flowed.{Flows}
-use Rattle.nr_load.specs.Outcomes.{ServesFirst, earliest}
+use Rattle.nr_load.specs.Outcomes.{ServesFirst, earliest, made_in}
 
 -- what the threads gave back that had these tokens
 pub record Joins (seed gets : ℕ) (tokens : Tokens) (joined : Joined) : Type 0 where
@@ -25,6 +25,10 @@ pub record Ended (map : Table) (seed gets : ℕ) (joined : Joined) : Type 0 wher
   pub whole : joined.is_whole ≡ true → length joined.outcomes.items ≡ length readers
   pub flowed : Flows writer joined.flowed
 
--- the fault that is told: of those of the workers, of the dataflow's and of a refused thread the first named
-abbrev pub told : Joined → Option LoadFault
-told joined = earlier (earlier (earliest None joined.outcomes.items) joined.flowed.fault) (if joined.is_whole then None else Some faults.Thread)
+-- of these faults, of a refused thread and of gets that were not all made the first named
+abbrev pub first_of : Option LoadFault → Option LoadFault → (is_whole is_all : Bool) → Option LoadFault
+first_of one other is_whole is_all = earlier (earlier (earlier one other) (if is_whole then None else Some faults.Thread)) (if is_all then None else Some faults.WrongRows)
+
+-- the fault that is told of a load that was to make so many gets
+abbrev pub told : ℕ → Joined → Option LoadFault
+told gets joined = first_of (earliest None joined.outcomes.items) joined.flowed.fault joined.is_whole (made_in joined.outcomes.items == gets)

@@ -6,3 +6,4 @@ pub mod Flowed
 pub mod Outcomes
 pub mod Handed
 pub mod Ends
+pub mod Reports

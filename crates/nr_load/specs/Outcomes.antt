@@ -17,6 +17,7 @@ pub record DrawsItsOwn (seed : ℕ) (reader : Caller) (outcome : Outcome) : Type
   pub old : Hands
   pub new : Hands
   pub begins : old.reader ≡ reader
+  pub empty : old.kept ≡ None
   pub ends : new.reader ≡ outcome.reader
   pub generator : Lcg
   pub works : Works 1000000 reader.table.shape.keys outcome.worked.made (stream_of seed reader.number) outcome.worked.answered old new generator
@@ -26,6 +27,7 @@ pub record Serves (seed gets : ℕ) (reader : Caller) (outcome : Outcome) : Type
   pub works : DrawsItsOwn seed reader outcome
   pub gained : Gained reader.table.shape.keys reader outcome.reader outcome.sends 0
   pub few : outcome.sends ≤ 1000000 * gets
+  pub made : outcome.worked.made ≤ gets
   pub answered : outcome.worked.answered ≤ gets
   pub all : outcome.worked.stopped ≡ false → outcome.worked.fault ≡ None → outcome.worked.made ≡ gets
 
@@ -58,6 +60,10 @@ reader_of outcome = outcome.reader
 abbrev pub sends_in : List Outcome → ℕ
 sends_in [] = 0
 sends_in (outcome ∷ outcomes) = outcome.sends + sends_in outcomes
+
+abbrev pub made_in : List Outcome → ℕ
+made_in [] = 0
+made_in (outcome ∷ outcomes) = outcome.worked.made + made_in outcomes
 
 abbrev pub answered_in : List Outcome → ℕ
 answered_in [] = 0

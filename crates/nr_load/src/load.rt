@@ -1,12 +1,13 @@
 //! A run of load, and its report.
-ghost use Rattle.std.specs.Prelude.{◌≡◌, ◌<◌, ◌≤◌, ◌+◌, ◌*◌, ◌^◌, ◌↔◌, IfOk, IsTrue, MatchResult, All, None, Some, map as each_of, vec_len, vec_capacity};
+ghost use Rattle.std.specs.Prelude.{◌≡◌, ◌==◌, ◌<◌, ◌≤◌, ◌+◌, ◌*◌, ◌^◌, ◌↔◌, IfOk, IsTrue, MatchResult, All, None, Some, map as each_of, vec_len, vec_capacity};
 ghost use Rattle.nr_map.specs.Rounds.{is_cancel, is_fill, is_sent};
 ghost use Rattle.nr_serve.specs.Hands.{capped};
 ghost use Rattle.nr_tally.specs.Balance.{of_all};
 ghost use Rattle.nr_tally.specs.Rounds.{IsInOrder};
-ghost use Rattle.nr_load.specs.Ends.{Ended, told};
+ghost use Rattle.nr_load.specs.Ends.{Ended, first_of, told};
 ghost use Rattle.nr_load.specs.Handed.{HasRoomFor};
-ghost use Rattle.nr_load.specs.Outcomes.{answered_in, earliest, reader_of, sends_in};
+ghost use Rattle.nr_load.specs.Outcomes.{answered_in, earliest, made_in, reader_of, sends_in};
+ghost use Rattle.nr_load.specs.Reports.{ComesTo, IsAccount, shape_of};
 
 use crate::base::Base;
 use crate::fault::{LoadFault, earlier};
@@ -14,7 +15,7 @@ use crate::flow::Flowed;
 use crate::shared::Shared;
 use crate::threads::{Joined, Lists, Tokens, serve_all};
 use crate::workers::Outcome;
-use nr_map::{Reader, ReaderMap, Writer};
+use nr_map::{Reader, ReaderMap, Writer, laws};
 use nr_serve::{Gate, Lobby};
 use nr_tally::tally;
 use nr_trigger::Triggers;
@@ -72,6 +73,7 @@ impl LoadReport {
 /// What the workers did, added up.
 #[derive(Drop)]
 struct Sums {
+    made: u64,
     sends: u64,
     answered: u64,
     fault: Option<LoadFault>,
@@ -104,13 +106,16 @@ impl Room {
 // Adds up what the workers did, and gives their readers back, in order. The room is there.
 fn collect(outcomes: Vec<Outcome>, mut readers: Vec<Reader>) -> (Sums, Vec<Reader>)
     requires room { (vec_len outcomes ≤ vec_capacity readers) × (vec_len readers ≡ 0) }
+    requires made { made_in outcomes.items < 2 ^ 64 }
     requires sends { sends_in outcomes.items < 2 ^ 64 }
     requires answered { answered_in outcomes.items < 2 ^ 64 }
+    ensures made { result.0.made ≡ made_in outcomes.items }
     ensures sends { result.0.sends ≡ sends_in outcomes.items }
     ensures answered { result.0.answered ≡ answered_in outcomes.items }
     ensures fault { result.0.fault ≡ earliest None outcomes.items }
     ensures readers { result.1.items ≡ each_of reader_of outcomes.items }
 {
+    let mut made: u64 = 0;
     let mut sends: u64 = 0;
     let mut answered: u64 = 0;
     let mut fault = None;
@@ -120,6 +125,7 @@ fn collect(outcomes: Vec<Outcome>, mut readers: Vec<Reader>) -> (Sums, Vec<Reade
             worked,
             sends: sent,
         } = outcome;
+        made += u64::from(worked.made);
         sends += sent;
         answered += u64::from(worked.answered);
         fault = earlier(fault, worked.fault);
@@ -127,6 +133,7 @@ fn collect(outcomes: Vec<Outcome>, mut readers: Vec<Reader>) -> (Sums, Vec<Reade
     }
     (
         Sums {
+            made,
             sends,
             answered,
             fault,
@@ -144,11 +151,37 @@ fn account(map: &ReaderMap, writer: Writer, readers: Vec<Reader>, sends: u64, fi
     requires sends { of_all is_sent writer readers.items ≡ sends }
     requires fills { fills ≡ capped (of_all is_fill writer readers.items) }
     requires cancels { of_all is_cancel writer readers.items ≡ 0 }
-    ensures { sends ≡ fills + result }
+    ensures account { IsAccount map.now writer readers.items result }
+    ensures fills { fills ≡ of_all is_fill writer readers.items }
+    ensures balance { sends ≡ fills + result }
 {
     let _ = (sends, fills);
+    laws::entries_are_callers();
     let (mut writer, mut readers) = (writer, readers);
     tally(map, &mut writer, readers.as_mut_slice())
+}
+
+// The fault that is told of what the threads gave back, of several the first named. Gets that are
+// missing without one are told as wrong rows: no contract says who closed the lobby.
+fn first_fault(
+    sums: &Sums,
+    fault: Option<LoadFault>,
+    is_whole: bool,
+    gets: u64,
+) -> Option<LoadFault>
+    ensures { result ≡ first_of sums.now.fault fault is_whole (sums.now.made == gets) }
+{
+    let refused = if is_whole {
+        None
+    } else {
+        Some(LoadFault::Thread)
+    };
+    let short = if sums.made == gets {
+        None
+    } else {
+        Some(LoadFault::WrongRows)
+    };
+    earlier(earlier(earlier(sums.fault, fault), refused), short)
 }
 
 // The report of threads that are all joined, or of their faults the first named.
@@ -159,12 +192,11 @@ fn settle(
     room: Vec<Reader>,
 ) -> Result<LoadReport, LoadFault>
     requires ended { Ended map.now plan.now.seed plan.now.gets joined }
-    requires readers { (map.now.shape.readers ≡ plan.now.readers) × (0 < plan.now.readers) × (plan.now.readers ≤ 1024) }
+    requires sizes { map.now.shape ≡ shape_of plan.now }
+    requires readers { (0 < plan.now.readers) × (plan.now.readers ≤ 1024) }
     requires room { (plan.now.readers ≤ vec_capacity room) × (vec_len room ≡ 0) }
-    ensures fault { MatchResult result (λ _. told joined ≡ None) (λ fault. told joined ≡ Some fault) }
-    ensures balance { IfOk result (λ report. report.sends ≡ report.fills + report.asked) }
-    ensures gets { IfOk result (λ report. report.gets ≡ plan.now.readers * plan.now.gets) }
-    ensures answered { IfOk result (λ report. report.answered ≤ plan.now.readers * plan.now.gets) }
+    ensures fault { MatchResult result (λ _. told (plan.now.readers * plan.now.gets) joined ≡ None) (λ fault. told (plan.now.readers * plan.now.gets) joined ≡ Some fault) }
+    ensures report { IfOk result (ComesTo plan.now) }
 {
     let Joined {
         outcomes,
@@ -177,17 +209,13 @@ fn settle(
         fills,
         fault,
     } = flowed;
-    let refused = if is_whole {
-        None
-    } else {
-        Some(LoadFault::Thread)
-    };
-    if let Some(fault) = earlier(earlier(sums.fault, fault), refused) {
+    let gets = u64::from(plan.readers) * u64::from(plan.gets);
+    if let Some(fault) = first_fault(&sums, fault, is_whole, gets) {
         return Err(fault);
     }
     let asked = account(map, writer, readers, sums.sends, fills);
     Ok(LoadReport {
-        gets: u64::from(plan.readers) * u64::from(plan.gets),
+        gets,
         answered: sums.answered,
         sends: sums.sends,
         fills,
@@ -199,8 +227,8 @@ fn settle(
 /// a ticket of each key, and starts a thread for each reader and one for the dataflow. Each reader
 /// makes `gets` gets, of keys that it draws. All memory but a worker's own is asked for before the
 /// first thread starts. A fault of one ends all, and each thread that was started is joined before
-/// the answer, of several faults the first named. Then all readers are gathered, and the account
-/// balances.
+/// the answer, of several faults the first named; `WrongRows` also where gets are missing and nothing
+/// tells why. Then all readers are gathered, and the account balances.
 pub fn run_load<R: Threads + Wait + Sync, G: Gate + Sync>(
     rt: &R,
     alloc: Global,
@@ -209,9 +237,7 @@ pub fn run_load<R: Threads + Wait + Sync, G: Gate + Sync>(
 ) -> Result<LoadReport, LoadFault>
     requires readers { (0 < plan.now.readers) × (plan.now.readers ≤ 1024) }
     requires keys { (0 < plan.now.keys) × (plan.now.keys ≤ 65536) }
-    ensures balance { IfOk result (λ report. report.sends ≡ report.fills + report.asked) }
-    ensures gets { IfOk result (λ report. report.gets ≡ plan.now.readers * plan.now.gets) }
-    ensures answered { IfOk result (λ report. report.answered ≤ report.gets) }
+    ensures { IfOk result (ComesTo plan.now) }
 {
     let Ok(room) = Room::open(alloc, plan.keys, plan.readers) else {
         return Err(LoadFault::Memory);

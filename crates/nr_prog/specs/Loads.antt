@@ -1,5 +1,5 @@
 -- What the program tells of a load.
-use Rattle.std.specs.Prelude.{ℕ, ◌≡◌, ◌≤◌, ◌+◌, ◌*◌, ◌==◌, ◌⊎◌, Bool, if◌then◌else◌, List, ◌++◌, codes, Option, Result, Ok, Err}
+use Rattle.std.specs.Prelude.{ℕ, ◌≡◌, ◌+◌, ◌==◌, ◌⊎◌, Bool, if◌then◌else◌, List, ◌++◌, codes, Option, Result, Ok, Err}
 use Rattle.std.specs.Fmt.{decimal}
 use Rattle.std.specs.Io.KnownBytes.{Appends}
 use Rattle.nr_lines.specs.declared.fault.RunFault.{RunFault}
@@ -9,6 +9,7 @@ use Rattle.nr_load.specs.declared.fault.LoadFault.{LoadFault}
 use Rattle.nr_load.specs.declared.fault.LoadFault.TheVariants as load_faults
 use Rattle.nr_load.specs.declared.load.LoadReport.{LoadReport}
 use Rattle.nr_load.specs.declared.load.Plan.{Plan}
+use Rattle.nr_load.specs.Reports.{ComesTo}
 use Rattle.nr_prog.specs.Faults.{line, line_of}
 
 -- each request that was sent was filled or is still pending
@@ -33,9 +34,9 @@ line_of_load load_faults.Thread = line (codes "nr: a thread could not be started
 line_of_load load_faults.Barred = line (codes "nr: a gate did not open")
 line_of_load load_faults.WrongRows = line (codes "nr: a get gave wrong rows")
 
--- what a load may come to: it makes all its gets, and its account balances, or it ends with a fault
+-- what a load may come to: the report of a history in which each reader made all its gets, or a fault
 abbrev pub MayComeTo : Plan → Result LoadReport LoadFault → Type 0
-MayComeTo plan (Ok report) = (report.gets ≡ plan.readers * plan.gets) × (report.answered ≤ report.gets) × (report.sends ≡ report.fills + report.asked)
+MayComeTo plan (Ok report) = ComesTo plan report
 MayComeTo plan (Err fault) = Unit {0}
 
 -- The report is written, or some of it by a fault of the writer, whose line follows; a load's fault has its line alone.

@@ -10,7 +10,7 @@ use Rattle.nr_map.specs.Callers.{Caller, Table, map_seen}
 use Rattle.nr_map.specs.Rounds.{CallsStay, EntriesAreCallers, HasCalls, HasHeard, HasJustCalls, KnowsAll, RoundsTellAll, SendsOfAllKeys, is_cancel, is_fill, is_sent}
 use Rattle.nr_map.specs.Rule.{StartsWith}
 use Rattle.nr_tally.specs.Balance.{Balances, Stays, of_all}
-use Rattle.nr_tally.specs.Rounds.{Counts, IsInOrder, IsSound, Rounds}
+use Rattle.nr_tally.specs.Rounds.{Counts, IsInOrder, IsSound, IsTally, Rounds}
 use Rattle.nr_tally.proofs.Gathering.{starts_then}
 
 count_all : (xs : List Entry) → count_by (λ (e : Entry). true) xs ≡ length xs
@@ -41,9 +41,9 @@ same_history entries one two rs knows1 knows2 stays =
     let none : length more.rest ≡ 0 = omega (arith, n1, n2, ap (λ (l : List Entry). length l) stays.mine, ap (λ (l : List Entry). length l) more.is, length-append one.seen more.rest) in
     more.is ∙ ap (λ (l : List Entry). one.seen ++ l) (nil_from_length more.rest none) ∙ append-nil one.seen
 
-pub balances : RoundsTellAll → EntriesAreCallers → SendsOfAllKeys → CallsStay → (w0 w1 w2 w3 : Caller) (rs0 rs1 rs2 : List Caller) (asked : ℕ) → Rounds w0 rs0 w1 rs1 → Counts w1 w2 asked → Rounds w2 rs1 w3 rs2
-    → w0.number ≡ 0 → IsInOrder w0.table.shape.readers rs0 → 0 < w0.table.shape.readers → Balances w3 rs2 asked
-balances tell entries sends stay w0 w1 w2 w3 rs0 rs1 rs2 asked one counted two first order some =
+pub tallies : RoundsTellAll → EntriesAreCallers → CallsStay → (w0 w1 w2 w3 : Caller) (rs0 rs1 rs2 : List Caller) (asked : ℕ) → Rounds w0 rs0 w1 rs1 → Counts w1 w2 asked → Rounds w2 rs1 w3 rs2
+    → w0.number ≡ 0 → IsInOrder w0.table.shape.readers rs0 → 0 < w0.table.shape.readers → IsTally w3 rs2 asked
+tallies tell entries stay w0 w1 w2 w3 rs0 rs1 rs2 asked one counted two first order some =
     let size1 : length rs1 ≡ length rs0 = one.count in
     let size2 : length rs2 ≡ length rs0 = two.count ∙ one.count in
     let sound1 : IsSound w1 = one.sound (omega (arith, order.count_is)) in
@@ -63,8 +63,16 @@ balances tell entries sends stay w0 w1 w2 w3 rs0 rs1 rs2 asked one counted two f
     let knows1 : KnowsAll w1 rs2 = knows_all w1 rs0 rs2 first1 sound1 order1 size2 numbers (tell w1.seen rs2 calls1 heard1) in
     let knows2 : KnowsAll w2 rs2 = knows_all w2 rs0 rs2 (counted.stays.number ∙ first1) (counted.sound sound1) order2 size2 numbers (tell w2.seen rs2 calls2 heard2) in
     let same : w2.seen ≡ w1.seen = same_history entries w1 w2 rs2 knows1 knows2 counted.stays in
-    let exact : asked ≡ total pending (map_seen w1).states = counted.exact same in
-    let mine : w3.mine ≡ w1.mine = two.stays.mine ∙ counted.stays.mine in
-    let sum : of_all is_sent w1 rs2 ≡ of_all is_fill w1 rs2 + of_all is_cancel w1 rs2 + asked = omega (arith, sends w1 rs2 knows1, exact) in
-    let count : (Entry → Bool) → List Entry → ℕ = λ test l. count_by test l + total (λ (r : Caller). count_by test r.mine) rs2 in
-    subst (λ (m : List Entry). count is_sent m ≡ count is_fill m + count is_cancel m + asked) (sym mine) sum
+    record {
+      knower = w1;
+      table = sym (two.stays.table ∙ counted.stays.table);
+      mine = sym (two.stays.mine ∙ counted.stays.mine);
+      knows = knows1;
+      exact = counted.exact same;
+    }
+
+pub balances : SendsOfAllKeys → (writer : Caller) (readers : List Caller) (asked : ℕ) → IsTally writer readers asked → Balances writer readers asked
+balances sends writer readers asked told =
+    let sum : of_all is_sent told.knower readers ≡ of_all is_fill told.knower readers + of_all is_cancel told.knower readers + asked = omega (arith, sends told.knower readers told.knows, told.exact) in
+    let count : (Entry → Bool) → List Entry → ℕ = λ test l. count_by test l + total (λ (r : Caller). count_by test r.mine) readers in
+    subst (λ (m : List Entry). count is_sent m ≡ count is_fill m + count is_cancel m + asked) told.mine sum

@@ -7,7 +7,7 @@ use Rattle.nr_map.specs.declared.answers.KeyKind.{KeyKind}
 use Rattle.nr_map.specs.declared.answers.KeyKind.TheVariants as kind
 use Rattle.nr_map.specs.Callers.{Caller, KnowsOwn, map_seen, opening_map}
 use Rattle.nr_map.specs.Entries.{AreCallers}
-use Rattle.nr_map.specs.Rounds.{HasCalls, HasHeard}
+use Rattle.nr_map.specs.Rounds.{HasCalls, HasHeard, KnowsAll}
 use Rattle.nr_tally.specs.Balance.{Stays}
 
 -- the readers of a map, in the order of their numbers
@@ -43,3 +43,11 @@ pub record Counts (old new : Caller) (asked : ℕ) : Type 0 where
   pub stays : Stays old new
   pub sound : IsSound old → IsSound new
   pub exact : new.seen ≡ old.seen → asked ≡ total pending (map_seen old).states
+
+-- one legal history has exactly the calls of the writer and of the readers, and leaves so many keys asked; it is what the writer knew before its second round
+pub record IsTally (writer : Caller) (readers : List Caller) (asked : ℕ) : Type 0 where
+  pub knower : Caller
+  pub table : knower.table ≡ writer.table
+  pub mine : knower.mine ≡ writer.mine
+  pub knows : KnowsAll knower readers
+  pub exact : asked ≡ total pending (map_seen knower).states

@@ -1,6 +1,6 @@
 //! Rounds of gathers, and the keys that are asked.
 ghost use Rattle.std.specs.Prelude.{◌≡◌, ◌<◌, All};
-ghost use Rattle.nr_tally.specs.Rounds.{Counts, IsInOrder, Rounds, asked_one};
+ghost use Rattle.nr_tally.specs.Rounds.{Counts, IsInOrder, IsTally, Rounds, asked_one};
 ghost use Rattle.nr_tally.specs.Balance.{Balances, Stays, StaysEach};
 
 use nr_map::{KeyKind, Reader, ReaderMap, Writer, laws};
@@ -49,6 +49,7 @@ pub fn tally(map: &ReaderMap, writer: &mut Writer, readers: &mut [Reader]) -> u6
     requires tables { All (λ reader. reader.table ≡ map.now) readers.old }
     requires order { IsInOrder map.now.shape.readers readers.old }
     requires some { 0 < map.now.shape.readers }
+    ensures tally { IsTally writer.new readers.new result }
     ensures balances { Balances writer.new readers.new result }
     ensures writer { Stays writer.old writer.new }
     ensures readers { StaysEach readers.old readers.new }
