@@ -228,7 +228,7 @@ fn settle(
 /// makes `gets` gets, of keys that it draws. All memory but a worker's own is asked for before the
 /// first thread starts. A fault of one ends all, and each thread that was started is joined before
 /// the answer, of several faults the first named; `WrongRows` also where gets are missing and nothing
-/// tells why. Then all readers are gathered, and the account balances.
+/// tells why. Then all readers are gathered; the report is of one history that has all their calls.
 pub fn run_load<R: Threads + Wait + Sync, G: Gate + Sync>(
     rt: &R,
     alloc: Global,
