@@ -7,7 +7,7 @@ use Rattle.nr_model.specs.Histories.{Entry}
 use Rattle.nr_model.specs.Strays.{keyed, strays}
 use Rattle.nr_model.specs.Maps.{filled_count}
 use Rattle.nr_core.specs.Story.{map_after}
-use Rattle.nr_alone.proofs.ListPlaces.{at_maps, at_unmap, before, inside}
+use Rattle.nr_marks.proofs.ListPlaces.{at_maps, at_unmap, before, inside}
 use Rattle.nr_marks.specs.Exact.{filled_puts, pin_of as past_pin, pins, put_numbers}
 use Rattle.nr_marks.specs.MarkLaws.{slots_in_use}
 use Rattle.nr_marks.specs.Marks.{Past}

@@ -1,4 +1,3 @@
-pub mod ListPlaces
 pub mod Rounds
 pub mod Exactly
 pub mod Settling
