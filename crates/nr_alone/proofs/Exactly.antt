@@ -10,10 +10,10 @@ use native.Mathlib.Decide.{ℕ_discrete}
 use Rattle.nr_model.specs.Histories.{Entry, IsLegal, entries_of}
 use Rattle.nr_model.specs.Laws.{LegalBegins}
 use Rattle.nr_core.specs.declared.shape.Shape.{Shape}
-use Rattle.nr_map.specs.Callers.{Caller, Table, opening_map}
-use Rattle.nr_map.specs.Entries.{AreCallers, is_reading}
+use Rattle.nr_board.specs.Callers.{Caller, Table, opening_map}
+use Rattle.nr_board.specs.Entries.{AreCallers, is_reading}
 use Rattle.nr_map.specs.Rounds.{EntriesAreCallers}
-use Rattle.nr_map.specs.Rule.{StartsWith}
+use Rattle.nr_board.specs.Rule.{StartsWith}
 use Rattle.nr_alone.specs.declared.seat.Seat.{Seat}
 use Rattle.nr_alone.specs.declared.seat.Seat.TheVariants.{Idle}
 use Rattle.nr_alone.specs.Seats.{caller_of, mine_of}

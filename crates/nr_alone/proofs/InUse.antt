@@ -12,7 +12,7 @@ use Rattle.nr_marks.specs.Exact.{filled_puts, pin_of as past_pin, pins, put_numb
 use Rattle.nr_marks.specs.MarkLaws.{slots_in_use}
 use Rattle.nr_marks.specs.Marks.{Past}
 use Rattle.nr_marks.specs.Pasts.{AllCurrent, AllKnown, AllReaders, Current}
-use Rattle.nr_map.specs.Callers.{Caller, Table}
+use Rattle.nr_board.specs.Callers.{Caller, Table}
 use Rattle.nr_alone.specs.declared.seat.Seat.{Seat}
 use Rattle.nr_alone.specs.declared.seat.Seat.TheVariants.{Idle, Pinned}
 use Rattle.nr_alone.specs.MapState.{is_full, pinned, put_of}

@@ -15,10 +15,10 @@ use Rattle.nr_core.specs.declared.places.Retired.{Retired}
 use Rattle.nr_marks.specs.Marks.{Marks, Past}
 use Rattle.nr_marks.specs.MarkLaws.{slots_in_use}
 use Rattle.nr_marks.specs.Pasts.{AllCurrent, AllReaders}
-use Rattle.nr_map.specs.Answers.{HasNoSlot, Publishes}
-use Rattle.nr_map.specs.Callers.{Caller, Gains, Grows, Table, opening_map}
+use Rattle.nr_board.specs.WriterAnswers.{HasNoSlot, Publishes}
+use Rattle.nr_board.specs.Callers.{Caller, Gains, Grows, Table, opening_map}
 use Rattle.nr_map.specs.ExactPlaces.{OnlyLearnt}
-use Rattle.nr_map.specs.Rule.{StartsWith}
+use Rattle.nr_board.specs.Rule.{StartsWith}
 use Rattle.nr_alone.specs.Answers.{Answer}
 use Rattle.nr_alone.specs.Answers as answers
 use Rattle.nr_alone.specs.declared.seat.Seat.{Seat}

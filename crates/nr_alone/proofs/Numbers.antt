@@ -12,8 +12,8 @@ use Rattle.nr_model.specs.Laws.{LegalBegins, NumbersCountCancels}
 use Rattle.nr_model.specs.Maps.{number_of, state_of}
 use Rattle.nr_core.specs.declared.shape.Shape.{Shape}
 use Rattle.nr_core.specs.Story.{map_after}
-use Rattle.nr_map.specs.Callers.{Caller, Table, map_seen, opening_map}
-use Rattle.nr_map.specs.Entries.{AreCallers, is_reading}
+use Rattle.nr_board.specs.Callers.{Caller, Table, map_seen, opening_map}
+use Rattle.nr_board.specs.Entries.{AreCallers, is_reading}
 use Rattle.nr_alone.specs.declared.seat.Seat.{Seat}
 use Rattle.nr_alone.specs.Alone.{IsAlone, log_of}
 use Rattle.nr_alone.proofs.Exactly.{callers_end, entries_own, log_begins}

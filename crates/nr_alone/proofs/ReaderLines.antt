@@ -15,8 +15,8 @@ use Rattle.nr_model.specs.Histories.{Entry, entries_of}
 use Rattle.nr_model.specs.Maps.{PartialMap, find_reply, next, state_of}
 use Rattle.nr_core.specs.Story.{entry, map_after}
 use Rattle.nr_marks.specs.Puts.{put_number}
-use Rattle.nr_map.specs.Callers.{Caller, Rests, Table, opening_map}
-use Rattle.nr_map.specs.Rule.{StartsWith}
+use Rattle.nr_board.specs.Callers.{Caller, Rests, Table, opening_map}
+use Rattle.nr_board.specs.Rule.{StartsWith}
 use Rattle.nr_alone.specs.Answers.{Answer}
 use Rattle.nr_alone.specs.Answers as answers
 use Rattle.nr_alone.specs.declared.answer.Refusal.TheVariants as refusals

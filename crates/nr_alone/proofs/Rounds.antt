@@ -9,11 +9,11 @@ use Rattle.nr_model.specs.Histories.{Entry, IsLegal, entries_of}
 use Rattle.nr_core.specs.declared.places.Retired.{Retired}
 use Rattle.nr_marks.specs.Marks.{Marks, Past}
 use Rattle.nr_marks.specs.Pasts.{Current}
-use Rattle.nr_map.specs.Callers.{Caller, Table, opening_map}
-use Rattle.nr_map.specs.Entries.{AreCallers}
+use Rattle.nr_board.specs.Callers.{Caller, Table, opening_map}
+use Rattle.nr_board.specs.Entries.{AreCallers}
 use Rattle.nr_map.specs.ExactPlaces.{OnlyLearnt}
-use Rattle.nr_map.specs.Meetings.{Gathers, Learns, how_is}
-use Rattle.nr_map.specs.Rule.{StartsWith}
+use Rattle.nr_board.specs.Meetings.{Gathers, Learns, how_is}
+use Rattle.nr_board.specs.Rule.{StartsWith}
 use Rattle.nr_alone.specs.declared.seat.Seat.{Seat}
 use Rattle.nr_alone.specs.Seats.{Still, caller_of, how_of, mine_of, still}
 use Rattle.nr_alone.specs.Rounds.{Gathered, GathersSeat, IsShown, IsSound, Round, Stays}

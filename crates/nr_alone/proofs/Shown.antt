@@ -12,7 +12,7 @@ use Rattle.nr_core.specs.Story.{entry, map_after}
 use Rattle.nr_marks.specs.Exact.{put_numbers}
 use Rattle.nr_marks.specs.Puts.{put_count, put_number, puts_set}
 use Rattle.nr_marks.specs.MarkLaws.{PutGoesOn}
-use Rattle.nr_map.specs.Callers.{Table, opening_map}
+use Rattle.nr_board.specs.Callers.{Table, opening_map}
 use Rattle.nr_alone.specs.Answers as answers
 use Rattle.nr_alone.specs.declared.seat.Seat.{Seat}
 use Rattle.nr_alone.specs.MapState.{Outcome, MapState, after_call, answer_call, is_full, put_count_after, puts_after}

@@ -5,7 +5,7 @@ use Rattle.nr_model.specs.Histories.{Entry, after}
 use Rattle.nr_model.specs.Maps.{PartialMap, key_count, key_of, next, state_after, state_of}
 use Rattle.nr_model.specs.declared.states.KeyState.TheVariants.{Hole}
 use Rattle.nr_core.specs.Story.{map_after}
-use Rattle.nr_map.specs.Callers.{Table, opening_map}
+use Rattle.nr_board.specs.Callers.{Table, opening_map}
 
 keys_after : (log : List Entry) (m : PartialMap) → key_count (after m log) ≡ key_count m
 keys_after [] m = refl

@@ -11,7 +11,7 @@ use Rattle.nr_marks.specs.Exact.{put_numbers}
 use Rattle.nr_marks.specs.MarkLaws.{PutGoesOn}
 use Rattle.nr_marks.specs.Pasts.{Current}
 use Rattle.nr_marks.specs.Puts.{put_count}
-use Rattle.nr_map.specs.Callers.{Caller, Table}
+use Rattle.nr_board.specs.Callers.{Caller, Table}
 use Rattle.nr_map.specs.ExactPlaces.{DoneIsExact, NoSlotIsExact}
 use Rattle.nr_map.specs.Rounds.{EntriesAreCallers}
 use Rattle.nr_alone.specs.declared.seat.Seat.{Seat}

@@ -1,8 +1,8 @@
 -- What a line did before its round of gathers, and what stands after the round.
 use Rattle.std.specs.Prelude.{◌≡◌, ◌≢◌, ◌<◌, ◌≤◌, ℕ, suc, List, [], ◌++◌, length, map, slice_index_or}
 use Rattle.nr_model.specs.Histories.{Entry, entries_of}
-use Rattle.nr_map.specs.Callers.{Caller, Table}
-use Rattle.nr_map.specs.Rule.{StartsWith}
+use Rattle.nr_board.specs.Callers.{Caller, Table}
+use Rattle.nr_board.specs.Rule.{StartsWith}
 use Rattle.nr_alone.specs.declared.seat.Seat.{Seat}
 use Rattle.nr_alone.specs.Seats.{how_of, mine_of, pin_of}
 use Rattle.nr_alone.specs.Alone.{IsAlone, IsSeat, calls_of, log_of}

@@ -5,11 +5,11 @@ use lib.ListN.{get_elem?}
 use Rattle.nr_model.specs.Histories.{Entry, IsLegal, entries_of}
 use Rattle.nr_marks.specs.Exact.{Lists}
 use Rattle.nr_marks.specs.Pasts.{Current}
-use Rattle.nr_map.specs.Callers.{Caller, KnowsOwn, opening_map}
-use Rattle.nr_map.specs.Entries.{AreCallers}
+use Rattle.nr_board.specs.Callers.{Caller, KnowsOwn, opening_map}
+use Rattle.nr_board.specs.Entries.{AreCallers}
 use Rattle.nr_map.specs.ExactPlaces.{OnlyLearnt}
-use Rattle.nr_map.specs.Meetings.{Gathers, desk_seen}
-use Rattle.nr_map.specs.Rule.{StartsWith}
+use Rattle.nr_board.specs.Meetings.{Gathers, desk_seen}
+use Rattle.nr_board.specs.Rule.{StartsWith}
 use Rattle.nr_alone.specs.declared.seat.Seat.{Seat}
 use Rattle.nr_alone.specs.Seats.{caller_of, how_of, mine_of, pin_of, still}
 

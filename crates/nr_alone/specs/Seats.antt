@@ -9,9 +9,9 @@ use Rattle.nr_model.specs.Histories.{Entry, is_done}
 use Rattle.nr_core.specs.Story.{entry}
 use Rattle.nr_marks.specs.Marks.{Past}
 use Rattle.nr_marks.specs.Puts.{put_number}
-use Rattle.nr_map.specs.Callers.{Caller, Gains, KnowsOwn, Rests, Table}
-use Rattle.nr_map.specs.Meetings.{how_is}
-use Rattle.nr_map.specs.Rule.{StartsWith}
+use Rattle.nr_board.specs.Callers.{Caller, Gains, KnowsOwn, Rests, Table}
+use Rattle.nr_board.specs.Meetings.{how_is}
+use Rattle.nr_board.specs.Rule.{StartsWith}
 use Rattle.nr_alone.specs.MapState.{Pin}
 use Rattle.nr_alone.specs.Answers.{Answer}
 use Rattle.nr_alone.specs.Answers as answers

@@ -2,18 +2,18 @@
 use Rattle.std.specs.Prelude.{ℕ, Result, Ok, Err}
 use Rattle.nr_map.specs.declared.answers.Asked.{Asked}
 use Rattle.nr_map.specs.declared.answers.Asked.TheVariants as asked
-use Rattle.nr_map.specs.declared.answers.Cancel.{Cancel}
-use Rattle.nr_map.specs.declared.answers.Cancel.TheVariants as cancel
-use Rattle.nr_map.specs.declared.answers.Evict.{Evict}
-use Rattle.nr_map.specs.declared.answers.Evict.TheVariants as evict
-use Rattle.nr_map.specs.declared.answers.FillFault.{FillFault}
-use Rattle.nr_map.specs.declared.answers.FillFault.TheVariants as fill
-use Rattle.nr_map.specs.declared.answers.UpdateFault.{UpdateFault}
-use Rattle.nr_map.specs.declared.answers.UpdateFault.TheVariants as update
-use Rattle.nr_map.specs.declared.answers.Found.{Found}
-use Rattle.nr_map.specs.declared.answers.Found.TheVariants as found
-use Rattle.nr_map.specs.declared.answers.KeyKind.{KeyKind}
-use Rattle.nr_map.specs.declared.answers.KeyKind.TheVariants as kind
+use Rattle.nr_board.specs.declared.answers.Cancel.{Cancel}
+use Rattle.nr_board.specs.declared.answers.Cancel.TheVariants as cancel
+use Rattle.nr_board.specs.declared.answers.Evict.{Evict}
+use Rattle.nr_board.specs.declared.answers.Evict.TheVariants as evict
+use Rattle.nr_board.specs.declared.answers.FillFault.{FillFault}
+use Rattle.nr_board.specs.declared.answers.FillFault.TheVariants as fill
+use Rattle.nr_board.specs.declared.answers.UpdateFault.{UpdateFault}
+use Rattle.nr_board.specs.declared.answers.UpdateFault.TheVariants as update
+use Rattle.nr_board.specs.declared.answers.Found.{Found}
+use Rattle.nr_board.specs.declared.answers.Found.TheVariants as found
+use Rattle.nr_board.specs.declared.answers.KeyKind.{KeyKind}
+use Rattle.nr_board.specs.declared.answers.KeyKind.TheVariants as kind
 
 abbrev pub found_code : Found → ℕ
 found_code found.Rows = 0

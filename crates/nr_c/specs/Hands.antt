@@ -1,6 +1,6 @@
 -- A reader between two calls: whose it is.
 use Rattle.std.specs.Prelude.{Option, Some, None}
-use Rattle.nr_map.specs.Callers.{Table}
+use Rattle.nr_board.specs.Callers.{Table}
 use Rattle.nr_c.specs.declared.hand.Hand.{Hand}
 use Rattle.nr_c.specs.declared.hand.Hand.TheVariants.{Idle, Holds}
 

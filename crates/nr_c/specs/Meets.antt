@@ -1,8 +1,8 @@
 -- What one handle's token learns of another's.
 use Rattle.std.specs.Prelude.{◌≡◌, List}
-use Rattle.nr_map.specs.Callers.{Caller}
+use Rattle.nr_board.specs.Callers.{Caller}
 use Rattle.nr_map.specs.Pins.{Pinned}
-use Rattle.nr_map.specs.Meetings.{Gathers, Meets}
+use Rattle.nr_board.specs.Meetings.{Gathers, Meets}
 use Rattle.nr_c.specs.declared.hand.Hand.TheVariants.{Holds, Idle}
 use Rattle.nr_c.specs.declared.reader_side.ReaderSide.{ReaderSide}
 use Rattle.nr_c.specs.declared.writer_side.WriterSide.{WriterSide}

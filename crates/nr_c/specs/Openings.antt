@@ -1,7 +1,7 @@
 -- What opens a map and its handles.
 use Rattle.std.specs.Prelude.{ℕ, ◌≡◌, ◌⊎◌, List, [], ◌∷◌, ◌++◌, Some}
 use Rattle.nr_core.specs.declared.shape.Shape.{Shape}
-use Rattle.nr_map.specs.Callers.{Caller}
+use Rattle.nr_board.specs.Callers.{Caller}
 use Rattle.nr_map.specs.Opened.{IsOpened}
 use Rattle.nr_c.specs.declared.codes.TheConstants.{NR_BAD_SIZE, NR_DONE, NR_NO_MEMORY, NR_NO_READER}
 use Rattle.nr_c.specs.declared.hand.Hand.TheVariants.{Idle}

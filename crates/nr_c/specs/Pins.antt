@@ -1,6 +1,6 @@
 -- A reader that holds a set, as C calls it.
 use Rattle.std.specs.Prelude.{ℕ, ◌≡◌, ◌≤◌, ◌⊎◌, List, length, slice_get, Some, Ok, Err}
-use Rattle.nr_map.specs.Callers.{Caller, Rests}
+use Rattle.nr_board.specs.Callers.{Caller, Rests}
 use Rattle.nr_map.specs.Pins.{Pinned, PinsKey}
 use Rattle.nr_c.specs.declared.codes.TheConstants.{NR_HOLE, NR_NO_ROW, NR_ROWS}
 use Rattle.nr_c.specs.declared.hand.Hand.TheVariants.{Holds, Idle}

@@ -6,16 +6,16 @@ use Rattle.nr_model.specs.declared.calls.Reply.TheVariants as reply
 use Rattle.nr_model.specs.declared.rows.Row.{Row}
 use Rattle.nr_model.specs.Maps.{number_of, state_of}
 use Rattle.nr_model.specs.Rows.{is_ascending}
-use Rattle.nr_map.specs.declared.answers.Cancel.{Cancel}
-use Rattle.nr_map.specs.declared.answers.Evict.{Evict}
-use Rattle.nr_map.specs.declared.answers.FillFault.{FillFault}
-use Rattle.nr_map.specs.declared.answers.Found.{Found}
-use Rattle.nr_map.specs.declared.answers.Found.TheVariants as found
-use Rattle.nr_map.specs.declared.answers.KeyKind.{KeyKind}
-use Rattle.nr_map.specs.declared.answers.UpdateFault.{UpdateFault}
-use Rattle.nr_map.specs.Answers.{CancelsKey, EvictsKey, FillsKey, SlotsStay, UpdatesKey}
-use Rattle.nr_map.specs.Callers.{Caller, Gains, map_seen}
-use Rattle.nr_map.specs.Meetings.{StatesKey}
+use Rattle.nr_board.specs.declared.answers.Cancel.{Cancel}
+use Rattle.nr_board.specs.declared.answers.Evict.{Evict}
+use Rattle.nr_board.specs.declared.answers.FillFault.{FillFault}
+use Rattle.nr_board.specs.declared.answers.Found.{Found}
+use Rattle.nr_board.specs.declared.answers.Found.TheVariants as found
+use Rattle.nr_board.specs.declared.answers.KeyKind.{KeyKind}
+use Rattle.nr_board.specs.declared.answers.UpdateFault.{UpdateFault}
+use Rattle.nr_board.specs.WriterAnswers.{CancelsKey, EvictsKey, FillsKey, SlotsStay, UpdatesKey}
+use Rattle.nr_board.specs.Callers.{Caller, Gains, map_seen}
+use Rattle.nr_board.specs.Meetings.{StatesKey}
 use Rattle.nr_c.specs.declared.codes.TheConstants.{NR_BAD_BATCH, NR_NOT_SORTED, NR_TOO_MANY}
 use Rattle.nr_c.specs.declared.rows.NrDelta.{NrDelta}
 use Rattle.nr_c.specs.declared.rows.NrRow.{NrRow}

@@ -1,6 +1,6 @@
 //! What one handle's token learns of another's.
 ghost use Rattle.std.specs.Prelude.{◌≡◌, [], ◌∷◌, Some};
-ghost use Rattle.nr_map.specs.Callers.{Caller};
+ghost use Rattle.nr_board.specs.Callers.{Caller};
 ghost use Rattle.nr_map.specs.Pins.{Pinned};
 ghost use Rattle.nr_c.specs.declared.hand.Hand.TheVariants as hands;
 ghost use Rattle.nr_c.specs.declared.reader_side.ReaderSide.{ReaderSide as ReaderHeld};

@@ -1,7 +1,7 @@
 //! What a reader's handle leads to.
 ghost use Rattle.std.specs.Prelude.{◌≡◌, None, Some};
 ghost use Rattle.nr_c.specs.Hands.{table_of};
-ghost use Rattle.nr_map.specs.Callers.{Caller};
+ghost use Rattle.nr_board.specs.Callers.{Caller};
 ghost use Rattle.nr_map.specs.Pins.{Pinned};
 ghost use Rattle.nr_c.specs.declared.hand.Hand.TheVariants as hand;
 

@@ -1,6 +1,6 @@
 //! What a reader that holds nothing calls.
 ghost use Rattle.std.specs.Prelude.{◌≡◌, ◌<◌, [], ◌∷◌, Some};
-ghost use Rattle.nr_map.specs.Callers.{Caller};
+ghost use Rattle.nr_board.specs.Callers.{Caller};
 ghost use Rattle.nr_c.specs.declared.hand.Hand.TheVariants as hands;
 ghost use Rattle.nr_c.specs.declared.reader_side.ReaderSide.{ReaderSide as Held};
 ghost use Rattle.nr_map.specs.Answers.{AsksKey};

@@ -1,6 +1,6 @@
 //! The rows of a pin, put straight into the caller's cells.
 ghost use Rattle.std.specs.Prelude.{◌≡◌, ◌<◌, ◌≤◌, ◌*◌, ◌++◌, drop, length, map as mapped, None};
-ghost use Rattle.nr_map.specs.Callers.{Rests};
+ghost use Rattle.nr_board.specs.Callers.{Rests};
 ghost use Rattle.nr_c.specs.Live.{FindsRows};
 ghost use Rattle.nr_c.specs.RowCells.{Shows, cell_of};
 

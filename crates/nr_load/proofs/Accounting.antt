@@ -4,7 +4,7 @@ use Rattle.std.specs.List.{count_by}
 use Rattle.std.proofs.Math.Nat.{mul_comm}
 use Rattle.std.proofs.lemmas.List.{length-map}
 use Rattle.nr_model.specs.Histories.{Entry}
-use Rattle.nr_map.specs.Callers.{Caller, Table}
+use Rattle.nr_board.specs.Callers.{Caller, Table}
 use Rattle.nr_map.specs.Rounds.{is_cancel, is_fill, is_sent}
 use Rattle.nr_serve.specs.Hands.{capped}
 use Rattle.nr_tally.specs.Balance.{of_all}

@@ -4,8 +4,8 @@ use Rattle.std.specs.List.{count_by}
 use Rattle.nr_model.specs.Histories.{Entry, IsLegal, after, entries_of}
 use Rattle.nr_model.specs.Laws.{pending}
 use Rattle.nr_core.specs.Sums.{total}
-use Rattle.nr_map.specs.Callers.{Caller, Table, opening_map}
-use Rattle.nr_map.specs.Entries.{AreCallers}
+use Rattle.nr_board.specs.Callers.{Caller, Table, opening_map}
+use Rattle.nr_board.specs.Entries.{AreCallers}
 use Rattle.nr_map.specs.Rounds.{EntriesAreCallers, is_cancel, is_fill, is_sent}
 use Rattle.nr_serve.specs.Hands.{capped}
 use Rattle.nr_tally.specs.Balance.{Balances, Stays, StaysEach, of_all}

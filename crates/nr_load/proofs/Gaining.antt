@@ -7,14 +7,14 @@ use Rattle.nr_model.specs.declared.calls.Call.TheVariants as call
 use Rattle.nr_model.specs.declared.calls.Reply.{Reply}
 use Rattle.nr_model.specs.Histories.{Entry}
 use Rattle.nr_core.specs.Story.{entry}
-use Rattle.nr_map.specs.declared.answers.Evict.{Evict}
-use Rattle.nr_map.specs.declared.answers.Evict.TheVariants as evict
-use Rattle.nr_map.specs.declared.answers.FillFault.{FillFault}
-use Rattle.nr_map.specs.declared.answers.FillFault.TheVariants as fill
-use Rattle.nr_map.specs.declared.answers.UpdateFault.{UpdateFault}
-use Rattle.nr_map.specs.declared.answers.UpdateFault.TheVariants as update
-use Rattle.nr_map.specs.Answers.{EvictsKey, FillsKey, UpdatesKey}
-use Rattle.nr_map.specs.Callers.{Caller, Gains, Grows}
+use Rattle.nr_board.specs.declared.answers.Evict.{Evict}
+use Rattle.nr_board.specs.declared.answers.Evict.TheVariants as evict
+use Rattle.nr_board.specs.declared.answers.FillFault.{FillFault}
+use Rattle.nr_board.specs.declared.answers.FillFault.TheVariants as fill
+use Rattle.nr_board.specs.declared.answers.UpdateFault.{UpdateFault}
+use Rattle.nr_board.specs.declared.answers.UpdateFault.TheVariants as update
+use Rattle.nr_board.specs.WriterAnswers.{EvictsKey, FillsKey, UpdatesKey}
+use Rattle.nr_board.specs.Callers.{Caller, Gains, Grows}
 use Rattle.nr_serve.specs.declared.dataflow.Turn.{Turn}
 use Rattle.nr_serve.specs.declared.dataflow.Turn.TheVariants as turn
 use Rattle.nr_serve.specs.Flows.{FlowSeen}

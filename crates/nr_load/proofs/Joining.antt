@@ -2,7 +2,7 @@
 use Rattle.std.proofs.Common.{◌≡◌, ℕ, List, [], ◌∷◌, ◌++◌, length, refl, subst, arith}
 use Rattle.std.proofs.lemmas.List.{append-nil}
 use Rattle.std.specs.declared.thread.PromisedHandle.{PromisedHandle}
-use Rattle.nr_map.specs.Callers.{Caller}
+use Rattle.nr_board.specs.Callers.{Caller}
 use Rattle.nr_load.specs.declared.workers.Outcome.{Outcome}
 use Rattle.nr_load.specs.declared.workers.Serving.{Serving}
 use Rattle.nr_load.specs.Outcomes.{CarriesFirst, KeptBy, Serves, ServesFirst}

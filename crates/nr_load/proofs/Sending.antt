@@ -3,7 +3,7 @@ use Rattle.std.proofs.Common.{◌≡◌, ℕ, List, length, ap, ◌∙◌}
 use Rattle.std.specs.Prelude.{drop}
 use Rattle.std.proofs.Math.Seq.{drop-append_seam}
 use Rattle.nr_model.specs.Histories.{Entry}
-use Rattle.nr_map.specs.Callers.{Caller}
+use Rattle.nr_board.specs.Callers.{Caller}
 use Rattle.nr_serve.specs.Tickets.{sent}
 use Rattle.nr_load.specs.Gained.{Gained}
 use Rattle.nr_load.proofs.Counting.{sends_counted}

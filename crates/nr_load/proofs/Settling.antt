@@ -7,7 +7,7 @@ use Rattle.std.proofs.lemmas.Option.{get_or_from_slice_get}
 use Rattle.nr_model.specs.Histories.{Entry}
 use Rattle.nr_core.specs.Sums.{total}
 use Rattle.nr_marks.specs.Marks.{no_marks}
-use Rattle.nr_map.specs.Callers.{Caller, Table}
+use Rattle.nr_board.specs.Callers.{Caller, Table}
 use Rattle.nr_map.specs.Opened.{IsOpened, newcomer}
 use Rattle.nr_map.specs.Rounds.{is_cancel, is_fill, is_sent}
 use Rattle.nr_load.specs.declared.fault.LoadFault.{LoadFault}

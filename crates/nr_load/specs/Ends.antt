@@ -1,6 +1,6 @@
 -- All threads of a load are joined.
 use Rattle.std.specs.Prelude.{◌≡◌, ◌==◌, ℕ, Bool, List, length, true, if◌then◌else◌, Option, None, Some}
-use Rattle.nr_map.specs.Callers.{Caller, Table}
+use Rattle.nr_board.specs.Callers.{Caller, Table}
 use Rattle.nr_map.specs.Opened.{IsOpened}
 use Rattle.nr_load.specs.declared.fault.LoadFault.{LoadFault}
 use Rattle.nr_load.specs.declared.fault.LoadFault.TheVariants as faults

@@ -1,6 +1,6 @@
 -- What the dataflow's thread gives back.
 use Rattle.std.specs.Prelude.{◌≡◌, ℕ}
-use Rattle.nr_map.specs.Callers.{Caller}
+use Rattle.nr_board.specs.Callers.{Caller}
 use Rattle.nr_serve.specs.Hands.{capped}
 use Rattle.nr_load.specs.declared.flow.Flowed.{Flowed}
 use Rattle.nr_load.specs.Gained.{Gained}

@@ -1,6 +1,6 @@
 -- What the threads of a load are handed.
 use Rattle.std.specs.Prelude.{◌≡◌, ◌≤◌, ℕ, All, vec_len, vec_capacity}
-use Rattle.nr_map.specs.Callers.{Table}
+use Rattle.nr_board.specs.Callers.{Table}
 use Rattle.nr_trigger.specs.Tokens.{PosterSeen, Queue, TakerSeen}
 use Rattle.nr_load.specs.declared.threads.Lists.{Lists}
 use Rattle.nr_load.specs.declared.threads.Tokens.{Tokens}

@@ -2,7 +2,7 @@
 use Rattle.std.specs.Prelude.{◌≡◌, ◌≤◌, ℕ, ◌+◌, ◌*◌, List, [], ◌∷◌, Option, None, false}
 use Rattle.std.specs.declared.thread.PromisedHandle.{PromisedHandle}
 use Rattle.rand_pcg.specs.Lcg.{Lcg}
-use Rattle.nr_map.specs.Callers.{Caller}
+use Rattle.nr_board.specs.Callers.{Caller}
 use Rattle.nr_serve.specs.declared.hands.Hands.{Hands}
 use Rattle.nr_load.specs.declared.fault.LoadFault.{LoadFault}
 use Rattle.nr_load.specs.declared.workers.Outcome.{Outcome}

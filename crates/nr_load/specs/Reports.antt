@@ -7,8 +7,8 @@ use Rattle.nr_model.specs.Laws.{pending}
 use Rattle.nr_core.specs.declared.shape.Shape.{Shape}
 use Rattle.nr_core.specs.Sums.{total}
 use Rattle.nr_marks.specs.Marks.{no_marks}
-use Rattle.nr_map.specs.Callers.{Caller, Table, opening_map}
-use Rattle.nr_map.specs.Entries.{AreCallers}
+use Rattle.nr_board.specs.Callers.{Caller, Table, opening_map}
+use Rattle.nr_board.specs.Entries.{AreCallers}
 use Rattle.nr_map.specs.Opened.{newcomer}
 use Rattle.nr_map.specs.Rounds.{is_fill, is_sent}
 use Rattle.nr_serve.specs.declared.hands.Hands.{Hands}

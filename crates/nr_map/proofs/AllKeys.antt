@@ -1,5 +1,5 @@
 -- What a history has of each key, summed over all keys; and that a beginning which is at least and at most is all.
-use Rattle.std.proofs.Common.{◌≡◌, ◌≢◌, ℕ, zero, suc, ◌+◌, ◌<◌, ◌&&◌, Bool, false, cond, List, [], ◌∷◌, ◌++◌, get_or, length, refl, sym, ap, ◌∙◌, subst, arith, append-nil, append_assoc, length-append, ne_eqb}
+use Rattle.std.proofs.Common.{◌≡◌, ◌≢◌, ℕ, ◌+◌, ◌&&◌, Bool, false, cond, List, [], ◌∷◌, ◌++◌, get_or, length, refl, sym, ap, ◌∙◌, arith, append-nil, length-append, ne_eqb}
 use Rattle.std.specs.List.{count_by}
 use Rattle.nr_model.proofs.HistoryLemmas.{count_by-cons, sends_are_answered_lem}
 use Rattle.nr_model.specs.declared.calls.Call.{Call}
@@ -16,9 +16,8 @@ use Rattle.nr_core.specs.Slots.{bound_of}
 use Rattle.nr_core.specs.Story.{map_after}
 use Rattle.nr_core.specs.Sums.{below, total}
 use Rattle.nr_map.proofs.Gathered.{entries_are_callers_lem}
-use Rattle.nr_map.specs.Entries.{AreCallers}
+use Rattle.nr_board.specs.Entries.{AreCallers}
 use Rattle.nr_map.specs.Rounds.{BeginningsMeet, SendsOfAllKeys, is_cancel, is_fill, is_sent}
-use Rattle.nr_map.specs.Rule.{StartsWith}
 
 -- a test of one key's entries, for each key
 by_keys : (tests : ℕ → Entry → Bool) (shape : Shape) (log : List Entry) → ((key : ℕ) (e : Entry) → key ≢ key_of e.call → tests key e ≡ false) → AreCallers shape log

@@ -9,9 +9,9 @@ use Rattle.nr_model.specs.Histories.{Entry, asks, entries_of, cancels_key, fills
 use Rattle.nr_core.proofs.Histories.{of-append}
 use Rattle.nr_core.proofs.Sums.{below-change, below-first, below-zero}
 use Rattle.nr_core.specs.Sums.{below, total}
-use Rattle.nr_map.proofs.Gathering.{just_calls}
-use Rattle.nr_map.specs.Callers.{Caller}
-use Rattle.nr_map.proofs.Entries.{nobody_else}
+use Rattle.nr_board.proofs.Gathering.{just_calls}
+use Rattle.nr_board.specs.Callers.{Caller}
+use Rattle.nr_board.proofs.Entries.{nobody_else}
 use Rattle.nr_map.specs.Rounds.{CallsStay, EntriesAreCallers, RoundsTellAll, SendsOfAll}
 use Rattle.nr_core.specs.Slots.{bound_of}
 

@@ -14,10 +14,10 @@ use Rattle.nr_core.specs.Story.{entry, map_after}
 use Rattle.nr_model.specs.declared.calls.Call.{Call}
 use Rattle.nr_model.specs.declared.calls.Reply.TheVariants as reply
 use Rattle.nr_model.specs.declared.rows.Row.{Row}
-use Rattle.nr_map.specs.Answers.{Publishes}
-use Rattle.nr_map.specs.Callers.{Caller, Table}
+use Rattle.nr_board.specs.WriterAnswers.{Publishes}
+use Rattle.nr_board.specs.Callers.{Caller, Table}
 use Rattle.nr_map.specs.ExactPlaces.{DoneIsExact, NoSlotIsExact}
-use Rattle.nr_map.specs.Meetings.{desk_seen}
+use Rattle.nr_board.specs.Meetings.{desk_seen}
 
 pub no_slot_lem : NoSlotByMarks → NoSlotIsExact
 no_slot_lem law steps call counts old new after readers all known without learnt gathered =

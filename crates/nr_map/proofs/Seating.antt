@@ -5,8 +5,8 @@ use mathlib.Core.Logic.{dite}
 use native.Mathlib.Decide.{ℕ_discrete}
 use Rattle.nr_core.specs.declared.shape.Shape.{Shape}
 use Rattle.nr_marks.specs.Marks.{no_marks}
-use Rattle.nr_map.proofs.Tokens.{MapSeat}
-use Rattle.nr_map.specs.Callers.{Caller, Table}
+use Rattle.nr_board.proofs.Tokens.{MapSeat}
+use Rattle.nr_board.specs.Callers.{Caller, Table}
 use Rattle.nr_map.specs.Opened.{Seated, made_so, newcomer}
 
 get_old : (readers : List Caller) (last : Caller) (place : ℕ) → place < length readers → slice_get (readers ++ last ∷ []) place ≡ slice_get readers place

@@ -6,7 +6,7 @@ use Rattle.nr_model.specs.Maps.{filled_count, is_filled}
 use Rattle.nr_core.proofs.Histories.{length-now}
 use Rattle.nr_core.specs.declared.shape.Shape.{Shape}
 use Rattle.nr_core.specs.Story.{map_after}
-use Rattle.nr_map.specs.Callers.{Table}
+use Rattle.nr_board.specs.Callers.{Table}
 use Rattle.nr_core.specs.Spares.{Spare}
 use Rattle.nr_map.specs.SlotBounds.{NoSlotIsRare, PollsAreFew, RoomForFills, RoomForUpdates}
 

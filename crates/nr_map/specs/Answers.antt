@@ -1,37 +1,13 @@
--- What each call says of its token, by its answer.
-use Rattle.std.specs.Prelude.{◌≡◌, ℕ, suc, ◌+◌, ◌*◌, ◌≤◌, List, [], ◌∷◌, ◌++◌, length, slice_index, slice_set, Result, Ok, Err}
+-- What a reader's call says of its token, by its answer.
+use Rattle.std.specs.Prelude.{◌≡◌, ℕ, ◌+◌, ◌*◌, List, length}
 use Rattle.nr_model.specs.declared.rows.Row.{Row}
-use Rattle.nr_model.specs.declared.batches.ApplyFault.TheVariants as fault
-use Rattle.nr_model.specs.declared.batches.Delta.{Delta}
-use Rattle.nr_model.specs.declared.calls.Call.{Call}
 use Rattle.nr_model.specs.declared.calls.Call.TheVariants as model
 use Rattle.nr_model.specs.declared.calls.Reply.TheVariants as reply
-use Rattle.nr_model.specs.Batches.{applied}
-use Rattle.nr_model.specs.Histories.{Entry, after, entries_of}
-use Rattle.nr_model.specs.Maps.{key_of, state_of}
-use Rattle.nr_model.specs.declared.states.KeyState.TheVariants as states
-use Rattle.nr_core.specs.declared.places.Retired.{Retired}
-use Rattle.nr_core.specs.declared.calls.NoSlot.{NoSlot}
-use Rattle.nr_map.specs.declared.answers.Cancel.{Cancel}
-use Rattle.nr_map.specs.declared.answers.Cancel.TheVariants as cancel
-use Rattle.nr_map.specs.declared.answers.Evict.{Evict}
-use Rattle.nr_map.specs.declared.answers.Evict.TheVariants as evict
-use Rattle.nr_map.specs.declared.answers.FillFault.{FillFault}
-use Rattle.nr_map.specs.declared.answers.FillFault.TheVariants as fill
-use Rattle.nr_map.specs.declared.answers.UpdateFault.{UpdateFault}
-use Rattle.nr_map.specs.declared.answers.UpdateFault.TheVariants as update
-use Rattle.nr_map.specs.declared.answers.Found.{Found}
-use Rattle.nr_map.specs.declared.answers.Found.TheVariants as found
+use Rattle.nr_board.specs.declared.answers.Found.{Found}
+use Rattle.nr_board.specs.declared.answers.Found.TheVariants as found
 use Rattle.nr_map.specs.declared.answers.Asked.{Asked}
 use Rattle.nr_map.specs.declared.answers.Asked.TheVariants as asked
-use Rattle.nr_map.specs.Callers.{Caller, Gains, Grows, opening_map}
-use Rattle.nr_map.specs.Plays.{Lacks}
-use Rattle.nr_core.specs.Spares.{Spare}
-use Rattle.nr_map.specs.Spares.{Took, spare_of}
-use Rattle.nr_marks.specs.Marks.{with_name, with_polls, without_name}
-use Rattle.nr_marks.specs.Puts.{put_count}
-use Rattle.nr_marks.specs.PollNotes.{Noted}
-use Rattle.nr_map.specs.Polls.{AllHeldThen}
+use Rattle.nr_board.specs.Callers.{Caller, Gains}
 
 -- a find: on a hole the caller's set stays; else it has all rows of the reply
 abbrev pub FindsKey : ℕ → Caller → List Row → Caller → List Row → Found → Type 0
@@ -48,87 +24,3 @@ abbrev pub AsksKey : ℕ → Caller → Caller → Asked → Type 0
 AsksKey key old new (asked.Send ticket) = Gains 1 old (model.Ask key) (reply.Send ticket.number) new × (ticket.table ≡ old.table) × (ticket.key ≡ key)
 AsksKey key old new asked.Waiting = Gains 1 old (model.Ask key) reply.Waiting new
 AsksKey key old new asked.Filled = Gains 1 old (model.Ask key) reply.Filled new
-
--- the writer's slots and numbers are as they were, and the call polled none
-abbrev pub SlotsStay : Caller → Caller → Type 0
-SlotsStay old new = (spare_of new ≡ spare_of old) × (new.marks ≡ with_polls old.marks [])
-
--- the slot that the key named, as the map's words have it, is retired behind the others
-pub record RetiresOne (key : ℕ) (old : Caller) (before after : List Retired) : Type 0 where
-  pub slot : ℕ
-  pub arrivals : ℕ
-  pub named : slice_index old.marks.names key ≡ suc slot
-  pub retires : after ≡ before ++ record { slot = slot; arrivals = arrivals } ∷ []
-
--- an update and an eviction retire the slot that their key named; a fill's key named none
-abbrev pub Retires : Call → Caller → List Retired → List Retired → Type 0
-Retires (model.Find key) old before after = after ≡ before
-Retires (model.Ask key) old before after = after ≡ before
-Retires (model.Fill key number rows) old before after = (slice_index old.marks.names key ≡ 0) × (after ≡ before)
-Retires (model.Update key batch) old before after = RetiresOne key old before after
-Retires (model.Evict key) old before after = RetiresOne key old before after
-Retires (model.Cancel key) old before after = after ≡ before
-
--- the key had that set, after what the caller had seen and learnt before its own entry
-abbrev pub KeyHad : ℕ → List Row → Caller → List Entry → Type 0
-KeyHad key rows old between = (number : ℕ) × (state_of (after (opening_map old.table) (old.seen ++ between)) key ≡ states.Rows number rows)
-
--- a find of the writer's own
-abbrev pub LooksAt : ℕ → Caller → List Row → Caller → List Row → Found → Type 0
-LooksAt key old before new rows found.Rows = Gains (2 * length rows + 2) old (model.Find key) (reply.Rows rows) new × SlotsStay old new
-LooksAt key old before new rows found.Hole = Gains 1 old (model.Find key) reply.Hole new × SlotsStay old new × (rows ≡ before)
-
--- a call that put a set, besides its other steps: by so many polls it took a slot, it put each word and named the slot at its key, with the next put number, and retired what the key named before
-pub record Publishes (steps : ℕ) (old : Caller) (call : Call) (rows : List Row) (new : Caller) : Type 0 where
-  pub polls : ℕ
-  pub slot : ℕ
-  pub mid : Spare
-  pub took : Took slot polls (spare_of old) mid
-  pub few : polls ≤ old.table.shape.readers + 1
-  pub fresh : new.fresh ≡ mid.fresh
-  pub numbers : new.numbers ≡ old.numbers
-  pub retires : Retires call old mid.retired new.retired
-  pub number : ℕ
-  pub count : put_count new.seen ≡ suc number
-  pub put : slice_index new.marks.puts slot ≡ number
-  pub marks : new.marks ≡ with_name (with_polls old.marks new.marks.polls) (key_of call) slot number
-  pub gains : Gains (steps + 2 * length rows + 2 + polls) old call reply.Done new
-
--- A call that found no slot, after so many other steps and a poll of each retired slot. It is no entry: the writer has learnt readers' entries alone.
-pub record HasNoSlot (steps : ℕ) (old : Caller) (call : Call) (counts : NoSlot) (new : Caller) : Type 0 where
-  pub grows : Grows (steps + length old.retired) old [] new
-  pub readers : entries_of grows.between old.number ≡ []
-  -- it would be done now, and each slot is a filled key's or was polled
-  pub lacks : Lacks call counts new
-  -- at its poll the noted reader held the slot and had made so many acts, no fewer than the writer knew of
-  pub held : AllHeldThen old.seen new.seen new.marks.polls
-  pub noted : Noted old.table.shape old.pasts new.marks.polls
-  pub slots : spare_of new ≡ spare_of old
-  pub marks : new.marks ≡ with_polls old.marks new.marks.polls
-
--- a fill names the number of the request that it answers
-abbrev pub FillsKey : ℕ → ℕ → List Row → Caller → Caller → Result (Unit {0}) FillFault → Type 0
-FillsKey key number rows old new (Ok done) = Publishes 1 old (model.Fill key number rows) rows new
-FillsKey key number rows old new (Err fill.NotAsked) = Gains 1 old (model.Fill key number rows) reply.NotAsked new × SlotsStay old new
-FillsKey key number rows old new (Err fill.Already) = Gains 1 old (model.Fill key number rows) reply.Already new × SlotsStay old new
-FillsKey key number rows old new (Err fill.Stale) = Gains 1 old (model.Fill key number rows) reply.Stale new × SlotsStay old new
-FillsKey key number rows old new (Err (fill.NoSlot counts)) = HasNoSlot 1 old (model.Fill key number rows) counts new
-
--- an update looks, reads the set that the key has before the call's entry, and applies the batch to it
-abbrev pub UpdatesKey : ℕ → ℕ → List Delta → Caller → Caller → Result (Unit {0}) UpdateFault → Type 0
-UpdatesKey bound key batch old new (Ok done) = (set left : List Row) × (applied bound set batch ≡ Ok left) × (published : Publishes (2 * length set + 2) old (model.Update key batch) left new) × KeyHad key set old published.gains.between
-UpdatesKey bound key batch old new (Err update.Dropped) = Gains 1 old (model.Update key batch) reply.Dropped new × SlotsStay old new
-UpdatesKey bound key batch old new (Err update.NoRow) = (set : List Row) × (applied bound set batch ≡ Err fault.NoRow) × (gains : Gains (2 * length set + 2) old (model.Update key batch) reply.NoRow new) × KeyHad key set old gains.between × SlotsStay old new
-UpdatesKey bound key batch old new (Err update.TooMany) = (set : List Row) × (applied bound set batch ≡ Err fault.TooMany) × (gains : Gains (2 * length set + 2) old (model.Update key batch) reply.TooMany new) × KeyHad key set old gains.between × SlotsStay old new
-UpdatesKey bound key batch old new (Err (update.NoSlot counts)) = (set left : List Row) × (applied bound set batch ≡ Ok left) × (without : HasNoSlot (2 * length set + 2) old (model.Update key batch) counts new) × KeyHad key set old without.grows.between
-
--- an eviction retires the key's slot
-abbrev pub EvictsKey : ℕ → Caller → Caller → Evict → Type 0
-EvictsKey key old new evict.Evicted = Gains 2 old (model.Evict key) reply.Evicted new × (new.fresh ≡ old.fresh) × (new.numbers ≡ old.numbers) × RetiresOne key old old.retired new.retired × (new.marks ≡ without_name (with_polls old.marks []) key)
-EvictsKey key old new evict.Nothing = Gains 1 old (model.Evict key) reply.Nothing new × SlotsStay old new
-
--- a cancel gives the key the next number; it retires no slot, and no key names another
-abbrev pub CancelsKey : ℕ → Caller → Caller → Cancel → Type 0
-CancelsKey key old new cancel.Cancelled = Gains 2 old (model.Cancel key) reply.Cancelled new × (spare_of new ≡ record (spare_of old) { numbers = slice_set old.numbers key (slice_index old.numbers key + 1) }) × (new.marks ≡ with_polls old.marks [])
-CancelsKey key old new cancel.Nothing = Gains 1 old (model.Cancel key) reply.Nothing new × SlotsStay old new
-CancelsKey key old new cancel.Worn = Gains 1 old (model.Cancel key) reply.Worn new × SlotsStay old new

@@ -7,9 +7,9 @@ use Rattle.nr_marks.specs.Exact.{Lists}
 use Rattle.nr_marks.specs.MarkLaws.{slots_in_use}
 use Rattle.nr_marks.specs.Marks.{Past}
 use Rattle.nr_marks.specs.Pasts.{AllCurrent, AllKnown, AllReaders}
-use Rattle.nr_map.specs.Answers.{HasNoSlot, Publishes}
-use Rattle.nr_map.specs.Callers.{Caller}
-use Rattle.nr_map.specs.Meetings.{desk_seen}
+use Rattle.nr_board.specs.WriterAnswers.{HasNoSlot, Publishes}
+use Rattle.nr_board.specs.Callers.{Caller}
+use Rattle.nr_board.specs.Meetings.{desk_seen}
 
 -- the writer has made no call since then
 pub record OnlyLearnt (old new : Caller) : Type 0 where

@@ -3,8 +3,8 @@ use Rattle.std.specs.Prelude.{◌≡◌, ℕ, ◌+◌, ◌<◌, List, [], All, l
 use Rattle.nr_core.specs.declared.shape.Shape.{Shape}
 use Rattle.atomic_table.specs.declared.shared.Seat.{Seat}
 use Rattle.nr_marks.specs.Marks.{Marks, no_marks, opening_marks}
-use Rattle.nr_map.specs.Callers.{Caller, Table}
-use Rattle.nr_map.specs.Views.{View, opener}
+use Rattle.nr_board.specs.Callers.{Caller, Table}
+use Rattle.nr_board.specs.Views.{View, opener}
 
 -- a token that has made no step and seen nothing
 abbrev pub newcomer : Table → ℕ → Marks → Caller

@@ -6,9 +6,9 @@ use Rattle.nr_model.specs.declared.calls.Call.TheVariants as model
 use Rattle.nr_model.specs.declared.calls.Reply.TheVariants as reply
 use Rattle.nr_marks.specs.Marks.{acted}
 use Rattle.nr_marks.specs.Puts.{put_number}
-use Rattle.nr_map.specs.Callers.{Caller, Gains, KnowsOwn, token}
-use Rattle.nr_map.specs.Seats.{HoldsAt}
-use Rattle.nr_map.specs.Views.{View, number_of, rows_held}
+use Rattle.nr_board.specs.Callers.{Caller, Gains, KnowsOwn, token}
+use Rattle.nr_board.specs.Seats.{HoldsAt}
+use Rattle.nr_board.specs.Views.{View, number_of, rows_held}
 
 -- the reader, and the set that its find found
 pub record Pinned : Type 0 where

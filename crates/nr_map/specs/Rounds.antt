@@ -1,13 +1,13 @@
 -- What the writer's history has of all callers after rounds of gathers.
-use Rattle.std.specs.Prelude.{◌≡◌, ℕ, ◌+◌, ◌<◌, ◌&&◌, Bool, List, [], All, length, slice_index_or}
+use Rattle.std.specs.Prelude.{◌≡◌, ℕ, ◌+◌, ◌<◌, ◌&&◌, Bool, List, All, length, slice_index_or}
 use Rattle.std.specs.List.{count_by}
 use Rattle.nr_model.specs.Histories.{Entry, IsLegal, asks, cancels, cancels_key, entries_of, fills, fills_key, is_cancelled, is_done, is_send, sends}
 use Rattle.nr_model.specs.Laws.{pending}
 use Rattle.nr_model.specs.Maps.{key_of, state_of}
 use Rattle.nr_core.specs.Sums.{total}
-use Rattle.nr_map.specs.Callers.{Caller, KnowsOwn, map_seen, opening_map}
-use Rattle.nr_map.specs.Entries.{AreCallers}
-use Rattle.nr_map.specs.Rule.{StartsWith}
+use Rattle.nr_board.specs.Callers.{Caller, KnowsOwn, map_seen, opening_map}
+use Rattle.nr_board.specs.Entries.{AreCallers}
+use Rattle.nr_board.specs.Rule.{StartsWith}
 
 -- the history has at least the caller's calls, or exactly these
 abbrev pub HasCalls : List Entry → Caller → Type 0

@@ -1,13 +1,13 @@
 -- How few slots a call polls, and how few it can find held.
-use Rattle.std.specs.Prelude.{◌≡◌, ℕ, ◌+◌, ◌≤◌, List, length, Err}
+use Rattle.std.specs.Prelude.{ℕ, ◌+◌, ◌≤◌, List, length, Err}
 use Rattle.nr_model.specs.declared.calls.Call.{Call}
 use Rattle.nr_model.specs.declared.batches.Delta.{Delta}
 use Rattle.nr_model.specs.declared.rows.Row.{Row}
 use Rattle.nr_core.specs.declared.calls.NoSlot.{NoSlot}
-use Rattle.nr_map.specs.declared.answers.FillFault.TheVariants as fill
-use Rattle.nr_map.specs.declared.answers.UpdateFault.TheVariants as update
-use Rattle.nr_map.specs.Answers.{FillsKey, HasNoSlot, Publishes, UpdatesKey}
-use Rattle.nr_map.specs.Callers.{Caller}
+use Rattle.nr_board.specs.declared.answers.FillFault.TheVariants as fill
+use Rattle.nr_board.specs.declared.answers.UpdateFault.TheVariants as update
+use Rattle.nr_board.specs.WriterAnswers.{FillsKey, HasNoSlot, Publishes, UpdatesKey}
+use Rattle.nr_board.specs.Callers.{Caller}
 
 -- the map has a slot for each key, each reader and one more
 abbrev pub HasRoomForAll : Caller → Type 0

@@ -1,6 +1,6 @@
 -- What contracts see of a ticket.
 use Rattle.std.specs.Prelude.{ℕ}
-use Rattle.nr_map.specs.Callers.{Table}
+use Rattle.nr_board.specs.Callers.{Table}
 
 -- a request that was answered Send, with the number that its key had
 pub record Request : Type 0 where

@@ -1,20 +1,5 @@
-//! What the calls of a map answer.
-ghost use Rattle.std.specs.Prelude.{◌≡◌};
-ghost use Rattle.nr_map.specs.Kinds.{kind_shown};
-
+//! What a request answers.
 use crate::ticket::Ticket;
-use nr_core::NoSlot;
-use nr_words::parts;
-use thiserror::Error;
-
-/// The answer to a find.
-#[derive(Clone, Copy, Debug, PartialEq, Eq)]
-pub enum Found {
-    /// The key is filled, and the caller's set has its rows.
-    Rows,
-    /// The key is not filled.
-    Hole,
-}
 
 /// The answer to a request.
 pub enum Asked {
@@ -24,77 +9,4 @@ pub enum Asked {
     Waiting,
     /// The key is filled.
     Filled,
-}
-
-/// Why a fill is refused.
-#[derive(Clone, Copy, Debug, PartialEq, Eq, Error)]
-pub enum FillFault {
-    #[error("nobody asked for the key")]
-    NotAsked,
-    #[error("the key is filled")]
-    Already,
-    #[error("the request that it answers was taken back")]
-    Stale,
-    #[error("no slot is to be had")]
-    NoSlot(NoSlot),
-}
-
-/// Why an update is refused.
-#[derive(Clone, Copy, Debug, PartialEq, Eq, Error)]
-pub enum UpdateFault {
-    #[error("the key is not filled")]
-    Dropped,
-    #[error("a row to be taken away is not there")]
-    NoRow,
-    #[error("more rows would be left than a key may have")]
-    TooMany,
-    #[error("no slot is to be had")]
-    NoSlot(NoSlot),
-}
-
-/// The answer to an eviction.
-#[derive(Clone, Copy, Debug, PartialEq, Eq)]
-pub enum Evict {
-    /// The key was filled and is a hole now.
-    Evicted,
-    /// The key was not filled.
-    Nothing,
-}
-
-/// The answer to a cancel.
-#[derive(Clone, Copy, Debug, PartialEq, Eq)]
-pub enum Cancel {
-    /// The key was asked and is a hole now, with the next number.
-    Cancelled,
-    /// The key was not asked.
-    Nothing,
-    /// The key is asked with the last number; its own fill alone ends that.
-    Worn,
-}
-
-/// What a key is, without its rows.
-#[derive(Clone, Copy, Debug, PartialEq, Eq)]
-pub enum KeyKind {
-    /// The key is not filled, and no request of it is under way.
-    Hole,
-    /// An upquery is under way.
-    Asked,
-    /// The key is filled.
-    Rows,
-}
-
-impl KeyKind {
-    /// What a key's word shows.
-    pub(crate) fn of_word(word: u64) -> KeyKind
-        ensures { result ≡ kind_shown word }
-    {
-        let found = parts(word);
-        if found.filled {
-            KeyKind::Rows
-        } else if found.ask {
-            KeyKind::Asked
-        } else {
-            KeyKind::Hole
-        }
-    }
 }

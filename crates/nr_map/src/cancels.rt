@@ -1,22 +1,15 @@
 //! Requests that are taken back, and the numbers that tell them apart.
 ghost use Rattle.std.specs.Prelude.{◌≡◌, ◌<◌, slice_index};
 ghost use Rattle.nr_model.specs.Maps.{number_of, state_of};
-ghost use Rattle.nr_core.specs.declared.calls.WriterCall.TheVariants as writer;
-ghost use Rattle.nr_map.specs.Callers.{map_seen, token};
-ghost use Rattle.nr_map.specs.WriterSeats.{RestsAt};
+ghost use Rattle.nr_board.specs.Callers.{map_seen};
 
-use crate::answers::Cancel;
-use crate::board::Seat;
 use crate::reader_map::ReaderMap;
-use crate::rule::Given;
 use crate::writer::Writer;
-use nr_core::Spare;
-use nr_model::LAST_NUMBER;
-use nr_words::parts;
+use nr_board::Cancel;
 use std::marker::Brand;
 
 impl ReaderMap {
-    ghost use Rattle.nr_map.specs.Answers.{CancelsKey};
+    ghost use Rattle.nr_board.specs.WriterAnswers.{CancelsKey};
 
     /// Takes the request of a key back: an asked key is a hole with the next number, so its next
     /// request is sent anew, and a late answer to the old one is stale. Nothing happens where the
@@ -27,7 +20,8 @@ impl ReaderMap {
         requires key { key < self.now.shape.keys }
         ensures { CancelsKey key writer.old writer.new result }
     {
-        self.cancel_key::<Brand>(&mut writer.seat, &mut writer.spare, key)
+        self.board
+            .cancel_key::<Brand>(&mut writer.seat, &mut writer.spare, key)
     }
 
     /// The number of a key, as the writer's list has it. A request of the key is sent with it, and
@@ -39,26 +33,5 @@ impl ReaderMap {
         ensures number { result ≡ number_of (state_of (map_seen writer.now) key) }
     {
         writer.spare.number(key)
-    }
-
-    fn cancel_key<G: Given>(&self, seat: &mut Seat, spare: &mut Spare, key: u32) -> Cancel
-        requires call { G.call ≡ writer.Cancel key }
-        requires own { (token seat.old).table ≡ self.now }
-        requires rests { RestsAt (token seat.old).table spare.old seat.old }
-        requires key { key < self.now.shape.keys }
-        ensures rests { RestsAt (token seat.new).table spare.new seat.new }
-        ensures cancels { CancelsKey key (token seat.old) (token seat.new) result }
-    {
-        let found = parts(self.board.look::<G>(seat, key));
-        if found.filled || !found.ask {
-            return Cancel::Nothing;
-        }
-        if u64::from(found.slot) >= LAST_NUMBER {
-            return Cancel::Worn;
-        }
-        let next = spare.number(key) + 1;
-        self.board.withdraw(seat, key, next);
-        spare.renumber(key, next);
-        Cancel::Cancelled
     }
 }

@@ -19,25 +19,18 @@
 #![tactic(auto)]
 
 mod answers;
-mod board;
 mod cancels;
-mod held_rows;
 pub mod laws;
 mod meetings;
-mod named_rows;
-mod only_proved;
 mod pin;
-mod publish;
-mod read_through;
 mod reader;
 mod reader_map;
-mod rule;
 mod ticket;
-mod view;
 mod writer;
 mod writer_calls;
 
-pub use answers::{Asked, Cancel, Evict, FillFault, Found, KeyKind, UpdateFault};
+pub use answers::Asked;
+pub use nr_board::{Cancel, Evict, FillFault, Found, KeyKind, UpdateFault};
 pub use nr_core::{MAX_READERS, MAX_SLOTS, NoSlot, Shape};
 pub use pin::Pin;
 pub use reader::Reader;

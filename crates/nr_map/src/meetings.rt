@@ -1,19 +1,12 @@
 //! What one token learns of another: each learns a history that begins with all that both had seen.
 ghost use Rattle.std.specs.Prelude.{◌≡◌, ◌<◌};
-ghost use Rattle.nr_core.specs.Core.{AreNumbers};
-ghost use Rattle.nr_core.specs.declared.roles.Desk.{Desk};
-ghost use Rattle.nr_core.specs.declared.roles.Role.TheVariants.{Writer as writer_role};
-ghost use Rattle.nr_map.specs.Callers.{KnowsOwn, map_seen, token};
-ghost use Rattle.nr_map.specs.Meetings.{Gathers, Meets, StatesKey};
-ghost use Rattle.nr_map.specs.Learning.{HearsOf};
-ghost use Rattle.nr_map.specs.Notes.{IsCaller};
+ghost use Rattle.nr_board.specs.Meetings.{Gathers, Meets, StatesKey};
 
-use crate::answers::KeyKind;
-use crate::board::Seat;
 use crate::pin::Pin;
 use crate::reader::Reader;
 use crate::reader_map::ReaderMap;
 use crate::writer::Writer;
+use nr_board::KeyKind;
 
 impl ReaderMap {
     /// What a key is, in 1 step. The writer learns the history so far, and the answer is the key's
@@ -34,7 +27,7 @@ impl ReaderMap {
         ensures reader { Meets 3 reader.old writer.old reader.new }
         ensures writer { writer.new ≡ writer.old }
     {
-        self.hear(&mut reader.seat, &mut writer.seat);
+        self.board.hear(&mut reader.seat, &mut writer.seat);
     }
 
     /// The reader learns, in 3 steps, all that another reader has seen. The other lends itself for
@@ -44,7 +37,7 @@ impl ReaderMap {
         ensures reader { Meets 3 reader.old other.old reader.new }
         ensures other { other.new ≡ other.old }
     {
-        self.hear(&mut reader.seat, &mut other.seat);
+        self.board.hear(&mut reader.seat, &mut other.seat);
     }
 
     /// The writer learns all that the reader has seen, and then the reader all that the writer has:
@@ -53,8 +46,8 @@ impl ReaderMap {
         requires own { (reader.old.table ≡ self.now) × (writer.old.table ≡ self.now) }
         ensures { Gathers writer.old reader.old writer.new reader.new }
     {
-        self.hear(&mut writer.seat, &mut reader.seat);
-        self.hear(&mut reader.seat, &mut writer.seat);
+        self.board.hear(&mut writer.seat, &mut reader.seat);
+        self.board.hear(&mut reader.seat, &mut writer.seat);
     }
 
     /// The same with a reader that holds a set, which it keeps.
@@ -63,23 +56,7 @@ impl ReaderMap {
         ensures gathers { Gathers writer.old pin.old.reader writer.new pin.new.reader }
         ensures rows { pin.new.rows ≡ pin.old.rows }
     {
-        self.hear(&mut writer.seat, &mut pin.seat);
-        self.hear(&mut pin.seat, &mut writer.seat);
-    }
-
-    // A token learns, in 3 steps, all that another has seen, which lends itself for a note.
-    fn hear(&self, seat: &mut Seat, other: &mut Seat)
-        requires own { ((token seat.old).table ≡ self.now) × ((token other.old).table ≡ self.now) }
-        requires caller { IsCaller seat.old.me.0.role }
-        requires knows { KnowsOwn (token other.old) }
-        ensures meets { Meets 3 (token seat.old) (token other.old) (token seat.new) }
-        ensures readers { HearsOf seat.old.me.0 other.old.me.0 seat.new.me.0 }
-        ensures numbers { (desk : Desk) → seat.old.me.0.role ≡ writer_role desk → AreNumbers self.now.shape (map_seen (token seat.new)) desk.numbers }
-        ensures role { (seat.new.table_id ≡ seat.old.table_id) × (seat.new.me.0.role ≡ seat.old.me.0.role) }
-        ensures other { (other.new.table_id ≡ other.old.table_id) × (other.new.me ≡ other.old.me) }
-    {
-        let note = self.board.note(other);
-        self.board.take_note(seat, note);
-        self.board.learn(seat);
+        self.board.hear(&mut writer.seat, &mut pin.seat);
+        self.board.hear(&mut pin.seat, &mut writer.seat);
     }
 }

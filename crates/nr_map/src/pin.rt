@@ -2,14 +2,12 @@
 ghost use Rattle.std.specs.Prelude.{◌≡◌, ◌<◌, ◌≤◌, ◌*◌, length, slice_get, IsSome, None, Some};
 ghost use Rattle.nr_model.specs.Rows.{IsRowSet};
 ghost use Rattle.nr_marks.specs.Marks.{acted};
-ghost use Rattle.nr_map.specs.Callers.{Rests};
+ghost use Rattle.nr_board.specs.Callers.{Rests};
 
-use crate::board::Seat;
-use crate::held_rows::HeldRows;
-use crate::only_proved::only_proved;
 use crate::reader::Reader;
 use crate::reader_map::ReaderMap;
-use nr_model::{Row, RowRoom, RowSet};
+use nr_board::Seat;
+use nr_model::{Row, RowSet};
 use nr_words::parts;
 use std::marker::Model;
 
@@ -87,7 +85,7 @@ impl Pin {
         ensures holds { self.new.reader.holds ≡ self.old.reader.holds }
         ensures marks { self.new.reader.marks ≡ self.old.reader.marks }
     {
-        map.read_row(&mut self.seat, self.begin, u64::from(i))
+        map.board.read_row(&mut self.seat, self.begin, u64::from(i))
     }
 
     /// Writes the rows of the set over those of the caller's, in 2 steps a row.
@@ -99,13 +97,8 @@ impl Pin {
         ensures holds { self.new.reader.holds ≡ self.old.reader.holds }
         ensures marks { self.new.reader.marks ≡ self.old.reader.marks }
     {
-        only_proved(map.rows());
-        let mut source = HeldRows {
-            map,
-            seat: &mut self.seat,
-            begin: self.begin,
-        };
-        rows.refill(self.count as usize, &mut source);
+        map.board
+            .copy_rows(&mut self.seat, self.begin, self.count, rows);
     }
 
     /// Ends the hold, in 1 step, and gives the reader back.

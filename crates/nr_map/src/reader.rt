@@ -1,15 +1,12 @@
 //! A reader's token, and its calls.
-ghost use Rattle.std.specs.Prelude.{◌≡◌, ◌<◌, ◌+◌, ◌*◌, length, slice_get, None, Some};
-ghost use Rattle.nr_map.specs.Views.{rows_held};
-ghost use Rattle.nr_map.specs.Callers.{Rests, token};
-ghost use Rattle.nr_map.specs.Seats.{HoldsAt};
+ghost use Rattle.std.specs.Prelude.{◌≡◌, ◌<◌, ◌+◌, None};
+ghost use Rattle.nr_board.specs.Callers.{token};
 
-use crate::answers::{Asked, Found};
-use crate::board::Seat;
-use crate::held_rows::HeldRows;
+use crate::answers::Asked;
 use crate::reader_map::ReaderMap;
 use crate::ticket::Ticket;
-use nr_model::{Row, RowRoom, RowSet};
+use nr_board::{Found, Seat};
+use nr_model::RowSet;
 use nr_words::parts;
 use std::marker::Model;
 
@@ -24,7 +21,7 @@ impl Model for Reader {
     ghost use Rattle.std.specs.Prelude.{◌≡◌};
     ghost use Rattle.nr_core.specs.declared.roles.Role.TheVariants.{Reader as reader_role};
     ghost use Rattle.nr_core.specs.declared.roles.Grip.TheVariants.{Nothing};
-    ghost use Rattle.nr_map.specs.Callers.{Caller, token, KnowsOwn};
+    ghost use Rattle.nr_board.specs.Callers.{Caller, token, KnowsOwn};
 
     ghost Value = { Caller };
 
@@ -36,7 +33,7 @@ impl Model for Reader {
 impl Reader {
     ghost use Rattle.nr_core.specs.declared.roles.Role.TheVariants.{Reader as reader_role};
     ghost use Rattle.nr_core.specs.declared.roles.Grip.TheVariants.{Nothing};
-    ghost use Rattle.nr_map.specs.Callers.{KnowsOwn};
+    ghost use Rattle.nr_board.specs.Callers.{KnowsOwn};
 
     pub(crate) fn of_seat(seat: Seat, number: u32) -> Reader
         requires role { seat.me.0.role ≡ reader_role number Nothing }
@@ -85,42 +82,9 @@ impl ReaderMap {
             return Found::Hole;
         }
         let begin = self.board.content(found.slot);
-        self.load_rows(&mut reader.seat, begin, rows);
+        self.board.load_rows(&mut reader.seat, begin, rows);
         self.board.depart(&mut reader.seat, begin);
         Found::Rows
-    }
-
-    // Writes the set of the slot that the reader holds, whose first content word stands at `begin`.
-    fn load_rows(&self, seat: &mut Seat, begin: u64, rows: &mut RowSet)
-        requires reader { HoldsAt self.now begin seat.old }
-        ensures reader { HoldsAt self.now begin seat.new }
-        ensures rows { rows.new ≡ rows_held seat.old.me.0.role }
-        ensures rests { Rests (2 * length rows.new + 1) (token seat.old) (token seat.new) }
-        ensures marks { seat.new.me.0.marks ≡ seat.old.me.0.marks }
-    {
-        let count = self.board.read(seat, begin, 0);
-        let mut source = HeldRows {
-            map: self,
-            seat,
-            begin,
-        };
-        rows.refill(count as usize, &mut source);
-    }
-
-    // A row of that set.
-    pub(crate) fn read_row(&self, seat: &mut Seat, begin: u64, i: u64) -> Row
-        requires reader { HoldsAt self.now begin seat.old }
-        requires i { i < length (rows_held seat.old.me.0.role) }
-        ensures row { slice_get (rows_held seat.old.me.0.role) i ≡ Some result }
-        ensures reader { HoldsAt self.now begin seat.new }
-        ensures rows { rows_held seat.new.me.0.role ≡ rows_held seat.old.me.0.role }
-        ensures rests { Rests 2 (token seat.old) (token seat.new) }
-        ensures hold { (token seat.new).holds ≡ (token seat.old).holds }
-        ensures marks { seat.new.me.0.marks ≡ seat.old.me.0.marks }
-    {
-        let a = self.board.read(seat, begin, 2 * i + 1);
-        let b = self.board.read(seat, begin, 2 * i + 2);
-        Row { a, b }
     }
 
     /// Requests a key, in 1 step. Of the requests since the key became a hole the first is

@@ -7,9 +7,9 @@ ghost use Rattle.nr_core.specs.Sizes.{IsShape, IsBadShape};
 ghost use Rattle.nr_core.specs.declared.shape.TheConstants.{MAX_READERS, MAX_SLOTS};
 ghost use Rattle.nr_map.specs.Opened.{IsOpened, Seated};
 
-use crate::board::{Board, Seat};
 use crate::reader::Reader;
 use crate::writer::Writer;
+use nr_board::{Board, Seat};
 use nr_core::Shape;
 use nr_model::{DEFAULT_ROWS, OpenFault};
 use std::alloc::{AllocError, Global};
@@ -23,7 +23,7 @@ pub struct ReaderMap {
 
 impl Model for ReaderMap {
     ghost use Rattle.nr_core.specs.Sizes.{IsShape};
-    ghost use Rattle.nr_map.specs.Callers.{Table};
+    ghost use Rattle.nr_board.specs.Callers.{Table};
 
     ghost Value = { Table };
 

@@ -1,7 +1,7 @@
 //! The ticket of a request that has to be sent.
 ghost use Rattle.std.specs.Prelude.{◌≡◌, ◌<◌};
 
-use crate::board::Board;
+use nr_board::Board;
 use std::marker::Model;
 use std::snapshot::Snapshot;
 

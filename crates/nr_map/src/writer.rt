@@ -3,9 +3,9 @@ ghost use Rattle.std.specs.Prelude.{◌≡◌, [], IfOk};
 ghost use Rattle.nr_core.specs.Sizes.{IsShape};
 ghost use Rattle.nr_core.specs.States.{opening_desk};
 ghost use Rattle.nr_core.specs.declared.roles.Role.TheVariants.{Writer as writer_role};
-ghost use Rattle.nr_map.specs.Callers.{KnowsOwn, token};
+ghost use Rattle.nr_board.specs.Callers.{KnowsOwn, token};
 
-use crate::board::Seat;
+use nr_board::Seat;
 use nr_core::{Shape, Spare};
 use nr_model::Pile;
 use std::alloc::{AllocError, Global};
@@ -21,11 +21,11 @@ pub struct Writer {
 }
 
 impl Model for Writer {
-    ghost use Rattle.nr_map.specs.Callers.{Caller, token};
+    ghost use Rattle.nr_board.specs.Callers.{Caller, token};
 
     ghost Value = { Caller };
 
-    ghost use Rattle.nr_map.specs.WriterSeats.{RestsAt};
+    ghost use Rattle.nr_board.specs.WriterSeats.{RestsAt};
 
     ghost view = { λ writer. token writer.seat };
 

@@ -1,25 +1,16 @@
 //! The writer's calls.
 ghost use Rattle.std.specs.Prelude.{◌≡◌, ◌<◌, ◌≤◌, length};
-ghost use Rattle.nr_model.specs.Rows.{IsRowSet};
-ghost use Rattle.nr_core.specs.declared.calls.WriterCall.TheVariants as writer;
-ghost use Rattle.nr_map.specs.Callers.{token};
-ghost use Rattle.nr_map.specs.WriterSeats.{RestsAt};
 
-use crate::answers::{Evict, FillFault, Found, UpdateFault};
-use crate::board::Seat;
-use crate::only_proved::only_proved;
 use crate::reader_map::ReaderMap;
-use crate::rule::Given;
 use crate::writer::Writer;
-use nr_core::Spare;
-use nr_model::{ApplyFault, Batch, Pile, Row, RowSet};
-use nr_words::parts;
+use nr_board::{Evict, FillFault, Found, UpdateFault};
+use nr_model::{Batch, RowSet};
 use std::marker::Brand;
 
 // A writer's type says that it stands between two calls, and in the midst of one it doesn't. So each
-// public call lends the writer's seat and slots, one by one, to a function of its own.
+// public call lends the writer's seat and slots, one by one, to the call as its seat makes it.
 impl ReaderMap {
-    ghost use Rattle.nr_map.specs.Answers.{LooksAt, FillsKey, UpdatesKey, EvictsKey};
+    ghost use Rattle.nr_board.specs.WriterAnswers.{LooksAt, FillsKey, UpdatesKey, EvictsKey};
 
     /// A find of the writer's own: writes the key's rows into the caller's set, which stays as it
     /// is where the key is a hole. Takes 1 step for a hole, and 2n + 2 for n rows.
@@ -28,7 +19,8 @@ impl ReaderMap {
         requires key { key < self.now.shape.keys }
         ensures { LooksAt key writer.old rows.old writer.new rows.new result }
     {
-        self.look_up::<Brand>(&mut writer.seat, &writer.spare, key, rows)
+        self.board
+            .look_up::<Brand>(&mut writer.seat, &writer.spare, key, rows)
     }
 
     /// Fills a key that was asked for, by the number of its request, with at most `rows()` rows.
@@ -48,7 +40,7 @@ impl ReaderMap {
         requires few { length rows.now ≤ self.now.shape.rows }
         ensures { FillsKey key number rows.now writer.old writer.new result }
     {
-        self.fill_key::<Brand>(
+        self.board.fill_key::<Brand>(
             &mut writer.seat,
             &mut writer.spare,
             key,
@@ -68,7 +60,7 @@ impl ReaderMap {
         requires key { key < self.now.shape.keys }
         ensures { UpdatesKey self.now.shape.rows key batch.now writer.old writer.new result }
     {
-        self.update_key::<Brand>(
+        self.board.update_key::<Brand>(
             &mut writer.seat,
             &mut writer.spare,
             &mut writer.pile,
@@ -84,109 +76,7 @@ impl ReaderMap {
         requires key { key < self.now.shape.keys }
         ensures { EvictsKey key writer.old writer.new result }
     {
-        self.evict_key::<Brand>(&mut writer.seat, &mut writer.spare, key)
-    }
-
-    fn look_up<G: Given>(
-        &self,
-        seat: &mut Seat,
-        spare: &Spare,
-        key: u32,
-        rows: &mut RowSet,
-    ) -> Found
-        requires call { G.call ≡ writer.Find key }
-        requires own { (token seat.old).table ≡ self.now }
-        requires rests { RestsAt (token seat.old).table spare.now seat.old }
-        requires key { key < self.now.shape.keys }
-        ensures rests { RestsAt (token seat.new).table spare.now seat.new }
-        ensures looks { LooksAt key (token seat.old) rows.old (token seat.new) rows.new result }
-    {
-        only_proved(spare);
-        let found = parts(self.board.look::<G>(seat, key));
-        if !found.filled {
-            return Found::Hole;
-        }
-        self.read_set::<G, RowSet>(seat, found.slot, rows);
-        Found::Rows
-    }
-
-    fn fill_key<G: Given>(
-        &self,
-        seat: &mut Seat,
-        spare: &mut Spare,
-        key: u32,
-        number: u64,
-        rows: &[Row],
-    ) -> Result<(), FillFault>
-        requires call { G.call ≡ writer.Fill key number rows.now }
-        requires row_set { IsRowSet self.now.shape.rows rows.now }
-        requires own { (token seat.old).table ≡ self.now }
-        requires rests { RestsAt (token seat.old).table spare.old seat.old }
-        requires key { key < self.now.shape.keys }
-        ensures rests { RestsAt (token seat.new).table spare.new seat.new }
-        ensures fills { FillsKey key number rows.now (token seat.old) (token seat.new) result }
-    {
-        let found = parts(self.board.look::<G>(seat, key));
-        if found.filled {
-            return Err(FillFault::Already);
-        }
-        if !found.ask {
-            return Err(FillFault::NotAsked);
-        }
-        if u64::from(found.slot) != number {
-            return Err(FillFault::Stale);
-        }
-        if let Err(counts) = self.publish::<G>(seat, spare, key, rows) {
-            return Err(FillFault::NoSlot(counts));
-        }
-        Ok(())
-    }
-
-    fn update_key<G: Given>(
-        &self,
-        seat: &mut Seat,
-        spare: &mut Spare,
-        pile: &mut Pile,
-        key: u32,
-        batch: &Batch,
-    ) -> Result<(), UpdateFault>
-        requires call { G.call ≡ writer.Update key batch.now }
-        requires own { (token seat.old).table ≡ self.now }
-        requires rests { RestsAt (token seat.old).table spare.old seat.old }
-        requires key { key < self.now.shape.keys }
-        ensures rests { RestsAt (token seat.new).table spare.new seat.new }
-        ensures updates { UpdatesKey self.now.shape.rows key batch.now (token seat.old) (token seat.new) result }
-    {
-        let found = parts(self.board.look::<G>(seat, key));
-        if !found.filled {
-            return Err(UpdateFault::Dropped);
-        }
-        self.read_set::<G, Pile>(seat, found.slot, pile);
-        match pile.apply(batch, self.rows()) {
-            Ok(()) => {}
-            Err(ApplyFault::NoRow) => return Err(UpdateFault::NoRow),
-            Err(ApplyFault::TooMany) => return Err(UpdateFault::TooMany),
-        }
-        if let Err(counts) = self.publish::<G>(seat, spare, key, pile.as_slice()) {
-            return Err(UpdateFault::NoSlot(counts));
-        }
-        Ok(())
-    }
-
-    fn evict_key<G: Given>(&self, seat: &mut Seat, spare: &mut Spare, key: u32) -> Evict
-        requires call { G.call ≡ writer.Evict key }
-        requires own { (token seat.old).table ≡ self.now }
-        requires rests { RestsAt (token seat.old).table spare.old seat.old }
-        requires key { key < self.now.shape.keys }
-        ensures rests { RestsAt (token seat.new).table spare.new seat.new }
-        ensures evicts { EvictsKey key (token seat.old) (token seat.new) result }
-    {
-        let found = parts(self.board.look::<G>(seat, key));
-        if !found.filled {
-            return Evict::Nothing;
-        }
-        let old_word = self.board.unpublish(seat, key, spare.number(key));
-        spare.retire(old_word);
-        Evict::Evicted
+        self.board
+            .evict_key::<Brand>(&mut writer.seat, &mut writer.spare, key)
     }
 }

@@ -22,7 +22,7 @@ pub(crate) struct Worked {
 
 impl Model for Worked {
     ghost use Rattle.std.specs.Prelude.{◌≡◌};
-    ghost use Rattle.nr_map.specs.Callers.{Table};
+    ghost use Rattle.nr_board.specs.Callers.{Table};
 
     ghost Value = { Table };
 

@@ -4,9 +4,9 @@ use Rattle.nr_model.specs.declared.calls.Call.{Call}
 use Rattle.nr_model.specs.declared.calls.Reply.{Reply}
 use Rattle.nr_model.specs.Histories.{Entry, IsLegal, entries_of}
 use Rattle.nr_core.specs.Story.{entry}
-use Rattle.nr_map.specs.Callers.{Caller, Gains, Rests, Table, opening_map}
-use Rattle.nr_map.specs.Entries.{AreCallers}
-use Rattle.nr_map.specs.Rule.{StartsWith}
+use Rattle.nr_board.specs.Callers.{Caller, Gains, Rests, Table, opening_map}
+use Rattle.nr_board.specs.Entries.{AreCallers}
+use Rattle.nr_board.specs.Rule.{StartsWith}
 use Rattle.nr_serve.specs.Callers.{IsSound, Makes}
 
 starts_both : (a b c : List Entry) → StartsWith b a → StartsWith c b → StartsWith c a

@@ -5,7 +5,7 @@ use Rattle.nr_model.specs.declared.rows.Row.{Row}
 use Rattle.nr_model.specs.declared.calls.Call.TheVariants as call
 use Rattle.nr_model.specs.declared.calls.Reply.{Reply}
 use Rattle.nr_model.specs.declared.calls.Reply.TheVariants as reply
-use Rattle.nr_map.specs.Callers.{Caller, Gains, Rests}
+use Rattle.nr_board.specs.Callers.{Caller, Gains, Rests}
 use Rattle.nr_map.specs.Pins.{Pinned}
 use Rattle.nr_map.specs.Tickets.{Request}
 use Rattle.nr_serve.specs.declared.hands.Hands.{Hands}

@@ -1,9 +1,9 @@
 -- What several calls of a reader add to what it knows.
 use Rattle.std.specs.Prelude.{◌≡◌, ℕ, ◌+◌, ◌⊎◌, List, ◌++◌}
 use Rattle.nr_model.specs.Histories.{Entry, IsLegal}
-use Rattle.nr_map.specs.Callers.{Caller, KnowsOwn, opening_map}
-use Rattle.nr_map.specs.Entries.{AreCallers}
-use Rattle.nr_map.specs.Rule.{StartsWith}
+use Rattle.nr_board.specs.Callers.{Caller, KnowsOwn, opening_map}
+use Rattle.nr_board.specs.Entries.{AreCallers}
+use Rattle.nr_board.specs.Rule.{StartsWith}
 
 -- what the caller has seen is a legal history of its map's callers, which has of its own calls just those that it made
 pub record IsSound (caller : Caller) : Type 0 where

@@ -1,7 +1,7 @@
 -- What contracts see of a client, and what holds of it between its calls.
 use Rattle.std.specs.Prelude.{◌≡◌, ℕ, List, ◌++◌, drop, length}
 use Rattle.nr_model.specs.Histories.{Entry}
-use Rattle.nr_map.specs.Callers.{Table}
+use Rattle.nr_board.specs.Callers.{Table}
 use Rattle.nr_trigger.specs.Tokens.{Queue}
 use Rattle.nr_serve.specs.declared.hands.Hands.{Hands}
 use Rattle.nr_serve.specs.Hands.{IsReady, capped}

@@ -1,6 +1,6 @@
 -- What contracts see of a dataflow, and what holds of it between its calls.
 use Rattle.std.specs.Prelude.{◌≡◌, ◌+◌, ◌<◌, ◌≤◌, Option, IfSome}
-use Rattle.nr_map.specs.Callers.{Caller, Table}
+use Rattle.nr_board.specs.Callers.{Caller, Table}
 use Rattle.nr_trigger.specs.declared.post.Post.{Post}
 use Rattle.nr_trigger.specs.Tokens.{Queue, TakerSeen}
 

@@ -1,7 +1,7 @@
 -- What a client has in its hands, and how its calls move it.
 use Rattle.std.specs.Prelude.{◌≡◌, ◌<◌, ◌≤◌, ◌+◌, ℕ, min, List, length, None, IfSome}
 use Rattle.nr_model.specs.Histories.{Entry}
-use Rattle.nr_map.specs.Callers.{Table}
+use Rattle.nr_board.specs.Callers.{Table}
 use Rattle.nr_trigger.specs.Tokens.{Queue}
 use Rattle.nr_serve.specs.declared.hands.Hands.{Hands}
 use Rattle.nr_serve.specs.Callers.{Makes}

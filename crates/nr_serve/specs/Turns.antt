@@ -1,9 +1,9 @@
 -- What a turn of the dataflow does.
 use Rattle.std.specs.Prelude.{◌≡◌, ◌<◌, ◌≤◌, ℕ, List, [], ◌∷◌, ◌++◌, length, Option, None, Some, Result, Ok, Err}
 use Rattle.nr_model.specs.declared.rows.Row.{Row}
-use Rattle.nr_map.specs.declared.answers.FillFault.{FillFault}
-use Rattle.nr_map.specs.declared.answers.FillFault.TheVariants as fill
-use Rattle.nr_map.specs.Answers.{FillsKey}
+use Rattle.nr_board.specs.declared.answers.FillFault.{FillFault}
+use Rattle.nr_board.specs.declared.answers.FillFault.TheVariants as fill
+use Rattle.nr_board.specs.WriterAnswers.{FillsKey}
 use Rattle.nr_trigger.specs.declared.post.Post.{Post}
 use Rattle.nr_trigger.specs.Tokens.{IsSameTaker, TakerSeen, WasEmpty}
 use Rattle.nr_serve.specs.declared.dataflow.Turn.{Turn}

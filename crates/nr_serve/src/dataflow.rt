@@ -1,7 +1,7 @@
 //! The dataflow's side: it fills the keys whose tickets were posted, and keeps the map's rows right.
 ghost use Rattle.std.specs.Prelude.{◌≡◌, ◌≢◌, ◌<◌, ◌≤◌, None, Some, Err};
 ghost use Rattle.std.specs.Borrow.{sem};
-ghost use Rattle.nr_map.specs.Answers.{CancelsKey, EvictsKey, UpdatesKey};
+ghost use Rattle.nr_board.specs.WriterAnswers.{CancelsKey, EvictsKey, UpdatesKey};
 
 use crate::lobby::Lobby;
 use crate::source::Source;

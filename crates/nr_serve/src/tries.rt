@@ -1,6 +1,6 @@
 //! The tries of a get.
 ghost use Rattle.std.specs.Prelude.{◌≡◌, ◌<◌, ◌+◌, ◌*◌, [], ◌∷◌, length, None};
-ghost use Rattle.nr_map.specs.Callers.{Rests};
+ghost use Rattle.nr_board.specs.Callers.{Rests};
 ghost use Rattle.nr_serve.specs.Gets.{AnswersPin, Fits, Gets, TriesOnce, requested};
 ghost use Rattle.nr_serve.specs.Hands.{IsReady, Moves};
 

@@ -94,7 +94,7 @@ pub(crate) struct Opened {
 
 impl Model for Opened {
     ghost use Rattle.std.specs.Prelude.{◌≡◌};
-    ghost use Rattle.nr_map.specs.Callers.{Table};
+    ghost use Rattle.nr_board.specs.Callers.{Table};
     ghost use Rattle.nr_trigger.specs.Tokens.{Queue};
 
     ghost Value = { Table × Queue };

@@ -8,13 +8,13 @@ use Rattle.nr_model.specs.declared.states.KeyState.TheVariants as states
 use Rattle.nr_core.proofs.Histories.{length-now}
 use Rattle.nr_core.proofs.Sums.{below-first}
 use Rattle.nr_core.specs.Sums.{below, total}
-use Rattle.nr_map.specs.declared.answers.KeyKind.{KeyKind}
-use Rattle.nr_map.specs.declared.answers.KeyKind.TheVariants as kind
-use Rattle.nr_map.specs.Callers.{Caller, Table, map_seen, opening_map}
-use Rattle.nr_map.specs.Kinds.{kind_of}
-use Rattle.nr_map.specs.Meetings.{StatesKey}
+use Rattle.nr_board.specs.declared.answers.KeyKind.{KeyKind}
+use Rattle.nr_board.specs.declared.answers.KeyKind.TheVariants as kind
+use Rattle.nr_board.specs.Callers.{Caller, Table, map_seen, opening_map}
+use Rattle.nr_board.specs.Kinds.{kind_of}
+use Rattle.nr_board.specs.Meetings.{StatesKey}
 use Rattle.nr_map.specs.Rounds.{BeginningsMeet}
-use Rattle.nr_map.specs.Rule.{StartsWith}
+use Rattle.nr_board.specs.Rule.{StartsWith}
 use Rattle.nr_tally.specs.Balance.{Stays}
 use Rattle.nr_tally.specs.Rounds.{asked_one}
 

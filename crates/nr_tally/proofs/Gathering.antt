@@ -2,11 +2,11 @@
 use Rattle.std.proofs.Common.{◌≡◌, ◌≢◌, ◌<◌, ◌≤◌, ℕ, ◌+◌, List, [], ◌++◌, length, get_or, set, refl, sym, ap, ◌∙◌, subst, append_assoc, below_more, arith}
 use Rattle.std.proofs.lemmas.List.{append-nil, get_or-set_same, get_or-set_other, get_or_default}
 use Rattle.nr_model.specs.Histories.{Entry, IsLegal, entries_of}
-use Rattle.nr_map.specs.Callers.{Caller, Table, opening_map}
-use Rattle.nr_map.specs.Entries.{AreCallers}
-use Rattle.nr_map.specs.Meetings.{Gathers, Learns}
+use Rattle.nr_board.specs.Callers.{Caller, Table, opening_map}
+use Rattle.nr_board.specs.Entries.{AreCallers}
+use Rattle.nr_board.specs.Meetings.{Gathers, Learns}
 use Rattle.nr_map.specs.Rounds.{CallsStay}
-use Rattle.nr_map.specs.Rule.{StartsWith}
+use Rattle.nr_board.specs.Rule.{StartsWith}
 use Rattle.nr_tally.specs.Balance.{Stays}
 use Rattle.nr_tally.specs.Rounds.{Hears, IsSound}
 

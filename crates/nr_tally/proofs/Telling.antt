@@ -6,9 +6,9 @@ use Rattle.nr_model.proofs.HistoryLemmas.{count_by-cons}
 use Rattle.nr_model.specs.Histories.{Entry, entries_of}
 use Rattle.nr_model.specs.Laws.{pending}
 use Rattle.nr_core.specs.Sums.{total}
-use Rattle.nr_map.specs.Callers.{Caller, Table, map_seen}
+use Rattle.nr_board.specs.Callers.{Caller, Table, map_seen}
 use Rattle.nr_map.specs.Rounds.{CallsStay, EntriesAreCallers, HasCalls, HasHeard, HasJustCalls, KnowsAll, RoundsTellAll, SendsOfAllKeys, is_cancel, is_fill, is_sent}
-use Rattle.nr_map.specs.Rule.{StartsWith}
+use Rattle.nr_board.specs.Rule.{StartsWith}
 use Rattle.nr_tally.specs.Balance.{Balances, Stays, of_all}
 use Rattle.nr_tally.specs.Rounds.{Counts, IsInOrder, IsSound, IsTally, Rounds}
 use Rattle.nr_tally.proofs.Gathering.{starts_then}

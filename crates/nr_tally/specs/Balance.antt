@@ -3,9 +3,9 @@ use Rattle.std.specs.Prelude.{◌≡◌, ◌<◌, ◌+◌, ℕ, Bool, List, leng
 use Rattle.std.specs.List.{count_by}
 use Rattle.nr_model.specs.Histories.{Entry}
 use Rattle.nr_core.specs.Sums.{total}
-use Rattle.nr_map.specs.Callers.{Caller}
+use Rattle.nr_board.specs.Callers.{Caller}
 use Rattle.nr_map.specs.Rounds.{is_cancel, is_fill, is_sent}
-use Rattle.nr_map.specs.Rule.{StartsWith}
+use Rattle.nr_board.specs.Rule.{StartsWith}
 
 -- so many calls of the writer and the readers meet the test
 abbrev pub of_all : (Entry → Bool) → Caller → List Caller → ℕ

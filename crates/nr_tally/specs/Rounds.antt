@@ -3,10 +3,10 @@ use Rattle.std.specs.Prelude.{◌≡◌, ◌<◌, ℕ, ◌+◌, List, length, sl
 use Rattle.nr_model.specs.Histories.{Entry, IsLegal}
 use Rattle.nr_model.specs.Laws.{pending}
 use Rattle.nr_core.specs.Sums.{total}
-use Rattle.nr_map.specs.declared.answers.KeyKind.{KeyKind}
-use Rattle.nr_map.specs.declared.answers.KeyKind.TheVariants as kind
-use Rattle.nr_map.specs.Callers.{Caller, KnowsOwn, map_seen, opening_map}
-use Rattle.nr_map.specs.Entries.{AreCallers}
+use Rattle.nr_board.specs.declared.answers.KeyKind.{KeyKind}
+use Rattle.nr_board.specs.declared.answers.KeyKind.TheVariants as kind
+use Rattle.nr_board.specs.Callers.{Caller, KnowsOwn, map_seen, opening_map}
+use Rattle.nr_board.specs.Entries.{AreCallers}
 use Rattle.nr_map.specs.Rounds.{HasCalls, HasHeard, KnowsAll}
 use Rattle.nr_tally.specs.Balance.{Stays}
 

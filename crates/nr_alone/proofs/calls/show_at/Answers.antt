@@ -1,5 +1,5 @@
 use Rattle.std.proofs.Common.{◌*◌, length, sym, ap, ◌∙◌, subst, Some}
-use Rattle.nr_map.specs.Callers.{Rests}
+use Rattle.nr_board.specs.Callers.{Rests}
 use Rattle.nr_model.specs.declared.calls.Reply.TheVariants as reply
 use Rattle.nr_alone.specs.Answers as answers
 use Rattle.nr_alone.specs.MapState.{Pin}

@@ -1,5 +1,5 @@
 use Rattle.std.proofs.Common.{refl, ap, Some, ◌∙◌}
-use Rattle.nr_map.specs.Callers.{Caller}
+use Rattle.nr_board.specs.Callers.{Caller}
 use Rattle.nr_c.specs.declared.hand.Hand.TheVariants.{Idle}
 use Rattle.nr_c.proofs.meets.nr_meet_readers.Goals as goal
 

@@ -2,7 +2,7 @@ use Rattle.std.proofs.Common.{rules, ◌≡◌, ◌∙◌, ◌<◌, ◌*◌, Lis
 use Rattle.std.proofs.lemmas.List.{length-map, get_or-map}
 use Rattle.std.proofs.lemmas.Option.{get_or_from_slice_get}
 use Rattle.nr_model.proofs.RefillLemmas.{put_one}
-use Rattle.nr_map.proofs.Tokens.{rests_both, rests_none}
+use Rattle.nr_board.proofs.Tokens.{rests_both, rests_none}
 use Rattle.nr_c.specs.declared.rows.NrRow.{NrRow}
 use Rattle.nr_c.specs.RowCells.{cell_of}
 use Rattle.nr_c.proofs.showing.copy_pin.Goals as goal

@@ -1,5 +1,5 @@
 use Rattle.std.proofs.Common.{◌≡◌, ◌*◌, ◌++◌, drop, map, take}
-use Rattle.nr_map.specs.Callers.{Rests}
+use Rattle.nr_board.specs.Callers.{Rests}
 use Rattle.nr_c.specs.RowCells.{cell_of}
 use Rattle.nr_c.proofs.showing.copy_pin.Given as goal
 

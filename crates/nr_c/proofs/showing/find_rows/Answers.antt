@@ -1,5 +1,5 @@
 use Rattle.std.proofs.Common.{◌+◌, ◌*◌, length, refl, arith}
-use Rattle.nr_map.proofs.Tokens.{grows_rests, rests_both}
+use Rattle.nr_board.proofs.Tokens.{grows_rests, rests_both}
 use Rattle.nr_c.proofs.showing.find_rows.Goals as goal
 
 pub returns-in-Ok-clause-finds : goal.returns-in-Ok-clause-finds

@@ -2,8 +2,8 @@ use Rattle.std.proofs.Common.{◌≡◌, ◌<◌, ◌∙◌, List, false, length
 use Rattle.std.proofs.lemmas.List.{length-map}
 use Rattle.nr_model.specs.declared.rows.Row.{Row}
 use Rattle.nr_model.specs.Rows.{is_ascending}
-use Rattle.nr_map.specs.Answers.{FillsKey}
-use Rattle.nr_map.specs.Callers.{Table}
+use Rattle.nr_board.specs.WriterAnswers.{FillsKey}
+use Rattle.nr_board.specs.Callers.{Table}
 use Rattle.nr_c.specs.RowCells.{row_of}
 use Rattle.nr_c.proofs.writes.nr_fill.Goals as goal
 

@@ -1,5 +1,5 @@
 use Rattle.std.proofs.Common.{refl}
-use Rattle.nr_map.specs.declared.answers.Found.TheVariants as found
+use Rattle.nr_board.specs.declared.answers.Found.TheVariants as found
 use Rattle.nr_c.proofs.writes.nr_look.Goals as goal
 
 pub returns-in-Rows : goal.returns-in-Rows

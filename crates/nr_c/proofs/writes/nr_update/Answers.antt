@@ -1,7 +1,7 @@
 use Rattle.std.proofs.Common.{◌∙◌, ℕ, List, map, inl, inr, refl, sym, ap, subst}
 use Rattle.nr_model.specs.declared.batches.Delta.{Delta}
-use Rattle.nr_map.specs.Answers.{UpdatesKey}
-use Rattle.nr_map.specs.Callers.{Table}
+use Rattle.nr_board.specs.WriterAnswers.{UpdatesKey}
+use Rattle.nr_board.specs.Callers.{Table}
 use Rattle.nr_c.specs.RowCells.{delta_of}
 use Rattle.nr_c.proofs.writes.nr_update.Goals as goal
 

@@ -1,5 +1,5 @@
 use Rattle.std.proofs.Common.{◌≡◌, ℕ, ◌+◌, refl, sym, ap, ◌∙◌, subst, arith}
-use Rattle.nr_map.specs.Callers.{Caller, Table}
+use Rattle.nr_board.specs.Callers.{Caller, Table}
 use Rattle.nr_serve.specs.Flows.{HasRoom}
 use Rattle.nr_serve.specs.Hands.{capped}
 use Rattle.nr_load.specs.Flowed.{Flows}

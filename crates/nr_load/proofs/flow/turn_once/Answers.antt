@@ -1,5 +1,5 @@
 use Rattle.std.proofs.Common.{◌≡◌, ℕ, ap, subst, arith}
-use Rattle.nr_map.specs.Callers.{Table}
+use Rattle.nr_board.specs.Callers.{Table}
 use Rattle.nr_serve.specs.declared.dataflow.Turn.TheVariants as turn
 use Rattle.nr_load.specs.Gained.{Gained}
 use Rattle.nr_load.proofs.Gaining.{gained_then, turns_gain}

@@ -1,5 +1,5 @@
 use Rattle.std.proofs.Common.{◌∙◌, subst}
-use Rattle.nr_map.specs.Callers.{Caller}
+use Rattle.nr_board.specs.Callers.{Caller}
 use Rattle.nr_load.specs.Flowed.{Flows}
 use Rattle.nr_load.proofs.Joining.{joined_count, served}
 use Rattle.nr_load.proofs.threads.serve_within.Goals as goal

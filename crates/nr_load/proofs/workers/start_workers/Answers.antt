@@ -2,7 +2,7 @@ use Rattle.std.proofs.Common.{◌≡◌, List, [], ◌∷◌, ◌++◌, length, 
 use Rattle.std.proofs.lemmas.List.Elements.{All-head, All-rest, All-same}
 use Rattle.std.specs.Vec.Iter.{into_iter_items}
 use Rattle.std.specs.declared.thread.PromisedHandle.{PromisedHandle}
-use Rattle.nr_map.specs.Callers.{Caller}
+use Rattle.nr_board.specs.Callers.{Caller}
 use Rattle.nr_load.specs.declared.workers.Serving.{Serving}
 use Rattle.nr_load.specs.declared.workers.Outcome.{Outcome}
 use Rattle.nr_load.specs.Handed.{IsPosterOf}

@@ -1,7 +1,7 @@
 use Rattle.std.proofs.Common.{◌≡◌, ◌+◌, ◌≤◌, ◌++◌, List, length, true, All, vec_len, vec_items, vec_capacity}
 use Rattle.std.specs.Vec.Iter.{into_iter_items, into_iter_len}
 use Rattle.std.specs.declared.thread.PromisedHandle.{PromisedHandle}
-use Rattle.nr_map.specs.Callers.{Caller}
+use Rattle.nr_board.specs.Callers.{Caller}
 use Rattle.nr_load.specs.declared.workers.Serving.{Serving}
 use Rattle.nr_load.specs.declared.workers.Outcome.{Outcome}
 use Rattle.nr_load.specs.Handed.{IsPosterOf}

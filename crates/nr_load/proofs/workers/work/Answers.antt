@@ -1,7 +1,7 @@
 use Rattle.std.proofs.Common.{◌≡◌, ◌<◌, ℕ, length, subst, sym, ap, ◌∙◌, arith}
 use Rattle.std.specs.Prelude.{drop}
 use Rattle.rand_pcg.specs.Lcg.{Lcg}
-use Rattle.nr_map.specs.Callers.{Caller, Table}
+use Rattle.nr_board.specs.Callers.{Caller, Table}
 use Rattle.nr_serve.specs.declared.hands.Hands.{Hands}
 use Rattle.nr_serve.specs.Clients.{since}
 use Rattle.nr_serve.specs.Tickets.{sent}

@@ -3,7 +3,7 @@ use Rattle.nr_core.specs.declared.shape.Shape.{Shape}
 use Rattle.nr_marks.specs.Marks.{opening_marks}
 use Rattle.nr_map.specs.Opened.{newcomer}
 use Rattle.nr_map.proofs.Seating.{all_own}
-use Rattle.nr_map.specs.Callers.{caller_of}
+use Rattle.nr_board.specs.Callers.{caller_of}
 use Rattle.nr_map.proofs.reader_map.seated.Goals as goal
 
 pub returns : goal.returns

@@ -1,7 +1,7 @@
 use Rattle.std.proofs.Common.{◌≡◌, ◌<◌, ℕ, length, get_or, set, arith, sym, ap, ◌∙◌, subst}
 use Rattle.std.proofs.lemmas.List.{get_or-set_other}
-use Rattle.nr_map.specs.Callers.{Caller}
-use Rattle.nr_map.specs.Meetings.{Gathers}
+use Rattle.nr_board.specs.Callers.{Caller}
+use Rattle.nr_board.specs.Meetings.{Gathers}
 use Rattle.nr_tally.proofs.Gathering.{gathered, learns_sound, learns_stays, one_more, stays_then}
 use Rattle.nr_tally.proofs.rounds.gather_all.Goals as goal
 

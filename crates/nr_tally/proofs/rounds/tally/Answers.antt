@@ -1,5 +1,5 @@
 use Rattle.std.proofs.Common.{◌≡◌, ◌<◌, ◌∙◌, length, get_or, sym, subst, arith}
-use Rattle.nr_map.specs.Callers.{Table}
+use Rattle.nr_board.specs.Callers.{Table}
 use Rattle.nr_tally.specs.Rounds.{IsInOrder}
 use Rattle.nr_tally.proofs.Gathering.{stays_then}
 use Rattle.nr_tally.proofs.Telling.{balances, tallies}

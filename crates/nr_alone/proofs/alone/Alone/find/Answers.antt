@@ -1,7 +1,7 @@
 use Rattle.std.proofs.Common.{◌≡◌, ◌<◌, List, length, set, sym, ap, ◌∙◌, subst, arith, Ok, Result}
 use Rattle.std.proofs.lemmas.List.{with_items_is}
 use Rattle.std.specs.Vec.{with_item, with_items}
-use Rattle.nr_map.specs.Callers.{Caller}
+use Rattle.nr_board.specs.Callers.{Caller}
 use Rattle.nr_model.specs.Maps.{key_count}
 use Rattle.nr_model.specs.declared.calls.Call.TheVariants as model
 use Rattle.nr_alone.specs.Answers.{Answer}

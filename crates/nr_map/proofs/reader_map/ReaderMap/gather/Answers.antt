@@ -1,8 +1,8 @@
 use Rattle.std.proofs.Common.{subst}
 use Rattle.nr_core.specs.declared.roles.Grip.TheVariants.{Nothing}
-use Rattle.nr_map.proofs.Gathering.{gathers_seats}
-use Rattle.nr_map.specs.Callers.{Caller, token}
-use Rattle.nr_map.specs.Meetings.{Gathers}
+use Rattle.nr_board.proofs.Gathering.{gathers_seats}
+use Rattle.nr_board.specs.Callers.{Caller, token}
+use Rattle.nr_board.specs.Meetings.{Gathers}
 use Rattle.nr_map.proofs.reader_map.ReaderMap.gather.Goals as goal
 
 pub returns : goal.returns

@@ -1,9 +1,9 @@
 use Rattle.std.proofs.Common.{subst}
-use Rattle.nr_map.specs.Plays.{holding}
-use Rattle.nr_map.specs.Views.{grip_of, is_sized, number_of}
-use Rattle.nr_map.proofs.Gathering.{gathers_seats}
-use Rattle.nr_map.specs.Callers.{Caller, token}
-use Rattle.nr_map.specs.Meetings.{Gathers}
+use Rattle.nr_board.specs.Plays.{holding}
+use Rattle.nr_board.specs.Views.{grip_of, is_sized, number_of}
+use Rattle.nr_board.proofs.Gathering.{gathers_seats}
+use Rattle.nr_board.specs.Callers.{Caller, token}
+use Rattle.nr_board.specs.Meetings.{Gathers}
 use Rattle.nr_map.proofs.reader_map.ReaderMap.gather_pin.Goals as goal
 
 pub returns-clause-gathers : goal.returns-clause-gathers

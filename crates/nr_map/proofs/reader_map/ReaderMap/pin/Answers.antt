@@ -1,8 +1,7 @@
-use Rattle.std.proofs.Common.{ap, arith}
+use Rattle.std.proofs.Common.{arith}
 use Rattle.nr_words.specs.KeyWords.{slot_of}
-use Rattle.nr_map.proofs.Looks.{is_full, slot_so}
-use Rattle.nr_map.proofs.ReaderSeats.{held_inside}
-use Rattle.nr_map.specs.Callers.{Table}
+use Rattle.nr_board.proofs.Looks.{is_full, slot_so}
+use Rattle.nr_board.proofs.ReaderSeats.{held_inside}
 use Rattle.nr_map.proofs.reader_map.ReaderMap.pin.Goals as goal
 
 pub content-begin-requires : goal.content-begin-requires

@@ -1,6 +1,6 @@
 use Rattle.std.proofs.Common.{ℕ, ap, subst, sym, ◌∙◌}
-use Rattle.nr_map.specs.Answers.{UpdatesKey}
-use Rattle.nr_map.specs.Callers.{Caller}
+use Rattle.nr_board.specs.WriterAnswers.{UpdatesKey}
+use Rattle.nr_board.specs.Callers.{Caller}
 use Rattle.nr_serve.specs.Flows.{HasRoom}
 use Rattle.nr_serve.proofs.dataflow.Dataflow.apply.Goals as goal
 

@@ -1,5 +1,5 @@
 use Rattle.std.proofs.Common.{ap, subst, sym, ◌∙◌}
-use Rattle.nr_map.specs.Answers.{FillsKey}
+use Rattle.nr_board.specs.WriterAnswers.{FillsKey}
 use Rattle.nr_serve.specs.Flows.{HasRoom}
 use Rattle.nr_serve.proofs.dataflow.Dataflow.fill.Goals as goal
 

@@ -1,0 +1,151 @@
+-- What a token learns of another, and what it knows of both after a gather.
+use Rattle.std.proofs.Common.{◌≡◌, ℕ, List, [], ◌∷◌, ◌++◌, length, sym, ap, ◌∙◌, subst, arith, append-nil, length-append, refl}
+use mathlib.Core.Option.{some}
+use lib.ListN.{get_elem?}
+use Rattle.atomic_table.specs.Seated.{TableId}
+use Rattle.nr_model.specs.Histories.{Entry, entries_of}
+use Rattle.nr_core.proofs.Histories.{of-append}
+use Rattle.nr_core.specs.declared.places.Place.TheVariants.{Idle}
+use Rattle.nr_core.specs.declared.places.Retired.{Retired}
+use Rattle.nr_core.specs.declared.roles.Desk.{Desk}
+use Rattle.nr_core.specs.declared.roles.Grip.{Grip}
+use Rattle.nr_core.specs.declared.roles.Role.TheVariants.{Reader, Writer}
+use Rattle.nr_core.specs.declared.shape.Shape.{Shape}
+use Rattle.nr_marks.proofs.ExactPlace.{gathered_is_known}
+use Rattle.nr_marks.proofs.ListPlaces.{at_left}
+use Rattle.nr_marks.specs.Exact.{Lists}
+use Rattle.nr_marks.specs.Marks.{Marks, Past, gripped, past, told_by}
+use Rattle.nr_marks.specs.Pasts.{Compared, Current}
+use Rattle.nr_board.proofs.Tokens.{MapSeat}
+use Rattle.nr_board.specs.Callers.{Caller, KnowsOwn, Table, caller_of, map_seen, token}
+use Rattle.nr_board.specs.Learning.{HearsOf, Learned, LearnsOf}
+use Rattle.nr_board.specs.Meetings.{Gathers, Learns, Meets, desk_seen, how_is}
+use Rattle.nr_board.specs.Notes.{note_of, with_note}
+use Rattle.nr_board.specs.Rule.{StartsWith}
+use Rattle.nr_board.specs.Views.{View, desk_of, grip_of, number_of}
+use Rattle.nr_core.specs.Core.{AreNumbers}
+use Rattle.nr_core.specs.Story.{map_after}
+
+-- a history that begins with what a caller has seen has that caller's calls
+pub begins_with_calls : (log : List Entry) (caller : Caller) → KnowsOwn caller → StartsWith log caller.seen → StartsWith (entries_of log caller.number) caller.mine
+begins_with_calls log caller own begins = record {
+  rest = entries_of begins.rest caller.number;
+  is = ap (λ (l : List Entry). entries_of l caller.number) begins.is ∙ of-append caller.number caller.seen begins.rest ∙ ap (λ (l : List Entry). l ++ entries_of begins.rest caller.number) own;
+}
+
+-- a note of the other was taken in, and the history so far learnt
+pub meets_seat : (seat other joined new : MapSeat) (note : View) (found : ℕ) → KnowsOwn (token other) → note ≡ note_of other.me.0 → joined.me.0 ≡ with_note seat.me.0 note → new.table_id ≡ seat.table_id → Learned 0 found joined.me.0 new.me.0
+    → Meets 3 (token seat) (token other) (token new) × HearsOf seat.me.0 other.me.0 new.me.0
+meets_seat seat other joined new note found own is took same learned =
+    let joins : joined.me.0 ≡ with_note seat.me.0 (note_of other.me.0) = took ∙ ap (with_note seat.me.0) is in
+    let told = subst (λ (v : View). Learned 0 found v new.me.0) joins learned in let learns = told.learns seat.table_id in (
+      subst (λ (id : TableId). Meets 3 (token seat) (token other) (caller_of id new.me.0)) (sym same) (record {
+        learns = record {
+          table = learns.table;
+          number = learns.number;
+          seen = learns.seen;
+          mine = learns.mine;
+          legal = learns.legal;
+          own = learns.own;
+          callers = learns.callers;
+          steps_made = omega (arith, learns.steps_made);
+          fresh = learns.fresh;
+          retired = learns.retired;
+          numbers = learns.numbers;
+          holds = learns.holds;
+          marks = learns.marks;
+          news = learns.news;
+          pasts = learns.pasts;
+        };
+        seen = told.told;
+        calls = begins_with_calls new.me.0.seen (token other) own told.told;
+      }),
+      (told.news, told.pasts, told.of_readers),
+    )
+
+-- a list that goes on twice and is itself did not go on
+nothing_more : {A : Type 0} (xs ys zs : List A) → xs ≡ (xs ++ ys) ++ zs → ys ≡ []
+nothing_more xs [] zs is = refl
+nothing_more xs (y ∷ ys) zs is = absurd (let long : length xs ≡ length ((xs ++ y ∷ ys) ++ zs) = ap length is in omega (arith, length-append (xs ++ y ∷ ys) zs, length-append xs (y ∷ ys)))
+
+-- a caller that has seen the history has no calls that the history lacks, and the history none that the caller lacks
+pub just_calls : (log : List Entry) (caller : Caller) → StartsWith (entries_of log caller.number) caller.mine → StartsWith caller.seen log × KnowsOwn caller → entries_of log caller.number ≡ caller.mine
+just_calls log caller calls heard =
+    let his : List Entry → List Entry = λ l. entries_of l caller.number in let later = heard.0 in
+    let longer : his caller.seen ≡ his log ++ his later.rest = ap his later.is ∙ of-append caller.number log later.rest in
+    let none = nothing_more caller.mine calls.rest (his later.rest) (sym heard.1 ∙ longer ∙ ap (λ (l : List Entry). l ++ his later.rest) calls.is) in
+    calls.is ∙ ap (λ (l : List Entry). caller.mine ++ l) none ∙ append-nil caller.mine
+
+-- what two views knew of each other
+pub record Compares (writer reader heard : View) (desk : Desk) (one : Past) : Type 0 where
+  pub known : get_elem? heard.pasts 0 ≡ some one
+  pub current : Current desk.retired writer.marks one
+  pub lists : Lists desk writer.marks writer.shape heard.seen
+
+compares_so : (writer reader heard told : View) (desk : Desk) (number : ℕ) (grip : Grip) → writer.role ≡ Writer desk → reader.role ≡ Reader number grip → heard.role ≡ Writer desk → HearsOf writer reader heard → HearsOf reader heard told
+    → Compares writer reader heard desk (past number grip reader.marks)
+compares_so writer reader heard told desk number grip writes reads still first second =
+    let news = first.0 in let noted = with_note writer (note_of reader) in let asked = with_note reader (note_of heard) in
+    let learnt = subst (λ r. LearnsOf r noted heard news) writes first.2 in
+    let compared = subst (λ r. LearnsOf r asked told second.0) reads second.2 in
+    let heard_so = subst (λ r. Compared number grip reader.marks (told_by r heard.marks heard.pasts)) still compared.1 in
+    let longer : (at : ℕ) (one : Past) → get_elem? news at ≡ some one → get_elem? heard.pasts at ≡ some one = λ at one is. ap (λ (l : List Past). get_elem? l at) first.1 ∙ at_left news writer.pasts at one is in
+    let known = gathered_is_known desk.retired writer.marks (told_by reader.role reader.marks reader.pasts) news heard.pasts number grip reader.marks 0 (ap (λ r. get_elem? (told_by r reader.marks reader.pasts) 0) reads) learnt.0
+    (λ at one is. (at, longer at one is)) heard_so in record {
+      known = longer 0 (past number grip reader.marks) known.0;
+      current = known.1;
+      lists = learnt.1;
+    }
+
+-- a seat that lent itself is the same token
+same_token : (seat lent : MapSeat) → lent.table_id ≡ seat.table_id → lent.me ≡ seat.me → token lent ≡ token seat
+same_token seat lent id me = λ j. caller_of (id j) (me j).0
+
+pub learns_seat : (at found : ℕ) (seat new : MapSeat) → new.table_id ≡ seat.table_id → Learned at found seat.me.0 new.me.0 → Learns 1 (token seat) (token new)
+learns_seat at found seat new same learned = subst (λ (id : TableId). Learns 1 (token seat) (caller_of id new.me.0)) (sym same) (learned.learns seat.table_id)
+
+-- the writer's numbers are those of the history that it learnt
+pub learned_numbers : (table : Table) (seat new : MapSeat) (at found : ℕ) → (token seat).table ≡ table → Learned at found seat.me.0 new.me.0 → (desk : Desk) → seat.me.0.role ≡ Writer desk → AreNumbers table.shape (map_seen (token new)) desk.numbers
+learned_numbers table seat new at found own learned desk is = subst (λ (p : Shape × Shape). AreNumbers p.0 (map_after p.1 new.me.0.seen) desk.numbers) (λ j. ((own j).shape, (sym (learned.learns seat.table_id).table j).shape))
+    (subst (λ r. LearnsOf r seat.me.0 new.me.0 learned.news) is learned.of_readers).2
+
+pub heard_numbers : (table : Table) (seat other new : MapSeat) → (token seat).table ≡ table → Meets 3 (token seat) (token other) (token new) → HearsOf seat.me.0 other.me.0 new.me.0 → (desk : Desk) → seat.me.0.role ≡ Writer desk → AreNumbers table.shape (map_seen (token new)) desk.numbers
+heard_numbers table seat other new own meets hears desk is = subst (λ (p : Shape × Shape). AreNumbers p.0 (map_after p.1 new.me.0.seen) desk.numbers) (λ j. ((own j).shape, (sym meets.learns.table j).shape))
+    (subst (λ r. LearnsOf r (with_note seat.me.0 (note_of other.me.0)) new.me.0 hears.0) is hears.2).2
+
+-- the writer, which was between two calls, heard of the reader and the reader of it; each was lent to the other once
+module _ (writer reader heard lent last told : MapSeat) (fresh : ℕ) (retired : List Retired) (numbers : List ℕ) (number : ℕ) (grip : Grip)
+    (writes : writer.me.0.role ≡ Writer (record { place = Idle; fresh = fresh; retired = retired; numbers = numbers })) (reads : reader.me.0.role ≡ Reader number grip) (stays : heard.me.0.role ≡ writer.me.0.role)
+    (first : (lent.table_id ≡ reader.table_id) × (lent.me ≡ reader.me)) (second : (last.table_id ≡ heard.table_id) × (last.me ≡ heard.me))
+    (meets : Meets 3 (token writer) (token reader) (token heard)) (meets_back : Meets 3 (token lent) (token heard) (token told)) (hears : HearsOf writer.me.0 reader.me.0 heard.me.0) (hears_back : HearsOf lent.me.0 heard.me.0 told.me.0) where
+  abbrev desk : Desk
+  desk = record { place = Idle; fresh = fresh; retired = retired; numbers = numbers }
+
+  writes_still : heard.me.0.role ≡ Writer desk
+  writes_still = stays ∙ writes
+
+  compares : Compares writer.me.0 reader.me.0 heard.me.0 desk (past number grip reader.me.0.marks)
+  compares = compares_so writer.me.0 reader.me.0 heard.me.0 told.me.0 desk number grip writes reads writes_still hears (subst (λ (v : View). HearsOf v heard.me.0 told.me.0) (λ j. (first.1 j).0) hears_back)
+
+  back : Meets 3 (token reader) (token heard) (token told)
+  back = subst (λ (r : Caller). Meets 3 r (token heard) (token told)) (same_token reader lent first.0 first.1) meets_back
+
+  one_is : past number grip reader.me.0.marks ≡ how_is (token reader)
+  one_is = λ j. record { reader = number_of (sym reads j); count = reader.me.0.marks.acts; slot = gripped (grip_of (sym reads j)); put = reader.me.0.marks.put }
+
+  gathers_heard : Gathers (token writer) (token reader) (token heard) (token told)
+  gathers_heard = let log = heard.me.0.seen in let learns = back.learns in let known = compares in record {
+    of_reader = meets;
+    of_writer = back;
+    all = ap (entries_of log) (sym learns.number) ∙ just_calls log (token told) (subst (λ (p : ℕ × List Entry). StartsWith (entries_of log p.0) p.1) (λ j. (sym learns.number j, sym learns.mine j)) meets.calls) (back.seen, learns.own) ∙ learns.mine;
+    place = 0;
+    known = known.known ∙ ap some one_is;
+    current = subst (λ (p : List Retired × Marks × Past). Current p.0 p.1 p.2) (λ j. ((desk_of (sym writes_still j)).retired, sym meets.learns.marks j, one_is j)) known.current;
+    lists = subst (λ (p : Desk × Marks × Shape). Lists p.0 p.1 p.2 log) (λ j. (desk_at j, sym meets.learns.marks j, (sym meets.learns.table j).shape)) known.lists;
+  }
+    where
+      desk_at : desk ≡ desk_seen (token heard)
+      desk_at = λ j. record { place = Idle; fresh = (desk_of (sym writes_still j)).fresh; retired = (desk_of (sym writes_still j)).retired; numbers = (desk_of (sym writes_still j)).numbers }
+
+  pub gathers_seats : Gathers (token writer) (token reader) (token last) (token told)
+  gathers_seats = subst (λ (w : Caller). Gathers (token writer) (token reader) w (token told)) (sym (same_token heard last second.0 second.1)) gathers_heard

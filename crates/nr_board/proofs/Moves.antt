@@ -1,0 +1,122 @@
+-- What a step does to its token's own view: it learns the history so far and adds entries, or it learns nothing.
+use Rattle.std.proofs.Common.{◌≡◌, ℕ, ◌<◌, ◌+◌, List, [], ◌++◌, map, cond, true, refl, sym, ap, ◌∙◌, subst, arith, append_assoc, append-nil}
+use mathlib.Core.Option.{some}
+use lib.ListN.{get_elem?}
+use Rattle.atomic_table.specs.Table.{State}
+use Rattle.nr_model.specs.Histories.{Entry, IsLegal, entries_of}
+use Rattle.nr_core.proofs.Histories.{of-append}
+use Rattle.nr_core.proofs.Sums.{total-append}
+use Rattle.nr_core.specs.Roles.{is_by, is_reader, is_writer}
+use Rattle.nr_core.specs.declared.operation.Operation.{Operation}
+use Rattle.nr_core.specs.Steps.{Stepped, Telling}
+use Rattle.nr_core.specs.declared.roles.Role.{Role}
+use Rattle.nr_core.specs.declared.shape.Shape.{Shape}
+use Rattle.nr_board.specs.Plays.{Advances, Waits}
+use Rattle.nr_marks.specs.Marked.{MarkTelling, Remarked}
+use Rattle.nr_marks.specs.Marks.{Marks, Past, gripped}
+use Rattle.nr_board.specs.Rule.{Fits, Kept, marks_of, role_of}
+use Rattle.nr_board.proofs.Lift.{Choice}
+use Rattle.nr_board.proofs.Entries.{callers_both}
+use Rattle.nr_board.specs.Entries.{AreCallers, acts_at, acts_told, to_depart}
+use Rattle.nr_board.specs.Views.{View, grip_of, number_of}
+use Rattle.nr_core.specs.Story.{opening_map}
+
+-- the view after a step that learns the history so far and adds entries; after one that learns nothing
+abbrev pub learned : View → Role → List Entry → List Entry → Marks → List Past → View
+learned view after seen entries marks news = record { role = after; shape = view.shape; made = view.made; seen = seen; told = view.told; mine = view.mine ++ entries; steps = view.steps + 1; marks = marks; pasts = news ++ view.pasts; told_pasts = view.told_pasts }
+
+abbrev pub waited : View → Role → Marks → List Past → View
+waited view after marks news = record { role = after; shape = view.shape; made = view.made; seen = view.seen; told = view.told; mine = view.mine; steps = view.steps + 1; marks = marks; pasts = news ++ view.pasts; told_pasts = view.told_pasts }
+
+-- a reader's count of acts goes along with its entries, but for the departure that is to come
+abbrev pub ActsGo : View → Role → List Entry → Marks → Type 0
+ActsGo view after entries marks = 0 < is_reader after → marks.acts + to_depart (gripped (grip_of after)) ≡ view.marks.acts + to_depart (gripped (grip_of view.role)) + acts_told entries
+
+module _ (shape : Shape) (log : List Entry) (view : View) (fits : Fits shape log view) (after : Role) (same : (caller : ℕ) → is_by caller after ≡ is_by caller view.role) (writer : is_writer after ≡ is_writer view.role) (reader : is_reader after ≡ is_reader view.role) where
+  -- the history with the step's entries has the caller's, and no more of it
+  pub learned_own : (entries : List Entry) → ((caller : ℕ) → entries_of entries caller ≡ cond (is_by caller view.role) entries []) → (caller : ℕ) → is_by caller after ≡ true → entries_of (log ++ entries) caller ≡ view.mine ++ entries
+  learned_own entries own caller his = let before : is_by caller view.role ≡ true = sym (same caller) ∙ his in
+      of-append caller log entries ∙ ap (λ (l : List Entry). l ++ entries_of entries caller) (fits.own caller before) ∙ ap (λ (l : List Entry). view.mine ++ l) (own caller ∙ ap (λ y. cond y entries []) before)
+
+  pub learned_fits : (entries : List Entry) (marks : Marks) (news : List Past) → ((caller : ℕ) → entries_of entries caller ≡ cond (is_by caller view.role) entries []) → ActsGo view after entries marks → Fits shape (log ++ entries) (learned view after (log ++ entries) entries marks news)
+  learned_fits entries marks news own acts =
+      let all = learned_own entries own in record {
+        begins = record { rest = []; is = sym (append-nil (log ++ entries)) };
+        told = record { rest = fits.told.rest ++ entries; is = ap (λ (l : List Entry). l ++ entries) fits.told.is ∙ append_assoc view.told fits.told.rest entries };
+        own = all;
+        knows_own = all;
+        acts = λ reads. omega (arith, fits.acts (omega arith), acts reads, total-append (λ (e : Entry). acts_at e.call e.reply) view.mine entries);
+        sized = λ l. fits.sized (omega arith);
+      }
+
+  pub waited_fits : (marks : Marks) (news : List Past) → ActsGo view after [] marks → Fits shape (log ++ []) (waited view after marks news)
+  waited_fits marks news acts = record {
+    begins = record { rest = fits.begins.rest; is = append-nil log ∙ fits.begins.is };
+    told = record { rest = fits.told.rest; is = append-nil log ∙ fits.told.is };
+    own = λ caller his. ap (λ (l : List Entry). entries_of l caller) (append-nil log) ∙ fits.own caller (sym (same caller) ∙ his);
+    knows_own = λ caller his. fits.knows_own caller (sym (same caller) ∙ his);
+    acts = λ reads. omega (arith, fits.acts (omega arith), acts reads);
+    sized = λ l. fits.sized (omega arith);
+  }
+
+  module _ (number : number_of after ≡ number_of view.role) (sized : view.shape ≡ shape) where
+    pub learned_advances : (entries : List Entry) (marks : Marks) (news : List Past) → news ≡ [] → is_by (number_of view.role) view.role ≡ true → ((caller : ℕ) → entries_of entries caller ≡ cond (is_by caller view.role) entries []) → IsLegal (opening_map shape) (log ++ entries) → AreCallers shape (log ++ entries)
+        → Advances view entries (learned view after (log ++ entries) entries marks news)
+    learned_advances entries marks news no_news caller own legal callers id = record {
+      table = refl;
+      number = number;
+      between = fits.begins.rest;
+      seen = ap (λ (l : List Entry). l ++ entries) fits.begins.is;
+      mine = refl;
+      legal = subst (λ (g : Shape). IsLegal (opening_map g) (log ++ entries)) (sym sized) legal;
+      own = learned_own entries own (number_of after) (same (number_of after) ∙ ap (λ (n : ℕ). is_by n view.role) number ∙ caller);
+      callers = subst (λ (g : Shape). AreCallers g (log ++ entries)) (sym sized) callers;
+      steps_made = refl;
+      pasts = ap (λ (l : List Past). l ++ view.pasts) no_news;
+    }
+
+    pub waited_waits : (marks : Marks) (news : List Past) → news ≡ [] → Waits view (waited view after marks news)
+    waited_waits marks news no_news id = record { table = refl; number = number; seen = refl; mine = refl; steps_made = refl; pasts = ap (λ (l : List Past). l ++ view.pasts) no_news }
+
+-- The two ways in which a step of the core becomes one of the token.
+module _ (shape : Shape) (id : ℕ) (view : View) (operation : Operation) (tells : Telling) (notes : MarkTelling) (state : State (Unit {0}) View) (kept : Kept shape state) (at : get_elem? state.views id ≡ some view)
+    (step : Stepped shape state.words (map role_of state.views) kept.log id view.role operation tells) (marked : Remarked role_of marks_of shape state.words state.views kept.log id view operation step.after step.entries notes)
+    (same_number : number_of step.after ≡ number_of view.role) (sized : view.shape ≡ shape) (callers : AreCallers shape step.entries) (acts : ActsGo view step.after step.entries marked.now) where
+  -- the view of a token that learns the history so far, with the step's entries
+  abbrev pub learned_next : View
+  learned_next = learned view step.after (kept.log ++ step.entries) step.entries marked.now marked.news
+
+  pub chosen : (then : View → Type 0) → then learned_next → Choice shape id view operation tells notes state kept step marked then
+  chosen then told = record {
+    next = learned_next;
+    role = refl;
+    made = refl;
+    marks = refl;
+    pasts = refl;
+    told_pasts = refl;
+    fits = learned_fits shape kept.log view (kept.fits id view at) step.after step.same step.writer step.reader step.entries marked.now marked.news step.own acts;
+    callers = callers;
+    told = told;
+  }
+
+  pub learning : (then : View → Type 0) → is_by (number_of view.role) view.role ≡ true → marked.news ≡ [] → (told : List Entry) → step.entries ≡ told
+      → (Advances view told learned_next → then learned_next) → Choice shape id view operation tells notes state kept step marked then
+  learning then caller no_news told is tell = chosen then (tell (subst (λ (entries : List Entry). Advances view entries learned_next) is
+      (learned_advances shape kept.log view (kept.fits id view at) step.after step.same step.writer step.reader same_number sized step.entries marked.now marked.news no_news caller step.own step.core.legal (callers_both shape kept.log step.entries kept.callers callers))))
+
+  -- the token learns nothing from a step without an entry
+  abbrev pub waited_next : View
+  waited_next = waited view step.after marked.now marked.news
+
+  pub waiting : (then : View → Type 0) → marked.news ≡ [] → step.entries ≡ [] → (Waits view waited_next → then waited_next) → Choice shape id view operation tells notes state kept step marked then
+  waiting then no_news none tell = let fits = kept.fits id view at in record {
+    next = waited_next;
+    role = refl;
+    made = refl;
+    marks = refl;
+    pasts = refl;
+    told_pasts = refl;
+    fits = subst (λ (entries : List Entry). Fits shape (kept.log ++ entries) waited_next) (sym none) (waited_fits shape kept.log view fits step.after step.same step.writer step.reader marked.now marked.news (subst (λ (entries : List Entry). ActsGo view step.after entries marked.now) none acts));
+    callers = callers;
+    told = tell (waited_waits shape kept.log view fits step.after step.same step.writer step.reader same_number sized marked.now marked.news no_news);
+  }

@@ -1,0 +1,52 @@
+-- The table at opening keeps the rule.
+use Rattle.std.proofs.Common.{Bool, [], ap, arith, cond, false, get_or, ne_eqb, refl, replicate, subst, suc, sym, true, zero, ℕ, ◌+◌, ◌<◌, ◌∷◌, ◌≡◌, ◌≤◌}
+use mathlib.Core.Option.{some, some-injective, some-ne-none}
+use lib.ListN.{get_elem?}
+use Rattle.atomic_table.specs.Table.{opening}
+use Rattle.nr_model.specs.declared.states.KeyState.TheVariants as states
+use Rattle.std.proofs.lemmas.List.{get_or-replicate}
+use Rattle.nr_core.proofs.Opening.{core_opens}
+use Rattle.nr_core.specs.Core.{AreNumbers, ShowsState}
+use Rattle.nr_core.specs.Roles.{is_by}
+use Rattle.nr_core.specs.Sizes.{IsShape}
+use Rattle.nr_core.specs.Slots.{name_number, opening_words}
+use Rattle.nr_core.specs.declared.shape.Shape.{Shape}
+use Rattle.nr_marks.proofs.ListPlaces.{no_places}
+use Rattle.nr_marks.proofs.SeatMarks.{opens_marked}
+use Rattle.nr_marks.specs.Marked.{AllSince, Since}
+use Rattle.nr_board.specs.Rule.{Fits, Kept, marks_of, role_of}
+use Rattle.nr_board.specs.Views.{View, opener}
+use Rattle.nr_core.specs.States.{opening_desk}
+use Rattle.nr_core.specs.Story.{map_after}
+use Rattle.nr_core.specs.declared.roles.Role.TheVariants.{Writer}
+
+only_one : {A : Type 0} (a : A) (j : ℕ) (b : A) → get_elem? (a ∷ []) j ≡ some b → a ≡ b
+only_one a zero b e = some-injective a b e
+only_one a (suc j) b e = absurd (some-ne-none b (sym e))
+
+-- no key names a slot
+none_named : (shape : Shape) → IsShape shape → (key : ℕ) → key < shape.keys → name_number (get_or (opening_words shape) key 0) ≡ 0
+none_named shape fits key near = let core = core_opens shape fits 0 (omega arith) in
+    (subst (ShowsState shape (opening_words shape) (get_or (opening_words shape) key 0)) (get_or-replicate shape.keys key (states.Hole shape.first_number) (states.Hole 0) near) (core.shows key near)).0
+
+pub opens_so : (shape : Shape) → IsShape shape → Kept shape (opening (opening_words shape) [] (opener shape))
+opens_so shape fits = let view = opener shape in
+    let at_most : (y : Bool) → cond y 1 0 + 0 ≤ 1 = λ y. elim y as (λ z. cond z 1 0 + 0 ≤ 1) [ true ↦ omega arith | false ↦ omega arith ] in record {
+      log = [];
+      core = core_opens shape fits 0 (omega arith);
+      fits = λ j u at. subst (Fits shape []) (only_one view j u at) (record { begins = record { rest = []; is = refl }; told = record { rest = []; is = refl }; own = λ _ _. refl; knows_own = λ _ _. refl; acts = λ reads. absurd (omega arith); sized = λ _. refl });
+      callers = tt;
+      once = λ caller. at_most (is_by caller view.role);
+      made = 0;
+      readers = refl;
+      fresh = λ caller later. let none : cond (is_by caller view.role) 1 0 ≡ 0 = ap (λ (y : Bool). cond {A = ℕ} y 1 0) (ne_eqb 0 caller (λ e. omega arith)) in omega arith;
+      silent = λ _ _. refl;
+      marked = opens_marked role_of marks_of shape (opening_words shape) view refl refl (none_named shape fits);
+      pasts = λ place who there. subst (λ (v : View). AllSince role_of marks_of (view ∷ []) v.pasts) (only_one view place who there) (no_places (Since role_of marks_of (view ∷ [])));
+      told_pasts = λ place who there. subst (λ (v : View). AllSince role_of marks_of (view ∷ []) v.told_pasts) (only_one view place who there) (no_places (Since role_of marks_of (view ∷ [])));
+      maker = λ j u at w. ap (λ (y : View). y.made) (sym (only_one view j u at));
+    }
+
+-- each key has the first number
+pub numbers_open : (shape : Shape) → IsShape shape → AreNumbers shape (map_after shape []) (replicate shape.keys shape.first_number)
+numbers_open shape fits = ((core_opens shape fits 0 (omega arith)).knows 0 (Writer (opening_desk shape)) refl).numbers

@@ -1,0 +1,82 @@
+-- A set is put word by word, and published.
+use Rattle.std.proofs.Common.{◌≡◌, ℕ, ◌+◌, ◌*◌, ◌≤◌, List, [], ◌++◌, Bool, cond, get_or, length, refl, sym, ap, ◌∙◌, subst, arith}
+use Rattle.std.proofs.lemmas.Bool.{lt-leb}
+use Rattle.nr_model.specs.declared.calls.Reply.TheVariants as reply
+use Rattle.nr_model.specs.declared.rows.Row.{Row}
+use Rattle.nr_model.specs.Histories.{Entry, IsLegal}
+use Rattle.nr_core.specs.Story.{call_of, ending}
+use Rattle.nr_core.specs.Writer.{ended, moved_to, put_on, swapped, unnamed}
+use Rattle.nr_core.specs.declared.calls.Step.{Step}
+use Rattle.nr_core.specs.declared.calls.Step.TheVariants.{Going}
+use Rattle.nr_core.specs.declared.calls.WriterCall.{WriterCall}
+use Rattle.nr_core.specs.declared.places.Place.TheVariants.{Idle, Putting}
+use Rattle.nr_core.specs.declared.roles.Desk.{Desk}
+use Rattle.nr_board.proofs.Tokens.{grows_both}
+use Rattle.nr_core.specs.declared.roles.Role.TheVariants.{Writer}
+use Rattle.nr_board.specs.Callers.{Caller, Grows, Table, opening_map, token}
+use Rattle.nr_board.specs.Entries.{AreCallers}
+use Rattle.nr_core.specs.Spares.{Spare}
+use Rattle.nr_board.specs.Spares.{Took, desk_with}
+use Rattle.nr_marks.specs.Marks.{Marks, Past, with_name, with_polls}
+use Rattle.nr_marks.specs.MarkSteps.{PutsMarks}
+use Rattle.nr_board.specs.Plays.{SwapsOrPuts}
+use Rattle.nr_core.specs.States.{key_of}
+use Rattle.nr_board.specs.WriterSeats.{GoesOn, IsPutting, Knows, LeadsIn, MapSeat, PublishesSet, PutsTo, WritesAt}
+use Rattle.nr_core.specs.Slots.{content}
+use Rattle.nr_words.specs.SetWords.{encode}
+
+-- what the writer knows after a step is legal
+pub knows_after : (steps : ℕ) (old : Caller) (entries : List Entry) (new : Caller) → Grows steps old entries new → Knows new
+knows_after steps old entries new grows = record { legal = subst (λ (t : Table). IsLegal (opening_map t) new.seen) (sym grows.table) grows.legal; callers = subst (λ (t : Table). AreCallers t.shape new.seen) (sym grows.table) grows.callers; own = grows.own }
+
+-- so many words are put
+pub record PutSoFar (table : Table) (desk : Desk) (call : WriterCall) (rows : List Row) (slot departed : ℕ) (before after : MapSeat) (index : ℕ) : Type 0 where
+  pub writes : WritesAt table (moved_to desk (Putting call rows slot departed index)) after
+  pub grows : Grows index (token before) [] (token after)
+  pub marks : after.me.0.marks ≡ before.me.0.marks
+
+module _ (table board : Table) (own : board ≡ table) (desk : Desk) (call : WriterCall) (rows : List Row) (slot departed : ℕ) (before : MapSeat) where
+  -- the next word of the set can be put
+  pub puts_next : (mid : MapSeat) (begin index word : ℕ) → begin ≡ content board.shape slot 0 → PutSoFar table desk call rows slot departed before mid index → index ≤ 2 * length rows → word ≡ get_or (encode rows) index 0 → IsPutting board begin index word mid
+  puts_next mid begin index word begin_is so_far more word_is = record { desk = _; writes = subst (λ (t : Table). WritesAt t (moved_to desk (Putting call rows slot departed index)) mid) (sym own) so_far.writes; call = call; rows = rows; slot = slot; departed = departed; place = refl; begin_is = begin_is; more = more; word_is = word_is }
+
+  -- one word more is put
+  pub put_more : (mid after : MapSeat) (index : ℕ) → PutSoFar table desk call rows slot departed before mid index → ((at : Desk) → mid.me.0.role ≡ Writer at → PutsTo board at mid after) → PutSoFar table desk call rows slot departed before after (index + 1)
+  put_more mid after index so_far puts = let told = subst (λ (t : Table). PutsTo t (moved_to desk (Putting call rows slot departed index)) mid after) own (puts (moved_to desk (Putting call rows slot departed index)) so_far.writes.role) in record {
+    writes = told.writes;
+    grows = grows_both index 1 (index + 1) (token before) (token mid) [] (token after) refl so_far.grows told.grows;
+    marks = told.marks ∙ so_far.marks;
+  }
+
+-- the swap that publishes the set
+pub published : (table : Table) (call : WriterCall) (rows : List Row) (spare mid_spare after_spare : Spare) (slot departed polls : ℕ) (before mid after : MapSeat) (found : ℕ) → Took slot polls spare mid_spare → polls ≤ table.shape.readers + 1 → mid_spare.slots ≡ spare.slots → mid_spare.numbers ≡ spare.numbers → mid.me.0.marks ≡ with_polls before.me.0.marks mid.me.0.marks.polls
+    → WritesAt table (desk_with mid_spare (Putting call rows slot departed (2 * length rows + 1))) mid → Grows (polls + (2 * length rows + 1)) (token before) [] (token mid) → GoesOn table found mid after
+    → after_spare ≡ record mid_spare { retired = mid_spare.retired ++ unnamed found } → PublishesSet table call rows spare after_spare before after
+published table call rows spare mid_spare after_spare slot departed polls before mid after found took few slots numbers only_polls writes grows goes retires =
+    let last : ℕ = 2 * length rows + 1 in let desk = desk_with mid_spare (Putting call rows slot departed last) in
+    let told = goes desk writes.role in
+    let outcome : put_on desk call rows slot departed last found ≡ (swapped desk found, ended reply.Done) = ap (λ (b : Bool). cond {A = Desk × Step} b (moved_to desk (Putting call rows slot departed (last + 1)), Going) (swapped desk found, ended reply.Done)) (lt-leb last (2 * length rows) (omega arith)) in
+    let leads = subst (λ (o : Desk × Step). LeadsIn 1 table (call_of call) o mid after) outcome told.leads in
+    let marks = subst (λ (b : Bool). PutsMarks b mid.me.0.marks (key_of call) slot found after.me.0.role after.me.0.seen after.me.0.marks []) (lt-leb last (2 * length rows) (omega arith)) told.marks in
+    let swaps = subst (λ (b : Bool). SwapsOrPuts b table.shape (key_of call) found told.log mid.me.0.marks) (lt-leb last (2 * length rows) (omega arith)) told.finds in
+    let same_names : get_or before.me.0.marks.names (key_of call) 0 ≡ get_or mid.me.0.marks.names (key_of call) 0 = ap (λ (m : Marks). get_or m.names (key_of call) 0) (sym only_polls) in
+    let same_polls : after.me.0.marks.polls ≡ mid.me.0.marks.polls = ap (λ (m : Marks). m.polls) marks.3 in record {
+      slot = slot;
+      log = told.log;
+      seen = told.seen ∙ ap (λ (o : Desk × Step). told.log ++ ending (call_of call) o.1) outcome;
+      swaps = record { state = swaps.state; name = same_names ∙ swaps.name };
+      marks = marks.3 ∙ ap (λ (m : Marks). with_name m (key_of call) slot marks.0) only_polls ∙ ap (λ (l : List Past). with_name (with_polls before.me.0.marks l) (key_of call) slot marks.0) (sym same_polls);
+      number = marks.0;
+      count = marks.1;
+      put = marks.2;
+      polls = polls;
+      mid = mid_spare;
+      took = took;
+      few = few;
+      word = found;
+      retires = retires;
+      slots = ap (λ (s : Spare). s.slots) retires ∙ slots;
+      numbers = ap (λ (s : Spare). s.numbers) retires ∙ numbers;
+      writes = subst (λ (s : Spare). WritesAt table (desk_with s Idle) after) (sym retires) leads.writes;
+      grows = grows_both (polls + (2 * length rows + 1)) 1 (2 * length rows + 2 + polls) (token before) (token mid) _ (token after) (omega arith) grows leads.grows;
+    }

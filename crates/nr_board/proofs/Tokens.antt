@@ -1,0 +1,60 @@
+-- The steps of a token, put together.
+use Rattle.std.proofs.Common.{◌≡◌, ℕ, ◌+◌, List, [], ◌++◌, refl, sym, ap, ◌∙◌, subst, arith, append_assoc, append-nil}
+use Rattle.atomic_table.specs.Seated.{TableId}
+use Rattle.atomic_table.specs.declared.shared.Seat.{Seat}
+use Rattle.nr_model.specs.Histories.{Entry, IsLegal, entries_of}
+use Rattle.nr_board.specs.Callers.{Caller, Grows, Rests, Table, caller_of, opening_map, token}
+use Rattle.nr_board.specs.Plays.{Advances, Waits}
+use Rattle.nr_board.specs.Entries.{AreCallers}
+use Rattle.nr_board.specs.Views.{View}
+
+abbrev pub MapSeat : Type 0
+MapSeat = Seat (Unit {0}) View
+
+-- what a play tells of a seat's views, it tells of the token
+pub seat_grows : (before after : MapSeat) (entries : List Entry) → after.table_id ≡ before.table_id → Advances before.me.0 entries after.me.0 → Grows 1 (token before) entries (token after)
+seat_grows before after entries same advances = subst (λ (id : TableId). Grows 1 (token before) entries (caller_of id after.me.0)) (sym same) (advances before.table_id)
+
+pub seat_rests : (before after : MapSeat) → after.table_id ≡ before.table_id → Waits before.me.0 after.me.0 → Rests 1 (token before) (token after)
+seat_rests before after same waits = subst (λ (id : TableId). Rests 1 (token before) (caller_of id after.me.0)) (sym same) (waits before.table_id)
+
+pub rests_none : (caller : Caller) → Rests 0 caller caller
+rests_none caller = record { table = refl; number = refl; seen = refl; mine = refl; steps_made = omega arith; pasts = refl }
+
+pub rests_both : (m n sum : ℕ) (a b c : Caller) → sum ≡ m + n → Rests m a b → Rests n b c → Rests sum a c
+rests_both m n sum a b c is first then = record {
+  table = then.table ∙ first.table;
+  number = then.number ∙ first.number;
+  seen = then.seen ∙ first.seen;
+  mine = then.mine ∙ first.mine;
+  steps_made = omega (arith, first.steps_made, then.steps_made);
+  pasts = then.pasts ∙ first.pasts;
+}
+
+pub grows_rests : (m n sum : ℕ) (a : Caller) (entries : List Entry) (b c : Caller) → sum ≡ m + n → Grows m a entries b → Rests n b c → Grows sum a entries c
+grows_rests m n sum a entries b c is first then = record {
+  table = then.table ∙ first.table;
+  number = then.number ∙ first.number;
+  between = first.between;
+  seen = then.seen ∙ first.seen;
+  mine = then.mine ∙ first.mine;
+  legal = subst (IsLegal (opening_map a.table)) (sym then.seen) first.legal;
+  own = (λ j. entries_of (then.seen j) (then.number j)) ∙ first.own ∙ sym then.mine;
+  callers = subst (AreCallers a.table.shape) (sym then.seen) first.callers;
+  steps_made = omega (arith, first.steps_made, then.steps_made);
+  pasts = then.pasts ∙ first.pasts;
+}
+
+pub grows_both : (m n sum : ℕ) (a b : Caller) (entries : List Entry) (c : Caller) → sum ≡ m + n → Grows m a [] b → Grows n b entries c → Grows sum a entries c
+grows_both m n sum a b entries c is first then = record {
+  table = then.table ∙ first.table;
+  number = then.number ∙ first.number;
+  between = first.between ++ then.between;
+  seen = then.seen ∙ ap (λ (l : List Entry). (l ++ then.between) ++ entries) (first.seen ∙ append-nil (a.seen ++ first.between)) ∙ ap (λ (l : List Entry). l ++ entries) (append_assoc a.seen first.between then.between);
+  mine = then.mine ∙ ap (λ (l : List Entry). l ++ entries) (first.mine ∙ append-nil a.mine);
+  legal = subst (λ (t : Table). IsLegal (opening_map t) c.seen) first.table then.legal;
+  own = then.own;
+  callers = subst (λ (t : Table). AreCallers t.shape c.seen) first.table then.callers;
+  steps_made = omega (arith, first.steps_made, then.steps_made);
+  pasts = then.pasts ∙ first.pasts;
+}

@@ -1,0 +1,300 @@
+-- The writer's calls, put together of their steps.
+use Rattle.std.proofs.Common.{List, [], ap, append-nil, append_assoc, arith, get_or, length, refl, slice_index, subst, sym, ℕ, ◌*◌, ◌++◌, ◌+◌, ◌<◌, ◌∙◌, ◌∷◌, ◌≡◌, ◌≤◌}
+use Rattle.std.specs.Prelude.{Result, Ok, Err, slice_set}
+use Rattle.nr_model.specs.declared.calls.Call.{Call}
+use Rattle.nr_model.specs.declared.calls.Call.TheVariants as model
+use Rattle.nr_model.specs.declared.calls.Reply.{Reply}
+use Rattle.nr_model.specs.declared.calls.Reply.TheVariants as reply
+use Rattle.nr_model.specs.declared.batches.Delta.{Delta}
+use Rattle.nr_model.specs.declared.rows.Row.{Row}
+use Rattle.nr_model.specs.declared.batches.ApplyFault.{ApplyFault}
+use Rattle.nr_model.specs.Batches.{applied}
+use Rattle.nr_model.specs.Maps.{applied_reply, state_of}
+use Rattle.nr_model.specs.declared.states.KeyState.TheVariants as states
+use Rattle.nr_model.specs.Histories.{Entry, IsLegal, entries_of}
+use Rattle.nr_words.specs.KeyWords.{slot_of}
+use Rattle.nr_core.proofs.Without.{not_reply}
+use Rattle.nr_core.specs.Story.{call_of, ending, entry, map_after}
+use Rattle.nr_core.specs.Writer.{decided, ended, looked, moved_to, renewed, settled, unnamed}
+use Rattle.nr_core.specs.declared.calls.NoSlot.{NoSlot}
+use Rattle.nr_core.specs.declared.calls.Step.{Step}
+use Rattle.nr_core.specs.declared.calls.Step.TheVariants.{Going}
+use Rattle.nr_core.specs.declared.calls.WriterCall.{WriterCall}
+use Rattle.nr_core.specs.declared.calls.WriterCall.TheVariants.{Cancel, Evict, Find, Update}
+use Rattle.nr_core.specs.declared.places.Place.TheVariants.{Idle, Leaving, Reading, Withdrawing}
+use Rattle.nr_core.specs.declared.roles.Desk.{Desk}
+use Rattle.nr_board.proofs.Publishing.{knows_after}
+use Rattle.nr_board.proofs.Tokens.{grows_both}
+use Rattle.nr_board.specs.WriterAnswers.{HasNoSlot, KeyHad, Publishes, RetiresOne, SlotsStay}
+use Rattle.nr_board.specs.Callers.{Gains, Grows, Table, opening_map, token}
+use Rattle.nr_core.specs.Spares.{Spare}
+use Rattle.nr_board.specs.Spares.{Took, desk_with, spare_of}
+use Rattle.nr_marks.specs.Marks.{Marks, Past, with_name, with_polls, without_name}
+use Rattle.nr_marks.specs.PollNotes.{Noted}
+use Rattle.nr_board.proofs.Looks.{HasLooked, rests_own}
+use Rattle.nr_board.proofs.ReadingOn.{settled_quiet}
+use Rattle.nr_board.specs.NamedRows.{ReadsAll}
+use Rattle.nr_board.proofs.KeySets.{before_last, had_before, none_between}
+use Rattle.nr_board.proofs.Retiring.{evicted_one, retires_so}
+use Rattle.nr_board.proofs.Searching.{grows_from}
+use Rattle.nr_board.specs.Kinds.{kind_of}
+use Rattle.nr_board.specs.Polls.{HeldThen}
+use Rattle.nr_model.proofs.LawLemmas.{legal_goes_on_lem}
+use Rattle.nr_core.proofs.Settle.{key_same}
+use Rattle.nr_core.specs.States.{key_of}
+use Rattle.nr_board.specs.Views.{desk_of, number_of}
+use Rattle.nr_board.specs.WriterSeats.{GoesOn, KeyHas, LacksSlot, LeadsIn, MapSeat, PublishesSet, RestsAt, Settles, WritesAt}
+use Rattle.nr_core.specs.Slots.{bound_of}
+use Rattle.nr_model.specs.Rows.{IsRowSet}
+
+-- the slots that a resting token shows
+pub spare_shown : (table : Table) (spare : Spare) (seat : MapSeat) → RestsAt table spare seat → spare_of (token seat) ≡ spare
+spare_shown table spare seat rests = λ j. record { slots = (ap (λ (t : Table). t.shape.slots) rests.writes.own ∙ sym rests.slots) j; fresh = ap (λ r. (desk_of r).fresh) rests.writes.role j; retired = ap (λ r. (desk_of r).retired) rests.writes.role j; numbers = ap (λ r. (desk_of r).numbers) rests.writes.role j }
+
+module _ (table : Table) (spare : Spare) (before : MapSeat) (rests : RestsAt table spare before) where
+  writer_number : (token before).number ≡ 0
+  writer_number = ap number_of rests.writes.role
+
+  -- a call that ends with a reply
+  pub ends : (steps : ℕ) (call : Call) (answer : Reply) (after_spare : Spare) (after : MapSeat) → after_spare.slots ≡ spare.slots → LeadsIn steps table call (desk_with after_spare Idle, ended answer) before after → RestsAt table after_spare after × Gains steps (token before) call answer (token after)
+  ends steps call answer after_spare after slots leads = (
+    record { writes = leads.writes; slots = slots ∙ rests.slots; own = leads.grows.own },
+    subst (λ (n : ℕ). Grows steps (token before) (entry n call answer ∷ []) (token after)) (sym writer_number) leads.grows,
+  )
+
+  pub same_slots : (after : MapSeat) → RestsAt table spare after → spare_of (token after) ≡ spare_of (token before)
+  same_slots after rests_after = spare_shown table spare after rests_after ∙ sym (spare_shown table spare before rests)
+
+  -- a call that has its set
+  pub settles_so : (steps : ℕ) (call : WriterCall) (rows : List Row) (mid : MapSeat) → LeadsIn steps table (call_of call) (settled table.shape (desk_with spare Idle) call rows) before mid → mid.me.0.marks.polls ≡ []
+      → Settles table call rows spare mid × Grows steps (token before) [] (token mid)
+  settles_so steps call rows mid leads polls =
+      let grows = subst (λ (es : List Entry). Grows steps (token before) es (token mid)) (settled_quiet table.shape (desk_with spare Idle) call rows (call_of call)) leads.grows in
+      (record { slots = rests.slots; writes = leads.writes; short = leads.short; knows = knows_after steps (token before) [] (token mid) grows; polls = polls }, grows)
+
+  module _ (steps : ℕ) (call : WriterCall) (rows : List Row) (mid after : MapSeat) (grows : Grows steps (token before) [] (token mid)) (only_polls : mid.me.0.marks ≡ with_polls before.me.0.marks []) (after_spare : Spare) where
+    same_names : get_or before.me.0.marks.names (key_of call) 0 ≡ get_or mid.me.0.marks.names (key_of call) 0
+    same_names = ap (λ (m : Marks). get_or m.names (key_of call) 0) (sym only_polls)
+
+    -- the call put its set
+    pub publishes_so : PublishesSet table call rows spare after_spare mid after → RestsAt table after_spare after × Publishes steps (token before) (call_of call) rows (token after)
+    publishes_so published =
+        let all = grows_both steps (2 * length rows + 2 + published.polls) (steps + 2 * length rows + 2 + published.polls) (token before) (token mid) (entry 0 (call_of call) reply.Done ∷ []) (token after) (omega arith) grows published.grows in
+        let rests_after : RestsAt table after_spare after = record { writes = published.writes; slots = published.slots ∙ rests.slots; own = all.own } in
+        let spare_after = spare_shown table after_spare after rests_after ∙ published.retires in
+        let map_then = map_after before.me.0.shape published.log in
+        let done_then = (legal_goes_on_lem (opening_map (token before).table) published.log (entry 0 (call_of call) reply.Done)).1.1 (subst (IsLegal (opening_map (token before).table)) published.seen all.legal) in (
+          rests_after,
+          record {
+            polls = published.polls;
+            slot = published.slot;
+            mid = published.mid;
+            took = subst (λ (s : Spare). Took published.slot published.polls s published.mid) (sym (spare_shown table spare before rests)) published.took;
+            few = subst (λ (t : Table). published.polls ≤ t.shape.readers + 1) (sym rests.writes.own) published.few;
+            fresh = ap (λ (s : Spare). s.fresh) spare_after;
+            numbers = ap (λ (s : Spare). s.numbers) (spare_shown table after_spare after rests_after) ∙ published.numbers ∙ sym (ap (λ (s : Spare). s.numbers) (spare_shown table spare before rests));
+            retires = retires_so published.word (token before) published.mid.retired (token after).retired (ap (λ (s : Spare). s.retired) spare_after) map_then call done_then.1
+                (published.swaps.state ∙ ap (λ (t : Table). kind_of (state_of (map_after t.shape published.log) (key_of call))) (sym rests.writes.own)) (same_names ∙ published.swaps.name);
+            number = published.number;
+            count = published.count;
+            put = published.put;
+            marks = published.marks ∙ (λ j. with_name (with_polls (only_polls j) after.me.0.marks.polls) (sym (key_same call) j) published.slot published.number);
+            gains = subst (λ (n : ℕ). Grows (steps + 2 * length rows + 2 + published.polls) (token before) (entry n (call_of call) reply.Done ∷ []) (token after)) (sym writer_number) all;
+          },
+        )
+
+    -- the call found no slot
+    pub lacks_so : (counts : NoSlot) → LacksSlot table call counts spare after_spare mid after → RestsAt table after_spare after × HasNoSlot steps (token before) (call_of call) counts (token after)
+    lacks_so counts lacking =
+        let retired_is : (token before).retired ≡ spare.retired = ap (λ (s : Spare). s.retired) (spare_shown table spare before rests) in
+        let all = grows_both steps (length spare.retired) (steps + length (token before).retired) (token before) (token mid) [] (token after) (omega (arith, ap length retired_is)) grows lacking.grows in
+        let rests_spare : RestsAt table spare after = record { writes = lacking.writes; slots = rests.slots; own = all.own } in
+        let noted = lacking.noted in (
+          subst (λ (s : Spare). RestsAt table s after) (sym lacking.same) rests_spare,
+          record {
+            grows = all;
+            readers = none_between (steps + length (token before).retired) (token before) [] (token after) rests.own refl all;
+            lacks = lacking.lacks;
+            noted = subst (λ (p : Table × List Past). Noted p.0.shape p.1 after.me.0.marks.polls) (λ j. (sym rests.writes.own j, grows.pasts j)) noted;
+            held = λ at note there. held_since (lacking.held at note there);
+            slots = same_slots after rests_spare;
+            marks = lacking.marks ∙ ap (λ (m : Marks). with_polls m after.me.0.marks.polls) only_polls;
+          },
+        )
+      where
+        held_since : {note : Past} → HeldThen mid.me.0.seen after.me.0.seen note → HeldThen before.me.0.seen after.me.0.seen note
+        held_since held = let begun = grows_from steps (token before) [] (token mid) grows in record {
+          log = held.log;
+          since = record { rest = begun.rest ++ held.since.rest; is = held.since.is ∙ ap (λ (l : List Entry). l ++ held.since.rest) begun.is ∙ append_assoc before.me.0.seen begun.rest held.since.rest };
+          until = held.until;
+          count = held.count;
+        }
+
+-- the call ends with its look
+pub look_ends : {table : Table} {spare : Spare} {call : WriterCall} {found : ℕ} {before after : MapSeat} → HasLooked table spare call found before after → (answer : Reply) → looked table.shape (desk_with spare Idle) call found ≡ (desk_with spare Idle, ended answer)
+    → RestsAt (token after).table spare after × (Gains 1 (token before) (call_of call) answer (token after) × SlotsStay (token before) (token after))
+look_ends {table = table} {spare = spare} {call = call} {before = before} {after = after} looks answer is =
+    let ended_so = ends table spare before looks.rests 1 (call_of call) answer spare after refl (subst (λ (o : Desk × Step). LeadsIn 1 table (call_of call) o before after) is looks.leads) in
+    (rests_own table spare after ended_so.0, (ended_so.1, (same_slots table spare before looks.rests after ended_so.0, looks.marks)))
+
+-- it has its set after so many steps: it looks for a slot
+pub record HasSet (table : Table) (spare : Spare) (steps : ℕ) (call : WriterCall) (rows : List Row) (before mid : MapSeat) : Type 0 where
+  pub rests : RestsAt table spare before
+  pub settles : Settles table call rows spare mid
+  pub grows : Grows steps (token before) [] (token mid)
+  pub marks : mid.me.0.marks ≡ with_polls before.me.0.marks []
+
+pub has_set : {table : Table} {spare : Spare} {steps : ℕ} {call : WriterCall} {rows : List Row} {before mid : MapSeat} → RestsAt table spare before → LeadsIn steps table (call_of call) (settled table.shape (desk_with spare Idle) call rows) before mid → mid.me.0.marks ≡ with_polls before.me.0.marks [] → HasSet table spare steps call rows before mid
+has_set {table = table} {spare = spare} {steps = steps} {call = call} {rows = rows} {before = before} {mid = mid} rests leads marks =
+    let so = settles_so table spare before rests steps call rows mid leads (ap (λ (m : Marks). m.polls) marks) in record { rests = rests; settles = so.0; grows = so.1; marks = marks }
+
+-- a fill has it at its look
+pub look_settles : {table : Table} {spare : Spare} {call : WriterCall} {rows : List Row} {found : ℕ} {before after : MapSeat} → HasLooked table spare call found before after → looked table.shape (desk_with spare Idle) call found ≡ settled table.shape (desk_with spare Idle) call rows → HasSet table spare 1 call rows before after
+look_settles {table = table} {call = call} {before = before} {after = after} looks is = has_set looks.rests (subst (λ (o : Desk × Step). LeadsIn 1 table (call_of call) o before after) is looks.leads) looks.marks
+
+-- and it had the slot, and put the set there, or found none
+module _ {table : Table} {spare after_spare : Spare} {steps : ℕ} {call given : WriterCall} {rows : List Row} {before mid after : MapSeat} (set : HasSet table spare steps call rows before mid) (is : given ≡ call) where
+  pub has_published : PublishesSet table given rows spare after_spare mid after → RestsAt (token after).table after_spare after × Publishes steps (token before) (call_of call) rows (token after)
+  has_published published = let so = publishes_so table spare before set.rests steps call rows mid after set.grows set.marks after_spare (subst (λ (c : WriterCall). PublishesSet table c rows spare after_spare mid after) is published) in (rests_own table after_spare after so.0, so.1)
+
+  pub has_lacked : {counts : NoSlot} → LacksSlot table given counts spare after_spare mid after → RestsAt (token after).table after_spare after × HasNoSlot steps (token before) (call_of call) counts (token after)
+  has_lacked {counts = counts} lacking = let so = lacks_so table spare before set.rests steps call rows mid after set.grows set.marks after_spare counts (subst (λ (c : WriterCall). LacksSlot table c counts spare after_spare mid after) is lacking) in (rests_own table after_spare after so.0, so.1)
+
+-- the swap that evicts the key
+module _ {table : Table} {spare : Spare} {key word : ℕ} {before mid : MapSeat} (looks : HasLooked table spare (Evict key) word before mid) (leaves : looked table.shape (desk_with spare Idle) (Evict key) word ≡ (desk_with spare (Leaving key), Going)) where
+  pub about_to_leave : LeadsIn 1 table (model.Evict key) (desk_with spare (Leaving key), Going) before mid
+  about_to_leave = subst (λ (o : Desk × Step). LeadsIn 1 table (model.Evict key) o before mid) leaves looks.leads
+
+  pub has_evicted : {board : Table} {found : ℕ} {after : MapSeat} {after_spare : Spare} → board ≡ table → GoesOn board found mid after → after_spare ≡ record spare { retired = spare.retired ++ unnamed found }
+      → RestsAt (token after).table after_spare after × (Gains 2 (token before) (model.Evict key) reply.Evicted (token after) × ((token after).fresh ≡ (token before).fresh) × ((token after).numbers ≡ (token before).numbers) × RetiresOne key (token before) (token before).retired (token after).retired × (after.me.0.marks ≡ without_name (with_polls before.me.0.marks []) key))
+  has_evicted {found = found} {after = after} {after_spare = after_spare} board_is goes retires =
+      let gone = subst (λ (t : Table). GoesOn t found mid after) board_is goes (desk_with spare (Leaving key)) about_to_leave.writes.role in let told = gone.leads in
+      let all : LeadsIn 2 table (model.Evict key) (desk_with after_spare Idle, ended reply.Evicted) before after = record {
+        writes = subst (λ (s : Spare). WritesAt table (desk_with s Idle) after) (sym retires) told.writes;
+        grows = grows_both 1 1 2 (token before) (token mid) _ (token after) (omega arith) about_to_leave.grows told.grows;
+        short = λ counts without. absurd (not_reply counts reply.Evicted without);
+      } in
+      let ended_so = ends table spare before looks.rests 2 (model.Evict key) reply.Evicted after_spare after (ap (λ (s : Spare). s.slots) retires) all in
+      let slots = spare_shown table after_spare after ended_so.0 ∙ retires ∙ ap (λ (s : Spare). record s { retired = s.retired ++ unnamed found }) (sym (spare_shown table spare before looks.rests)) in
+      let legal = (legal_goes_on_lem (opening_map (token before).table) gone.log (entry 0 (model.Evict key) reply.Evicted)).1.1 (subst (IsLegal (opening_map (token before).table)) gone.seen all.grows.legal) in (
+        rests_own table after_spare after ended_so.0,
+        (
+          ended_so.1,
+          ap (λ (s : Spare). s.fresh) slots,
+          ap (λ (s : Spare). s.numbers) slots,
+          evicted_one found (token before) (token before).retired (token after).retired (ap (λ (s : Spare). s.retired) slots) (map_after before.me.0.shape gone.log) key legal.1
+              (gone.finds.state ∙ ap (λ (t : Table). kind_of (state_of (map_after t.shape gone.log) key)) (sym looks.own)) (ap (λ (m : Marks). get_or m.names key 0) (sym looks.marks) ∙ gone.finds.name),
+          gone.marks.0 ∙ ap (λ (m : Marks). without_name m key) looks.marks,
+        ),
+      )
+
+-- the swap that takes the key's request back
+module _ {table : Table} {spare : Spare} {key word : ℕ} {before mid : MapSeat} (looks : HasLooked table spare (Cancel key) word before mid) (withdraws : looked table.shape (desk_with spare Idle) (Cancel key) word ≡ (desk_with spare (Withdrawing key), Going)) where
+  pub about_to_withdraw : LeadsIn 1 table (model.Cancel key) (desk_with spare (Withdrawing key), Going) before mid
+  about_to_withdraw = subst (λ (o : Desk × Step). LeadsIn 1 table (model.Cancel key) o before mid) withdraws looks.leads
+
+  pub has_cancelled : {board : Table} {found : ℕ} {after : MapSeat} {after_spare : Spare} → board ≡ table → GoesOn board found mid after → after_spare ≡ record spare { numbers = slice_set spare.numbers key (slice_index spare.numbers key + 1) }
+      → RestsAt (token after).table after_spare after × (Gains 2 (token before) (model.Cancel key) reply.Cancelled (token after) × (spare_of (token after) ≡ record (spare_of (token before)) { numbers = slice_set (token before).numbers key (slice_index (token before).numbers key + 1) }) × (after.me.0.marks ≡ with_polls before.me.0.marks []))
+  has_cancelled {found = found} {after = after} {after_spare = after_spare} board_is goes renumbers =
+      let gone = subst (λ (t : Table). GoesOn t found mid after) board_is goes (desk_with spare (Withdrawing key)) about_to_withdraw.writes.role in let told = gone.leads in
+      let all : LeadsIn 2 table (model.Cancel key) (desk_with after_spare Idle, ended reply.Cancelled) before after = record {
+        writes = subst (λ (s : Spare). WritesAt table (desk_with s Idle) after) (sym renumbers) told.writes;
+        grows = grows_both 1 1 2 (token before) (token mid) _ (token after) (omega arith) about_to_withdraw.grows told.grows;
+        short = λ counts without. absurd (not_reply counts reply.Cancelled without);
+      } in
+      let ended_so = ends table spare before looks.rests 2 (model.Cancel key) reply.Cancelled after_spare after (ap (λ (s : Spare). s.slots) renumbers) all in (
+        rests_own table after_spare after ended_so.0,
+        (
+          ended_so.1,
+          spare_shown table after_spare after ended_so.0 ∙ renumbers ∙ ap (λ (s : Spare). record s { numbers = slice_set s.numbers key (slice_index s.numbers key + 1) }) (sym (spare_shown table spare before looks.rests)),
+          gone.marks.0 ∙ looks.marks,
+        ),
+      )
+
+-- READS OF THE KEY'S SET
+
+-- the call's look found the key filled, and the call has read the set
+pub record HasRead (table : Table) (spare : Spare) (call : WriterCall) (slot : ℕ) (rows : List Row) (before after : MapSeat) : Type 0 where
+  pub own : (token before).table ≡ table
+  pub rests : RestsAt table spare before
+  pub row_set : IsRowSet (bound_of table.shape) rows
+  pub leads : LeadsIn (2 * length rows + 2) table (call_of call) (decided table.shape (desk_with spare (Reading call slot [])) call rows) before after
+  pub had : KeyHas table call rows (decided table.shape (desk_with spare (Reading call slot [])) call rows).1 after
+  pub marks : after.me.0.marks ≡ with_polls before.me.0.marks []
+
+module _ {table : Table} {spare : Spare} {call given : WriterCall} {found : ℕ} {before mid : MapSeat} (looks : HasLooked table spare call found before mid) (reads : looked table.shape (desk_with spare Idle) call found ≡ (desk_with spare (Reading call (slot_of found) []), Going)) (is : given ≡ call) where
+  leads_there : LeadsIn 1 table (call_of call) (desk_with spare (Reading call (slot_of found) []), Going) before mid
+  leads_there = subst (λ (o : Desk × Step). LeadsIn 1 table (call_of call) o before mid) reads looks.leads
+
+  -- the writer is about to read the slot that the word named
+  pub about_to_read : {slot : ℕ} → slot ≡ slot_of found → WritesAt table (moved_to (desk_of mid.me.0.role) (Reading given slot [])) mid × (slot < table.shape.slots)
+  about_to_read {slot = slot} same = (
+    subst (λ (p : Desk × WriterCall × ℕ). WritesAt table (moved_to p.0 (Reading p.1 p.2 [])) mid) (λ j. (ap desk_of (sym leads_there.writes.role) j, sym is j, sym same j)) leads_there.writes,
+    omega (arith, leads_there.writes.room.place.0, same),
+  )
+
+  pub has_read : {rows : List Row} {after : MapSeat} → ReadsAll table given rows mid after → HasRead table spare call (slot_of found) rows before after
+  has_read {rows = rows} {after = after} read = let outcome = λ (desk : Desk) (c : WriterCall). decided table.shape desk c rows in let same = ap desk_of leads_there.writes.role in
+      let then = subst (λ (p : Desk × WriterCall). LeadsIn (2 * length rows + 1) table (call_of p.1) (outcome p.0 p.1) mid after) (λ j. (same j, is j)) read.leads in record {
+        own = looks.own;
+        rests = looks.rests;
+        row_set = read.row_set;
+        leads = record { writes = then.writes; grows = grows_both 1 (2 * length rows + 1) (2 * length rows + 2) (token before) (token mid) _ (token after) (omega arith) leads_there.grows then.grows; short = then.short };
+        had = subst (λ (p : Desk × WriterCall). KeyHas table p.1 rows (outcome p.0 p.1).1 after) (λ j. (same j, is j)) read.had;
+        marks = read.marks ∙ looks.marks;
+      }
+
+-- a find of the writer's own
+pub has_found : {table : Table} {spare : Spare} {key slot : ℕ} {rows : List Row} {before after : MapSeat} → HasRead table spare (Find key) slot rows before after
+    → RestsAt (token after).table spare after × (Gains (2 * length rows + 2) (token before) (model.Find key) (reply.Rows rows) (token after) × SlotsStay (token before) (token after))
+has_found {table = table} {spare = spare} {key = key} {rows = rows} {before = before} {after = after} read =
+    let ended_so = ends table spare before read.rests (2 * length rows + 2) (model.Find key) (reply.Rows rows) spare after refl read.leads in
+    (rests_own table spare after ended_so.0, (ended_so.1, (same_slots table spare before read.rests after ended_so.0, read.marks)))
+
+-- an update whose batch is refused, or gives a new set
+module _ {table : Table} {spare : Spare} {key slot : ℕ} {batch : List Delta} {rows : List Row} {before after : MapSeat} (read : HasRead table spare (Update key batch) slot rows before after) where
+  abbrev at_read : Desk
+  at_read = desk_with spare (Reading (Update key batch) slot [])
+
+  leads_by : (left : Result (List Row) ApplyFault) → applied (bound_of table.shape) rows batch ≡ left → LeadsIn (2 * length rows + 2) table (model.Update key batch) (renewed table.shape at_read (Update key batch) left) before after
+  leads_by left is = subst (λ (r : Result (List Row) ApplyFault). LeadsIn (2 * length rows + 2) table (model.Update key batch) (renewed table.shape at_read (Update key batch) r) before after) is read.leads
+
+  seen_by : (left : Result (List Row) ApplyFault) → applied (bound_of table.shape) rows batch ≡ left → after.me.0.seen ≡ read.had.log ++ ending (model.Update key batch) (renewed table.shape at_read (Update key batch) left).1
+  seen_by left is = read.had.seen ∙ ap (λ (r : Result (List Row) ApplyFault). read.had.log ++ ending (model.Update key batch) (renewed table.shape at_read (Update key batch) r).1) is
+
+  -- the map before the update is that of the table
+  own_map : (log : List Entry) (number : ℕ) → state_of (map_after table.shape log) key ≡ states.Rows number rows → state_of (map_after before.me.0.shape log) key ≡ states.Rows number rows
+  own_map log number had = ap (λ (t : Table). state_of (map_after t.shape log) key) read.own ∙ had
+
+  pub has_refused : (why : ApplyFault) → applied (bound_of table.shape) rows batch ≡ Err why
+      → RestsAt (token after).table spare after × ((gains : Gains (2 * length rows + 2) (token before) (model.Update key batch) (applied_reply (Err why)) (token after)) × KeyHad key rows (token before) gains.between × SlotsStay (token before) (token after))
+  has_refused why is =
+      let ended_so = ends table spare before read.rests (2 * length rows + 2) (model.Update key batch) (applied_reply (Err why)) spare after refl (leads_by (Err why) is) in
+      let log_is = before_last ((token before).seen ++ ended_so.1.between) read.had.log _ _ (sym ended_so.1.seen ∙ seen_by (Err why) is) in
+      let had = ap (λ (l : List Entry). state_of (map_after before.me.0.shape l) key) log_is ∙ own_map read.had.log read.had.number read.had.state in
+      (rests_own table spare after ended_so.0, (ended_so.1, (read.had.number, had), (same_slots table spare before read.rests after ended_so.0, read.marks)))
+
+  module _ {left : List Row} (is : applied (bound_of table.shape) rows batch ≡ Ok left) where
+    pub has_renewed : HasSet table spare (2 * length rows + 2) (Update key batch) left before after
+    has_renewed = has_set read.rests (leads_by (Ok left) is) read.marks
+
+    still_has : state_of (map_after table.shape after.me.0.seen) key ≡ states.Rows read.had.number rows
+    still_has = let quiet = ap (λ (l : List Entry). read.had.log ++ l) (settled_quiet table.shape at_read (Update key batch) left (model.Update key batch)) ∙ append-nil read.had.log in
+        ap (λ (l : List Entry). state_of (map_after table.shape l) key) (seen_by (Ok left) is ∙ quiet) ∙ read.had.state
+
+    -- the key had the set until the update's entry, if it was done, or to the end
+    had_still : (near : key < table.shape.keys) (last : MapSeat) (steps sum : ℕ) (entries mine : List Entry) (then : Grows steps (token after) entries (token last)) (all : Grows sum (token before) mine (token last)) → entries_of entries 0 ≡ entries → (token before).seen ++ all.between ≡ (token after).seen ++ then.between → KeyHad key rows (token before) all.between
+    had_still near last steps sum entries mine then all ours same = let grows = has_renewed.grows in
+        had_before table.shape key read.had.number rows (token before) (token after) (token last) sum steps entries mine (ap (λ (t : Table). t.shape) read.own) near (grows.number ∙ ap number_of read.rests.writes.role) grows.own ours then all same grows.table still_has
+
+    module _ {given : WriterCall} (given_is : given ≡ Update key batch) (near : key < table.shape.keys) where
+      pub has_updated : {last : MapSeat} {after_spare : Spare} → PublishesSet table given left spare after_spare after last
+          → RestsAt (token last).table after_spare last × ((published : Publishes (2 * length rows + 2) (token before) (model.Update key batch) left (token last)) × KeyHad key rows (token before) published.gains.between)
+      has_updated {last = last} {after_spare = after_spare} put = let put_here = subst (λ (c : WriterCall). PublishesSet table c left spare after_spare after last) given_is put in
+          let so = has_published has_renewed refl put_here in let then = put_here.grows in let all = so.1.gains in
+          (so.0, (so.1, had_still near last _ _ _ _ then all refl (before_last ((token before).seen ++ all.between) ((token after).seen ++ then.between) _ _ (sym all.seen ∙ then.seen))))
+
+      pub has_not_updated : {counts : NoSlot} {last : MapSeat} {after_spare : Spare} → LacksSlot table given counts spare after_spare after last
+          → RestsAt (token last).table after_spare last × ((without : HasNoSlot (2 * length rows + 2) (token before) (model.Update key batch) counts (token last)) × KeyHad key rows (token before) without.grows.between)
+      has_not_updated {last = last} lacking = let so = has_lacked has_renewed given_is lacking in let then = lacking.grows in let all = so.1.grows in
+          (so.0, (so.1, had_still near last _ _ [] [] then all refl (sym (append-nil ((token before).seen ++ all.between)) ∙ sym all.seen ∙ then.seen ∙ append-nil ((token after).seen ++ then.between))))

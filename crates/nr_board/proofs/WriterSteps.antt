@@ -1,0 +1,258 @@
+-- The writer's steps on the table: the look of each call, and every later step.
+use Rattle.std.proofs.Common.{eq-eqb, inl, inr, ⊎_elim, nat_le, ◌≡◌, ℕ, suc, ◌+◌, ◌-◌, ◌*◌, ◌<◌, ◌≤◌, List, [], ◌++◌, Bool, true, false, cond, map, set, get_or, le-leb, length, take, refl, sym, ap, ◌∙◌, subst, arith, append-nil}
+use Rattle.std.specs.Prelude.{None, Some}
+use mathlib.Core.Option.{some}
+use lib.ListN.{get_elem?}
+use Rattle.atomic_table.specs.Seated.{TableId}
+use Rattle.atomic_table.specs.Table.{Allows, Me, State, carried_after}
+use Rattle.atomic_table.proofs.Lists.{at_map}
+use Rattle.nr_model.specs.Histories.{Entry, entries_of}
+use Rattle.nr_model.specs.Maps.{key_of as call_key, reply_to, state_of}
+use Rattle.nr_model.specs.declared.rows.Row.{Row}
+use Rattle.nr_model.specs.declared.calls.Call.{Call}
+use Rattle.nr_model.specs.declared.calls.Reply.TheVariants as reply
+use Rattle.nr_words.specs.SetWords.{encode}
+use Rattle.nr_core.proofs.Go.{goes}
+use Rattle.nr_core.proofs.Look.{looks}
+use Rattle.nr_core.proofs.ReadThrough.{read_next, read_set}
+use Rattle.nr_core.proofs.Guards.{no_some}
+use Rattle.nr_core.proofs.Settle.{key_same}
+use Rattle.nr_core.proofs.Sums.{here_after}
+use Rattle.nr_core.specs.Core.{AreNumbers, AtPlace, Core}
+use Rattle.nr_core.specs.Laws.{IsGivenCall}
+use Rattle.nr_core.specs.Operations.{becomes, going, place_of}
+use Rattle.nr_core.specs.declared.operation.Operation.{Operation}
+use Rattle.nr_core.specs.declared.operation.Operation.TheVariants.{Load, Store, Swap}
+use Rattle.nr_core.specs.Refusals.{if_not_busy}
+use Rattle.nr_core.specs.Roles.{held, holds, is_by, is_writer, taken, is_reader}
+use Rattle.nr_words.specs.KeyWords.{naming}
+use Rattle.nr_core.specs.Slots.{content, bound_of, name_number}
+use Rattle.nr_core.specs.States.{key_of}
+use Rattle.nr_core.specs.Steps.{CanStep, Goes, Looks, Stepped, Telling}
+use Rattle.nr_core.specs.Story.{call_of, ending, ending_at, map_after}
+use Rattle.nr_core.specs.Writer.{ended, looked, moved_to, swapped, went}
+use Rattle.nr_core.specs.declared.calls.NoSlot.{NoSlot}
+use Rattle.nr_core.specs.declared.calls.Step.{Step}
+use Rattle.nr_core.specs.declared.calls.Step.TheVariants.{Ended, Going}
+use Rattle.nr_core.specs.declared.calls.WReply.TheVariants as writer
+use Rattle.nr_core.specs.declared.calls.WriterCall.{WriterCall}
+use Rattle.nr_core.specs.declared.places.Place.{Place}
+use Rattle.nr_core.specs.declared.places.Place.TheVariants.{Idle, Leaving, Putting, Reading, Searching, Withdrawing}
+use Rattle.nr_core.specs.declared.roles.Desk.{Desk}
+use Rattle.nr_core.specs.declared.roles.Role.{Role}
+use Rattle.nr_core.specs.declared.calls.Refusal.TheVariants as refuse
+use Rattle.nr_core.specs.declared.roles.Role.TheVariants.{Writer}
+use Rattle.nr_core.specs.declared.shape.Shape.{Shape}
+use Rattle.nr_marks.proofs.GoMarks.{goes_marked}
+use Rattle.nr_marks.proofs.LookMarks.{looks_marked}
+use Rattle.nr_marks.specs.MarkSteps.{GoesMarks, LooksMarks, PutsMarks, went_marks}
+use Rattle.nr_marks.specs.Marked.{IsPresent, KnowsMarks, MarkTelling, NotesPresent, Remarked}
+use Rattle.nr_core.proofs.Choices.{by_cases}
+use Rattle.nr_board.proofs.Learning.{shows_kind}
+use Rattle.nr_board.proofs.Polled.{PolledAll, go_polled, look_polled}
+use Rattle.nr_marks.specs.Marks.{Marks, Past, gripped}
+use Rattle.nr_board.proofs.Lift.{Choice, knows_pasts, lifts}
+use Rattle.nr_board.proofs.Moves.{ActsGo, learned, learning}
+use Rattle.nr_board.specs.Entries.{AreCallers, acts_told, to_depart}
+use Rattle.nr_board.proofs.Room.{room_at}
+use Rattle.nr_board.proofs.Shortage.{Shortage, go_short, lacks_so, look_short}
+use Rattle.nr_board.specs.Callers.{caller_of}
+use Rattle.nr_board.specs.Plays.{Advances, Finds, Lacks, Leads, Looked, NotesTell, Put, SwapsAt, SwapsOrPuts, Room, Went, call_at, next_put, put_place}
+use Rattle.nr_board.specs.Rule.{Fits, Kept, counts, marks_of, role_of}
+use Rattle.nr_board.specs.Views.{View, desk_of, grip_of, number_of}
+
+-- the writer's own entries are told by 0
+writer_is : (role : Role) (desk : Desk) → role ≡ Writer desk → is_by (number_of role) role ≡ true
+writer_is role desk is = ap (λ r. is_by (number_of r) r) is
+
+writer_shape : (shape : Shape) (log : List Entry) (view : View) (desk : Desk) → view.role ≡ Writer desk → Fits shape log view → view.shape ≡ shape
+writer_shape shape log view desk is fits = fits.sized (let one : is_writer view.role ≡ 1 = ap is_writer is in omega arith)
+
+-- a call that ends is an entry of the writer's
+writer_entries : (shape : Shape) (call : Call) (step : Step) → call_key call < shape.keys → AreCallers shape (ending call step)
+writer_entries shape call Going near = tt
+writer_entries shape call (Ended (writer.Reply answer)) near = ((near, inl refl), tt)
+writer_entries shape call (Ended (writer.NoSlot counts)) near = tt
+
+-- one writer has one desk
+same_desk : (role : Role) (desk other : Desk) → role ≡ Writer desk → role ≡ Writer other → desk ≡ other
+same_desk role desk other is also = sym (ap desk_of is) ∙ ap desk_of also
+
+module _ (shape : Shape) (id : ℕ) (view : View) (desk : Desk) (is : view.role ≡ Writer desk) (operation : Operation) (tells : Telling) (notes : MarkTelling) (state : State (Unit {0}) View) (kept : Kept shape state) (at : get_elem? state.views id ≡ some view)
+    (step : Stepped shape state.words (map role_of state.views) kept.log id view.role operation tells) (marked : Remarked role_of marks_of shape state.words state.views kept.log id view operation step.after step.entries notes) (no_news : marked.news ≡ []) (call : Call) (outcome : Desk × Step) (role_told : step.after ≡ Writer outcome.0) (entries_told : step.entries ≡ ending call outcome.1) (near : call_key call < shape.keys) where
+  callers_told : AreCallers shape step.entries
+  callers_told = subst (AreCallers shape) (sym entries_told) (writer_entries shape call outcome.1 near)
+
+  acts_told_so : ActsGo view step.after step.entries marked.now
+  acts_told_so reads = absurd (let none : is_reader step.after ≡ 0 = ap is_reader role_told in omega arith)
+
+  sized : view.shape ≡ shape
+  sized = writer_shape shape kept.log view desk is (kept.fits id view at)
+
+  there_after : get_elem? (set (map role_of state.views) id step.after) id ≡ some (Writer outcome.0)
+  there_after = here_after (map role_of state.views) id view.role step.after (at_map role_of state.views id view at) ∙ ap some role_told
+
+  room_after : Room view.shape outcome.0
+  room_after = subst (λ (s : Shape). Room s outcome.0) (sym sized) (room_at shape _ (set (map role_of state.views) id step.after) (kept.log ++ step.entries) step.core id outcome.0 there_after)
+
+  numbers_after : AreNumbers view.shape (map_after view.shape (kept.log ++ step.entries)) outcome.0.numbers
+  numbers_after = subst (λ (s : Shape). AreNumbers s (map_after s (kept.log ++ step.entries)) outcome.0.numbers) (sym sized) (step.core.knows id (Writer outcome.0) there_after).numbers
+
+  abbrev pub next_view : View
+  next_view = learned view step.after (kept.log ++ step.entries) step.entries marked.now marked.news
+
+  short_after : (counts : NoSlot) → outcome.1 ≡ Ended (writer.NoSlot counts) → Shortage shape kept.log desk call outcome counts → PolledAll shape desk.retired marked.now.polls → (table : TableId) → Lacks call counts (caller_of table next_view)
+  short_after counts without shortage polled =
+      let none_added : step.entries ≡ [] = entries_told ∙ ap (ending call) without in
+      let same_log : kept.log ≡ kept.log ++ step.entries = sym (append-nil kept.log) ∙ ap (λ (l : List Entry). kept.log ++ l) (sym none_added) in
+      let desk_is : outcome.0 ≡ moved_to desk Idle = shortage.none.same in
+      lacks_so shape _ (set (map role_of state.views) id step.after) (kept.log ++ step.entries) step.core id outcome.0 there_after
+      (subst (λ (d : Desk). shape.slots ≤ d.fresh) (sym desk_is) shortage.full) (λ slot. ap (λ (d : Desk). taken slot d.place) desk_is)
+      call counts (shortage.none.counted ∙ ap (λ (d : Desk). record { live = shape.slots - length d.retired; held = length d.retired }) (sym desk_is))
+      (subst (λ (l : List Entry). reply_to (map_after shape l) call ≡ reply.Done) same_log shortage.done)
+      next_view (subst (λ (d : Desk). PolledAll shape d.retired marked.now.polls) (sym desk_is) polled) sized refl role_told
+
+  pub leads_so : ((counts : NoSlot) → outcome.1 ≡ Ended (writer.NoSlot counts) → Shortage shape kept.log desk call outcome counts × PolledAll shape desk.retired marked.now.polls) → Advances view (ending call outcome.1) next_view → Leads call outcome view next_view
+  leads_so short advances = record { role = role_told; advances = advances; room = room_after; numbers = numbers_after; short = λ counts without. short_after counts without (short counts without).0 (short counts without).1 }
+
+  -- the writer's view after the step
+  pub writes : (then : View → Type 0) → (Advances view (ending call outcome.1) next_view → then next_view) → Choice shape id view operation tells notes state kept step marked then
+  writes then tell = learning shape id view operation tells notes state kept at step marked (ap number_of role_told ∙ sym (ap number_of is)) sized callers_told acts_told_so then (writer_is view.role desk is) no_news (ending call outcome.1) entries_told tell
+
+pub looks_so : (shape : Shape) (slots id : ℕ) (me : Me (Unit {0}) View) (desk : Desk) (call : WriterCall) → me.0.role ≡ Writer desk → desk.place ≡ Idle → IsGivenCall (bound_of shape) call → key_of call < shape.keys
+    → Allows (Kept shape) slots id me (key_of call) (λ word. word) (λ found after. (other : Desk) → me.0.role ≡ Writer other → Looked other call found me.0 after.0)
+looks_so shape slots id me desk call is idle given near = let view = me.0 in let tells = Looks shape desk call in let notes = LooksMarks shape view.marks desk call in let operation = Load (key_of call) in
+    lifts shape id view operation tells notes slots me.1 (λ found next. (other : Desk) → view.role ≡ Writer other → Looked other call found view next) view.pasts (subst (λ r. CanStep shape id r operation tells) (sym is) (looks shape id desk call idle given near))
+    (looks_marked role_of marks_of shape id view view.pasts desk call idle near is) (knows_pasts shape id view)
+    (λ state kept at step marked. let found : ℕ = get_or state.words (key_of call) 0 in let outcome = looked shape desk call found in let c = call_of call in
+    let there : get_elem? (map role_of state.views) id ≡ some (Writer desk) = at_map role_of state.views id view at ∙ ap some is in
+    let short : (counts : NoSlot) → outcome.1 ≡ Ended (writer.NoSlot counts) → Shortage shape kept.log desk c outcome counts × PolledAll shape desk.retired marked.now.polls = λ counts without. (look_short shape state.words (map role_of state.views) kept.log kept.core id desk there counts call near without, look_polled shape view.marks desk call found step.after (kept.log ++ step.entries) marked.now marked.news marked.told (counts, without)) in
+    let size = writer_shape shape kept.log view desk is (kept.fits id view at) in
+    let near_call : call_key c < shape.keys = subst (λ (k : ℕ). k < shape.keys) (sym (key_same call)) near in
+    writes shape id view desk is operation tells notes state kept at step marked marked.told.1 c outcome step.told.0 step.told.1 near_call (λ next. (other : Desk) → view.role ≡ Writer other → Looked other call found view next)
+    (λ advances other also. let next = learned view step.after (kept.log ++ step.entries) step.entries marked.now marked.news in
+    subst (λ (d : Desk). Looked d call found view next) (same_desk view.role desk other is also) (record {
+      leads = subst (λ (s : Shape). Leads c (looked s desk call found) view next) (sym size) (leads_so shape id view desk is operation tells notes state kept at step marked marked.told.1 c outcome step.told.0 step.told.1 near_call short advances);
+      marks = subst (λ (p : Shape × List Past). LooksMarks p.0 view.marks desk call found step.after (kept.log ++ step.entries) marked.now p.1) (λ j. (sym size j, marked.told.1 j)) marked.told;
+    })))
+
+-- no later step of a call learns of readers
+put_quiet : (b : Bool) (marks : Marks) (at slot word : ℕ) (after : Role) (log : List Entry) (now : Marks) (news : List Past) → PutsMarks b marks at slot word after log now news → news ≡ []
+put_quiet true marks at slot word after log now news told = told.1
+put_quiet false marks at slot word after log now news told = told.4
+
+went_quiet : (shape : Shape) (marks : Marks) (known : List Past) (desk : Desk) (place : Place) (word : ℕ) (after : Role) (log : List Entry) (now : Marks) (news : List Past) → went_marks shape marks known desk place word after log now news → news ≡ []
+went_quiet shape marks known desk Idle word after log now news told = told.1
+went_quiet shape marks known desk (Reading call slot got) word after log now news told = told.1
+went_quiet shape marks known desk (Leaving key) word after log now news told = told.1
+went_quiet shape marks known desk (Withdrawing key) word after log now news told = told.1
+went_quiet shape marks known desk (Searching call rows poll) word after log now news told = told.0
+went_quiet shape marks known desk (Putting call rows slot departed index) word after log now news told = put_quiet (nat_le index (2 * length rows)) marks (key_of call) slot word after log now news told
+
+-- what the call of a place ends with
+ending_there : (place : Place) (step : Step) → if_not_busy place ≡ None → ending_at place step ≡ ending (call_at place) step
+ending_there Idle step busy = absurd (no_some (Some refuse.NotBusy) refuse.NotBusy refl busy)
+ending_there (Reading call slot got) step busy = refl
+ending_there (Leaving key) step busy = refl
+ending_there (Withdrawing key) step busy = refl
+ending_there (Searching call rows poll) step busy = refl
+ending_there (Putting call rows slot departed index) step busy = refl
+
+-- the key of a call that goes on is one of the map's
+near_there : (shape : Shape) (words : List ℕ) (roles : List Role) (log : List Entry) → Core shape words roles log → (id : ℕ) (desk : Desk) → get_elem? roles id ≡ some (Writer desk) → (place : Place) → desk.place ≡ place → if_not_busy place ≡ None → call_key (call_at place) < shape.keys
+near_there shape words roles log core id desk there place is busy = go place busy (subst (AtPlace shape words (map_after shape log) (held roles) desk.fresh desk.retired) is (core.knows id (Writer desk) there).place)
+  where
+    of_call : (call : WriterCall) → key_of call < shape.keys → call_key (call_of call) < shape.keys
+    of_call call near = subst (λ (k : ℕ). k < shape.keys) (sym (key_same call)) near
+
+    go : (at : Place) → if_not_busy at ≡ None → AtPlace shape words (map_after shape log) (held roles) desk.fresh desk.retired at → call_key (call_at at) < shape.keys
+    go Idle idle stands = absurd (no_some (Some refuse.NotBusy) refuse.NotBusy refl idle)
+    go (Reading call slot got) busy reads = of_call call reads.near
+    go (Leaving key) busy stands = stands.1.near
+    go (Withdrawing key) busy stands = stands.near
+    go (Searching call rows poll) busy stands = of_call call stands.0.near
+    go (Putting call rows slot departed index) busy stands = of_call call stands.wants.near
+
+-- the words of the key's set are read on, and a swap finds the key's word
+finds_so : (shape : Shape) (words : List ℕ) (roles : List Role) (log : List Entry) → Core shape words roles log → (id : ℕ) (desk : Desk) → get_elem? roles id ≡ some (Writer desk) → (marks : Marks) → ((key : ℕ) → key < shape.keys → get_or marks.names key 0 ≡ name_number (get_or words key 0))
+    → (place : Place) → desk.place ≡ place → Finds shape place (get_or words (place_of (going shape desk place)) 0) log marks
+finds_so shape words roles log core id desk there marks names place is = go place (subst (AtPlace shape words (map_after shape log) (held roles) desk.fresh desk.retired) is (core.knows id (Writer desk) there).place)
+  where
+    swaps : (key : ℕ) → key < shape.keys → SwapsAt shape key (get_or words key 0) log marks
+    swaps key near = record { state = shows_kind shape words (get_or words key 0) (state_of (map_after shape log) key) (core.shows key near); name = names key near }
+
+    go : (at : Place) → AtPlace shape words (map_after shape log) (held roles) desk.fresh desk.retired at → Finds shape at (get_or words (place_of (going shape desk at)) 0) log marks
+    go Idle stands = tt
+    go (Reading call slot got) reads = (reads.rows, read_set shape words roles log core (key_of call) slot got reads, read_next shape words roles log core (key_of call) slot got reads ∙ ap (λ (n : ℕ). take n (encode reads.rows)) (let one : suc (length got) ≡ length got + 1 = omega arith in one), reads.more, reads.number, reads.full)
+    go (Leaving key) stands = swaps key stands.1.near
+    go (Withdrawing key) stands = swaps key stands.near
+    go (Searching call rows poll) stands = tt
+    go (Putting call rows slot departed index) stands =
+        by_cases (λ b. SwapsOrPuts b shape (key_of call) (get_or words (place_of (cond {A = Operation} b (Store (content shape slot index) (get_or (encode rows) index 0)) (Swap (key_of call) (naming slot departed)))) 0) log marks) (nat_le index (2 * length rows))
+        (λ _. tt) (λ _. swaps (key_of call) stands.wants.near)
+
+-- the notes that are new among the polls tell readers as they are
+notes_so : (shape : Shape) (state : State (Unit {0}) View) (kept : Kept shape state) (polls now : List Past) → NotesPresent role_of marks_of state.views polls now → NotesTell kept.log polls now
+notes_so shape state kept polls now present at note there = ⊎_elim inl
+    (λ (p : IsPresent role_of marks_of state.views note). let fits = kept.fits p.0 p.1 p.3 in
+    let acts = fits.acts (let one : is_reader p.1.role ≡ 1 = ap is_reader p.4 in omega arith) in
+    let count : note.count ≡ p.1.marks.acts = ap (λ (n : Past). n.count) p.5 in
+    let slot : to_depart note.slot ≡ to_depart (gripped (grip_of p.1.role)) = ap (λ (n : Past). to_depart n.slot) p.5 ∙ sym (ap (λ r. to_depart (gripped (grip_of r))) p.4) in
+    let mine : acts_told (entries_of kept.log note.reader) ≡ acts_told p.1.mine = ap acts_told (fits.own note.reader (ap (is_by note.reader) p.4 ∙ eq-eqb note.reader note.reader refl)) in
+    inr (omega arith)) (present at note there)
+
+pub goes_so : (shape : Shape) (slots id : ℕ) (me : Me (Unit {0}) View) (desk : Desk) → me.0.role ≡ Writer desk → if_not_busy desk.place ≡ None
+    → let operation = going shape desk desk.place in Allows (Kept shape) slots id me (place_of operation) (becomes operation) (λ found after. (other : Desk) → me.0.role ≡ Writer other → Went other found me.0 after.0)
+goes_so shape slots id me desk is busy = let view = me.0 in let tells = Goes shape desk in let notes = GoesMarks shape view.marks view.pasts desk in let operation = going shape desk desk.place in let c = call_at desk.place in
+    lifts shape id view operation tells notes slots me.1 (λ found next. (other : Desk) → view.role ≡ Writer other → Went other found view next) view.pasts (subst (λ r. CanStep shape id r operation tells) (sym is) (goes shape id desk busy))
+    (goes_marked role_of marks_of shape id view view.pasts desk is busy) (knows_pasts shape id view)
+    (λ state kept at step marked. let found : ℕ = get_or state.words (place_of operation) 0 in let outcome = went shape desk desk.place found in
+    let there : get_elem? (map role_of state.views) id ≡ some (Writer desk) = at_map role_of state.views id view at ∙ ap some is in
+    let own = subst (λ r. KnowsMarks role_of marks_of shape state.words state.views kept.log r view.marks) is (kept.marked.each id view at) in let sweep = own.sweep in
+    let short : (counts : NoSlot) → outcome.1 ≡ Ended (writer.NoSlot counts) → Shortage shape kept.log desk c outcome counts × PolledAll shape desk.retired marked.now.polls = λ counts without. (go_short shape state.words (map role_of state.views) kept.log kept.core id desk there counts without, go_polled shape view.marks view.pasts desk found step.after (kept.log ++ step.entries) marked.now marked.news state.views desk.place sweep marked.told (counts, without)) in
+    let size = writer_shape shape kept.log view desk is (kept.fits id view at) in
+    let entries : step.entries ≡ ending c outcome.1 = step.told.1 ∙ ending_there desk.place outcome.1 busy in
+    let near = near_there shape state.words (map role_of state.views) kept.log kept.core id desk there desk.place refl busy in
+    let no_news = went_quiet shape view.marks view.pasts desk desk.place found step.after (kept.log ++ step.entries) marked.now marked.news marked.told in
+    writes shape id view desk is operation tells notes state kept at step marked no_news c outcome step.told.0 entries near (λ next. (other : Desk) → view.role ≡ Writer other → Went other found view next)
+    (λ advances other also. let next = learned view step.after (kept.log ++ step.entries) step.entries marked.now marked.news in
+    subst (λ (d : Desk). Went d found view next) (same_desk view.role desk other is also) (record {
+      leads = subst (λ (s : Shape). Leads c (went s desk desk.place found) view next) (sym size) (leads_so shape id view desk is operation tells notes state kept at step marked no_news c outcome step.told.0 entries near short advances);
+      log = kept.log;
+      seen = ap (λ (l : List Entry). kept.log ++ l) (entries ∙ ap (λ (s : Shape). ending c (went s desk desk.place found).1) (sym size));
+      finds = subst (λ (s : Shape). Finds s desk.place found kept.log view.marks) (sym size) (finds_so shape state.words (map role_of state.views) kept.log kept.core id desk there view.marks own.names desk.place refl);
+      notes = notes_so shape state kept view.marks.polls marked.now.polls marked.noted;
+      marks = subst (λ (p : Shape × List Past). GoesMarks p.0 view.marks view.pasts desk found step.after (kept.log ++ step.entries) marked.now p.1) (λ j. (sym size j, no_news j)) marked.told;
+    })))
+
+-- what a step told, told otherwise
+tells_also : (holds : State (Unit {0}) View → Type 0) (slots id : ℕ) (me : Me (Unit {0}) View) (place : ℕ) (f : ℕ → ℕ) (then also : ℕ → Me (Unit {0}) View → Type 0) → ((found : ℕ) (after : Me (Unit {0}) View) → then found after → also found after)
+    → Allows holds slots id me place f then → Allows holds slots id me place f also
+tells_also holds slots id me place f then also so allows state kept wide at small = let step = allows state kept wide at small in (step.0, step.1, step.2, step.3, so (get_or state.words place 0) (step.0, carried_after me.1 step.1) step.4)
+
+-- a put leads to the next one, whatever word it found
+put_leads : (desk : Desk) (call : WriterCall) (rows : List Row) (slot departed index found : ℕ) (old new : View) → desk.place ≡ Putting call rows slot departed index → index ≤ 2 * length rows → Went desk found old new → Put desk old new
+put_leads desk call rows slot departed index found old new is low went_so =
+    let after : Desk × Step = (moved_to desk (Putting call rows slot departed (index + 1)), Going) in
+    let outcome : went old.shape desk desk.place found ≡ after = ap (λ (p : Place). went old.shape desk p found) is
+    ∙ ap (λ (b : Bool). cond {A = Desk × Step} b after (swapped desk found, ended reply.Done)) (le-leb index (2 * length rows) low) in
+    let next : next_put desk ≡ after.0 = ap (λ (p : Place). moved_to desk (put_place p)) is in
+    let leads = went_so.leads in record {
+      role = leads.role ∙ ap (λ (o : Desk × Step). Writer o.0) outcome ∙ sym (ap Writer next);
+      advances = subst (λ (s : Step). Advances old (ending (call_at desk.place) s) new) (ap (λ (o : Desk × Step). o.1) outcome) leads.advances;
+      room = subst (Room old.shape) (ap (λ (o : Desk × Step). o.0) outcome ∙ sym next) leads.room;
+      numbers = subst (λ (o : Desk × Step). AreNumbers old.shape (map_after old.shape new.seen) o.0.numbers) outcome leads.numbers;
+      marks = (subst (λ (b : Bool). PutsMarks b old.marks (key_of call) slot found new.role new.seen new.marks []) (le-leb index (2 * length rows) low) (subst (λ (p : Place). went_marks old.shape old.marks old.pasts desk p found new.role new.seen new.marks []) is went_so.marks)).0;
+    }
+
+pub puts_so : (shape : Shape) (slots id : ℕ) (me : Me (Unit {0}) View) (desk : Desk) (call : WriterCall) (rows : List Row) (slot departed index : ℕ) → me.0.role ≡ Writer desk → desk.place ≡ Putting call rows slot departed index → index ≤ 2 * length rows
+    → let word = get_or (encode rows) index 0 in Allows (Kept shape) slots id me (content shape slot index) (λ _. word) (λ _ after. (other : Desk) → me.0.role ≡ Writer other → Put other me.0 after.0)
+puts_so shape slots id me desk call rows slot departed index is place_is low =
+    let at = moved_to desk (Putting call rows slot departed index) in
+    let word : ℕ = get_or (encode rows) index 0 in
+    let operation : going shape at at.place ≡ Store (content shape slot index) word = ap (λ (b : Bool). cond {A = Operation} b (Store (content shape slot index) word) (Swap (key_of call) (naming slot departed))) (le-leb index (2 * length rows) low) in
+    let at_is : me.0.role ≡ Writer at = is ∙ (λ j. Writer (record desk { place = place_is j })) in
+    let told : ℕ → Me (Unit {0}) View → Type 0 = λ found after. (other : Desk) → me.0.role ≡ Writer other → Went other found me.0 after.0 in
+    let allows = subst (λ (o : Operation). Allows (Kept shape) slots id me (place_of o) (becomes o) told) operation (goes_so shape slots id me at at_is refl) in
+    tells_also (Kept shape) slots id me (content shape slot index) (λ _. word) told (λ _ after. (other : Desk) → me.0.role ≡ Writer other → Put other me.0 after.0)
+    (λ found after so other also. put_leads other call rows slot departed index found me.0 after.0 (ap (λ (d : Desk). d.place) (same_desk me.0.role other at also at_is)) low (so other also)) allows

@@ -1,0 +1,40 @@
+use Rattle.std.proofs.Common.{ap, arith, refl, subst, sym, ℕ, ◌<◌, ◌∙◌, ◌≡◌}
+use Rattle.atomic_table.specs.Table.{Allows}
+use Rattle.nr_core.specs.Slots.{departures}
+use Rattle.nr_words.specs.declared.layout.Layout.{Layout}
+use Rattle.nr_words.specs.Places.{Departures, place_of}
+use Rattle.nr_core.specs.States.{retired_at}
+use Rattle.nr_core.specs.declared.places.Place.TheVariants.{Searching}
+use Rattle.nr_core.specs.declared.roles.Desk.{Desk}
+use Rattle.nr_core.specs.declared.roles.Role.TheVariants.{Writer}
+use Rattle.nr_board.proofs.PollNotes.{at_get}
+use Rattle.nr_board.proofs.BoardPlaces.{departures_at, departures_in, stands}
+use Rattle.nr_board.proofs.WriterSeats.{desk_at, gone_seat}
+use Rattle.nr_board.proofs.WriterSteps.{goes_so}
+use Rattle.nr_board.specs.Callers.{Table}
+use Rattle.nr_board.specs.Plays.{RoomAt, Went}
+use Rattle.nr_board.specs.Rule.{Kept}
+use Rattle.nr_board.specs.WriterSeats.{IsPolling, MapSeat}
+use Rattle.nr_board.proofs.board.Board.poll.Goals as goal
+
+inside : (table : Table) (slot : ℕ) (seat : MapSeat) → IsPolling table slot seat → slot < table.shape.slots
+inside table slot seat polling = let few = subst (RoomAt table.shape polling.desk) polling.place polling.writes.room.place in
+    let low = polling.writes.room.inside polling.poll (retired_at polling.desk polling.poll) (at_get polling.desk.retired polling.poll few) in let is = polling.slot_is in omega arith
+
+pub departures-place-requires-clause-has : goal.departures-place-requires-clause-has
+departures-place-requires-clause-has c = let low = inside c.args.self.now c.args.slot c.args.seat.now c.requires in omega (arith, low, ap (λ (l : Layout). l.slots) c.layout.ensures.value)
+
+pub load-requires : goal.load-requires
+load-requires c = let shared = c.self.inside.table.shared in let board = stands c.self.view_is c.self.invariant in let seat = c.args.seat.now in let polling = c.requires in
+    let low = inside c.args.self.now c.args.slot seat polling in
+    let is : c.departures-place.result ≡ departures c.args.self.now.shape c.args.slot = c.departures-place.ensures.place ∙ ap (λ (l : Layout). place_of l (Departures c.args.slot)) c.layout.ensures.value in
+    let n : ℕ = shared.table_id.slots in let at = record polling.desk { place = Searching polling.call polling.rows polling.poll } in
+    let place = departures_at board c.args.slot low is ∙ ap (departures shared.key) polling.slot_is in (
+      ap (λ (t : Table). t.id) (polling.writes.own ∙ sym c.self.view_is),
+      departures_in board c.args.slot low is,
+      subst (λ (p : ℕ). Allows (Kept shared.key) n seat.id seat.me p (λ w. w) (λ found after. (other : Desk) → seat.me.0.role ≡ Writer other → Went other found seat.me.0 after.0)) (sym place)
+          (goes_so shared.key n seat.id seat.me at (desk_at seat.me.0.role polling.desk (Searching polling.call polling.rows polling.poll) polling.writes.role polling.place) refl),
+    )
+
+pub returns : goal.returns
+returns c = λ desk is. gone_seat c.args.self.now c.args.seat.now c.load.new.seat c.load.ensures.0 c.requires.writes.own desk c.load.result (c.load.ensures.2 desk is)

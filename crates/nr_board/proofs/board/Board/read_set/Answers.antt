@@ -1,0 +1,19 @@
+use Rattle.std.proofs.Common.{arith, rules, subst, sym, ◌∙◌, refl}
+use Rattle.nr_board.proofs.ReadingOn.{begins, reads_all}
+use Rattle.nr_board.specs.NamedRows.{ReadTo, ReadsAll}
+use Rattle.nr_board.specs.WriterSeats.{MapSeat}
+use Rattle.nr_board.proofs.board.Board.read_set.Goals as goal
+
+pub refill-requires : goal.refill-requires
+refill-requires g c = let map = c.args.self.now in let call = g.G.Given.call in let begin = c.content-begin.result in let mid = c.read_on-count.new.seat in
+    let first = begins map c.args.self.now call begin c.args.slot c.read_on-count.result c.args.seat.now mid refl c.content-begin.ensures c.requires.key c.requires.writer c.read_on-count.ensures in record {
+      count = first.0;
+      row_set = (first.1.row_set.0, omega (arith, first.1.row_set.1, c.rows.ensures.value, c.rows.ensures.bounded));
+      ready = subst (λ (before : MapSeat). ReadTo map call begin before mid 1) (sym c.of-before.ensures) first.1;
+    }
+
+pub returns : goal.returns
+returns g c = let map = c.args.self.now in let call = g.G.Given.call in let begin = c.content-begin.result in let mid = c.read_on-count.new.seat in let source = c.refill.new.source in let gave = c.refill.ensures.gave in
+    let first = begins map c.args.self.now call begin c.args.slot c.read_on-count.result c.args.seat.now mid refl c.content-begin.ensures c.requires.key c.requires.writer c.read_on-count.ensures in
+    subst (ReadsAll map call (g.R.RowRoom.held c.refill.new.self) c.args.seat.now) (search rules)
+    (reads_all map call source.begin c.args.seat.now mid source.seat.now source.before.now.value source.board.now c.read_on-count.result (g.R.RowRoom.held c.refill.new.self) first.0 c.refill.ensures.set c.refill.ensures.rows gave.1 (gave.3 ∙ c.of-before.ensures) c.refill.ensures.ready)

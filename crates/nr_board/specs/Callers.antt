@@ -1,0 +1,100 @@
+-- What contracts see of a token, and what its steps add to it.
+use Rattle.std.specs.Prelude.{◌≡◌, ℕ, ◌+◌, List, [], ◌∷◌, ◌++◌, Option}
+use Rattle.atomic_table.specs.Seated.{TableId}
+use Rattle.atomic_table.specs.declared.shared.Seat.{Seat}
+use Rattle.nr_model.specs.declared.calls.Call.{Call}
+use Rattle.nr_model.specs.declared.calls.Reply.{Reply}
+use Rattle.nr_model.specs.Maps.{PartialMap}
+use Rattle.nr_model.specs.Histories.{Entry, IsLegal, after, entries_of}
+use Rattle.nr_core.specs.declared.shape.Shape.{Shape}
+use Rattle.nr_core.specs.declared.places.Retired.{Retired}
+use Rattle.nr_core.specs.Story.{entry, opening_map as map_opening}
+use Rattle.nr_marks.specs.Marks.{Marks, Past, gripped}
+use Rattle.nr_board.specs.Entries.{AreCallers}
+use Rattle.nr_board.specs.Views.{View, desk_of, grip_of, number_of}
+
+-- which map it is, and its sizes
+pub record Table : Type 0 where
+  pub id : TableId
+  pub shape : Shape
+
+pub record Caller : Type 0 where
+  -- its map
+  pub table : Table
+  -- 0 is the writer, the others are the readers
+  pub number : ℕ
+  -- the beginning of the map's history that it knows
+  pub seen : List Entry
+  -- its own entries, in their order
+  pub mine : List Entry
+  -- its atomic steps since the opening
+  pub steps : ℕ
+  -- the writer's slots: how many were ever taken, and those that no key names any more, oldest first
+  pub fresh : ℕ
+  pub retired : List Retired
+  -- the number of each key, by the writer's list
+  pub numbers : List ℕ
+  -- the slot that a reader holds
+  pub holds : Option ℕ
+  -- put numbers, a reader's acts, and the polls of the writer's last call that found their slots held
+  pub marks : Marks
+  -- how readers were when the writer learnt it
+  pub pasts : List Past
+
+abbrev pub caller_of : TableId → View → Caller
+caller_of id view = record {
+  table = record { id = id; shape = view.shape };
+  number = number_of view.role;
+  seen = view.seen;
+  mine = view.mine;
+  steps = view.steps;
+  fresh = (desk_of view.role).fresh;
+  retired = (desk_of view.role).retired;
+  numbers = (desk_of view.role).numbers;
+  holds = gripped (grip_of view.role);
+  marks = view.marks;
+  pasts = view.pasts;
+}
+
+abbrev pub token : Seat (Unit {0}) View → Caller
+token seat = caller_of seat.table_id seat.me.0
+
+-- the map at opening, and after what the caller has seen
+abbrev pub opening_map : Table → PartialMap
+opening_map table = map_opening table.shape
+
+abbrev pub map_seen : Caller → PartialMap
+map_seen caller = after (opening_map caller.table) caller.seen
+
+-- in so many steps these entries of the caller's became the last ones of one legal history, which begins with all that the caller had seen
+pub record Grows (steps : ℕ) (old : Caller) (entries : List Entry) (new : Caller) : Type 0 where
+  pub table : new.table ≡ old.table
+  pub number : new.number ≡ old.number
+  pub between : List Entry
+  pub seen : new.seen ≡ (old.seen ++ between) ++ entries
+  pub mine : new.mine ≡ old.mine ++ entries
+  pub legal : IsLegal (opening_map old.table) new.seen
+  -- of the caller's calls the history has just those that it made, each once
+  pub own : entries_of new.seen new.number ≡ new.mine
+  -- and of others' only finds and requests of the map's readers, and calls of its writer
+  pub callers : AreCallers old.table.shape new.seen
+  pub steps_made : new.steps ≡ old.steps + steps
+  -- it learnt nothing of readers
+  pub pasts : new.pasts ≡ old.pasts
+
+-- the caller's call was answered so, and is one entry of that history
+abbrev pub Gains : ℕ → Caller → Call → Reply → Caller → Type 0
+Gains steps old call reply new = Grows steps old (entry old.number call reply ∷ []) new
+
+-- so many steps that add nothing and learn nothing
+pub record Rests (steps : ℕ) (old new : Caller) : Type 0 where
+  pub table : new.table ≡ old.table
+  pub number : new.number ≡ old.number
+  pub seen : new.seen ≡ old.seen
+  pub mine : new.mine ≡ old.mine
+  pub steps_made : new.steps ≡ old.steps + steps
+  pub pasts : new.pasts ≡ old.pasts
+
+-- the caller's own entries are those that it knows of itself
+abbrev pub KnowsOwn : Caller → Type 0
+KnowsOwn caller = entries_of caller.seen caller.number ≡ caller.mine

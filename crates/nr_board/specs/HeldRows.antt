@@ -1,0 +1,25 @@
+-- A reader's seat as the source of the rows that it holds.
+use Rattle.std.specs.Prelude.{◌≡◌, ℕ, ◌+◌, ◌*◌}
+use Rattle.std.proofs.Common.{◌∙◌, refl, arith}
+use Rattle.nr_board.specs.declared.held_rows.HeldRows.{HeldRows}
+use Rattle.nr_board.specs.Callers.{Rests, token}
+
+-- so many rows were read by the same seat
+pub record Gave (first : HeldRows) (count : ℕ) (last : HeldRows) : Type 0 where
+  pub name : last.seat.ghost_name ≡ first.seat.ghost_name
+  pub board : last.board.now ≡ first.board.now
+  pub begin : last.begin ≡ first.begin
+  pub marks : last.seat.now.me.0.marks ≡ first.seat.now.me.0.marks
+  pub rests : Rests (2 * count) (token first.seat.now) (token last.seat.now)
+
+pub gives_none : (source : HeldRows) → Gave source 0 source
+gives_none source = record { name = refl; board = refl; begin = refl; marks = refl; rests = record { table = refl; number = refl; seen = refl; mine = refl; steps_made = omega arith; pasts = refl } }
+
+pub gives_more : (first mid last : HeldRows) (count : ℕ) → Gave first count mid → Gave mid 1 last → Gave first (count + 1) last
+gives_more first mid last count a b = record {
+  name = b.name ∙ a.name;
+  board = b.board ∙ a.board;
+  begin = b.begin ∙ a.begin;
+  marks = b.marks ∙ a.marks;
+  rests = record { table = b.rests.table ∙ a.rests.table; number = b.rests.number ∙ a.rests.number; seen = b.rests.seen ∙ a.rests.seen; mine = b.rests.mine ∙ a.rests.mine; steps_made = b.rests.steps_made ∙ omega (arith, a.rests.steps_made); pasts = b.rests.pasts ∙ a.rests.pasts };
+}

@@ -1,0 +1,17 @@
+pub mod Views
+pub mod Entries
+pub mod Callers
+pub mod Rule
+pub mod Notes
+pub mod Plays
+pub mod Seats
+pub mod Kinds
+pub mod Meetings
+pub mod Learning
+pub mod Spares
+pub mod Polls
+pub mod WriterSeats
+pub mod Searches
+pub mod WriterAnswers
+pub mod HeldRows
+pub mod NamedRows

@@ -1,0 +1,67 @@
+-- What a token learns of the history by itself, and of another token.
+use Rattle.std.specs.Prelude.{◌≡◌, ℕ, ◌+◌, List, ◌++◌}
+use mathlib.Core.Option.{some}
+use lib.ListN.{get_elem?}
+use Rattle.nr_model.specs.Histories.{IsLegal, entries_of}
+use Rattle.nr_model.specs.Maps.{state_of}
+use Rattle.nr_board.specs.declared.answers.KeyKind.{KeyKind}
+use Rattle.nr_board.specs.Callers.{Caller, map_seen, opening_map}
+use Rattle.nr_board.specs.Kinds.{kind_of}
+use Rattle.nr_core.specs.declared.places.Place.TheVariants.{Idle}
+use Rattle.nr_core.specs.declared.roles.Desk.{Desk}
+use Rattle.nr_marks.specs.Exact.{Lists}
+use Rattle.nr_marks.specs.Marks.{Past}
+use Rattle.nr_marks.specs.Pasts.{Current}
+use Rattle.nr_board.specs.Entries.{AreCallers}
+use Rattle.nr_board.specs.Rule.{StartsWith}
+
+-- in so many steps, none of which adds an entry, the token learnt a legal history that begins with all that it had seen
+pub record Learns (steps : ℕ) (old new : Caller) : Type 0 where
+  pub table : new.table ≡ old.table
+  pub number : new.number ≡ old.number
+  pub seen : StartsWith new.seen old.seen
+  pub mine : new.mine ≡ old.mine
+  pub legal : IsLegal (opening_map old.table) new.seen
+  -- of the caller's calls the history has just those that it made, each once
+  pub own : entries_of new.seen new.number ≡ new.mine
+  -- and of others' only finds and requests of the map's readers, and calls of its writer
+  pub callers : AreCallers old.table.shape new.seen
+  pub steps_made : new.steps ≡ old.steps + steps
+  -- the writer's slots and its list of numbers, a reader's hold, and the marks stay
+  pub fresh : new.fresh ≡ old.fresh
+  pub retired : new.retired ≡ old.retired
+  pub numbers : new.numbers ≡ old.numbers
+  pub holds : new.holds ≡ old.holds
+  pub marks : new.marks ≡ old.marks
+  -- it forgets nothing that it knew of readers
+  pub news : List Past
+  pub pasts : new.pasts ≡ news ++ old.pasts
+
+-- how a reader is, and the writer's desk between its calls, as their tokens show it
+abbrev pub how_is : Caller → Past
+how_is reader = record { reader = reader.number; count = reader.marks.acts; slot = reader.holds; put = reader.marks.put }
+
+abbrev pub desk_seen : Caller → Desk
+desk_seen writer = record { place = Idle; fresh = writer.fresh; retired = writer.retired; numbers = writer.numbers }
+
+-- the history begins with all that the other had seen too, so it has all calls that the other had made
+pub record Meets (steps : ℕ) (old other new : Caller) : Type 0 where
+  pub learns : Learns steps old new
+  pub seen : StartsWith new.seen other.seen
+  pub calls : StartsWith (entries_of new.seen other.number) other.mine
+
+-- the writer learnt of the reader, and then the reader of the writer: of either the writer's history has exactly its calls
+pub record Gathers (writer reader writer' reader' : Caller) : Type 0 where
+  pub of_reader : Meets 3 writer reader writer'
+  pub of_writer : Meets 3 reader writer' reader'
+  pub all : entries_of writer'.seen reader.number ≡ reader.mine
+  -- the writer knows how the reader is, and has compared it with its lists, which are those of the history
+  pub place : ℕ
+  pub known : get_elem? writer'.pasts place ≡ some (how_is reader)
+  pub current : Current writer'.retired writer'.marks (how_is reader)
+  pub lists : Lists (desk_seen writer') writer'.marks writer'.table.shape writer'.seen
+
+-- the key's state after the history so far
+pub record StatesKey (at : ℕ) (old new : Caller) (kind : KeyKind) : Type 0 where
+  pub learns : Learns 1 old new
+  pub state : kind ≡ kind_of (state_of (map_seen new) at)

@@ -1,0 +1,18 @@
+-- Where a seat stands between two steps: whose it is, of which map, and what it holds.
+use Rattle.std.specs.Prelude.{◌≡◌, ℕ}
+use Rattle.atomic_table.specs.declared.shared.Seat.{Seat}
+use Rattle.nr_core.specs.Slots.{content}
+use Rattle.nr_board.specs.Views.{View, slot_held}
+use Rattle.nr_board.specs.Callers.{Table, token}
+use Rattle.nr_board.specs.Plays.{Holds, IsIdle}
+
+-- a reader's, which holds nothing
+pub record IdlesAt (table : Table) (seat : Seat (Unit {0}) View) : Type 0 where
+  pub own : (token seat).table ≡ table
+  pub idle : IsIdle seat.me.0.role
+
+-- a reader's, which holds the slot whose first content word stands there
+pub record HoldsAt (table : Table) (begin : ℕ) (seat : Seat (Unit {0}) View) : Type 0 where
+  pub own : (token seat).table ≡ table
+  pub holds : Holds table.shape seat.me.0.role
+  pub begin_is : begin ≡ content table.shape (slot_held seat.me.0.role) 0

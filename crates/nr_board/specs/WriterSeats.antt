@@ -1,0 +1,210 @@
+-- Where the writer's seat stands between two steps, and where a step leads it.
+use Rattle.std.specs.Prelude.{◌≡◌, ℕ, suc, ◌+◌, ◌*◌, ◌≤◌, nat_lt, if◌then◌else◌, List, [], ◌∷◌, ◌++◌, length, slice_index}
+use Rattle.atomic_table.specs.declared.shared.Seat.{Seat}
+use Rattle.nr_model.specs.declared.rows.Row.{Row}
+use Rattle.nr_model.specs.declared.calls.Call.{Call}
+use Rattle.nr_model.specs.declared.calls.Reply.TheVariants as reply
+use Rattle.nr_model.specs.Histories.{Entry, IsLegal}
+use Rattle.nr_model.specs.Maps.{state_of}
+use Rattle.nr_model.specs.declared.states.KeyState.TheVariants as states
+use Rattle.nr_words.specs.SetWords.{encode}
+use Rattle.nr_core.specs.Core.{AreNumbers}
+use Rattle.nr_core.specs.Slots.{content}
+use Rattle.nr_core.specs.States.{key_of, number_at, retired_at}
+use Rattle.nr_core.specs.Story.{call_of, ending, entry, map_after}
+use Rattle.nr_core.specs.Writer.{moved_to, no_slot, settled, unnamed, went}
+use Rattle.nr_core.specs.declared.calls.NoSlot.{NoSlot}
+use Rattle.nr_core.specs.declared.calls.Step.{Step}
+use Rattle.nr_core.specs.declared.calls.Step.TheVariants.{Ended, Going}
+use Rattle.nr_core.specs.declared.shape.Shape.{Shape}
+use Rattle.nr_core.specs.declared.calls.WReply.TheVariants as writer
+use Rattle.nr_core.specs.declared.calls.WriterCall.{WriterCall}
+use Rattle.nr_core.specs.declared.places.Place.TheVariants.{Idle, Leaving, Putting, Reading, Searching, Withdrawing}
+use Rattle.nr_core.specs.declared.roles.Desk.{Desk}
+use Rattle.nr_core.specs.declared.roles.Role.TheVariants.{Writer}
+use Rattle.nr_board.specs.Entries.{AreCallers}
+use Rattle.nr_board.specs.Callers.{Caller, Grows, KnowsOwn, Table, map_seen, opening_map, token}
+use Rattle.nr_core.specs.Spares.{Spare}
+use Rattle.nr_board.specs.Spares.{Took, desk_with}
+use Rattle.nr_board.specs.Plays.{Finds, Lacks, NotesTell, Room, SwapsAt, call_at, next_put}
+use Rattle.nr_board.specs.Polls.{AllHeldThen}
+use Rattle.nr_marks.specs.MarkSteps.{GoesMarks}
+use Rattle.nr_marks.specs.Marks.{with_name, with_polls}
+use Rattle.nr_marks.specs.PollNotes.{Noted}
+use Rattle.nr_marks.specs.Puts.{put_count}
+use Rattle.nr_board.specs.Views.{View}
+
+abbrev pub MapSeat : Type 0
+MapSeat = Seat (Unit {0}) View
+
+-- the writer's seat, at a desk whose numbers are those of the history that it knows
+pub record WritesAt (table : Table) (desk : Desk) (seat : MapSeat) : Type 0 where
+  pub own : (token seat).table ≡ table
+  pub role : seat.me.0.role ≡ Writer desk
+  pub room : Room table.shape desk
+  pub numbers : AreNumbers table.shape (map_seen (token seat)) desk.numbers
+
+-- between calls
+pub record IsBetween (table : Table) (seat : MapSeat) : Type 0 where
+  pub desk : Desk
+  pub writes : WritesAt table desk seat
+  pub place : desk.place ≡ Idle
+
+-- about to read the word at that index of the slot whose content begins there
+pub record IsReading (table : Table) (begin index : ℕ) (seat : MapSeat) : Type 0 where
+  pub desk : Desk
+  pub writes : WritesAt table desk seat
+  pub call : WriterCall
+  pub slot : ℕ
+  pub got : List ℕ
+  pub place : desk.place ≡ Reading call slot got
+  pub begin_is : begin ≡ content table.shape slot 0
+  pub index_is : index ≡ length got
+
+-- about to poll the retired slot
+pub record IsPolling (table : Table) (slot : ℕ) (seat : MapSeat) : Type 0 where
+  pub desk : Desk
+  pub writes : WritesAt table desk seat
+  pub call : WriterCall
+  pub rows : List Row
+  pub poll : ℕ
+  pub place : desk.place ≡ Searching call rows poll
+  pub slot_is : slot ≡ (retired_at desk poll).slot
+
+-- about to put the word at that index of the slot whose content begins there
+pub record IsPutting (table : Table) (begin index word : ℕ) (seat : MapSeat) : Type 0 where
+  pub desk : Desk
+  pub writes : WritesAt table desk seat
+  pub call : WriterCall
+  pub rows : List Row
+  pub slot : ℕ
+  pub departed : ℕ
+  pub place : desk.place ≡ Putting call rows slot departed index
+  pub begin_is : begin ≡ content table.shape slot 0
+  pub more : index ≤ 2 * length rows
+  pub word_is : word ≡ slice_index (encode rows) index
+
+-- about to publish the slot, whose words are all put
+pub record IsPublishing (table : Table) (key slot departed : ℕ) (seat : MapSeat) : Type 0 where
+  pub desk : Desk
+  pub writes : WritesAt table desk seat
+  pub call : WriterCall
+  pub rows : List Row
+  pub place : desk.place ≡ Putting call rows slot departed (2 * length rows + 1)
+  pub key_is : key ≡ key_of call
+
+-- about to evict the key, whose number is this
+pub record IsLeaving (table : Table) (key number : ℕ) (seat : MapSeat) : Type 0 where
+  pub desk : Desk
+  pub writes : WritesAt table desk seat
+  pub place : desk.place ≡ Leaving key
+  pub number_is : number ≡ number_at desk key
+
+-- about to take the key's request back, after which its number is this
+pub record IsWithdrawing (table : Table) (key number : ℕ) (seat : MapSeat) : Type 0 where
+  pub desk : Desk
+  pub writes : WritesAt table desk seat
+  pub place : desk.place ≡ Withdrawing key
+  pub number_is : number ≡ number_at desk key + 1
+
+-- so many steps of a call, to the desk of the outcome, with the entry of a call that ends there with a reply
+pub record LeadsIn (steps : ℕ) (table : Table) (call : Call) (outcome : Desk × Step) (old new : MapSeat) : Type 0 where
+  pub writes : WritesAt table outcome.0 new
+  pub grows : Grows steps (token old) (ending call outcome.1) (token new)
+  pub short : (counts : NoSlot) → outcome.1 ≡ Ended (writer.NoSlot counts) → Lacks call counts (token new)
+
+abbrev pub LeadsTo : Table → Call → Desk × Step → MapSeat → MapSeat → Type 0
+LeadsTo = LeadsIn 1
+
+-- one step from the place in the call
+pub record GoesTo (table : Table) (desk : Desk) (found : ℕ) (old new : MapSeat) : Type 0 where
+  pub leads : LeadsTo table (call_at desk.place) (went table.shape desk desk.place found) old new
+  pub log : List Entry
+  pub seen : new.me.0.seen ≡ log ++ ending (call_at desk.place) (went table.shape desk desk.place found).1
+  pub finds : Finds table.shape desk.place found log old.me.0.marks
+  pub notes : NotesTell log old.me.0.marks.polls new.me.0.marks.polls
+  pub marks : GoesMarks table.shape old.me.0.marks old.me.0.pasts desk found new.me.0.role new.me.0.seen new.me.0.marks []
+
+abbrev pub GoesOn : Table → ℕ → MapSeat → MapSeat → Type 0
+GoesOn table found old new = (desk : Desk) → old.me.0.role ≡ Writer desk → GoesTo table desk found old new
+
+-- a put
+pub record PutsTo (table : Table) (desk : Desk) (old new : MapSeat) : Type 0 where
+  pub writes : WritesAt table (next_put desk) new
+  pub grows : Grows 1 (token old) [] (token new)
+  pub marks : new.me.0.marks ≡ old.me.0.marks
+
+-- what the writer knows is legal, and has the entries of the map's callers, with its own
+pub record Knows (caller : Caller) : Type 0 where
+  pub legal : IsLegal (opening_map caller.table) caller.seen
+  pub callers : AreCallers caller.table.shape caller.seen
+  pub own : KnowsOwn caller
+
+-- the call has its set, and looks for a slot
+pub record Settles (table : Table) (call : WriterCall) (rows : List Row) (spare : Spare) (seat : MapSeat) : Type 0 where
+  pub slots : spare.slots ≡ table.shape.slots
+  pub writes : WritesAt table (settled table.shape (desk_with spare Idle) call rows).0 seat
+  pub short : (counts : NoSlot) → (settled table.shape (desk_with spare Idle) call rows).1 ≡ Ended (writer.NoSlot counts) → Lacks (call_of call) counts (token seat)
+  pub knows : Knows (token seat)
+  pub polls : seat.me.0.marks.polls ≡ []
+
+-- the key's set after the history before the step that ended a read-through
+pub record KeyHas (table : Table) (call : WriterCall) (rows : List Row) (step : Step) (seat : MapSeat) : Type 0 where
+  pub log : List Entry
+  pub seen : seat.me.0.seen ≡ log ++ ending (call_of call) step
+  pub number : ℕ
+  pub state : state_of (map_after table.shape log) (key_of call) ≡ states.Rows number rows
+
+-- the search has found each of the first retired slots held
+abbrev pub swept : Shape → Desk → WriterCall → List Row → ℕ → Desk × Step
+swept shape desk call rows polls = (if nat_lt polls (length desk.retired) then (moved_to desk (Searching call rows polls), Going) else (moved_to desk Idle, no_slot shape desk))
+
+-- the slot that a call took, with its departures, or there was none
+pub record TakesSlot (table : Table) (call : WriterCall) (rows : List Row) (slot departed : ℕ) (spare after : Spare) (old new : MapSeat) : Type 0 where
+  pub polls : ℕ
+  pub took : Took slot polls spare after
+  -- all polls but the last one found their slots held, each by another reader
+  pub few : polls ≤ table.shape.readers + 1
+  pub slots : after.slots ≡ spare.slots
+  pub numbers : after.numbers ≡ spare.numbers
+  pub writes : WritesAt table (desk_with after (Putting call rows slot departed 0)) new
+  pub grows : Grows polls (token old) [] (token new)
+  pub marks : new.me.0.marks ≡ with_polls old.me.0.marks new.me.0.marks.polls
+
+pub record LacksSlot (table : Table) (call : WriterCall) (counts : NoSlot) (spare after : Spare) (old new : MapSeat) : Type 0 where
+  pub same : after ≡ spare
+  pub writes : WritesAt table (desk_with spare Idle) new
+  pub grows : Grows (length spare.retired) (token old) [] (token new)
+  pub lacks : Lacks (call_of call) counts (token new)
+  pub noted : Noted table.shape old.me.0.pasts new.me.0.marks.polls
+  pub held : AllHeldThen old.me.0.seen new.me.0.seen new.me.0.marks.polls
+  pub marks : new.me.0.marks ≡ with_polls old.me.0.marks new.me.0.marks.polls
+
+-- the set was published: the call's last step is its entry, and the slot that the key named before is retired
+pub record PublishesSet (table : Table) (call : WriterCall) (rows : List Row) (spare after : Spare) (old new : MapSeat) : Type 0 where
+  pub polls : ℕ
+  pub slot : ℕ
+  pub mid : Spare
+  pub took : Took slot polls spare mid
+  -- the word that the key had
+  pub word : ℕ
+  pub log : List Entry
+  pub seen : new.me.0.seen ≡ log ++ entry 0 (call_of call) reply.Done ∷ []
+  pub swaps : SwapsAt table.shape (key_of call) word log old.me.0.marks
+  pub retires : after ≡ record mid { retired = mid.retired ++ unnamed word }
+  pub few : polls ≤ table.shape.readers + 1
+  pub slots : after.slots ≡ spare.slots
+  pub numbers : after.numbers ≡ spare.numbers
+  -- the set has the next put number
+  pub number : ℕ
+  pub count : put_count new.me.0.seen ≡ suc number
+  pub put : slice_index new.me.0.marks.puts slot ≡ number
+  pub marks : new.me.0.marks ≡ with_name (with_polls old.me.0.marks new.me.0.marks.polls) (key_of call) slot number
+  pub writes : WritesAt table (desk_with after Idle) new
+  pub grows : Grows (2 * length rows + 2 + polls) (token old) (entry 0 (call_of call) reply.Done ∷ []) (token new)
+
+-- the writer between two calls, with its slots
+pub record RestsAt (table : Table) (spare : Spare) (seat : MapSeat) : Type 0 where
+  pub writes : WritesAt table (desk_with spare Idle) seat
+  pub slots : spare.slots ≡ table.shape.slots
+  pub own : KnowsOwn (token seat)

@@ -1,0 +1,321 @@
+//! The table of words. It is private to this module, whose functions make one step each.
+ghost use Rattle.std.specs.Prelude.{ℕ, ◌≡◌, ◌<◌, ◌≤◌, ◌^◌, true, false, [], length, slice_index, IfOk};
+ghost use Rattle.nr_model.specs.Maps.{state_of};
+ghost use Rattle.nr_model.specs.declared.rows.TheConstants.{MAX_ROWS};
+ghost use Rattle.nr_model.specs.declared.calls.Call.TheVariants as model;
+ghost use Rattle.nr_model.specs.declared.calls.Reply.TheVariants as reply;
+ghost use Rattle.nr_words.specs.KeyWords.{is_filled, slot_of};
+ghost use Rattle.nr_words.specs.SetWords.{encode};
+ghost use Rattle.nr_core.specs.declared.roles.Desk.{Desk};
+ghost use Rattle.nr_core.specs.declared.roles.Role.TheVariants.{Note as note_role, Writer};
+ghost use Rattle.nr_core.specs.Core.{AreNumbers};
+ghost use Rattle.nr_core.specs.Laws.{IsGivenCall};
+ghost use Rattle.nr_core.specs.States.{key_of};
+ghost use Rattle.nr_core.specs.Steps.{ask_word};
+ghost use Rattle.nr_core.specs.Story.{call_of};
+ghost use Rattle.nr_core.specs.Writer.{looked};
+ghost use Rattle.nr_core.specs.Slots.{bound_of, content, layout};
+ghost use Rattle.nr_core.specs.Roles.{is_writer};
+ghost use Rattle.nr_core.specs.Sizes.{IsShape};
+ghost use Rattle.nr_board.specs.Views.{rows_held, with_reader, next_reader, opener};
+ghost use Rattle.nr_board.specs.Callers.{Gains, Rests, map_seen, token};
+ghost use Rattle.nr_marks.specs.Marks.{acted, with_polls};
+ghost use Rattle.nr_marks.specs.Puts.{put_number};
+ghost use Rattle.nr_board.specs.Seats.{IdlesAt, HoldsAt};
+ghost use Rattle.nr_board.specs.Notes.{IsCaller, note_of, with_note};
+ghost use Rattle.nr_board.specs.Kinds.{kind_of, kind_shown};
+ghost use Rattle.nr_board.specs.Learning.{Learned};
+ghost use Rattle.nr_board.specs.Meetings.{Learns};
+ghost use Rattle.nr_board.specs.WriterSeats.{GoesOn, IsBetween, IsReading, IsPolling, IsPutting, IsPublishing, IsLeaving, IsWithdrawing, LeadsTo, PutsTo};
+
+use crate::rule::{
+    Arrives, Asks, Departs, Given, Goes, Law, Looks, Notes, Puts, Reads, Seats, Sees,
+};
+use crate::view::View;
+use atomic_table::Table;
+use nr_core::Shape;
+use nr_words::{ARRIVE, Layout, hole_word, naming, opening_words};
+use std::alloc::{AllocError, Global};
+use std::marker::Model;
+
+pub type Seat = atomic_table::Seat<(), View>;
+
+#[derive(Drop)]
+pub struct Board {
+    table: Table<(), View, Shape, Law, Global>,
+    shape: Shape,
+}
+
+impl Model for Board {
+    ghost use Rattle.std.specs.Prelude.{◌≡◌, ◌<◌, ◌^◌};
+    ghost use Rattle.nr_board.specs.Callers.{Table as MapTable};
+
+    ghost Value = { MapTable };
+
+    ghost use Rattle.nr_words.specs.Places.{total_of};
+    ghost use Rattle.nr_core.specs.Slots.{layout};
+    ghost use Rattle.nr_core.specs.Sizes.{IsShape};
+
+    ghost view = { λ board. record { id = board.table.shared.table_id; shape = board.shape } };
+
+    ghost invariant = { λ board. (board.table.shared.key ≡ board.shape) × (board.table.shared.table_id.words ≡ total_of (layout board.shape)) × (0 < board.shape.keys) × (board.shape.keys < 2 ^ 32) × IsShape board.shape };
+}
+
+/// What a token has seen, noted in a step that counts once another token takes the note in. So a
+/// note can't be dropped.
+pub struct Note {
+    seat: Seat,
+}
+
+impl Model for Note {
+    ghost use Rattle.atomic_table.specs.declared.shared.Seat.{Seat as TableSeat};
+    ghost use Rattle.nr_board.specs.Views.{View as Knowledge};
+
+    ghost Value = { TableSeat (Unit {0}) Knowledge };
+
+    ghost view = { λ note. note.seat };
+}
+
+impl Board {
+    /// The table with the writer's token.
+    pub fn open(alloc: Global, shape: Shape) -> Result<(Board, Seat), AllocError>
+        requires sizes { IsShape shape }
+        requires keys { 0 < shape.keys }
+        ensures board { IfOk result (λ opened. opened.0.shape ≡ shape) }
+        ensures seat { IfOk result (λ opened. (opened.1.table_id ≡ opened.0.id) × (opened.1.me.0 ≡ opener shape)) }
+    {
+        let layout = Layout {
+            keys: shape.keys,
+            slots: shape.slots,
+            rows: shape.rows,
+        };
+        let words = opening_words(alloc, layout, shape.first_count, shape.first_number)?;
+        let (table, seat) = Table::of_words(alloc, &words, &shape)?;
+        Ok((Board { table, shape }, seat))
+    }
+
+    pub fn shape(&self) -> &Shape
+        ensures { result.now ≡ self.now.shape }
+    {
+        &self.shape
+    }
+
+    /// How many rows a key may have: 1 to 255.
+    pub fn rows(&self) -> u32
+        ensures value { result ≡ self.now.shape.rows }
+        ensures positive { 0 < result }
+        ensures bounded { result ≤ MAX_ROWS }
+    {
+        self.shape.rows
+    }
+
+    /// Where the first content word of a slot stands.
+    pub fn content(&self, slot: u32) -> u64
+        requires { slot < self.now.shape.slots }
+        ensures { result ≡ content self.now.shape slot 0 }
+    {
+        self.layout().content(slot, 0)
+    }
+
+    /// The writer makes the next reader.
+    pub fn seat(&self, seat: &mut Seat) -> Seat
+        requires own { seat.old.table_id ≡ self.now.id }
+        requires writer { is_writer seat.old.me.0.role ≡ 1 }
+        requires few { seat.old.me.0.made < self.now.shape.readers }
+        ensures own { (seat.new.table_id ≡ seat.old.table_id) × (result.table_id ≡ seat.old.table_id) }
+        ensures writer { seat.new.me.0 ≡ with_reader seat.old.me.0 }
+        ensures reader { result.me.0 ≡ next_reader seat.old.me.0 }
+    {
+        let words = &self.table.shared;
+        words.split_seat::<Seats>(seat)
+    }
+
+    /// A reader requests a key: the word as it was.
+    pub fn ask(&self, seat: &mut Seat, key: u32) -> u64
+        requires reader { IdlesAt self.now seat.old }
+        requires key { key < self.now.shape.keys }
+        ensures reader { IdlesAt self.now seat.new }
+        ensures gains { Gains 1 (token seat.old) (model.Ask key) (ask_word result) (token seat.new) }
+        ensures marks { seat.new.me.0.marks ≡ seat.old.me.0.marks }
+    {
+        let words = &self.table.shared;
+        words.fetch_or::<Asks>(seat, key as usize, 1)
+    }
+
+    /// A reader arrives at a key: the word as it was. Where it is filled the reader holds the slot
+    /// that it names.
+    pub fn arrive(&self, seat: &mut Seat, key: u32) -> u64
+        requires reader { IdlesAt self.now seat.old }
+        requires key { key < self.now.shape.keys }
+        ensures hole { is_filled result ≡ false → IdlesAt self.now seat.new × Gains 1 (token seat.old) (model.Find key) reply.Hole (token seat.new) }
+        ensures held { is_filled result ≡ true → HoldsAt self.now (content self.now.shape (slot_of result) 0) seat.new × Gains 1 (token seat.old) (model.Find key) (reply.Rows (rows_held seat.new.me.0.role)) (token seat.new) }
+        ensures marks { seat.new.me.0.marks ≡ acted seat.old.me.0.marks (put_number seat.new.me.0.seen key) }
+    {
+        let words = &self.table.shared;
+        words.fetch_add::<Arrives>(seat, key as usize, ARRIVE)
+    }
+
+    /// A reader reads a content word of the slot that it holds, whose first one stands at `begin`.
+    pub fn read(&self, seat: &mut Seat, begin: u64, index: u64) -> u64
+        requires reader { HoldsAt self.now begin seat.old }
+        requires index { index < length (encode (rows_held seat.old.me.0.role)) }
+        ensures value { result ≡ slice_index (encode (rows_held seat.old.me.0.role)) index }
+        ensures reader { HoldsAt self.now begin seat.new }
+        ensures rows { rows_held seat.new.me.0.role ≡ rows_held seat.old.me.0.role }
+        ensures rests { Rests 1 (token seat.old) (token seat.new) }
+        ensures hold { (token seat.new).holds ≡ (token seat.old).holds }
+        ensures marks { seat.new.me.0.marks ≡ seat.old.me.0.marks }
+    {
+        let words = &self.table.shared;
+        let place = begin + index;
+        words.load::<Reads>(seat, place as usize)
+    }
+
+    /// A reader departs from the slot that it holds, whose first content word stands at `begin`.
+    pub fn depart(&self, seat: &mut Seat, begin: u64)
+        requires reader { HoldsAt self.now begin seat.old }
+        ensures reader { IdlesAt self.now seat.new }
+        ensures rests { Rests 1 (token seat.old) (token seat.new) }
+        ensures marks { seat.new.me.0.marks ≡ acted seat.old.me.0.marks seat.old.me.0.marks.put }
+    {
+        let words = &self.table.shared;
+        let place = begin - 1;
+        words.fetch_add::<Departs>(seat, place as usize, 1);
+    }
+
+    /// The writer looks at the key of a call: its word.
+    pub fn look<G: Given>(&self, seat: &mut Seat, key: u32) -> u64
+        requires writer { IsBetween self.now seat.old }
+        requires given { IsGivenCall (bound_of self.now.shape) G.call }
+        requires call { key ≡ key_of G.call }
+        requires key { key < self.now.shape.keys }
+        ensures leads { (desk : Desk) → seat.old.me.0.role ≡ Writer desk → LeadsTo self.now (call_of G.call) (looked self.now.shape desk G.call result) seat.old seat.new }
+        ensures marks { seat.new.me.0.marks ≡ with_polls seat.old.me.0.marks [] }
+    {
+        let words = &self.table.shared;
+        words.load::<Looks<G>>(seat, key as usize)
+    }
+
+    /// The writer reads a content word of the slot that its key names, whose first one stands at
+    /// `begin`.
+    pub fn read_on(&self, seat: &mut Seat, begin: u64, index: u64) -> u64
+        requires { IsReading self.now begin index seat.old }
+        ensures { GoesOn self.now result seat.old seat.new }
+    {
+        let words = &self.table.shared;
+        let place = begin + index;
+        words.load::<Goes>(seat, place as usize)
+    }
+
+    /// The writer polls a retired slot: its departures.
+    pub fn poll(&self, seat: &mut Seat, slot: u32) -> u64
+        requires { IsPolling self.now slot seat.old }
+        ensures { GoesOn self.now result seat.old seat.new }
+    {
+        let words = &self.table.shared;
+        let place = self.layout().departures(slot);
+        words.load::<Goes>(seat, place as usize)
+    }
+
+    /// The writer puts a content word into the slot that it took, whose first one stands at
+    /// `begin`.
+    pub fn put(&self, seat: &mut Seat, begin: u64, index: u64, word: u64)
+        requires { IsPutting self.now begin index word seat.old }
+        ensures { (desk : Desk) → seat.old.me.0.role ≡ Writer desk → PutsTo self.now desk seat.old seat.new }
+    {
+        let words = &self.table.shared;
+        let place = begin + index;
+        words.store::<Puts>(seat, place as usize, word);
+    }
+
+    /// The writer names the slot that it filled at the key: the word as it was.
+    pub fn publish(&self, seat: &mut Seat, key: u32, slot: u32, departed: u64) -> u64
+        requires writer { IsPublishing self.now key slot departed seat.old }
+        requires key { key < self.now.shape.keys }
+        ensures { GoesOn self.now result seat.old seat.new }
+    {
+        let words = &self.table.shared;
+        let word = naming(slot, departed);
+        words.swap::<Goes>(seat, key as usize, word)
+    }
+
+    /// The writer makes the key a hole, which keeps its number: the word as it was.
+    pub fn unpublish(&self, seat: &mut Seat, key: u32, number: u64) -> u64
+        requires { IsLeaving self.now key number seat.old }
+        ensures { GoesOn self.now result seat.old seat.new }
+    {
+        let words = &self.table.shared;
+        let hole = hole_word(number, false);
+        words.swap::<Goes>(seat, key as usize, hole)
+    }
+
+    /// The writer takes the key's request back: the key is a hole with the next number.
+    pub fn withdraw(&self, seat: &mut Seat, key: u32, next: u64)
+        requires { IsWithdrawing self.now key next seat.old }
+        ensures { (found : ℕ) × GoesOn self.now found seat.old seat.new }
+    {
+        let words = &self.table.shared;
+        let hole = hole_word(next, false);
+        words.swap::<Goes>(seat, key as usize, hole);
+    }
+
+    /// A note of what the token has seen. The token stays as it is.
+    pub fn note(&self, seat: &mut Seat) -> Note
+        requires { seat.old.table_id ≡ self.now.id }
+        ensures same { (seat.new.table_id ≡ seat.old.table_id) × (seat.new.me ≡ seat.old.me) }
+        ensures note { (result.table_id ≡ seat.old.table_id) × (result.me ≡ (note_of seat.old.me.0, [])) }
+    {
+        let words = &self.table.shared;
+        Note {
+            seat: words.split_seat::<Notes>(seat),
+        }
+    }
+
+    /// The token takes a note in.
+    pub fn take_note(&self, seat: &mut Seat, note: Note)
+        requires own { (seat.old.table_id ≡ self.now.id) × (note.table_id ≡ self.now.id) }
+        requires note { (note.me.0.role ≡ note_role) × (note.me.1 ≡ []) }
+        ensures own { seat.new.table_id ≡ seat.old.table_id }
+        ensures took { seat.new.me.0 ≡ with_note seat.old.me.0 note.me.0 }
+    {
+        let words = &self.table.shared;
+        let Note { seat: told } = note;
+        words.join_seat::<Notes>(seat, told);
+    }
+
+    /// The token learns the history so far.
+    pub fn learn(&self, seat: &mut Seat)
+        requires own { (token seat.old).table ≡ self.now }
+        requires caller { IsCaller seat.old.me.0.role }
+        ensures own { seat.new.table_id ≡ seat.old.table_id }
+        ensures learned { (found : ℕ) × Learned 0 found seat.old.me.0 seat.new.me.0 }
+    {
+        let words = &self.table.shared;
+        words.load::<Sees>(seat, 0);
+    }
+
+    /// The token learns the history so far, by the word of a key, which shows the key's state.
+    pub fn learn_at(&self, seat: &mut Seat, key: u32) -> u64
+        requires own { (token seat.old).table ≡ self.now }
+        requires caller { IsCaller seat.old.me.0.role }
+        requires key { key < self.now.shape.keys }
+        ensures learns { Learns 1 (token seat.old) (token seat.new) }
+        ensures role { (seat.new.table_id ≡ seat.old.table_id) × (seat.new.me.0.role ≡ seat.old.me.0.role) }
+        ensures state { kind_shown result ≡ kind_of (state_of (map_seen (token seat.new)) key) }
+        ensures numbers { (desk : Desk) → seat.old.me.0.role ≡ Writer desk → AreNumbers self.now.shape (map_seen (token seat.new)) desk.numbers }
+    {
+        let words = &self.table.shared;
+        words.load::<Sees>(seat, key as usize)
+    }
+
+    fn layout(&self) -> Layout
+        ensures value { result ≡ layout self.now.shape }
+        ensures few { self.now.shape.rows ≤ MAX_ROWS }
+    {
+        Layout {
+            keys: self.shape.keys,
+            slots: self.shape.slots,
+            rows: self.shape.rows,
+        }
+    }
+}

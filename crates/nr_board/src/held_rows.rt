@@ -1,0 +1,92 @@
+//! The rows of the slot that a reader holds, as a set takes them.
+ghost use Rattle.std.specs.Prelude.{◌≡◌, ◌<◌, ◌+◌, ◌*◌, length, slice_get, Some};
+ghost use Rattle.nr_board.specs.Callers.{Rests, token};
+ghost use Rattle.nr_board.specs.Seats.{HoldsAt};
+ghost use Rattle.nr_board.specs.Views.{rows_held};
+
+use crate::board::{Board, Seat};
+use crate::only_proved::only_proved;
+use nr_model::{Row, RowRoom, RowSet, RowSource};
+
+/// A reader's seat, and where the first content word of its slot stands.
+#[derive(Drop)]
+pub struct HeldRows<'a> {
+    pub board: &'a Board,
+    pub seat: &'a mut Seat,
+    pub begin: u64,
+}
+
+impl RowSource for HeldRows<'_> {
+    ghost use Rattle.nr_board.specs.HeldRows.{Gave, gives_more, gives_none};
+    ghost use Rattle.nr_board.specs.Seats.{HoldsAt};
+    ghost use Rattle.nr_board.specs.Views.{rows_held};
+
+    ghost rows = { λ source. rows_held source.seat.now.me.0.role };
+
+    ghost is_ready = { λ source _. HoldsAt source.board.now source.begin source.seat.now };
+
+    ghost gave = { Gave };
+
+    fn give(&mut self, place: usize) -> Row {
+        let board = self.board;
+        only_proved(board.rows());
+        board.read_row(self.seat, self.begin, place as u64)
+    }
+
+    ghost gave_none = { gives_none };
+
+    ghost gave_more = { gives_more };
+}
+
+impl Board {
+    /// Writes the set of the slot that the reader holds, whose first content word stands at `begin`.
+    pub fn load_rows(&self, seat: &mut Seat, begin: u64, rows: &mut RowSet)
+        requires reader { HoldsAt self.now begin seat.old }
+        ensures reader { HoldsAt self.now begin seat.new }
+        ensures rows { rows.new ≡ rows_held seat.old.me.0.role }
+        ensures rests { Rests (2 * length rows.new + 1) (token seat.old) (token seat.new) }
+        ensures marks { seat.new.me.0.marks ≡ seat.old.me.0.marks }
+    {
+        only_proved(self.rows());
+        let count = self.read(seat, begin, 0);
+        self.copy_rows(seat, begin, count as u32, rows);
+    }
+
+    /// Writes the rows of that set, so many, without the word that counts them.
+    #[inline(always)]
+    pub fn copy_rows(&self, seat: &mut Seat, begin: u64, count: u32, rows: &mut RowSet)
+        requires reader { HoldsAt self.now begin seat.old }
+        requires count { count ≡ length (rows_held seat.old.me.0.role) }
+        ensures reader { HoldsAt self.now begin seat.new }
+        ensures rows { rows.new ≡ rows_held seat.old.me.0.role }
+        ensures held { rows_held seat.new.me.0.role ≡ rows_held seat.old.me.0.role }
+        ensures rests { Rests (2 * length rows.new) (token seat.old) (token seat.new) }
+        ensures hold { (token seat.new).holds ≡ (token seat.old).holds }
+        ensures marks { seat.new.me.0.marks ≡ seat.old.me.0.marks }
+    {
+        only_proved(self.rows());
+        let mut source = HeldRows {
+            board: self,
+            seat,
+            begin,
+        };
+        rows.refill(count as usize, &mut source);
+    }
+
+    /// A row of that set.
+    pub fn read_row(&self, seat: &mut Seat, begin: u64, i: u64) -> Row
+        requires reader { HoldsAt self.now begin seat.old }
+        requires i { i < length (rows_held seat.old.me.0.role) }
+        ensures row { slice_get (rows_held seat.old.me.0.role) i ≡ Some result }
+        ensures reader { HoldsAt self.now begin seat.new }
+        ensures rows { rows_held seat.new.me.0.role ≡ rows_held seat.old.me.0.role }
+        ensures rests { Rests 2 (token seat.old) (token seat.new) }
+        ensures hold { (token seat.new).holds ≡ (token seat.old).holds }
+        ensures marks { seat.new.me.0.marks ≡ seat.old.me.0.marks }
+    {
+        only_proved(self.rows());
+        let a = self.read(seat, begin, 2 * i + 1);
+        let b = self.read(seat, begin, 2 * i + 2);
+        Row { a, b }
+    }
+}

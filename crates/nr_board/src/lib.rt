@@ -1,0 +1,20 @@
+//! The table of words behind a map: each step that a token's seat makes on it, and each call of the
+//! writer as its seat makes it, step by step. Who has no seat makes no step, and the rule of the
+//! table says what each step keeps.
+#![tactic(auto)]
+
+mod answers;
+mod board;
+mod hearing;
+mod held_rows;
+mod named_rows;
+mod only_proved;
+mod publish;
+mod read_through;
+mod rule;
+mod view;
+mod writer_calls;
+
+pub use answers::{Cancel, Evict, FillFault, Found, KeyKind, UpdateFault};
+pub use board::{Board, Note, Seat};
+pub use rule::Given;

@@ -1,0 +1,110 @@
+//! How a call takes a slot that nobody holds, puts its set there and names the slot at its key.
+ghost use Rattle.std.specs.Prelude.{◌≡◌, ◌<◌, ◌≤◌, ◌+◌, ◌*◌, [], length};
+ghost use Rattle.nr_core.specs.States.{key_of};
+ghost use Rattle.nr_core.specs.Writer.{moved_to};
+ghost use Rattle.nr_core.specs.declared.places.Place.TheVariants.{Putting};
+ghost use Rattle.nr_board.specs.Views.{desk_of};
+ghost use Rattle.nr_board.specs.Callers.{Grows, token};
+ghost use Rattle.nr_board.specs.WriterSeats.{Knows, Settles, WritesAt};
+
+use crate::board::{Board, Seat};
+use crate::only_proved::only_proved;
+use crate::rule::Given;
+use nr_core::{NoSlot, Spare};
+use nr_model::Row;
+use nr_words::same_count;
+
+/// A slot that a call took, and its departures.
+#[derive(Clone, Copy)]
+pub struct Taken {
+    pub slot: u32,
+    pub departures: u64,
+}
+
+impl Board {
+    ghost use Rattle.nr_board.specs.Searches.{PublishesFor, TakesFor};
+
+    /// Takes a slot for the set of a call, puts the set there, and names the slot at the call's
+    /// key; the slot that the key named before is retired. Takes the polls of the search, a put for
+    /// each word of the set, and one swap.
+    #[inline(always)]
+    pub(crate) fn publish_set<G: Given>(
+        &self,
+        seat: &mut Seat,
+        spare: &mut Spare,
+        key: u32,
+        rows: &[Row],
+    ) -> Result<(), NoSlot>
+        requires settles { Settles self.now G.call rows.now spare.old seat.old }
+        requires call { key ≡ key_of G.call }
+        requires key { key < self.now.shape.keys }
+        ensures { PublishesFor self.now G.call rows.now spare.old spare.new seat.old seat.new result }
+    {
+        let taken = self.take_slot::<G>(seat, spare, rows)?;
+        self.put_rows::<G>(seat, rows, taken);
+        let old_word = self.publish(seat, key, taken.slot, taken.departures);
+        spare.retire(old_word);
+        Ok(())
+    }
+
+    // Takes a slot for the set of a call: the next one that was never taken, without a step, or
+    // else the first retired one that no reader holds, by one poll of each up to it.
+    #[inline(always)]
+    fn take_slot<G: Given>(
+        &self,
+        seat: &mut Seat,
+        spare: &mut Spare,
+        rows: &[Row],
+    ) -> Result<Taken, NoSlot>
+        requires { Settles self.now G.call rows.now spare.old seat.old }
+        ensures { TakesFor self.now G.call rows.now spare.old spare.new seat.old seat.new result }
+    {
+        if let Some(slot) = spare.take_fresh() {
+            let departures = self.shape().first_count;
+            return Ok(Taken { slot, departures });
+        }
+        self.poll_retired::<G>(seat, spare, rows)
+    }
+
+    #[inline(always)]
+    fn poll_retired<G: Given>(
+        &self,
+        seat: &mut Seat,
+        spare: &mut Spare,
+        rows: &[Row],
+    ) -> Result<Taken, NoSlot>
+        requires settles { Settles self.now G.call rows.now spare.old seat.old }
+        requires none_fresh { spare.old.slots ≤ spare.old.fresh }
+        ensures { TakesFor self.now G.call rows.now spare.old spare.new seat.old seat.new result }
+    {
+        only_proved(rows);
+        for place in 0..spare.retired_len() {
+            let entry = spare.retired_at(place);
+            let departures = self.poll(seat, entry.slot);
+            if same_count(departures, entry.arrivals) {
+                spare.take_retired(place);
+                return Ok(Taken {
+                    slot: entry.slot,
+                    departures,
+                });
+            }
+        }
+        Err(spare.counts())
+    }
+
+    fn put_rows<G: Given>(&self, seat: &mut Seat, rows: &[Row], taken: Taken)
+        requires writer { WritesAt self.now (moved_to (desk_of seat.old.me.0.role) (Putting G.call rows.now taken.slot taken.departures 0)) seat.old }
+        requires knows { Knows (token seat.old) }
+        ensures writer { WritesAt self.now (moved_to (desk_of seat.old.me.0.role) (Putting G.call rows.now taken.slot taken.departures (2 * length rows.now + 1))) seat.new }
+        ensures grows { Grows (2 * length rows.now + 1) (token seat.old) [] (token seat.new) }
+        ensures marks { seat.new.me.0.marks ≡ seat.old.me.0.marks }
+    {
+        let begin = self.content(taken.slot);
+        self.put(seat, begin, 0, rows.len() as u64);
+        for (i, row) in rows.iter().enumerate() {
+            let index = 2 * i as u64 + 1;
+            self.put(seat, begin, index, row.a);
+            self.put(seat, begin, index + 1, row.b);
+        }
+    }
+}

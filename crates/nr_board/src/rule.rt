@@ -1,0 +1,126 @@
+//! The rule of the table, and what each kind of step tells.
+ghost use Rattle.nr_core.specs.declared.calls.WriterCall.{WriterCall};
+ghost use Rattle.nr_core.specs.declared.calls.WriterCall.TheVariants.{Evict};
+
+use crate::view::View;
+use atomic_table::{Join, Play, Split, TableRule};
+use nr_core::Shape;
+use std::marker::{Brand, PhantomData};
+
+pub struct Law;
+
+impl TableRule<(), View, Shape> for Law {
+    ghost use Rattle.nr_board.specs.Views.{opener};
+    ghost use Rattle.nr_board.specs.Rule.{Kept};
+
+    ghost holds = { Kept };
+
+    ghost first = { opener };
+}
+
+/// The writer makes a reader.
+pub struct Seats;
+
+impl Split<View> for Seats {
+    ghost use Rattle.nr_board.specs.Views.{with_reader, next_reader};
+
+    ghost left = { with_reader };
+
+    ghost right = { next_reader };
+}
+
+pub struct Asks;
+
+impl Play<(), View> for Asks {
+    ghost use Rattle.nr_board.specs.Plays.{asked};
+
+    ghost then = { asked };
+}
+
+pub struct Arrives;
+
+impl Play<(), View> for Arrives {
+    ghost use Rattle.nr_board.specs.Plays.{arrived};
+
+    ghost then = { arrived };
+}
+
+pub struct Reads;
+
+impl Play<(), View> for Reads {
+    ghost use Rattle.nr_board.specs.Plays.{read};
+
+    ghost then = { read };
+}
+
+pub struct Departs;
+
+impl Play<(), View> for Departs {
+    ghost use Rattle.nr_board.specs.Plays.{departed};
+
+    ghost then = { departed };
+}
+
+/// The call that a look begins, for the proof alone.
+pub trait Given {
+    ghost call: { WriterCall };
+}
+
+impl Given for Brand {
+    ghost call = { Evict 0 };
+}
+
+pub struct Looks<G> {
+    given: PhantomData<G>,
+}
+
+impl<G: Given> Play<(), View> for Looks<G> {
+    ghost use Rattle.nr_board.specs.Plays.{has_looked};
+
+    ghost then = { has_looked G.call };
+}
+
+/// Every later step of a call but a put.
+pub struct Goes;
+
+impl Play<(), View> for Goes {
+    ghost use Rattle.nr_board.specs.Plays.{has_gone};
+
+    ghost then = { has_gone };
+}
+
+pub struct Puts;
+
+impl Play<(), View> for Puts {
+    ghost use Rattle.nr_board.specs.Plays.{has_put};
+
+    ghost then = { has_put };
+}
+
+/// A load that only learns.
+pub struct Sees;
+
+impl Play<(), View> for Sees {
+    ghost use Rattle.nr_board.specs.Learning.{has_learned};
+
+    ghost then = { has_learned };
+}
+
+/// A note is made of what a token has seen, and taken in by another.
+pub struct Notes;
+
+impl Split<View> for Notes {
+    ghost use Rattle.nr_board.specs.Notes.{itself, note_of};
+
+    ghost left = { itself };
+
+    ghost right = { note_of };
+}
+
+impl Join<View> for Notes {
+    ghost use Rattle.nr_board.specs.Notes.{spent, with_note};
+
+    ghost both = { with_note };
+
+    ghost spent = { spent };
+}

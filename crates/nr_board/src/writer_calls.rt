@@ -1,0 +1,142 @@
+//! The writer's calls, as its seat makes them.
+ghost use Rattle.std.specs.Prelude.{◌≡◌, ◌<◌};
+ghost use Rattle.nr_model.specs.Rows.{IsRowSet};
+ghost use Rattle.nr_core.specs.declared.calls.WriterCall.TheVariants as writer;
+ghost use Rattle.nr_board.specs.Callers.{token};
+ghost use Rattle.nr_board.specs.WriterSeats.{RestsAt};
+
+use crate::answers::{Cancel, Evict, FillFault, Found, UpdateFault};
+use crate::board::{Board, Seat};
+use crate::only_proved::only_proved;
+use crate::rule::Given;
+use nr_core::Spare;
+use nr_model::{ApplyFault, Batch, LAST_NUMBER, Pile, Row, RowSet};
+use nr_words::parts;
+
+impl Board {
+    ghost use Rattle.nr_board.specs.WriterAnswers.{LooksAt, FillsKey, UpdatesKey, EvictsKey, CancelsKey};
+
+    pub fn look_up<G: Given>(
+        &self,
+        seat: &mut Seat,
+        spare: &Spare,
+        key: u32,
+        rows: &mut RowSet,
+    ) -> Found
+        requires call { G.call ≡ writer.Find key }
+        requires own { (token seat.old).table ≡ self.now }
+        requires rests { RestsAt (token seat.old).table spare.now seat.old }
+        requires key { key < self.now.shape.keys }
+        ensures rests { RestsAt (token seat.new).table spare.now seat.new }
+        ensures looks { LooksAt key (token seat.old) rows.old (token seat.new) rows.new result }
+    {
+        only_proved(spare);
+        let found = parts(self.look::<G>(seat, key));
+        if !found.filled {
+            return Found::Hole;
+        }
+        self.read_set::<G, RowSet>(seat, found.slot, rows);
+        Found::Rows
+    }
+
+    pub fn fill_key<G: Given>(
+        &self,
+        seat: &mut Seat,
+        spare: &mut Spare,
+        key: u32,
+        number: u64,
+        rows: &[Row],
+    ) -> Result<(), FillFault>
+        requires call { G.call ≡ writer.Fill key number rows.now }
+        requires row_set { IsRowSet self.now.shape.rows rows.now }
+        requires own { (token seat.old).table ≡ self.now }
+        requires rests { RestsAt (token seat.old).table spare.old seat.old }
+        requires key { key < self.now.shape.keys }
+        ensures rests { RestsAt (token seat.new).table spare.new seat.new }
+        ensures fills { FillsKey key number rows.now (token seat.old) (token seat.new) result }
+    {
+        let found = parts(self.look::<G>(seat, key));
+        if found.filled {
+            return Err(FillFault::Already);
+        }
+        if !found.ask {
+            return Err(FillFault::NotAsked);
+        }
+        if u64::from(found.slot) != number {
+            return Err(FillFault::Stale);
+        }
+        if let Err(counts) = self.publish_set::<G>(seat, spare, key, rows) {
+            return Err(FillFault::NoSlot(counts));
+        }
+        Ok(())
+    }
+
+    pub fn update_key<G: Given>(
+        &self,
+        seat: &mut Seat,
+        spare: &mut Spare,
+        pile: &mut Pile,
+        key: u32,
+        batch: &Batch,
+    ) -> Result<(), UpdateFault>
+        requires call { G.call ≡ writer.Update key batch.now }
+        requires own { (token seat.old).table ≡ self.now }
+        requires rests { RestsAt (token seat.old).table spare.old seat.old }
+        requires key { key < self.now.shape.keys }
+        ensures rests { RestsAt (token seat.new).table spare.new seat.new }
+        ensures updates { UpdatesKey self.now.shape.rows key batch.now (token seat.old) (token seat.new) result }
+    {
+        let found = parts(self.look::<G>(seat, key));
+        if !found.filled {
+            return Err(UpdateFault::Dropped);
+        }
+        self.read_set::<G, Pile>(seat, found.slot, pile);
+        match pile.apply(batch, self.rows()) {
+            Ok(()) => {}
+            Err(ApplyFault::NoRow) => return Err(UpdateFault::NoRow),
+            Err(ApplyFault::TooMany) => return Err(UpdateFault::TooMany),
+        }
+        if let Err(counts) = self.publish_set::<G>(seat, spare, key, pile.as_slice()) {
+            return Err(UpdateFault::NoSlot(counts));
+        }
+        Ok(())
+    }
+
+    pub fn evict_key<G: Given>(&self, seat: &mut Seat, spare: &mut Spare, key: u32) -> Evict
+        requires call { G.call ≡ writer.Evict key }
+        requires own { (token seat.old).table ≡ self.now }
+        requires rests { RestsAt (token seat.old).table spare.old seat.old }
+        requires key { key < self.now.shape.keys }
+        ensures rests { RestsAt (token seat.new).table spare.new seat.new }
+        ensures evicts { EvictsKey key (token seat.old) (token seat.new) result }
+    {
+        let found = parts(self.look::<G>(seat, key));
+        if !found.filled {
+            return Evict::Nothing;
+        }
+        let old_word = self.unpublish(seat, key, spare.number(key));
+        spare.retire(old_word);
+        Evict::Evicted
+    }
+
+    pub fn cancel_key<G: Given>(&self, seat: &mut Seat, spare: &mut Spare, key: u32) -> Cancel
+        requires call { G.call ≡ writer.Cancel key }
+        requires own { (token seat.old).table ≡ self.now }
+        requires rests { RestsAt (token seat.old).table spare.old seat.old }
+        requires key { key < self.now.shape.keys }
+        ensures rests { RestsAt (token seat.new).table spare.new seat.new }
+        ensures cancels { CancelsKey key (token seat.old) (token seat.new) result }
+    {
+        let found = parts(self.look::<G>(seat, key));
+        if found.filled || !found.ask {
+            return Cancel::Nothing;
+        }
+        if u64::from(found.slot) >= LAST_NUMBER {
+            return Cancel::Worn;
+        }
+        let next = spare.number(key) + 1;
+        self.withdraw(seat, key, next);
+        spare.renumber(key, next);
+        Cancel::Cancelled
+    }
+}

@@ -1,7 +1,0 @@
-use Rattle.std.proofs.Common.{ap, arith, sym, ◌∙◌}
-use Rattle.nr_map.proofs.Notes.{splits_so}
-use Rattle.nr_map.specs.Callers.{Table}
-use Rattle.nr_map.proofs.board.Board.note.Goals as goal
-
-pub split_seat-requires : goal.split_seat-requires
-split_seat-requires c = let seat = c.args.seat.now in (c.requires ∙ sym (ap (λ (t : Table). t.id) c.self.view_is), omega arith, splits_so c.self.inside.table.shared.key seat.id seat.me.0)

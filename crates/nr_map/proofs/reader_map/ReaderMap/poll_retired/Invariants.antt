@@ -1,6 +1,0 @@
-use Rattle.std.proofs.Common.{◌≡◌}
-use Rattle.nr_map.proofs.Searching.{Searched}
-use Rattle.nr_map.proofs.reader_map.ReaderMap.poll_retired.Given as goal
-
-abbrev pub invariant-loop-place : goal.invariant-loop-place
-invariant-loop-place g l = (l.spare ≡ l.fn.spare) × Searched l.self g.G.Given.call l.rows l.fn.spare l.fn.seat l.seat l.place
