@@ -4,6 +4,7 @@ ghost use Rattle.nr_model.specs.Maps.{FillFits, key_count, last_number, state_of
 ghost use Rattle.nr_model.specs.declared.calls.Call.TheVariants as model;
 ghost use Rattle.nr_alone.specs.MapState.{answer_pinning, answer_show, answer_unpin};
 ghost use Rattle.nr_alone.specs.WriterCalls.{call_of, key_of};
+ghost use Rattle.nr_script.specs.declared.command.Command.TheVariants as command;
 ghost use Rattle.nr_script.specs.Opened.{answer_opened, by_map, called, called_by, found_by_reader, found_key, found_reader, found_set, has_reader, with_found};
 
 use crate::answer::{Refusal, Tried};
@@ -91,17 +92,8 @@ impl Opened {
                 Ok(key) => Ok(self.ask(*reader, key)),
                 Err(refusal) => Ok(Err(refusal)),
             },
-            Command::Fill { key, rows } => match self.key(key)? {
-                Ok(key) => {
-                    let number = self.map.number(key);
-                    Ok(self.fill(key, number, rows, found))
-                }
-                Err(refusal) => Ok(Err(refusal)),
-            },
-            Command::FillAs { key, number, rows } => match self.key(key)? {
-                Ok(key) => Ok(self.fill(key, *number, rows, found)),
-                Err(refusal) => Ok(Err(refusal)),
-            },
+            Command::Fill { key, rows } => self.fill_by_own(key, rows, found),
+            Command::FillAs { key, number, rows } => self.fill_by(key, *number, rows, found),
             Command::Update { key, batch } => match self.key(key)? {
                 Ok(key) => Ok(Ok(self.call(&WriterCall::Update(key, batch.batch()), found))),
                 Err(refusal) => Ok(Err(refusal)),
@@ -124,6 +116,41 @@ impl Opened {
             },
             Command::Show { reader } => Ok(self.show(*reader, found)),
             Command::Unpin { reader } => Ok(self.unpin(*reader)),
+        }
+    }
+
+    /// A fill by the number that the key has.
+    fn fill_by_own<'a>(
+        &mut self,
+        word: &KeyWord<'_>,
+        rows: &GivenRows<'_>,
+        found: &'a mut RowSet,
+    ) -> Tried<Answer<'a>>
+        ensures answer { IfOk result (λ said. answer_opened self.old (command.Fill word.now rows.now) ≡ (said, self.new)) }
+        ensures fault { IfErr result (λ fault. fault ≡ RunFault.Memory) }
+    {
+        let key = match self.key(word)? {
+            Ok(key) => key,
+            Err(refusal) => return Ok(Err(refusal)),
+        };
+        let number = self.map.number(key);
+        Ok(self.fill(key, number, rows, found))
+    }
+
+    /// A fill by a number that the line tells.
+    fn fill_by<'a>(
+        &mut self,
+        word: &KeyWord<'_>,
+        number: u64,
+        rows: &GivenRows<'_>,
+        found: &'a mut RowSet,
+    ) -> Tried<Answer<'a>>
+        ensures answer { IfOk result (λ said. answer_opened self.old (command.FillAs word.now number rows.now) ≡ (said, self.new)) }
+        ensures fault { IfErr result (λ fault. fault ≡ RunFault.Memory) }
+    {
+        match self.key(word)? {
+            Ok(key) => Ok(self.fill(key, number, rows, found)),
+            Err(refusal) => Ok(Err(refusal)),
         }
     }
 
