@@ -38,6 +38,11 @@ abbrev pub FindsKey : ℕ → Caller → List Row → Caller → List Row → Fo
 FindsKey key old before new rows found.Rows = Gains (2 * length rows + 3) old (model.Find key) (reply.Rows rows) new
 FindsKey key old before new rows found.Hole = Gains 1 old (model.Find key) reply.Hole new × (rows ≡ before)
 
+-- a find into any room: on a hole it stays; else it shows all rows of the reply
+abbrev pub FindsIn : {Room : Type 0} → (Room → List Row → Type 0) → ℕ → Caller → Room → Caller → Room → Found → Type 0
+FindsIn shows key old before new room found.Rows = (rows : List Row) × Gains (2 * length rows + 3) old (model.Find key) (reply.Rows rows) new × shows room rows
+FindsIn shows key old before new room found.Hole = Gains 1 old (model.Find key) reply.Hole new × (room ≡ before)
+
 -- a find arrives, and departs from the set that it found
 abbrev pub acts_of : Found → ℕ
 acts_of found.Rows = 2
@@ -77,6 +82,11 @@ KeyHad key rows old between = (number : ℕ) × (state_of (after (opening_map ol
 abbrev pub LooksAt : ℕ → Caller → List Row → Caller → List Row → Found → Type 0
 LooksAt key old before new rows found.Rows = Gains (2 * length rows + 2) old (model.Find key) (reply.Rows rows) new × SlotsStay old new
 LooksAt key old before new rows found.Hole = Gains 1 old (model.Find key) reply.Hole new × SlotsStay old new × (rows ≡ before)
+
+-- into any room
+abbrev pub LooksIn : {Room : Type 0} → (Room → List Row → Type 0) → ℕ → Caller → Room → Caller → Room → Found → Type 0
+LooksIn shows key old before new room found.Rows = (rows : List Row) × Gains (2 * length rows + 2) old (model.Find key) (reply.Rows rows) new × SlotsStay old new × shows room rows
+LooksIn shows key old before new room found.Hole = Gains 1 old (model.Find key) reply.Hole new × SlotsStay old new × (room ≡ before)
 
 -- a call that put a set, besides its other steps: by so many polls it took a slot, it put each word and named the slot at its key, with the next put number, and retired what the key named before
 pub record Publishes (steps : ℕ) (old : Caller) (call : Call) (rows : List Row) (new : Caller) : Type 0 where

@@ -66,7 +66,7 @@ impl Reader {
 }
 
 impl ReaderMap {
-    ghost use Rattle.nr_map.specs.Answers.{AsksKey, FindsKey, acts_of};
+    ghost use Rattle.nr_map.specs.Answers.{AsksKey, FindsIn, FindsKey, acts_of};
 
     /// Looks a key up, and writes its rows into the caller's set, which stays as it is where the
     /// key is a hole. Takes 1 step for a hole, and 2n + 3 for n rows: it arrives, reads each word
@@ -76,6 +76,19 @@ impl ReaderMap {
         requires key { key < self.now.shape.keys }
         ensures own { reader.new.table ≡ self.now }
         ensures finds { FindsKey key reader.old rows.old reader.new rows.new result }
+        ensures idle { reader.new.holds ≡ None }
+        ensures acts { reader.new.marks.acts ≡ reader.old.marks.acts + acts_of result }
+    {
+        self.find_into(reader, key, rows)
+    }
+
+    /// As `find`, with any room for rows in place of a set. A room that the rows go to last needs
+    /// no copy.
+    pub fn find_into<R: RowRoom>(&self, reader: &mut Reader, key: u32, rows: &mut R) -> Found
+        requires own { reader.old.table ≡ self.now }
+        requires key { key < self.now.shape.keys }
+        ensures own { reader.new.table ≡ self.now }
+        ensures finds { FindsIn R.shows key reader.old rows.old reader.new rows.new result }
         ensures idle { reader.new.holds ≡ None }
         ensures acts { reader.new.marks.acts ≡ reader.old.marks.acts + acts_of result }
     {
@@ -91,11 +104,11 @@ impl ReaderMap {
     }
 
     // Writes the set of the slot that the reader holds, whose first content word stands at `begin`.
-    fn load_rows(&self, seat: &mut Seat, begin: u64, rows: &mut RowSet)
+    fn load_rows<R: RowRoom>(&self, seat: &mut Seat, begin: u64, rows: &mut R)
         requires reader { HoldsAt self.now begin seat.old }
         ensures reader { HoldsAt self.now begin seat.new }
-        ensures rows { rows.new ≡ rows_held seat.old.me.0.role }
-        ensures rests { Rests (2 * length rows.new + 1) (token seat.old) (token seat.new) }
+        ensures rows { R.shows rows.new (rows_held seat.old.me.0.role) }
+        ensures rests { Rests (2 * length (rows_held seat.old.me.0.role) + 1) (token seat.old) (token seat.new) }
         ensures marks { seat.new.me.0.marks ≡ seat.old.me.0.marks }
     {
         let count = self.board.read(seat, begin, 0);

@@ -12,14 +12,14 @@ use crate::reader_map::ReaderMap;
 use crate::rule::Given;
 use crate::writer::Writer;
 use nr_core::Spare;
-use nr_model::{ApplyFault, Batch, Pile, Row, RowSet};
+use nr_model::{ApplyFault, Batch, Pile, Row, RowRoom, RowSet};
 use nr_words::parts;
 use std::marker::Brand;
 
 // A writer's type says that it stands between two calls, and in the midst of one it doesn't. So each
 // public call lends the writer's seat and slots, one by one, to a function of its own.
 impl ReaderMap {
-    ghost use Rattle.nr_map.specs.Answers.{LooksAt, FillsKey, UpdatesKey, EvictsKey};
+    ghost use Rattle.nr_map.specs.Answers.{LooksAt, LooksIn, FillsKey, UpdatesKey, EvictsKey};
 
     /// A find of the writer's own: writes the key's rows into the caller's set, which stays as it
     /// is where the key is a hole. Takes 1 step for a hole, and 2n + 2 for n rows.
@@ -28,7 +28,16 @@ impl ReaderMap {
         requires key { key < self.now.shape.keys }
         ensures { LooksAt key writer.old rows.old writer.new rows.new result }
     {
-        self.look_up::<Brand>(&mut writer.seat, &writer.spare, key, rows)
+        self.look_into(writer, key, rows)
+    }
+
+    /// As `look`, with any room for rows in place of a set.
+    pub fn look_into<R: RowRoom>(&self, writer: &mut Writer, key: u32, rows: &mut R) -> Found
+        requires own { writer.old.table ≡ self.now }
+        requires key { key < self.now.shape.keys }
+        ensures { LooksIn R.shows key writer.old rows.old writer.new rows.new result }
+    {
+        self.look_up::<Brand, R>(&mut writer.seat, &writer.spare, key, rows)
     }
 
     /// Fills a key that was asked for, by the number of its request, with at most `rows()` rows.
@@ -48,13 +57,24 @@ impl ReaderMap {
         requires few { length rows.now ≤ self.now.shape.rows }
         ensures { FillsKey key number rows.now writer.old writer.new result }
     {
-        self.fill_key::<Brand>(
-            &mut writer.seat,
-            &mut writer.spare,
-            key,
-            number,
-            rows.as_slice(),
-        )
+        self.fill_rows(writer, key, number, rows.as_slice())
+    }
+
+    /// As `fill`, with at most `rows()` rows in ascending order in place of a set, so that rows
+    /// which stand in order somewhere need no copy.
+    pub fn fill_rows(
+        &self,
+        writer: &mut Writer,
+        key: u32,
+        number: u64,
+        rows: &[Row],
+    ) -> Result<(), FillFault>
+        requires own { writer.old.table ≡ self.now }
+        requires key { key < self.now.shape.keys }
+        requires row_set { IsRowSet self.now.shape.rows rows.now }
+        ensures { FillsKey key number rows.now writer.old writer.new result }
+    {
+        self.fill_key::<Brand>(&mut writer.seat, &mut writer.spare, key, number, rows)
     }
 
     /// Applies a batch to the set of a filled key, whole or not at all. Refused where the key is not
@@ -87,26 +107,26 @@ impl ReaderMap {
         self.evict_key::<Brand>(&mut writer.seat, &mut writer.spare, key)
     }
 
-    fn look_up<G: Given>(
+    fn look_up<G: Given, R: RowRoom>(
         &self,
         seat: &mut Seat,
         spare: &Spare,
         key: u32,
-        rows: &mut RowSet,
+        rows: &mut R,
     ) -> Found
         requires call { G.call ≡ writer.Find key }
         requires own { (token seat.old).table ≡ self.now }
         requires rests { RestsAt (token seat.old).table spare.now seat.old }
         requires key { key < self.now.shape.keys }
         ensures rests { RestsAt (token seat.new).table spare.now seat.new }
-        ensures looks { LooksAt key (token seat.old) rows.old (token seat.new) rows.new result }
+        ensures looks { LooksIn R.shows key (token seat.old) rows.old (token seat.new) rows.new result }
     {
         only_proved(spare);
         let found = parts(self.board.look::<G>(seat, key));
         if !found.filled {
             return Found::Hole;
         }
-        self.read_set::<G, RowSet>(seat, found.slot, rows);
+        self.read_set::<G, R>(seat, found.slot, rows);
         Found::Rows
     }
 
