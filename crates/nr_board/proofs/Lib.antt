@@ -20,6 +20,7 @@ pub mod WriterSeats
 pub mod Searching
 pub mod Publishing
 pub mod ReadingOn
+pub mod SetRooms
 pub mod KeySets
 pub mod Retiring
 pub mod Looks

@@ -60,6 +60,11 @@ abbrev pub LooksAt : ℕ → Caller → List Row → Caller → List Row → Fou
 LooksAt key old before new rows found.Rows = Gains (2 * length rows + 2) old (model.Find key) (reply.Rows rows) new × SlotsStay old new
 LooksAt key old before new rows found.Hole = Gains 1 old (model.Find key) reply.Hole new × SlotsStay old new × (rows ≡ before)
 
+-- into any room
+abbrev pub LooksIn : {Room : Type 0} → (Room → List Row → Type 0) → ℕ → Caller → Room → Caller → Room → Found → Type 0
+LooksIn shows key old before new room found.Rows = (rows : List Row) × Gains (2 * length rows + 2) old (model.Find key) (reply.Rows rows) new × SlotsStay old new × shows room rows
+LooksIn shows key old before new room found.Hole = Gains 1 old (model.Find key) reply.Hole new × SlotsStay old new × (room ≡ before)
+
 -- a call that put a set, besides its other steps: by so many polls it took a slot, it put each word and named the slot at its key, with the next put number, and retired what the key named before
 pub record Publishes (steps : ℕ) (old : Caller) (call : Call) (rows : List Row) (new : Caller) : Type 0 where
   pub polls : ℕ

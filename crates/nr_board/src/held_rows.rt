@@ -6,7 +6,7 @@ ghost use Rattle.nr_board.specs.Views.{rows_held};
 
 use crate::board::{Board, Seat};
 use crate::only_proved::only_proved;
-use nr_model::{Row, RowRoom, RowSet, RowSource};
+use nr_model::{Row, RowRoom, RowSource};
 
 /// A reader's seat, and where the first content word of its slot stands.
 #[derive(Drop)]
@@ -40,11 +40,11 @@ impl RowSource for HeldRows<'_> {
 
 impl Board {
     /// Writes the set of the slot that the reader holds, whose first content word stands at `begin`.
-    pub fn load_rows(&self, seat: &mut Seat, begin: u64, rows: &mut RowSet)
+    pub fn load_rows<R: RowRoom>(&self, seat: &mut Seat, begin: u64, rows: &mut R)
         requires reader { HoldsAt self.now begin seat.old }
         ensures reader { HoldsAt self.now begin seat.new }
-        ensures rows { rows.new ≡ rows_held seat.old.me.0.role }
-        ensures rests { Rests (2 * length rows.new + 1) (token seat.old) (token seat.new) }
+        ensures rows { R.shows rows.new (rows_held seat.old.me.0.role) }
+        ensures rests { Rests (2 * length (rows_held seat.old.me.0.role) + 1) (token seat.old) (token seat.new) }
         ensures marks { seat.new.me.0.marks ≡ seat.old.me.0.marks }
     {
         only_proved(self.rows());
@@ -54,13 +54,13 @@ impl Board {
 
     /// Writes the rows of that set, so many, without the word that counts them.
     #[inline(always)]
-    pub fn copy_rows(&self, seat: &mut Seat, begin: u64, count: u32, rows: &mut RowSet)
+    pub fn copy_rows<R: RowRoom>(&self, seat: &mut Seat, begin: u64, count: u32, rows: &mut R)
         requires reader { HoldsAt self.now begin seat.old }
         requires count { count ≡ length (rows_held seat.old.me.0.role) }
         ensures reader { HoldsAt self.now begin seat.new }
-        ensures rows { rows.new ≡ rows_held seat.old.me.0.role }
+        ensures rows { R.shows rows.new (rows_held seat.old.me.0.role) }
         ensures held { rows_held seat.new.me.0.role ≡ rows_held seat.old.me.0.role }
-        ensures rests { Rests (2 * length rows.new) (token seat.old) (token seat.new) }
+        ensures rests { Rests (2 * length (rows_held seat.old.me.0.role)) (token seat.old) (token seat.new) }
         ensures hold { (token seat.new).holds ≡ (token seat.old).holds }
         ensures marks { seat.new.me.0.marks ≡ seat.old.me.0.marks }
     {

@@ -1,5 +1,6 @@
 //! How the writer reads the set of a key.
-ghost use Rattle.std.specs.Prelude.{◌≡◌, ◌+◌, ◌*◌, ◌<◌, [], length};
+ghost use Rattle.std.specs.Prelude.{◌≡◌, ◌+◌, ◌*◌, ◌<◌, List, [], length};
+ghost use Rattle.nr_model.specs.declared.rows.Row.{Row as SetRow};
 ghost use Rattle.nr_core.specs.States.{key_of};
 ghost use Rattle.nr_core.specs.declared.places.Place.TheVariants.{Reading};
 ghost use Rattle.nr_core.specs.Writer.{moved_to};
@@ -22,7 +23,7 @@ impl Board {
         requires writer { WritesAt self.now (moved_to (desk_of seat.old.me.0.role) (Reading G.call slot [])) seat.old }
         requires slot { slot < self.now.shape.slots }
         requires key { key_of G.call < self.now.shape.keys }
-        ensures { ReadsAll self.now G.call (R.held rows.new) seat.old seat.new }
+        ensures { (set : List SetRow) × R.shows rows.new set × ReadsAll self.now G.call set seat.old seat.new }
     {
         only_proved(self.rows());
         let before = Snapshot::of(seat);

@@ -10,32 +10,32 @@ use crate::board::{Board, Seat};
 use crate::only_proved::only_proved;
 use crate::rule::Given;
 use nr_core::Spare;
-use nr_model::{ApplyFault, Batch, LAST_NUMBER, Pile, Row, RowSet};
+use nr_model::{ApplyFault, Batch, LAST_NUMBER, Pile, Row, RowRoom};
 use nr_words::parts;
 
 impl Board {
-    ghost use Rattle.nr_board.specs.WriterAnswers.{LooksAt, FillsKey, UpdatesKey, EvictsKey, CancelsKey};
+    ghost use Rattle.nr_board.specs.WriterAnswers.{LooksIn, FillsKey, UpdatesKey, EvictsKey, CancelsKey};
 
-    pub fn look_up<G: Given>(
+    pub fn look_up<G: Given, R: RowRoom>(
         &self,
         seat: &mut Seat,
         spare: &Spare,
         key: u32,
-        rows: &mut RowSet,
+        rows: &mut R,
     ) -> Found
         requires call { G.call ≡ writer.Find key }
         requires own { (token seat.old).table ≡ self.now }
         requires rests { RestsAt (token seat.old).table spare.now seat.old }
         requires key { key < self.now.shape.keys }
         ensures rests { RestsAt (token seat.new).table spare.now seat.new }
-        ensures looks { LooksAt key (token seat.old) rows.old (token seat.new) rows.new result }
+        ensures looks { LooksIn R.shows key (token seat.old) rows.old (token seat.new) rows.new result }
     {
         only_proved(spare);
         let found = parts(self.look::<G>(seat, key));
         if !found.filled {
             return Found::Hole;
         }
-        self.read_set::<G, RowSet>(seat, found.slot, rows);
+        self.read_set::<G, R>(seat, found.slot, rows);
         Found::Rows
     }
 

@@ -1,14 +1,10 @@
 -- What a call from C keeps of a handle, and what its token gains.
-use Rattle.std.specs.Prelude.{ℕ, ◌≡◌, ◌+◌, ◌*◌, List, [], ◌∷◌, length, Some}
-use Rattle.nr_model.specs.declared.rows.Row.{Row}
-use Rattle.nr_model.specs.declared.calls.Call.TheVariants as model
-use Rattle.nr_model.specs.declared.calls.Reply.TheVariants as reply
+use Rattle.std.specs.Prelude.{ℕ, ◌≡◌, List, [], ◌∷◌, Some}
 use Rattle.nr_map.specs.declared.answers.Asked.{Asked}
 use Rattle.nr_map.specs.declared.answers.Asked.TheVariants as asked
 use Rattle.nr_board.specs.declared.answers.Found.{Found}
-use Rattle.nr_board.specs.declared.answers.Found.TheVariants as found
-use Rattle.nr_map.specs.Answers.{AsksKey}
-use Rattle.nr_board.specs.Callers.{Caller, Gains}
+use Rattle.nr_map.specs.Answers.{AsksKey, FindsIn}
+use Rattle.nr_board.specs.Callers.{Caller}
 use Rattle.nr_c.specs.declared.hand.Hand.{Hand}
 use Rattle.nr_c.specs.declared.hand.Hand.TheVariants.{Idle}
 use Rattle.nr_c.specs.declared.reader_side.ReaderSide.{ReaderSide}
@@ -41,14 +37,9 @@ pub record WriterCalls (became : Caller → Caller → Type 0) (before after : L
   pub spare : new.spare ≡ old.spare
   pub made : became old.writer new.writer
 
--- a find: the rows of the reply stand in the caller's cells, which stay as they are on a hole
-abbrev pub FindsRows : ℕ → NrRows → NrRows → Found → Caller → Caller → Type 0
-FindsRows key before after found.Rows old new = (set : List Row) × Gains (2 * length set + 3) old (model.Find key) (reply.Rows set) new × Shows after set
-FindsRows key before after found.Hole old new = Gains 1 old (model.Find key) reply.Hole new × (after ≡ before)
-
--- a find by its code
+-- a find by its code: the caller's cells show the rows of the reply, and stay as they are on a hole
 abbrev pub Finds : ℕ → NrRows → NrRows → ℕ → Caller → Caller → Type 0
-Finds key before after code old new = (found : Found) × (code ≡ found_code found) × FindsRows key before after found old new
+Finds key before after code old new = (found : Found) × (code ≡ found_code found) × FindsIn Shows key old before new after found
 
 -- the number that a request tells: that of a ticket, and else what stood there
 abbrev pub number_told : ℕ → Asked → ℕ

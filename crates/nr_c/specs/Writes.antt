@@ -1,8 +1,6 @@
 -- What each call of the writer says of its token, by its code.
-use Rattle.std.specs.Prelude.{ℕ, ◌≡◌, ◌+◌, ◌*◌, ◌<◌, ◌⊎◌, List, length, map, false, Result}
+use Rattle.std.specs.Prelude.{ℕ, ◌≡◌, ◌<◌, ◌⊎◌, List, length, map, false, Result}
 use Rattle.nr_model.specs.declared.batches.TheConstants.{MAX_DELTAS}
-use Rattle.nr_model.specs.declared.calls.Call.TheVariants as model
-use Rattle.nr_model.specs.declared.calls.Reply.TheVariants as reply
 use Rattle.nr_model.specs.declared.rows.Row.{Row}
 use Rattle.nr_model.specs.Maps.{number_of, state_of}
 use Rattle.nr_model.specs.Rows.{is_ascending}
@@ -10,26 +8,20 @@ use Rattle.nr_board.specs.declared.answers.Cancel.{Cancel}
 use Rattle.nr_board.specs.declared.answers.Evict.{Evict}
 use Rattle.nr_board.specs.declared.answers.FillFault.{FillFault}
 use Rattle.nr_board.specs.declared.answers.Found.{Found}
-use Rattle.nr_board.specs.declared.answers.Found.TheVariants as found
 use Rattle.nr_board.specs.declared.answers.KeyKind.{KeyKind}
 use Rattle.nr_board.specs.declared.answers.UpdateFault.{UpdateFault}
-use Rattle.nr_board.specs.WriterAnswers.{CancelsKey, EvictsKey, FillsKey, SlotsStay, UpdatesKey}
-use Rattle.nr_board.specs.Callers.{Caller, Gains, map_seen}
+use Rattle.nr_board.specs.WriterAnswers.{CancelsKey, EvictsKey, FillsKey, LooksIn, UpdatesKey}
+use Rattle.nr_board.specs.Callers.{Caller, map_seen}
 use Rattle.nr_board.specs.Meetings.{StatesKey}
 use Rattle.nr_c.specs.declared.codes.TheConstants.{NR_BAD_BATCH, NR_NOT_SORTED, NR_TOO_MANY}
 use Rattle.nr_c.specs.declared.rows.NrDelta.{NrDelta}
-use Rattle.nr_c.specs.declared.rows.NrRow.{NrRow}
 use Rattle.nr_c.specs.declared.rows.NrRows.{NrRows}
 use Rattle.nr_c.specs.Codes.{cancel_code, evict_code, fill_code, found_code, kind_code, update_code}
-use Rattle.nr_c.specs.RowCells.{Shows, delta_of, row_of}
+use Rattle.nr_c.specs.RowCells.{Shows, delta_of}
 
--- a find of the writer's own: the rows of the reply stand in the caller's cells, which stay as they are on a hole
-abbrev pub LooksRows : ℕ → NrRows → NrRows → Found → Caller → Caller → Type 0
-LooksRows key before after found.Rows old new = (set : List Row) × Gains (2 * length set + 2) old (model.Find key) (reply.Rows set) new × SlotsStay old new × Shows after set
-LooksRows key before after found.Hole old new = Gains 1 old (model.Find key) reply.Hole new × SlotsStay old new × (after ≡ before)
-
+-- a find of the writer's own: the caller's cells show the rows of the reply, and stay as they are on a hole
 abbrev pub Looks : ℕ → NrRows → NrRows → ℕ → Caller → Caller → Type 0
-Looks key before after code old new = (found : Found) × (code ≡ found_code found) × LooksRows key before after found old new
+Looks key before after code old new = (found : Found) × (code ≡ found_code found) × LooksIn Shows key old before new after found
 
 -- a fill is refused by its rows, and the writer stays; or it is the map's fill with those rows
 abbrev pub RefusesRows : List Row → ℕ → Caller → Caller → Type 0
@@ -38,8 +30,8 @@ RefusesRows rows code old new = (((code ≡ NR_TOO_MANY) × (old.table.shape.row
 abbrev pub FillsBy : ℕ → ℕ → List Row → ℕ → Caller → Caller → Type 0
 FillsBy key number rows code old new = (answer : Result (Unit {0}) FillFault) × (code ≡ fill_code answer) × FillsKey key number rows old new answer
 
-abbrev pub Fills : ℕ → ℕ → List NrRow → ℕ → Caller → Caller → Type 0
-Fills key number rows code old new = RefusesRows (map row_of rows) code old new ⊎ FillsBy key number (map row_of rows) code old new
+abbrev pub Fills : ℕ → ℕ → List Row → ℕ → Caller → Caller → Type 0
+Fills key number rows code old new = RefusesRows rows code old new ⊎ FillsBy key number rows code old new
 
 -- an update is refused by the number of its rows, and the writer stays; or it is the map's update with them
 abbrev pub RefusesBatch : List NrDelta → ℕ → Caller → Caller → Type 0

@@ -27,7 +27,6 @@ mod reader_lend;
 mod reader_side;
 mod reads;
 mod rows;
-mod showing;
 mod sizes;
 mod taker_handle;
 mod taker_lend;

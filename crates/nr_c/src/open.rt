@@ -9,13 +9,14 @@ ghost use Rattle.nr_c.specs.Openings.{IsNewWriter, Opens, TakesReader};
 ghost use Rattle.nr_c.specs.Sizes.{shape_of, sizes_of};
 
 use crate::codes::{NR_BAD_SIZE, NR_DONE, NR_NO_MEMORY, NR_NO_READER};
+use crate::deltas::first_batch;
 use crate::reader_handle::NrReader;
 use crate::reader_side::ReaderSide;
 use crate::sizes::{NrShape, NrSizes};
 use crate::writer_handle::NrWriter;
 use crate::writer_side::WriterSide;
 use nr_map::{Reader, ReaderMap};
-use nr_model::{OpenFault, RowSet};
+use nr_model::OpenFault;
 use std::alloc::Global;
 use std::sync::Arc;
 
@@ -49,7 +50,7 @@ fn opened(alloc: Global, shape: &NrShape) -> Result<Box<WriterSide, Global>, Ope
     let side = WriterSide {
         map,
         writer,
-        rows: RowSet::new(),
+        batch: first_batch(),
         spare,
     };
     Ok(Box::new(alloc, side).map_err(|_| OpenFault::Memory)?)

@@ -9,7 +9,7 @@ ghost use Rattle.nr_c.specs.Pins.{PinsCells, Releases, ReadsRow};
 use crate::codes::{NR_HOLE, NR_NO_ROW, NR_ROWS};
 use crate::hand::Hand;
 use crate::reader_handle::NrReader;
-use crate::rows::NrRow;
+use nr_model::Row;
 
 /// Finds a key, and holds its set, which stays as it is until the reader is released, whatever is
 /// filled, updated or evicted meanwhile. Answers `NR_ROWS` after 2 steps, and then `count` is the
@@ -37,7 +37,7 @@ pub extern "C" fn nr_pin(reader: &mut NrReader, key: u32, count: &mut u32) -> u3
 /// A row of the held set, from 0, in 2 steps: `NR_ROWS`. `NR_NO_ROW` where it has no such row, with
 /// no step, and `row` stays.
 #[unsafe(no_mangle)]
-pub extern "C" fn nr_row_at(reader: &mut NrReader, place: u32, row: &mut NrRow) -> u32
+pub extern "C" fn nr_row_at(reader: &mut NrReader, place: u32, row: &mut Row) -> u32
     requires live { (held : Held) × (pin : Pinned) × (reader.old.live ≡ held ∷ []) × (held.hand ≡ Some (hand.Holds pin)) }
     ensures { ReadsRow place row.old row.new result reader.old.live reader.new.live }
 {
@@ -47,7 +47,7 @@ pub extern "C" fn nr_row_at(reader: &mut NrReader, place: u32, row: &mut NrRow) 
         side.put(Hand::Holds(pin));
         return NR_NO_ROW;
     }
-    *row = NrRow::of(pin.row(&side.map, place));
+    *row = pin.row(&side.map, place);
     side.put(Hand::Holds(pin));
     NR_ROWS
 }

@@ -3,16 +3,16 @@ ghost use Rattle.std.specs.Prelude.{◌≡◌, ◌<◌, [], ◌∷◌, Some};
 ghost use Rattle.nr_board.specs.Callers.{Caller};
 ghost use Rattle.nr_c.specs.declared.hand.Hand.TheVariants as hands;
 ghost use Rattle.nr_c.specs.declared.reader_side.ReaderSide.{ReaderSide as Held};
-ghost use Rattle.nr_map.specs.Answers.{AsksKey};
+ghost use Rattle.nr_map.specs.Answers.{AsksKey, FindsIn};
 ghost use Rattle.nr_c.specs.Hands.{table_of};
 ghost use Rattle.nr_c.specs.Live.{Asks, Finds, ReaderCalls};
+ghost use Rattle.nr_c.specs.RowCells.{Shows};
 
 use crate::codes::{NR_FILLED, NR_SEND, NR_WAITING, of_found};
 use crate::hand::Hand;
 use crate::reader_handle::NrReader;
 use crate::rows::NrRows;
-use crate::showing::find_rows;
-use nr_map::{Asked, ReaderMap};
+use nr_map::{Asked, Found, ReaderMap};
 
 /// Looks a key up, and puts its rows into the caller's cells, which stay as they are where the key
 /// is a hole. 1 step for a hole, and 2n + 3 for n rows. Answers `NR_ROWS` or `NR_HOLE`.
@@ -22,10 +22,32 @@ pub extern "C" fn nr_find(reader: &mut NrReader, key: u32, rows: &mut NrRows) ->
     ensures { ReaderCalls (Finds key rows.old rows.new result) reader.old.live reader.new.live }
 {
     let side = reader.side();
-    let idle = side.take_reader();
-    let (found, idle) = find_rows(&side.map, idle, key, rows);
-    side.put(Hand::Idle(idle));
-    of_found(found)
+    of_found(find_idle(&side.map, &mut side.hand, key, rows))
+}
+
+// A find by a reader that stays where it is.
+fn find_idle(map: &ReaderMap, hand: &mut Option<Hand>, key: u32, rows: &mut NrRows) -> Found
+    requires idle { (idle : Caller) × (hand.old ≡ Some (hands.Idle idle)) }
+    requires own { table_of hand.old map.now ≡ map.now }
+    requires key { key < map.now.shape.keys }
+    ensures own { table_of hand.new map.now ≡ map.now }
+    ensures finds { (old new : Caller) × (hand.old ≡ Some (hands.Idle old)) × (hand.new ≡ Some (hands.Idle new)) × FindsIn Shows key old rows.old new rows.new result }
+{
+    match hand {
+        Some(within) => find_within(map, within, key, rows),
+        None => unreachable!(),
+    }
+}
+
+fn find_within(map: &ReaderMap, hand: &mut Hand, key: u32, rows: &mut NrRows) -> Found
+    requires idle { (idle : Caller) × (hand.old ≡ hands.Idle idle) × (idle.table ≡ map.now) }
+    requires key { key < map.now.shape.keys }
+    ensures { (old new : Caller) × (hand.old ≡ hands.Idle old) × (hand.new ≡ hands.Idle new) × (new.table ≡ map.now) × FindsIn Shows key old rows.old new rows.new result }
+{
+    match hand {
+        Hand::Idle(reader) => map.find_into(reader, key, rows),
+        Hand::Holds(_) => unreachable!(),
+    }
 }
 
 /// Requests a key, in 1 step. Answers `NR_SEND`, and then `number` is the number of the request,

@@ -5,14 +5,13 @@ ghost use Rattle.nr_c.specs.Live.{WriterCalls};
 ghost use Rattle.nr_c.specs.Writes.{Cancels, Evicts, Fills, IsNumber, Looks, States, Updates};
 
 use crate::codes::{
-    NR_BAD_BATCH, NR_HOLE, NR_NOT_SORTED, NR_ROWS, NR_TOO_MANY, of_cancel, of_evict, of_fill,
-    of_kind, of_update,
+    NR_BAD_BATCH, NR_NOT_SORTED, NR_TOO_MANY, of_cancel, of_evict, of_fill, of_found, of_kind,
+    of_update,
 };
-use crate::deltas::batch_of;
-use crate::rows::{LentRows, NrDelta, NrRow, NrRows};
+use crate::deltas::write_over;
+use crate::rows::{NrDelta, NrRows, ascends};
 use crate::writer_handle::NrWriter;
-use nr_map::Found;
-use nr_model::RowRoom;
+use nr_model::Row;
 
 /// A find of the writer's own. 1 step for a hole, and 2n + 2 for n rows. Answers `NR_ROWS` or
 /// `NR_HOLE`, and the caller's cells stay as they are where the key is a hole.
@@ -22,13 +21,7 @@ pub extern "C" fn nr_look(writer: &mut NrWriter, key: u32, rows: &mut NrRows) ->
     ensures { WriterCalls (Looks key rows.old rows.new result) writer.old.live writer.new.live }
 {
     let side = writer.side();
-    match side.map.look(&mut side.writer, key, &mut side.rows) {
-        Found::Rows => {
-            rows.show(&side.rows);
-            NR_ROWS
-        }
-        Found::Hole => NR_HOLE,
-    }
+    of_found(side.map.look_into(&mut side.writer, key, rows))
 }
 
 /// Fills a key that was asked for, by the number of its request, with rows in ascending order.
@@ -36,20 +29,18 @@ pub extern "C" fn nr_look(writer: &mut NrWriter, key: u32, rows: &mut NrRows) ->
 /// below the one before it, with no step; and else as the map's fill does: `NR_DONE`,
 /// `NR_NOT_ASKED`, `NR_ALREADY`, `NR_STALE` or `NR_NO_SLOT`.
 #[unsafe(no_mangle)]
-pub extern "C" fn nr_fill(writer: &mut NrWriter, key: u32, number: u64, rows: &[NrRow]) -> u32
+pub extern "C" fn nr_fill(writer: &mut NrWriter, key: u32, number: u64, rows: &[Row]) -> u32
     requires live { (held : Held) × (writer.old.live ≡ held ∷ []) × (key < held.map.value.shape.keys) }
     ensures { WriterCalls (Fills key number rows.now result) writer.old.live writer.new.live }
 {
     let side = writer.side();
-    let mut lent = LentRows { rows };
     if rows.len() > side.map.rows() as usize {
         return NR_TOO_MANY;
     }
-    if !lent.is_ascending() {
+    if !ascends(rows) {
         return NR_NOT_SORTED;
     }
-    side.rows.refill(rows.len(), &mut lent);
-    of_fill(side.map.fill(&mut side.writer, key, number, &side.rows))
+    of_fill(side.map.fill_rows(&mut side.writer, key, number, rows))
 }
 
 /// Applies a batch of 1 to 64 signed rows to the rows of a filled key, whole or not at all. Answers
@@ -61,10 +52,10 @@ pub extern "C" fn nr_update(writer: &mut NrWriter, key: u32, deltas: &[NrDelta])
     ensures { WriterCalls (Updates key deltas.now result) writer.old.live writer.new.live }
 {
     let side = writer.side();
-    let Some(batch) = batch_of(deltas) else {
+    if !write_over(&mut side.batch, deltas) {
         return NR_BAD_BATCH;
-    };
-    of_update(side.map.update(&mut side.writer, key, &batch))
+    }
+    of_update(side.map.update(&mut side.writer, key, &side.batch))
 }
 
 /// Makes a filled key a hole, in 2 steps, and 1 where it is not filled. Answers `NR_EVICTED` or

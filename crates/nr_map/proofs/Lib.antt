@@ -1,5 +1,6 @@
 pub mod Gathered
 pub mod AllKeys
 pub mod Seating
+pub mod SetRooms
 pub mod NoSlots
 pub mod SlotBounds

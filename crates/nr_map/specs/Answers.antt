@@ -14,6 +14,11 @@ abbrev pub FindsKey : ℕ → Caller → List Row → Caller → List Row → Fo
 FindsKey key old before new rows found.Rows = Gains (2 * length rows + 3) old (model.Find key) (reply.Rows rows) new
 FindsKey key old before new rows found.Hole = Gains 1 old (model.Find key) reply.Hole new × (rows ≡ before)
 
+-- a find into any room: on a hole it stays; else it shows all rows of the reply
+abbrev pub FindsIn : {Room : Type 0} → (Room → List Row → Type 0) → ℕ → Caller → Room → Caller → Room → Found → Type 0
+FindsIn shows key old before new room found.Rows = (rows : List Row) × Gains (2 * length rows + 3) old (model.Find key) (reply.Rows rows) new × shows room rows
+FindsIn shows key old before new room found.Hole = Gains 1 old (model.Find key) reply.Hole new × (room ≡ before)
+
 -- a find arrives, and departs from the set that it found
 abbrev pub acts_of : Found → ℕ
 acts_of found.Rows = 2

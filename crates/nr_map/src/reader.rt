@@ -6,7 +6,7 @@ use crate::answers::Asked;
 use crate::reader_map::ReaderMap;
 use crate::ticket::Ticket;
 use nr_board::{Found, Seat};
-use nr_model::RowSet;
+use nr_model::{RowRoom, RowSet};
 use nr_words::parts;
 use std::marker::Model;
 
@@ -63,7 +63,7 @@ impl Reader {
 }
 
 impl ReaderMap {
-    ghost use Rattle.nr_map.specs.Answers.{AsksKey, FindsKey, acts_of};
+    ghost use Rattle.nr_map.specs.Answers.{AsksKey, FindsIn, FindsKey, acts_of};
 
     /// Looks a key up, and writes its rows into the caller's set, which stays as it is where the
     /// key is a hole. Takes 1 step for a hole, and 2n + 3 for n rows: it arrives, reads each word
@@ -73,6 +73,19 @@ impl ReaderMap {
         requires key { key < self.now.shape.keys }
         ensures own { reader.new.table ≡ self.now }
         ensures finds { FindsKey key reader.old rows.old reader.new rows.new result }
+        ensures idle { reader.new.holds ≡ None }
+        ensures acts { reader.new.marks.acts ≡ reader.old.marks.acts + acts_of result }
+    {
+        self.find_into(reader, key, rows)
+    }
+
+    /// As `find`, with any room for rows in place of a set. A room that the rows go to last needs
+    /// no copy.
+    pub fn find_into<R: RowRoom>(&self, reader: &mut Reader, key: u32, rows: &mut R) -> Found
+        requires own { reader.old.table ≡ self.now }
+        requires key { key < self.now.shape.keys }
+        ensures own { reader.new.table ≡ self.now }
+        ensures finds { FindsIn R.shows key reader.old rows.old reader.new rows.new result }
         ensures idle { reader.new.holds ≡ None }
         ensures acts { reader.new.marks.acts ≡ reader.old.marks.acts + acts_of result }
     {

@@ -1,16 +1,17 @@
 //! The writer's calls.
 ghost use Rattle.std.specs.Prelude.{◌≡◌, ◌<◌, ◌≤◌, length};
+ghost use Rattle.nr_model.specs.Rows.{IsRowSet};
 
 use crate::reader_map::ReaderMap;
 use crate::writer::Writer;
 use nr_board::{Evict, FillFault, Found, UpdateFault};
-use nr_model::{Batch, RowSet};
+use nr_model::{Batch, Row, RowRoom, RowSet};
 use std::marker::Brand;
 
 // A writer's type says that it stands between two calls, and in the midst of one it doesn't. So each
 // public call lends the writer's seat and slots, one by one, to the call as its seat makes it.
 impl ReaderMap {
-    ghost use Rattle.nr_board.specs.WriterAnswers.{LooksAt, FillsKey, UpdatesKey, EvictsKey};
+    ghost use Rattle.nr_board.specs.WriterAnswers.{LooksAt, LooksIn, FillsKey, UpdatesKey, EvictsKey};
 
     /// A find of the writer's own: writes the key's rows into the caller's set, which stays as it
     /// is where the key is a hole. Takes 1 step for a hole, and 2n + 2 for n rows.
@@ -19,8 +20,17 @@ impl ReaderMap {
         requires key { key < self.now.shape.keys }
         ensures { LooksAt key writer.old rows.old writer.new rows.new result }
     {
+        self.look_into(writer, key, rows)
+    }
+
+    /// As `look`, with any room for rows in place of a set.
+    pub fn look_into<R: RowRoom>(&self, writer: &mut Writer, key: u32, rows: &mut R) -> Found
+        requires own { writer.old.table ≡ self.now }
+        requires key { key < self.now.shape.keys }
+        ensures { LooksIn R.shows key writer.old rows.old writer.new rows.new result }
+    {
         self.board
-            .look_up::<Brand>(&mut writer.seat, &writer.spare, key, rows)
+            .look_up::<Brand, R>(&mut writer.seat, &writer.spare, key, rows)
     }
 
     /// Fills a key that was asked for, by the number of its request, with at most `rows()` rows.
@@ -40,13 +50,25 @@ impl ReaderMap {
         requires few { length rows.now ≤ self.now.shape.rows }
         ensures { FillsKey key number rows.now writer.old writer.new result }
     {
-        self.board.fill_key::<Brand>(
-            &mut writer.seat,
-            &mut writer.spare,
-            key,
-            number,
-            rows.as_slice(),
-        )
+        self.fill_rows(writer, key, number, rows.as_slice())
+    }
+
+    /// As `fill`, with at most `rows()` rows in ascending order in place of a set, so that rows
+    /// which stand in order somewhere need no copy.
+    pub fn fill_rows(
+        &self,
+        writer: &mut Writer,
+        key: u32,
+        number: u64,
+        rows: &[Row],
+    ) -> Result<(), FillFault>
+        requires own { writer.old.table ≡ self.now }
+        requires key { key < self.now.shape.keys }
+        requires row_set { IsRowSet self.now.shape.rows rows.now }
+        ensures { FillsKey key number rows.now writer.old writer.new result }
+    {
+        self.board
+            .fill_key::<Brand>(&mut writer.seat, &mut writer.spare, key, number, rows)
     }
 
     /// Applies a batch to the set of a filled key, whole or not at all. Refused where the key is not

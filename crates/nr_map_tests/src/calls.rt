@@ -4,7 +4,7 @@ ghost use Rattle.std.specs.Prelude.{◌≡◌, ◌<◌};
 use nr_map::{
     Asked, Cancel, Evict, FillFault, Found, KeyKind, Reader, ReaderMap, UpdateFault, Writer,
 };
-use nr_model::{Batch, Delta, MAX_ROWS, Row, RowSet};
+use nr_model::{Batch, Delta, MAX_ROWS, Pile, Row, RowSet};
 
 /// An answer to a request, whose ticket was spent: its key and its number.
 #[derive(Clone, Copy, Debug, PartialEq, Eq)]
@@ -51,6 +51,24 @@ pub(crate) fn find(map: &ReaderMap, reader: &mut Reader, key: u32, rows: &mut Ro
     map.find(reader, key, rows)
 }
 
+/// Finds a key's rows into a pile.
+pub(crate) fn find_into(map: &ReaderMap, reader: &mut Reader, key: u32, rows: &mut Pile) -> Found
+    requires own { reader.old.table ≡ map.now }
+    requires key { key < map.now.shape.keys }
+    ensures own { reader.new.table ≡ map.now }
+{
+    map.find_into(reader, key, rows)
+}
+
+/// Looks a key's rows up as the writer, into a pile.
+pub(crate) fn look_into(map: &ReaderMap, writer: &mut Writer, key: u32, rows: &mut Pile) -> Found
+    requires own { writer.old.table ≡ map.now }
+    requires key { key < map.now.shape.keys }
+    ensures own { writer.new.table ≡ map.now }
+{
+    map.look_into(writer, key, rows)
+}
+
 /// Looks a key's rows up as the writer.
 pub(crate) fn look(map: &ReaderMap, writer: &mut Writer, key: u32, rows: &mut RowSet) -> Found
     requires own { writer.old.table ≡ map.now }
@@ -76,6 +94,24 @@ pub(crate) fn fill(
         return None;
     }
     Some(map.fill(writer, key, number, rows))
+}
+
+/// Fills a key with the rows of a set, as a slice. `None` where they are more than a key may have.
+pub(crate) fn fill_rows(
+    map: &ReaderMap,
+    writer: &mut Writer,
+    key: u32,
+    number: u64,
+    rows: &RowSet,
+) -> Option<Result<(), FillFault>>
+    requires own { writer.old.table ≡ map.now }
+    requires key { key < map.now.shape.keys }
+    ensures own { writer.new.table ≡ map.now }
+{
+    if rows.len() > map.rows() as usize {
+        return None;
+    }
+    Some(map.fill_rows(writer, key, number, rows.as_slice()))
 }
 
 /// Updates a key. `None` where the deltas are no batch.

@@ -2,8 +2,8 @@
 
 use crate::calls::{Told, minus, pairs_are, plus};
 use crate::worked::Worked;
-use nr_map::{Found, MAX_READERS, MAX_SLOTS, ReaderMap, Shape, UpdateFault};
-use nr_model::{MAX_KEYS, MAX_ROWS, OpenFault, Row, RowSet};
+use nr_map::{FillFault, Found, MAX_READERS, MAX_SLOTS, ReaderMap, Shape, UpdateFault};
+use nr_model::{MAX_KEYS, MAX_ROWS, OpenFault, Pile, Row, RowSet};
 use std::alloc::Global;
 use std::process::Abort;
 use std::test::Fail;
@@ -120,6 +120,33 @@ fn a_find_leaves_nothing_of_the_old_rows(rt: HostRuntime) -> Result<(), Fail> {
     shows(&rt, &mut worked, 0, &mut set, &MANY);
     shows(&rt, &mut worked, 2, &mut set, &[]);
     shows(&rt, &mut worked, 1, &mut set, &FEW);
+    Ok(())
+}
+
+/// A find and a look write just those rows over the pile's old ones.
+fn piles<R: Abort>(rt: &R, worked: &mut Worked, key: u32, pile: &mut Pile, rows: &RowSet) {
+    assert_eq!(rt; worked.find_into(rt, key, pile), Found::Rows);
+    assert_eq!(rt; pile.as_slice(), rows.as_slice());
+    let mut looked = Pile::new();
+    assert_eq!(rt; worked.look_into(rt, key, &mut looked), Found::Rows);
+    assert_eq!(rt; looked.as_slice(), rows.as_slice());
+}
+
+#[test]
+fn rows_go_from_a_slice_into_any_room(rt: HostRuntime) -> Result<(), Fail> {
+    let mut worked = Worked::open_with(rt.alloc(), &with_rows(16))?;
+    worked.asks(&rt, 0, Told::Send(0, 0));
+    worked.asks(&rt, 1, Told::Send(1, 0));
+    worked.fills_rows(&rt, 0, 0, &numbered(16), Ok(()));
+    worked.fills_rows(&rt, 1, 0, &numbered(1), Ok(()));
+    worked.fills_rows(&rt, 1, 0, &numbered(2), Err(FillFault::Already));
+    let mut pile = Pile::new();
+    piles(&rt, &mut worked, 0, &mut pile, &numbered(16));
+    piles(&rt, &mut worked, 1, &mut pile, &numbered(1));
+    assert_eq!(rt; worked.find_into(&rt, 2, &mut pile), Found::Hole);
+    assert_eq!(rt; worked.look_into(&rt, 2, &mut pile), Found::Hole);
+    assert_eq!(rt; pile.as_slice(), numbered(1).as_slice());
+    piles(&rt, &mut worked, 0, &mut pile, &numbered(16));
     Ok(())
 }
 

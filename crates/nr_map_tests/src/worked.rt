@@ -2,11 +2,14 @@
 //! asserts its answer, so that a test is a list of calls.
 ghost use Rattle.std.specs.Prelude.{◌≡◌, IfOk, IfSome};
 
-use crate::calls::{Told, ask, cancel, evict, fill, find, look, pairs_are, rows_of, state, update};
+use crate::calls::{
+    Told, ask, cancel, evict, fill, fill_rows, find, find_into, look, look_into, pairs_are, rows_of,
+    state, update,
+};
 use nr_map::{
     Cancel, Evict, FillFault, Found, KeyKind, Reader, ReaderMap, Shape, UpdateFault, Writer,
 };
-use nr_model::{Delta, RowSet};
+use nr_model::{Delta, Pile, RowSet};
 use std::alloc::Global;
 use std::marker::Model;
 use std::process::Abort;
@@ -121,6 +124,22 @@ impl Worked {
         look(&self.map, &mut self.writer, key, rows)
     }
 
+    /// Finds a key, and writes its rows into the pile.
+    pub(crate) fn find_into<R: Abort>(&mut self, rt: &R, key: u32, rows: &mut Pile) -> Found
+        ensures { self.new ≡ self.old }
+    {
+        assert!(rt; key < self.map.keys());
+        find_into(&self.map, &mut self.reader, key, rows)
+    }
+
+    /// Looks a key up, and writes its rows into the pile.
+    pub(crate) fn look_into<R: Abort>(&mut self, rt: &R, key: u32, rows: &mut Pile) -> Found
+        ensures { self.new ≡ self.old }
+    {
+        assert!(rt; key < self.map.keys());
+        look_into(&self.map, &mut self.writer, key, rows)
+    }
+
     pub(crate) fn looks<R: Abort>(&mut self, rt: &R, key: u32, pairs: &[(u64, u64)])
         ensures { self.new ≡ self.old }
     {
@@ -155,6 +174,21 @@ impl Worked {
         ensures { self.new ≡ self.old }
     {
         self.fills_set(rt, key, number, &rows_of(pairs), answer);
+    }
+
+    pub(crate) fn fills_rows<R: Abort>(
+        &mut self,
+        rt: &R,
+        key: u32,
+        number: u64,
+        rows: &RowSet,
+        answer: Result<(), FillFault>,
+    )
+        ensures { self.new ≡ self.old }
+    {
+        assert!(rt; key < self.map.keys());
+        let filled = fill_rows(&self.map, &mut self.writer, key, number, rows);
+        assert_eq!(rt; filled, Some(answer));
     }
 
     pub(crate) fn updates<R: Abort>(

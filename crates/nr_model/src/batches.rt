@@ -1,7 +1,7 @@
 //! Signed rows, and batches of one to sixty-four of them.
-ghost use Rattle.std.specs.Prelude.{◌≡◌, ◌≤◌, ◌<◌, ◌↔◌, ℕ, [], length, slice_get, IfOk, Err};
+ghost use Rattle.std.specs.Prelude.{◌≡◌, ◌≤◌, ◌<◌, ◌+◌, ◌++◌, ◌∷◌, ◌↔◌, ℕ, [], length, slice_get, IfOk, IfErr, OnOk, Err};
 
-use crate::cells::padded_copy;
+use crate::cells::{padded_copy, wipe_from};
 use crate::rows::{BLANK, Row};
 use std::marker::Model;
 use thiserror::Error;
@@ -83,6 +83,30 @@ impl Batch {
             len: deltas.len(),
             cells: padded_copy(deltas, NO_DELTA),
         })
+    }
+
+    /// The batch of that one row, in place of what it was: the first step where a batch is written
+    /// anew, row by row. Of the cells those that were in use are written, and no other.
+    pub fn start(&mut self, first: Delta)
+        ensures { self.new ≡ first ∷ [] }
+    {
+        self.cells[0] = first;
+        wipe_from(&mut self.cells, NO_DELTA, 1, self.len);
+        self.len = 1;
+    }
+
+    /// Puts one more row behind the others. Refused where the batch has 64, and then it stays.
+    pub fn push(&mut self, next: Delta) -> Result<(), BatchFault>
+        ensures ok { OnOk result (self.new ≡ self.old ++ next ∷ []) }
+        ensures few { OnOk result (length self.old < MAX_DELTAS) }
+        ensures full { IfErr result (λ fault. (fault ≡ BatchFault.TooLong) × (length self.old ≡ MAX_DELTAS) × (self.new ≡ self.old)) }
+    {
+        if self.len == MAX_DELTAS {
+            return Err(BatchFault::TooLong);
+        }
+        self.cells[self.len] = next;
+        self.len += 1;
+        Ok(())
     }
 
     /// How many signed rows the batch has, 1 to 64.

@@ -21,5 +21,5 @@ pub use pile::Pile;
 pub use rows::{DEFAULT_ROWS, MAX_ROWS, Row, RowSet, TooMany};
 pub use seq_map::{MAX_KEYS, OpenFault, SeqMap};
 pub use sizes::is_bad_size;
-pub use source::{RowRoom, RowSource};
+pub use source::{RowRoom, RowSource, put_over};
 pub use states::{KeyState, LAST_NUMBER};

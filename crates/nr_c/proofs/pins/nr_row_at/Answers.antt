@@ -1,6 +1,4 @@
-use Rattle.std.proofs.Common.{inl, inr, refl, sym, ap, Some, ◌∙◌, arith}
-use Rattle.nr_c.specs.declared.rows.NrRow.{NrRow}
-use Rattle.nr_c.specs.RowCells.{row_of}
+use Rattle.std.proofs.Common.{inl, inr, refl, ◌∙◌, arith}
 use Rattle.nr_c.proofs.pins.nr_row_at.Goals as goal
 
 pub returns-then-place-len : goal.returns-then-place-len
@@ -18,7 +16,7 @@ returns c = inl (
   c.take_pin-pin.result,
   c.row.new.self,
   record { old = c.side-side.result.now; new = _; led = c.side-side.ensures.value; leads = refl; map = c.put-2.ensures.map ∙ c.take_pin-pin.ensures.map; old_hand = c.take_pin-pin.ensures.pin; new_hand = c.put-2.ensures.hand },
-  c.row.ensures.row ∙ ap (λ (cell : NrRow). Some (row_of cell)) (sym c.of.ensures),
+  c.row.ensures.row,
   c.row.ensures.rows,
   c.row.ensures.rests,
 )

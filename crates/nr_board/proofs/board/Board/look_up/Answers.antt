@@ -20,5 +20,6 @@ read_set-requires g c = let looks = has_looked {before = c.args.seat.now} refl c
 
 pub returns : goal.returns
 returns g c = let looks = has_looked {before = c.args.seat.now} refl c.requires.own c.requires.rests c.requires.call c.look.ensures.leads c.look.ensures.marks in
-    let told = has_found (has_read looks (find_reads c.args.self.now.shape (desk_with c.args.spare.now Idle) c.args.key c.look.result (is_full c.look.result c.parts-found.ensures.parts c.if-not-found.false)) c.requires.call c.read_set.ensures) in
-    record { rests = told.0; looks = told.1 }
+    let (rows, shows, reads) = c.read_set.ensures in
+    let told = has_found (has_read looks (find_reads c.args.self.now.shape (desk_with c.args.spare.now Idle) c.args.key c.look.result (is_full c.look.result c.parts-found.ensures.parts c.if-not-found.false)) c.requires.call reads) in
+    record { rests = told.0; looks = (rows, told.1.0, told.1.1, shows) }

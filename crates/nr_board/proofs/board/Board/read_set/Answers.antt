@@ -1,6 +1,7 @@
-use Rattle.std.proofs.Common.{arith, rules, subst, sym, ◌∙◌, refl}
+use Rattle.std.proofs.Common.{ap, arith, refl, rules, subst, sym, ◌≡◌, ◌∙◌}
+use Rattle.nr_board.specs.Callers.{Table}
 use Rattle.nr_board.proofs.ReadingOn.{begins, reads_all}
-use Rattle.nr_board.specs.NamedRows.{ReadTo, ReadsAll}
+use Rattle.nr_board.specs.NamedRows.{ReadTo, ReadsAll, rows_named}
 use Rattle.nr_board.specs.WriterSeats.{MapSeat}
 use Rattle.nr_board.proofs.board.Board.read_set.Goals as goal
 
@@ -15,5 +16,10 @@ refill-requires g c = let map = c.args.self.now in let call = g.G.Given.call in 
 pub returns : goal.returns
 returns g c = let map = c.args.self.now in let call = g.G.Given.call in let begin = c.content-begin.result in let mid = c.read_on-count.new.seat in let source = c.refill.new.source in let gave = c.refill.ensures.gave in
     let first = begins map c.args.self.now call begin c.args.slot c.read_on-count.result c.args.seat.now mid refl c.content-begin.ensures c.requires.key c.requires.writer c.read_on-count.ensures in
-    subst (ReadsAll map call (g.R.RowRoom.held c.refill.new.self) c.args.seat.now) (search rules)
-    (reads_all map call source.begin c.args.seat.now mid source.seat.now source.before.now.value source.board.now c.read_on-count.result (g.R.RowRoom.held c.refill.new.self) first.0 c.refill.ensures.set c.refill.ensures.rows gave.1 (gave.3 ∙ c.of-before.ensures) c.refill.ensures.ready)
+    let before : source.before.now.value ≡ c.args.seat.now = gave.3 ∙ c.of-before.ensures in
+    let rows = rows_named map call mid in (
+      rows,
+      c.refill.ensures.set,
+      subst (ReadsAll map call rows c.args.seat.now) (search rules)
+          (reads_all map call source.begin c.args.seat.now mid source.seat.now source.before.now.value source.board.now c.read_on-count.result rows first.0 refl c.refill.ensures.rows gave.1 before c.refill.ensures.ready),
+    )

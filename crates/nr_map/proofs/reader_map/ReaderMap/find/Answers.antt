@@ -1,10 +1,5 @@
-use Rattle.std.proofs.Common.{arith}
-use Rattle.nr_words.specs.KeyWords.{slot_of}
-use Rattle.nr_board.proofs.Looks.{is_full, slot_so}
-use Rattle.nr_board.proofs.ReaderSeats.{held_inside}
+use Rattle.nr_map.proofs.SetRooms.{finds_set}
 use Rattle.nr_map.proofs.reader_map.ReaderMap.find.Goals as goal
 
-pub content-begin-requires : goal.content-begin-requires
-content-begin-requires c = let word = c.arrive-word.result in let parts = c.parts-found.ensures.parts in
-    let held = c.arrive-word.ensures.held (is_full word parts c.if-not-found.false) in
-    omega (arith, held_inside (slot_of word) held.0, slot_so word parts)
+pub returns-clause-finds : goal.returns-clause-finds
+returns-clause-finds c = finds_set c.args.key c.args.reader.now c.find_into.new.reader c.args.rows.now c.find_into.new.rows c.find_into.result c.find_into.ensures.finds

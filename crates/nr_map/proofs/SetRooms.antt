@@ -1,0 +1,19 @@
+-- A room that is a set: the rows that it shows are its value.
+use Rattle.std.proofs.Common.{◌≡◌, ℕ, ◌+◌, ◌*◌, List, length, subst, sym}
+use Rattle.nr_model.specs.declared.calls.Call.TheVariants as model
+use Rattle.nr_model.specs.declared.calls.Reply.TheVariants as reply
+use Rattle.nr_model.specs.declared.rows.Row.{Row}
+use Rattle.nr_board.specs.declared.answers.Found.{Found}
+use Rattle.nr_board.specs.declared.answers.Found.TheVariants as found
+use Rattle.nr_board.specs.WriterAnswers.{LooksAt, LooksIn}
+use Rattle.nr_map.specs.Answers.{FindsIn, FindsKey}
+use Rattle.nr_board.specs.Callers.{Caller, Gains}
+
+module _ (key : ℕ) (old new : Caller) (before after : List Row) where
+  pub finds_set : (answer : Found) → FindsIn (λ (room rows : List Row). room ≡ rows) key old before new after answer → FindsKey key old before new after answer
+  finds_set found.Rows (rows, gains, same) = subst (λ (set : List Row). Gains (2 * length set + 3) old (model.Find key) (reply.Rows set) new) (sym same) gains
+  finds_set found.Hole told = told
+
+  pub looks_set : (answer : Found) → LooksIn (λ (room rows : List Row). room ≡ rows) key old before new after answer → LooksAt key old before new after answer
+  looks_set found.Rows (rows, gains, stay, same) = (subst (λ (set : List Row). Gains (2 * length set + 2) old (model.Find key) (reply.Rows set) new) (sym same) gains, stay)
+  looks_set found.Hole told = told
