@@ -78,7 +78,18 @@ impl Board {
         ensures { TakesFor self.now G.call rows.now spare.old spare.new seat.old seat.new result }
     {
         only_proved(rows);
-        for place in 0..spare.retired_len() {
+        let Some(oldest) = spare.take_oldest() else {
+            return Err(spare.counts());
+        };
+        let first = self.poll(seat, oldest.slot);
+        if same_count(first, oldest.arrivals) {
+            return Ok(Taken {
+                slot: oldest.slot,
+                departures: first,
+            });
+        }
+        spare.put_back(oldest);
+        for place in 1..spare.retired_len() {
             let entry = spare.retired_at(place);
             let departures = self.poll(seat, entry.slot);
             if same_count(departures, entry.arrivals) {

@@ -1,5 +1,5 @@
 -- What the writer keeps beside the words: the slots that no key names, those that were never taken and the retired ones, and the number of each key.
-use Rattle.std.specs.Prelude.{◌≡◌, ℕ, ◌+◌, ◌-◌, ◌<◌, ◌≤◌, List, length, Option, Some, None}
+use Rattle.std.specs.Prelude.{◌≡◌, ℕ, ◌+◌, ◌-◌, ◌<◌, ◌≤◌, List, [], ◌∷◌, length, Option, Some, None}
 use Rattle.nr_core.specs.declared.calls.NoSlot.{NoSlot}
 use Rattle.nr_core.specs.declared.places.Retired.{Retired}
 
@@ -19,3 +19,8 @@ none_spare spare = record { live = spare.slots - length spare.retired; held = le
 abbrev pub TakesFresh : Spare → Spare → Option ℕ → Type 0
 TakesFresh old new (Some slot) = (old.fresh < old.slots) × (slot ≡ old.fresh) × (new ≡ record old { fresh = old.fresh + 1 })
 TakesFresh old new None = (old.slots ≤ old.fresh) × (new ≡ old)
+
+-- the oldest retired slot, if there is one
+abbrev pub TakesOldest : Spare → Spare → Option Retired → Type 0
+TakesOldest old new (Some oldest) = old ≡ record new { retired = oldest ∷ new.retired }
+TakesOldest old new None = (old.retired ≡ []) × (new ≡ old)

@@ -1,8 +1,8 @@
 //! What the writer keeps beside the words: the slots that no key names, and each key's number.
-ghost use Rattle.std.specs.Prelude.{◌≡◌, ◌<◌, ◌≤◌, ◌++◌, [], length, remove, replicate, slice_index, slice_index_or, slice_set, IfOk};
+ghost use Rattle.std.specs.Prelude.{◌≡◌, ◌<◌, ◌≤◌, ◌++◌, [], ◌∷◌, length, remove, replicate, slice_index, slice_index_or, slice_set, IfOk};
 ghost use Rattle.nr_core.specs.States.{no_retired};
 ghost use Rattle.nr_core.specs.Writer.{unnamed};
-ghost use Rattle.nr_core.specs.Spares.{TakesFresh, none_spare};
+ghost use Rattle.nr_core.specs.Spares.{TakesFresh, TakesOldest, none_spare};
 
 use crate::calls::NoSlot;
 use crate::places::Retired;
@@ -84,20 +84,22 @@ impl Spare {
         requires { place < length self.old.retired }
         ensures { self.new ≡ record self.old { retired = remove self.old.retired place } }
     {
-        if place == 0 {
-            self.retired.pop_front();
-        } else {
-            self.take_behind(place);
-        }
+        self.retired.remove(place);
     }
 
-    // A slot behind others is taken where readers hold those. It stays out of the way of the first.
-    #[inline(never)]
-    fn take_behind(&mut self, place: usize)
-        requires { place < length self.old.retired }
-        ensures { self.new ≡ record self.old { retired = remove self.old.retired place } }
+    /// Takes the oldest retired slot, if there is one. It costs less than to look at it and then take it.
+    pub fn take_oldest(&mut self) -> Option<Retired>
+        ensures { TakesOldest self.old self.new result }
     {
-        self.retired.remove(place);
+        self.retired.pop_front()
+    }
+
+    /// Puts the slot that was the oldest retired one back to where it was.
+    pub fn put_back(&mut self, oldest: Retired)
+        requires { length self.old.retired < self.old.slots }
+        ensures { self.new ≡ record self.old { retired = oldest ∷ self.old.retired } }
+    {
+        self.retired.push_front_reserved(oldest);
     }
 
     /// Retires the slot that a key's old word names, if it names one.
