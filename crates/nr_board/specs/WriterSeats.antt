@@ -4,7 +4,7 @@ use Rattle.atomic_table.specs.declared.shared.Seat.{Seat}
 use Rattle.nr_model.specs.declared.rows.Row.{Row}
 use Rattle.nr_model.specs.declared.calls.Call.{Call}
 use Rattle.nr_model.specs.declared.calls.Reply.TheVariants as reply
-use Rattle.nr_model.specs.Histories.{Entry, IsLegal}
+use Rattle.nr_model.specs.Histories.{Entry}
 use Rattle.nr_model.specs.Maps.{state_of}
 use Rattle.nr_model.specs.declared.states.KeyState.TheVariants as states
 use Rattle.nr_words.specs.SetWords.{encode}
@@ -22,10 +22,9 @@ use Rattle.nr_core.specs.declared.calls.WriterCall.{WriterCall}
 use Rattle.nr_core.specs.declared.places.Place.TheVariants.{Idle, Leaving, Putting, Reading, Searching, Withdrawing}
 use Rattle.nr_core.specs.declared.roles.Desk.{Desk}
 use Rattle.nr_core.specs.declared.roles.Role.TheVariants.{Writer}
-use Rattle.nr_board.specs.Entries.{AreCallers}
-use Rattle.nr_board.specs.Callers.{Caller, Grows, KnowsOwn, Table, map_seen, opening_map, token}
+use Rattle.nr_board.specs.Callers.{Grows, KnowsOwn, Table, map_seen, token, IsSound}
 use Rattle.nr_core.specs.Spares.{Spare}
-use Rattle.nr_board.specs.Spares.{Took, desk_with}
+use Rattle.nr_board.specs.Spares.{TookByPolls, desk_with}
 use Rattle.nr_board.specs.Plays.{Finds, Lacks, NotesTell, Room, SwapsAt, call_at, next_put}
 use Rattle.nr_board.specs.Polls.{AllHeldThen}
 use Rattle.nr_marks.specs.MarkSteps.{GoesMarks}
@@ -134,18 +133,12 @@ pub record PutsTo (table : Table) (desk : Desk) (old new : MapSeat) : Type 0 whe
   pub grows : Grows 1 (token old) [] (token new)
   pub marks : new.me.0.marks ≡ old.me.0.marks
 
--- what the writer knows is legal, and has the entries of the map's callers, with its own
-pub record Knows (caller : Caller) : Type 0 where
-  pub legal : IsLegal (opening_map caller.table) caller.seen
-  pub callers : AreCallers caller.table.shape caller.seen
-  pub own : KnowsOwn caller
-
 -- the call has its set, and looks for a slot
 pub record Settles (table : Table) (call : WriterCall) (rows : List Row) (spare : Spare) (seat : MapSeat) : Type 0 where
   pub slots : spare.slots ≡ table.shape.slots
   pub writes : WritesAt table (settled table.shape (desk_with spare Idle) call rows).0 seat
   pub short : (counts : NoSlot) → (settled table.shape (desk_with spare Idle) call rows).1 ≡ Ended (writer.NoSlot counts) → Lacks (call_of call) counts (token seat)
-  pub knows : Knows (token seat)
+  pub knows : IsSound (token seat)
   pub polls : seat.me.0.marks.polls ≡ []
 
 -- the key's set after the history before the step that ended a read-through
@@ -162,7 +155,7 @@ swept shape desk call rows polls = (if nat_lt polls (length desk.retired) then (
 -- the slot that a call took, with its departures, or there was none
 pub record TakesSlot (table : Table) (call : WriterCall) (rows : List Row) (slot departed : ℕ) (spare after : Spare) (old new : MapSeat) : Type 0 where
   pub polls : ℕ
-  pub took : Took slot polls spare after
+  pub took : TookByPolls slot polls spare after
   -- all polls but the last one found their slots held, each by another reader
   pub few : polls ≤ table.shape.readers + 1
   pub slots : after.slots ≡ spare.slots
@@ -185,7 +178,7 @@ pub record PublishesSet (table : Table) (call : WriterCall) (rows : List Row) (s
   pub polls : ℕ
   pub slot : ℕ
   pub mid : Spare
-  pub took : Took slot polls spare mid
+  pub took : TookByPolls slot polls spare mid
   -- the word that the key had
   pub word : ℕ
   pub log : List Entry

@@ -5,8 +5,8 @@ ghost use Rattle.nr_c.specs.declared.hand.Hand.TheVariants as hands;
 ghost use Rattle.nr_c.specs.declared.reader_side.ReaderSide.{ReaderSide as Held};
 ghost use Rattle.nr_map.specs.Answers.{AsksKey, FindsIn};
 ghost use Rattle.nr_c.specs.Hands.{table_of};
-ghost use Rattle.nr_c.specs.Live.{Asks, Finds, ReaderCalls};
-ghost use Rattle.nr_c.specs.RowCells.{Shows};
+ghost use Rattle.nr_c.specs.Live.{AsksByCode, FindsByCode, ReaderCalls};
+ghost use Rattle.nr_c.specs.RowCells.{ShowsSet};
 
 use crate::codes::{NR_FILLED, NR_SEND, NR_WAITING, of_found};
 use crate::hand::Hand;
@@ -19,7 +19,7 @@ use nr_map::{Asked, Found, ReaderMap};
 #[unsafe(no_mangle)]
 pub extern "C" fn nr_find(reader: &mut NrReader, key: u32, rows: &mut NrRows) -> u32
     requires live { (held : Held) × (idle : Caller) × (reader.old.live ≡ held ∷ []) × (held.hand ≡ Some (hands.Idle idle)) × (key < held.map.value.shape.keys) }
-    ensures { ReaderCalls (Finds key rows.old rows.new result) reader.old.live reader.new.live }
+    ensures { ReaderCalls (FindsByCode key rows.old rows.new result) reader.old.live reader.new.live }
 {
     let side = reader.side();
     of_found(find_idle(&side.map, &mut side.hand, key, rows))
@@ -31,7 +31,7 @@ fn find_idle(map: &ReaderMap, hand: &mut Option<Hand>, key: u32, rows: &mut NrRo
     requires own { table_of hand.old map.now ≡ map.now }
     requires key { key < map.now.shape.keys }
     ensures own { table_of hand.new map.now ≡ map.now }
-    ensures finds { (old new : Caller) × (hand.old ≡ Some (hands.Idle old)) × (hand.new ≡ Some (hands.Idle new)) × FindsIn Shows key old rows.old new rows.new result }
+    ensures finds { (old new : Caller) × (hand.old ≡ Some (hands.Idle old)) × (hand.new ≡ Some (hands.Idle new)) × FindsIn ShowsSet key old rows.old new rows.new result }
 {
     match hand {
         Some(within) => find_within(map, within, key, rows),
@@ -42,7 +42,7 @@ fn find_idle(map: &ReaderMap, hand: &mut Option<Hand>, key: u32, rows: &mut NrRo
 fn find_within(map: &ReaderMap, hand: &mut Hand, key: u32, rows: &mut NrRows) -> Found
     requires idle { (idle : Caller) × (hand.old ≡ hands.Idle idle) × (idle.table ≡ map.now) }
     requires key { key < map.now.shape.keys }
-    ensures { (old new : Caller) × (hand.old ≡ hands.Idle old) × (hand.new ≡ hands.Idle new) × (new.table ≡ map.now) × FindsIn Shows key old rows.old new rows.new result }
+    ensures { (old new : Caller) × (hand.old ≡ hands.Idle old) × (hand.new ≡ hands.Idle new) × (new.table ≡ map.now) × FindsIn ShowsSet key old rows.old new rows.new result }
 {
     match hand {
         Hand::Idle(reader) => map.find_into(reader, key, rows),
@@ -55,7 +55,7 @@ fn find_within(map: &ReaderMap, hand: &mut Hand, key: u32, rows: &mut NrRows) ->
 #[unsafe(no_mangle)]
 pub extern "C" fn nr_ask(reader: &mut NrReader, key: u32, number: &mut u64) -> u32
     requires live { (held : Held) × (idle : Caller) × (reader.old.live ≡ held ∷ []) × (held.hand ≡ Some (hands.Idle idle)) × (key < held.map.value.shape.keys) }
-    ensures { ReaderCalls (Asks key number.old number.new result) reader.old.live reader.new.live }
+    ensures { ReaderCalls (AsksByCode key number.old number.new result) reader.old.live reader.new.live }
 {
     let side = reader.side();
     match ask_idle(&side.map, &mut side.hand, key) {

@@ -32,9 +32,9 @@ impl NrDelta {
 }
 
 impl RowRoom for NrRows {
-    ghost use Rattle.nr_c.specs.RowCells.{Shows};
+    ghost use Rattle.nr_c.specs.RowCells.{ShowsSet};
 
-    ghost shows = { Shows };
+    ghost shows = { ShowsSet };
 
     fn refill<S: RowSource>(&mut self, count: usize, source: &mut S) {
         put_over(&mut self.row, count, source);
