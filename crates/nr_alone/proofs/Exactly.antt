@@ -10,14 +10,14 @@ use native.Mathlib.Decide.{ℕ_discrete}
 use Rattle.nr_model.specs.Histories.{Entry, IsLegal, entries_of}
 use Rattle.nr_model.specs.Laws.{LegalBegins}
 use Rattle.nr_core.specs.declared.shape.Shape.{Shape}
-use Rattle.nr_map.specs.Callers.{Caller, Table, opening_map}
+use Rattle.nr_map.specs.Callers.{Caller, Table, map_at_opening}
 use Rattle.nr_map.specs.Entries.{AreCallers, is_reading}
 use Rattle.nr_map.specs.Rounds.{EntriesAreCallers}
 use Rattle.nr_map.specs.Rule.{StartsWith}
 use Rattle.nr_alone.specs.declared.seat.Seat.{Seat}
 use Rattle.nr_alone.specs.declared.seat.Seat.TheVariants.{Idle}
-use Rattle.nr_alone.specs.Seats.{caller_of, mine_of}
-use Rattle.nr_alone.specs.Rounds.{IsSound}
+use Rattle.nr_alone.specs.Seats.{reader_in, mine_of}
+use Rattle.nr_alone.specs.Rounds.{IsSoundWriter}
 use Rattle.nr_alone.specs.Alone.{HasJust, IsSeat, calls_of, log_of, made, one_each}
 
 pub entries_own : (entry : Entry) (log : List Entry) (caller : ℕ) → entry.caller ≡ caller → entries_of (entry ∷ log) caller ≡ entry ∷ entries_of log caller
@@ -78,7 +78,7 @@ count_all : (xs : List Entry) → count_by one_each xs ≡ length xs
 count_all [] = refl
 count_all (x ∷ xs) = omega (arith, sum_by-cons (λ (y : Entry). cond (one_each y) 1 0) x xs, count_all xs)
 
-many_callers : (xs : List Seat) → length (map caller_of xs) ≡ length xs
+many_callers : (xs : List Seat) → length (map reader_in xs) ≡ length xs
 many_callers [] = refl
 many_callers (x ∷ xs) = ap suc (many_callers xs)
 
@@ -95,27 +95,27 @@ next at = omega arith
 
 -- a history with exactly the calls that were made is as long as they are many
 pub as_many : EntriesAreCallers → LegalBegins → (table : Table) (w : Caller) (seats : List Seat) (log : List Entry) → w.table ≡ table → w.number ≡ 0 → length seats ≡ table.shape.readers
-    → ((at : ℕ) (other : Seat) → at < length seats → IsSeat table at (get_or seats at other)) → IsSound w → StartsWith w.seen log → HasJust log w seats → length log ≡ made w seats
+    → ((at : ℕ) (other : Seat) → at < length seats → IsSeat table at (get_or seats at other)) → IsSoundWriter w → StartsWith w.seen log → HasJust log w seats → length log ≡ made w seats
 as_many entries begins table w seats log own zero_is count places sound goes just =
-    let size : length (map caller_of seats) ≡ length seats = many_callers seats in
-    let inside : (at : ℕ) → at < length (map caller_of seats) → at < length seats = λ at low. omega (arith, size, low) in
+    let size : length (map reader_in seats) ≡ length seats = many_callers seats in
+    let inside : (at : ℕ) → at < length (map reader_in seats) → at < length seats = λ at low. omega (arith, size, low) in
     sym (count_all log) ∙
-    entries (record w { seen = log }) (map caller_of seats) one_each (record {
+    entries (record w { seen = log }) (map reader_in seats) one_each (record {
       number = zero_is;
       own = ap (entries_of log) zero_is ∙ just 0;
-      legal = begins (opening_map w.table) log goes.rest (subst (λ (l : List Entry). IsLegal (opening_map w.table) l) goes.is sound.legal);
+      legal = begins (map_at_opening w.table) log goes.rest (subst (λ (l : List Entry). IsLegal (map_at_opening w.table) l) goes.is sound.legal);
       callers = callers_begin w.table.shape log goes.rest (subst (λ (l : List Entry). AreCallers w.table.shape l) goes.is sound.callers);
       count = size ∙ count ∙ ap (λ (t : Table). t.shape.readers) (sym own);
       numbers = λ at other low.
-          ap (λ (r : Caller). r.number) (get_or-map caller_of seats at (Idle other) other (inside at low)) ∙ (places at (Idle other) (inside at low)).number ∙ next at;
+          ap (λ (r : Caller). r.number) (get_or-map reader_in seats at (Idle other) other (inside at low)) ∙ (places at (Idle other) (inside at low)).number ∙ next at;
       each = λ at other low.
-          subst (λ (r : Caller). entries_of log r.number ≡ r.mine) (sym (get_or-map caller_of seats at (Idle other) other (inside at low)))
+          subst (λ (r : Caller). entries_of log r.number ≡ r.mine) (sym (get_or-map reader_in seats at (Idle other) other (inside at low)))
           (ap (entries_of log) (places at (Idle other) (inside at low)).number ∙ just (suc at) ∙ calls_at w.mine seats at (Idle other) (inside at low));
     })
 
 -- so it is the one that the invariant names
 pub log_is : EntriesAreCallers → LegalBegins → (table : Table) (w : Caller) (seats : List Seat) (log : List Entry) → w.table ≡ table → w.number ≡ 0 → length seats ≡ table.shape.readers
-    → ((at : ℕ) (other : Seat) → at < length seats → IsSeat table at (get_or seats at other)) → IsSound w → StartsWith w.seen log → HasJust log w seats → log_of w seats ≡ log
+    → ((at : ℕ) (other : Seat) → at < length seats → IsSeat table at (get_or seats at other)) → IsSoundWriter w → StartsWith w.seen log → HasJust log w seats → log_of w seats ≡ log
 log_is entries begins table w seats log own zero_is count places sound goes just =
     ap (λ (n : ℕ). take n w.seen) (sym (as_many entries begins table w seats log own zero_is count places sound goes just)) ∙ ap (λ (l : List Entry). take (length log) l) goes.is ∙ take-append_seam log goes.rest
 

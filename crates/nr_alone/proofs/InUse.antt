@@ -8,30 +8,30 @@ use Rattle.nr_model.specs.Strays.{keyed, strays}
 use Rattle.nr_model.specs.Maps.{filled_count}
 use Rattle.nr_core.specs.Story.{map_after}
 use Rattle.nr_marks.proofs.ListPlaces.{at_maps, at_unmap, before, inside}
-use Rattle.nr_marks.specs.Exact.{filled_puts, pin_of as past_pin, pins, put_numbers}
+use Rattle.nr_marks.specs.Exact.{filled_puts, pinned_put, pins, put_numbers}
 use Rattle.nr_marks.specs.MarkLaws.{slots_in_use}
 use Rattle.nr_marks.specs.Marks.{Past}
 use Rattle.nr_marks.specs.Pasts.{AllCurrent, AllKnown, AllReaders, Current}
 use Rattle.nr_map.specs.Callers.{Caller, Table}
 use Rattle.nr_alone.specs.declared.seat.Seat.{Seat}
 use Rattle.nr_alone.specs.declared.seat.Seat.TheVariants.{Idle, Pinned}
-use Rattle.nr_alone.specs.MapState.{is_full, pinned, put_of}
-use Rattle.nr_alone.specs.Seats.{Fits, caller_of, how_of, pin_of}
-use Rattle.nr_alone.specs.Alone.{IsAlone, IsKnown, shown}
+use Rattle.nr_alone.specs.MapState.{is_full, pinned_puts, put_of}
+use Rattle.nr_alone.specs.Seats.{SeatHoldsItsPin, reader_in, how_of, pin_of}
+use Rattle.nr_alone.specs.Alone.{IsAlone, IsKnown, shown_after}
 
 some_put : (slot : Option ℕ) (put : ℕ) → IsSome slot → Some put ≡ option_map (λ (s : ℕ). put) slot
 some_put None put there = absurd (cc)
 some_put (Some s) put there = refl
 
-pin_same : (s : Seat) → Fits s → put_of (pin_of s) ≡ past_pin (how_of s)
+pin_same : (s : Seat) → SeatHoldsItsPin s → put_of (pin_of s) ≡ pinned_put (how_of s)
 pin_same (Idle reader) fits = ap (λ (o : Option ℕ). option_map (λ (slot : ℕ). reader.marks.put) o) (sym fits)
 pin_same (Pinned pin key) fits = some_put pin.reader.holds pin.reader.marks.put fits
 
-pub pins_same : (seats : List Seat) → ((at : ℕ) (other : Seat) → at < length seats → Fits (get_or seats at other)) → pinned (map pin_of seats) ≡ pins (map how_of seats)
+pub pins_same : (seats : List Seat) → ((at : ℕ) (other : Seat) → at < length seats → SeatHoldsItsPin (get_or seats at other)) → pinned_puts (map pin_of seats) ≡ pins (map how_of seats)
 pins_same [] fits = refl
 pins_same (s ∷ seats) fits =
-    ap (λ (o : Option ℕ). cons_option o (pinned (map pin_of seats))) (pin_same s (fits 0 s (omega arith)))
-    ∙ ap (λ (l : List ℕ). cons_option (past_pin (how_of s)) l) (pins_same seats (λ at other low. fits (suc at) other (omega arith)))
+    ap (λ (o : Option ℕ). cons_option o (pinned_puts (map pin_of seats))) (pin_same s (fits 0 s (omega arith)))
+    ∙ ap (λ (l : List ℕ). cons_option (pinned_put (how_of s)) l) (pins_same seats (λ at other low. fits (suc at) other (omega arith)))
 
 or_is : (l : List Seat) (i : ℕ) (a d : Seat) → get_elem? l i ≡ some a → get_or l i d ≡ a
 or_is [] i a d e = absurd (some-ne-none a (sym e))
@@ -50,7 +50,7 @@ module _ (table : Table) (w : Caller) (seats : List Seat) (alone : IsAlone table
         at,
         how_of there.0,
         at_maps how_of seats at there.0 there.1,
-        ap (λ (s : Seat). (caller_of s).number) (sym (or_is seats at there.0 there.0 there.1)) ∙ (alone.places at there.0 (inside seats at there.0 there.1)).number,
+        ap (λ (s : Seat). (reader_in s).number) (sym (or_is seats at there.0 there.0 there.1)) ∙ (alone.places at there.0 (inside seats at there.0 there.1)).number,
       )
 
   known_at : (at : ℕ) (one : Past) → get_elem? readers at ≡ some one → (s : Seat) × IsKnown w s × (how_of s ≡ one)
@@ -65,11 +65,11 @@ module _ (table : Table) (w : Caller) (seats : List Seat) (alone : IsAlone table
   all_current at one is = let k = known_at at one is in subst (λ (p : Past). Current w.retired w.marks p) k.2 k.1.current
 
   -- the state's count of slots in use
-  pub in_use_is : (log : List Entry) → filled_count (map_after table.shape log) + strays (keyed (map_after table.shape log).states (put_numbers table.shape log)) (pinned (map pin_of seats)) ≡ slots_in_use table.shape log readers
+  pub in_use_is : (log : List Entry) → filled_count (map_after table.shape log) + strays (keyed (map_after table.shape log).states (put_numbers table.shape log)) (pinned_puts (map pin_of seats)) ≡ slots_in_use table.shape log readers
   in_use_is log = ap (λ (l : List ℕ). filled_count (map_after table.shape log) + strays (filled_puts table.shape log) l) (pins_same seats (λ at other low. (alone.places at other low).fits))
 
-  pub full : (log : List Entry) → slots_in_use table.shape log readers ≡ table.shape.slots → is_full (shown table log seats) ≡ true
+  pub full : (log : List Entry) → slots_in_use table.shape log readers ≡ table.shape.slots → is_full (shown_after table log seats) ≡ true
   full log all = eq-eqb _ _ (in_use_is log ∙ all)
 
-  pub not_full : (log : List Entry) → slots_in_use table.shape log readers < table.shape.slots → is_full (shown table log seats) ≡ false
+  pub not_full : (log : List Entry) → slots_in_use table.shape log readers < table.shape.slots → is_full (shown_after table log seats) ≡ false
   not_full log less = ne_eqb _ _ (λ e. let same = sym (in_use_is log) ∙ e in omega arith)

@@ -16,18 +16,18 @@ use Rattle.nr_marks.specs.Marks.{Marks, Past}
 use Rattle.nr_marks.specs.MarkLaws.{slots_in_use}
 use Rattle.nr_marks.specs.Pasts.{AllCurrent, AllReaders}
 use Rattle.nr_map.specs.Answers.{HasNoSlot, Publishes}
-use Rattle.nr_map.specs.Callers.{Caller, Gains, Grows, Table, opening_map}
+use Rattle.nr_map.specs.Callers.{Caller, Gains, Grows, Table, map_at_opening}
 use Rattle.nr_map.specs.ExactPlaces.{OnlyLearnt}
 use Rattle.nr_map.specs.Rule.{StartsWith}
 use Rattle.nr_alone.specs.Answers.{Answer}
 use Rattle.nr_alone.specs.Answers as answers
 use Rattle.nr_alone.specs.declared.seat.Seat.{Seat}
 use Rattle.nr_alone.specs.MapState.{Pin, MapState, after_call, answer_call, is_full}
-use Rattle.nr_alone.specs.Seats.{Fits, caller_of, how_of, mine_of, pin_of}
+use Rattle.nr_alone.specs.Seats.{SeatHoldsItsPin, reader_in, how_of, mine_of, pin_of}
 use Rattle.nr_alone.specs.Rounds.{Gathered}
-use Rattle.nr_alone.specs.Alone.{IsAlone, IsSeat, Laws, calls_of, log_of, shown_by, shown}
-use Rattle.nr_alone.specs.Lines.{IsLine, Settles}
-use Rattle.nr_alone.specs.WriterMakes.{LacksSlot, PutsSet, Replies, WriterMakes}
+use Rattle.nr_alone.specs.Alone.{IsAlone, IsSeat, Laws, calls_of, log_of, shown_by, shown_after}
+use Rattle.nr_alone.specs.Lines.{IsLine, SettlesLine}
+use Rattle.nr_alone.specs.WriterMakes.{FindsNoSlot, PutsSet, Replies, WriterMakes}
 use Rattle.nr_alone.proofs.Rounds.{starts_both, starts_then}
 use Rattle.nr_alone.proofs.Exactly.{calls_at, entries_other, entries_own, log_begins, many_mines}
 use Rattle.nr_alone.proofs.Settling.{settled}
@@ -66,7 +66,7 @@ module _ (table : Table) (w0 : Caller) (seats0 : List Seat) (alone : IsAlone tab
     others = λ at apart. are.others (suc at) (omega arith);
   }
 
-  module _ (at : ℕ) (x : Seat) (low : at < length seats0) (are : AreOf (suc at) es) (same_table : (caller_of x).table ≡ (caller_of (get_or seats0 at x)).table) (same_number : (caller_of x).number ≡ (caller_of (get_or seats0 at x)).number) (mine : mine_of x ≡ mine_of (get_or seats0 at x) ++ es) (fits : Fits x) where
+  module _ (at : ℕ) (x : Seat) (low : at < length seats0) (are : AreOf (suc at) es) (same_table : (reader_in x).table ≡ (reader_in (get_or seats0 at x)).table) (same_number : (reader_in x).number ≡ (reader_in (get_or seats0 at x)).number) (mine : mine_of x ≡ mine_of (get_or seats0 at x) ++ es) (fits : SeatHoldsItsPin x) where
     placed : (P : ℕ → Seat → Type 0) → ((k : ℕ) (other : Seat) → k < length seats0 → P k (get_or seats0 k other)) → P at x → (k : ℕ) (other : Seat) → k < length (set seats0 at x) → P k (get_or (set seats0 at x) k other)
     placed P all here k other inside = dite (ℕ_discrete k at)
         (λ is. subst (λ (n : ℕ). P n (get_or (set seats0 at x) n other)) (sym is) (subst (λ (s : Seat). P at s) (sym (get_or-set_same seats0 at x other low)) here))
@@ -99,23 +99,23 @@ module _ (table : Table) (w0 : Caller) (seats0 : List Seat) (alone : IsAlone tab
     }
 
 -- what the line's round shows of its call
-module _ (laws : Laws) (table : Table) (w0 : Caller) (seats0 seats : List Seat) (es mid : List Entry) (w' : Caller) (seats' : List Seat) (s : Settles table w0 seats0 seats es mid w' seats') where
-  pub shown_with : (pins' : List (Option Pin)) → map pin_of seats ≡ pins' → shown_by table w' seats' ≡ record (shown table (log_of w0 seats0 ++ es) seats0) { pins = pins' }
-  shown_with pins' kept = ap (λ (l : List Entry). shown table l seats') s.log ∙ (λ j. record (shown table (log_of w0 seats0 ++ es) seats0) { pins = (s.pins ∙ kept) j })
+module _ (laws : Laws) (table : Table) (w0 : Caller) (seats0 seats : List Seat) (es mid : List Entry) (w' : Caller) (seats' : List Seat) (s : SettlesLine table w0 seats0 seats es mid w' seats') where
+  pub shown_with : (pins' : List (Option Pin)) → map pin_of seats ≡ pins' → shown_by table w' seats' ≡ record (shown_after table (log_of w0 seats0 ++ es) seats0) { pins = pins' }
+  shown_with pins' kept = ap (λ (l : List Entry). shown_after table l seats') s.log ∙ (λ j. record (shown_after table (log_of w0 seats0 ++ es) seats0) { pins = (s.pins ∙ kept) j })
 
-  pub shown_now_by : map pin_of seats ≡ map pin_of seats0 → shown_by table w' seats' ≡ shown table (log_of w0 seats0 ++ es) seats0
+  pub shown_now_by : map pin_of seats ≡ map pin_of seats0 → shown_by table w' seats' ≡ shown_after table (log_of w0 seats0 ++ es) seats0
   shown_now_by kept = shown_with (map pin_of seats0) kept
 
-  pub legal_now : IsLegal (opening_map table) (log_of w0 seats0 ++ es)
-  legal_now = subst (λ (l : List Entry). IsLegal (opening_map table) l) s.log
-      (laws.begins (opening_map table) (log_of w' seats') (log_begins w' seats').rest
-      (subst (λ (l : List Entry). IsLegal (opening_map table) l) (log_begins w' seats').is (subst (λ (t : Table). IsLegal (opening_map t) w'.seen) s.alone.stands.own s.alone.sound.legal)))
+  pub legal_now : IsLegal (map_at_opening table) (log_of w0 seats0 ++ es)
+  legal_now = subst (λ (l : List Entry). IsLegal (map_at_opening table) l) s.log
+      (laws.begins (map_at_opening table) (log_of w' seats') (log_begins w' seats').rest
+      (subst (λ (l : List Entry). IsLegal (map_at_opening table) l) (log_begins w' seats').is (subst (λ (t : Table). IsLegal (map_at_opening t) w'.seen) s.alone.stands.own s.alone.sound.legal)))
 
-pub reply_is : (laws : Laws) (table : Table) (w0 : Caller) (seats0 seats : List Seat) (n : ℕ) (call : Call) (r : Reply) (mid : List Entry) (w' : Caller) (seats' : List Seat) → Settles table w0 seats0 seats (entry n call r ∷ []) mid w' seats' → r ≡ reply_to (map_after table.shape (log_of w0 seats0)) call
-reply_is laws table w0 seats0 seats n call r mid w' seats' s = ((laws.goes_on (opening_map table) (log_of w0 seats0) (entry n call r)).1.1 (legal_now laws table w0 seats0 seats (entry n call r ∷ []) mid w' seats' s)).1
+pub reply_is : (laws : Laws) (table : Table) (w0 : Caller) (seats0 seats : List Seat) (n : ℕ) (call : Call) (r : Reply) (mid : List Entry) (w' : Caller) (seats' : List Seat) → SettlesLine table w0 seats0 seats (entry n call r ∷ []) mid w' seats' → r ≡ reply_to (map_after table.shape (log_of w0 seats0)) call
+reply_is laws table w0 seats0 seats n call r mid w' seats' s = ((laws.goes_on (map_at_opening table) (log_of w0 seats0) (entry n call r)).1.1 (legal_now laws table w0 seats0 seats (entry n call r ∷ []) mid w' seats' s)).1
 
 -- a call with its reply
-module _ (laws : Laws) (table : Table) (w0 : Caller) (seats0 seats : List Seat) (n : ℕ) (call : Call) (r : Reply) (mid : List Entry) (w' : Caller) (seats' : List Seat) (s : Settles table w0 seats0 seats (entry n call r ∷ []) mid w' seats') (kept : map pin_of seats ≡ map pin_of seats0) where
+module _ (laws : Laws) (table : Table) (w0 : Caller) (seats0 seats : List Seat) (n : ℕ) (call : Call) (r : Reply) (mid : List Entry) (w' : Caller) (seats' : List Seat) (s : SettlesLine table w0 seats0 seats (entry n call r ∷ []) mid w' seats') (kept : map pin_of seats ≡ map pin_of seats0) where
   abbrev state : MapState
   state = shown_by table w0 seats0
 
@@ -123,7 +123,7 @@ module _ (laws : Laws) (table : Table) (w0 : Caller) (seats0 seats : List Seat) 
   is = reply_is laws table w0 seats0 seats n call r mid w' seats' s
 
   pub goes_to : shown_by table w' seats' ≡ after_call state call
-  goes_to = shown_now_by laws table w0 seats0 seats (entry n call r ∷ []) mid w' seats' s kept ∙ ap (λ (k : Reply). shown table (log_of w0 seats0 ++ entry n call k ∷ []) seats0) is ∙ goes_on laws.puts table (log_of w0 seats0) n call seats0 laws.goes_on
+  goes_to = shown_now_by laws table w0 seats0 seats (entry n call r ∷ []) mid w' seats' s kept ∙ ap (λ (k : Reply). shown_after table (log_of w0 seats0 ++ entry n call k ∷ []) seats0) is ∙ goes_on laws.puts table (log_of w0 seats0) n call seats0 laws.goes_on
 
   pub answers_so : (is_done r && is_full state) ≡ false → answer_call state call ≡ (Ok (answers.Reply r), shown_by table w' seats')
   answers_so none = answered state call (ap (λ (k : Reply). is_done k && is_full state) (sym is) ∙ none)
@@ -133,7 +133,7 @@ module _ (laws : Laws) (table : Table) (w0 : Caller) (seats0 seats : List Seat) 
   answers_quiet quiet = answers_so (ap (λ (b : Bool). b && is_full state) quiet)
 
 -- a call of the writer's that is done, or that found no slot
-module _ (laws : Laws) (table : Table) (w0 : Caller) (seats0 : List Seat) (call : Call) (w : Caller) (w' : Caller) (seats' : List Seat) (alone : IsAlone table w0 seats0) (es : List Entry) (g : Gathered 0 w seats0 w' seats') (s : Settles table w0 seats0 seats0 es g.mid.seen w' seats') where
+module _ (laws : Laws) (table : Table) (w0 : Caller) (seats0 : List Seat) (call : Call) (w : Caller) (w' : Caller) (seats' : List Seat) (alone : IsAlone table w0 seats0) (es : List Entry) (g : Gathered 0 w seats0 w' seats') (s : SettlesLine table w0 seats0 seats0 es g.mid.seen w' seats') where
   abbrev log : List Entry
   log = log_of w0 seats0
 
@@ -183,7 +183,7 @@ module _ (laws : Laws) (table : Table) (w0 : Caller) (seats0 : List Seat) (call 
       before.is ∙ ap (λ (l : List Entry). log ++ l) (nil_from_length before.rest none) ∙ append-nil log
 
 module _ (laws : Laws) (table : Table) (w0 : Caller) (seats0 : List Seat) (call : Call) (w : Caller) (w' : Caller) (seats' : List Seat) (alone : IsAlone table w0 seats0) (g : Gathered 0 w seats0 w' seats') where
-  settled_by : (steps : ℕ) (es : List Entry) → AreOf 0 es → Grows steps w0 es w → Settles table w0 seats0 seats0 es g.mid.seen w' seats'
+  settled_by : (steps : ℕ) (es : List Entry) → AreOf 0 es → Grows steps w0 es w → SettlesLine table w0 seats0 seats0 es g.mid.seen w' seats'
   settled_by steps es are grows = settled laws table w0 seats0 w seats0 0 es w' seats' alone.stands (writer_line table w0 seats0 alone es steps w are grows) g
 
   of_writer : (steps : ℕ) (r : Reply) → Gains steps w0 call r w → Grows steps w0 (entry 0 call r ∷ []) w
@@ -206,7 +206,7 @@ module _ (laws : Laws) (table : Table) (w0 : Caller) (seats0 : List Seat) (call 
             (had_just laws table w0 seats0 call w w' seats' alone (entry 0 call reply.Done ∷ []) g s _ grows (omega arith))),
       )
 
-  pub says_no_slot : LacksSlot call w0 w → Says answers.NoSlot
+  pub says_no_slot : FindsNoSlot call w0 w → Says answers.NoSlot
   says_no_slot made =
       let grows = made.lacks.grows in let s = settled_by _ [] (none_of 0) grows in
       let log0 : List Entry = log_of w0 seats0 in
@@ -216,7 +216,7 @@ module _ (laws : Laws) (table : Table) (w0 : Caller) (seats0 : List Seat) (call 
       let done : is_done (reply_to (map_after table.shape log0) call) ≡ true =
       ap is_done (ap (λ (t : Table). reply_to (map_after t.shape log0) call) (sym tables) ∙ ap (λ (l : List Entry). reply_to (map_after w.table.shape l) call) (sym seen_is) ∙ made.lacks.lacks.would_be_done) in
       let all : is_full (shown_by table w0 seats0) ≡ true = lacking_full laws table w0 seats0 call w w' seats' alone [] g s made.steps made.counts made.lacks mid_is (g.stays.only.table ∙ tables) in
-      let now : shown_by table w' seats' ≡ shown_by table w0 seats0 = shown_now_by laws table w0 seats0 seats0 [] g.mid.seen w' seats' s refl ∙ ap (λ (l : List Entry). shown table l seats0) (append-nil log0) in
+      let now : shown_by table w' seats' ≡ shown_by table w0 seats0 = shown_now_by laws table w0 seats0 seats0 [] g.mid.seen w' seats' s refl ∙ ap (λ (l : List Entry). shown_after table l seats0) (append-nil log0) in
       (s.alone, lacking (shown_by table w0 seats0) call (ap (λ (b : Bool). b && is_full (shown_by table w0 seats0)) done ∙ all) ∙ ap (λ (k : MapState). (Ok answers.NoSlot, k)) (sym now))
 
   pub says : (answer : Answer) → WriterMakes call w0 w answer → Says answer

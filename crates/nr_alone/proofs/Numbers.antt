@@ -12,7 +12,7 @@ use Rattle.nr_model.specs.Laws.{LegalBegins, NumbersCountCancels}
 use Rattle.nr_model.specs.Maps.{number_of, state_of}
 use Rattle.nr_core.specs.declared.shape.Shape.{Shape}
 use Rattle.nr_core.specs.Story.{map_after}
-use Rattle.nr_map.specs.Callers.{Caller, Table, map_seen, opening_map}
+use Rattle.nr_map.specs.Callers.{Caller, Table, map_seen, map_at_opening}
 use Rattle.nr_map.specs.Entries.{AreCallers, is_reading}
 use Rattle.nr_alone.specs.declared.seat.Seat.{Seat}
 use Rattle.nr_alone.specs.Alone.{IsAlone, log_of}
@@ -51,8 +51,8 @@ pub number_is : NumbersCountCancels → LegalBegins → (table : Table) (w : Cal
     → number_of (state_of (map_seen w) key) ≡ number_of (state_of (map_after table.shape (log_of w seats)) key)
 number_is counts begins table w seats alone key low =
     let shape = table.shape in let log : List Entry = log_of w seats in let goes = log_begins w seats in
-    let legal : IsLegal (opening_map table) w.seen = subst (λ (t : Table). IsLegal (opening_map t) w.seen) alone.stands.own alone.sound.legal in
-    let legal' : IsLegal (opening_map table) log = begins (opening_map table) log goes.rest (subst (λ (l : List Entry). IsLegal (opening_map table) l) goes.is legal) in
+    let legal : IsLegal (map_at_opening table) w.seen = subst (λ (t : Table). IsLegal (map_at_opening t) w.seen) alone.stands.own alone.sound.legal in
+    let legal' : IsLegal (map_at_opening table) log = begins (map_at_opening table) log goes.rest (subst (λ (l : List Entry). IsLegal (map_at_opening table) l) goes.is legal) in
     let callers : AreCallers shape goes.rest = callers_end shape log goes.rest (subst (λ (l : List Entry). AreCallers shape l) goes.is (subst (λ (t : Table). AreCallers t.shape w.seen) alone.stands.own alone.sound.callers)) in
     let his : entries_of w.seen 0 ≡ w.mine = ap (entries_of w.seen) (sym alone.stands.number) ∙ alone.sound.own in
     let none : entries_of goes.rest 0 ≡ [] = append_cancel_left w.mine (entries_of goes.rest 0) []

@@ -13,11 +13,11 @@ use Rattle.nr_map.specs.Callers.{Caller, Table}
 use Rattle.nr_map.specs.Opened.{IsOpened, newcomer}
 use Rattle.nr_alone.specs.declared.seat.Seat.{Seat}
 use Rattle.nr_alone.specs.declared.seat.Seat.TheVariants.{Idle}
-use Rattle.nr_alone.specs.MapState.{Pin, opened}
-use Rattle.nr_alone.specs.Seats.{Fits, caller_of, mine_of, pin_of}
+use Rattle.nr_alone.specs.MapState.{Pin, opened_map}
+use Rattle.nr_alone.specs.Seats.{SeatHoldsItsPin, reader_in, mine_of, pin_of}
 use Rattle.nr_alone.specs.Rounds.{Gathered}
-use Rattle.nr_alone.specs.Alone.{IsAlone, Laws, calls_of, log_of, made, shown_by, shown}
-use Rattle.nr_alone.specs.Lines.{IsLine, Settles}
+use Rattle.nr_alone.specs.Alone.{IsAlone, Laws, calls_of, log_of, made, shown_by, shown_after}
+use Rattle.nr_alone.specs.Lines.{IsLine, SettlesLine}
 use Rattle.nr_alone.proofs.Rounds.{starts_same}
 use Rattle.nr_alone.proofs.Exactly.{calls_at, many_mines}
 use Rattle.nr_alone.proofs.Settling.{beyond_it, settled}
@@ -73,15 +73,15 @@ module _ (laws : Laws) (shape : Shape) (table : Table) (w : Caller) (readers : L
     seen = starts_same w.seen;
     size = refl;
     places = λ at other low. record {
-      table = ap (λ (s : Seat). (caller_of s).table) (seat_at at other low);
-      number = ap (λ (s : Seat). (caller_of s).number) (seat_at at other low) ∙ next at;
-      fits = subst Fits (sym (seat_at at other low)) refl;
+      table = ap (λ (s : Seat). (reader_in s).table) (seat_at at other low);
+      number = ap (λ (s : Seat). (reader_in s).number) (seat_at at other low) ∙ next at;
+      fits = subst SeatHoldsItsPin (sym (seat_at at other low)) refl;
     };
     grown = λ caller. sym (append-nil (calls_of w.mine (map mine_of seats) caller));
     others = λ at apart. refl;
   }
 
-  settles : Settles table w seats seats [] g.mid.seen w' seats'
+  settles : SettlesLine table w seats seats [] g.mid.seen w' seats'
   settles = settled laws table w seats w seats 0 [] w' seats' (record {
     own = ap (λ (c : Caller). c.table) new.writes;
     number = ap (λ (c : Caller). c.number) new.writes;
@@ -93,15 +93,15 @@ module _ (laws : Laws) (shape : Shape) (table : Table) (w : Caller) (readers : L
   pub alone : IsAlone table w' seats'
   alone = settles.alone
 
-  pub shows : shown_by table w' seats' ≡ opened shape
+  pub shows : shown_by table w' seats' ≡ opened_map shape
   shows =
       let pins : map pin_of seats ≡ replicate shape.readers None = no_pins readers ∙ ap (λ (n : ℕ). replicate n None) new.count in
       shown_with laws table w seats seats [] g.mid.seen w' seats' settles (replicate shape.readers None) pins
-      ∙ ap (λ (l : List Entry). record (shown table (l ++ []) seats) { pins = replicate shape.readers None }) log_none
-      ∙ ap (λ (s : Shape). record (shown (record table { shape = s }) [] seats) { pins = replicate shape.readers None }) new.sizes
-      ∙ (λ j. record (opened shape) { puts = no_puts 0 shape.keys j })
+      ∙ ap (λ (l : List Entry). record (shown_after table (l ++ []) seats) { pins = replicate shape.readers None }) log_none
+      ∙ ap (λ (s : Shape). record (shown_after (record table { shape = s }) [] seats) { pins = replicate shape.readers None }) new.sizes
+      ∙ (λ j. record (opened_map shape) { puts = no_puts 0 shape.keys j })
 
-pub all_idle : (t : Table) (readers : List Caller) → All (λ (r : Caller). r.table ≡ t) readers → All (λ (s : Seat). (caller_of s).table ≡ t) (map Idle readers)
+pub all_idle : (t : Table) (readers : List Caller) → All (λ (r : Caller). r.table ≡ t) readers → All (λ (s : Seat). (reader_in s).table ≡ t) (map Idle readers)
 all_idle t readers own at other low =
     let inside : at < length readers = omega (arith, many_idle readers, low) in
-    ap (λ (s : Seat). (caller_of s).table) (get_or-map Idle readers at (caller_of other) other inside) ∙ own at (caller_of other) inside
+    ap (λ (s : Seat). (reader_in s).table) (get_or-map Idle readers at (reader_in other) other inside) ∙ own at (reader_in other) inside

@@ -15,26 +15,26 @@ use Rattle.nr_model.specs.Histories.{Entry, entries_of}
 use Rattle.nr_model.specs.Maps.{PartialMap, find_reply, next, state_of}
 use Rattle.nr_core.specs.Story.{entry, map_after}
 use Rattle.nr_marks.specs.Puts.{put_number}
-use Rattle.nr_map.specs.Callers.{Caller, Rests, Table, opening_map}
+use Rattle.nr_map.specs.Callers.{Caller, Rests, Table, map_at_opening}
 use Rattle.nr_map.specs.Rule.{StartsWith}
 use Rattle.nr_alone.specs.Answers.{Answer}
 use Rattle.nr_alone.specs.Answers as answers
 use Rattle.nr_alone.specs.declared.answer.Refusal.TheVariants as refusals
 use Rattle.nr_alone.specs.declared.seat.Seat.{Seat}
-use Rattle.nr_alone.specs.MapState.{Outcome, Pin, MapState, answer_call, answer_pin, pin_at, pins_after, with_pin, without_pin}
-use Rattle.nr_alone.specs.Seats.{Calls, Fits, HoldsItsPin, MakesCall, Pins, Shows, Unpins, caller_of, mine_of, pin_of}
+use Rattle.nr_alone.specs.MapState.{MapOutcome, Pin, MapState, answer_call, answer_pin, pin_at, pins_after, with_pin, without_pin}
+use Rattle.nr_alone.specs.Seats.{Calls, SeatHoldsItsPin, HoldsItsPin, MakesCall, MakesPin, ShowsPin, Unpins, reader_in, mine_of, pin_of}
 use Rattle.nr_alone.specs.Rounds.{Gathered}
-use Rattle.nr_alone.specs.Alone.{IsAlone, Laws, log_of, shown_by, shown}
-use Rattle.nr_alone.specs.Lines.{Settles}
+use Rattle.nr_alone.specs.Alone.{IsAlone, Laws, log_of, shown_by, shown_after}
+use Rattle.nr_alone.specs.Lines.{SettlesLine}
 use Rattle.nr_alone.proofs.Settling.{settled}
 use Rattle.nr_alone.proofs.Shown.{puts_quiet, quiet_count, quiet_number}
 use Rattle.nr_alone.proofs.Lines.{AreOf, answers_quiet, none_of, one_of, reader_line, reply_is, shown_with}
 
-pub without_some : (pin : Option Pin) (stood : MapState) (outcome : Outcome) → IsSome pin → without_pin pin stood outcome ≡ (Err refusals.Holding, stood)
+pub without_some : (pin : Option Pin) (stood : MapState) (outcome : MapOutcome) → IsSome pin → without_pin pin stood outcome ≡ (Err refusals.Holding, stood)
 without_some None stood outcome there = absurd (cc)
 without_some (Some pin) stood outcome there = refl
 
-pub with_some : (pin : Option Pin) (stood : MapState) (outcome : Outcome) → IsSome pin → with_pin pin stood (λ p. outcome) ≡ outcome
+pub with_some : (pin : Option Pin) (stood : MapState) (outcome : MapOutcome) → IsSome pin → with_pin pin stood (λ p. outcome) ≡ outcome
 with_some None stood outcome there = absurd (cc)
 with_some (Some pin) stood outcome there = refl
 
@@ -78,12 +78,12 @@ module _ (laws : Laws) (table : Table) (w0 : Caller) (seats0 : List Seat) (alone
   here : (d : Seat) → get_or seats0 at d ≡ old
   here d = get_or_default seats0 at d old low ∙ sym item
 
-  settled_at : (es : List Entry) → AreOf (suc at) es → (caller_of x).table ≡ (caller_of old).table → (caller_of x).number ≡ (caller_of old).number → mine_of x ≡ mine_of old ++ es → Fits x → Settles table w0 seats0 (set seats0 at x) es g.mid.seen w' seats'
+  settled_at : (es : List Entry) → AreOf (suc at) es → (reader_in x).table ≡ (reader_in old).table → (reader_in x).number ≡ (reader_in old).number → mine_of x ≡ mine_of old ++ es → SeatHoldsItsPin x → SettlesLine table w0 seats0 (set seats0 at x) es g.mid.seen w' seats'
   settled_at es are t n m fits = settled laws table w0 seats0 w0 (set seats0 at x) at es w' seats' alone.stands
-      (reader_line table w0 seats0 alone es at x low are (t ∙ ap (λ (s : Seat). (caller_of s).table) (sym (here x))) (n ∙ ap (λ (s : Seat). (caller_of s).number) (sym (here x))) (m ∙ ap (λ (s : Seat). mine_of s ++ es) (sym (here x))) fits) g
+      (reader_line table w0 seats0 alone es at x low are (t ∙ ap (λ (s : Seat). (reader_in s).table) (sym (here x))) (n ∙ ap (λ (s : Seat). (reader_in s).number) (sym (here x))) (m ∙ ap (λ (s : Seat). mine_of s ++ es) (sym (here x))) fits) g
 
-  number_is : (caller_of old).number ≡ suc at
-  number_is = ap (λ (s : Seat). (caller_of s).number) (sym (here old)) ∙ (alone.places at old low).number
+  number_is : (reader_in old).number ≡ suc at
+  number_is = ap (λ (s : Seat). (reader_in s).number) (sym (here old)) ∙ (alone.places at old low).number
 
   pin_here : pin_at stood at ≡ pin_of old
   pin_here = get_or-map pin_of seats0 at old None low ∙ ap pin_of (here old)
@@ -95,13 +95,13 @@ module _ (laws : Laws) (table : Table) (w0 : Caller) (seats0 : List Seat) (alone
   pins_kept same = map-set_same pin_of seats0 at x old (same ∙ ap pin_of item)
 
   -- the call's entry, with the reader's place
-  mine_at : (heard : List Entry) (call : Call) (r : Reply) → Calls heard call r (caller_of old) (caller_of x) → mine_of x ≡ mine_of old ++ entry (suc at) call r ∷ []
+  mine_at : (heard : List Entry) (call : Call) (r : Reply) → Calls heard call r (reader_in old) (reader_in x) → mine_of x ≡ mine_of old ++ entry (suc at) call r ∷ []
   mine_at heard call r made = subst (λ (n : ℕ). mine_of x ≡ mine_of old ++ entry n call r ∷ []) number_is made.mine
 
-  settled_call : (heard : List Entry) (call : Call) (r : Reply) → Calls heard call r (caller_of old) (caller_of x) → Fits x → Settles table w0 seats0 (set seats0 at x) (entry (suc at) call r ∷ []) g.mid.seen w' seats'
+  settled_call : (heard : List Entry) (call : Call) (r : Reply) → Calls heard call r (reader_in old) (reader_in x) → SeatHoldsItsPin x → SettlesLine table w0 seats0 (set seats0 at x) (entry (suc at) call r ∷ []) g.mid.seen w' seats'
   settled_call heard call r made fits = settled_at (entry (suc at) call r ∷ []) (one_of (suc at) call r) made.table made.number (mine_at heard call r made) fits
 
-  abbrev Says : Outcome → Answer → Type 0
+  abbrev Says : MapOutcome → Answer → Type 0
   Says outcome answer = IsAlone table w' seats' × (outcome ≡ (Ok answer, shown_by table w' seats'))
 
   pub says_call : (heard : List Entry) (call : Call) (answer : Answer) → MakesCall heard call old x (Ok answer) → Says (without_pin (pin_at stood at) stood (answer_call stood call)) answer
@@ -114,41 +114,41 @@ module _ (laws : Laws) (table : Table) (w0 : Caller) (seats0 : List Seat) (alone
       )
 
   -- the find of a pin leaves all but the pins
-  found : (heard : List Entry) (key : ℕ) (r : Reply) (pins' : List (Option Pin)) → Calls heard (model.Find key) r (caller_of old) (caller_of x) → Fits x → map pin_of (set seats0 at x) ≡ pins' → shown_by table w' seats' ≡ record stood { pins = pins' }
+  found : (heard : List Entry) (key : ℕ) (r : Reply) (pins' : List (Option Pin)) → Calls heard (model.Find key) r (reader_in old) (reader_in x) → SeatHoldsItsPin x → map pin_of (set seats0 at x) ≡ pins' → shown_by table w' seats' ≡ record stood { pins = pins' }
   found heard key r pins' made fits kept =
       let s = settled_call heard (model.Find key) r made fits in let e : Entry = entry (suc at) (model.Find key) r in
-      let maps : map_after table.shape (log ++ e ∷ []) ≡ map_after table.shape log = (laws.goes_on (opening_map table) log e).0 ∙ map_same (map_after table.shape log) key in
+      let maps : map_after table.shape (log ++ e ∷ []) ≡ map_after table.shape log = (laws.goes_on (map_at_opening table) log e).0 ∙ map_same (map_after table.shape log) key in
       shown_with laws table w0 seats0 (set seats0 at x) (e ∷ []) g.mid.seen w' seats' s pins' kept
       ∙ (λ j. record stood { map = maps j; puts = puts_quiet laws.puts table.shape log e made.quiet j; put_count = quiet_count laws.puts log e made.quiet j; pins = pins' })
 
-  reply_at : (heard : List Entry) (key : ℕ) (r : Reply) → Calls heard (model.Find key) r (caller_of old) (caller_of x) → Fits x → r ≡ find_reply (state_of stood.map key)
+  reply_at : (heard : List Entry) (key : ℕ) (r : Reply) → Calls heard (model.Find key) r (reader_in old) (reader_in x) → SeatHoldsItsPin x → r ≡ find_reply (state_of stood.map key)
   reply_at heard key r made fits = reply_is laws table w0 seats0 (set seats0 at x) (suc at) (model.Find key) r g.mid.seen w' seats' (settled_call heard (model.Find key) r made fits)
 
   -- the reader has seen just the history that the round knows
-  seen_just : (heard : List Entry) (call : Call) (r : Reply) → Calls heard call r (caller_of old) (caller_of x) → Fits x → (caller_of x).seen ≡ log ++ entry (suc at) call r ∷ []
+  seen_just : (heard : List Entry) (call : Call) (r : Reply) → Calls heard call r (reader_in old) (reader_in x) → SeatHoldsItsPin x → (reader_in x).seen ≡ log ++ entry (suc at) call r ∷ []
   seen_just before call r made fits =
       let e : Entry = entry (suc at) call r in let s = settled_call before call r made fits in
       let first : get_or (set seats0 at x) at x ≡ x = get_or-set_same seats0 at x x low in
-      let heard : StartsWith g.mid.seen (caller_of x).seen = subst (λ (k : Seat). StartsWith g.mid.seen (caller_of k).seen) first (g.heard x) in
-      let all : entries_of g.mid.seen (caller_of x).number ≡ mine_of x = subst (λ (k : Seat). entries_of g.mid.seen (caller_of k).number ≡ mine_of k) first (g.all x) in
-      let whole : log ++ e ∷ [] ≡ (caller_of x).seen ++ heard.rest = sym s.mid_log ∙ heard.is in
-      let n : ℕ = (caller_of x).number in
-      let none : entries_of heard.rest n ≡ [] = append_cancel_left (entries_of (caller_of x).seen n) (entries_of heard.rest n) []
-      (sym (filter-append (λ (k : Entry). k.caller == n) (caller_of x).seen heard.rest) ∙ ap (λ (l : List Entry). entries_of l n) (sym heard.is) ∙ all ∙ sym made.own ∙ sym (append-nil (entries_of (caller_of x).seen n))) in
+      let heard : StartsWith g.mid.seen (reader_in x).seen = subst (λ (k : Seat). StartsWith g.mid.seen (reader_in k).seen) first (g.heard x) in
+      let all : entries_of g.mid.seen (reader_in x).number ≡ mine_of x = subst (λ (k : Seat). entries_of g.mid.seen (reader_in k).number ≡ mine_of k) first (g.all x) in
+      let whole : log ++ e ∷ [] ≡ (reader_in x).seen ++ heard.rest = sym s.mid_log ∙ heard.is in
+      let n : ℕ = (reader_in x).number in
+      let none : entries_of heard.rest n ≡ [] = append_cancel_left (entries_of (reader_in x).seen n) (entries_of heard.rest n) []
+      (sym (filter-append (λ (k : Entry). k.caller == n) (reader_in x).seen heard.rest) ∙ ap (λ (l : List Entry). entries_of l n) (sym heard.is) ∙ all ∙ sym made.own ∙ sym (append-nil (entries_of (reader_in x).seen n))) in
       ⊎_elim
-      (λ (nothing : heard.rest ≡ []). sym (whole ∙ ap (λ (l : List Entry). (caller_of x).seen ++ l) nothing ∙ append-nil (caller_of x).seen))
+      (λ (nothing : heard.rest ≡ []). sym (whole ∙ ap (λ (l : List Entry). (reader_in x).seen ++ l) nothing ∙ append-nil (reader_in x).seen))
       (λ (more : (k : List Entry) × (heard.rest ≡ k ++ e ∷ [])).
       let is_n : n ≡ suc at = made.number ∙ number_is in
       let mine : entries_of (e ∷ []) n ≡ e ∷ [] = ap (entries_of (e ∷ [])) is_n ∙ (one_of (suc at) call r).his in
       let split : [] ≡ entries_of more.0 n ++ e ∷ [] = sym none ∙ ap (λ (l : List Entry). entries_of l n) more.1 ∙ filter-append (λ (k : Entry). k.caller == n) more.0 (e ∷ []) ∙ ap (λ (l : List Entry). entries_of more.0 n ++ l) mine in
       let many = ap (λ (l : List Entry). length l) split in
       absurd (omega (arith, length-append (entries_of more.0 n) (e ∷ []))))
-      (last_split (caller_of x).seen heard.rest log e whole)
+      (last_split (reader_in x).seen heard.rest log e whole)
 
-  pub says_pin : (heard : List Entry) (key : ℕ) (answer : Answer) → key < table.shape.keys → Pins heard key old x (Ok answer) → Says (without_pin (pin_at stood at) stood (answer_pin stood at key (state_of stood.map key))) answer
+  pub says_pin : (heard : List Entry) (key : ℕ) (answer : Answer) → key < table.shape.keys → MakesPin heard key old x (Ok answer) → Says (without_pin (pin_at stood at) stood (answer_pin stood at key (state_of stood.map key))) answer
   says_pin heard key answers.Ok inside (rows, made, before, after, fits) =
       let e : Entry = entry (suc at) (model.Find key) (reply.Rows rows) in
-      let put_is : put_number (caller_of x).seen key ≡ get_or stood.puts key 0 =
+      let put_is : put_number (reader_in x).seen key ≡ get_or stood.puts key 0 =
       ap (λ (l : List Entry). put_number l key) (seen_just heard (model.Find key) (reply.Rows rows) made fits) ∙ quiet_number laws.puts log e key refl
       ∙ sym (get_or-map-range_with_len (put_number log) 0 table.shape.keys key key 0 inside (omega arith)) in
       let pinned : pin_of x ≡ Some (record { key = key; rows = rows; put = get_or stood.puts key 0 }) = after ∙ (λ j. Some (record { key = key; rows = rows; put = put_is j })) in
@@ -170,13 +170,13 @@ module _ (laws : Laws) (table : Table) (w0 : Caller) (seats0 : List Seat) (alone
   says_pin heard key answers.NoSlot inside made = absurd made
 
   -- steps that are no call
-  rested : (steps : ℕ) → Rests steps (caller_of old) (caller_of x) → Fits x → Settles table w0 seats0 (set seats0 at x) [] g.mid.seen w' seats'
+  rested : (steps : ℕ) → Rests steps (reader_in old) (reader_in x) → SeatHoldsItsPin x → SettlesLine table w0 seats0 (set seats0 at x) [] g.mid.seen w' seats'
   rested steps rests fits = settled_at [] (none_of (suc at)) rests.table rests.number (rests.mine ∙ sym (append-nil (mine_of old))) fits
 
-  rested_state : (steps : ℕ) (pins' : List (Option Pin)) → Rests steps (caller_of old) (caller_of x) → Fits x → map pin_of (set seats0 at x) ≡ pins' → shown_by table w' seats' ≡ record stood { pins = pins' }
+  rested_state : (steps : ℕ) (pins' : List (Option Pin)) → Rests steps (reader_in old) (reader_in x) → SeatHoldsItsPin x → map pin_of (set seats0 at x) ≡ pins' → shown_by table w' seats' ≡ record stood { pins = pins' }
   rested_state steps pins' rests fits kept =
       shown_with laws table w0 seats0 (set seats0 at x) [] g.mid.seen w' seats' (rested steps rests fits) pins' kept
-      ∙ ap (λ (l : List Entry). record (shown table l seats0) { pins = pins' }) (append-nil log)
+      ∙ ap (λ (l : List Entry). record (shown_after table l seats0) { pins = pins' }) (append-nil log)
 
   pub says_unpin : (answer : Answer) → Unpins old x (Ok answer) → Says (with_pin (pin_at stood at) stood (λ pin. (Ok answers.Ok, pins_after stood at None))) answer
   says_unpin answer (is, rests, before, after, fits) =
@@ -186,10 +186,10 @@ module _ (laws : Laws) (table : Table) (w0 : Caller) (seats0 : List Seat) (alone
             ∙ ap (λ (k : MapState). (Ok answers.Ok, k)) (sym now) ∙ ap (λ (a : Answer). (Ok a, shown_by table w' seats')) (sym is),
       )
 
-  pub says_show : (answer : Answer) → Shows old x (Ok answer) → Says (with_pin (pin_at stood at) stood (λ pin. (Ok (answers.Reply (reply.Rows pin.rows)), stood))) answer
+  pub says_show : (answer : Answer) → ShowsPin old x (Ok answer) → Says (with_pin (pin_at stood at) stood (λ pin. (Ok (answers.Reply (reply.Rows pin.rows)), stood))) answer
   says_show answer (pin, before, is, steps, rests, after, holds) =
-      let had : Fits old = subst Fits (here old) (alone.places at old low).fits in
-      let fits : Fits x = subst (λ (p : Option Pin). HoldsItsPin p (caller_of x).holds) (sym after) (subst (HoldsItsPin (pin_of old)) (sym holds) had) in
+      let had : SeatHoldsItsPin old = subst SeatHoldsItsPin (here old) (alone.places at old low).fits in
+      let fits : SeatHoldsItsPin x = subst (λ (p : Option Pin). HoldsItsPin p (reader_in x).holds) (sym after) (subst (HoldsItsPin (pin_of old)) (sym holds) had) in
       let now = rested_state steps (map pin_of seats0) rests fits (pins_kept after) in (
         (rested steps rests fits).alone,
         ap (λ (p : Option Pin). with_pin p stood (λ (q : Pin). (Ok (answers.Reply (reply.Rows q.rows)), stood))) (pin_here ∙ before)

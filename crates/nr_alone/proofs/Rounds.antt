@@ -9,14 +9,14 @@ use Rattle.nr_model.specs.Histories.{Entry, IsLegal, entries_of}
 use Rattle.nr_core.specs.declared.places.Retired.{Retired}
 use Rattle.nr_marks.specs.Marks.{Marks, Past}
 use Rattle.nr_marks.specs.Pasts.{Current}
-use Rattle.nr_map.specs.Callers.{Caller, Table, opening_map}
+use Rattle.nr_map.specs.Callers.{Caller, Table, map_at_opening}
 use Rattle.nr_map.specs.Entries.{AreCallers}
 use Rattle.nr_map.specs.ExactPlaces.{OnlyLearnt}
 use Rattle.nr_map.specs.Meetings.{Gathers, Learns, how_is}
 use Rattle.nr_map.specs.Rule.{StartsWith}
 use Rattle.nr_alone.specs.declared.seat.Seat.{Seat}
-use Rattle.nr_alone.specs.Seats.{Still, caller_of, how_of, mine_of, still}
-use Rattle.nr_alone.specs.Rounds.{Gathered, GathersSeat, IsShown, IsSound, Round, Stays}
+use Rattle.nr_alone.specs.Seats.{Still, reader_in, how_of, mine_of, still}
+use Rattle.nr_alone.specs.Rounds.{Gathered, GathersSeat, IsShown, IsSoundWriter, Round, WriterStays}
 
 pub starts_same : (xs : List Entry) → StartsWith xs xs
 starts_same xs = record { rest = []; is = sym (append-nil xs) }
@@ -34,24 +34,24 @@ starts_both xs ys a b =
 pub starts_each : (later log : List Entry) (caller : ℕ) → StartsWith later log → StartsWith (entries_of later caller) (entries_of log caller)
 starts_each later log caller s = record { rest = entries_of s.rest caller; is = ap (λ (l : List Entry). entries_of l caller) s.is ∙ filter-append (λ (e : Entry). e.caller == caller) log s.rest }
 
-pub stays_same : (c : Caller) → Stays c c
+pub stays_same : (c : Caller) → WriterStays c c
 stays_same c = record { number = refl; mine = refl; seen = starts_same c.seen; only = record { table = refl; fresh = refl; retired = refl; numbers = refl; marks = refl } }
 
 pub only_then : (a b c : Caller) → OnlyLearnt a b → OnlyLearnt b c → OnlyLearnt a c
 only_then a b c one two = record { table = two.table ∙ one.table; fresh = two.fresh ∙ one.fresh; retired = two.retired ∙ one.retired; numbers = two.numbers ∙ one.numbers; marks = two.marks ∙ one.marks }
 
-pub stays_then : (a b c : Caller) → Stays a b → Stays b c → Stays a c
+pub stays_then : (a b c : Caller) → WriterStays a b → WriterStays b c → WriterStays a c
 stays_then a b c one two = record { number = two.number ∙ one.number; mine = two.mine ∙ one.mine; seen = starts_then a.seen b.seen c.seen one.seen two.seen; only = only_then a b c one.only two.only }
 
-pub learns_stays : (steps : ℕ) (old new : Caller) → Learns steps old new → Stays old new
+pub learns_stays : (steps : ℕ) (old new : Caller) → Learns steps old new → WriterStays old new
 learns_stays steps old new l = record { number = l.number; mine = l.mine; seen = l.seen; only = record { table = l.table; fresh = l.fresh; retired = l.retired; numbers = l.numbers; marks = l.marks } }
 
-pub gather_sound : (w r w' r' : Caller) → Gathers w r w' r' → IsSound w'
+pub gather_sound : (w r w' r' : Caller) → Gathers w r w' r' → IsSoundWriter w'
 gather_sound w r w' r' g =
     let l = g.of_reader.learns in let same : w.table ≡ w'.table = sym l.table in
     record {
       own = l.own;
-      legal = subst (λ (t : Table). IsLegal (opening_map t) w'.seen) same l.legal;
+      legal = subst (λ (t : Table). IsLegal (map_at_opening t) w'.seen) same l.legal;
       callers = subst (λ (t : Table). AreCallers t.shape w'.seen) same l.callers;
       lists = g.lists;
     }
@@ -60,7 +60,7 @@ pub same_reader : (steps : ℕ) (old new : Caller) → Learns steps old new → 
 same_reader steps old new l = λ j. record { reader = l.number j; count = (l.marks j).acts; slot = l.holds j; put = (l.marks j).put }
 
 pub same_still : (w : Caller) (s : Seat) (w' : Caller) (s' : Seat) → GathersSeat w s w' s' → still s' ≡ still s
-same_still w s w' s' g = let l = g.gathers.of_writer.learns in let how = same_reader 3 (caller_of s) (caller_of s') l in
+same_still w s w' s' g = let l = g.gathers.of_writer.learns in let how = same_reader 3 (reader_in s) (reader_in s') l in
     λ j. record { table = l.table j; mine = l.mine j; how = how j; pin = g.pin j }
 
 pub place_on : (news known : List Past) (place : ℕ) (one : Past) → get_elem? known place ≡ some one → (at : ℕ) × (get_elem? (news ++ known) at ≡ some one)
@@ -83,10 +83,10 @@ shown_on log w r w' r' x g s =
 
 pub shown_now : (log : List Entry) (w : Caller) (s : Seat) (w' : Caller) (s' : Seat) → GathersSeat w s w' s' → StartsWith w'.seen log → IsShown log w' s'
 shown_now log w s w' s' g later =
-    let l = g.gathers.of_writer.learns in let how = same_reader 3 (caller_of s) (caller_of s') l in
-    let all : entries_of w'.seen (caller_of s').number ≡ mine_of s' = ap (λ (n : ℕ). entries_of w'.seen n) l.number ∙ g.gathers.all ∙ sym l.mine in
+    let l = g.gathers.of_writer.learns in let how = same_reader 3 (reader_in s) (reader_in s') l in
+    let all : entries_of w'.seen (reader_in s').number ≡ mine_of s' = ap (λ (n : ℕ). entries_of w'.seen n) l.number ∙ g.gathers.all ∙ sym l.mine in
     record {
-      few = subst (λ (m : List Entry). StartsWith m (entries_of log (caller_of s').number)) all (starts_each w'.seen log (caller_of s').number later);
+      few = subst (λ (m : List Entry). StartsWith m (entries_of log (reader_in s').number)) all (starts_each w'.seen log (reader_in s').number later);
       place = g.gathers.place;
       known = g.gathers.known ∙ ap some (sym how);
       current = subst (λ (p : Past). Current w'.retired w'.marks p) (sym how) g.gathers.current;
@@ -96,7 +96,7 @@ shown_now log w s w' s' g later =
 module _ (log : List Entry) (w w' : Caller) (s s' : Seat) (seats : List Seat) (i : ℕ) (low : i < length seats) (begins : StartsWith w.seen log) (g : GathersSeat w s w' s') where
   elsewhere : (at : ℕ) (other : Seat) → at ≢ i → IsShown log w (get_or seats at other) → IsShown log w' (get_or (set seats i s') at other)
   elsewhere at other apart shown =
-      subst (λ (x : Seat). IsShown log w' x) (sym (get_or-set_other seats i at s' other apart)) (shown_on log w (caller_of s) w' (caller_of s') (get_or seats at other) g.gathers shown)
+      subst (λ (x : Seat). IsShown log w' x) (sym (get_or-set_other seats i at s' other apart)) (shown_on log w (reader_in s) w' (reader_in s') (get_or seats at other) g.gathers shown)
 
   here : (other : Seat) → IsShown log w' (get_or (set seats i s') i other)
   here other =
@@ -127,7 +127,7 @@ pub same_at : (xs ys : List Seat) → map still xs ≡ map still ys → (at : �
 same_at xs ys e at a b low = let low' : at < length ys = omega (arith, same_length xs ys e) in
     sym (get_or-map still xs at a (still a) low) ∙ ap (λ (l : List Still). get_or l at (still a)) e ∙ get_or-map still ys at b (still a) low'
 
-pub tables_on : (t : Table) (xs ys : List Seat) → map still ys ≡ map still xs → All (λ (s : Seat). (caller_of s).table ≡ t) xs → All (λ (s : Seat). (caller_of s).table ≡ t) ys
+pub tables_on : (t : Table) (xs ys : List Seat) → map still ys ≡ map still xs → All (λ (s : Seat). (reader_in s).table ≡ t) xs → All (λ (s : Seat). (reader_in s).table ≡ t) ys
 tables_on t xs ys e own at other low = let low' : at < length xs = omega (arith, same_length ys xs e) in
     ap (λ (s : Still). s.table) (same_at ys xs e at other other low) ∙ own at other low'
 
@@ -139,9 +139,9 @@ round_over w seats at w1 old s1 w' seats' low item g r =
     record {
       mid = w1;
       stays = learns_stays 3 w w1 g.gathers.of_reader.learns;
-      sound = gather_sound w (caller_of old) w1 (caller_of s1) g.gathers;
-      all = λ other. subst (λ (x : Seat). entries_of w1.seen (caller_of x).number ≡ mine_of x) (same_place other) g.gathers.all;
-      heard = λ other. subst (λ (x : Seat). StartsWith w1.seen (caller_of x).seen) (same_place other) g.gathers.of_reader.seen;
+      sound = gather_sound w (reader_in old) w1 (reader_in s1) g.gathers;
+      all = λ other. subst (λ (x : Seat). entries_of w1.seen (reader_in x).number ≡ mine_of x) (same_place other) g.gathers.all;
+      heard = λ other. subst (λ (x : Seat). StartsWith w1.seen (reader_in x).seen) (same_place other) g.gathers.of_reader.seen;
       round = record {
         stays = r.stays;
         sound = r.sound;

@@ -9,10 +9,10 @@ use Rattle.nr_map.specs.Callers.{Caller, Table}
 use Rattle.nr_map.specs.Rule.{StartsWith}
 use Rattle.nr_alone.specs.declared.seat.Seat.{Seat}
 use Rattle.nr_alone.specs.declared.seat.Seat.TheVariants.{Idle}
-use Rattle.nr_alone.specs.Seats.{HoldsItsPin, Still, caller_of, mine_of, still}
+use Rattle.nr_alone.specs.Seats.{HoldsItsPin, Still, reader_in, mine_of, still}
 use Rattle.nr_alone.specs.Rounds.{Gathered}
-use Rattle.nr_alone.specs.Alone.{HasJust, IsSeat, Laws, Stands, calls_of, log_of}
-use Rattle.nr_alone.specs.Lines.{IsLine, Settles}
+use Rattle.nr_alone.specs.Alone.{HasJust, IsSeat, Laws, ReadyForRound, calls_of, log_of}
+use Rattle.nr_alone.specs.Lines.{IsLine, SettlesLine}
 use Rattle.nr_alone.proofs.Rounds.{same_at, same_length, starts_both, starts_each, starts_then}
 use Rattle.nr_alone.proofs.Exactly.{calls_at, nobody_else, exact_step, log_begins, log_is, many_mines}
 
@@ -28,7 +28,7 @@ beyond_it [] at past = refl
 beyond_it (x ∷ xs) zero past = absurd (omega arith)
 beyond_it (x ∷ xs) (suc at) past = beyond_it xs at (omega arith)
 
-module _ (laws : Laws) (table : Table) (w0 : Caller) (seats0 : List Seat) (w : Caller) (seats : List Seat) (first : ℕ) (es : List Entry) (w' : Caller) (seats' : List Seat) (alone : Stands table w0 seats0) (line : IsLine table w0 seats0 w seats first es) (g : Gathered first w seats w' seats') where
+module _ (laws : Laws) (table : Table) (w0 : Caller) (seats0 : List Seat) (w : Caller) (seats : List Seat) (first : ℕ) (es : List Entry) (w' : Caller) (seats' : List Seat) (alone : ReadyForRound table w0 seats0) (line : IsLine table w0 seats0 w seats first es) (g : Gathered first w seats w' seats') where
   abbrev log : List Entry
   log = log_of w0 seats0
 
@@ -46,7 +46,7 @@ module _ (laws : Laws) (table : Table) (w0 : Caller) (seats0 : List Seat) (w : C
   of_other at other low apart =
       let shown = g.round.each at other low in
       let same : still (get_or seats' at other) ≡ still (get_or seats at other) = same_at seats' seats g.round.same at other other (omega (arith, size, low)) in
-      let number : (caller_of (get_or seats' at other)).number ≡ suc at = ap (λ (s : Still). s.how.reader) same ∙ (line.places at other low).number in
+      let number : (reader_in (get_or seats' at other)).number ≡ suc at = ap (λ (s : Still). s.how.reader) same ∙ (line.places at other low).number in
       let most : StartsWith (mine_of (get_or seats at other)) (entries_of g.mid.seen (suc at)) =
       subst (λ (m : List Entry). StartsWith m (entries_of g.mid.seen (suc at))) (ap (λ (s : Still). s.mine) same)
       (subst (λ (n : ℕ). StartsWith (mine_of (get_or seats' at other)) (entries_of g.mid.seen n)) number shown.few) in
@@ -112,7 +112,7 @@ module _ (laws : Laws) (table : Table) (w0 : Caller) (seats0 : List Seat) (w : C
   log_now = log_is laws.entries laws.begins table w' seats' (log ++ es) own number count places
       g.round.sound (subst (λ (l : List Entry). StartsWith w'.seen l) mid_is g.round.stays.seen) just
 
-  pub settled : Settles table w0 seats0 seats es g.mid.seen w' seats'
+  pub settled : SettlesLine table w0 seats0 seats es g.mid.seen w' seats'
   settled = record {
     alone = record {
       stands = record { own = own; number = number; count = count; some_one = omega (arith, size, some_one); just = subst (λ (l : List Entry). HasJust l w' seats') (sym log_now) just };

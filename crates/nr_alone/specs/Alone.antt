@@ -12,12 +12,12 @@ use Rattle.nr_marks.specs.MarkLaws.{PutGoesOn}
 use Rattle.nr_marks.specs.Pasts.{Current}
 use Rattle.nr_marks.specs.Puts.{put_count}
 use Rattle.nr_map.specs.Callers.{Caller, Table}
-use Rattle.nr_map.specs.ExactPlaces.{DoneIsExact, NoSlotIsExact}
+use Rattle.nr_map.specs.ExactPlaces.{DoneMeansFewerInUse, NoSlotMeansAllInUse}
 use Rattle.nr_map.specs.Rounds.{EntriesAreCallers}
 use Rattle.nr_alone.specs.declared.seat.Seat.{Seat}
 use Rattle.nr_alone.specs.MapState.{MapState}
-use Rattle.nr_alone.specs.Seats.{Fits, caller_of, how_of, mine_of, pin_of}
-use Rattle.nr_alone.specs.Rounds.{IsSound}
+use Rattle.nr_alone.specs.Seats.{SeatHoldsItsPin, reader_in, how_of, mine_of, pin_of}
+use Rattle.nr_alone.specs.Rounds.{IsSoundWriter}
 
 -- the calls of each caller: 0 is the writer
 abbrev pub calls_of : List Entry → List (List Entry) → ℕ → List Entry
@@ -33,7 +33,7 @@ abbrev pub one_each : Entry → Bool
 one_each entry = true
 
 abbrev pub made : Caller → List Seat → ℕ
-made writer seats = count_by one_each writer.mine + total (λ (reader : Caller). count_by one_each reader.mine) (map caller_of seats)
+made writer seats = count_by one_each writer.mine + total (λ (reader : Caller). count_by one_each reader.mine) (map reader_in seats)
 
 -- the history of these calls alone: no clause says that the writer has not seen more
 abbrev pub log_of : Caller → List Seat → List Entry
@@ -47,12 +47,12 @@ pub record IsKnown (writer : Caller) (seat : Seat) : Type 0 where
 
 -- the seat at a place is of the map, and its reader's number is the next one
 pub record IsSeat (map : Table) (at : ℕ) (seat : Seat) : Type 0 where
-  pub table : (caller_of seat).table ≡ map
-  pub number : (caller_of seat).number ≡ suc at
-  pub fits : Fits seat
+  pub table : (reader_in seat).table ≡ map
+  pub number : (reader_in seat).number ≡ suc at
+  pub fits : SeatHoldsItsPin seat
 
 -- what stood before a line as far as its round needs it: the history has exactly the calls
-pub record Stands (table : Table) (writer : Caller) (seats : List Seat) : Type 0 where
+pub record ReadyForRound (table : Table) (writer : Caller) (seats : List Seat) : Type 0 where
   pub own : writer.table ≡ table
   pub number : writer.number ≡ 0
   pub count : length seats ≡ table.shape.readers
@@ -61,24 +61,24 @@ pub record Stands (table : Table) (writer : Caller) (seats : List Seat) : Type 0
 
 -- between two lines the writer knows too how each reader is
 pub record IsAlone (table : Table) (writer : Caller) (seats : List Seat) : Type 0 where
-  pub stands : Stands table writer seats
+  pub stands : ReadyForRound table writer seats
   pub places : (at : ℕ) (other : Seat) → at < length seats → IsSeat table at (slice_index_or seats at other)
-  pub sound : IsSound writer
+  pub sound : IsSoundWriter writer
   pub known : (at : ℕ) (other : Seat) → at < length seats → IsKnown writer (slice_index_or seats at other)
 
 -- the state after a history, with what is pinned
-abbrev pub shown : Table → List Entry → List Seat → MapState
-shown table log seats =
+abbrev pub shown_after : Table → List Entry → List Seat → MapState
+shown_after table log seats =
     record { map = map_after table.shape log; slots = table.shape.slots; first_count = table.shape.first_count; puts = put_numbers table.shape log; put_count = put_count log; pins = map pin_of seats }
 
 abbrev pub shown_by : Table → Caller → List Seat → MapState
-shown_by table writer seats = shown table (log_of writer seats) seats
+shown_by table writer seats = shown_after table (log_of writer seats) seats
 
 -- the laws of the map that lines stand on
 pub record Laws : Type 0 where
   pub entries : EntriesAreCallers
-  pub no_slot : NoSlotIsExact
-  pub done : DoneIsExact
+  pub no_slot : NoSlotMeansAllInUse
+  pub done : DoneMeansFewerInUse
   pub puts : PutGoesOn
   pub goes_on : LegalGoesOn
   pub begins : LegalBegins

@@ -20,7 +20,7 @@ pub record IsLine (table : Table) (w0 : Caller) (seats0 : List Seat) (w : Caller
   pub others : (at : ℕ) → at ≢ first → entries_of es (suc at) ≡ []
 
 -- the line's calls are the only ones that the history has more, already where the first reader was gathered
-pub record Settles (table : Table) (w0 : Caller) (seats0 seats : List Seat) (es mid : List Entry) (w' : Caller) (seats' : List Seat) : Type 0 where
+pub record SettlesLine (table : Table) (w0 : Caller) (seats0 seats : List Seat) (es mid : List Entry) (w' : Caller) (seats' : List Seat) : Type 0 where
   pub alone : IsAlone table w' seats'
   pub log : log_of w' seats' ≡ log_of w0 seats0 ++ es
   pub mid_log : mid ≡ log_of w0 seats0 ++ es

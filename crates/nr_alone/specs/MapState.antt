@@ -7,7 +7,7 @@ use Rattle.nr_model.specs.declared.states.KeyState.TheVariants as states
 use Rattle.nr_model.specs.declared.calls.Call.{Call}
 use Rattle.nr_model.specs.declared.calls.Reply.{Reply}
 use Rattle.nr_model.specs.declared.calls.Reply.TheVariants as reply
-use Rattle.nr_model.specs.Maps.{PartialMap, opening, key_of, reply_to, next, filled_count}
+use Rattle.nr_model.specs.Maps.{PartialMap, opening, call_key, reply_to, next, filled_count}
 use Rattle.nr_model.specs.Histories.{is_done}
 use Rattle.nr_model.specs.Strays.{keyed, strays}
 use Rattle.nr_core.specs.declared.shape.Shape.{Shape}
@@ -38,16 +38,16 @@ pub record MapState : Type 0 where
 abbrev pub put_of : Option Pin → Option ℕ
 put_of pin = option_map (λ (p : Pin). p.put) pin
 
-abbrev pub pinned : List (Option Pin) → List ℕ
-pinned pins = filter_map put_of pins
+abbrev pub pinned_puts : List (Option Pin) → List ℕ
+pinned_puts pins = filter_map put_of pins
 
 -- each slot holds the set of a key, or a stray
 abbrev pub is_full : MapState → Bool
-is_full state = filled_count state.map + strays (keyed state.map.states state.puts) (pinned state.pins) == state.slots
+is_full state = filled_count state.map + strays (keyed state.map.states state.puts) (pinned_puts state.pins) == state.slots
 
 -- what a call is answered, or why it is refused, and the state after it
-abbrev pub Outcome : Type 0
-Outcome = Result Answer Refusal × MapState
+abbrev pub MapOutcome : Type 0
+MapOutcome = Result Answer Refusal × MapState
 
 -- a call that is done puts a set
 abbrev pub puts_after : Reply → ℕ → MapState → List ℕ
@@ -60,10 +60,10 @@ put_count_after other state = state.put_count
 
 abbrev pub after_call : MapState → Call → MapState
 after_call state call =
-    record state { map = next state.map call; puts = puts_after (reply_to state.map call) (key_of call) state; put_count = put_count_after (reply_to state.map call) state }
+    record state { map = next state.map call; puts = puts_after (reply_to state.map call) (call_key call) state; put_count = put_count_after (reply_to state.map call) state }
 
 -- the map's reply to a call, unless the call would be done and no slot is left for it
-abbrev pub answer_call : MapState → Call → Outcome
+abbrev pub answer_call : MapState → Call → MapOutcome
 answer_call state call =
     if is_done (reply_to state.map call) && is_full state then (Ok answers.NoSlot, state) else (Ok (answers.Reply (reply_to state.map call)), after_call state call)
 
@@ -72,11 +72,11 @@ abbrev pub pin_at : MapState → ℕ → Option Pin
 pin_at state at = slice_index_or state.pins at None
 
 -- what a reader does that must hold no pin, and what it does with its pin
-abbrev pub without_pin : Option Pin → MapState → Outcome → Outcome
+abbrev pub without_pin : Option Pin → MapState → MapOutcome → MapOutcome
 without_pin None state outcome = outcome
 without_pin (Some pin) state outcome = (Err refusals.Holding, state)
 
-abbrev pub with_pin : Option Pin → MapState → (Pin → Outcome) → Outcome
+abbrev pub with_pin : Option Pin → MapState → (Pin → MapOutcome) → MapOutcome
 with_pin None state outcome = (Err refusals.NotHolding, state)
 with_pin (Some pin) state outcome = outcome pin
 
@@ -84,26 +84,26 @@ abbrev pub pins_after : MapState → ℕ → Option Pin → MapState
 pins_after state at pin = record state { pins = slice_set state.pins at pin }
 
 -- a reader pins the set of a key, if the key has one
-abbrev pub answer_pin : MapState → ℕ → ℕ → KeyState → Outcome
+abbrev pub answer_pin : MapState → ℕ → ℕ → KeyState → MapOutcome
 answer_pin state at key (states.Hole n) = (Ok (answers.Reply reply.Hole), state)
 answer_pin state at key (states.Asked n) = (Ok (answers.Reply reply.Hole), state)
 answer_pin state at key (states.Rows n rows) =
     (Ok answers.Ok, pins_after state at (Some (record { key = key; rows = rows; put = slice_index state.puts key })))
 
 -- each call of a reader, and each of the writer
-abbrev pub answer_of_reader : MapState → ℕ → Call → Outcome
+abbrev pub answer_of_reader : MapState → ℕ → Call → MapOutcome
 answer_of_reader state at call = without_pin (pin_at state at) state (answer_call state call)
 
-abbrev pub answer_pinning : MapState → ℕ → ℕ → KeyState → Outcome
+abbrev pub answer_pinning : MapState → ℕ → ℕ → KeyState → MapOutcome
 answer_pinning state at key found = without_pin (pin_at state at) state (answer_pin state at key found)
 
-abbrev pub answer_show : MapState → ℕ → Outcome
+abbrev pub answer_show : MapState → ℕ → MapOutcome
 answer_show state at = with_pin (pin_at state at) state (λ pin. (Ok (answers.Reply (reply.Rows pin.rows)), state))
 
-abbrev pub answer_unpin : MapState → ℕ → Outcome
+abbrev pub answer_unpin : MapState → ℕ → MapOutcome
 answer_unpin state at = with_pin (pin_at state at) state (λ pin. (Ok answers.Ok, pins_after state at None))
 
 -- a map of holes
-abbrev pub opened : Shape → MapState
-opened shape =
+abbrev pub opened_map : Shape → MapState
+opened_map shape =
     record { map = opening shape.keys shape.rows shape.first_number; slots = shape.slots; first_count = shape.first_count; puts = replicate shape.keys 0; put_count = 0; pins = replicate shape.readers None }

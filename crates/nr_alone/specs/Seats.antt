@@ -20,9 +20,9 @@ use Rattle.nr_alone.specs.declared.answer.Refusal.TheVariants as refusals
 use Rattle.nr_alone.specs.declared.seat.Seat.{Seat}
 use Rattle.nr_alone.specs.declared.seat.Seat.TheVariants.{Idle, Pinned}
 
-abbrev pub caller_of : Seat → Caller
-caller_of (Idle reader) = reader
-caller_of (Pinned pin key) = pin.reader
+abbrev pub reader_in : Seat → Caller
+reader_in (Idle reader) = reader
+reader_in (Pinned pin key) = pin.reader
 
 -- what the reader has pinned
 abbrev pub pin_of : Seat → Option Pin
@@ -30,10 +30,10 @@ pin_of (Idle reader) = None
 pin_of (Pinned pin key) = Some (record { key = key; rows = pin.rows; put = pin.reader.marks.put })
 
 abbrev pub how_of : Seat → Past
-how_of seat = how_is (caller_of seat)
+how_of seat = how_is (reader_in seat)
 
 abbrev pub mine_of : Seat → List Entry
-mine_of seat = (caller_of seat).mine
+mine_of seat = (reader_in seat).mine
 
 -- what gathers leave of a seat
 pub record Still : Type 0 where
@@ -43,15 +43,15 @@ pub record Still : Type 0 where
   pub pin : Option Pin
 
 abbrev pub still : Seat → Still
-still seat = record { table = (caller_of seat).table; mine = mine_of seat; how = how_of seat; pin = pin_of seat }
+still seat = record { table = (reader_in seat).table; mine = mine_of seat; how = how_of seat; pin = pin_of seat }
 
 -- a reader holds a slot exactly where it has a pin
 abbrev pub HoldsItsPin : Option Pin → Option ℕ → Type 0
 HoldsItsPin None slot = slot ≡ None
 HoldsItsPin (Some pin) slot = IsSome slot
 
-abbrev pub Fits : Seat → Type 0
-Fits seat = HoldsItsPin (pin_of seat) (caller_of seat).holds
+abbrev pub SeatHoldsItsPin : Seat → Type 0
+SeatHoldsItsPin seat = HoldsItsPin (pin_of seat) (reader_in seat).holds
 
 -- a reader's call with its reply; the history that it knew before had all that the writer had seen
 pub record Calls (heard : List Entry) (call : Call) (reply' : Reply) (old new : Caller) : Type 0 where
@@ -65,33 +65,33 @@ pub record Calls (heard : List Entry) (call : Call) (reply' : Reply) (old new : 
   pub own : KnowsOwn new
 
 abbrev pub MakesCall : List Entry → Call → Seat → Seat → Result Answer Refusal → Type 0
-MakesCall heard call old new (Ok answer) = (reply' : Reply) × (answer ≡ answers.Reply reply') × Calls heard call reply' (caller_of old) (caller_of new) × (pin_of old ≡ None) × (pin_of new ≡ None) × Fits new
+MakesCall heard call old new (Ok answer) = (reply' : Reply) × (answer ≡ answers.Reply reply') × Calls heard call reply' (reader_in old) (reader_in new) × (pin_of old ≡ None) × (pin_of new ≡ None) × SeatHoldsItsPin new
 MakesCall heard call old new (Err refusals.Holding) = (new ≡ old) × IsSome (pin_of old)
 MakesCall heard call old new (Err refusals.NotHolding) = ⊥
 
 -- a pin is a find, made in some way: of a filled key it holds the rows of the reply, with the put number that the key had
 abbrev pub PinsBy : (Reply → Caller → Caller → Type 0) → ℕ → Seat → Seat → Result Answer Refusal → Type 0
 PinsBy Made key old new (Ok answers.Ok) =
-    (rows : List Row) × Made (reply.Rows rows) (caller_of old) (caller_of new) × (pin_of old ≡ None) × (pin_of new ≡ Some (record { key = key; rows = rows; put = put_number (caller_of new).seen key })) × Fits new
-PinsBy Made key old new (Ok (answers.Reply reply')) = (reply' ≡ reply.Hole) × Made reply.Hole (caller_of old) (caller_of new) × (pin_of old ≡ None) × (pin_of new ≡ None) × Fits new
+    (rows : List Row) × Made (reply.Rows rows) (reader_in old) (reader_in new) × (pin_of old ≡ None) × (pin_of new ≡ Some (record { key = key; rows = rows; put = put_number (reader_in new).seen key })) × SeatHoldsItsPin new
+PinsBy Made key old new (Ok (answers.Reply reply')) = (reply' ≡ reply.Hole) × Made reply.Hole (reader_in old) (reader_in new) × (pin_of old ≡ None) × (pin_of new ≡ None) × SeatHoldsItsPin new
 PinsBy Made key old new (Ok answers.NoSlot) = ⊥
 PinsBy Made key old new (Err refusals.Holding) = (new ≡ old) × IsSome (pin_of old)
 PinsBy Made key old new (Err refusals.NotHolding) = ⊥
 
-abbrev pub Finds : ℕ → Reply → Caller → Caller → Type 0
-Finds key reply' old new = (steps : ℕ) × Gains steps old (model.Find key) reply' new
+abbrev pub GainsFind : ℕ → Reply → Caller → Caller → Type 0
+GainsFind key reply' old new = (steps : ℕ) × Gains steps old (model.Find key) reply' new
 
-abbrev pub Pins : List Entry → ℕ → Seat → Seat → Result Answer Refusal → Type 0
-Pins heard key old new result = PinsBy (Calls heard (model.Find key)) key old new result
+abbrev pub MakesPin : List Entry → ℕ → Seat → Seat → Result Answer Refusal → Type 0
+MakesPin heard key old new result = PinsBy (Calls heard (model.Find key)) key old new result
 
 -- the end of a pin
 abbrev pub Unpins : Seat → Seat → Result Answer Refusal → Type 0
-Unpins old new (Ok answer) = (answer ≡ answers.Ok) × Rests 1 (caller_of old) (caller_of new) × IsSome (pin_of old) × (pin_of new ≡ None) × Fits new
+Unpins old new (Ok answer) = (answer ≡ answers.Ok) × Rests 1 (reader_in old) (reader_in new) × IsSome (pin_of old) × (pin_of new ≡ None) × SeatHoldsItsPin new
 Unpins old new (Err refusals.Holding) = ⊥
 Unpins old new (Err refusals.NotHolding) = (new ≡ old) × (pin_of old ≡ None)
 
 -- steps that read the pinned rows
-abbrev pub Shows : Seat → Seat → Result Answer Refusal → Type 0
-Shows old new (Ok answer) = (pin : Pin) × (pin_of old ≡ Some pin) × (answer ≡ answers.Reply (reply.Rows pin.rows)) × (steps : ℕ) × Rests steps (caller_of old) (caller_of new) × (pin_of new ≡ pin_of old) × ((caller_of new).holds ≡ (caller_of old).holds)
-Shows old new (Err refusals.Holding) = ⊥
-Shows old new (Err refusals.NotHolding) = (new ≡ old) × (pin_of old ≡ None)
+abbrev pub ShowsPin : Seat → Seat → Result Answer Refusal → Type 0
+ShowsPin old new (Ok answer) = (pin : Pin) × (pin_of old ≡ Some pin) × (answer ≡ answers.Reply (reply.Rows pin.rows)) × (steps : ℕ) × Rests steps (reader_in old) (reader_in new) × (pin_of new ≡ pin_of old) × ((reader_in new).holds ≡ (reader_in old).holds)
+ShowsPin old new (Err refusals.Holding) = ⊥
+ShowsPin old new (Err refusals.NotHolding) = (new ≡ old) × (pin_of old ≡ None)

@@ -22,13 +22,13 @@ pub record PutsSet (call : Call) (old new : Caller) : Type 0 where
   pub rows : List Row
   pub publishes : Publishes steps old call rows new
 
-pub record LacksSlot (call : Call) (old new : Caller) : Type 0 where
+pub record FindsNoSlot (call : Call) (old new : Caller) : Type 0 where
   pub steps : ℕ
   pub counts : NoSlot
   pub lacks : HasNoSlot steps old call counts new
 
 abbrev pub WriterMakes : Call → Caller → Caller → Answer → Type 0
 WriterMakes call old new answers.Ok = ⊥
-WriterMakes call old new answers.NoSlot = LacksSlot call old new
+WriterMakes call old new answers.NoSlot = FindsNoSlot call old new
 WriterMakes call old new (answers.Reply reply.Done) = PutsSet call old new
 WriterMakes call old new (answers.Reply other) = Replies call other old new

@@ -2,8 +2,8 @@
 ghost use Rattle.std.specs.Prelude.{◌≡◌, ◌≤◌, ◌<◌, ◌↔◌, All, length, Ok, Err, IfOk, map as each_of};
 ghost use Rattle.nr_core.specs.Sizes.{IsBadShape};
 ghost use Rattle.nr_model.specs.declared.rows.TheConstants.{MAX_ROWS};
-ghost use Rattle.nr_alone.specs.Seats.{caller_of};
-ghost use Rattle.nr_alone.specs.WriterCalls.{call_of, key_of};
+ghost use Rattle.nr_alone.specs.Seats.{reader_in};
+ghost use Rattle.nr_alone.specs.WriterCalls.{model_call, writer_key};
 ghost use Rattle.nr_alone.specs.declared.seat.Seat.TheVariants.{Idle};
 
 use crate::answer::{Answer, Refusal};
@@ -40,13 +40,13 @@ impl Model for Alone {
 impl Alone {
     ghost use Rattle.nr_model.specs.Maps.{FillFits, key_count, number_of, state_of};
     ghost use Rattle.nr_model.specs.declared.calls.Call.TheVariants as model;
-    ghost use Rattle.nr_alone.specs.MapState.{answer_call, answer_of_reader, answer_pinning, answer_show, answer_unpin, opened};
+    ghost use Rattle.nr_alone.specs.MapState.{answer_call, answer_of_reader, answer_pinning, answer_show, answer_unpin, opened_map};
 
     /// A map of that shape, each key a hole. Refused where the shape is out of its limits, and then
     /// where there is no memory.
     pub fn open(alloc: Global, shape: &Shape) -> Result<Alone, OpenFault>
         ensures bad_size { (result ≡ Err OpenFault.BadSize) ↔ IsBadShape shape.now }
-        ensures ok { IfOk result (λ alone. alone ≡ opened shape.now) }
+        ensures ok { IfOk result (λ alone. alone ≡ opened_map shape.now) }
     {
         let (map, mut writer, readers) = ReaderMap::open_with(alloc, shape)?;
         let mut seats = match seat_readers(alloc, readers) {
@@ -93,9 +93,9 @@ impl Alone {
 
     /// A call of the writer's at one of the map's keys. The rows of a find are written into the set.
     pub fn call<'a>(&mut self, call: &WriterCall<'_>, rows: &'a mut RowSet) -> Answer<'a>
-        requires key { key_of call.now < key_count self.old.map }
-        requires fits { FillFits self.old.map.bound (call_of call.now) }
-        ensures { answer_call self.old (call_of call.now) ≡ (Ok result, self.new) }
+        requires key { writer_key call.now < key_count self.old.map }
+        requires fits { FillFits self.old.map.bound (model_call call.now) }
+        ensures { answer_call self.old (model_call call.now) ≡ (Ok result, self.new) }
     {
         laws();
         let answer = call_writer(&self.map, &mut self.writer, call, rows);
@@ -189,7 +189,7 @@ fn seat_readers(alloc: Global, readers: Vec<Reader>) -> Result<Vec<Seat>, AllocE
 }
 
 fn end_seats(map: &ReaderMap, mut seats: Vec<Seat>)
-    requires { All (λ s. (caller_of s).table ≡ map.now) seats.items }
+    requires { All (λ s. (reader_in s).table ≡ map.now) seats.items }
 {
     while let Some(seat) = seats.pop() {
         match seat {

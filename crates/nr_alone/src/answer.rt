@@ -40,15 +40,15 @@ impl<'a> Model for Answer<'a> {
 
     ghost Value = { Answer };
 
-    ghost use Rattle.nr_alone.specs.Said.{told};
+    ghost use Rattle.nr_alone.specs.Said.{answer_said};
 
-    ghost view = { λ answer. told answer.said };
+    ghost view = { λ answer. answer_said answer.said };
 }
 
 impl<'a> Answer<'a> {
     ghost use Rattle.std.specs.Prelude.{◌≡◌};
     ghost use Rattle.nr_alone.specs.Answers as answers;
-    ghost use Rattle.nr_alone.specs.Said.{told};
+    ghost use Rattle.nr_alone.specs.Said.{answer_said};
 
     /// The answer to a call of which nothing more is to be said.
     pub fn ok() -> Answer<'a>
@@ -59,7 +59,7 @@ impl<'a> Answer<'a> {
 
     /// What the answer says.
     pub fn said(&self) -> &Said<'a>
-        ensures { told result.now ≡ self.now }
+        ensures { answer_said result.now ≡ self.now }
     {
         &self.said
     }

@@ -1,7 +1,7 @@
 //! The calls of one reader.
 ghost use Rattle.std.specs.Prelude.{◌≡◌, ◌<◌};
 ghost use Rattle.nr_model.specs.declared.calls.Call.TheVariants as model;
-ghost use Rattle.nr_alone.specs.Seats.{caller_of, Finds, MakesCall, Pins, PinsBy, Shows, Unpins};
+ghost use Rattle.nr_alone.specs.Seats.{reader_in, GainsFind, MakesCall, MakesPin, PinsBy, ShowsPin, Unpins};
 
 use crate::answer::{Answer, Refusal, Said};
 use crate::seat::Seat;
@@ -18,7 +18,7 @@ pub(crate) fn find_at<'a>(
     key: u32,
     rows: &'a mut RowSet,
 ) -> Result<Answer<'a>, Refusal>
-    requires own { (writer.old.table ≡ map.now) × ((caller_of seat.old).table ≡ map.now) }
+    requires own { (writer.old.table ≡ map.now) × ((reader_in seat.old).table ≡ map.now) }
     requires key { key < map.now.shape.keys }
     ensures writer { writer.new ≡ writer.old }
     ensures made { MakesCall writer.old.seen (model.Find key) seat.old seat.new result }
@@ -40,7 +40,7 @@ pub(crate) fn ask_at(
     seat: &mut Seat,
     key: u32,
 ) -> Result<Answer<'static>, Refusal>
-    requires own { (writer.old.table ≡ map.now) × ((caller_of seat.old).table ≡ map.now) }
+    requires own { (writer.old.table ≡ map.now) × ((reader_in seat.old).table ≡ map.now) }
     requires key { key < map.now.shape.keys }
     ensures writer { writer.new ≡ writer.old }
     ensures made { MakesCall writer.old.seen (model.Ask key) seat.old seat.new result }
@@ -67,10 +67,10 @@ pub(crate) fn pin_at(
     seat: &mut Seat,
     key: u32,
 ) -> Result<Answer<'static>, Refusal>
-    requires own { (writer.old.table ≡ map.now) × ((caller_of seat.old).table ≡ map.now) }
+    requires own { (writer.old.table ≡ map.now) × ((reader_in seat.old).table ≡ map.now) }
     requires key { key < map.now.shape.keys }
     ensures writer { writer.new ≡ writer.old }
-    ensures made { Pins writer.old.seen key seat.old seat.new result }
+    ensures made { MakesPin writer.old.seen key seat.old seat.new result }
 {
     let Seat::Idle(idle) = seat else {
         return Err(Refusal::Holding);
@@ -80,9 +80,9 @@ pub(crate) fn pin_at(
 }
 
 fn pinned(seat: Seat, asked: (&ReaderMap, u32)) -> (Seat, Result<Answer<'static>, Refusal>)
-    requires own { (caller_of seat).table ≡ asked.0.now }
+    requires own { (reader_in seat).table ≡ asked.0.now }
     requires key { asked.1 < asked.0.now.shape.keys }
-    ensures { PinsBy (Finds asked.entry.1) asked.entry.1 seat result.0 result.1 }
+    ensures { PinsBy (GainsFind asked.entry.1) asked.entry.1 seat result.0 result.1 }
 {
     let (map, key) = asked;
     match seat {
@@ -100,8 +100,8 @@ pub(crate) fn show_at<'a>(
     seat: &mut Seat,
     rows: &'a mut RowSet,
 ) -> Result<Answer<'a>, Refusal>
-    requires { (caller_of seat.old).table ≡ map.now }
-    ensures { Shows seat.old seat.new result }
+    requires { (reader_in seat.old).table ≡ map.now }
+    ensures { ShowsPin seat.old seat.new result }
 {
     match seat {
         Seat::Idle(_) => Err(Refusal::NotHolding),
@@ -115,14 +115,14 @@ pub(crate) fn show_at<'a>(
 }
 
 pub(crate) fn unpin_at(map: &ReaderMap, seat: &mut Seat) -> Result<Answer<'static>, Refusal>
-    requires { (caller_of seat.old).table ≡ map.now }
+    requires { (reader_in seat.old).table ≡ map.now }
     ensures { Unpins seat.old seat.new result }
 {
     replace_with(seat, map, released)
 }
 
 fn released(seat: Seat, map: &ReaderMap) -> (Seat, Result<Answer<'static>, Refusal>)
-    requires { (caller_of seat).table ≡ map.now }
+    requires { (reader_in seat).table ≡ map.now }
     ensures { Unpins seat result.0 result.1 }
 {
     match seat {

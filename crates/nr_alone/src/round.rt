@@ -1,8 +1,8 @@
 //! A round of gathers, with the seat of the line first.
 ghost use Rattle.std.specs.Prelude.{◌≡◌, ◌<◌, All, length, slice_index_or};
 ghost use Rattle.nr_alone.specs.declared.seat.Seat.{Seat as SeatOf};
-ghost use Rattle.nr_alone.specs.Seats.{caller_of};
-ghost use Rattle.nr_alone.specs.Rounds.{GathersSeat, IsShown, IsSound, Round, Gathered};
+ghost use Rattle.nr_alone.specs.Seats.{reader_in};
+ghost use Rattle.nr_alone.specs.Rounds.{GathersSeat, IsShown, IsSoundWriter, Round, Gathered};
 
 use crate::seat::Seat;
 use nr_map::{ReaderMap, Writer};
@@ -10,7 +10,7 @@ use nr_map::{ReaderMap, Writer};
 /// Gathers every reader, that of the first seat before the others.
 pub(crate) fn gather_round(map: &ReaderMap, writer: &mut Writer, seats: &mut [Seat], first: usize)
     requires own { writer.old.table ≡ map.now }
-    requires seats { All (λ s. (caller_of s).table ≡ map.now) seats.old }
+    requires seats { All (λ s. (reader_in s).table ≡ map.now) seats.old }
     requires first { first < length seats.old }
     ensures { Gathered first writer.old seats.old writer.new seats.new }
 {
@@ -20,8 +20,8 @@ pub(crate) fn gather_round(map: &ReaderMap, writer: &mut Writer, seats: &mut [Se
 
 fn gather_others(map: &ReaderMap, writer: &mut Writer, seats: &mut [Seat], first: usize)
     requires own { writer.old.table ≡ map.now }
-    requires seats { All (λ s. (caller_of s).table ≡ map.now) seats.old }
-    requires sound { IsSound writer.old }
+    requires seats { All (λ s. (reader_in s).table ≡ map.now) seats.old }
+    requires sound { IsSoundWriter writer.old }
     requires first { (other : SeatOf) → IsShown writer.old.seen writer.old (slice_index_or seats.old first other) }
     ensures { Round writer.old seats.old writer.new seats.new }
 {
@@ -33,7 +33,7 @@ fn gather_others(map: &ReaderMap, writer: &mut Writer, seats: &mut [Seat], first
 }
 
 fn gather_seat(map: &ReaderMap, writer: &mut Writer, seat: &mut Seat)
-    requires own { (writer.old.table ≡ map.now) × ((caller_of seat.old).table ≡ map.now) }
+    requires own { (writer.old.table ≡ map.now) × ((reader_in seat.old).table ≡ map.now) }
     ensures { GathersSeat writer.old seat.old writer.new seat.new }
 {
     match seat {

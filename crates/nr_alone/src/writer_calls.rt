@@ -1,7 +1,7 @@
 //! The calls of the writer.
 ghost use Rattle.std.specs.Prelude.{◌≡◌, ◌<◌};
 ghost use Rattle.nr_model.specs.Maps.{FillFits};
-ghost use Rattle.nr_alone.specs.WriterCalls.{call_of, key_of};
+ghost use Rattle.nr_alone.specs.WriterCalls.{model_call, writer_key};
 ghost use Rattle.nr_alone.specs.WriterMakes.{WriterMakes};
 
 use crate::answer::{Answer, Said};
@@ -31,9 +31,9 @@ pub(crate) fn call_writer<'a>(
     rows: &'a mut RowSet,
 ) -> Answer<'a>
     requires own { writer.old.table ≡ map.now }
-    requires key { key_of call.now < map.now.shape.keys }
-    requires fits { FillFits map.now.shape.rows (call_of call.now) }
-    ensures { WriterMakes (call_of call.now) writer.old writer.new result }
+    requires key { writer_key call.now < map.now.shape.keys }
+    requires fits { FillFits map.now.shape.rows (model_call call.now) }
+    ensures { WriterMakes (model_call call.now) writer.old writer.new result }
 {
     let said = match call {
         WriterCall::Find(key) => match map.look(writer, *key, rows) {

@@ -15,10 +15,10 @@ use Rattle.nr_c.specs.declared.reader_side.ReaderSide.{ReaderSide}
 use Rattle.nr_c.specs.declared.writer_side.WriterSide.{WriterSide}
 use Rattle.nr_c.specs.declared.rows.NrRows.{NrRows}
 use Rattle.nr_c.specs.Codes.{ask_code, found_code}
-use Rattle.nr_c.specs.RowCells.{Shows}
+use Rattle.nr_c.specs.RowCells.{ShowsSet}
 
 -- the handle leads to one side, of the same map before and after, whose reader was in the one hand and is in the other
-pub record Turns (before after : List ReaderSide) (was is : Hand) : Type 0 where
+pub record TurnsHand (before after : List ReaderSide) (was is : Hand) : Type 0 where
   pub old : ReaderSide
   pub new : ReaderSide
   pub led : before ≡ old ∷ []
@@ -29,7 +29,7 @@ pub record Turns (before after : List ReaderSide) (was is : Hand) : Type 0 where
 
 -- so a reader that holds nothing became another such one
 abbrev pub ReaderCalls : (Caller → Caller → Type 0) → List ReaderSide → List ReaderSide → Type 0
-ReaderCalls became before after = (old new : Caller) × Turns before after (Idle old) (Idle new) × became old new
+ReaderCalls became before after = (old new : Caller) × TurnsHand before after (Idle old) (Idle new) × became old new
 
 -- and the writer's, whose readers without a handle stay
 pub record WriterCalls (became : Caller → Caller → Type 0) (before after : List WriterSide) : Type 0 where
@@ -43,12 +43,12 @@ pub record WriterCalls (became : Caller → Caller → Type 0) (before after : L
 
 -- a find: the rows of the reply stand in the caller's cells, which stay as they are on a hole
 abbrev pub FindsRows : ℕ → NrRows → NrRows → Found → Caller → Caller → Type 0
-FindsRows key before after found.Rows old new = (set : List Row) × Gains (2 * length set + 3) old (model.Find key) (reply.Rows set) new × Shows after set
+FindsRows key before after found.Rows old new = (set : List Row) × Gains (2 * length set + 3) old (model.Find key) (reply.Rows set) new × ShowsSet after set
 FindsRows key before after found.Hole old new = Gains 1 old (model.Find key) reply.Hole new × (after ≡ before)
 
 -- a find by its code
-abbrev pub Finds : ℕ → NrRows → NrRows → ℕ → Caller → Caller → Type 0
-Finds key before after code old new = (found : Found) × (code ≡ found_code found) × FindsRows key before after found old new
+abbrev pub FindsByCode : ℕ → NrRows → NrRows → ℕ → Caller → Caller → Type 0
+FindsByCode key before after code old new = (found : Found) × (code ≡ found_code found) × FindsRows key before after found old new
 
 -- the number that a request tells: that of a ticket, and else what stood there
 abbrev pub number_told : ℕ → Asked → ℕ
@@ -57,5 +57,5 @@ number_told before asked.Waiting = before
 number_told before asked.Filled = before
 
 -- a request by its code; the number of a ticket is told
-abbrev pub Asks : ℕ → ℕ → ℕ → ℕ → Caller → Caller → Type 0
-Asks key before after code old new = (answer : Asked) × (code ≡ ask_code answer) × AsksKey key old new answer × (after ≡ number_told before answer)
+abbrev pub AsksByCode : ℕ → ℕ → ℕ → ℕ → Caller → Caller → Type 0
+AsksByCode key before after code old new = (answer : Asked) × (code ≡ ask_code answer) × AsksKey key old new answer × (after ≡ number_told before answer)

@@ -6,20 +6,20 @@ use Rattle.nr_map.specs.Meetings.{Gathers, Meets}
 use Rattle.nr_c.specs.declared.hand.Hand.TheVariants.{Holds, Idle}
 use Rattle.nr_c.specs.declared.reader_side.ReaderSide.{ReaderSide}
 use Rattle.nr_c.specs.declared.writer_side.WriterSide.{WriterSide}
-use Rattle.nr_c.specs.Live.{Turns, WriterCalls}
+use Rattle.nr_c.specs.Live.{TurnsHand, WriterCalls}
 
 -- the reader learns of the writer, which stays
 abbrev pub MeetsOf : List ReaderSide → List WriterSide → List ReaderSide → List WriterSide → Type 0
-MeetsOf reader writer reader' writer' = (old new other : Caller) × Turns reader reader' (Idle old) (Idle new) × WriterCalls (λ before after. (before ≡ other) × (after ≡ other)) writer writer' × Meets 3 old other new
+MeetsOf reader writer reader' writer' = (old new other : Caller) × TurnsHand reader reader' (Idle old) (Idle new) × WriterCalls (λ before after. (before ≡ other) × (after ≡ other)) writer writer' × Meets 3 old other new
 
 -- the writer and the reader learn of each other
 abbrev pub GathersOf : List WriterSide → List ReaderSide → List WriterSide → List ReaderSide → Type 0
-GathersOf writer reader writer' reader' = (old new : Caller) × Turns reader reader' (Idle old) (Idle new) × WriterCalls (λ before after. Gathers before old after new) writer writer'
+GathersOf writer reader writer' reader' = (old new : Caller) × TurnsHand reader reader' (Idle old) (Idle new) × WriterCalls (λ before after. Gathers before old after new) writer writer'
 
 -- the reader learns of another, which stays
 abbrev pub MeetsReader : List ReaderSide → List ReaderSide → List ReaderSide → List ReaderSide → Type 0
-MeetsReader reader theirs reader' theirs' = (old new other : Caller) × Turns reader reader' (Idle old) (Idle new) × Turns theirs theirs' (Idle other) (Idle other) × Meets 3 old other new
+MeetsReader reader theirs reader' theirs' = (old new other : Caller) × TurnsHand reader reader' (Idle old) (Idle new) × TurnsHand theirs theirs' (Idle other) (Idle other) × Meets 3 old other new
 
 -- the writer and a reader that holds a set, which it keeps, learn of each other
 abbrev pub GathersPin : List WriterSide → List ReaderSide → List WriterSide → List ReaderSide → Type 0
-GathersPin writer reader writer' reader' = (old new : Pinned) × Turns reader reader' (Holds old) (Holds new) × (new.rows ≡ old.rows) × WriterCalls (λ before after. Gathers before old.reader after new.reader) writer writer'
+GathersPin writer reader writer' reader' = (old new : Pinned) × TurnsHand reader reader' (Holds old) (Holds new) × (new.rows ≡ old.rows) × WriterCalls (λ before after. Gathers before old.reader after new.reader) writer writer'

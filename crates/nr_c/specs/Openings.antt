@@ -28,7 +28,7 @@ pub record Keeps (before after : List WriterSide) (had has : List Caller) : Type
   pub has_spare : new.spare.items ≡ has
 
 -- the reader's handle leads to the side of that reader, of the writer's map, which holds nothing
-pub record LeadsTo (before : List WriterSide) (reader : Caller) (handle : List ReaderSide) : Type 0 where
+pub record LeadsToReader (before : List WriterSide) (reader : Caller) (handle : List ReaderSide) : Type 0 where
   pub held : WriterSide
   pub side : ReaderSide
   pub was : before ≡ held ∷ []
@@ -39,6 +39,6 @@ pub record LeadsTo (before : List WriterSide) (reader : Caller) (handle : List R
 -- the last reader without a handle gets one; or none has none, or there is no memory
 abbrev pub TakesReader : ℕ → List WriterSide → List WriterSide → List ReaderSide → Type 0
 TakesReader code before after handle =
-    ((code ≡ NR_DONE) × (rest : List Caller) × (reader : Caller) × Keeps before after (rest ++ reader ∷ []) rest × LeadsTo before reader handle)
+    ((code ≡ NR_DONE) × (rest : List Caller) × (reader : Caller) × Keeps before after (rest ++ reader ∷ []) rest × LeadsToReader before reader handle)
     ⊎ ((code ≡ NR_NO_READER) × Keeps before after [] [] × (handle ≡ []))
     ⊎ ((code ≡ NR_NO_MEMORY) × (spare : List Caller) × Keeps before after spare spare × (handle ≡ []))

@@ -6,21 +6,21 @@ use Rattle.nr_c.specs.declared.codes.TheConstants.{NR_HOLE, NR_NO_ROW, NR_ROWS}
 use Rattle.nr_c.specs.declared.hand.Hand.TheVariants.{Holds, Idle}
 use Rattle.nr_c.specs.declared.reader_side.ReaderSide.{ReaderSide}
 use Rattle.nr_c.specs.declared.rows.NrRow.{NrRow}
-use Rattle.nr_c.specs.Live.{Turns}
+use Rattle.nr_c.specs.Live.{TurnsHand}
 use Rattle.nr_c.specs.RowCells.{row_of}
 
 -- a pin by its code: the reader holds the set of the key, and how many rows it has is told; or the key was a hole
 abbrev pub PinsCells : ℕ → ℕ → ℕ → ℕ → List ReaderSide → List ReaderSide → Type 0
 PinsCells key told tells code before after =
-    ((code ≡ NR_ROWS) × (old : Caller) × (pin : Pinned) × Turns before after (Idle old) (Holds pin) × PinsKey key old (Ok pin) × (tells ≡ length pin.rows))
-    ⊎ ((code ≡ NR_HOLE) × (old new : Caller) × Turns before after (Idle old) (Idle new) × PinsKey key old (Err new) × (tells ≡ told))
+    ((code ≡ NR_ROWS) × (old : Caller) × (pin : Pinned) × TurnsHand before after (Idle old) (Holds pin) × PinsKey key old (Ok pin) × (tells ≡ length pin.rows))
+    ⊎ ((code ≡ NR_HOLE) × (old new : Caller) × TurnsHand before after (Idle old) (Idle new) × PinsKey key old (Err new) × (tells ≡ told))
 
 -- a row of the held set by its code; the reader holds the same set
 abbrev pub ReadsRow : ℕ → NrRow → NrRow → ℕ → List ReaderSide → List ReaderSide → Type 0
 ReadsRow place stood stands code before after =
-    ((code ≡ NR_ROWS) × (old new : Pinned) × Turns before after (Holds old) (Holds new) × (slice_get old.rows place ≡ Some (row_of stands)) × (new.rows ≡ old.rows) × Rests 2 old.reader new.reader)
-    ⊎ ((code ≡ NR_NO_ROW) × (pin : Pinned) × Turns before after (Holds pin) (Holds pin) × (length pin.rows ≤ place) × (stands ≡ stood))
+    ((code ≡ NR_ROWS) × (old new : Pinned) × TurnsHand before after (Holds old) (Holds new) × (slice_get old.rows place ≡ Some (row_of stands)) × (new.rows ≡ old.rows) × Rests 2 old.reader new.reader)
+    ⊎ ((code ≡ NR_NO_ROW) × (pin : Pinned) × TurnsHand before after (Holds pin) (Holds pin) × (length pin.rows ≤ place) × (stands ≡ stood))
 
 -- the hold ends
 abbrev pub Releases : List ReaderSide → List ReaderSide → Type 0
-Releases before after = (old : Pinned) × (new : Caller) × Turns before after (Holds old) (Idle new) × Rests 1 old.reader new
+Releases before after = (old : Pinned) × (new : Caller) × TurnsHand before after (Holds old) (Idle new) × Rests 1 old.reader new

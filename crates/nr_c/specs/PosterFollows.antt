@@ -6,9 +6,9 @@ use denote.Follow.{follows}
 use Rattle.nr_c.specs.contracts.poster_handle.NrPoster.{the_row as H}
 use Rattle.nr_c.specs.contracts.poster_side.PosterSide.{the_row as T}
 
-abbrev pub with_side : H.Denot → T.Denot → H.Denot
-with_side h t = record { ptr = h.ptr; alloc = h.alloc; live = t ∷ [] }
+abbrev pub with_poster_side : H.Denot → T.Denot → H.Denot
+with_poster_side h t = record { ptr = h.ptr; alloc = h.alloc; live = t ∷ [] }
 
 -- once the borrow r ends, the handle behind b has the last side written through r
-abbrev pub follows_side : MutBor H.Denot → MutBor T.Denot → Fml
-follows_side b r = follows H T b.ghost_name r.ghost_name (with_side b.now)
+abbrev pub follows_poster_side : MutBor H.Denot → MutBor T.Denot → Fml
+follows_poster_side b r = follows H T b.ghost_name r.ghost_name (with_poster_side b.now)

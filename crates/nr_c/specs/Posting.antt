@@ -30,12 +30,12 @@ abbrev pub request_of : ℕ → ℕ → Upquery
 request_of key number = record { key = key; number = number }
 
 -- a post by its code: the poster has posted the request, or nothing
-abbrev pub Posts : ℕ → ℕ → ℕ → PosterSeen → PosterSeen → Type 0
-Posts key number code old new =
+abbrev pub PostsByCode : ℕ → ℕ → ℕ → PosterSeen → PosterSeen → Type 0
+PostsByCode key number code old new =
     IsSamePoster old new × (((code ≡ NR_DONE) × (new.posted ≡ old.posted ++ request_of key number ∷ [])) ⊎ ((code ≡ NR_NOT_POSTED) × (new ≡ old)))
 
 -- a take by its code: the taker has taken a request of a key below the number, which is told, or nothing, and what stood there stays
-abbrev pub Takes : ℕ → ℕ → ℕ → ℕ → ℕ → TakerSeen → TakerSeen → Type 0
-Takes key number key' number' code old new =
+abbrev pub TakesByCode : ℕ → ℕ → ℕ → ℕ → ℕ → TakerSeen → TakerSeen → Type 0
+TakesByCode key number key' number' code old new =
     IsSameTaker old new
     × (((code ≡ NR_DONE) × (post : Post) × (new.taken ≡ old.taken ++ post ∷ []) × (post.upquery ≡ request_of key' number') × (key' < old.keys)) ⊎ ((code ≡ NR_NOT_TAKEN) × (new ≡ old) × (key' ≡ key) × (number' ≡ number)))

@@ -1,13 +1,13 @@
 -- What opens a queue of requests and its handles.
 use Rattle.std.specs.Prelude.{ℕ, ◌≡◌, ◌⊎◌, List, [], ◌∷◌, ◌++◌}
-use Rattle.nr_trigger.specs.Tokens.{IsOpened, PosterSeen}
+use Rattle.nr_trigger.specs.Tokens.{IsOpenedQueue, PosterSeen}
 use Rattle.nr_c.specs.declared.codes.TheConstants.{NR_BAD_SIZE, NR_DONE, NR_NO_MEMORY, NR_NO_POSTER}
 use Rattle.nr_c.specs.declared.poster_side.PosterSide.{PosterSide}
 use Rattle.nr_c.specs.declared.taker_side.TakerSide.{TakerSide}
 
 -- the taker's side of a new queue of that capacity for keys below the number, with so many posters, none of which has a handle
 abbrev pub IsNewQueue : ℕ → ℕ → ℕ → TakerSide → Type 0
-IsNewQueue capacity posters keys side = IsOpened capacity posters keys side.queue.value side.spare.items side.taker
+IsNewQueue capacity posters keys side = IsOpenedQueue capacity posters keys side.queue.value side.spare.items side.taker
 
 -- an opening by its code: the handle leads to the side of a new queue, or nowhere
 abbrev pub OpensQueue : ℕ → ℕ → ℕ → ℕ → List TakerSide → Type 0

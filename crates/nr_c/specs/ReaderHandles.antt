@@ -8,9 +8,9 @@ use Rattle.std.specs.Global.{Global}
 use Rattle.std_heap.specs.contracts.GlobalAllocator.TheImpl.{ghosts}
 use Rattle.nr_c.specs.contracts.reader_side.ReaderSide.{the_row}
 
-abbrev pub handle_owns : Global → Ptr → List the_row.Denot → Fml
-handle_owns a p [] = ftrue
-handle_owns a p (t ∷ ts) = box_owns (ghosts.dealloc_token a) the_row p t
+abbrev pub reader_handle_owns : Global → Ptr → List the_row.Denot → Fml
+reader_handle_owns a p [] = ftrue
+reader_handle_owns a p (t ∷ ts) = box_owns (ghosts.dealloc_token a) the_row p t
 
-abbrev pub side_coded : Coded the_row.Denot
-side_coded = the_row.coded
+abbrev pub reader_side_coded : Coded the_row.Denot
+reader_side_coded = the_row.coded

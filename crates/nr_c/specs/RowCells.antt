@@ -16,6 +16,6 @@ abbrev pub delta_of : NrDelta → Delta
 delta_of cell = record { plus = not (cell.plus == 0); row = row_of cell.row }
 
 -- the cells in use have just the rows of the set
-pub record Shows (rows : NrRows) (set : List Row) : Type 0 where
+pub record ShowsSet (rows : NrRows) (set : List Row) : Type 0 where
   pub count : rows.count ≡ length set
   pub cells : take rows.count rows.row ≡ map cell_of set

@@ -6,7 +6,7 @@ ghost use Rattle.nr_c.specs.declared.hand.Hand.TheVariants as hand;
 ghost use Rattle.nr_c.specs.declared.reader_side.ReaderSide.{ReaderSide as ReaderHeld};
 ghost use Rattle.nr_c.specs.declared.writer_side.WriterSide.{WriterSide as WriterHeld};
 ghost use Rattle.nr_c.specs.Openings.{IsNewWriter, Opens, TakesReader};
-ghost use Rattle.nr_c.specs.Sizes.{shape_of, sizes_of};
+ghost use Rattle.nr_c.specs.Sizes.{shape_of_sizes, sizes_of};
 
 use crate::codes::{NR_BAD_SIZE, NR_DONE, NR_NO_MEMORY, NR_NO_READER};
 use crate::reader_handle::NrReader;
@@ -26,8 +26,8 @@ use std::sync::Arc;
 #[unsafe(no_mangle)]
 pub extern "C" fn nr_open(alloc: Global, shape: &NrShape, writer: &mut NrWriter) -> u32
     requires empty { writer.old.live ≡ [] }
-    ensures bad_size { (result ≡ NR_BAD_SIZE) ↔ IsBadShape (shape_of shape.now) }
-    ensures opens { Opens (shape_of shape.now) result writer.new.live }
+    ensures bad_size { (result ≡ NR_BAD_SIZE) ↔ IsBadShape (shape_of_sizes shape.now) }
+    ensures opens { Opens (shape_of_sizes shape.now) result writer.new.live }
 {
     match opened(alloc, shape) {
         Ok(side) => {
@@ -41,8 +41,8 @@ pub extern "C" fn nr_open(alloc: Global, shape: &NrShape, writer: &mut NrWriter)
 
 // A map's writer's side.
 fn opened(alloc: Global, shape: &NrShape) -> Result<Box<WriterSide, Global>, OpenFault>
-    ensures bad_size { (result ≡ Err OpenFault.BadSize) ↔ IsBadShape (shape_of shape.now) }
-    ensures ok { IfOk result (λ side. IsNewWriter (shape_of shape.now) side.value) }
+    ensures bad_size { (result ≡ Err OpenFault.BadSize) ↔ IsBadShape (shape_of_sizes shape.now) }
+    ensures ok { IfOk result (λ side. IsNewWriter (shape_of_sizes shape.now) side.value) }
 {
     let (map, writer, spare) = ReaderMap::open_with(alloc, &shape.shape())?;
     let map = Arc::new(alloc, map).map_err(|_| OpenFault::Memory)?;

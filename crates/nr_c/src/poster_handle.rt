@@ -3,7 +3,7 @@
 ghost use Rattle.std.specs.Prelude.{◌≡◌, List, [], ◌∷◌};
 ghost use base.Stored.{coded_list};
 ghost use Rattle.nr_c.specs.declared.poster_side.PosterSide.{PosterSide};
-ghost use Rattle.nr_c.specs.PosterHandles.{side_coded, handle_owns};
+ghost use Rattle.nr_c.specs.PosterHandles.{poster_side_coded, poster_handle_owns};
 
 use crate::parts::Parts;
 use crate::poster_side::PosterSide;
@@ -16,11 +16,11 @@ use std::marker::Model;
 pub struct NrPoster {
     pub(crate) ptr: *mut u8,
     alloc: Global,
-    pub ghost live: { List PosterSide } by { coded_list side_coded },
+    pub ghost live: { List PosterSide } by { coded_list poster_side_coded },
 }
 
 impl Model for NrPoster {
-    ghost also_owns = { λ s. handle_owns s.alloc s.ptr s.live };
+    ghost also_owns = { λ s. poster_handle_owns s.alloc s.ptr s.live };
 }
 
 // C may hand it to another thread.

@@ -2,7 +2,7 @@
 ghost use Rattle.std.specs.Prelude.{◌≡◌, ◌<◌, [], ◌∷◌};
 ghost use Rattle.nr_c.specs.declared.poster_side.PosterSide.{PosterSide as PosterHeld};
 ghost use Rattle.nr_c.specs.declared.taker_side.TakerSide.{TakerSide as TakerHeld};
-ghost use Rattle.nr_c.specs.Posting.{PosterCalls, Posts, TakerCalls, Takes};
+ghost use Rattle.nr_c.specs.Posting.{PosterCalls, PostsByCode, TakerCalls, TakesByCode};
 
 use crate::codes::{NR_DONE, NR_NOT_POSTED, NR_NOT_TAKEN};
 use crate::poster_handle::NrPoster;
@@ -14,7 +14,7 @@ use nr_trigger::Upquery;
 #[unsafe(no_mangle)]
 pub extern "C" fn nr_post(poster: &mut NrPoster, key: u32, number: u64) -> u32
     requires live { (held : PosterHeld) × (poster.old.live ≡ held ∷ []) × (key < held.poster.keys) }
-    ensures { PosterCalls (Posts key number result) poster.old.live poster.new.live }
+    ensures { PosterCalls (PostsByCode key number result) poster.old.live poster.new.live }
 {
     let side = poster.side();
     match side
@@ -32,7 +32,7 @@ pub extern "C" fn nr_post(poster: &mut NrPoster, key: u32, number: u64) -> u32
 #[unsafe(no_mangle)]
 pub extern "C" fn nr_take(taker: &mut NrTaker, key: &mut u32, number: &mut u64) -> u32
     requires live { (held : TakerHeld) × (taker.old.live ≡ held ∷ []) }
-    ensures { TakerCalls (Takes key.old number.old key.new number.new result) taker.old.live taker.new.live }
+    ensures { TakerCalls (TakesByCode key.old number.old key.new number.new result) taker.old.live taker.new.live }
 {
     let side = taker.side();
     let Some(trigger) = side.queue.try_take(&mut side.taker) else {

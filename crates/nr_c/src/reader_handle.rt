@@ -3,7 +3,7 @@
 ghost use Rattle.std.specs.Prelude.{◌≡◌, List, [], ◌∷◌};
 ghost use base.Stored.{coded_list};
 ghost use Rattle.nr_c.specs.declared.reader_side.ReaderSide.{ReaderSide};
-ghost use Rattle.nr_c.specs.ReaderHandles.{side_coded, handle_owns};
+ghost use Rattle.nr_c.specs.ReaderHandles.{reader_side_coded, reader_handle_owns};
 
 use crate::parts::Parts;
 use crate::reader_side::ReaderSide;
@@ -16,11 +16,11 @@ use std::marker::Model;
 pub struct NrReader {
     pub(crate) ptr: *mut u8,
     alloc: Global,
-    pub ghost live: { List ReaderSide } by { coded_list side_coded },
+    pub ghost live: { List ReaderSide } by { coded_list reader_side_coded },
 }
 
 impl Model for NrReader {
-    ghost also_owns = { λ s. handle_owns s.alloc s.ptr s.live };
+    ghost also_owns = { λ s. reader_handle_owns s.alloc s.ptr s.live };
 }
 
 // C may hand it to another thread.

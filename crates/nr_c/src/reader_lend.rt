@@ -2,7 +2,7 @@
 //! declares it cannot import.
 ghost use Rattle.std.specs.Prelude.{◌≡◌, [], ◌∷◌};
 ghost use types.Logic.{sem};
-ghost use Rattle.nr_c.specs.ReaderFollows.{follows_side};
+ghost use Rattle.nr_c.specs.ReaderFollows.{follows_reader_side};
 ghost use Rattle.nr_c.specs.declared.reader_side.ReaderSide.{ReaderSide as Held};
 
 use crate::reader_handle::NrReader;
@@ -12,7 +12,7 @@ impl NrReader {
     /// What the handle leads to, for a call.
     pub fn side(&mut self) -> &mut ReaderSide
         requires { (held : Held) × (self.old.live ≡ held ∷ []) }
-        ensures* writes_back { sem 𝓛 (follows_side self.entry result) }
+        ensures* writes_back { sem 𝓛 (follows_reader_side self.entry result) }
         ensures value { self.old.live ≡ result.now ∷ [] }
     {
         unsafe { &mut *(self.ptr as *mut ReaderSide) }

@@ -5,7 +5,7 @@ ghost use Rattle.nr_c.specs.declared.hand.Hand.TheVariants as hands;
 ghost use Rattle.nr_c.specs.declared.reader_side.ReaderSide.{ReaderSide as Held};
 ghost use Rattle.nr_map.specs.Answers.{AsksKey};
 ghost use Rattle.nr_c.specs.Hands.{table_of};
-ghost use Rattle.nr_c.specs.Live.{Asks, Finds, ReaderCalls};
+ghost use Rattle.nr_c.specs.Live.{AsksByCode, FindsByCode, ReaderCalls};
 
 use crate::codes::{NR_FILLED, NR_SEND, NR_WAITING, of_found};
 use crate::hand::Hand;
@@ -19,7 +19,7 @@ use nr_map::{Asked, ReaderMap};
 #[unsafe(no_mangle)]
 pub extern "C" fn nr_find(reader: &mut NrReader, key: u32, rows: &mut NrRows) -> u32
     requires live { (held : Held) × (idle : Caller) × (reader.old.live ≡ held ∷ []) × (held.hand ≡ Some (hands.Idle idle)) × (key < held.map.value.shape.keys) }
-    ensures { ReaderCalls (Finds key rows.old rows.new result) reader.old.live reader.new.live }
+    ensures { ReaderCalls (FindsByCode key rows.old rows.new result) reader.old.live reader.new.live }
 {
     let side = reader.side();
     let idle = side.take_reader();
@@ -33,7 +33,7 @@ pub extern "C" fn nr_find(reader: &mut NrReader, key: u32, rows: &mut NrRows) ->
 #[unsafe(no_mangle)]
 pub extern "C" fn nr_ask(reader: &mut NrReader, key: u32, number: &mut u64) -> u32
     requires live { (held : Held) × (idle : Caller) × (reader.old.live ≡ held ∷ []) × (held.hand ≡ Some (hands.Idle idle)) × (key < held.map.value.shape.keys) }
-    ensures { ReaderCalls (Asks key number.old number.new result) reader.old.live reader.new.live }
+    ensures { ReaderCalls (AsksByCode key number.old number.new result) reader.old.live reader.new.live }
 {
     let side = reader.side();
     match ask_idle(&side.map, &mut side.hand, key) {

@@ -1,7 +1,7 @@
 //! Rows as C has them.
 ghost use Rattle.std.specs.Prelude.{◌≡◌, ◌<◌, ◌≤◌, ◌++◌, drop, length, map, slice_get, Some};
 ghost use Rattle.nr_model.specs.Rows.{is_ascending};
-ghost use Rattle.nr_c.specs.RowCells.{Shows, cell_of, delta_of, row_of};
+ghost use Rattle.nr_c.specs.RowCells.{ShowsSet, cell_of, delta_of, row_of};
 
 use nr_model::{Delta, MAX_ROWS, Row, RowSet, RowSource};
 
@@ -59,7 +59,7 @@ impl NrDelta {
 impl NrRows {
     /// Puts the rows of a set over the first ones.
     pub fn show(&mut self, set: &RowSet)
-        ensures { Shows self.new set.now }
+        ensures { ShowsSet self.new set.now }
     {
         let from = set.as_slice();
         copy_over(&mut self.row, from);

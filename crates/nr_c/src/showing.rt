@@ -2,7 +2,7 @@
 ghost use Rattle.std.specs.Prelude.{◌≡◌, ◌<◌, ◌≤◌, ◌*◌, ◌++◌, drop, length, map as mapped, None};
 ghost use Rattle.nr_map.specs.Callers.{Rests};
 ghost use Rattle.nr_c.specs.Live.{FindsRows};
-ghost use Rattle.nr_c.specs.RowCells.{Shows, cell_of};
+ghost use Rattle.nr_c.specs.RowCells.{ShowsSet, cell_of};
 
 use crate::rows::{NrRow, NrRows};
 use nr_map::{Found, Pin, Reader, ReaderMap};
@@ -25,7 +25,7 @@ pub fn find_rows(map: &ReaderMap, reader: Reader, key: u32, rows: &mut NrRows) -
 
 fn show_pin(map: &ReaderMap, pin: &mut Pin, rows: &mut NrRows)
     requires own { pin.old.reader.table ≡ map.now }
-    ensures rows { Shows rows.new pin.old.rows }
+    ensures rows { ShowsSet rows.new pin.old.rows }
     ensures pin { pin.new.rows ≡ pin.old.rows }
     ensures rests { Rests (2 * length pin.old.rows) pin.old.reader pin.new.reader }
 {

@@ -1,6 +1,6 @@
 //! The sizes of a map as C has them.
 ghost use Rattle.std.specs.Prelude.{◌≡◌};
-ghost use Rattle.nr_c.specs.Sizes.{shape_of, sizes_of};
+ghost use Rattle.nr_c.specs.Sizes.{shape_of_sizes, sizes_of};
 
 use nr_core::Shape;
 use nr_map::ReaderMap;
@@ -29,7 +29,7 @@ pub struct NrSizes {
 
 impl NrShape {
     pub fn shape(self) -> Shape
-        ensures { result ≡ shape_of self }
+        ensures { result ≡ shape_of_sizes self }
     {
         Shape {
             keys: self.keys,

@@ -3,7 +3,7 @@
 ghost use Rattle.std.specs.Prelude.{◌≡◌, List, [], ◌∷◌};
 ghost use base.Stored.{coded_list};
 ghost use Rattle.nr_c.specs.declared.taker_side.TakerSide.{TakerSide};
-ghost use Rattle.nr_c.specs.TakerHandles.{side_coded, handle_owns};
+ghost use Rattle.nr_c.specs.TakerHandles.{taker_side_coded, taker_handle_owns};
 
 use crate::parts::Parts;
 use crate::taker_side::TakerSide;
@@ -16,11 +16,11 @@ use std::marker::Model;
 pub struct NrTaker {
     pub(crate) ptr: *mut u8,
     alloc: Global,
-    pub ghost live: { List TakerSide } by { coded_list side_coded },
+    pub ghost live: { List TakerSide } by { coded_list taker_side_coded },
 }
 
 impl Model for NrTaker {
-    ghost also_owns = { λ s. handle_owns s.alloc s.ptr s.live };
+    ghost also_owns = { λ s. taker_handle_owns s.alloc s.ptr s.live };
 }
 
 // C may hand it to another thread.

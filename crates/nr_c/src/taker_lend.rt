@@ -2,7 +2,7 @@
 //! declares it cannot import.
 ghost use Rattle.std.specs.Prelude.{◌≡◌, [], ◌∷◌};
 ghost use types.Logic.{sem};
-ghost use Rattle.nr_c.specs.TakerFollows.{follows_side};
+ghost use Rattle.nr_c.specs.TakerFollows.{follows_taker_side};
 ghost use Rattle.nr_c.specs.declared.taker_side.TakerSide.{TakerSide as Held};
 
 use crate::taker_handle::NrTaker;
@@ -12,7 +12,7 @@ impl NrTaker {
     /// What the handle leads to, for a call.
     pub fn side(&mut self) -> &mut TakerSide
         requires { (held : Held) × (self.old.live ≡ held ∷ []) }
-        ensures* writes_back { sem 𝓛 (follows_side self.entry result) }
+        ensures* writes_back { sem 𝓛 (follows_taker_side self.entry result) }
         ensures value { self.old.live ≡ result.now ∷ [] }
     {
         unsafe { &mut *(self.ptr as *mut TakerSide) }

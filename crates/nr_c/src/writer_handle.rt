@@ -3,7 +3,7 @@
 ghost use Rattle.std.specs.Prelude.{◌≡◌, List, [], ◌∷◌};
 ghost use base.Stored.{coded_list};
 ghost use Rattle.nr_c.specs.declared.writer_side.WriterSide.{WriterSide};
-ghost use Rattle.nr_c.specs.WriterHandles.{side_coded, handle_owns};
+ghost use Rattle.nr_c.specs.WriterHandles.{writer_side_coded, writer_handle_owns};
 
 use crate::parts::Parts;
 use crate::writer_side::WriterSide;
@@ -16,11 +16,11 @@ use std::marker::Model;
 pub struct NrWriter {
     pub(crate) ptr: *mut u8,
     alloc: Global,
-    pub ghost live: { List WriterSide } by { coded_list side_coded },
+    pub ghost live: { List WriterSide } by { coded_list writer_side_coded },
 }
 
 impl Model for NrWriter {
-    ghost also_owns = { λ s. handle_owns s.alloc s.ptr s.live };
+    ghost also_owns = { λ s. writer_handle_owns s.alloc s.ptr s.live };
 }
 
 // C may hand it to another thread.

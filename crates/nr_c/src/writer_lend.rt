@@ -2,7 +2,7 @@
 //! declares it cannot import.
 ghost use Rattle.std.specs.Prelude.{◌≡◌, [], ◌∷◌};
 ghost use types.Logic.{sem};
-ghost use Rattle.nr_c.specs.WriterFollows.{follows_side};
+ghost use Rattle.nr_c.specs.WriterFollows.{follows_writer_side};
 ghost use Rattle.nr_c.specs.declared.writer_side.WriterSide.{WriterSide as Held};
 
 use crate::writer_handle::NrWriter;
@@ -12,7 +12,7 @@ impl NrWriter {
     /// What the handle leads to, for a call.
     pub fn side(&mut self) -> &mut WriterSide
         requires { (held : Held) × (self.old.live ≡ held ∷ []) }
-        ensures* writes_back { sem 𝓛 (follows_side self.entry result) }
+        ensures* writes_back { sem 𝓛 (follows_writer_side self.entry result) }
         ensures value { self.old.live ≡ result.now ∷ [] }
     {
         unsafe { &mut *(self.ptr as *mut WriterSide) }

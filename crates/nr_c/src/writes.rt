@@ -2,7 +2,7 @@
 ghost use Rattle.std.specs.Prelude.{◌≡◌, ◌<◌, [], ◌∷◌};
 ghost use Rattle.nr_c.specs.declared.writer_side.WriterSide.{WriterSide as Held};
 ghost use Rattle.nr_c.specs.Live.{WriterCalls};
-ghost use Rattle.nr_c.specs.Writes.{Cancels, Evicts, Fills, IsNumber, Looks, States, Updates};
+ghost use Rattle.nr_c.specs.Writes.{CancelsByCode, EvictsByCode, FillsByCode, IsNumber, LooksByCode, StatesByCode, UpdatesByCode};
 
 use crate::codes::{
     NR_BAD_BATCH, NR_HOLE, NR_NOT_SORTED, NR_ROWS, NR_TOO_MANY, of_cancel, of_evict, of_fill,
@@ -19,7 +19,7 @@ use nr_model::RowRoom;
 #[unsafe(no_mangle)]
 pub extern "C" fn nr_look(writer: &mut NrWriter, key: u32, rows: &mut NrRows) -> u32
     requires live { (held : Held) × (writer.old.live ≡ held ∷ []) × (key < held.map.value.shape.keys) }
-    ensures { WriterCalls (Looks key rows.old rows.new result) writer.old.live writer.new.live }
+    ensures { WriterCalls (LooksByCode key rows.old rows.new result) writer.old.live writer.new.live }
 {
     let side = writer.side();
     match side.map.look(&mut side.writer, key, &mut side.rows) {
@@ -38,7 +38,7 @@ pub extern "C" fn nr_look(writer: &mut NrWriter, key: u32, rows: &mut NrRows) ->
 #[unsafe(no_mangle)]
 pub extern "C" fn nr_fill(writer: &mut NrWriter, key: u32, number: u64, rows: &[NrRow]) -> u32
     requires live { (held : Held) × (writer.old.live ≡ held ∷ []) × (key < held.map.value.shape.keys) }
-    ensures { WriterCalls (Fills key number rows.now result) writer.old.live writer.new.live }
+    ensures { WriterCalls (FillsByCode key number rows.now result) writer.old.live writer.new.live }
 {
     let side = writer.side();
     let mut lent = LentRows { rows };
@@ -58,7 +58,7 @@ pub extern "C" fn nr_fill(writer: &mut NrWriter, key: u32, number: u64, rows: &[
 #[unsafe(no_mangle)]
 pub extern "C" fn nr_update(writer: &mut NrWriter, key: u32, deltas: &[NrDelta]) -> u32
     requires live { (held : Held) × (writer.old.live ≡ held ∷ []) × (key < held.map.value.shape.keys) }
-    ensures { WriterCalls (Updates key deltas.now result) writer.old.live writer.new.live }
+    ensures { WriterCalls (UpdatesByCode key deltas.now result) writer.old.live writer.new.live }
 {
     let side = writer.side();
     let Some(batch) = batch_of(deltas) else {
@@ -72,7 +72,7 @@ pub extern "C" fn nr_update(writer: &mut NrWriter, key: u32, deltas: &[NrDelta])
 #[unsafe(no_mangle)]
 pub extern "C" fn nr_evict(writer: &mut NrWriter, key: u32) -> u32
     requires live { (held : Held) × (writer.old.live ≡ held ∷ []) × (key < held.map.value.shape.keys) }
-    ensures { WriterCalls (Evicts key result) writer.old.live writer.new.live }
+    ensures { WriterCalls (EvictsByCode key result) writer.old.live writer.new.live }
 {
     let side = writer.side();
     of_evict(side.map.evict(&mut side.writer, key))
@@ -83,7 +83,7 @@ pub extern "C" fn nr_evict(writer: &mut NrWriter, key: u32) -> u32
 #[unsafe(no_mangle)]
 pub extern "C" fn nr_cancel(writer: &mut NrWriter, key: u32) -> u32
     requires live { (held : Held) × (writer.old.live ≡ held ∷ []) × (key < held.map.value.shape.keys) }
-    ensures { WriterCalls (Cancels key result) writer.old.live writer.new.live }
+    ensures { WriterCalls (CancelsByCode key result) writer.old.live writer.new.live }
 {
     let side = writer.side();
     of_cancel(side.map.cancel(&mut side.writer, key))
@@ -93,7 +93,7 @@ pub extern "C" fn nr_cancel(writer: &mut NrWriter, key: u32) -> u32
 #[unsafe(no_mangle)]
 pub extern "C" fn nr_state(writer: &mut NrWriter, key: u32) -> u32
     requires live { (held : Held) × (writer.old.live ≡ held ∷ []) × (key < held.map.value.shape.keys) }
-    ensures { WriterCalls (States key result) writer.old.live writer.new.live }
+    ensures { WriterCalls (StatesByCode key result) writer.old.live writer.new.live }
 {
     let side = writer.side();
     of_kind(side.map.state(&mut side.writer, key))

@@ -3,7 +3,7 @@ use Rattle.std.proofs.Common.{List, [], ap, arith, cond, eq-eqb, get_or, ne_eqb,
 use Rattle.std.specs.Prelude.{bit_or}
 use mathlib.Core.Logic.{dite}
 use native.Mathlib.Decide.{ℕ_discrete}
-use Rattle.nr_model.specs.Maps.{ask_reply, asked as asked_state, number_of, state_of}
+use Rattle.nr_model.specs.Maps.{ask_reply, asked, number_of, state_of}
 use Rattle.nr_model.specs.declared.calls.Reply.{Reply}
 use Rattle.nr_model.specs.declared.states.KeyState.{KeyState}
 use Rattle.nr_words.proofs.KeyWordLemmas.{with_ask_is}
@@ -25,18 +25,18 @@ use Rattle.nr_model.specs.declared.states.KeyState.TheVariants as key
 use Rattle.nr_model.specs.declared.calls.Call.TheVariants as model
 use Rattle.nr_model.specs.declared.calls.Reply.TheVariants as reply
 
-asked_stays : (z : KeyState) → ((number : ℕ) → z ≡ key.Hole number → ⊥) → asked_state z ≡ z
+asked_stays : (z : KeyState) → ((number : ℕ) → z ≡ key.Hole number → ⊥) → asked z ≡ z
 asked_stays (key.Hole number) n = absurd (n number refl)
 asked_stays (key.Asked number) n = refl
 asked_stays (key.Rows number rows) n = refl
 
-asked_number : (z : KeyState) → number_of (asked_state z) ≡ number_of z
+asked_number : (z : KeyState) → number_of (asked z) ≡ number_of z
 asked_number (key.Hole number) = refl
 asked_number (key.Asked number) = refl
 asked_number (key.Rows number rows) = refl
 
 -- an asked word shows the asked state
-shows-asked : (shape : Shape) (words : List ℕ) (w x : ℕ) (state : KeyState) → name_number x ≡ name_number w → x % 2 ≡ 1 → slot_of x ≡ slot_of w → ShowsState shape words w state → ShowsState shape words x (asked_state state)
+shows-asked : (shape : Shape) (words : List ℕ) (w x : ℕ) (state : KeyState) → name_number x ≡ name_number w → x % 2 ≡ 1 → slot_of x ≡ slot_of w → ShowsState shape words w state → ShowsState shape words x (asked state)
 shows-asked shape words w x (key.Hole number) n p m t = (n ∙ t.0, p, m ∙ t.2)
 shows-asked shape words w x (key.Asked number) n p m t = (n ∙ t.0, p, m ∙ t.2)
 shows-asked shape words w x (key.Rows number rows) n p m t = (t.0, n ∙ t.1, t.2, t.3)
@@ -51,7 +51,7 @@ pub asks : (shape : Shape) (id reader k : ℕ) → k < shape.keys → CanStep sh
 asks shape id reader k near words roles log core there =
     let w : ℕ = get_or words k 0 in let x : ℕ = bit_or w 1 in let map = map_after shape log in let state = state_of map k in let one = with_ask_is w in
     let name = name-asked w x one in let e = entry reader (model.Ask k) (ask_reply state) in
-    let same : state_of (map_after shape (log ++ e ∷ [])) k ≡ asked_state state = state_same shape log e near in let shown = core.shows k near in
+    let same : state_of (map_after shape (log ++ e ∷ [])) k ≡ asked state = state_same shape log e near in let shown = core.shows k near in
     let other = state_other shape log e in record {
       after = Reader reader Nothing;
       entries = e ∷ [];

@@ -8,7 +8,7 @@ use mathlib.Core.Option.{some}
 use native.Mathlib.Decide.{ℕ_discrete}
 use Rattle.nr_model.proofs.HistoryLemmas.{count_by-cons}
 use Rattle.nr_model.specs.Histories.{Entry}
-use Rattle.nr_model.specs.Maps.{filled_count, is_filled as is_filled_key, state_of}
+use Rattle.nr_model.specs.Maps.{filled_count, is_filled_key, state_of}
 use Rattle.nr_model.specs.declared.states.KeyState.{KeyState}
 use Rattle.nr_core.proofs.Histories.{length-now}
 use Rattle.nr_core.proofs.OnKey.{in_range}

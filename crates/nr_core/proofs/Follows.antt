@@ -21,12 +21,12 @@ use Rattle.nr_core.proofs.Stands.{holder}
 use Rattle.nr_core.proofs.StateRoles.{IsCoreState}
 use Rattle.nr_core.proofs.WordPlaces.{content_apart, content_inside, departures_inside, same_content}
 use Rattle.nr_core.specs.Core.{AtDesk, AtPlace, Puts}
-use Rattle.nr_core.specs.Laws.{EndsWithout, Follows, IsJustified, caller_of}
+use Rattle.nr_core.specs.Laws.{EndsWithout, Follows, IsJustified, caller_of_event}
 use Rattle.nr_core.specs.Machine.{found_by, moved, unless}
-use Rattle.nr_core.specs.Operations.{going, operation, place_of}
+use Rattle.nr_core.specs.Operations.{going, operation, target_of}
 use Rattle.nr_core.specs.declared.operation.Operation.{Operation}
 use Rattle.nr_core.specs.declared.operation.Operation.TheVariants.{Load, Store, Swap}
-use Rattle.nr_core.specs.Reach.{RoomAt, RoomOf}
+use Rattle.nr_core.specs.Reach.{RoomForStep, RoomOf}
 use Rattle.nr_core.specs.Refusals.{has_key, has_reader, if_busy, if_holding, if_not_busy, if_not_holding, if_unreadable, refusal}
 use Rattle.nr_core.specs.Roles.{held}
 use Rattle.nr_words.specs.KeyWords.{naming}
@@ -50,7 +50,7 @@ own_answering : (caller : ℕ) (call : Call) (reply : KeyState → Reply) (shows
 own_answering caller call reply None c = none_of (nat_eq caller c)
 own_answering caller call reply (Some state) c = refl
 
-told_by : (state : State) (event : Event) (c : ℕ) → entries_of (told state event) c ≡ cond (nat_eq (caller_of event) c) (told state event) []
+told_by : (state : State) (event : Event) (c : ℕ) → entries_of (told state event) c ≡ cond (nat_eq (caller_of_event event) c) (told state event) []
 told_by state (Arrive r k) c = own_answering r (model.Find k) find_reply (shown state k) c
 told_by state (Read r i) c = none_of (nat_eq r c)
 told_by state (Depart r) c = none_of (nat_eq r c)
@@ -76,7 +76,7 @@ departs_room shape (hold.On slot None) ok room = room
 departs_room shape (hold.On slot (Some size)) ok room = room.0
 
 -- an operation on a content word of a held slot is a load
-held_untouched : (state : State) (log : List Entry) (event : Event) (is_core : IsCoreState state log) → refusal state event ≡ None → (s i : ℕ) → (0 < held is_core.roles s) × (s < state.shape.slots) → i < slot_room state.shape → place_of (operation state event) ≡ content state.shape s i → operation state event ≡ Load (content state.shape s i)
+held_untouched : (state : State) (log : List Entry) (event : Event) (is_core : IsCoreState state log) → refusal state event ≡ None → (s i : ℕ) → (0 < held is_core.roles s) × (s < state.shape.slots) → i < slot_room state.shape → target_of (operation state event) ≡ content state.shape s i → operation state event ≡ Load (content state.shape s i)
 held_untouched state log (Arrive r k) is_core ok s i held_so low here = let shape = state.shape in
     let g = guard (has_reader shape r && has_key shape k) (if_holding (hold_of state r)) refuse.OutOfRange ok in let b = both (has_reader shape r) (has_key shape k) g.0 in let near : k < shape.keys = ltb-true k shape.keys b.1 in absurd (omega arith)
 held_untouched state log (Ask r k) is_core ok s i held_so low here = let shape = state.shape in
@@ -92,19 +92,19 @@ held_untouched state log Go is_core ok s i held_so low here = go state.desk.plac
     at_place : (p : Place) → state.desk.place ≡ p → AtPlace state.shape state.words (map_after state.shape log) (held is_core.roles) state.desk.fresh state.desk.retired p
     at_place p is = subst (AtPlace state.shape state.words (map_after state.shape log) (held is_core.roles) state.desk.fresh state.desk.retired) is mine.place
 
-    go : (p : Place) → state.desk.place ≡ p → place_of (going state.shape state.desk p) ≡ content state.shape s i → going state.shape state.desk p ≡ Load (content state.shape s i)
+    go : (p : Place) → state.desk.place ≡ p → target_of (going state.shape state.desk p) ≡ content state.shape s i → going state.shape state.desk p ≡ Load (content state.shape s i)
     go Idle is e = ap Load e
     go (Reading call t got) is e = ap Load e
     go (Leaving k) is e = let near = (at_place (Leaving k) is).1.near in absurd (omega arith)
     go (Withdrawing k) is e = let near = (at_place (Withdrawing k) is).near in absurd (omega arith)
     go (Searching call rows p) is e = ap Load e
     go (Putting call rows t departed j) is e = let p = at_place (Putting call rows t departed j) is in let near = p.wants.near in let short = p.wants.row_set.1 in let fits = is_core.core.fits.bound in let free = p.nobody in let some_there = held_so.0 in
-        by_cases (λ v. let o = cond {A = Operation} v (Store (content state.shape t j) (get_or (encode rows) j 0)) (Swap (key_of call) (naming t departed)) in place_of o ≡ content state.shape s i → o ≡ Load (content state.shape s i)) (nat_le j (2 * length rows))
+        by_cases (λ v. let o = cond {A = Operation} v (Store (content state.shape t j) (get_or (encode rows) j 0)) (Swap (key_of call) (naming t departed)) in target_of o ≡ content state.shape s i → o ≡ Load (content state.shape s i)) (nat_le j (2 * length rows))
         (λ yes e. let l : j ≤ 2 * length rows = leb-true j (2 * length rows) yes in let same_slot : s ≡ t = same_content state.shape s i t j low (omega arith) (sym e) in let zero_there : held is_core.roles s ≡ 0 = ap (held is_core.roles) same_slot ∙ free in absurd (omega arith))
         (λ no e. absurd (omega arith)) e
 
 -- an operation is on one of the words
-inside_words : (state : State) (log : List Entry) (event : Event) → IsCoreState state log → refusal state event ≡ None → place_of (operation state event) < length state.words
+inside_words : (state : State) (log : List Entry) (event : Event) → IsCoreState state log → refusal state event ≡ None → target_of (operation state event) < length state.words
 inside_words state log (Arrive r k) is_core ok = let wide = is_core.core.wide in
     let g = guard (has_reader state.shape r && has_key state.shape k) (if_holding (hold_of state r)) refuse.OutOfRange ok in let b = both (has_reader state.shape r) (has_key state.shape k) g.0 in let near : k < state.shape.keys = ltb-true k state.shape.keys b.1 in omega arith
 inside_words state log (Ask r k) is_core ok = let wide = is_core.core.wide in
@@ -119,14 +119,14 @@ inside_words state log (Depart r) is_core ok = let wide = is_core.core.wide in
     omega (arith, departures_inside state.shape (slot_in (hold_of state r)) (departs_room state.shape (hold_of state r) g.1 (hold_room state log is_core r low)))
 inside_words state log Go is_core ok = go state.desk.place refl (place_room state log is_core state.desk.place refl)
   where
-    go : (place : Place) → state.desk.place ≡ place → RoomAt state place → place_of (going state.shape state.desk place) < length state.words
+    go : (place : Place) → state.desk.place ≡ place → RoomForStep state place → target_of (going state.shape state.desk place) < length state.words
     go Idle is room = absurd (no_some (if_not_busy state.desk.place) refuse.NotBusy (ap if_not_busy is) ok)
     go (Reading call slot got) is room = let wide = is_core.core.wide in omega (arith, content_inside state.shape slot (length got) room.0 room.1)
     go (Leaving k) is room = let wide = is_core.core.wide in let near = room.0 in omega arith
     go (Withdrawing k) is room = let wide = is_core.core.wide in let near = room.0 in omega arith
     go (Searching call rows poll) is room = let wide = is_core.core.wide in omega (arith, departures_inside state.shape (retired_at state.desk poll).slot room.1)
     go (Putting call rows slot departed index) is room = let wide = is_core.core.wide in let near = room.0 in
-        by_cases (λ v. place_of (cond {A = Operation} v (Store (content state.shape slot index) (get_or (encode rows) index 0)) (Swap (key_of call) (naming slot departed))) < length state.words) (nat_le index (2 * length rows))
+        by_cases (λ v. target_of (cond {A = Operation} v (Store (content state.shape slot index) (get_or (encode rows) index 0)) (Swap (key_of call) (naming slot departed))) < length state.words) (nat_le index (2 * length rows))
         (λ yes. let l : index ≤ 2 * length rows = leb-true index (2 * length rows) yes in let few = room.3 in omega (arith, content_inside state.shape slot index room.2 (omega arith)))
         (λ _. omega arith)
 
@@ -143,6 +143,6 @@ follows story event is_core justified = record {
     stays None ne = absurd (ne refl)
     stays (Some why) ne = ap (λ (l : List Entry). record story { history = l }) (append-nil story.history)
 
-    mine : (o : Option Refusal) (c : ℕ) → entries_of (unless o [] (told story.state event)) c ≡ cond (nat_eq (caller_of event) c) (unless o [] (told story.state event)) []
+    mine : (o : Option Refusal) (c : ℕ) → entries_of (unless o [] (told story.state event)) c ≡ cond (nat_eq (caller_of_event event) c) (unless o [] (told story.state event)) []
     mine None c = told_by story.state event c
-    mine (Some why) c = none_of (nat_eq (caller_of event) c)
+    mine (Some why) c = none_of (nat_eq (caller_of_event event) c)

@@ -17,7 +17,7 @@ use Rattle.nr_core.proofs.Unpublish.{unpublishes}
 use Rattle.nr_core.proofs.Withdraw.{withdraws}
 use Rattle.nr_core.proofs.WriterRead.{reads_on}
 use Rattle.nr_core.specs.Core.{Core}
-use Rattle.nr_core.specs.Operations.{becomes, going, place_of}
+use Rattle.nr_core.specs.Operations.{becomes, going, target_of}
 use Rattle.nr_core.specs.declared.operation.Operation.{Operation}
 use Rattle.nr_core.specs.declared.operation.Operation.TheVariants.{Store, Swap}
 use Rattle.nr_core.specs.Refusals.{if_not_busy}
@@ -40,17 +40,17 @@ use Rattle.nr_core.specs.declared.calls.Refusal.TheVariants as refuse
 use Rattle.nr_model.specs.declared.calls.Reply.TheVariants as reply
 
 goes_at : (shape : Shape) (words : List ℕ) (roles : List Role) (log : List Entry) → Core shape words roles log → (id : ℕ) (desk : Desk) → get_elem? roles id ≡ some (Writer desk) → (place : Place) → desk.place ≡ place → if_not_busy place ≡ None
-    → let operation = going shape desk place in let found = get_or words (place_of operation) 0 in let after = went shape desk place found in
-    Core shape (set words (place_of operation) (becomes operation found)) (set roles id (Writer after.0)) (log ++ ending_at place after.1)
+    → let operation = going shape desk place in let found = get_or words (target_of operation) 0 in let after = went shape desk place found in
+    Core shape (set words (target_of operation) (becomes operation found)) (set roles id (Writer after.0)) (log ++ ending_at place after.1)
 goes_at shape words roles log core id desk there Idle is_at ok = absurd (no_some (Some refuse.NotBusy) refuse.NotBusy refl ok)
 goes_at shape words roles log core id desk there (Reading call slot got) is_at ok = reads_on shape words roles log core id desk there call slot got is_at
 goes_at shape words roles log core id desk there (Leaving k) is_at ok = unpublishes shape words roles log core id desk there k is_at
 goes_at shape words roles log core id desk there (Withdrawing k) is_at ok = withdraws shape words roles log core id desk there k is_at
 goes_at shape words roles log core id desk there (Searching call rows poll) is_at ok = polls shape words roles log core id desk there call rows poll is_at
 goes_at shape words roles log core id desk there (Putting call rows slot departed index) is_at ok =
-    by_cases (λ v. let operation = cond {A = Operation} v (Store (content shape slot index) (get_or (encode rows) index 0)) (Swap (key_of call) (naming slot departed)) in let found = get_or words (place_of operation) 0 in
+    by_cases (λ v. let operation = cond {A = Operation} v (Store (content shape slot index) (get_or (encode rows) index 0)) (Swap (key_of call) (naming slot departed)) in let found = get_or words (target_of operation) 0 in
     let after = cond {A = Desk × Step} v (moved_to desk (Putting call rows slot departed (index + 1)), Going) (swapped desk found, ended reply.Done) in
-    Core shape (set words (place_of operation) (becomes operation found)) (set roles id (Writer after.0)) (log ++ ending (call_of call) after.1)) (nat_le index (2 * length rows))
+    Core shape (set words (target_of operation) (becomes operation found)) (set roles id (Writer after.0)) (log ++ ending (call_of call) after.1)) (nat_le index (2 * length rows))
     (λ yes. puts shape words roles log core id desk there call rows slot departed index is_at (leb-true index (2 * length rows) yes))
     (λ no. publishes shape words roles log core id desk there call rows slot departed index is_at (leb-false index (2 * length rows) no))
 
@@ -63,7 +63,7 @@ own_ending_at (Searching call rows poll) step caller = own_ending (call_of call)
 own_ending_at (Putting call rows slot departed index) step caller = own_ending (call_of call) step caller
 
 pub goes : (shape : Shape) (id : ℕ) (desk : Desk) → if_not_busy desk.place ≡ None → CanStep shape id (Writer desk) (going shape desk desk.place) (Goes shape desk)
-goes shape id desk busy words roles log core there = let after = went shape desk desk.place (get_or words (place_of (going shape desk desk.place)) 0) in record {
+goes shape id desk busy words roles log core there = let after = went shape desk desk.place (get_or words (target_of (going shape desk desk.place)) 0) in record {
   after = Writer after.0;
   entries = ending_at desk.place after.1;
   core = goes_at shape words roles log core id desk there desk.place refl busy;

@@ -5,7 +5,7 @@ use Rattle.std.proofs.lemmas.List.Elements.{filter-append}
 use Rattle.nr_model.proofs.HistoryLemmas.{state_of-next_other, state_of-next_same}
 use Rattle.nr_model.proofs.LawLemmas.{legal_goes_on_lem}
 use Rattle.nr_model.specs.Histories.{Entry, IsLegal, after, entries_of}
-use Rattle.nr_model.specs.Maps.{PartialMap, key_of as call_key, next as next_map, reply_at, reply_to, state_after, state_of}
+use Rattle.nr_model.specs.Maps.{PartialMap, call_key, next, reply_at, reply_to, state_after, state_of}
 use Rattle.nr_model.specs.declared.calls.Call.{Call}
 use Rattle.nr_core.specs.Story.{map_after, opening_map}
 use Rattle.nr_core.specs.declared.shape.Shape.{Shape}
@@ -16,7 +16,7 @@ pub of-append : (b : ℕ) (es fs : List Entry) → entries_of (es ++ fs) b ≡ e
 of-append b es fs = filter-append (λ e. nat_eq e.caller b) es fs
 
 -- the map after one entry more
-pub now-more : (shape : Shape) (log : List Entry) (e : Entry) → map_after shape (log ++ e ∷ []) ≡ next_map (map_after shape log) e.call
+pub now-more : (shape : Shape) (log : List Entry) (e : Entry) → map_after shape (log ++ e ∷ []) ≡ next (map_after shape log) e.call
 now-more shape log e = (legal_goes_on_lem (opening_map shape) log e).0
 
 pub legal-more : (shape : Shape) (log : List Entry) (e : Entry) → IsLegal (opening_map shape) log → e.reply ≡ reply_to (map_after shape log) e.call → IsLegal (opening_map shape) (log ++ e ∷ [])
@@ -24,14 +24,14 @@ legal-more shape log e l same = (legal_goes_on_lem (opening_map shape) log e).1.
 
 pub length-after : (log : List Entry) (m : PartialMap) → length (after m log).states ≡ length m.states
 length-after [] m = refl
-length-after (e ∷ es) m = length-after es (next_map m e.call) ∙ length-set m.states (call_key e.call) (state_after m.bound e.call (state_of m (call_key e.call)))
+length-after (e ∷ es) m = length-after es (next m e.call) ∙ length-set m.states (call_key e.call) (state_after m.bound e.call (state_of m (call_key e.call)))
 
 pub length-now : (shape : Shape) (log : List Entry) → length (map_after shape log).states ≡ shape.keys
 length-now shape log = length-after log (opening_map shape) ∙ length-replicate shape.keys (key.Hole shape.first_number)
 
 pub bound-after : (log : List Entry) (m : PartialMap) → (after m log).bound ≡ m.bound
 bound-after [] m = refl
-bound-after (e ∷ es) m = bound-after es (next_map m e.call)
+bound-after (e ∷ es) m = bound-after es (next m e.call)
 
 -- the states after one entry more
 pub state_same : (shape : Shape) (log : List Entry) (e : Entry) → call_key e.call < shape.keys → state_of (map_after shape (log ++ e ∷ [])) (call_key e.call) ≡ state_after (bound_of shape) e.call (state_of (map_after shape log) (call_key e.call))

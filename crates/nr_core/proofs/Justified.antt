@@ -18,9 +18,9 @@ use Rattle.nr_core.proofs.StateRoles.{IsCoreState}
 use Rattle.nr_core.proofs.Sweeps.{AtSweep, Notes, Swept, polled_slots}
 use Rattle.nr_core.proofs.Without.{IsWithout, NoneLeft, decided_none, look_none, not_going, not_reply, polled_none}
 use Rattle.nr_core.specs.Core.{AtPlace, Reads}
-use Rattle.nr_core.specs.Laws.{EndsWithout, IsJustified, call_at, call_in}
-use Rattle.nr_core.specs.Machine.{answer, found_by, moved, unless}
-use Rattle.nr_core.specs.Operations.{going, place_of}
+use Rattle.nr_core.specs.Laws.{EndsWithout, IsJustified, call_of_event, call_in}
+use Rattle.nr_core.specs.Machine.{or_refusal, found_by, moved, unless}
+use Rattle.nr_core.specs.Operations.{going, target_of}
 use Rattle.nr_core.specs.Refusals.{has_key, if_busy, refusal}
 use Rattle.nr_core.specs.Roles.{held, taken}
 use Rattle.nr_core.specs.Slots.{bound_of, content, departures}
@@ -50,7 +50,7 @@ step_or (Ok step) = step
 step_or (Err why) = Going
 
 -- an answer that is no refusal
-answered : (o : Option Refusal) (given step : Step) → answer o given ≡ Ok step → (o ≡ None) × (given ≡ step)
+answered : (o : Option Refusal) (given step : Step) → or_refusal o given ≡ Ok step → (o ≡ None) × (given ≡ step)
 answered None given step e = (refl, ap step_or e)
 answered (Some why) given step e = absurd (let n : result_number (Err why) ≡ result_number (Ok step) = ap result_number e in omega arith)
 
@@ -70,7 +70,7 @@ record Ending (state : State) (log : List Entry) (place : Place) (polls : List P
   pub done : reply_at (bound_of state.shape) (call_of call) (state_of (map_after state.shape log) (key_of call)) ≡ reply.Done
   pub polled : map (λ (poll : Poll). poll.slot) polls ≡ map (λ (entry : Retired). entry.slot) state.desk.retired
 
-justify : (story : Story) (event : Event) (is_core : IsCoreState story.state story.history) → refusal story.state event ≡ None → Swept (tell story event).state (tell story event).polls → (counts : NoSlot) (call : WriterCall) → call_at story.state event ≡ call ∷ []
+justify : (story : Story) (event : Event) (is_core : IsCoreState story.state story.history) → refusal story.state event ≡ None → Swept (tell story event).state (tell story event).polls → (counts : NoSlot) (call : WriterCall) → call_of_event story.state event ≡ call ∷ []
     → (outcome : Desk × Step) → (moved story.state event).desk ≡ outcome.0 → Ending story.state story.history story.state.desk.place (polls_after story.state story.polls event) call outcome counts → IsJustified story event counts
 justify story event is_core ok swept counts call is_call outcome desk_is ending =
     let state = story.state in let shape = state.shape in let desk = state.desk in let core = is_core.core in let writer_there = is_core.fit.writer in let told_so = tell_is story event ok in
@@ -93,12 +93,12 @@ no_polls l e = ap (map (λ (entry : Retired). entry.slot)) (sym (none_in l e))
 
 -- the step after the look, from each place
 go_ending : (state : State) (log : List Entry) (polls : List Poll) → IsCoreState state log → Swept state polls → (place : Place) → state.desk.place ≡ place → (counts : NoSlot)
-    → let outcome = went state.shape state.desk place (get_or state.words (place_of (going state.shape state.desk place)) 0) in
+    → let outcome = went state.shape state.desk place (get_or state.words (target_of (going state.shape state.desk place)) 0) in
     IsWithout counts outcome → (call : WriterCall) × (call_in place ≡ call ∷ []) × Ending state log place (polls_at state polls place) call outcome counts
 go_ending state log polls is_core swept Idle is counts e = absurd (not_going counts e)
 go_ending state log polls is_core swept (Leaving k) is counts e = absurd (not_reply counts reply.Evicted e)
 go_ending state log polls is_core swept (Withdrawing k) is counts e = absurd (not_reply counts reply.Cancelled e)
-go_ending state log polls is_core swept (Putting call rows slot departed index) is counts e = let found = get_or state.words (place_of (going state.shape state.desk (Putting call rows slot departed index))) 0 in
+go_ending state log polls is_core swept (Putting call rows slot departed index) is counts e = let found = get_or state.words (target_of (going state.shape state.desk (Putting call rows slot departed index))) 0 in
     let Goal : Type 0 = (q : WriterCall) × (call ∷ [] ≡ q ∷ []) × Ending state log (Putting call rows slot departed index) polls q (put_on state.desk call rows slot departed index found) counts in
     by_cases (λ v. IsWithout counts (cond {A = Desk × Step} v (moved_to state.desk (Putting call rows slot departed (index + 1)), Going) (swapped state.desk found, ended reply.Done)) → Goal) (nat_le index (2 * length rows))
     (λ _ e'. absurd (not_going counts e')) (λ _ e'. absurd (not_reply counts reply.Done e')) e
@@ -130,7 +130,7 @@ go_ending state log polls is_core swept (Searching call rows q) is counts e =
     let notes : Notes state polls q = subst (AtSweep state polls) is swept.sweep in
     let found = get_or words (departures shape (retired_at desk q).slot) 0 in let within = at_p.1 in
     let n = polled_none shape desk counts call rows q found e in
-    let found_is : found_by state Go ≡ found = ap (λ (p : Place). get_or words (place_of (going shape desk p)) 0) is in
+    let found_is : found_by state Go ≡ found = ap (λ (p : Place). get_or words (target_of (going shape desk p)) 0) is in
     let miss : same_count (found_by state Go) (retired_at desk q).arrivals ≡ false = ap (λ (w : ℕ). same_count w (retired_at desk q).arrivals) found_is ∙ n.2 in (
       call,
       refl,

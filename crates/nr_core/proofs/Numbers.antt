@@ -4,7 +4,7 @@ use mathlib.Core.Logic.{dite}
 use native.Mathlib.Decide.{ℕ_discrete}
 use Rattle.nr_model.proofs.HistoryLemmas.{numbers_count_cancels_lem}
 use Rattle.nr_model.specs.Histories.{Entry, IsLegal}
-use Rattle.nr_model.specs.Maps.{key_of as call_key, last_number, number_of, state_after, state_of}
+use Rattle.nr_model.specs.Maps.{call_key, last_number, number_of, state_after, state_of}
 use Rattle.nr_core.proofs.Frames.{numbers_more}
 use Rattle.nr_core.proofs.Histories.{state_other, state_same}
 use Rattle.nr_core.specs.Core.{AreNumbers}

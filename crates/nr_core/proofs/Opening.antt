@@ -15,8 +15,8 @@ use Rattle.nr_core.specs.Core.{AreNumbers, Core, Knows, ShowsState}
 use Rattle.nr_core.specs.Roles.{held, holds, is_reader, is_writer, keeps, readers_from}
 use Rattle.nr_core.specs.Sizes.{IsShape}
 use Rattle.nr_words.specs.Opening.{repeated}
-use Rattle.nr_core.specs.Slots.{departures, layout, name_number, opening_words, slot_room}
-use Rattle.nr_core.specs.States.{opening, opening_desk}
+use Rattle.nr_core.specs.Slots.{departures, layout, name_number, words_at_opening, slot_room}
+use Rattle.nr_core.specs.States.{opening_state, opening_desk}
 use Rattle.nr_core.specs.Story.{map_after, opening_map}
 use Rattle.nr_core.specs.Sums.{below, only, total}
 use Rattle.nr_core.specs.declared.roles.Grip.TheVariants.{Nothing, On}
@@ -76,8 +76,8 @@ first_numbers shape = record {
 }
 
 -- the writer, and so many readers
-pub core_opens : (shape : Shape) → IsShape shape → (n : ℕ) → n ≤ shape.readers → Core shape (opening_words shape) (Writer (opening_desk shape) ∷ readers_from 0 n) []
-core_opens shape fits n few = let words = opening_words shape in let slot = shape.first_count ∷ replicate (slot_room shape) 0 in let roles = Writer (opening_desk shape) ∷ readers_from 0 n in let all = all_readers n 0 in
+pub core_opens : (shape : Shape) → IsShape shape → (n : ℕ) → n ≤ shape.readers → Core shape (words_at_opening shape) (Writer (opening_desk shape) ∷ readers_from 0 n) []
+core_opens shape fits n few = let words = words_at_opening shape in let slot = shape.first_count ∷ replicate (slot_room shape) 0 in let roles = Writer (opening_desk shape) ∷ readers_from 0 n in let all = all_readers n 0 in
     let hole : ℕ = hole_word shape.first_number false in let few_numbers = fits.number in let is_hole = hole_is shape.first_number (omega arith) in
     let key_hole : (k : ℕ) → k < shape.keys → get_or words k 0 ≡ hole = front shape.keys hole (repeated shape.slots slot) in
     let wide : length words ≡ total_of (layout shape) = omega (arith, length-append (replicate shape.keys hole) (repeated shape.slots slot), length-replicate {A = ℕ} shape.keys hole, length-repeated (slot_room shape) shape.slots slot (ap suc (length-replicate (slot_room shape) 0))) in
@@ -99,7 +99,7 @@ core_opens shape fits n few = let words = opening_words shape in let slot = shap
       few = omega (arith, all.0);
     }
 
-pub opening_core : (shape : Shape) → IsShape shape → IsCoreState (opening shape) []
+pub opening_core : (shape : Shape) → IsShape shape → IsCoreState (opening_state shape) []
 opening_core shape fits = record {
   roles = Writer (opening_desk shape) ∷ readers_from 0 shape.readers;
   core = core_opens shape fits shape.readers (omega arith);

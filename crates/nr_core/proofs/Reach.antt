@@ -16,13 +16,13 @@ use Rattle.nr_core.proofs.StateRoles.{IsCoreState, erased}
 use Rattle.nr_core.proofs.Sums.{got_at, only-same}
 use Rattle.nr_core.specs.Core.{AtDesk, AtPlace, Grips, ShowsState}
 use Rattle.nr_core.specs.Laws.{AllGiven, IsGiven}
-use Rattle.nr_core.specs.Machine.{moved, next, run, unless}
-use Rattle.nr_core.specs.Reach.{HasRoom, Reached, RoomAt, RoomOf}
+use Rattle.nr_core.specs.Machine.{moved, next_state, run, unless}
+use Rattle.nr_core.specs.Reach.{HasRoom, Reached, RoomForStep, RoomOf}
 use Rattle.nr_core.specs.Refusals.{refusal}
 use Rattle.nr_core.specs.Roles.{held, taken}
 use Rattle.nr_core.specs.Sizes.{IsShape}
 use Rattle.nr_core.specs.Slots.{bound_of, name_number, named, slot_room}
-use Rattle.nr_core.specs.States.{Event, State, hold_of, key_of, no_retired, number_at, opening, retired_at}
+use Rattle.nr_core.specs.States.{Event, State, hold_of, key_of, no_retired, number_at, opening_state, retired_at}
 use Rattle.nr_core.specs.Story.{holders, map_after, shown, story_of}
 use Rattle.nr_core.specs.declared.calls.Refusal.{Refusal}
 use Rattle.nr_core.specs.declared.places.Hold.{Hold}
@@ -40,30 +40,30 @@ all_given : (bound : ℕ) (events : List Event) (event : Event) → AllGiven bou
 all_given bound [] event all one = (one, tt)
 all_given bound (first ∷ events) event all one = (all.0, all_given bound events event all.1 one)
 
-pub shape_kept : (state : State) (event : Event) → (next state event).shape ≡ state.shape
+pub shape_kept : (state : State) (event : Event) → (next_state state event).shape ≡ state.shape
 shape_kept state event = go (refusal state event)
   where
     go : (o : Option Refusal) → (unless o state (moved state event)).shape ≡ state.shape
     go None = refl
     go (Some why) = refl
 
-pub all_keep_shape : (events : List Event) (state : State) → (fold next state events).shape ≡ state.shape
+pub all_keep_shape : (events : List Event) (state : State) → (fold next_state state events).shape ≡ state.shape
 all_keep_shape [] state = refl
-all_keep_shape (event ∷ events) state = all_keep_shape events (next state event) ∙ shape_kept state event
+all_keep_shape (event ∷ events) state = all_keep_shape events (next_state state event) ∙ shape_kept state event
 
 pub run_keeps_shape : (shape : Shape) (events : List Event) → (run shape events).shape ≡ shape
-run_keeps_shape shape events = all_keep_shape events (opening shape)
+run_keeps_shape shape events = all_keep_shape events (opening_state shape)
 
-reached_next : (state : State) (event : Event) → IsGiven (bound_of state.shape) event → Reached state → Reached (next state event)
+reached_next : (state : State) (event : Event) → IsGiven (bound_of state.shape) event → Reached state → Reached (next_state state event)
 reached_next state event given reached = let kept = shape_kept state event in record {
   events = reached.events ++ event ∷ [];
   shape = subst IsShape (sym kept) reached.shape;
   given = subst (λ (shape : Shape). AllGiven (bound_of shape) (reached.events ++ event ∷ [])) (sym kept) (all_given (bound_of state.shape) reached.events event reached.given given);
-  leads = ap (λ s. next s event) reached.leads ∙ sym (run_more state.shape reached.events event) ∙ ap (λ shape. run shape (reached.events ++ event ∷ [])) (sym kept);
+  leads = ap (λ s. next_state s event) reached.leads ∙ sym (run_more state.shape reached.events event) ∙ ap (λ shape. run shape (reached.events ++ event ∷ [])) (sym kept);
 }
 
 -- an event leads on
-pub leads_on : (state : State) (event : Event) → IsGiven (bound_of state.shape) event → ∥ Reached state ∥₁ → ∥ Reached (next state event) ∥₁
+pub leads_on : (state : State) (event : Event) → IsGiven (bound_of state.shape) event → ∥ Reached state ∥₁ → ∥ Reached (next_state state event) ∥₁
 leads_on state event given reached = ∥∥₁_map reached (reached_next state event given)
 
 reached_core : (state : State) (reached : Reached state) → IsCoreState state (story_of state.shape reached.events).history
@@ -87,7 +87,7 @@ hold_room state log is_core reader low = let size = is_core.fit.size in let i : 
     (λ out. subst (RoomOf state.shape) (sym (none_beyond state.holds i (omega arith))) tt)
     (λ inside. let o = is_core.fit.readers i (omega arith) in subst (RoomOf state.shape) (sym o.2) (grip_room state.shape state.words (map_after state.shape log) (held is_core.roles) o.0 (is_core.core.knows (suc i) (Reader (suc i) o.0) o.1)))
 
-pub place_room : (state : State) (log : List Entry) → IsCoreState state log → (place : Place) → state.desk.place ≡ place → RoomAt state place
+pub place_room : (state : State) (log : List Entry) → IsCoreState state log → (place : Place) → state.desk.place ≡ place → RoomForStep state place
 place_room state log is_core place is = go place is (subst (AtPlace state.shape state.words (map_after state.shape log) (held is_core.roles) state.desk.fresh state.desk.retired) is desk.place)
   where
     desk : AtDesk state.shape state.words (map_after state.shape log) (held is_core.roles) state.desk
@@ -99,7 +99,7 @@ place_room state log is_core place is = go place is (subst (AtPlace state.shape 
     inside : (k slot : ℕ) → k < state.shape.keys → name_number (get_or state.words k 0) ≡ suc slot → slot < state.shape.slots
     inside = named_inside state.shape state.words is_core.roles log is_core.core
 
-    go : (p : Place) → state.desk.place ≡ p → AtPlace state.shape state.words (map_after state.shape log) (held is_core.roles) state.desk.fresh state.desk.retired p → RoomAt state p
+    go : (p : Place) → state.desk.place ≡ p → AtPlace state.shape state.words (map_after state.shape log) (held is_core.roles) state.desk.fresh state.desk.retired p → RoomForStep state p
     go Idle e t = tt
     go (Reading call slot got) e t = let more = t.more in let shown : ShowsState state.shape state.words (get_or state.words (key_of call) 0) (key.Rows t.number t.rows) = subst (ShowsState state.shape state.words (get_or state.words (key_of call) 0)) t.full (is_core.core.shows (key_of call) t.near) in
         let short = shown.3.0.1 in (inside (key_of call) slot t.near t.names, omega arith)
@@ -126,7 +126,7 @@ hold_prop shape hold.Nothing = hlevel props
 hold_prop shape (hold.On slot None) = hlevel props
 hold_prop shape (hold.On slot (Some size)) = hlevel props
 
-place_prop : (state : State) (place : Place) → IsProp (RoomAt state place)
+place_prop : (state : State) (place : Place) → IsProp (RoomForStep state place)
 place_prop state Idle = hlevel props
 place_prop state (Reading call slot got) = hlevel props
 place_prop state (Leaving k) = hlevel props

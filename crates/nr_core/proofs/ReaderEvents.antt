@@ -6,7 +6,7 @@ use lib.ListN.{get_elem?}
 use mathlib.Core.Option.{some}
 use Rattle.nr_model.proofs.LawLemmas.{legal_goes_on_lem}
 use Rattle.nr_model.specs.Histories.{Entry, IsLegal, entries_of}
-use Rattle.nr_model.specs.Maps.{ask_reply, find_reply, key_of as call_key, reply_at, state_of}
+use Rattle.nr_model.specs.Maps.{ask_reply, find_reply, call_key, reply_at, state_of}
 use Rattle.nr_model.specs.Rows.{IsRowSet}
 use Rattle.nr_model.specs.declared.calls.Call.{Call}
 use Rattle.nr_model.specs.declared.calls.Reply.{Reply}

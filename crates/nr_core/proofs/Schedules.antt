@@ -6,7 +6,7 @@ use Rattle.std.proofs.lemmas.List.{length-map}
 use Rattle.std.proofs.lemmas.List.Sums.{count_by-le-length}
 use Rattle.std.specs.Prelude.{None, Option, Some, fold}
 use Rattle.nr_model.specs.Histories.{after}
-use Rattle.nr_model.specs.Maps.{PartialMap, filled_count, is_filled as is_filled_key}
+use Rattle.nr_model.specs.Maps.{PartialMap, filled_count, is_filled_key}
 use Rattle.nr_core.proofs.Events.{after_tell, story_core}
 use Rattle.nr_core.proofs.Follows.{follows}
 use Rattle.nr_core.proofs.Histories.{length-now}

@@ -7,7 +7,7 @@ use mathlib.Core.Logic.{dite}
 use mathlib.Core.Option.{some}
 use native.Mathlib.Decide.{dec_le, ℕ_discrete}
 use Rattle.nr_model.specs.Histories.{Entry, IsLegal, entries_of}
-use Rattle.nr_model.specs.Maps.{PartialMap, key_of as call_key, reply_at, state_after, state_of}
+use Rattle.nr_model.specs.Maps.{PartialMap, call_key, reply_at, state_after, state_of}
 use Rattle.nr_model.specs.declared.calls.Call.{Call}
 use Rattle.nr_model.specs.declared.calls.Reply.{Reply}
 use Rattle.nr_model.specs.declared.rows.Row.{Row}

@@ -4,7 +4,7 @@ use Rattle.std.proofs.lemmas.Bool.{cases_lt}
 use Rattle.nr_model.specs.Sizes.{IsBadSize}
 use Rattle.nr_core.specs.Reach.{Reached}
 use Rattle.nr_core.specs.Sizes.{IsBadShape, IsShape}
-use Rattle.nr_core.specs.States.{opening}
+use Rattle.nr_core.specs.States.{opening_state}
 use Rattle.nr_core.specs.declared.shape.Shape.{Shape}
 
 good_size : (limit size : ℕ) → (IsBadSize limit size → ⊥) → (0 < size) × (size ≤ limit)
@@ -26,5 +26,5 @@ good_shape shape good =
       number = ⊎_elim (λ over. absurd (good (inr (inr (inr (inl over)))))) (λ within. within) (cases_lt _ shape.first_number);
     }
 
-pub opening_reached : (shape : Shape) → (IsBadShape shape → ⊥) → ∥ Reached (opening shape) ∥₁
+pub opening_reached : (shape : Shape) → (IsBadShape shape → ⊥) → ∥ Reached (opening_state shape) ∥₁
 opening_reached shape good = ∣ record { events = []; shape = good_shape shape good; given = tt; leads = refl } ∣₁

@@ -16,7 +16,7 @@ use Rattle.nr_words.specs.SetWords.{decode, encode}
 use Rattle.nr_core.proofs.KeyWords.{names_none, names_one}
 use Rattle.nr_core.proofs.Sets.{decodes_begins}
 use Rattle.nr_core.specs.Core.{Core, ShowsState}
-use Rattle.nr_core.specs.Slots.{SlotSpells, bound_of, content, content_words, layout, slot_room}
+use Rattle.nr_core.specs.Slots.{SlotSpells, bound_of, content, slot_content, layout, slot_room}
 use Rattle.nr_core.specs.States.{State, number_at}
 use Rattle.nr_core.specs.Story.{map_after, shown}
 use Rattle.nr_core.specs.declared.roles.Role.{Role}
@@ -29,12 +29,12 @@ begins_with [] l fits same = refl
 begins_with (x ∷ m) [] fits same = absurd (omega arith)
 begins_with (x ∷ m) (y ∷ l) fits same = λ k. same 0 (omega arith) k ∷ begins_with m l (omega arith) (λ i low. same (suc i) (omega arith)) k
 
-spelt_set : (shape : Shape) (words : List ℕ) (s : ℕ) (rows : List Row) → length words ≡ total_of (layout shape) → s < shape.slots → SlotSpells shape words s rows → decode (content_words shape words s) ≡ Some rows
+spelt_set : (shape : Shape) (words : List ℕ) (s : ℕ) (rows : List Row) → length words ≡ total_of (layout shape) → s < shape.slots → SlotSpells shape words s rows → decode (slot_content shape words s) ≡ Some rows
 spelt_set shape words s rows wide near sp = let short = sp.0.1 in let size = length-row_words rows in
     let c : ℕ = content shape s 0 in
     let d1 : length (drop c words) ≡ length words - c = length-drop c words in
     let d2 : length (take (slot_room shape) (drop c words)) ≡ slot_room shape = length-take-le (slot_room shape) (drop c words) (omega (arith, in_block_below (layout shape) s (slot_room shape) near (omega arith))) in
-    decodes_begins (bound_of shape) (content_words shape words s) rows sp.0 (begins_with (encode rows) (content_words shape words s) (omega arith)
+    decodes_begins (bound_of shape) (slot_content shape words s) rows sp.0 (begins_with (encode rows) (slot_content shape words s) (omega arith)
     (λ i low. get_or-take (slot_room shape) (drop c words) i 0 (omega arith) ∙ get_or-drop c words i 0 ∙ ap (λ (n : ℕ). get_or words n 0) (place_is i) ∙ sp.1 i low))
   where
     place_is : (i : ℕ) → content shape s 0 + i ≡ content shape s i
@@ -43,7 +43,7 @@ spelt_set shape words s rows wide near sp = let short = sp.0.1 in let size = len
 pub shown_is : (state : State) (roles : List Role) (log : List Entry) → Core state.shape state.words roles log → get_elem? roles 0 ≡ some (Writer state.desk) → (k : ℕ) → k < state.shape.keys → shown state k ≡ Some (state_of (map_after state.shape log) k)
 shown_is state roles log core writer_there k near = let shape = state.shape in let words = state.words in let w = get_or words k 0 in let z = state_of (map_after shape log) k in
     let listed : number_at state.desk k ≡ number_of z = (core.knows 0 (Writer state.desk) writer_there).numbers.agree k near in
-    let Given : ℕ → Option KeyState = λ s. option_map (λ rows. key.Rows (number_at state.desk k) rows) (decode (content_words shape words s)) in let B : Option KeyState = Given (slot_of w) in
+    let Given : ℕ → Option KeyState = λ s. option_map (λ rows. key.Rows (number_at state.desk k) rows) (decode (slot_content shape words s)) in let B : Option KeyState = Given (slot_of w) in
     let C : Option KeyState = Some (cond (has_ask w) (key.Asked (slot_of w)) (key.Hole (slot_of w))) in
     let go : (z : KeyState) → ShowsState shape words w z → number_at state.desk k ≡ number_of z → cond (is_filled w) B C ≡ Some z = λ z. elim z as (λ v. ShowsState shape words w v → number_at state.desk k ≡ number_of v → cond (is_filled w) B C ≡ Some v) [
       | key.Hole n ↦ λ t _. let even = t.1 in ap (λ b. cond b B C) (names_none w t.0) ∙ ap (λ b. Some (cond {A = KeyState} b (key.Asked (slot_of w)) (key.Hole (slot_of w)))) (ne_eqb (w % 2) 1 (λ z. omega arith)) ∙ ap (λ (m : ℕ). Some (key.Hole m)) t.2

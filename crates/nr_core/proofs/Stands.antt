@@ -19,7 +19,7 @@ use Rattle.nr_core.proofs.StateRoles.{Found, IsCoreState, erased, state_sums}
 use Rattle.nr_core.proofs.Sums.{got_at, only-is, only-same, term_le}
 use Rattle.nr_core.specs.Core.{AtPlace}
 use Rattle.nr_core.specs.Laws.{HoldsFound, Stands, map_of}
-use Rattle.nr_core.specs.Machine.{answer, found_by, read_answer}
+use Rattle.nr_core.specs.Machine.{or_refusal, found_by, read_answer}
 use Rattle.nr_core.specs.Refusals.{has_reader, if_beyond, if_unreadable, refusal}
 use Rattle.nr_core.specs.Roles.{held, holds, taken}
 use Rattle.nr_core.specs.Slots.{bound_of, content, departures, unused}
@@ -76,7 +76,7 @@ reads_word : (state : State) (reader slot : ℕ) (size : Option ℕ) (rows : Lis
 reads_word state reader slot size rows index holds_it known spelt ok =
     let g = guard (has_reader state.shape reader) (if_unreadable index (hold_of state reader)) refuse.OutOfRange ok in
     let low = within_words index size rows known (ap (if_unreadable index) (sym holds_it) ∙ g.1) in
-    ap (λ (o : Option Refusal). answer o (found_by state (Read reader index))) ok
+    ap (λ (o : Option Refusal). or_refusal o (found_by state (Read reader index))) ok
     ∙ ap (λ (y : Hold). Ok (get_or state.words (content state.shape (slot_in y) index) 0)) holds_it
     ∙ ap (λ (w : ℕ). Ok w) (spelt index low)
 

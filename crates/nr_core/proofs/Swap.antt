@@ -3,7 +3,7 @@ use Rattle.std.proofs.Common.{List, [], ap, append-nil, arith, cond, get_or, get
 use lib.ListN.{get_elem?}
 use mathlib.Core.Option.{some}
 use Rattle.nr_model.specs.Histories.{Entry}
-use Rattle.nr_model.specs.Maps.{key_of as call_key, reply_at, state_after, state_of}
+use Rattle.nr_model.specs.Maps.{call_key, reply_at, state_after, state_of}
 use Rattle.nr_model.specs.declared.calls.Call.{Call}
 use Rattle.nr_model.specs.declared.calls.Reply.{Reply}
 use Rattle.nr_words.specs.KeyWords.{arrivals_of, is_filled, slot_of}

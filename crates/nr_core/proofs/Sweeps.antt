@@ -27,7 +27,7 @@ use Rattle.nr_core.proofs.Sums.{below-term, got_at, only-is, only-same, some_ter
 use Rattle.nr_core.specs.Accounts.{on}
 use Rattle.nr_core.specs.Core.{AtPlace}
 use Rattle.nr_core.specs.Machine.{moved, read_hold}
-use Rattle.nr_core.specs.Operations.{going, place_of}
+use Rattle.nr_core.specs.Operations.{going, target_of}
 use Rattle.nr_core.specs.Refusals.{has_key, has_reader, if_holding, if_not_holding, if_unreadable, refusal}
 use Rattle.nr_core.specs.Roles.{held}
 use Rattle.nr_core.specs.Slots.{bound_of, content, name_number}
@@ -261,7 +261,7 @@ abbrev has_holder : Poll → Type 0
 has_holder x = 0 < length x.holders
 
 -- the writer's step after its look
-go_swept : (state : State) (log : List Entry) (polls : List Poll) → IsCoreState state log → Swept state polls → (p : Place) → state.desk.place ≡ p → (w : ℕ) → w ≡ get_or state.words (place_of (going state.shape state.desk p)) 0 → (words : List ℕ) (made : List Operation)
+go_swept : (state : State) (log : List Entry) (polls : List Poll) → IsCoreState state log → Swept state polls → (p : Place) → state.desk.place ≡ p → (w : ℕ) → w ≡ get_or state.words (target_of (going state.shape state.desk p)) 0 → (words : List ℕ) (made : List Operation)
     → let desk' = (went state.shape state.desk p w).0 in Swept (record { shape = state.shape; words = words; holds = state.holds; desk = desk'; made = made })
     (elim p as (λ _. List Poll) [ Idle ↦ polls | Reading call s got ↦ polls | Leaving k ↦ polls | Withdrawing k ↦ polls | Searching call rows i ↦ cond (nat_eq (w % 2 ^ 40) ((retired_at state.desk i).arrivals % 2 ^ 40)) polls (polls ++ poll_at state i ∷ []) | Putting call rows s e i ↦ polls ])
 go_swept state log polls is_core s Idle is w w_is words made = record { few = s.few; sweep = subst (λ (p : Place). AtSweep (with_desk state.shape words state.holds made state.desk) polls p) (sym is) tt; held = s.held }
@@ -302,4 +302,4 @@ swept_event state log polls (Depart r) is_core s ok =
     let g = guard (has_reader state.shape r) (if_not_holding (hold_of state r)) refuse.OutOfRange ok in let i = reader_in state.shape r g.0 in let lo = i.0 in let hi = i.1 in let size = is_core.fit.size in
     reader_swept state (moved state (Depart r)).words (moved state (Depart r)).holds (moved state (Depart r)).made polls (other_reader state (r - 1) hold.Nothing (omega arith) (λ u more. absurd (omega arith))) s
 swept_event state log polls (Start call) is_core s ok = record { few = omega arith; sweep = look_good state.shape (moved state (Start call)).words state.holds (moved state (Start call)).made state.desk call (get_or state.words (key_of call) 0); held = λ i low. absurd (omega arith) }
-swept_event state log polls Go is_core s ok = go_swept state log polls is_core s state.desk.place refl (get_or state.words (place_of (going state.shape state.desk state.desk.place)) 0) refl (moved state Go).words (moved state Go).made
+swept_event state log polls Go is_core s ok = go_swept state log polls is_core s state.desk.place refl (get_or state.words (target_of (going state.shape state.desk state.desk.place)) 0) refl (moved state Go).words (moved state Go).made

@@ -10,7 +10,7 @@ use Rattle.nr_core.proofs.Look.{looks}
 use Rattle.nr_core.proofs.StateRoles.{IsCoreState, ending_at_other, ending_other, fit_writer, found_writer}
 use Rattle.nr_core.specs.Laws.{IsGivenCall}
 use Rattle.nr_core.specs.Machine.{moved}
-use Rattle.nr_core.specs.Operations.{going, place_of}
+use Rattle.nr_core.specs.Operations.{going, target_of}
 use Rattle.nr_core.specs.declared.operation.Operation.TheVariants.{Load}
 use Rattle.nr_core.specs.Refusals.{has_key, if_busy, refusal}
 use Rattle.nr_core.specs.Slots.{bound_of}
@@ -33,7 +33,7 @@ after_start state log call given is_core ok = let shape = state.shape in let wor
     }
 
 pub after_go : (state : State) (log : List Entry) → IsCoreState state log → refusal state Go ≡ None → IsCoreState (moved state Go) (log ++ told state Go)
-after_go state log is_core ok = let shape = state.shape in let words = state.words in let roles = is_core.roles in let f = is_core.fit in let desk = state.desk in let o = went shape desk desk.place (get_or words (place_of (going shape desk desk.place)) 0) in
+after_go state log is_core ok = let shape = state.shape in let words = state.words in let roles = is_core.roles in let f = is_core.fit in let desk = state.desk in let o = went shape desk desk.place (get_or words (target_of (going shape desk desk.place)) 0) in
     let step = goes shape 0 desk ok words roles log is_core.core f.writer in record {
       roles = set roles 0 (Writer o.0);
       core = core_after shape words roles log 0 (Writer desk) (going shape desk desk.place) (Goes shape desk) step (Writer o.0) (ending_at desk.place o.1) step.told.0 step.told.1;

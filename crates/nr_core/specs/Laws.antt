@@ -21,10 +21,10 @@ use Rattle.nr_words.specs.SetWords.{encode}
 use Rattle.nr_core.specs.Slots.{bound_of, content, slot_room}
 use Rattle.nr_core.specs.States.{State, Event, Arrive, Read, Depart, Ask, Start, Go, word, hold_of, number_at}
 use Rattle.nr_core.specs.Refusals.{refusal}
-use Rattle.nr_core.specs.Operations.{place_of, becomes, operation}
+use Rattle.nr_core.specs.Operations.{target_of, becomes, operation}
 use Rattle.nr_core.specs.declared.operation.Operation.{Operation}
 use Rattle.nr_core.specs.declared.operation.Operation.TheVariants.{Load}
-use Rattle.nr_core.specs.Machine.{next, run, unless, read_answer, start_answer, go_answer}
+use Rattle.nr_core.specs.Machine.{next_state, run, unless, read_answer, start_answer, go_answer}
 use Rattle.nr_core.specs.Story.{Story, Poll, story_of, tell, told, shown, entry, call_of, map_after, opening_map}
 use Rattle.nr_core.specs.Sizes.{IsShape}
 use Rattle.nr_core.specs.Accounts.{Accounted}
@@ -80,13 +80,13 @@ pub record Stands (story : Story) : Type 0 where
   pub sent : (at : ℕ) → at < story.state.shape.keys → sends story.history at ≡ fills story.history at + cancels story.history at + pending (state_of (map_of story) at)
 
 -- whose attempt an event is
-abbrev pub caller_of : Event → ℕ
-caller_of (Arrive reader at) = reader
-caller_of (Read reader index) = reader
-caller_of (Depart reader) = reader
-caller_of (Ask reader at) = reader
-caller_of (Start call) = 0
-caller_of Go = 0
+abbrev pub caller_of_event : Event → ℕ
+caller_of_event (Arrive reader at) = reader
+caller_of_event (Read reader index) = reader
+caller_of_event (Depart reader) = reader
+caller_of_event (Ask reader at) = reader
+caller_of_event (Start call) = 0
+caller_of_event Go = 0
 
 -- the writer's call of which an event is a step
 abbrev pub call_in : Place → List WriterCall
@@ -97,10 +97,10 @@ call_in (Withdrawing at) = Cancel at ∷ []
 call_in (Searching call rows poll) = call ∷ []
 call_in (Putting call rows slot departed index) = call ∷ []
 
-abbrev pub call_at : State → Event → List WriterCall
-call_at state (Start call) = call ∷ []
-call_at state Go = call_in state.desk.place
-call_at state event = []
+abbrev pub call_of_event : State → Event → List WriterCall
+call_of_event state (Start call) = call ∷ []
+call_of_event state Go = call_in state.desk.place
+call_of_event state event = []
 
 -- an event ends the writer's call with no slot
 abbrev pub EndsWithout : State → Event → NoSlot → Type 0
@@ -114,7 +114,7 @@ no_poll = record { slot = 0; holders = [] }
 -- a call that ended with no slot could not have one: the call would be done, each slot is named by a filled key or retired, and each retired one was polled in this call while some reader held it
 pub record IsJustified (story : Story) (event : Event) (counts : NoSlot) : Type 0 where
   pub call : WriterCall
-  pub is_call : call_at story.state event ≡ call ∷ []
+  pub is_call : call_of_event story.state event ≡ call ∷ []
   pub would_be_done : reply_to (map_of story) (call_of call) ≡ reply.Done
   pub live : counts.live ≡ filled_count (map_of story)
   pub all : counts.live + counts.held ≡ story.state.shape.slots
@@ -125,21 +125,21 @@ pub record IsJustified (story : Story) (event : Event) (counts : NoSlot) : Type 
 -- that operation on one of the words is made, and no other
 abbrev pub Operates : State → Operation → State → Type 0
 Operates state one after =
-    (place_of one < length state.words)
-    × (after.words ≡ slice_set state.words (place_of one) (becomes one (word state (place_of one))))
+    (target_of one < length state.words)
+    × (after.words ≡ slice_set state.words (target_of one) (becomes one (word state (target_of one))))
     × (after.made ≡ state.made ++ one ∷ [])
 
 -- what one event more does
 pub record Follows (story : Story) (event : Event) : Type 0 where
   -- one operation on one word
-  pub one_operation : refusal story.state event ≡ None → Operates story.state (operation story.state event) (next story.state event)
+  pub one_operation : refusal story.state event ≡ None → Operates story.state (operation story.state event) (next_state story.state event)
   pub refused : refusal story.state event ≢ None → tell story event ≡ story
   -- an operation on a content word of a held slot is a load
   pub untouched : refusal story.state event ≡ None → (reader slot index : ℕ) (size : Option ℕ) → 0 < reader → hold_of story.state reader ≡ On slot size → index < slot_room story.state.shape
-      → place_of (operation story.state event) ≡ content story.state.shape slot index → operation story.state event ≡ Load (content story.state.shape slot index)
+      → target_of (operation story.state event) ≡ content story.state.shape slot index → operation story.state event ≡ Load (content story.state.shape slot index)
   -- each caller's entries are those of its own events, in their order
   pub own : (caller : ℕ) → entries_of (tell story event).history caller
-      ≡ entries_of story.history caller ++ (if caller_of event == caller then unless (refusal story.state event) [] (told story.state event) else [])
+      ≡ entries_of story.history caller ++ (if caller_of_event event == caller then unless (refusal story.state event) [] (told story.state event) else [])
   pub justified : (counts : NoSlot) → EndsWithout story.state event counts → IsJustified story event counts
 
 -- the theorem on every schedule
@@ -157,6 +157,6 @@ SlotBound = (shape : Shape) (events : List Event) → IsShape shape → AllGiven
 abbrev pub RunGoesOn : Type 0
 RunGoesOn =
     (shape : Shape) (events : List Event) (event : Event) →
-    (run shape (events ++ event ∷ []) ≡ next (run shape events) event)
+    (run shape (events ++ event ∷ []) ≡ next_state (run shape events) event)
     × ((run shape events).shape ≡ shape)
     × ((story_of shape events).state ≡ run shape events)

@@ -14,12 +14,12 @@ use Rattle.nr_core.specs.States.{Arrive, Ask, Depart, Event, Go, Read, Start, St
 use Rattle.nr_words.specs.KeyWords.{naming}
 
 -- the word that the operation is on
-abbrev pub place_of : Operation → ℕ
-place_of (Load place) = place
-place_of (Add place amount) = place
-place_of (Or place bits) = place
-place_of (Store place word) = place
-place_of (Swap place word) = place
+abbrev pub target_of : Operation → ℕ
+target_of (Load place) = place
+target_of (Add place amount) = place
+target_of (Or place bits) = place
+target_of (Store place word) = place
+target_of (Swap place word) = place
 
 -- what the operation makes of the word that it finds
 abbrev pub becomes : Operation → ℕ → ℕ
@@ -37,7 +37,7 @@ pub record Memory : Type 0 where
 -- one operation more, on one word
 abbrev pub performed : Memory → Operation → Memory
 performed memory one = record {
-  cells = slice_set memory.cells (place_of one) (becomes one (slice_index memory.cells (place_of one)));
+  cells = slice_set memory.cells (target_of one) (becomes one (slice_index memory.cells (target_of one)));
   made = memory.made ++ one ∷ [];
 }
 

@@ -29,6 +29,6 @@ step_of rows Cancelled = ended reply.Cancelled
 step_of rows Worn = ended reply.Worn
 
 -- the same, or the refusal
-abbrev pub told : List Row → Result Outcome Refusal → Result Step Refusal
-told rows (Ok outcome) = Ok (step_of rows outcome)
-told rows (Err why) = Err why
+abbrev pub step_or_refusal : List Row → Result Outcome Refusal → Result Step Refusal
+step_or_refusal rows (Ok outcome) = Ok (step_of rows outcome)
+step_or_refusal rows (Err why) = Err why

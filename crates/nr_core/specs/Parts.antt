@@ -19,8 +19,8 @@ placed (stage.Searching poll) call rows got = Searching call rows poll
 placed (stage.Putting slot departed index) call rows got = Putting call rows slot departed index
 
 -- the state that the machine is in
-abbrev pub state_of : Machine → State
-state_of machine = record {
+abbrev pub machine_state : Machine → State
+machine_state machine = record {
   shape = record { keys = machine.layout.keys; slots = machine.layout.slots; readers = machine.readers; first_count = machine.first_count; first_number = machine.first_number; rows = machine.layout.rows };
   words = machine.words.cells;
   holds = machine.holds.items;

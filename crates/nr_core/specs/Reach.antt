@@ -27,13 +27,13 @@ RoomOf shape (On slot None) = slot < shape.slots
 RoomOf shape (On slot (Some size)) = (slot < shape.slots) × (2 * size < slot_room shape)
 
 -- what the writer's next step needs at its place
-abbrev pub RoomAt : State → Place → Type 0
-RoomAt state Idle = Unit {0}
-RoomAt state (Reading call slot got) = (slot < state.shape.slots) × (length got < slot_room state.shape)
-RoomAt state (Leaving at) = (at < state.shape.keys) × (length state.desk.retired < state.shape.slots)
-RoomAt state (Withdrawing at) = (at < state.shape.keys) × (number_at state.desk at < last_number)
-RoomAt state (Searching call rows poll) = (poll < length state.desk.retired) × ((retired_at state.desk poll).slot < state.shape.slots)
-RoomAt state (Putting call rows slot departed index) = (key_of call < state.shape.keys) × (length state.desk.retired < state.shape.slots) × (slot < state.shape.slots) × (length rows ≤ bound_of state.shape)
+abbrev pub RoomForStep : State → Place → Type 0
+RoomForStep state Idle = Unit {0}
+RoomForStep state (Reading call slot got) = (slot < state.shape.slots) × (length got < slot_room state.shape)
+RoomForStep state (Leaving at) = (at < state.shape.keys) × (length state.desk.retired < state.shape.slots)
+RoomForStep state (Withdrawing at) = (at < state.shape.keys) × (number_at state.desk at < last_number)
+RoomForStep state (Searching call rows poll) = (poll < length state.desk.retired) × ((retired_at state.desk poll).slot < state.shape.slots)
+RoomForStep state (Putting call rows slot departed index) = (key_of call < state.shape.keys) × (length state.desk.retired < state.shape.slots) × (slot < state.shape.slots) × (length rows ≤ bound_of state.shape)
 
 pub record HasRoom (state : State) : Type 0 where
   pub shape : IsShape state.shape
@@ -43,4 +43,4 @@ pub record HasRoom (state : State) : Type 0 where
   pub few : length state.desk.retired ≤ state.shape.slots
   pub numbers : length state.desk.numbers ≡ state.shape.keys
   pub within : (at : ℕ) → at < state.shape.keys → number_at state.desk at ≤ last_number
-  pub place : RoomAt state state.desk.place
+  pub place : RoomForStep state state.desk.place

@@ -6,9 +6,9 @@ use Rattle.nr_core.specs.declared.shape.Shape.{Shape}
 use Rattle.nr_core.specs.Sums.{below, only}
 use Rattle.nr_words.specs.declared.layout.Layout.{Layout}
 use Rattle.nr_words.specs.KeyWords.{is_filled, slot_of}
-use Rattle.nr_words.specs.Opening as new_map
+use Rattle.nr_words.specs.Opening.{opening_words}
 use Rattle.nr_words.specs.Places.{Departures, Content, place_of}
-use Rattle.nr_words.specs.SetWords.{encode, content_words as words_of_rows}
+use Rattle.nr_words.specs.SetWords.{encode, content_words}
 
 -- how many rows a key may have
 abbrev pub bound_of : Shape → ℕ
@@ -16,7 +16,7 @@ bound_of shape = shape.rows
 
 -- how many content words a slot has, and where its words stand; a key's word stands at the key's number
 abbrev pub slot_room : Shape → ℕ
-slot_room shape = words_of_rows (bound_of shape)
+slot_room shape = content_words (bound_of shape)
 
 abbrev pub layout : Shape → Layout
 layout shape = record { keys = shape.keys; slots = shape.slots; rows = shape.rows }
@@ -28,8 +28,8 @@ abbrev pub content : Shape → ℕ → ℕ → ℕ
 content shape slot index = place_of (layout shape) (Content slot index)
 
 -- the words at opening: every key a hole with the first number, every slot's departures the first count
-abbrev pub opening_words : Shape → List ℕ
-opening_words shape = new_map.opening_words (layout shape) shape.first_count shape.first_number
+abbrev pub words_at_opening : Shape → List ℕ
+words_at_opening shape = opening_words (layout shape) shape.first_count shape.first_number
 
 -- 0 for a word that is not filled, else 1 more than its slot
 abbrev pub name_number : ℕ → ℕ
@@ -44,8 +44,8 @@ abbrev pub unused : ℕ → ℕ → ℕ
 unused slot fresh = cond (nat_le fresh slot) 1 0
 
 -- a slot's content words
-abbrev pub content_words : Shape → List ℕ → ℕ → List ℕ
-content_words shape words slot = take (slot_room shape) (drop (content shape slot 0) words)
+abbrev pub slot_content : Shape → List ℕ → ℕ → List ℕ
+slot_content shape words slot = take (slot_room shape) (drop (content shape slot 0) words)
 
 -- the slot's content words are those of the row set
 abbrev pub SlotSpells : Shape → List ℕ → ℕ → List Row → Type 0

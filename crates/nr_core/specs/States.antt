@@ -9,7 +9,7 @@ use Rattle.nr_core.specs.declared.places.Place.TheVariants.{Idle}
 use Rattle.nr_core.specs.declared.places.Retired.{Retired}
 use Rattle.nr_core.specs.declared.roles.Desk.{Desk}
 use Rattle.nr_core.specs.declared.operation.Operation.{Operation}
-use Rattle.nr_core.specs.Slots.{opening_words}
+use Rattle.nr_core.specs.Slots.{words_at_opening}
 
 -- the words in their layout, what the readers 1, 2, .. hold, the writer's desk, and the operations that were made on the words, oldest first
 pub record State : Type 0 where
@@ -23,8 +23,8 @@ pub record State : Type 0 where
 abbrev pub opening_desk : Shape → Desk
 opening_desk shape = record { place = Idle; fresh = 0; retired = []; numbers = replicate shape.keys shape.first_number }
 
-abbrev pub opening : Shape → State
-opening shape = record { shape = shape; words = opening_words shape; holds = replicate shape.readers Nothing; desk = opening_desk shape; made = [] }
+abbrev pub opening_state : Shape → State
+opening_state shape = record { shape = shape; words = words_at_opening shape; holds = replicate shape.readers Nothing; desk = opening_desk shape; made = [] }
 
 -- one attempt of one caller; readers are counted from 1
 pub data Event : Type 0 where

@@ -14,14 +14,14 @@ use Rattle.nr_words.specs.declared.key_words.TheConstants.{ARRIVE}
 use Rattle.nr_words.specs.SetWords.{encode}
 use Rattle.nr_core.specs.Sums.{total}
 use Rattle.nr_core.specs.Sizes.{IsShape}
-use Rattle.nr_core.specs.Slots.{bound_of, departures, content, opening_words}
+use Rattle.nr_core.specs.Slots.{bound_of, departures, content, words_at_opening}
 use Rattle.nr_core.specs.States.{key_of, opening_desk}
 use Rattle.nr_core.specs.Operations.{going}
 use Rattle.nr_core.specs.Refusals.{if_not_busy}
 use Rattle.nr_core.specs.Laws.{IsGivenCall}
 use Rattle.nr_core.specs.Roles.{is_reader, readers_from}
 use Rattle.nr_core.specs.Core.{Core}
-use Rattle.nr_core.specs.Steps.{CanStep, Arrives, Asks, ReadsHeld, Departs, Looks, Goes, Learns}
+use Rattle.nr_core.specs.Steps.{CanStep, Arrives, Asks, ReadsHeld, Departs, Looks, Goes, LoadsWord}
 
 -- a reader that holds nothing arrives at a key, or asks for it
 abbrev pub ArriveLaw : Type 0
@@ -47,11 +47,11 @@ GoLaw = (shape : Shape) (id : ℕ) (desk : Desk) → if_not_busy desk.place ≡ 
 
 -- any caller loads a word, and only learns
 abbrev pub LearnLaw : Type 0
-LearnLaw = (shape : Shape) (id : ℕ) (role : Role) (place : ℕ) → CanStep shape id role (Load place) (Learns role)
+LearnLaw = (shape : Shape) (id : ℕ) (role : Role) (place : ℕ) → CanStep shape id role (Load place) (LoadsWord role)
 
 -- the opening words are a core state of a writer and any number of readers that hold nothing
 abbrev pub OpeningLaw : Type 0
-OpeningLaw = (shape : Shape) → IsShape shape → (readers : ℕ) → readers ≤ shape.readers → Core shape (opening_words shape) (Writer (opening_desk shape) ∷ readers_from 0 readers) []
+OpeningLaw = (shape : Shape) → IsShape shape → (readers : ℕ) → readers ≤ shape.readers → Core shape (words_at_opening shape) (Writer (opening_desk shape) ∷ readers_from 0 readers) []
 
 -- one reader more, or one note more, changes nothing for the others
 abbrev pub SeatLaw : Type 0

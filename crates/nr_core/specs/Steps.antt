@@ -17,7 +17,7 @@ use Rattle.nr_core.specs.declared.roles.Desk.{Desk}
 use Rattle.nr_words.specs.KeyWords.{is_filled, has_ask, slot_of}
 use Rattle.nr_words.specs.SetWords.{encode}
 use Rattle.nr_core.specs.Slots.{bound_of, name_number}
-use Rattle.nr_core.specs.Operations.{place_of, becomes}
+use Rattle.nr_core.specs.Operations.{target_of, becomes}
 use Rattle.nr_core.specs.declared.operation.Operation.{Operation}
 use Rattle.nr_core.specs.Writer.{looked, went}
 use Rattle.nr_core.specs.Story.{entry, call_of, ending, ending_at}
@@ -32,13 +32,13 @@ Telling = ℕ → Role → List Entry → Type 0
 pub record Stepped (shape : Shape) (words : List ℕ) (roles : List Role) (log : List Entry) (id : ℕ) (role : Role) (operation : Operation) (tells : Telling) : Type 0 where
   pub after : Role
   pub entries : List Entry
-  pub core : Core shape (slice_set words (place_of operation) (becomes operation (slice_index words (place_of operation)))) (slice_set roles id after) (log ++ entries)
+  pub core : Core shape (slice_set words (target_of operation) (becomes operation (slice_index words (target_of operation)))) (slice_set roles id after) (log ++ entries)
   -- it is the same caller, of the same kind, and the entries are its own
   pub same : (caller : ℕ) → is_by caller after ≡ is_by caller role
   pub writer : is_writer after ≡ is_writer role
   pub reader : is_reader after ≡ is_reader role
   pub own : (caller : ℕ) → entries_of entries caller ≡ cond (is_by caller role) entries []
-  pub told : tells (slice_index words (place_of operation)) after entries
+  pub told : tells (slice_index words (target_of operation)) after entries
 
 abbrev pub CanStep : Shape → ℕ → Role → Operation → Telling → Type 0
 CanStep shape id role operation tells =
@@ -73,5 +73,5 @@ abbrev pub Goes : Shape → Desk → Telling
 Goes shape desk word after entries = (after ≡ Writer (went shape desk desk.place word).0) × (entries ≡ ending_at desk.place (went shape desk desk.place word).1)
 
 -- a load that only learns
-abbrev pub Learns : Role → Telling
-Learns role word after entries = (after ≡ role) × (entries ≡ [])
+abbrev pub LoadsWord : Role → Telling
+LoadsWord role word after entries = (after ≡ role) × (entries ≡ [])

@@ -6,7 +6,7 @@ use Rattle.nr_model.specs.declared.calls.Reply.{Reply}
 use Rattle.nr_model.specs.declared.states.KeyState.{KeyState}
 use Rattle.nr_model.specs.declared.states.KeyState.TheVariants as key
 use Rattle.nr_model.specs.Maps.{PartialMap, find_reply, ask_reply}
-use Rattle.nr_model.specs.Maps.{opening as map_opening}
+use Rattle.nr_model.specs.Maps.{opening}
 use Rattle.nr_model.specs.Histories.{Entry, after}
 use Rattle.nr_core.specs.declared.shape.Shape.{Shape}
 use Rattle.nr_core.specs.declared.calls.WriterCall.{WriterCall}
@@ -19,16 +19,16 @@ use Rattle.nr_core.specs.declared.places.Hold.TheVariants.{Nothing, On}
 use Rattle.nr_core.specs.declared.places.Place.{Place}
 use Rattle.nr_core.specs.declared.places.Place.TheVariants.{Idle, Reading, Leaving, Withdrawing, Searching, Putting}
 use Rattle.nr_words.specs.KeyWords.{is_filled, has_ask, slot_of, same_count}
-use Rattle.nr_core.specs.Slots.{bound_of, content_words}
-use Rattle.nr_core.specs.States.{Arrive, Ask, Depart, Event, Go, Read, Start, State, number_at, opening, retired_at, word}
+use Rattle.nr_core.specs.Slots.{bound_of, slot_content}
+use Rattle.nr_core.specs.States.{Arrive, Ask, Depart, Event, Go, Read, Start, State, number_at, opening_state, retired_at, word}
 use Rattle.nr_words.specs.SetWords.{decode}
 use Rattle.nr_core.specs.Refusals.{refusal}
 use Rattle.nr_core.specs.Writer.{looked, went}
-use Rattle.nr_core.specs.Machine.{found_by, unless, next}
+use Rattle.nr_core.specs.Machine.{found_by, unless, next_state}
 
 -- the map at opening, and the map that a history leaves
 abbrev pub opening_map : Shape → PartialMap
-opening_map shape = map_opening shape.keys (bound_of shape) shape.first_number
+opening_map shape = opening shape.keys (bound_of shape) shape.first_number
 
 abbrev pub map_after : Shape → List Entry → PartialMap
 map_after shape history = after (opening_map shape) history
@@ -37,7 +37,7 @@ map_after shape history = after (opening_map shape) history
 abbrev pub shown : State → ℕ → Option KeyState
 shown state at =
     (if is_filled (word state at)
-    then option_map (λ rows. key.Rows (number_at state.desk at) rows) (decode (content_words state.shape state.words (slot_of (word state at))))
+    then option_map (λ rows. key.Rows (number_at state.desk at) rows) (decode (slot_content state.shape state.words (slot_of (word state at))))
     else Some (if has_ask (word state at) then key.Asked (slot_of (word state at)) else key.Hole (slot_of (word state at))))
 
 abbrev pub call_of : WriterCall → Call
@@ -126,13 +126,13 @@ pub record Story : Type 0 where
 -- the story with one event more
 abbrev pub tell : Story → Event → Story
 tell story event = record {
-  state = next story.state event;
+  state = next_state story.state event;
   history = story.history ++ unless (refusal story.state event) [] (told story.state event);
   polls = unless (refusal story.state event) story.polls (polls_after story.state story.polls event);
 }
 
 abbrev pub beginning : Shape → Story
-beginning shape = record { state = opening shape; history = []; polls = [] }
+beginning shape = record { state = opening_state shape; history = []; polls = [] }
 
 abbrev pub story_of : Shape → List Event → Story
 story_of shape events = fold tell (beginning shape) events

@@ -6,8 +6,8 @@
 //! content words of one row set.
 //!
 //! A reader arrives with one addition to its key's word. It finds the slot that the word names and
-//! is counted there in the same operation (`gripped`), so it holds the slot: it reads the set word by
-//! word (`read_hold`) and departs with one addition to the slot's departure word. It never waits.
+//! is counted there in the same operation (`arrive_hold`), so it holds the slot: it reads the set word
+//! by word (`read_hold`) and departs with one addition to the slot's departure word. It never waits.
 //!
 //! The writer never changes a set in place. A call looks at its key (`looked`); where it needs a
 //! slot it takes the next free one, or polls the retired ones, oldest first (`settled`, `polled`).

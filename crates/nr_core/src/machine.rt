@@ -20,7 +20,7 @@ use std::alloc::{AllocError, Global};
 
 /// The words of the map, what the readers 1, 2, .. hold, and where the writer is: its place in its
 /// call, the slots that no key names, and the number of each key. Contracts see it as a state
-/// (`state_of`).
+/// (`machine_state`).
 ///
 /// The place is kept in parts (`placed`). The stage is numbers alone, and changes at each step. The
 /// call, the set that it puts and the words that it has read have room for a whole set each, so
@@ -47,15 +47,15 @@ pub struct Machine {
 
 impl Machine {
     ghost use Rattle.std.specs.Prelude.{IfOk};
-    ghost use Rattle.nr_core.specs.States.{opening, hold_of, number_at};
-    ghost use Rattle.nr_core.specs.Parts.{state_of};
+    ghost use Rattle.nr_core.specs.States.{opening_state, hold_of, number_at};
+    ghost use Rattle.nr_core.specs.Parts.{machine_state};
     ghost use Rattle.nr_core.specs.Reach.{HasRoom, RoomOf};
 
     /// The state in which a map opens, with all the room that its steps need.
     pub fn open(alloc: Global, shape: &Shape) -> Result<Machine, AllocError>
         requires rows { shape.now.rows ≤ MAX_ROWS }
         requires number { shape.now.first_number ≤ last_number }
-        ensures { IfOk result (λ machine. state_of machine ≡ opening shape.now) }
+        ensures { IfOk result (λ machine. machine_state machine ≡ opening_state shape.now) }
     {
         let layout = Layout {
             keys: shape.keys,
@@ -82,7 +82,7 @@ impl Machine {
 
     /// How many rows a key may have.
     pub fn rows(&self) -> u32
-        ensures { result ≡ (state_of self.now).shape.rows }
+        ensures { result ≡ (machine_state self.now).shape.rows }
     {
         self.layout.rows
     }
@@ -91,18 +91,18 @@ impl Machine {
     pub fn number(&self, key: u32) -> u64
         requires listed { length self.now.spare.numbers ≡ self.now.layout.keys }
         requires key { key < self.now.layout.keys }
-        ensures { result ≡ number_at (state_of self.now).desk key }
+        ensures { result ≡ number_at (machine_state self.now).desk key }
     {
         self.spare.number(key)
     }
 
     /// What the reader holds.
     fn hold(&self, reader: u32) -> Hold
-        requires room { HasRoom (state_of self.now) }
+        requires room { HasRoom (machine_state self.now) }
         requires low { 0 < reader }
         requires high { reader ≤ self.now.readers }
-        ensures value { result ≡ hold_of (state_of self.now) reader }
-        ensures room { RoomOf (state_of self.now).shape result }
+        ensures value { result ≡ hold_of (machine_state self.now) reader }
+        ensures room { RoomOf (machine_state self.now).shape result }
     {
         self.holds[reader as usize - 1]
     }

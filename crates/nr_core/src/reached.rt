@@ -6,8 +6,8 @@ ghost use Rattle.nr_model.specs.declared.seq_map.TheConstants.{MAX_KEYS};
 ghost use Rattle.nr_core.specs.Sizes.{IsBadShape};
 ghost use Rattle.nr_core.specs.declared.shape.TheConstants.{MAX_READERS, MAX_SLOTS};
 ghost use Rattle.nr_core.specs.Story.{call_of, shown};
-ghost use Rattle.nr_core.specs.States.{opening, number_at, Arrive, Read, Depart, Ask, Start, Go};
-ghost use Rattle.nr_core.specs.Machine.{next, arrive_answer, read_answer, depart_answer, ask_answer, start_answer, go_answer};
+ghost use Rattle.nr_core.specs.States.{opening_state, number_at, Arrive, Read, Depart, Ask, Start, Go};
+ghost use Rattle.nr_core.specs.Machine.{next_state, arrive_answer, read_answer, depart_answer, ask_answer, start_answer, go_answer};
 ghost use Rattle.nr_model.specs.Sizes.{IsBadSize};
 
 use crate::calls::{Arrived, AskReply, Refusal, Step, WriterCall};
@@ -30,14 +30,14 @@ pub struct Core {
 
 impl Model for Core {
     ghost use Rattle.nr_core.specs.States.{State};
-    ghost use Rattle.nr_core.specs.Parts.{state_of};
+    ghost use Rattle.nr_core.specs.Parts.{machine_state};
     ghost use Rattle.nr_core.specs.Reach.{Reached};
 
     ghost Value = { State };
 
-    ghost view = { λ core. state_of core.machine };
+    ghost view = { λ core. machine_state core.machine };
 
-    ghost invariant = { λ core. ∥ Reached (state_of core.machine) ∥₁ };
+    ghost invariant = { λ core. ∥ Reached (machine_state core.machine) ∥₁ };
 }
 
 impl Core {
@@ -53,7 +53,7 @@ impl Core {
     ) -> Result<Core, OpenFault>
         ensures bad_size { (result ≡ Err OpenFault.BadSize)
             ↔ (IsBadSize MAX_KEYS keys ⊎ IsBadSize MAX_SLOTS slots ⊎ IsBadSize MAX_READERS readers) }
-        ensures ok { IfOk result (λ core. core ≡ opening (record {
+        ensures ok { IfOk result (λ core. core ≡ opening_state (record {
           keys = keys;
           slots = slots;
           readers = readers;
@@ -78,7 +78,7 @@ impl Core {
     /// refused (`BadSize`), and then want of memory (`Memory`).
     pub fn open_with(alloc: Global, shape: &Shape) -> Result<Core, OpenFault>
         ensures bad_size { (result ≡ Err OpenFault.BadSize) ↔ IsBadShape shape.now }
-        ensures ok { IfOk result (λ core. core ≡ opening shape.now) }
+        ensures ok { IfOk result (λ core. core ≡ opening_state shape.now) }
     {
         if shape.is_bad() {
             return Err(OpenFault::BadSize);
@@ -115,7 +115,7 @@ impl Core {
     /// (`OutOfRange`), and then where the reader holds a slot (`Holding`).
     pub fn arrive(&mut self, reader: u32, key: u32) -> Result<Arrived, Refusal>
         ensures answer { result ≡ arrive_answer self.old reader key }
-        ensures new { self.new ≡ next self.old (Arrive reader key) }
+        ensures new { self.new ≡ next_state self.old (Arrive reader key) }
     {
         self.machine.arrive(reader, key)
     }
@@ -125,7 +125,7 @@ impl Core {
     /// index is 0 or, once word 0 was read in this hold, at most twice that number (`OutOfRange`).
     pub fn read(&mut self, reader: u32, index: u64) -> Result<u64, Refusal>
         ensures answer { result ≡ read_answer self.old reader index }
-        ensures new { self.new ≡ next self.old (Read reader index) }
+        ensures new { self.new ≡ next_state self.old (Read reader index) }
     {
         self.machine.read(reader, index)
     }
@@ -134,7 +134,7 @@ impl Core {
     /// where there is no such reader (`OutOfRange`), and then where it holds nothing (`NotHolding`).
     pub fn depart(&mut self, reader: u32) -> Result<(), Refusal>
         ensures answer { result ≡ depart_answer self.old reader }
-        ensures new { self.new ≡ next self.old (Depart reader) }
+        ensures new { self.new ≡ next_state self.old (Depart reader) }
     {
         self.machine.depart(reader)
     }
@@ -143,7 +143,7 @@ impl Core {
     /// reader or key (`OutOfRange`), and then where the reader holds a slot (`Holding`).
     pub fn ask(&mut self, reader: u32, key: u32) -> Result<AskReply, Refusal>
         ensures answer { result ≡ ask_answer self.old reader key }
-        ensures new { self.new ≡ next self.old (Ask reader key) }
+        ensures new { self.new ≡ next_state self.old (Ask reader key) }
     {
         self.machine.ask(reader, key)
     }
@@ -154,7 +154,7 @@ impl Core {
     pub fn start(&mut self, call: &WriterCall) -> Result<Step, Refusal>
         requires fits { FillFits self.old.shape.rows (call_of call.now) }
         ensures answer { result ≡ start_answer self.old call.now }
-        ensures new { self.new ≡ next self.old (Start call.now) }
+        ensures new { self.new ≡ next_state self.old (Start call.now) }
     {
         let outcome = self.machine.start(call)?;
         // most steps go on: they are answered here, before there is room for a set
@@ -169,7 +169,7 @@ impl Core {
     /// (`NotBusy`).
     pub fn go(&mut self) -> Result<Step, Refusal>
         ensures answer { result ≡ go_answer self.old }
-        ensures new { self.new ≡ next self.old Go }
+        ensures new { self.new ≡ next_state self.old Go }
     {
         let outcome = self.machine.go(&mut self.found)?;
         if let Outcome::Going = outcome {

@@ -8,17 +8,17 @@ use Rattle.nr_lines.specs.declared.input.Input.{Input}
 use Rattle.nr_lines.specs.Lines.{HasNoFeed, line_feed}
 use Rattle.nr_lines.specs.declared.line.Line.{Line}
 use Rattle.nr_lines.specs.declared.input.LineEnd.TheVariants as ends
-use Rattle.nr_lines.specs.Input.{pending, unread, allowance, Holds, Refills, TakesByte, TakesLine}
+use Rattle.nr_lines.specs.Input.{pending_bytes, unread, allowance, StandsFor, Refills, TakesByte, TakesLine}
 
 -- with nothing pending, what is unread is what the reader has left
-pub unread_none : (input : Input) (left : Option (List ℕ)) → pending input ≡ [] → unread input left ≡ left
+pub unread_none : (input : Input) (left : Option (List ℕ)) → pending_bytes input ≡ [] → unread input left ≡ left
 unread_none input left none = ap (λ bs. prepend_known bs left) none ∙ prepend_known-nil left
 
-pub kept_none : (old new : Input) (had left : Option (List ℕ)) → pending old ≡ [] → pending new ≡ [] → Keeps had left → Consumes (unread old had) (unread new left) []
+pub kept_none : (old new : Input) (had left : Option (List ℕ)) → pending_bytes old ≡ [] → pending_bytes new ≡ [] → Keeps had left → Consumes (unread old had) (unread new left) []
 kept_none old new had left p q kept =
     rw (unread_none old had p, unread_none new left q) (Consumes-kept had had left [] (Consumes-nil had) kept)
 
-pub refill_fault : (old new : Input) (had left : Option (List ℕ)) (fault : RunFault) → pending old ≡ []
+pub refill_fault : (old new : Input) (had left : Option (List ℕ)) (fault : RunFault) → pending_bytes old ≡ []
     → Refills old new had left (Err fault) → TakesByte old new had left (Err fault)
 refill_fault old new had left faults.Read none given = ([], kept_none old new had left none given.1 given.0, (refl, given.1))
 refill_fault old new had left faults.TooMuch none (last, one, taken, all, p) =
@@ -31,7 +31,7 @@ pub record PartTaken (old new : Input) (had left : Option (List ℕ)) (line : Li
   pub taken : List ℕ
   pub consumes : Consumes (unread old had) (unread new left) taken
   pub no_feed : HasNoFeed taken
-  pub held : Holds line taken
+  pub held : StandsFor line taken
   pub count : allowance old ≡ allowance new + length taken
 
 pub HasNoFeed-push : (bs : List ℕ) (b : ℕ) → HasNoFeed bs → b ≢ line_feed → HasNoFeed (bs ++ b ∷ [])
@@ -74,7 +74,7 @@ line_ended old mid new had at left line b part (got, consumed, told) feed =
 -- one more byte of a line
 pub line_more : (old mid new : Input) (had at left : Option (List ℕ)) (line next : Line) (b : ℕ)
     → (part : PartTaken old mid had at line) → TakesByte mid new at left (Ok (Some b)) → b ≢ line_feed
-    → Holds next (part.taken ++ b ∷ []) → PartTaken old new had left next
+    → StandsFor next (part.taken ++ b ∷ []) → PartTaken old new had left next
 line_more old mid new had at left line next b part (got, consumed, told) other held =
     let (one, count) = told in
     record {

@@ -10,8 +10,8 @@ use Rattle.nr_lines.specs.declared.input.LineEnd.{LineEnd}
 use Rattle.nr_lines.specs.declared.input.LineEnd.TheVariants as ends
 use Rattle.nr_lines.specs.declared.line.Line.{Line}
 use Rattle.nr_lines.specs.Lines.{line_feed, lines, ended_lines}
-use Rattle.nr_lines.specs.Text.{text, after}
-use Rattle.nr_lines.specs.Input.{pending, unread, allowance, Holds, TakesLine}
+use Rattle.nr_lines.specs.Text.{text, after_lines}
+use Rattle.nr_lines.specs.Input.{pending_bytes, unread, allowance, StandsFor, TakesLine}
 use Rattle.nr_lines.specs.Output.{IsCutShort, SendsReply}
 use Rattle.nr_lines.specs.Run.{Runs, ReadWhole}
 use Rattle.nr_lines.proofs.InputLemmas.{unread_none}
@@ -25,7 +25,7 @@ module _ {S : Type 0} (answer : S → List ℕ → List ℕ × S) (start : S) wh
     pub done : List (List ℕ)
     pub consumes : Consumes had (unread input left) taken
     pub appends : Appends held holds (text answer start done)
-    pub state_is : state ≡ after answer start done
+    pub state_is : state ≡ after_lines answer start done
     pub ended : (more : List ℕ) → ended_lines (taken ++ more) ≡ done ++ ended_lines more
     pub cut : (more : List ℕ) → lines (taken ++ more) ≡ done ++ lines more
     pub count : length taken + allowance input ≡ limit
@@ -38,7 +38,7 @@ module _ {S : Type 0} (answer : S → List ℕ → List ℕ × S) (start : S) wh
   unread_taken (Some x) (Some y) bs more p = p ∙ sym (append_assoc bs more y)
 
   -- a line's reply is cut short
-  text_cut : (state : S) (done : List (List ℕ)) (line : List ℕ) (more : List (List ℕ)) (sent : List ℕ) → state ≡ after answer start done
+  text_cut : (state : S) (done : List (List ℕ)) (line : List ℕ) (more : List (List ℕ)) (sent : List ℕ) → state ≡ after_lines answer start done
       → IsCutShort ((answer state line).0 ++ line_feed ∷ []) sent
       → IsCutShort (text answer start (done ++ line ∷ more)) (text answer start done ++ sent)
   text_cut state done line more sent same (rest, split, missing) =
@@ -53,7 +53,7 @@ module _ {S : Type 0} (answer : S → List ℕ → List ℕ × S) (start : S) wh
         rw (length-append rest others) (omega (arith, missing)),
       )
 
-  text_more : (state : S) (done : List (List ℕ)) (line : List ℕ) → state ≡ after answer start done
+  text_more : (state : S) (done : List (List ℕ)) (line : List ℕ) → state ≡ after_lines answer start done
       → text answer start (done ++ line ∷ []) ≡ text answer start done ++ ((answer state line).0 ++ line_feed ∷ [])
   text_more state done line same =
       text-append answer start done (line ∷ [])
@@ -61,10 +61,10 @@ module _ {S : Type 0} (answer : S → List ℕ → List ℕ × S) (start : S) wh
       ∙ ap (λ l. text answer start done ++ l) (append-nil ((answer state line).0 ++ line_feed ∷ []))
 
   module _ (limit : ℕ) (old new : Input) (had at left held holds : Option (List ℕ)) (state : S) (lines_left : ℕ) (line : Line) (so_far : Answered limit old had at held holds state lines_left) where
-    whole : (got : List ℕ) → Consumes (unread old at) (unread new left) got → Consumes had left ((so_far.taken ++ got) ++ pending new)
-    whole got consumed = unread_taken had left (so_far.taken ++ got) (pending new) (Consumes-trans _ _ _ so_far.taken got so_far.consumes consumed)
+    whole : (got : List ℕ) → Consumes (unread old at) (unread new left) got → Consumes had left ((so_far.taken ++ got) ++ pending_bytes new)
+    whole got consumed = unread_taken had left (so_far.taken ++ got) (pending_bytes new) (Consumes-trans _ _ _ so_far.taken got so_far.consumes consumed)
 
-    whole_none : (got : List ℕ) → pending new ≡ [] → Consumes (unread old at) (unread new left) got → Consumes had left (so_far.taken ++ got)
+    whole_none : (got : List ℕ) → pending_bytes new ≡ [] → Consumes (unread old at) (unread new left) got → Consumes had left (so_far.taken ++ got)
     whole_none got none consumed = rw (← unread_none new left none) (Consumes-trans _ _ _ so_far.taken got so_far.consumes consumed)
 
     -- a fault while a line is read
@@ -111,15 +111,15 @@ module _ {S : Type 0} (answer : S → List ℕ → List ℕ × S) (start : S) wh
 
     -- the line that was read is one of those that were read whole
     read_whole : (end : LineEnd) → end ≢ ends.NoLine → TakesLine old new at left line (Ok end)
-        → (taken : List ℕ) × (bytes : List ℕ) × (more : List (List ℕ)) × Consumes had left taken × Holds line bytes × ReadWhole taken left (so_far.done ++ bytes ∷ more)
+        → (taken : List ℕ) × (bytes : List ℕ) × (more : List (List ℕ)) × Consumes had left taken × StandsFor line bytes × ReadWhole taken left (so_far.done ++ bytes ∷ more)
     read_whole ends.NoLine some line_taken = absurd (some refl)
     read_whole ends.LineFeed some (got, consumed, told) =
         let (bytes, no_feed, split, held, count) = told in
-        let same : (so_far.taken ++ got) ++ pending new ≡ so_far.taken ++ (bytes ++ line_feed ∷ pending new) =
-        append_assoc so_far.taken got (pending new) ∙ ap (λ l. so_far.taken ++ (l ++ pending new)) split
-        ∙ ap (λ l. so_far.taken ++ l) (append_assoc bytes (line_feed ∷ []) (pending new)) in
-        let cut = ap ended_lines same ∙ so_far.ended (bytes ++ line_feed ∷ pending new) ∙ ap (λ l. so_far.done ++ l) (ended_lines-ended bytes (pending new) no_feed) in
-        ((so_far.taken ++ got) ++ pending new, bytes, ended_lines (pending new), whole got consumed, held, inl (sym cut))
+        let same : (so_far.taken ++ got) ++ pending_bytes new ≡ so_far.taken ++ (bytes ++ line_feed ∷ pending_bytes new) =
+        append_assoc so_far.taken got (pending_bytes new) ∙ ap (λ l. so_far.taken ++ (l ++ pending_bytes new)) split
+        ∙ ap (λ l. so_far.taken ++ l) (append_assoc bytes (line_feed ∷ []) (pending_bytes new)) in
+        let cut = ap ended_lines same ∙ so_far.ended (bytes ++ line_feed ∷ pending_bytes new) ∙ ap (λ l. so_far.done ++ l) (ended_lines-ended bytes (pending_bytes new) no_feed) in
+        ((so_far.taken ++ got) ++ pending_bytes new, bytes, ended_lines (pending_bytes new), whole got consumed, held, inl (sym cut))
     read_whole ends.InputEnd some (got, consumed, told) =
         let (no_feed, long, held, count, spent) = told in
         let cut = so_far.cut got ∙ ap (λ l. so_far.done ++ l) (lines-some got no_feed long) in
@@ -131,7 +131,7 @@ module _ {S : Type 0} (answer : S → List ℕ → List ℕ × S) (start : S) wh
         let (taken, bytes, more, consumed, line_held, read) = read_whole end some line_taken in
         (taken, text answer start so_far.done, consumed, so_far.appends, (so_far.done, bytes, more, read, refl))
 
-    module _ (next : S) (reply : List ℕ) (last : Option (List ℕ)) (gives : (bytes : List ℕ) → Holds line bytes → answer state bytes ≡ (reply, next)) where
+    module _ (next : S) (reply : List ℕ) (last : Option (List ℕ)) (gives : (bytes : List ℕ) → StandsFor line bytes → answer state bytes ≡ (reply, next)) where
       -- a line's reply that was cut short, or for whose line feed there was no memory
       pub ends_sending : (end : LineEnd) (fault : RunFault) → end ≢ ends.NoLine → TakesLine old new at left line (Ok end)
           → SendsReply {X = Unit {0}} holds last reply (Err fault) → Runs (text answer start) limit (Err fault) had left held last

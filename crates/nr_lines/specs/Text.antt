@@ -8,6 +8,6 @@ text answer state [] = []
 text answer state (line ∷ more) = ((answer state line).0 ++ line_feed ∷ []) ++ text answer (answer state line).1 more
 
 -- the state after these lines
-abbrev pub after : {S : Type 0} → (S → List ℕ → List ℕ × S) → S → List (List ℕ) → S
-after answer state [] = state
-after answer state (line ∷ more) = after answer (answer state line).1 more
+abbrev pub after_lines : {S : Type 0} → (S → List ℕ → List ℕ × S) → S → List (List ℕ) → S
+after_lines answer state [] = state
+after_lines answer state (line ∷ more) = after_lines answer (answer state line).1 more

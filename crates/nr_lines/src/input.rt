@@ -1,6 +1,6 @@
 //! The bytes of a reader, taken a line at a time, and no more of them than a limit.
 ghost use Rattle.std.specs.Prelude.{◌≡◌, []};
-ghost use Rattle.nr_lines.specs.Input.{pending, allowance, TakesByte, TakesLine, Refills, Probes};
+ghost use Rattle.nr_lines.specs.Input.{pending_bytes, allowance, TakesByte, TakesLine, Refills, Probes};
 
 use crate::fault::RunFault;
 use crate::line::Line;
@@ -37,7 +37,7 @@ pub(crate) struct Input {
 impl Input {
     /// An input of at most `limit` bytes.
     pub(crate) fn new(limit: u64) -> Input
-        ensures nothing { pending result ≡ [] }
+        ensures nothing { pending_bytes result ≡ [] }
         ensures all { allowance result ≡ limit }
     {
         Input {
@@ -84,7 +84,7 @@ impl Input {
 
     /// Reads once, when nothing is pending, and answers whether bytes came.
     fn refill<R: Read>(&mut self, reader: &mut R) -> Result<bool, RunFault>
-        requires { pending self.old ≡ [] }
+        requires { pending_bytes self.old ≡ [] }
         ensures { Refills self.old self.new (R.remaining reader.old) (R.remaining reader.new) result }
     {
         self.at = 0;

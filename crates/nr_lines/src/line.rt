@@ -17,10 +17,10 @@ pub(crate) struct Line {
 }
 
 impl Line {
-    ghost use Rattle.nr_lines.specs.Input.{Holds};
+    ghost use Rattle.nr_lines.specs.Input.{StandsFor};
 
     pub(crate) fn new() -> Line
-        ensures { Holds result [] }
+        ensures { StandsFor result [] }
     {
         Line {
             bytes: [0; LINE_LIMIT],
@@ -30,14 +30,14 @@ impl Line {
     }
 
     pub(crate) fn clear(&mut self)
-        ensures { Holds self.new [] }
+        ensures { StandsFor self.new [] }
     {
         self.len = 0;
         self.is_too_long = false;
     }
 
     pub(crate) fn push(&mut self, byte: u8)
-        ensures { (bytes : List ℕ) → Holds self.old bytes → Holds self.new (bytes ++ byte ∷ []) }
+        ensures { (bytes : List ℕ) → StandsFor self.old bytes → StandsFor self.new (bytes ++ byte ∷ []) }
     {
         if self.is_too_long {
             return;
@@ -51,14 +51,14 @@ impl Line {
     }
 
     pub(crate) fn is_empty(&self) -> bool
-        ensures { (bytes : List ℕ) → Holds self.now bytes → (IsTrue result ↔ (bytes ≡ [])) }
+        ensures { (bytes : List ℕ) → StandsFor self.now bytes → (IsTrue result ↔ (bytes ≡ [])) }
     {
         !self.is_too_long && self.len == 0
     }
 
     /// The line's bytes, where it is plain: not too long, not empty, and all printed.
     pub(crate) fn plain(&self) -> Option<&[u8]>
-        ensures text { (bytes : List ℕ) → Holds self.now bytes → MatchOption result (is_plain bytes ≡ false) (λ text. text.now ≡ bytes) }
+        ensures text { (bytes : List ℕ) → StandsFor self.now bytes → MatchOption result (is_plain bytes ≡ false) (λ text. text.now ≡ bytes) }
         ensures plain { IfSome result (λ text. is_plain text.now ≡ true) }
     {
         if self.is_too_long || self.len == 0 {

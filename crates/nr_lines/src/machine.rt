@@ -1,6 +1,6 @@
 //! Whatever answers lines, and its run from a reader to a writer.
 ghost use Rattle.std.specs.Prelude.{ℕ, ◌+◌, ◌<◌, ◌≤◌, List, OnOk, IfErr, ◌≡◌, true, string_bytes};
-ghost use Rattle.nr_lines.specs.Input.{Holds};
+ghost use Rattle.nr_lines.specs.Input.{StandsFor};
 ghost use Rattle.nr_lines.specs.Plain.{is_plain, or_bad};
 ghost use Rattle.nr_lines.specs.Run.{Runs};
 ghost use Rattle.nr_lines.specs.Text.{text};
@@ -49,7 +49,7 @@ fn reply_to<M: Machine>(
     reply: &mut String,
 ) -> Result<(), RunFault>
     requires { 0 < M.lines_left machine.old }
-    ensures reply { OnOk result ((bytes : List ℕ) → Holds line.now bytes → or_bad M.answer (M.state_of machine.old) bytes ≡ (string_bytes reply.new, M.state_of machine.new)) }
+    ensures reply { OnOk result ((bytes : List ℕ) → StandsFor line.now bytes → or_bad M.answer (M.state_of machine.old) bytes ≡ (string_bytes reply.new, M.state_of machine.new)) }
     ensures left { OnOk result (M.lines_left machine.old ≤ M.lines_left machine.new + 1) }
     ensures fault { IfErr result (λ fault. fault ≡ RunFault.Memory) }
 {

@@ -4,7 +4,7 @@ use Rattle.std.specs.List.{count_by}
 use Rattle.nr_model.specs.Histories.{Entry, IsLegal, after, entries_of}
 use Rattle.nr_model.specs.Laws.{pending}
 use Rattle.nr_core.specs.Sums.{total}
-use Rattle.nr_map.specs.Callers.{Caller, Table, opening_map}
+use Rattle.nr_map.specs.Callers.{Caller, Table, map_at_opening}
 use Rattle.nr_map.specs.Entries.{AreCallers}
 use Rattle.nr_map.specs.Rounds.{EntriesAreCallers, is_cancel, is_fill, is_sent}
 use Rattle.nr_serve.specs.Hands.{capped}
@@ -40,12 +40,12 @@ accounts entries t w w' rs rs' asked own told stays each =
     let table : knower.table ≡ t = told.table ∙ stays.table ∙ own in
     record {
       history = knower.seen;
-      legal = subst (λ (x : Table). IsLegal (opening_map x) knower.seen) table told.knows.legal;
+      legal = subst (λ (x : Table). IsLegal (map_at_opening x) knower.seen) table told.knows.legal;
       callers = subst (λ (x : Table). AreCallers x.shape knower.seen) table told.knows.callers;
       writes = ap (entries_of knower.seen) (sym told.knows.number) ∙ told.knows.own ∙ told.mine ∙ stays.mine;
       reads = λ at other low.
           let inside : at < length rs' = omega (arith, low, each.0) in
           ap (entries_of knower.seen) (sym (told.knows.numbers at other inside)) ∙ told.knows.each at other inside ∙ (each.1 at other low).mine;
       counts = λ test. entries knower rs' test told.knows ∙ ap (λ (l : List Entry). count_by test l + total (λ (r : Caller). count_by test r.mine) rs') told.mine ∙ all_stay test w w' rs rs' stays each;
-      pends = told.exact ∙ ap (λ (x : Table). total pending (after (opening_map x) knower.seen).states) table;
+      pends = told.exact ∙ ap (λ (x : Table). total pending (after (map_at_opening x) knower.seen).states) table;
     }

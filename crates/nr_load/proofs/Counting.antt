@@ -10,7 +10,7 @@ use Rattle.nr_model.specs.declared.calls.Call.TheVariants as call
 use Rattle.nr_model.specs.declared.calls.Reply.{Reply}
 use Rattle.nr_model.specs.declared.calls.Reply.TheVariants as reply
 use Rattle.nr_model.specs.Histories.{Entry, is_done, is_send}
-use Rattle.nr_model.specs.Maps.{key_of}
+use Rattle.nr_model.specs.Maps.{call_key}
 use Rattle.nr_core.specs.Story.{entry}
 use Rattle.nr_map.specs.Rounds.{is_cancel, is_fill, is_sent}
 use Rattle.nr_trigger.specs.declared.post.Upquery.{Upquery}
@@ -35,7 +35,7 @@ tells_both keys es fs s f t g one two = record {
   cancelled = omega (arith, count-append is_cancel es fs, one.cancelled, two.cancelled);
 }
 
-pub tells_one : (keys : ℕ) (e : Entry) (s f : ℕ) → key_of e.call < keys → one (is_sent e) ≡ s → one (is_fill e) ≡ f → one (is_cancel e) ≡ 0 → Tells keys (e ∷ []) s f
+pub tells_one : (keys : ℕ) (e : Entry) (s f : ℕ) → call_key e.call < keys → one (is_sent e) ≡ s → one (is_fill e) ≡ f → one (is_cancel e) ≡ 0 → Tells keys (e ∷ []) s f
 tells_one keys e s f low sends fills cancels = record {
   near = (low, tt);
   sent = omega (arith, count_by-cons is_sent e [], sends);

@@ -20,7 +20,7 @@ use Rattle.nr_load.specs.Drawn.{stream_of}
 use Rattle.nr_load.specs.Ends.{Ended}
 use Rattle.nr_load.specs.Gained.{Tells}
 use Rattle.nr_load.specs.Outcomes.{Serves, ServesFirst, answered_in, made_in, reader_of, sends_in}
-use Rattle.nr_load.specs.Reports.{ComesTo, IsAccount, MakesAll, shape_of}
+use Rattle.nr_load.specs.Reports.{ComesTo, IsAccount, MakesAll, shape_of_plan}
 use Rattle.nr_load.specs.Works.{Works}
 use Rattle.nr_load.proofs.Accounting.{all_sent, few_answered, new_writer, writer_filled}
 use Rattle.nr_load.proofs.Settling.{served_made}
@@ -59,7 +59,7 @@ total_answered : (os : List Outcome) → total (λ count. count) (map answered_o
 total_answered [] = refl
 total_answered (o ∷ os) = omega (arith, total_answered os)
 
-module _ (t : Table) (plan : Plan) (joined : Joined) (e : Ended t plan.seed plan.gets joined) (sizes : t.shape ≡ shape_of plan) where
+module _ (t : Table) (plan : Plan) (joined : Joined) (e : Ended t plan.seed plan.gets joined) (sizes : t.shape ≡ shape_of_plan plan) where
   readers_are : t.shape.readers ≡ plan.readers
   readers_are = ap (λ (s : Shape). s.readers) sizes
 

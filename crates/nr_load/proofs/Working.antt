@@ -7,7 +7,7 @@ use Rattle.nr_serve.specs.declared.hands.Hands.{Hands}
 use Rattle.nr_serve.specs.declared.answers.Got.{Got}
 use Rattle.nr_serve.specs.declared.answers.Got.TheVariants.{Rows, GaveUp, Barred}
 use Rattle.nr_load.specs.Drawn.{drawn, drawn_on}
-use Rattle.nr_load.specs.Works.{answers, MayFollow, GoesOn, GetsKey, Works}
+use Rattle.nr_load.specs.Works.{answers, MayFollow, MayGoOn, GetsKey, Works}
 
 -- whatever gets follow, they go on these
 abbrev pub Begins : ℕ → ℕ → ℕ → Lcg → ℕ → Hands → Hands → Lcg → Type 0
@@ -19,7 +19,7 @@ begins tries keys g old n a end h w =
     let b : a ≡ 0 + a = omega arith in
     subst (λ (i : ℕ). Works tries keys i g (0 + a) old end h) m (subst (λ (i : ℕ). Works tries keys n g i old end h) b w)
 
-follows : (got : Got) (n : ℕ) → GoesOn got → MayFollow got n
+follows : (got : Got) (n : ℕ) → MayGoOn got → MayFollow got n
 follows Barred n none = absurd none
 follows Rows n on = tt
 follows GaveUp n on = tt
@@ -36,7 +36,7 @@ ends tries keys made g answered old now g' begun =
     let a : answered + 0 ≡ answered = omega arith in
     subst (λ (i : ℕ). Works tries keys i g answered old now g') m (subst (λ (i : ℕ). Works tries keys (made + 0) g i old now g') a (begun 0 0 now g' (refl, refl, refl)))
 
-pub goes_on : (tries keys made : ℕ) (g : Lcg) (answered : ℕ) (old now mid : Hands) (g' : Lcg) (got : Got) → Begins tries keys made g answered old now g' → GetsKey tries (drawn keys g') now got mid → GoesOn got
+pub goes_on : (tries keys made : ℕ) (g : Lcg) (answered : ℕ) (old now mid : Hands) (g' : Lcg) (got : Got) → Begins tries keys made g answered old now g' → GetsKey tries (drawn keys g') now got mid → MayGoOn got
     → Begins tries keys (made + 1) g (answered + answers got) old mid (drawn_on g')
 goes_on tries keys made g answered old now mid g' got begun gets on n a end h w =
     let m : made + suc n ≡ made + 1 + n = omega arith in
@@ -59,6 +59,6 @@ answers_one Rows = omega arith
 answers_one GaveUp = omega arith
 
 -- without a fault it may go on
-pub faultless : {A : Type 0} (fault : Option A) (got : Got) → MatchOption fault (GoesOn got) (λ f. Unit {0}) → is_some fault ≡ false → GoesOn got
+pub faultless : {A : Type 0} (fault : Option A) (got : Got) → MatchOption fault (MayGoOn got) (λ f. Unit {0}) → is_some fault ≡ false → MayGoOn got
 faultless None got on none = on
 faultless (Some f) got on none = absurd (cc)

@@ -30,5 +30,5 @@ abbrev pub first_of : Option LoadFault → Option LoadFault → (is_whole is_all
 first_of one other is_whole is_all = earlier (earlier (earlier one other) (if is_whole then None else Some faults.Thread)) (if is_all then None else Some faults.WrongRows)
 
 -- the fault that is told of a load that was to make so many gets
-abbrev pub told : ℕ → Joined → Option LoadFault
-told gets joined = first_of (earliest None joined.outcomes.items) joined.flowed.fault joined.is_whole (made_in joined.outcomes.items == gets)
+abbrev pub fault_told : ℕ → Joined → Option LoadFault
+fault_told gets joined = first_of (earliest None joined.outcomes.items) joined.flowed.fault joined.is_whole (made_in joined.outcomes.items == gets)

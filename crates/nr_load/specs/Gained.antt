@@ -2,14 +2,14 @@
 use Rattle.std.specs.Prelude.{◌≡◌, ◌<◌, ℕ, List, [], ◌∷◌, ◌++◌}
 use Rattle.std.specs.List.{count_by}
 use Rattle.nr_model.specs.Histories.{Entry}
-use Rattle.nr_model.specs.Maps.{key_of}
+use Rattle.nr_model.specs.Maps.{call_key}
 use Rattle.nr_map.specs.Callers.{Caller}
 use Rattle.nr_map.specs.Rounds.{is_cancel, is_fill, is_sent}
 
 -- each call is of a key below that number
 abbrev pub AreNear : ℕ → List Entry → Type 0
 AreNear keys [] = Unit {0}
-AreNear keys (entry ∷ entries) = (key_of entry.call < keys) × AreNear keys entries
+AreNear keys (entry ∷ entries) = (call_key entry.call < keys) × AreNear keys entries
 
 -- so many requests were to be sent, so many fills were done, and no request was cancelled
 pub record Tells (keys : ℕ) (entries : List Entry) (sends fills : ℕ) : Type 0 where

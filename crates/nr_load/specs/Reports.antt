@@ -7,7 +7,7 @@ use Rattle.nr_model.specs.Laws.{pending}
 use Rattle.nr_core.specs.declared.shape.Shape.{Shape}
 use Rattle.nr_core.specs.Sums.{total}
 use Rattle.nr_marks.specs.Marks.{no_marks}
-use Rattle.nr_map.specs.Callers.{Caller, Table, opening_map}
+use Rattle.nr_map.specs.Callers.{Caller, Table, map_at_opening}
 use Rattle.nr_map.specs.Entries.{AreCallers}
 use Rattle.nr_map.specs.Opened.{newcomer}
 use Rattle.nr_map.specs.Rounds.{is_fill, is_sent}
@@ -20,18 +20,18 @@ use Rattle.nr_load.specs.Gained.{Tells}
 use Rattle.nr_load.specs.Works.{Works}
 
 -- the sizes of a load's map
-abbrev pub shape_of : Plan → Shape
-shape_of plan = record { keys = plan.keys; slots = plan.keys + plan.readers + 1; readers = plan.readers; first_count = 0; first_number = 0; rows = 15 }
+abbrev pub shape_of_plan : Plan → Shape
+shape_of_plan plan = record { keys = plan.keys; slots = plan.keys + plan.readers + 1; readers = plan.readers; first_count = 0; first_number = 0; rows = 15 }
 
 -- one legal history of the map has exactly the calls of this writer and of these readers, and leaves so many keys asked
 pub record IsAccount (map : Table) (writer : Caller) (readers : List Caller) (asked : ℕ) : Type 0 where
   pub history : List Entry
-  pub legal : IsLegal (opening_map map) history
+  pub legal : IsLegal (map_at_opening map) history
   pub callers : AreCallers map.shape history
   pub writes : entries_of history 0 ≡ writer.mine
   pub reads : (at : ℕ) (other : Caller) → at < length readers → entries_of history (at + 1) ≡ (slice_index_or readers at other).mine
   pub counts : (test : Entry → Bool) → count_by test history ≡ of_all test writer readers
-  pub pends : asked ≡ total pending (after (opening_map map) history).states
+  pub pends : asked ≡ total pending (after (map_at_opening map) history).states
 
 -- a new reader made all its gets, of the keys that its own generator drew; so many were answered, and these are all its calls
 pub record MakesAll (plan : Plan) (map : Table) (number answered : ℕ) (calls : List Entry) : Type 0 where
@@ -46,9 +46,9 @@ pub record MakesAll (plan : Plan) (map : Table) (number answered : ℕ) (calls :
 -- the report is of one legal history of a new map, in which each reader made all its gets, and the writer requested and cancelled nothing and did all fills
 pub record ComesTo (plan : Plan) (report : LoadReport) : Type 0 where
   pub map : Table
-  pub sizes : map.shape ≡ shape_of plan
+  pub sizes : map.shape ≡ shape_of_plan plan
   pub history : List Entry
-  pub legal : IsLegal (opening_map map) history
+  pub legal : IsLegal (map_at_opening map) history
   pub callers : AreCallers map.shape history
   -- how many gets of each reader were answered
   pub answers : List ℕ
@@ -60,5 +60,5 @@ pub record ComesTo (plan : Plan) (report : LoadReport) : Type 0 where
   pub few : report.answered ≤ report.gets
   pub sends : report.sends ≡ count_by is_sent history
   pub fills : report.fills ≡ count_by is_fill history
-  pub asked : report.asked ≡ total pending (after (opening_map map) history).states
+  pub asked : report.asked ≡ total pending (after (map_at_opening map) history).states
   pub balance : report.sends ≡ report.fills + report.asked

@@ -19,10 +19,10 @@ MayFollow Barred more = more ≡ 0
 MayFollow Rows more = Unit {0}
 MayFollow GaveUp more = Unit {0}
 
-abbrev pub GoesOn : Got → Type 0
-GoesOn Barred = ⊥
-GoesOn Rows = Unit {0}
-GoesOn GaveUp = Unit {0}
+abbrev pub MayGoOn : Got → Type 0
+MayGoOn Barred = ⊥
+MayGoOn Rows = Unit {0}
+MayGoOn GaveUp = Unit {0}
 
 -- one get of the key, whatever its rows were
 pub record GetsKey (tries key : ℕ) (old : Hands) (got : Got) (new : Hands) : Type 0 where

@@ -1,6 +1,6 @@
 //! The thread of the dataflow.
 ghost use Rattle.std.specs.Prelude.{◌≡◌, ◌≢◌, ◌<◌, ◌≤◌, ◌+◌, ℕ, Err};
-ghost use Rattle.nr_serve.specs.Flows.{HasRoom};
+ghost use Rattle.nr_map.specs.SlotBounds.{HasRoomForAll};
 ghost use Rattle.nr_serve.specs.Hands.{capped};
 ghost use Rattle.nr_load.specs.Flowed.{Flows};
 ghost use Rattle.nr_load.specs.Gained.{Gained};
@@ -34,7 +34,7 @@ enum Turned {
 // What becomes of a key after a fill: at each fourth one it is evicted, else its row is changed.
 fn change(flow: &mut Dataflow<'_, Base>, key: u32, fills: u64) -> Result<(), UpdateFault>
     requires key { key < flow.old.map.shape.keys }
-    requires room { HasRoom flow.old.map }
+    requires room { HasRoomForAll flow.old.map }
     ensures gained { Gained flow.old.map.shape.keys flow.old.writer flow.new.writer 0 0 }
     ensures places { (flow.new.map ≡ flow.old.map) × (flow.new.queue ≡ flow.old.queue) }
     ensures found_slot { (counts : NoSlot) → result ≢ Err (UpdateFault.NoSlot counts) }
@@ -50,7 +50,7 @@ fn change(flow: &mut Dataflow<'_, Base>, key: u32, fills: u64) -> Result<(), Upd
 }
 
 fn turn_once<R: Wait>(rt: &R, flow: &mut Dataflow<'_, Base>, fills: &mut u64) -> Turned
-    requires room { HasRoom flow.old.map }
+    requires room { HasRoomForAll flow.old.map }
     ensures gained { (count : ℕ) × Gained flow.old.map.shape.keys flow.old.writer flow.new.writer 0 count × (fills.new ≡ capped (fills.old + count)) }
     ensures places { (flow.new.map ≡ flow.old.map) × (flow.new.queue ≡ flow.old.queue) }
 {

@@ -1,7 +1,7 @@
 //! A worker's gets.
 ghost use Rattle.std.specs.Prelude.{◌≡◌, ◌≤◌, MatchOption, None, false};
 ghost use Rattle.nr_load.specs.Drawn.{drawn, drawn_on};
-ghost use Rattle.nr_load.specs.Works.{answers, GoesOn, GetsKey, Works};
+ghost use Rattle.nr_load.specs.Works.{answers, MayGoOn, GetsKey, Works};
 
 use crate::draws::Draws;
 use crate::fault::LoadFault;
@@ -51,7 +51,7 @@ fn answers_of(got: Got) -> u32
 
 // The fault of a get that ended so, with wrong rows or not.
 fn fault_of(got: Got, is_wrong: bool) -> Option<LoadFault>
-    ensures { MatchOption result (GoesOn got) (λ _. Unit {0}) }
+    ensures { MatchOption result (MayGoOn got) (λ _. Unit {0}) }
 {
     match got {
         Got::Barred => Some(LoadFault::Barred),

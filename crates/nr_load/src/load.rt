@@ -4,10 +4,10 @@ ghost use Rattle.nr_map.specs.Rounds.{is_cancel, is_fill, is_sent};
 ghost use Rattle.nr_serve.specs.Hands.{capped};
 ghost use Rattle.nr_tally.specs.Balance.{of_all};
 ghost use Rattle.nr_tally.specs.Rounds.{IsInOrder};
-ghost use Rattle.nr_load.specs.Ends.{Ended, first_of, told};
+ghost use Rattle.nr_load.specs.Ends.{Ended, first_of, fault_told};
 ghost use Rattle.nr_load.specs.Handed.{HasRoomFor};
 ghost use Rattle.nr_load.specs.Outcomes.{answered_in, earliest, made_in, reader_of, sends_in};
-ghost use Rattle.nr_load.specs.Reports.{ComesTo, IsAccount, shape_of};
+ghost use Rattle.nr_load.specs.Reports.{ComesTo, IsAccount, shape_of_plan};
 
 use crate::base::Base;
 use crate::fault::{LoadFault, earlier};
@@ -192,10 +192,10 @@ fn settle(
     room: Vec<Reader>,
 ) -> Result<LoadReport, LoadFault>
     requires ended { Ended map.now plan.now.seed plan.now.gets joined }
-    requires sizes { map.now.shape ≡ shape_of plan.now }
+    requires sizes { map.now.shape ≡ shape_of_plan plan.now }
     requires readers { (0 < plan.now.readers) × (plan.now.readers ≤ 1024) }
     requires room { (plan.now.readers ≤ vec_capacity room) × (vec_len room ≡ 0) }
-    ensures fault { MatchResult result (λ _. told (plan.now.readers * plan.now.gets) joined ≡ None) (λ fault. told (plan.now.readers * plan.now.gets) joined ≡ Some fault) }
+    ensures fault { MatchResult result (λ _. fault_told (plan.now.readers * plan.now.gets) joined ≡ None) (λ fault. fault_told (plan.now.readers * plan.now.gets) joined ≡ Some fault) }
     ensures report { IfOk result (ComesTo plan.now) }
 {
     let Joined {

@@ -1,6 +1,6 @@
 //! What all threads of a load share.
 ghost use Rattle.std.specs.Prelude.{◌<◌, ◌≤◌, ◌^◌};
-ghost use Rattle.nr_serve.specs.Flows.{HasRoom};
+ghost use Rattle.nr_map.specs.SlotBounds.{HasRoomForAll};
 
 use crate::load::Plan;
 use nr_map::ReaderMap;
@@ -18,7 +18,7 @@ pub(crate) struct Shared {
     pub(crate) triggers: Triggers,
     pub(crate) lobby: Lobby,
     ghost keys: { (0 < map.shape.keys) × (map.shape.keys ≤ 65536) },
-    ghost slots: { HasRoom map },
+    ghost slots: { HasRoomForAll map },
     ghost gets: { plan.gets < 2 ^ 32 },
 }
 

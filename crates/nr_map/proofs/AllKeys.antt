@@ -8,7 +8,7 @@ use Rattle.nr_model.specs.declared.states.KeyState.{KeyState}
 use Rattle.nr_model.specs.declared.states.KeyState.TheVariants as states
 use Rattle.nr_model.specs.Histories.{Entry, asks, cancels, cancels_key, fills, fills_key, is_cancelled, is_done, is_send, sends}
 use Rattle.nr_model.specs.Laws.{pending}
-use Rattle.nr_model.specs.Maps.{key_of, state_of}
+use Rattle.nr_model.specs.Maps.{call_key, state_of}
 use Rattle.nr_core.proofs.Histories.{length-now}
 use Rattle.nr_core.proofs.Sums.{below-change, below-first, below-same, below-sum, below-zero}
 use Rattle.nr_core.specs.declared.shape.Shape.{Shape}
@@ -21,22 +21,22 @@ use Rattle.nr_map.specs.Rounds.{BeginningsMeet, SendsOfAllKeys, is_cancel, is_fi
 use Rattle.nr_map.specs.Rule.{StartsWith}
 
 -- a test of one key's entries, for each key
-by_keys : (tests : ℕ → Entry → Bool) (shape : Shape) (log : List Entry) → ((key : ℕ) (e : Entry) → key ≢ key_of e.call → tests key e ≡ false) → AreCallers shape log
-    → below (λ key. count_by (tests key) log) shape.keys ≡ count_by (λ e. tests (key_of e.call) e) log
+by_keys : (tests : ℕ → Entry → Bool) (shape : Shape) (log : List Entry) → ((key : ℕ) (e : Entry) → key ≢ call_key e.call → tests key e ≡ false) → AreCallers shape log
+    → below (λ key. count_by (tests key) log) shape.keys ≡ count_by (λ e. tests (call_key e.call) e) log
 by_keys tests shape [] other all = below-zero shape.keys
 by_keys tests shape (e ∷ log) other all =
-    let f : ℕ → ℕ = λ key. count_by (tests key) log in let g : ℕ → ℕ = λ key. count_by (tests key) (e ∷ log) in let own : ℕ = key_of e.call in
+    let f : ℕ → ℕ = λ key. count_by (tests key) log in let g : ℕ → ℕ = λ key. count_by (tests key) (e ∷ log) in let own : ℕ = call_key e.call in
     let change = below-change f g shape.keys own all.0.0 (λ key isnt.
     let none : cond {A = ℕ} (tests key e) 1 0 ≡ 0 = ap (λ (b : Bool). cond {A = ℕ} b 1 0) (other key e isnt) in let more : g key ≡ cond {A = ℕ} (tests key e) 1 0 + f key = count_by-cons (tests key) e log in omega arith) in
     let here : g own ≡ cond (tests own e) 1 0 + f own = count_by-cons (tests own) e log in
-    omega (arith, change, here, by_keys tests shape log other all.1, count_by-cons (λ (x : Entry). tests (key_of x.call) x) e log)
+    omega (arith, change, here, by_keys tests shape log other all.1, count_by-cons (λ (x : Entry). tests (call_key x.call) x) e log)
 
 -- a sum over the keys' states
 by_states : (f : KeyState → ℕ) (l : List KeyState) → below (λ key. f (get_or l key (states.Hole 0))) (length l) ≡ total f l
 by_states f [] = refl
 by_states f (state ∷ l) = omega (arith, below-first (λ key. f (get_or (state ∷ l) key (states.Hole 0))) (length l), by_states f l)
 
-asks_other : (key : ℕ) (call : Call) (b : Bool) → key ≢ key_of call → (asks key call && b) ≡ false
+asks_other : (key : ℕ) (call : Call) (b : Bool) → key ≢ call_key call → (asks key call && b) ≡ false
 asks_other key (model.Find k) b other = refl
 asks_other key (model.Ask k) b other = ap (λ (a : Bool). a && b) (ne_eqb k key (λ e. other (sym e)))
 asks_other key (model.Fill k number rows) b other = refl
@@ -44,7 +44,7 @@ asks_other key (model.Update k batch) b other = refl
 asks_other key (model.Evict k) b other = refl
 asks_other key (model.Cancel k) b other = refl
 
-fills_other : (key : ℕ) (call : Call) (b : Bool) → key ≢ key_of call → (fills_key key call && b) ≡ false
+fills_other : (key : ℕ) (call : Call) (b : Bool) → key ≢ call_key call → (fills_key key call && b) ≡ false
 fills_other key (model.Find k) b other = refl
 fills_other key (model.Ask k) b other = refl
 fills_other key (model.Fill k number rows) b other = ap (λ (a : Bool). a && b) (ne_eqb k key (λ e. other (sym e)))
@@ -52,7 +52,7 @@ fills_other key (model.Update k batch) b other = refl
 fills_other key (model.Evict k) b other = refl
 fills_other key (model.Cancel k) b other = refl
 
-cancels_other : (key : ℕ) (call : Call) (b : Bool) → key ≢ key_of call → (cancels_key key call && b) ≡ false
+cancels_other : (key : ℕ) (call : Call) (b : Bool) → key ≢ call_key call → (cancels_key key call && b) ≡ false
 cancels_other key (model.Find k) b other = refl
 cancels_other key (model.Ask k) b other = refl
 cancels_other key (model.Fill k number rows) b other = refl

@@ -23,7 +23,7 @@ use Rattle.nr_map.specs.Meetings.{Gathers, Learns, Meets, desk_seen, how_is}
 use Rattle.nr_map.specs.Notes.{note_of, with_note}
 use Rattle.nr_map.specs.Rounds.{HasCalls, HasHeard, HasJustCalls}
 use Rattle.nr_map.specs.Rule.{StartsWith}
-use Rattle.nr_map.specs.Views.{View, desk_of, grip_of, number_of}
+use Rattle.nr_map.specs.Views.{View, desk_of, grip_of, caller_number}
 use Rattle.nr_core.specs.Core.{AreNumbers}
 use Rattle.nr_core.specs.Story.{map_after}
 
@@ -132,7 +132,7 @@ module _ (writer reader heard lent last told : MapSeat) (fresh : ℕ) (retired :
   back = subst (λ (r : Caller). Meets 3 r (token heard) (token told)) (same_token reader lent first.0 first.1) meets_back
 
   one_is : past number grip reader.me.0.marks ≡ how_is (token reader)
-  one_is = λ j. record { reader = number_of (sym reads j); count = reader.me.0.marks.acts; slot = gripped (grip_of (sym reads j)); put = reader.me.0.marks.put }
+  one_is = λ j. record { reader = caller_number (sym reads j); count = reader.me.0.marks.acts; slot = gripped (grip_of (sym reads j)); put = reader.me.0.marks.put }
 
   gathers_heard : Gathers (token writer) (token reader) (token heard) (token told)
   gathers_heard = let log = heard.me.0.seen in let learns = back.learns in let known = compares in record {

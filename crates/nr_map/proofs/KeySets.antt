@@ -8,13 +8,13 @@ use Rattle.nr_model.specs.declared.rows.Row.{Row}
 use Rattle.nr_model.specs.declared.states.KeyState.{KeyState}
 use Rattle.nr_model.specs.declared.states.KeyState.TheVariants as states
 use Rattle.nr_model.specs.Histories.{Entry, after, entries_of}
-use Rattle.nr_model.specs.Maps.{key_of, state_after, state_of}
+use Rattle.nr_model.specs.Maps.{call_key, state_after, state_of}
 use Rattle.nr_core.proofs.Histories.{of-append, state_other, state_same}
 use Rattle.nr_core.specs.Story.{map_after}
 use Rattle.nr_core.specs.declared.shape.Shape.{Shape}
 use Rattle.nr_map.proofs.Entries.{callers_before, callers_of_more}
 use Rattle.nr_map.specs.Answers.{KeyHad}
-use Rattle.nr_map.specs.Callers.{Caller, Grows, KnowsOwn, Table, opening_map}
+use Rattle.nr_map.specs.Callers.{Caller, Grows, KnowsOwn, Table, map_at_opening}
 use Rattle.nr_map.specs.Entries.{AreCallers, IsCallers, is_reading}
 use Rattle.nr_core.specs.Slots.{bound_of}
 
@@ -46,7 +46,7 @@ set_stays : (shape : Shape) (key number : ℕ) (rows : List Row) (log more : Lis
 set_stays shape key number rows log [] near callers none had = ap (λ (l : List Entry). state_of (map_after shape l) key) (append-nil log) ∙ had
 set_stays shape key number rows log (e ∷ more) near callers none had =
     let first = reads_first shape e more callers.0 none in
-    let now : state_of (map_after shape (log ++ e ∷ [])) key ≡ states.Rows number rows = dite (ℕ_discrete key (key_of e.call))
+    let now : state_of (map_after shape (log ++ e ∷ [])) key ≡ states.Rows number rows = dite (ℕ_discrete key (call_key e.call))
     (λ same. ap (state_of (map_after shape (log ++ e ∷ []))) same ∙ state_same shape log e (subst (λ (k : ℕ). k < shape.keys) same near) ∙ ap (state_after (bound_of shape) e.call) (ap (state_of (map_after shape log)) (sym same) ∙ had) ∙ reading_leaves (bound_of shape) e.call number rows first.0)
     (λ other. state_other shape log e key other ∙ had) in
     ap (λ (l : List Entry). state_of (map_after shape l) key) (sym (append_assoc log (e ∷ []) more)) ∙ set_stays shape key number rows (log ++ e ∷ []) more near callers.1 first.1 now
@@ -85,4 +85,4 @@ pub had_before : (shape : Shape) (key number : ℕ) (rows : List Row) (old mid n
     → (old.seen ++ all.between ≡ mid.seen ++ then.between) → mid.table ≡ old.table → state_of (map_after shape mid.seen) key ≡ states.Rows number rows → KeyHad key rows old all.between
 had_before shape key number rows old mid new steps after_steps entries mine sized near writes own ours then all same table had =
     let now = stays_between shape key number rows mid new after_steps entries (ap (λ (t : Table). t.shape) table ∙ sized) near writes own ours then had in
-    (number, ap (λ (l : List Entry). state_of (after (opening_map old.table) l) key) same ∙ ap (λ (s : Shape). state_of (map_after s (mid.seen ++ then.between)) key) sized ∙ now)
+    (number, ap (λ (l : List Entry). state_of (after (map_at_opening old.table) l) key) same ∙ ap (λ (s : Shape). state_of (map_after s (mid.seen ++ then.between)) key) sized ∙ now)

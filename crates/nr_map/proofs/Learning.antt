@@ -11,7 +11,7 @@ use Rattle.nr_core.proofs.Learn.{learns}
 use Rattle.nr_core.specs.Core.{ShowsState, AreNumbers}
 use Rattle.nr_core.specs.declared.operation.Operation.TheVariants.{Load}
 use Rattle.nr_core.specs.Roles.{is_by, is_reader, is_writer}
-use Rattle.nr_core.specs.Steps.{Learns}
+use Rattle.nr_core.specs.Steps.{LoadsWord}
 use Rattle.nr_core.specs.Story.{map_after, opening_map}
 use Rattle.nr_core.specs.declared.roles.Role.{Role}
 use Rattle.nr_core.specs.declared.roles.Role.TheVariants.{Note, Reader, Writer}
@@ -28,7 +28,7 @@ use Rattle.nr_map.specs.Kinds.{kind_of, kind_shown}
 use Rattle.nr_map.specs.Learning.{Learned, LearnsOf}
 use Rattle.nr_map.specs.Notes.{IsCaller}
 use Rattle.nr_map.specs.Rule.{Kept, marks_of, role_of}
-use Rattle.nr_map.specs.Views.{View, desk_of, grip_of, number_of}
+use Rattle.nr_map.specs.Views.{View, desk_of, grip_of, caller_number}
 use Rattle.nr_map.specs.declared.answers.KeyKind.{KeyKind}
 use Rattle.nr_map.specs.declared.answers.KeyKind.TheVariants as kind
 use Rattle.nr_core.proofs.Sums.{here_after}
@@ -37,7 +37,7 @@ use mathlib.Core.Option.{some}
 use Rattle.nr_core.specs.declared.roles.Desk.{Desk}
 
 -- a caller's own entries are told by its number
-pub caller_is : (role : Role) → IsCaller role → is_by (number_of role) role ≡ true
+pub caller_is : (role : Role) → IsCaller role → is_by (caller_number role) role ≡ true
 caller_is (Writer desk) call = refl
 caller_is (Reader reader grip) call = eq-eqb reader reader refl
 caller_is Note call = absurd (omega arith)
@@ -61,12 +61,12 @@ module _ (shape : Shape) (slots id : ℕ) (me : Me (Unit {0}) View) (at : ℕ) (
   view = me.0
 
   abbrev CanLearn : MarkTelling → Type 0
-  CanLearn notes = CanMark role_of marks_of shape id view view.told_pasts (Load at) (Learns view.role) notes
+  CanLearn notes = CanMark role_of marks_of shape id view view.told_pasts (Load at) (LoadsWord view.role) notes
 
   learns_by : (notes : MarkTelling) → CanLearn notes
       → ((word : ℕ) (after : Role) (log : List Entry) (now : Marks) (news : List Past) (next : View) → view.shape ≡ shape → next.seen ≡ log → ((desk : Desk) → view.role ≡ Writer desk → AreNumbers shape (map_after shape log) desk.numbers) → notes word after log now news → (now ≡ view.marks) × LearnsOf view.role view next news)
       → Allows (Kept shape) slots id me at (λ word. word) (λ found after. Learned at found view after.0)
-  learns_by notes can_learn tell = let tells = Learns view.role in
+  learns_by notes can_learn tell = let tells = LoadsWord view.role in
       lifts shape id view (Load at) tells notes slots me.1 (λ found next. Learned at found view next) view.told_pasts (learns shape id view.role at) can_learn (λ state kept there. kept.told_pasts id view there)
       (λ state kept there step marked. let found : ℕ = get_or state.words at 0 in let fits = kept.fits id view there in let sized = fits.sized call in
       let callers : AreCallers shape step.entries = subst (AreCallers shape) (sym step.told.1) tt in
@@ -76,15 +76,15 @@ module _ (shape : Shape) (slots id : ℕ) (me : Me (Unit {0}) View) (at : ℕ) (
       let grown = tell found step.after (kept.log ++ step.entries) marked.now marked.news next sized refl numbers marked.told in
       let own = learned_own shape kept.log view fits step.after step.same step.writer step.reader step.entries step.own in
       let acts : ActsGo view step.after step.entries marked.now = λ reads. let same_marks = ap (λ (m : Marks). m.acts) grown.0 in let hold = ap (λ r. to_depart (gripped (grip_of r))) step.told.0 in let none : acts_told step.entries ≡ 0 = ap acts_told step.told.1 in omega arith in
-      chosen shape id view (Load at) tells notes state kept there step marked (ap number_of step.told.0) sized callers acts (λ after. Learned at found view after) (record {
+      chosen shape id view (Load at) tells notes state kept there step marked (ap caller_number step.told.0) sized callers acts (λ after. Learned at found view after) (record {
         role = step.told.0;
         learns = λ table. record {
           table = refl;
-          number = ap number_of step.told.0;
+          number = ap caller_number step.told.0;
           seen = record { rest = fits.begins.rest; is = sym same ∙ fits.begins.is };
           mine = ap (λ (l : List Entry). view.mine ++ l) step.told.1 ∙ append-nil view.mine;
           legal = subst (λ (g : Shape). IsLegal (opening_map g) (kept.log ++ step.entries)) (sym sized) step.core.legal;
-          own = own (number_of step.after) (step.same (number_of step.after) ∙ ap (λ (n : ℕ). is_by n view.role) (ap number_of step.told.0) ∙ caller_is view.role call);
+          own = own (caller_number step.after) (step.same (caller_number step.after) ∙ ap (λ (n : ℕ). is_by n view.role) (ap caller_number step.told.0) ∙ caller_is view.role call);
           callers = subst (λ (p : Shape × List Entry). AreCallers p.0 p.1) (λ j. (sym sized j, same j)) kept.callers;
           steps_made = refl;
           fresh = ap (λ r. (desk_of r).fresh) step.told.0;

@@ -10,7 +10,7 @@ use Rattle.nr_core.proofs.Histories.{of-append}
 use Rattle.nr_core.proofs.Sums.{total-set, term_le, terms_le, at_set}
 use Rattle.nr_core.specs.Core.{Core}
 use Rattle.nr_core.specs.Roles.{is_by, is_reader, is_writer}
-use Rattle.nr_core.specs.Operations.{becomes, place_of}
+use Rattle.nr_core.specs.Operations.{becomes, target_of}
 use Rattle.nr_core.specs.declared.operation.Operation.{Operation}
 use Rattle.nr_core.specs.Steps.{CanStep, Stepped, Telling}
 use Rattle.nr_core.specs.Sums.{total}
@@ -74,11 +74,11 @@ module _ (shape : Shape) (id : ℕ) (view : View) (operation : Operation) (tells
 
   -- whatever the table is, the token has such a view
   abbrev pub Chooses : (ℕ → View → Type 0) → Type 0
-  Chooses then = (state : Table) (kept : Kept shape state) → get_elem? state.views id ≡ some view → (step : Step state kept) (marked : Marks state kept step) → Choice state kept step marked (then (get_or state.words (place_of operation) 0))
+  Chooses then = (state : Table) (kept : Kept shape state) → get_elem? state.views id ≡ some view → (step : Step state kept) (marked : Marks state kept step) → Choice state kept step marked (then (get_or state.words (target_of operation) 0))
 
   -- the rule after the step
   keeps_rule : (state : Table) (kept : Kept shape state) (carried : List (ℕ × Unit {0})) (then : View → Type 0) → get_elem? state.views id ≡ some view → (step : Step state kept) (marked : Marks state kept step) (choice : Choice state kept step marked then)
-      → Kept shape (stepped state (place_of operation) (becomes operation (get_or state.words (place_of operation) 0)) id carried choice.next keeps)
+      → Kept shape (stepped state (target_of operation) (becomes operation (get_or state.words (target_of operation) 0)) id carried choice.next keeps)
   keeps_rule state kept carried then at step marked choice =
       let views = state.views in let next = choice.next in let views' = set views id next in let log' = kept.log ++ step.entries in
       let there = at_map role_of views id view at in
@@ -88,7 +88,7 @@ module _ (shape : Shape) (id : ℕ) (view : View) (operation : Operation) (tells
       let same : counts caller step.after ≡ counts caller view.role = ap (λ y. cond y 1 0) (step.same caller) in
       omega (arith, ap (total (counts caller)) roles, total-set (counts caller) (map role_of views) id view.role step.after there) in record {
         log = log';
-        core = subst (λ (rs : List Role). Core shape (set state.words (place_of operation) (becomes operation (get_or state.words (place_of operation) 0))) rs log') (sym roles) step.core;
+        core = subst (λ (rs : List Role). Core shape (set state.words (target_of operation) (becomes operation (get_or state.words (target_of operation) 0))) rs log') (sym roles) step.core;
         fits = λ j u e. ⊎_elim
             (λ (t : (j ≡ id) × (next ≡ u)). subst (Fits shape log') t.1 choice.fits)
             (λ (t : (j ≢ id) × (get_elem? views j ≡ some u)). other_fits shape kept.log step.entries u (kept.fits j u t.1) (λ caller his. step.own caller ∙ ap (λ y. cond y step.entries []) (apart shape state kept id j view u caller at t.1 t.0 his)))
@@ -114,9 +114,9 @@ module _ (shape : Shape) (id : ℕ) (view : View) (operation : Operation) (tells
   -- Where the core can make a step and its marks go along, so can the token.
   pub lifts : (slots : ℕ) (carried : List (ℕ × Unit {0})) (then : ℕ → View → Type 0) (known : List Past) → CanStep shape id view.role operation tells → CanMark role_of marks_of shape id view known operation tells notes
       → ((state : Table) → Kept shape state → get_elem? state.views id ≡ some view → AllSince role_of marks_of state.views known) → Chooses then
-      → Allows (Kept shape) slots id (view, carried) (place_of operation) (becomes operation) (λ found after. then found after.0)
+      → Allows (Kept shape) slots id (view, carried) (target_of operation) (becomes operation) (λ found after. then found after.0)
   lifts slots carried then known can can_mark knows chooses state kept wide at small =
       let step = can state.words (map role_of state.views) kept.log kept.core (at_map role_of state.views id view at) in
       let marked = can_mark state.words state.views kept.log kept.core kept.marked kept.once at (knows state kept at) step.after step.entries step.told in
       let choice = chooses state kept at step marked in
-      (choice.next, keeps, tt, keeps_rule state kept carried (then (get_or state.words (place_of operation) 0)) at step marked choice, choice.told)
+      (choice.next, keeps, tt, keeps_rule state kept carried (then (get_or state.words (target_of operation) 0)) at step marked choice, choice.told)

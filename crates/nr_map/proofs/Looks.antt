@@ -35,9 +35,9 @@ use Rattle.nr_core.specs.declared.shape.Shape.{Shape}
 use Rattle.nr_map.proofs.Publishing.{knows_after}
 use Rattle.nr_map.proofs.Tokens.{grows_both}
 use Rattle.nr_map.specs.Answers.{HasNoSlot, KeyHad, Publishes, RetiresOne, SlotsStay}
-use Rattle.nr_map.specs.Callers.{Caller, Gains, Grows, KnowsOwn, Table, opening_map, token}
+use Rattle.nr_map.specs.Callers.{Caller, Gains, Grows, KnowsOwn, Table, map_at_opening, token}
 use Rattle.nr_core.specs.Spares.{Spare}
-use Rattle.nr_map.specs.Spares.{Took, desk_with, spare_of}
+use Rattle.nr_map.specs.Spares.{TookByPolls, desk_with, spare_of}
 use Rattle.nr_marks.specs.Marks.{Marks, Past, with_name, with_polls, without_name}
 use Rattle.nr_marks.specs.PollNotes.{Noted}
 use Rattle.nr_map.proofs.KeySets.{before_last, had_before, none_between}
@@ -48,7 +48,7 @@ use Rattle.nr_map.specs.Polls.{HeldThen}
 use Rattle.nr_model.proofs.LawLemmas.{legal_goes_on_lem}
 use Rattle.nr_core.proofs.Settle.{key_same}
 use Rattle.nr_core.specs.States.{key_of}
-use Rattle.nr_map.specs.Views.{desk_of, number_of}
+use Rattle.nr_map.specs.Views.{desk_of, caller_number}
 use Rattle.nr_map.specs.WriterSeats.{GoesOn, IsBetween, KeyHas, LacksSlot, LeadsIn, MapSeat, PublishesSet, RestsAt, Settles, WritesAt}
 use Rattle.nr_core.specs.Slots.{bound_of}
 

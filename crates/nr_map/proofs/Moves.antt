@@ -18,7 +18,7 @@ use Rattle.nr_map.specs.Rule.{Fits, Kept, marks_of, role_of}
 use Rattle.nr_map.proofs.Lift.{Choice}
 use Rattle.nr_map.proofs.Entries.{callers_both}
 use Rattle.nr_map.specs.Entries.{AreCallers, acts_at, acts_told, to_depart}
-use Rattle.nr_map.specs.Views.{View, grip_of, number_of}
+use Rattle.nr_map.specs.Views.{View, grip_of, caller_number}
 use Rattle.nr_core.specs.Story.{opening_map}
 
 -- the view after a step that learns the history so far and adds entries; after one that learns nothing
@@ -59,8 +59,8 @@ module _ (shape : Shape) (log : List Entry) (view : View) (fits : Fits shape log
     sized = λ l. fits.sized (omega arith);
   }
 
-  module _ (number : number_of after ≡ number_of view.role) (sized : view.shape ≡ shape) where
-    pub learned_advances : (entries : List Entry) (marks : Marks) (news : List Past) → news ≡ [] → is_by (number_of view.role) view.role ≡ true → ((caller : ℕ) → entries_of entries caller ≡ cond (is_by caller view.role) entries []) → IsLegal (opening_map shape) (log ++ entries) → AreCallers shape (log ++ entries)
+  module _ (number : caller_number after ≡ caller_number view.role) (sized : view.shape ≡ shape) where
+    pub learned_advances : (entries : List Entry) (marks : Marks) (news : List Past) → news ≡ [] → is_by (caller_number view.role) view.role ≡ true → ((caller : ℕ) → entries_of entries caller ≡ cond (is_by caller view.role) entries []) → IsLegal (opening_map shape) (log ++ entries) → AreCallers shape (log ++ entries)
         → Advances view entries (learned view after (log ++ entries) entries marks news)
     learned_advances entries marks news no_news caller own legal callers id = record {
       table = refl;
@@ -69,7 +69,7 @@ module _ (shape : Shape) (log : List Entry) (view : View) (fits : Fits shape log
       seen = ap (λ (l : List Entry). l ++ entries) fits.begins.is;
       mine = refl;
       legal = subst (λ (g : Shape). IsLegal (opening_map g) (log ++ entries)) (sym sized) legal;
-      own = learned_own entries own (number_of after) (same (number_of after) ∙ ap (λ (n : ℕ). is_by n view.role) number ∙ caller);
+      own = learned_own entries own (caller_number after) (same (caller_number after) ∙ ap (λ (n : ℕ). is_by n view.role) number ∙ caller);
       callers = subst (λ (g : Shape). AreCallers g (log ++ entries)) (sym sized) callers;
       steps_made = refl;
       pasts = ap (λ (l : List Past). l ++ view.pasts) no_news;
@@ -81,7 +81,7 @@ module _ (shape : Shape) (log : List Entry) (view : View) (fits : Fits shape log
 -- The two ways in which a step of the core becomes one of the token.
 module _ (shape : Shape) (id : ℕ) (view : View) (operation : Operation) (tells : Telling) (notes : MarkTelling) (state : State (Unit {0}) View) (kept : Kept shape state) (at : get_elem? state.views id ≡ some view)
     (step : Stepped shape state.words (map role_of state.views) kept.log id view.role operation tells) (marked : Remarked role_of marks_of shape state.words state.views kept.log id view operation step.after step.entries notes)
-    (same_number : number_of step.after ≡ number_of view.role) (sized : view.shape ≡ shape) (callers : AreCallers shape step.entries) (acts : ActsGo view step.after step.entries marked.now) where
+    (same_number : caller_number step.after ≡ caller_number view.role) (sized : view.shape ≡ shape) (callers : AreCallers shape step.entries) (acts : ActsGo view step.after step.entries marked.now) where
   -- the view of a token that learns the history so far, with the step's entries
   abbrev pub learned_next : View
   learned_next = learned view step.after (kept.log ++ step.entries) step.entries marked.now marked.news
@@ -99,7 +99,7 @@ module _ (shape : Shape) (id : ℕ) (view : View) (operation : Operation) (tells
     told = told;
   }
 
-  pub learning : (then : View → Type 0) → is_by (number_of view.role) view.role ≡ true → marked.news ≡ [] → (told : List Entry) → step.entries ≡ told
+  pub learning : (then : View → Type 0) → is_by (caller_number view.role) view.role ≡ true → marked.news ≡ [] → (told : List Entry) → step.entries ≡ told
       → (Advances view told learned_next → then learned_next) → Choice shape id view operation tells notes state kept step marked then
   learning then caller no_news told is tell = chosen then (tell (subst (λ (entries : List Entry). Advances view entries learned_next) is
       (learned_advances shape kept.log view (kept.fits id view at) step.after step.same step.writer step.reader same_number sized step.entries marked.now marked.news no_news caller step.own step.core.legal (callers_both shape kept.log step.entries kept.callers callers))))

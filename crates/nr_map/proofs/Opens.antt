@@ -9,7 +9,7 @@ use Rattle.nr_core.proofs.Opening.{core_opens}
 use Rattle.nr_core.specs.Core.{AreNumbers, ShowsState}
 use Rattle.nr_core.specs.Roles.{is_by}
 use Rattle.nr_core.specs.Sizes.{IsShape}
-use Rattle.nr_core.specs.Slots.{name_number, opening_words}
+use Rattle.nr_core.specs.Slots.{name_number, words_at_opening}
 use Rattle.nr_core.specs.declared.shape.Shape.{Shape}
 use Rattle.nr_marks.proofs.ListPlaces.{no_places}
 use Rattle.nr_marks.proofs.SeatMarks.{opens_marked}
@@ -25,11 +25,11 @@ only_one a zero b e = some-injective a b e
 only_one a (suc j) b e = absurd (some-ne-none b (sym e))
 
 -- no key names a slot
-none_named : (shape : Shape) → IsShape shape → (key : ℕ) → key < shape.keys → name_number (get_or (opening_words shape) key 0) ≡ 0
+none_named : (shape : Shape) → IsShape shape → (key : ℕ) → key < shape.keys → name_number (get_or (words_at_opening shape) key 0) ≡ 0
 none_named shape fits key near = let core = core_opens shape fits 0 (omega arith) in
-    (subst (ShowsState shape (opening_words shape) (get_or (opening_words shape) key 0)) (get_or-replicate shape.keys key (states.Hole shape.first_number) (states.Hole 0) near) (core.shows key near)).0
+    (subst (ShowsState shape (words_at_opening shape) (get_or (words_at_opening shape) key 0)) (get_or-replicate shape.keys key (states.Hole shape.first_number) (states.Hole 0) near) (core.shows key near)).0
 
-pub opens_so : (shape : Shape) → IsShape shape → Kept shape (opening (opening_words shape) [] (opener shape))
+pub opens_so : (shape : Shape) → IsShape shape → Kept shape (opening (words_at_opening shape) [] (opener shape))
 opens_so shape fits = let view = opener shape in
     let at_most : (y : Bool) → cond y 1 0 + 0 ≤ 1 = λ y. elim y as (λ z. cond z 1 0 + 0 ≤ 1) [ true ↦ omega arith | false ↦ omega arith ] in record {
       log = [];
@@ -41,7 +41,7 @@ opens_so shape fits = let view = opener shape in
       readers = refl;
       fresh = λ caller later. let none : cond (is_by caller view.role) 1 0 ≡ 0 = ap (λ (y : Bool). cond {A = ℕ} y 1 0) (ne_eqb 0 caller (λ e. omega arith)) in omega arith;
       silent = λ _ _. refl;
-      marked = opens_marked role_of marks_of shape (opening_words shape) view refl refl (none_named shape fits);
+      marked = opens_marked role_of marks_of shape (words_at_opening shape) view refl refl (none_named shape fits);
       pasts = λ place who there. subst (λ (v : View). AllSince role_of marks_of (view ∷ []) v.pasts) (only_one view place who there) (no_places (Since role_of marks_of (view ∷ [])));
       told_pasts = λ place who there. subst (λ (v : View). AllSince role_of marks_of (view ∷ []) v.told_pasts) (only_one view place who there) (no_places (Since role_of marks_of (view ∷ [])));
       maker = λ j u at w. ap (λ (y : View). y.made) (sym (only_one view j u at));

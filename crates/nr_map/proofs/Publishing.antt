@@ -13,21 +13,21 @@ use Rattle.nr_core.specs.declared.places.Place.TheVariants.{Idle, Putting}
 use Rattle.nr_core.specs.declared.roles.Desk.{Desk}
 use Rattle.nr_map.proofs.Tokens.{grows_both}
 use Rattle.nr_core.specs.declared.roles.Role.TheVariants.{Writer}
-use Rattle.nr_map.specs.Callers.{Caller, Grows, Table, opening_map, token}
+use Rattle.nr_map.specs.Callers.{Caller, Grows, Table, map_at_opening, token, IsSound}
 use Rattle.nr_map.specs.Entries.{AreCallers}
 use Rattle.nr_core.specs.Spares.{Spare}
-use Rattle.nr_map.specs.Spares.{Took, desk_with}
+use Rattle.nr_map.specs.Spares.{TookByPolls, desk_with}
 use Rattle.nr_marks.specs.Marks.{Marks, Past, with_name, with_polls}
 use Rattle.nr_marks.specs.MarkSteps.{PutsMarks}
 use Rattle.nr_map.specs.Plays.{SwapsOrPuts}
 use Rattle.nr_core.specs.States.{key_of}
-use Rattle.nr_map.specs.WriterSeats.{GoesOn, IsPutting, Knows, LeadsIn, MapSeat, PublishesSet, PutsTo, WritesAt}
+use Rattle.nr_map.specs.WriterSeats.{GoesOn, IsPutting, LeadsIn, MapSeat, PublishesSet, PutsTo, WritesAt}
 use Rattle.nr_core.specs.Slots.{content}
 use Rattle.nr_words.specs.SetWords.{encode}
 
 -- what the writer knows after a step is legal
-pub knows_after : (steps : ℕ) (old : Caller) (entries : List Entry) (new : Caller) → Grows steps old entries new → Knows new
-knows_after steps old entries new grows = record { legal = subst (λ (t : Table). IsLegal (opening_map t) new.seen) (sym grows.table) grows.legal; callers = subst (λ (t : Table). AreCallers t.shape new.seen) (sym grows.table) grows.callers; own = grows.own }
+pub knows_after : (steps : ℕ) (old : Caller) (entries : List Entry) (new : Caller) → Grows steps old entries new → IsSound new
+knows_after steps old entries new grows = record { legal = subst (λ (t : Table). IsLegal (map_at_opening t) new.seen) (sym grows.table) grows.legal; callers = subst (λ (t : Table). AreCallers t.shape new.seen) (sym grows.table) grows.callers; own = grows.own }
 
 -- so many words are put
 pub record PutSoFar (table : Table) (desk : Desk) (call : WriterCall) (rows : List Row) (slot departed : ℕ) (before after : MapSeat) (index : ℕ) : Type 0 where
@@ -49,7 +49,7 @@ module _ (table board : Table) (own : board ≡ table) (desk : Desk) (call : Wri
   }
 
 -- the swap that publishes the set
-pub published : (table : Table) (call : WriterCall) (rows : List Row) (spare mid_spare after_spare : Spare) (slot departed polls : ℕ) (before mid after : MapSeat) (found : ℕ) → Took slot polls spare mid_spare → polls ≤ table.shape.readers + 1 → mid_spare.slots ≡ spare.slots → mid_spare.numbers ≡ spare.numbers → mid.me.0.marks ≡ with_polls before.me.0.marks mid.me.0.marks.polls
+pub published : (table : Table) (call : WriterCall) (rows : List Row) (spare mid_spare after_spare : Spare) (slot departed polls : ℕ) (before mid after : MapSeat) (found : ℕ) → TookByPolls slot polls spare mid_spare → polls ≤ table.shape.readers + 1 → mid_spare.slots ≡ spare.slots → mid_spare.numbers ≡ spare.numbers → mid.me.0.marks ≡ with_polls before.me.0.marks mid.me.0.marks.polls
     → WritesAt table (desk_with mid_spare (Putting call rows slot departed (2 * length rows + 1))) mid → Grows (polls + (2 * length rows + 1)) (token before) [] (token mid) → GoesOn table found mid after
     → after_spare ≡ record mid_spare { retired = mid_spare.retired ++ unnamed found } → PublishesSet table call rows spare after_spare before after
 published table call rows spare mid_spare after_spare slot departed polls before mid after found took few slots numbers only_polls writes grows goes retires =

@@ -14,7 +14,7 @@ use Rattle.nr_map.proofs.Tokens.{MapSeat, seat_grows, seat_rests}
 use Rattle.nr_map.specs.Callers.{Gains, Rests, Table, token}
 use Rattle.nr_map.specs.Plays.{Arrived, Asked, Departed, Holds, IsIdle, Read}
 use Rattle.nr_map.specs.Seats.{HoldsAt, IdlesAt}
-use Rattle.nr_map.specs.Views.{grip_of, is_sized, number_of, rows_held, slot_held}
+use Rattle.nr_map.specs.Views.{grip_of, is_sized, caller_number, rows_held, slot_held}
 
 module _ (table : Table) (before after : MapSeat) (same : after.table_id ≡ before.table_id) where
   pub asked_seat : (key found : ℕ) → IdlesAt table before → Asked key found before.me.0 after.me.0 → IdlesAt table after × Gains 1 (token before) (model.Ask key) (ask_word found) (token after)
@@ -39,7 +39,7 @@ module _ (table : Table) (before after : MapSeat) (same : after.table_id ≡ bef
     record {
       own = rests.table ∙ holds.own;
       holds = record {
-        is = told.hold ∙ (λ j. Reader (sym (ap number_of told.hold) j) (On (sym slot j) (sym rows j) (is_sized (grip_of after.me.0.role))));
+        is = told.hold ∙ (λ j. Reader (sym (ap caller_number told.hold) j) (On (sym slot j) (sym rows j) (is_sized (grip_of after.me.0.role))));
         inside = subst (λ (s : ℕ). s < table.shape.slots) (sym slot) holds.holds.inside;
         row_set = subst (IsRowSet (bound_of table.shape)) (sym rows) holds.holds.row_set;
       };
@@ -50,7 +50,7 @@ module _ (table : Table) (before after : MapSeat) (same : after.table_id ≡ bef
   )
 
   pub departed_seat : (begin : ℕ) → HoldsAt table begin before → Departed before.me.0 after.me.0 → IdlesAt table after × Rests 1 (token before) (token after)
-  departed_seat begin holds told = let rests = seat_rests before after same told.waits in (record { own = rests.table ∙ holds.own; idle = told.role ∙ ap (λ (n : ℕ). Reader n Nothing) (sym (ap number_of told.role)) }, rests)
+  departed_seat begin holds told = let rests = seat_rests before after same told.waits in (record { own = rests.table ∙ holds.own; idle = told.role ∙ ap (λ (n : ℕ). Reader n Nothing) (sym (ap caller_number told.role)) }, rests)
 
 -- the slot that a reader holds is one of the map's, by whichever name it is known
 pub held_inside : {table : Table} {seat : MapSeat} (slot : ℕ) → HoldsAt table (content table.shape slot 0) seat → slot < table.shape.slots

@@ -4,7 +4,7 @@ use Rattle.std.specs.Prelude.{None, Option, Some, bit_or}
 use mathlib.Core.Option.{none, some}
 use Rattle.atomic_table.specs.Table.{Allows, Me, State, step}
 use Rattle.nr_model.specs.Histories.{Entry}
-use Rattle.nr_model.specs.Maps.{key_of}
+use Rattle.nr_model.specs.Maps.{call_key}
 use Rattle.nr_model.specs.Rows.{IsRowSet}
 use Rattle.nr_model.specs.declared.rows.Row.{Row}
 use Rattle.nr_model.specs.declared.calls.Call.TheVariants as model
@@ -37,24 +37,24 @@ use Rattle.nr_marks.specs.Marks.{Marks, gripped}
 use lib.ListN.{get_elem?}
 use Rattle.nr_model.specs.declared.calls.Call.{Call}
 use Rattle.nr_model.specs.declared.calls.Reply.{Reply}
-use Rattle.nr_map.specs.Plays.{Advances, Arrived, Asked, Departed, IsIdle, holding, Read, arrived, asked, departed, read}
+use Rattle.nr_map.specs.Plays.{Advances, Arrived, Asked, Departed, IsIdle, holding, Read, has_arrived, has_asked, has_departed, has_read}
 use Rattle.nr_map.specs.Rule.{Fits, Kept, marks_of, role_of}
-use Rattle.nr_map.specs.Views.{View, grip_of, is_sized, number_of, rows_held, slot_held}
+use Rattle.nr_map.specs.Views.{View, grip_of, is_sized, caller_number, rows_held, slot_held}
 
 -- a reader's own entries are told by its number
-pub reader_is : (role : Role) (grip : Grip) → role ≡ Reader (number_of role) grip → is_by (number_of role) role ≡ true
-reader_is role grip is = ap (is_by (number_of role)) is ∙ eq-eqb (number_of role) (number_of role) refl
+pub reader_is : (role : Role) (grip : Grip) → role ≡ Reader (caller_number role) grip → is_by (caller_number role) role ≡ true
+reader_is role grip is = ap (is_by (caller_number role)) is ∙ eq-eqb (caller_number role) (caller_number role) refl
 
 -- a reader has its map's shape
-reader_shape : (shape : Shape) (log : List Entry) (view : View) (grip : Grip) → view.role ≡ Reader (number_of view.role) grip → Fits shape log view → view.shape ≡ shape
+reader_shape : (shape : Shape) (log : List Entry) (view : View) (grip : Grip) → view.role ≡ Reader (caller_number view.role) grip → Fits shape log view → view.shape ≡ shape
 reader_shape shape log view grip is fits = fits.sized (let one : is_reader view.role ≡ 1 = ap is_reader is in omega arith)
 
 -- a reader's number is one of the map's
-reader_within : (shape : Shape) (id : ℕ) (view : View) (grip : Grip) (state : State (Unit {0}) View) (kept : Kept shape state) → get_elem? state.views id ≡ some view → view.role ≡ Reader (number_of view.role) grip → number_of view.role ≤ shape.readers
+reader_within : (shape : Shape) (id : ℕ) (view : View) (grip : Grip) (state : State (Unit {0}) View) (kept : Kept shape state) → get_elem? state.views id ≡ some view → view.role ≡ Reader (caller_number view.role) grip → caller_number view.role ≤ shape.readers
 reader_within shape id view grip state kept at is = (subst (λ r. KnowsMarks role_of marks_of shape state.words state.views kept.log r view.marks) is (kept.marked.each id view at)).1
 
 -- a find or a request is an entry of the reader's
-reader_entry : (shape : Shape) (reader : ℕ) (call : Call) (answer : Reply) (entries : List Entry) → entries ≡ entry reader call answer ∷ [] → key_of call < shape.keys → reader ≤ shape.readers → is_reading call ≡ true → AreCallers shape entries
+reader_entry : (shape : Shape) (reader : ℕ) (call : Call) (answer : Reply) (entries : List Entry) → entries ≡ entry reader call answer ∷ [] → call_key call < shape.keys → reader ≤ shape.readers → is_reading call ≡ true → AreCallers shape entries
 reader_entry shape reader call answer entries is near low reads = subst (AreCallers shape) (sym is) ((near, inr (low, reads)), tt)
 
 -- the reader's count, by its hold before and after
@@ -62,12 +62,12 @@ acts_so : (view : View) (after : Role) (entries : List Entry) (marks : Marks) (b
 acts_so view after entries marks before now told held holds is count reads =
     let b = ap to_depart held in let n = ap to_depart holds in let t : acts_told entries ≡ acts_told told = ap acts_told is in omega arith
 
-pub asks_so : (shape : Shape) (slots id : ℕ) (me : Me (Unit {0}) View) (key : ℕ) → key < shape.keys → IsIdle me.0.role → Allows (Kept shape) slots id me key (λ word. bit_or word 1) (asked (step slots key 1 0 none) me)
-asks_so shape slots id me key near idle = let view = me.0 in let reader = number_of view.role in let tells = Asks reader key in
+pub asks_so : (shape : Shape) (slots id : ℕ) (me : Me (Unit {0}) View) (key : ℕ) → key < shape.keys → IsIdle me.0.role → Allows (Kept shape) slots id me key (λ word. bit_or word 1) (has_asked (step slots key 1 0 none) me)
+asks_so shape slots id me key near idle = let view = me.0 in let reader = caller_number view.role in let tells = Asks reader key in
     lifts shape id view (Or key 1) tells (KeepsMarks view.marks) slots me.1 (λ found next. Asked key found view next) view.pasts (subst (λ r. CanStep shape id r (Or key 1) tells) (sym idle) (asks shape id reader key near))
     (asks_marked role_of marks_of shape id view view.pasts reader key near idle) (knows_pasts shape id view)
     (λ state kept at step marked. let role : step.after ≡ view.role = step.told.0 ∙ sym idle in
-    learning shape id view (Or key 1) tells (KeepsMarks view.marks) state kept at step marked (ap number_of role) (reader_shape shape kept.log view Nothing idle (kept.fits id view at))
+    learning shape id view (Or key 1) tells (KeepsMarks view.marks) state kept at step marked (ap caller_number role) (reader_shape shape kept.log view Nothing idle (kept.fits id view at))
     (reader_entry shape reader (model.Ask key) _ step.entries step.told.1 near (reader_within shape id view Nothing state kept at idle) refl)
     (acts_so view step.after step.entries marked.now None None _ (ap (λ r. gripped (grip_of r)) idle) (ap (λ r. gripped (grip_of r)) step.told.0) step.told.1 (let same = ap (λ (m : Marks). m.acts) marked.told.0 in omega arith))
     (λ next. Asked key (get_or state.words key 0) view next) (reader_is view.role Nothing idle) marked.told.1
@@ -78,18 +78,18 @@ differ : (b : Bool) (P : Type 0) → b ≡ true → b ≡ false → P
 differ b P is not = let clash : true ≡ false = sym is ∙ not in absurd (cc)
 
 pub arrives_so : (shape : Shape) (slots id : ℕ) (me : Me (Unit {0}) View) (key : ℕ) → key < shape.keys → IsIdle me.0.role
-    → Allows (Kept shape) slots id me key (λ word. (word + ARRIVE) % 2 ^ 64) (arrived (step slots key ARRIVE 0 none) me)
-arrives_so shape slots id me key near idle = let view = me.0 in let reader = number_of view.role in let tells = Arrives shape reader key in
+    → Allows (Kept shape) slots id me key (λ word. (word + ARRIVE) % 2 ^ 64) (has_arrived (step slots key ARRIVE 0 none) me)
+arrives_so shape slots id me key near idle = let view = me.0 in let reader = caller_number view.role in let tells = Arrives shape reader key in
     lifts shape id view (Add key ARRIVE) tells (ArrivesMarks view.marks key) slots me.1 (λ found next. Arrived key found view next) view.pasts (subst (λ r. CanStep shape id r (Add key ARRIVE) tells) (sym idle) (arrives shape id reader key near))
     (arrives_marked role_of marks_of shape id view view.pasts reader key near idle) (knows_pasts shape id view)
     (λ state kept at step marked. let found : ℕ = get_or state.words key 0 in let sized = reader_shape shape kept.log view Nothing idle (kept.fits id view at) in
     let next = learned view step.after (kept.log ++ step.entries) step.entries marked.now marked.news in
-    let choose : number_of step.after ≡ reader → (told : List Entry) → AreCallers shape step.entries → ActsGo view step.after step.entries marked.now → step.entries ≡ told → (Advances view told next → Arrived key found view next) → Choice shape id view (Add key ARRIVE) tells (ArrivesMarks view.marks key) state kept step marked (λ next. Arrived key found view next)
+    let choose : caller_number step.after ≡ reader → (told : List Entry) → AreCallers shape step.entries → ActsGo view step.after step.entries marked.now → step.entries ≡ told → (Advances view told next → Arrived key found view next) → Choice shape id view (Add key ARRIVE) tells (ArrivesMarks view.marks key) state kept step marked (λ next. Arrived key found view next)
     = λ same told callers acts. learning shape id view (Add key ARRIVE) tells (ArrivesMarks view.marks key) state kept at step marked same sized callers acts (λ next. Arrived key found view next) (reader_is view.role Nothing idle) marked.told.1 told in
     let within = reader_within shape id view Nothing state kept at idle in let acts_are = ap (λ (m : Marks). m.acts) marked.told.0 in
     ⊎_elim
     (λ (t : (slot : ℕ) × (rows : List Row) × (name_number found ≡ suc slot) × (slot < shape.slots) × IsRowSet (bound_of shape) rows × (step.after ≡ Reader reader (On slot rows false)) × (step.entries ≡ entry reader (model.Find key) (reply.Rows rows) ∷ [])).
-    let names = names_one found t.0 t.2 in let same : number_of step.after ≡ reader = ap number_of t.5 in let rows_so : rows_held step.after ≡ t.1 = ap rows_held t.5 in let slot_so : slot_held step.after ≡ t.0 = ap slot_held t.5 in
+    let names = names_one found t.0 t.2 in let same : caller_number step.after ≡ reader = ap caller_number t.5 in let rows_so : rows_held step.after ≡ t.1 = ap rows_held t.5 in let slot_so : slot_held step.after ≡ t.0 = ap slot_held t.5 in
     choose same (entry reader (model.Find key) (reply.Rows (rows_held step.after)) ∷ []) (reader_entry shape reader (model.Find key) _ step.entries t.6 near within refl)
     (acts_so view step.after step.entries marked.now None (Some t.0) _ (ap (λ r. gripped (grip_of r)) idle) (ap (λ r. gripped (grip_of r)) t.5) t.6 (omega arith)) (t.6 ∙ ap (λ (rows : List Row). entry reader (model.Find key) (reply.Rows rows) ∷ []) (sym rows_so)) (λ advances. record {
       number = same;
@@ -106,9 +106,9 @@ arrives_so shape slots id me key near idle = let view = me.0 in let reader = num
       marks = marked.told.0;
     }))
     (λ (t : (name_number found ≡ 0) × (step.after ≡ Reader reader Nothing) × (step.entries ≡ entry reader (model.Find key) reply.Hole ∷ [])).
-    choose (ap number_of t.1) (entry reader (model.Find key) reply.Hole ∷ []) (reader_entry shape reader (model.Find key) _ step.entries t.2 near within refl)
+    choose (ap caller_number t.1) (entry reader (model.Find key) reply.Hole ∷ []) (reader_entry shape reader (model.Find key) _ step.entries t.2 near within refl)
     (acts_so view step.after step.entries marked.now None None _ (ap (λ r. gripped (grip_of r)) idle) (ap (λ r. gripped (grip_of r)) t.1) t.2 (omega arith)) t.2 (λ advances. record {
-      number = ap number_of t.1;
+      number = ap caller_number t.1;
       held = λ full. differ (is_filled found) _ full (names_none found t.0);
       hole = λ _. (t.1 ∙ sym idle, advances);
       marks = marked.told.0;
@@ -116,12 +116,12 @@ arrives_so shape slots id me key near idle = let view = me.0 in let reader = num
     step.told)
 
 pub reads_so : (shape : Shape) (slots id : ℕ) (me : Me (Unit {0}) View) (index : ℕ) → me.0.role ≡ holding me.0.role (is_sized (grip_of me.0.role)) → index < length (encode (rows_held me.0.role)) → me.0.shape ≡ shape
-    → let place = content shape (slot_held me.0.role) index in Allows (Kept shape) slots id me place (λ word. word) (read (step slots place 0 0 none) me)
-reads_so shape slots id me index is low sized = let view = me.0 in let reader = number_of view.role in let slot : ℕ = slot_held view.role in let rows = rows_held view.role in let sized_so = is_sized (grip_of view.role) in
+    → let place = content shape (slot_held me.0.role) index in Allows (Kept shape) slots id me place (λ word. word) (has_read (step slots place 0 0 none) me)
+reads_so shape slots id me index is low sized = let view = me.0 in let reader = caller_number view.role in let slot : ℕ = slot_held view.role in let rows = rows_held view.role in let sized_so = is_sized (grip_of view.role) in
     let place : ℕ = content shape slot index in let tells = ReadsHeld reader slot rows sized_so index in
     lifts shape id view (Load place) tells (KeepsMarks view.marks) slots me.1 (λ found next. Read place found view next) view.pasts (subst (λ r. CanStep shape id r (Load place) tells) (sym is) (reads shape id reader slot rows sized_so index low))
     (reads_marked role_of marks_of shape id view view.pasts reader slot index rows sized_so is) (knows_pasts shape id view)
-    (λ state kept at step marked. let same : number_of step.after ≡ reader = ap number_of step.told.1 in
+    (λ state kept at step marked. let same : caller_number step.after ≡ reader = ap caller_number step.told.1 in
     waiting shape id view (Load place) tells (KeepsMarks view.marks) state kept at step marked same sized (subst (AreCallers shape) (sym step.told.2) tt)
     (acts_so view step.after step.entries marked.now (Some slot) (Some slot) [] (ap (λ r. gripped (grip_of r)) is) (ap (λ r. gripped (grip_of r)) step.told.1) step.told.2 (let same = ap (λ (m : Marks). m.acts) marked.told.0 in omega arith)) (λ next. Read place (get_or state.words place 0) view next) marked.told.1 step.told.2
     (λ waits. record {
@@ -133,10 +133,10 @@ reads_so shape slots id me index is low sized = let view = me.0 in let reader = 
     }))
 
 pub departs_so : (shape : Shape) (slots id : ℕ) (me : Me (Unit {0}) View) → me.0.role ≡ holding me.0.role (is_sized (grip_of me.0.role)) → me.0.shape ≡ shape
-    → let place = departures shape (slot_held me.0.role) in Allows (Kept shape) slots id me place (λ word. (word + 1) % 2 ^ 64) (departed (step slots place 1 0 none) me)
-departs_so shape slots id me is sized = let view = me.0 in let reader = number_of view.role in let slot : ℕ = slot_held view.role in let rows = rows_held view.role in let sized_so = is_sized (grip_of view.role) in
+    → let place = departures shape (slot_held me.0.role) in Allows (Kept shape) slots id me place (λ word. (word + 1) % 2 ^ 64) (has_departed (step slots place 1 0 none) me)
+departs_so shape slots id me is sized = let view = me.0 in let reader = caller_number view.role in let slot : ℕ = slot_held view.role in let rows = rows_held view.role in let sized_so = is_sized (grip_of view.role) in
     let place : ℕ = departures shape slot in let tells = Departs reader in
     lifts shape id view (Add place 1) tells (DepartsMarks view.marks) slots me.1 (λ found next. Departed view next) view.pasts (subst (λ r. CanStep shape id r (Add place 1) tells) (sym is) (departs shape id reader slot rows sized_so))
     (departs_marked role_of marks_of shape id view view.pasts reader slot rows sized_so is) (knows_pasts shape id view)
-    (λ state kept at step marked. waiting shape id view (Add place 1) tells (DepartsMarks view.marks) state kept at step marked (ap number_of step.told.0) sized (subst (AreCallers shape) (sym step.told.1) tt)
+    (λ state kept at step marked. waiting shape id view (Add place 1) tells (DepartsMarks view.marks) state kept at step marked (ap caller_number step.told.0) sized (subst (AreCallers shape) (sym step.told.1) tt)
     (acts_so view step.after step.entries marked.now (Some slot) None [] (ap (λ r. gripped (grip_of r)) is) (ap (λ r. gripped (grip_of r)) step.told.0) step.told.1 (let same = ap (λ (m : Marks). m.acts) marked.told.0 in omega arith)) (λ next. Departed view next) marked.told.1 step.told.1 (λ waits. record { role = step.told.0; waits = waits; marks = marked.told.0 }))

@@ -38,8 +38,8 @@ use Rattle.nr_map.proofs.KeySets.{stays_between}
 use Rattle.nr_map.proofs.Rows.{encoded_row, length-encode}
 use Rattle.nr_map.proofs.Tokens.{grows_both}
 use Rattle.nr_map.specs.Callers.{Table, token}
-use Rattle.nr_map.specs.NamedRows.{ReadTo, ReadsAll, reads_on, rows_named, rows_of}
-use Rattle.nr_map.specs.Views.{desk_of, number_of}
+use Rattle.nr_map.specs.NamedRows.{ReadTo, ReadsAll, reads_on, rows_named, rows_of_state}
+use Rattle.nr_map.specs.Views.{desk_of, caller_number}
 use Rattle.nr_map.specs.WriterSeats.{GoesOn, IsReading, KeyHas, LeadsIn, MapSeat, WritesAt}
 
 -- a call that has its set ends with no reply yet
@@ -102,7 +102,7 @@ module _ (table : Table) (call : WriterCall) (begin : ℕ) (before : MapSeat) wh
   read_so : (slot : ℕ) (rows : List Row) (words : ℕ) (after : MapSeat) → begin ≡ content table.shape slot 0 → IsRowSet (bound_of table.shape) rows → key_of call < table.shape.keys → 0 < words → words ≤ 2 * length rows + 1
       → LeadsIn words table (call_of call) (reads_on table desk call slot rows words) before after → KeyHas table call rows (reads_on table desk call slot rows words).1 after → after.me.0.marks ≡ before.me.0.marks → (rows_named table call after ≡ rows) × ReadTo table call begin before after words
   read_so slot rows words after begin_is row_set near some few leads had marks =
-      let named : rows_named table call after ≡ rows = ap rows_of (still_named slot rows words after row_set near some few had) in (
+      let named : rows_named table call after ≡ rows = ap rows_of_state (still_named slot rows words after row_set near some few had) in (
         named,
         record {
           near = near;
@@ -149,8 +149,8 @@ module _ (table : Table) (call : WriterCall) (begin : ℕ) (before : MapSeat) wh
         let had = still_named so_far.slot rows words mid so_far.row_set so_far.near so_far.positive so_far.few so_far.had in
         let log_is : told.log ≡ mid.me.0.seen ++ then.between = append_cancel_right told.log (mid.me.0.seen ++ then.between) e (sym told.seen ∙ then.seen) in
         let had_then : state_of (map_after table.shape told.log) (key_of call) ≡ states.Rows so_far.had.number rows = ap (λ (l : List Entry). state_of (map_after table.shape l) (key_of call)) log_is
-        ∙ stays_between table.shape (key_of call) so_far.had.number rows (token mid) (token after) 1 e own_table so_far.near (ap number_of leads_here.writes.role) leads_here.grows.own (ending_own (call_of call) _) then had in
-        let same : on.0 ≡ rows = ap rows_of (sym on.5 ∙ had_then) in
+        ∙ stays_between table.shape (key_of call) so_far.had.number rows (token mid) (token after) 1 e own_table so_far.near (ap caller_number leads_here.writes.role) leads_here.grows.own (ending_own (call_of call) _) then had in
+        let same : on.0 ≡ rows = ap rows_of_state (sym on.5 ∙ had_then) in
         let words_are : got ++ found ∷ [] ≡ take (words + 1) (encode rows) = on.2 ∙ (λ j. take (length-got j + 1) (encode (same j))) in
         let so = read_so so_far.slot rows (words + 1) after so_far.begin_is so_far.row_set so_far.near (omega arith) (omega (arith, left))
         (let leads = subst (λ (l : List ℕ). LeadsIn 1 table (call_of call) (read_on table.shape desk call so_far.slot l) mid after) words_are told.leads in

@@ -22,7 +22,7 @@ use Rattle.nr_core.specs.declared.places.Place.TheVariants.{Idle, Searching}
 use Rattle.nr_core.specs.declared.roles.Desk.{Desk}
 use Rattle.nr_core.specs.declared.shape.Shape.{Shape}
 use Rattle.nr_map.proofs.Tokens.{grows_both}
-use Rattle.nr_map.specs.Callers.{Caller, Grows, Table, token}
+use Rattle.nr_map.specs.Callers.{Caller, Grows, Table, token, IsSound}
 use Rattle.nr_map.specs.Entries.{acts_told, to_depart}
 use Rattle.nr_map.specs.Polls.{AllHeldThen, HeldThen}
 use Rattle.nr_map.specs.Rule.{StartsWith}
@@ -33,10 +33,10 @@ use Rattle.nr_marks.specs.MarkSteps.{PollTells}
 use Rattle.nr_marks.proofs.ListPlaces.{at_last, inside}
 use Rattle.nr_marks.specs.Marks.{Marks, Past, with_polls}
 use Rattle.nr_marks.specs.PollNotes.{Missed, Noted}
-use Rattle.nr_map.specs.WriterSeats.{GoesOn, GoesTo, Knows, LacksSlot, LeadsIn, MapSeat, Settles, WritesAt, swept}
+use Rattle.nr_map.specs.WriterSeats.{GoesOn, GoesTo, LacksSlot, LeadsIn, MapSeat, Settles, WritesAt, swept}
 
 -- no step, where what is known is legal
-pub grows_none : (caller : Caller) → Knows caller → Grows 0 caller [] caller
+pub grows_none : (caller : Caller) → IsSound caller → Grows 0 caller [] caller
 grows_none caller knows = record {
   table = refl;
   number = refl;

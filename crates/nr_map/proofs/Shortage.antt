@@ -18,7 +18,7 @@ use Rattle.nr_core.proofs.ReadThrough.{read_whole}
 use Rattle.nr_core.proofs.Settle.{key_same}
 use Rattle.nr_core.proofs.Without.{IsWithout, NoneLeft, decided_none, look_none, not_going, not_reply, polled_none}
 use Rattle.nr_core.specs.Core.{AtPlace, Core, Reads}
-use Rattle.nr_core.specs.Operations.{going, place_of}
+use Rattle.nr_core.specs.Operations.{going, target_of}
 use Rattle.nr_core.specs.Roles.{held, taken}
 use Rattle.nr_core.specs.Slots.{content, departures, bound_of}
 use Rattle.nr_core.specs.States.{key_of, retired_at}
@@ -63,11 +63,11 @@ module _ (shape : Shape) (words : List ℕ) (roles : List Role) (log : List Entr
   at_place : (place : Place) → desk.place ≡ place → AtPlace shape words (map_after shape log) (held roles) desk.fresh desk.retired place
   at_place place is = subst (AtPlace shape words (map_after shape log) (held roles) desk.fresh desk.retired) is (core.knows id (Writer desk) there).place
 
-  go_short_at : (place : Place) → desk.place ≡ place → let outcome = went shape desk place (get_or words (place_of (going shape desk place)) 0) in IsWithout counts outcome → Shortage shape log desk (call_at place) outcome counts
+  go_short_at : (place : Place) → desk.place ≡ place → let outcome = went shape desk place (get_or words (target_of (going shape desk place)) 0) in IsWithout counts outcome → Shortage shape log desk (call_at place) outcome counts
   go_short_at Idle is without = absurd (not_going counts without)
   go_short_at (Leaving k) is without = absurd (not_reply counts reply.Evicted without)
   go_short_at (Withdrawing k) is without = absurd (not_reply counts reply.Cancelled without)
-  go_short_at (Putting call rows slot departed index) is without = let found = get_or words (place_of (going shape desk (Putting call rows slot departed index))) 0 in
+  go_short_at (Putting call rows slot departed index) is without = let found = get_or words (target_of (going shape desk (Putting call rows slot departed index))) 0 in
       by_cases (λ v. let outcome = cond {A = Desk × Step} v (moved_to desk (Putting call rows slot departed (index + 1)), Going) (swapped desk found, ended reply.Done) in IsWithout counts outcome → Shortage shape log desk (call_of call) outcome counts) (nat_le index (2 * length rows))
       (λ _ e. absurd (not_going counts e)) (λ _ e. absurd (not_reply counts reply.Done e)) without
   go_short_at (Reading call slot got) is without =
@@ -87,7 +87,7 @@ module _ (shape : Shape) (words : List ℕ) (roles : List Role) (log : List Entr
       let none = polled_none shape desk counts call rows poll (get_or words (departures shape (retired_at desk poll).slot) 0) without in
       record { none = none.0; full = searches.2; done = replies shape log call searches.0.done }
 
-  pub go_short : let outcome = went shape desk desk.place (get_or words (place_of (going shape desk desk.place)) 0) in IsWithout counts outcome → Shortage shape log desk (call_at desk.place) outcome counts
+  pub go_short : let outcome = went shape desk desk.place (get_or words (target_of (going shape desk desk.place)) 0) in IsWithout counts outcome → Shortage shape log desk (call_at desk.place) outcome counts
   go_short = go_short_at desk.place refl
 
 -- what stands after such a step

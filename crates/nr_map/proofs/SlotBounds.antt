@@ -2,7 +2,7 @@
 use Rattle.std.proofs.Common.{◌≤◌, List, length, ap, arith}
 use Rattle.std.proofs.lemmas.List.Sums.{count_by-le-length}
 use Rattle.nr_model.specs.Histories.{Entry}
-use Rattle.nr_model.specs.Maps.{filled_count, is_filled}
+use Rattle.nr_model.specs.Maps.{filled_count, is_filled_key}
 use Rattle.nr_core.proofs.Histories.{length-now}
 use Rattle.nr_core.specs.declared.shape.Shape.{Shape}
 use Rattle.nr_core.specs.Story.{map_after}
@@ -12,7 +12,7 @@ use Rattle.nr_map.specs.SlotBounds.{NoSlotIsRare, PollsAreFew, RoomForFills, Roo
 
 -- no more keys are filled than there are
 few_filled : (shape : Shape) (log : List Entry) → filled_count (map_after shape log) ≤ shape.keys
-few_filled shape log = let keys = length-now shape log in let filled = count_by-le-length is_filled (map_after shape log).states in omega arith
+few_filled shape log = let keys = length-now shape log in let filled = count_by-le-length is_filled_key (map_after shape log).states in omega arith
 
 pub polls_are_few_lem : PollsAreFew
 polls_are_few_lem steps call rows old new published = published.few

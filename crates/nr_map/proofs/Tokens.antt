@@ -3,7 +3,7 @@ use Rattle.std.proofs.Common.{◌≡◌, ℕ, ◌+◌, List, [], ◌++◌, refl,
 use Rattle.atomic_table.specs.Seated.{TableId}
 use Rattle.atomic_table.specs.declared.shared.Seat.{Seat}
 use Rattle.nr_model.specs.Histories.{Entry, IsLegal, entries_of}
-use Rattle.nr_map.specs.Callers.{Caller, Grows, Rests, Table, caller_of, opening_map, token}
+use Rattle.nr_map.specs.Callers.{Caller, Grows, Rests, Table, caller_of, map_at_opening, token}
 use Rattle.nr_map.specs.Plays.{Advances, Waits}
 use Rattle.nr_map.specs.Entries.{AreCallers}
 use Rattle.nr_map.specs.Views.{View}
@@ -38,7 +38,7 @@ grows_rests m n sum a entries b c is first then = record {
   between = first.between;
   seen = then.seen ∙ first.seen;
   mine = then.mine ∙ first.mine;
-  legal = subst (IsLegal (opening_map a.table)) (sym then.seen) first.legal;
+  legal = subst (IsLegal (map_at_opening a.table)) (sym then.seen) first.legal;
   own = (λ j. entries_of (then.seen j) (then.number j)) ∙ first.own ∙ sym then.mine;
   callers = subst (AreCallers a.table.shape) (sym then.seen) first.callers;
   steps_made = omega (arith, first.steps_made, then.steps_made);
@@ -52,7 +52,7 @@ grows_both m n sum a b entries c is first then = record {
   between = first.between ++ then.between;
   seen = then.seen ∙ ap (λ (l : List Entry). (l ++ then.between) ++ entries) (first.seen ∙ append-nil (a.seen ++ first.between)) ∙ ap (λ (l : List Entry). l ++ entries) (append_assoc a.seen first.between then.between);
   mine = then.mine ∙ ap (λ (l : List Entry). l ++ entries) (first.mine ∙ append-nil a.mine);
-  legal = subst (λ (t : Table). IsLegal (opening_map t) c.seen) first.table then.legal;
+  legal = subst (λ (t : Table). IsLegal (map_at_opening t) c.seen) first.table then.legal;
   own = then.own;
   callers = subst (λ (t : Table). AreCallers t.shape c.seen) first.table then.callers;
   steps_made = omega (arith, first.steps_made, then.steps_made);

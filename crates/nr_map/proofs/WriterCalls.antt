@@ -35,9 +35,9 @@ use Rattle.nr_core.specs.declared.shape.Shape.{Shape}
 use Rattle.nr_map.proofs.Publishing.{knows_after}
 use Rattle.nr_map.proofs.Tokens.{grows_both}
 use Rattle.nr_map.specs.Answers.{HasNoSlot, KeyHad, Publishes, RetiresOne, SlotsStay}
-use Rattle.nr_map.specs.Callers.{Caller, Gains, Grows, KnowsOwn, Table, opening_map, token}
+use Rattle.nr_map.specs.Callers.{Caller, Gains, Grows, KnowsOwn, Table, map_at_opening, token}
 use Rattle.nr_core.specs.Spares.{Spare}
-use Rattle.nr_map.specs.Spares.{Took, desk_with, spare_of}
+use Rattle.nr_map.specs.Spares.{TookByPolls, desk_with, spare_of}
 use Rattle.nr_marks.specs.Marks.{Marks, Past, with_name, with_polls, without_name}
 use Rattle.nr_marks.specs.PollNotes.{Noted}
 use Rattle.nr_map.proofs.Looks.{HasLooked, rests_here, rests_own}
@@ -51,7 +51,7 @@ use Rattle.nr_map.specs.Polls.{HeldThen}
 use Rattle.nr_model.proofs.LawLemmas.{legal_goes_on_lem}
 use Rattle.nr_core.proofs.Settle.{key_same}
 use Rattle.nr_core.specs.States.{key_of}
-use Rattle.nr_map.specs.Views.{desk_of, number_of}
+use Rattle.nr_map.specs.Views.{desk_of, caller_number}
 use Rattle.nr_map.specs.WriterSeats.{GoesOn, IsBetween, KeyHas, LacksSlot, LeadsIn, MapSeat, PublishesSet, RestsAt, Settles, WritesAt}
 use Rattle.nr_core.specs.Slots.{bound_of}
 use Rattle.nr_model.specs.Rows.{IsRowSet}
@@ -62,7 +62,7 @@ spare_shown table spare seat rests = λ j. record { slots = (ap (λ (t : Table).
 
 module _ (table : Table) (spare : Spare) (before : MapSeat) (rests : RestsAt table spare before) where
   writer_number : (token before).number ≡ 0
-  writer_number = ap number_of rests.writes.role
+  writer_number = ap caller_number rests.writes.role
 
   -- a call that ends with a reply
   pub ends : (steps : ℕ) (call : Call) (answer : Reply) (after_spare : Spare) (after : MapSeat) → after_spare.slots ≡ spare.slots → LeadsIn steps table call (desk_with after_spare Idle, ended answer) before after → RestsAt table after_spare after × Gains steps (token before) call answer (token after)
@@ -92,13 +92,13 @@ module _ (table : Table) (spare : Spare) (before : MapSeat) (rests : RestsAt tab
         let rests_after : RestsAt table after_spare after = record { writes = published.writes; slots = published.slots ∙ rests.slots; own = all.own } in
         let spare_after = spare_shown table after_spare after rests_after ∙ published.retires in
         let map_then = map_after before.me.0.shape published.log in
-        let done_then = (legal_goes_on_lem (opening_map (token before).table) published.log (entry 0 (call_of call) reply.Done)).1.1 (subst (IsLegal (opening_map (token before).table)) published.seen all.legal) in (
+        let done_then = (legal_goes_on_lem (map_at_opening (token before).table) published.log (entry 0 (call_of call) reply.Done)).1.1 (subst (IsLegal (map_at_opening (token before).table)) published.seen all.legal) in (
           rests_after,
           record {
             polls = published.polls;
             slot = published.slot;
             mid = published.mid;
-            took = subst (λ (s : Spare). Took published.slot published.polls s published.mid) (sym (spare_shown table spare before rests)) published.took;
+            took = subst (λ (s : Spare). TookByPolls published.slot published.polls s published.mid) (sym (spare_shown table spare before rests)) published.took;
             few = subst (λ (t : Table). published.polls ≤ t.shape.readers + 1) (sym rests.writes.own) published.few;
             fresh = ap (λ (s : Spare). s.fresh) spare_after;
             numbers = ap (λ (s : Spare). s.numbers) (spare_shown table after_spare after rests_after) ∙ published.numbers ∙ sym (ap (λ (s : Spare). s.numbers) (spare_shown table spare before rests));
@@ -185,7 +185,7 @@ module _ {table : Table} {spare : Spare} {key word : ℕ} {before mid : MapSeat}
       } in
       let ended_so = ends table spare before looks.rests 2 (model.Evict key) reply.Evicted after_spare after (ap (λ (s : Spare). s.slots) retires) all in
       let slots = spare_shown table after_spare after ended_so.0 ∙ retires ∙ ap (λ (s : Spare). record s { retired = s.retired ++ unnamed found }) (sym (spare_shown table spare before looks.rests)) in
-      let legal = (legal_goes_on_lem (opening_map (token before).table) gone.log (entry 0 (model.Evict key) reply.Evicted)).1.1 (subst (IsLegal (opening_map (token before).table)) gone.seen all.grows.legal) in (
+      let legal = (legal_goes_on_lem (map_at_opening (token before).table) gone.log (entry 0 (model.Evict key) reply.Evicted)).1.1 (subst (IsLegal (map_at_opening (token before).table)) gone.seen all.grows.legal) in (
         rests_own table after_spare after ended_so.0,
         (
           ended_so.1,
@@ -294,7 +294,7 @@ module _ {table : Table} {spare : Spare} {key slot : ℕ} {batch : List Delta} {
     -- the key had the set until the update's entry, if it was done, or to the end
     had_still : (near : key < table.shape.keys) (last : MapSeat) (steps sum : ℕ) (entries mine : List Entry) (then : Grows steps (token after) entries (token last)) (all : Grows sum (token before) mine (token last)) → entries_of entries 0 ≡ entries → (token before).seen ++ all.between ≡ (token after).seen ++ then.between → KeyHad key rows (token before) all.between
     had_still near last steps sum entries mine then all ours same = let grows = has_renewed.grows in
-        had_before table.shape key read.had.number rows (token before) (token after) (token last) sum steps entries mine (ap (λ (t : Table). t.shape) read.own) near (grows.number ∙ ap number_of read.rests.writes.role) grows.own ours then all same grows.table still_has
+        had_before table.shape key read.had.number rows (token before) (token after) (token last) sum steps entries mine (ap (λ (t : Table). t.shape) read.own) near (grows.number ∙ ap caller_number read.rests.writes.role) grows.own ours then all same grows.table still_has
 
     module _ {given : WriterCall} (given_is : given ≡ Update key batch) (near : key < table.shape.keys) where
       pub has_updated : {last : MapSeat} {after_spare : Spare} → PublishesSet table given left spare after_spare after last

@@ -7,7 +7,7 @@ use Rattle.atomic_table.specs.Seated.{TableId}
 use Rattle.atomic_table.specs.Table.{Allows, Me, State, carried_after}
 use Rattle.atomic_table.proofs.Lists.{at_map}
 use Rattle.nr_model.specs.Histories.{Entry, entries_of}
-use Rattle.nr_model.specs.Maps.{key_of as call_key, reply_to, state_of}
+use Rattle.nr_model.specs.Maps.{call_key, reply_to, state_of}
 use Rattle.nr_model.specs.declared.rows.Row.{Row}
 use Rattle.nr_model.specs.declared.calls.Call.{Call}
 use Rattle.nr_model.specs.declared.calls.Reply.TheVariants as reply
@@ -20,7 +20,7 @@ use Rattle.nr_core.proofs.Settle.{key_same}
 use Rattle.nr_core.proofs.Sums.{here_after}
 use Rattle.nr_core.specs.Core.{AreNumbers, AtPlace, Core}
 use Rattle.nr_core.specs.Laws.{IsGivenCall}
-use Rattle.nr_core.specs.Operations.{becomes, going, place_of}
+use Rattle.nr_core.specs.Operations.{becomes, going, target_of}
 use Rattle.nr_core.specs.declared.operation.Operation.{Operation}
 use Rattle.nr_core.specs.declared.operation.Operation.TheVariants.{Load, Store, Swap}
 use Rattle.nr_core.specs.Refusals.{if_not_busy}
@@ -59,11 +59,11 @@ use Rattle.nr_map.proofs.Shortage.{Shortage, go_short, lacks_so, look_short}
 use Rattle.nr_map.specs.Callers.{caller_of}
 use Rattle.nr_map.specs.Plays.{Advances, Finds, Lacks, Leads, Looked, NotesTell, Put, SwapsAt, SwapsOrPuts, Room, Went, call_at, next_put, put_place}
 use Rattle.nr_map.specs.Rule.{Fits, Kept, counts, marks_of, role_of}
-use Rattle.nr_map.specs.Views.{View, desk_of, grip_of, number_of}
+use Rattle.nr_map.specs.Views.{View, desk_of, grip_of, caller_number}
 
 -- the writer's own entries are told by 0
-writer_is : (role : Role) (desk : Desk) → role ≡ Writer desk → is_by (number_of role) role ≡ true
-writer_is role desk is = ap (λ r. is_by (number_of r) r) is
+writer_is : (role : Role) (desk : Desk) → role ≡ Writer desk → is_by (caller_number role) role ≡ true
+writer_is role desk is = ap (λ r. is_by (caller_number r) r) is
 
 writer_shape : (shape : Shape) (log : List Entry) (view : View) (desk : Desk) → view.role ≡ Writer desk → Fits shape log view → view.shape ≡ shape
 writer_shape shape log view desk is fits = fits.sized (let one : is_writer view.role ≡ 1 = ap is_writer is in omega arith)
@@ -117,7 +117,7 @@ module _ (shape : Shape) (id : ℕ) (view : View) (desk : Desk) (is : view.role 
 
   -- the writer's view after the step
   pub writes : (then : View → Type 0) → (Advances view (ending call outcome.1) next_view → then next_view) → Choice shape id view operation tells notes state kept step marked then
-  writes then tell = learning shape id view operation tells notes state kept at step marked (ap number_of role_told ∙ sym (ap number_of is)) sized callers_told acts_told_so then (writer_is view.role desk is) no_news (ending call outcome.1) entries_told tell
+  writes then tell = learning shape id view operation tells notes state kept at step marked (ap caller_number role_told ∙ sym (ap caller_number is)) sized callers_told acts_told_so then (writer_is view.role desk is) no_news (ending call outcome.1) entries_told tell
 
 pub looks_so : (shape : Shape) (slots id : ℕ) (me : Me (Unit {0}) View) (desk : Desk) (call : WriterCall) → me.0.role ≡ Writer desk → desk.place ≡ Idle → IsGivenCall (bound_of shape) call → key_of call < shape.keys
     → Allows (Kept shape) slots id me (key_of call) (λ word. word) (λ found after. (other : Desk) → me.0.role ≡ Writer other → Looked other call found me.0 after.0)
@@ -175,20 +175,20 @@ near_there shape words roles log core id desk there place is busy = go place bus
 
 -- the words of the key's set are read on, and a swap finds the key's word
 finds_so : (shape : Shape) (words : List ℕ) (roles : List Role) (log : List Entry) → Core shape words roles log → (id : ℕ) (desk : Desk) → get_elem? roles id ≡ some (Writer desk) → (marks : Marks) → ((key : ℕ) → key < shape.keys → get_or marks.names key 0 ≡ name_number (get_or words key 0))
-    → (place : Place) → desk.place ≡ place → Finds shape place (get_or words (place_of (going shape desk place)) 0) log marks
+    → (place : Place) → desk.place ≡ place → Finds shape place (get_or words (target_of (going shape desk place)) 0) log marks
 finds_so shape words roles log core id desk there marks names place is = go place (subst (AtPlace shape words (map_after shape log) (held roles) desk.fresh desk.retired) is (core.knows id (Writer desk) there).place)
   where
     swaps : (key : ℕ) → key < shape.keys → SwapsAt shape key (get_or words key 0) log marks
     swaps key near = record { state = shows_kind shape words (get_or words key 0) (state_of (map_after shape log) key) (core.shows key near); name = names key near }
 
-    go : (at : Place) → AtPlace shape words (map_after shape log) (held roles) desk.fresh desk.retired at → Finds shape at (get_or words (place_of (going shape desk at)) 0) log marks
+    go : (at : Place) → AtPlace shape words (map_after shape log) (held roles) desk.fresh desk.retired at → Finds shape at (get_or words (target_of (going shape desk at)) 0) log marks
     go Idle stands = tt
     go (Reading call slot got) reads = (reads.rows, read_set shape words roles log core (key_of call) slot got reads, read_next shape words roles log core (key_of call) slot got reads ∙ ap (λ (n : ℕ). take n (encode reads.rows)) (let one : suc (length got) ≡ length got + 1 = omega arith in one), reads.more, reads.number, reads.full)
     go (Leaving key) stands = swaps key stands.1.near
     go (Withdrawing key) stands = swaps key stands.near
     go (Searching call rows poll) stands = tt
     go (Putting call rows slot departed index) stands =
-        by_cases (λ b. SwapsOrPuts b shape (key_of call) (get_or words (place_of (cond {A = Operation} b (Store (content shape slot index) (get_or (encode rows) index 0)) (Swap (key_of call) (naming slot departed)))) 0) log marks) (nat_le index (2 * length rows))
+        by_cases (λ b. SwapsOrPuts b shape (key_of call) (get_or words (target_of (cond {A = Operation} b (Store (content shape slot index) (get_or (encode rows) index 0)) (Swap (key_of call) (naming slot departed)))) 0) log marks) (nat_le index (2 * length rows))
         (λ _. tt) (λ _. swaps (key_of call) stands.wants.near)
 
 -- the notes that are new among the polls tell readers as they are
@@ -202,11 +202,11 @@ notes_so shape state kept polls now present at note there = ⊎_elim inl
     inr (omega arith)) (present at note there)
 
 pub goes_so : (shape : Shape) (slots id : ℕ) (me : Me (Unit {0}) View) (desk : Desk) → me.0.role ≡ Writer desk → if_not_busy desk.place ≡ None
-    → let operation = going shape desk desk.place in Allows (Kept shape) slots id me (place_of operation) (becomes operation) (λ found after. (other : Desk) → me.0.role ≡ Writer other → Went other found me.0 after.0)
+    → let operation = going shape desk desk.place in Allows (Kept shape) slots id me (target_of operation) (becomes operation) (λ found after. (other : Desk) → me.0.role ≡ Writer other → Went other found me.0 after.0)
 goes_so shape slots id me desk is busy = let view = me.0 in let tells = Goes shape desk in let notes = GoesMarks shape view.marks view.pasts desk in let operation = going shape desk desk.place in let c = call_at desk.place in
     lifts shape id view operation tells notes slots me.1 (λ found next. (other : Desk) → view.role ≡ Writer other → Went other found view next) view.pasts (subst (λ r. CanStep shape id r operation tells) (sym is) (goes shape id desk busy))
     (goes_marked role_of marks_of shape id view view.pasts desk is busy) (knows_pasts shape id view)
-    (λ state kept at step marked. let found : ℕ = get_or state.words (place_of operation) 0 in let outcome = went shape desk desk.place found in
+    (λ state kept at step marked. let found : ℕ = get_or state.words (target_of operation) 0 in let outcome = went shape desk desk.place found in
     let there : get_elem? (map role_of state.views) id ≡ some (Writer desk) = at_map role_of state.views id view at ∙ ap some is in
     let own = subst (λ r. KnowsMarks role_of marks_of shape state.words state.views kept.log r view.marks) is (kept.marked.each id view at) in let sweep = own.sweep in
     let short : (counts : NoSlot) → outcome.1 ≡ Ended (writer.NoSlot counts) → Shortage shape kept.log desk c outcome counts × PolledAll shape desk.retired marked.now.polls = λ counts without. (go_short shape state.words (map role_of state.views) kept.log kept.core id desk there counts without, go_polled shape view.marks view.pasts desk found step.after (kept.log ++ step.entries) marked.now marked.news state.views desk.place sweep marked.told (counts, without)) in
@@ -253,6 +253,6 @@ puts_so shape slots id me desk call rows slot departed index is place_is low =
     let operation : going shape at at.place ≡ Store (content shape slot index) word = ap (λ (b : Bool). cond {A = Operation} b (Store (content shape slot index) word) (Swap (key_of call) (naming slot departed))) (le-leb index (2 * length rows) low) in
     let at_is : me.0.role ≡ Writer at = is ∙ (λ j. Writer (record desk { place = place_is j })) in
     let told : ℕ → Me (Unit {0}) View → Type 0 = λ found after. (other : Desk) → me.0.role ≡ Writer other → Went other found me.0 after.0 in
-    let allows = subst (λ (o : Operation). Allows (Kept shape) slots id me (place_of o) (becomes o) told) operation (goes_so shape slots id me at at_is refl) in
+    let allows = subst (λ (o : Operation). Allows (Kept shape) slots id me (target_of o) (becomes o) told) operation (goes_so shape slots id me at at_is refl) in
     tells_also (Kept shape) slots id me (content shape slot index) (λ _. word) told (λ _ after. (other : Desk) → me.0.role ≡ Writer other → Put other me.0 after.0)
     (λ found after so other also. put_leads other call rows slot departed index found me.0 after.0 (ap (λ (d : Desk). d.place) (same_desk me.0.role other at also at_is)) low (so other also)) allows

@@ -8,7 +8,7 @@ use Rattle.nr_model.specs.declared.calls.Call.TheVariants as model
 use Rattle.nr_model.specs.declared.calls.Reply.TheVariants as reply
 use Rattle.nr_model.specs.Batches.{applied}
 use Rattle.nr_model.specs.Histories.{Entry, after, entries_of}
-use Rattle.nr_model.specs.Maps.{key_of, state_of}
+use Rattle.nr_model.specs.Maps.{call_key, state_of}
 use Rattle.nr_model.specs.declared.states.KeyState.TheVariants as states
 use Rattle.nr_core.specs.declared.places.Retired.{Retired}
 use Rattle.nr_core.specs.declared.calls.NoSlot.{NoSlot}
@@ -24,10 +24,10 @@ use Rattle.nr_map.specs.declared.answers.Found.{Found}
 use Rattle.nr_map.specs.declared.answers.Found.TheVariants as found
 use Rattle.nr_map.specs.declared.answers.Asked.{Asked}
 use Rattle.nr_map.specs.declared.answers.Asked.TheVariants as asked
-use Rattle.nr_map.specs.Callers.{Caller, Gains, Grows, opening_map}
+use Rattle.nr_map.specs.Callers.{Caller, Gains, Grows, map_at_opening}
 use Rattle.nr_map.specs.Plays.{Lacks}
 use Rattle.nr_core.specs.Spares.{Spare}
-use Rattle.nr_map.specs.Spares.{Took, spare_of}
+use Rattle.nr_map.specs.Spares.{TookByPolls, spare_of}
 use Rattle.nr_marks.specs.Marks.{with_name, with_polls, without_name}
 use Rattle.nr_marks.specs.Puts.{put_count}
 use Rattle.nr_marks.specs.PollNotes.{Noted}
@@ -71,7 +71,7 @@ Retires (model.Cancel key) old before after = after ≡ before
 
 -- the key had that set, after what the caller had seen and learnt before its own entry
 abbrev pub KeyHad : ℕ → List Row → Caller → List Entry → Type 0
-KeyHad key rows old between = (number : ℕ) × (state_of (after (opening_map old.table) (old.seen ++ between)) key ≡ states.Rows number rows)
+KeyHad key rows old between = (number : ℕ) × (state_of (after (map_at_opening old.table) (old.seen ++ between)) key ≡ states.Rows number rows)
 
 -- a find of the writer's own
 abbrev pub LooksAt : ℕ → Caller → List Row → Caller → List Row → Found → Type 0
@@ -83,7 +83,7 @@ pub record Publishes (steps : ℕ) (old : Caller) (call : Call) (rows : List Row
   pub polls : ℕ
   pub slot : ℕ
   pub mid : Spare
-  pub took : Took slot polls (spare_of old) mid
+  pub took : TookByPolls slot polls (spare_of old) mid
   pub few : polls ≤ old.table.shape.readers + 1
   pub fresh : new.fresh ≡ mid.fresh
   pub numbers : new.numbers ≡ old.numbers
@@ -91,7 +91,7 @@ pub record Publishes (steps : ℕ) (old : Caller) (call : Call) (rows : List Row
   pub number : ℕ
   pub count : put_count new.seen ≡ suc number
   pub put : slice_index new.marks.puts slot ≡ number
-  pub marks : new.marks ≡ with_name (with_polls old.marks new.marks.polls) (key_of call) slot number
+  pub marks : new.marks ≡ with_name (with_polls old.marks new.marks.polls) (call_key call) slot number
   pub gains : Gains (steps + 2 * length rows + 2 + polls) old call reply.Done new
 
 -- A call that found no slot, after so many other steps and a poll of each retired slot. It is no entry: the writer has learnt readers' entries alone.

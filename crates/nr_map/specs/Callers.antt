@@ -8,10 +8,10 @@ use Rattle.nr_model.specs.Maps.{PartialMap}
 use Rattle.nr_model.specs.Histories.{Entry, IsLegal, after, entries_of}
 use Rattle.nr_core.specs.declared.shape.Shape.{Shape}
 use Rattle.nr_core.specs.declared.places.Retired.{Retired}
-use Rattle.nr_core.specs.Story.{entry, opening_map as map_opening}
+use Rattle.nr_core.specs.Story.{entry, opening_map}
 use Rattle.nr_marks.specs.Marks.{Marks, Past, gripped}
 use Rattle.nr_map.specs.Entries.{AreCallers}
-use Rattle.nr_map.specs.Views.{View, desk_of, grip_of, number_of}
+use Rattle.nr_map.specs.Views.{View, desk_of, grip_of, caller_number}
 
 -- which map it is, and its sizes
 pub record Table : Type 0 where
@@ -44,7 +44,7 @@ pub record Caller : Type 0 where
 abbrev pub caller_of : TableId → View → Caller
 caller_of id view = record {
   table = record { id = id; shape = view.shape };
-  number = number_of view.role;
+  number = caller_number view.role;
   seen = view.seen;
   mine = view.mine;
   steps = view.steps;
@@ -60,11 +60,11 @@ abbrev pub token : Seat (Unit {0}) View → Caller
 token seat = caller_of seat.table_id seat.me.0
 
 -- the map at opening, and after what the caller has seen
-abbrev pub opening_map : Table → PartialMap
-opening_map table = map_opening table.shape
+abbrev pub map_at_opening : Table → PartialMap
+map_at_opening table = opening_map table.shape
 
 abbrev pub map_seen : Caller → PartialMap
-map_seen caller = after (opening_map caller.table) caller.seen
+map_seen caller = after (map_at_opening caller.table) caller.seen
 
 -- in so many steps these entries of the caller's became the last ones of one legal history, which begins with all that the caller had seen
 pub record Grows (steps : ℕ) (old : Caller) (entries : List Entry) (new : Caller) : Type 0 where
@@ -73,7 +73,7 @@ pub record Grows (steps : ℕ) (old : Caller) (entries : List Entry) (new : Call
   pub between : List Entry
   pub seen : new.seen ≡ (old.seen ++ between) ++ entries
   pub mine : new.mine ≡ old.mine ++ entries
-  pub legal : IsLegal (opening_map old.table) new.seen
+  pub legal : IsLegal (map_at_opening old.table) new.seen
   -- of the caller's calls the history has just those that it made, each once
   pub own : entries_of new.seen new.number ≡ new.mine
   -- and of others' only finds and requests of the map's readers, and calls of its writer
@@ -98,3 +98,9 @@ pub record Rests (steps : ℕ) (old new : Caller) : Type 0 where
 -- the caller's own entries are those that it knows of itself
 abbrev pub KnowsOwn : Caller → Type 0
 KnowsOwn caller = entries_of caller.seen caller.number ≡ caller.mine
+
+-- what the caller has seen is a legal history of its map's callers, which has of its own calls just those that it made
+pub record IsSound (caller : Caller) : Type 0 where
+  pub legal : IsLegal (map_at_opening caller.table) caller.seen
+  pub own : KnowsOwn caller
+  pub callers : AreCallers caller.table.shape caller.seen

@@ -5,7 +5,7 @@ use Rattle.nr_model.specs.declared.calls.Call.TheVariants.{Find, Ask, Fill, Upda
 use Rattle.nr_model.specs.declared.calls.Reply.{Reply}
 use Rattle.nr_model.specs.declared.calls.Reply.TheVariants as reply
 use Rattle.nr_model.specs.Histories.{Entry}
-use Rattle.nr_model.specs.Maps.{key_of}
+use Rattle.nr_model.specs.Maps.{call_key}
 use Rattle.nr_core.specs.declared.shape.Shape.{Shape}
 use Rattle.nr_core.specs.Sums.{total}
 
@@ -20,7 +20,7 @@ is_reading (Cancel key) = false
 
 -- the entry is of a key of the map, and the writer's, or a find or a request of one of the readers
 abbrev pub IsCallers : Shape → Entry → Type 0
-IsCallers shape entry = (key_of entry.call < shape.keys) × ((entry.caller ≡ 0) ⊎ ((entry.caller ≤ shape.readers) × (is_reading entry.call ≡ true)))
+IsCallers shape entry = (call_key entry.call < shape.keys) × ((entry.caller ≡ 0) ⊎ ((entry.caller ≤ shape.readers) × (is_reading entry.call ≡ true)))
 
 -- so is each entry
 abbrev pub AreCallers : Shape → List Entry → Type 0

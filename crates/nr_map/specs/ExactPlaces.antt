@@ -29,8 +29,8 @@ abbrev pub in_use : Caller → List Past → ℕ
 in_use writer readers = slots_in_use writer.table.shape writer.seen readers
 
 -- The writer knew how all readers are, its call found no slot, and it gathered them again, unchanged: all slots are in use.
-abbrev pub NoSlotIsExact : Type 0
-NoSlotIsExact =
+abbrev pub NoSlotMeansAllInUse : Type 0
+NoSlotMeansAllInUse =
     (steps : ℕ) (call : Call) (counts : NoSlot) (old new after : Caller) (readers : List Past) →
     AllReaders old.table.shape.readers readers →
     AllKnown old.pasts readers →
@@ -40,8 +40,8 @@ NoSlotIsExact =
     in_use after readers ≡ after.table.shape.slots
 
 -- The writer had gathered all readers, put a set, and gathered them again, unchanged: before the call fewer slots were in use.
-abbrev pub DoneIsExact : Type 0
-DoneIsExact =
+abbrev pub DoneMeansFewerInUse : Type 0
+DoneMeansFewerInUse =
     (steps : ℕ) (call : Call) (rows : List Row) (old new after : Caller) (readers : List Past) →
     HasGathered old readers →
     Publishes steps old call rows new →

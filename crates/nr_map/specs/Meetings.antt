@@ -5,7 +5,7 @@ use lib.ListN.{get_elem?}
 use Rattle.nr_model.specs.Histories.{IsLegal, entries_of}
 use Rattle.nr_model.specs.Maps.{state_of}
 use Rattle.nr_map.specs.declared.answers.KeyKind.{KeyKind}
-use Rattle.nr_map.specs.Callers.{Caller, map_seen, opening_map}
+use Rattle.nr_map.specs.Callers.{Caller, map_seen, map_at_opening}
 use Rattle.nr_map.specs.Kinds.{kind_of}
 use Rattle.nr_core.specs.declared.places.Place.TheVariants.{Idle}
 use Rattle.nr_core.specs.declared.roles.Desk.{Desk}
@@ -21,7 +21,7 @@ pub record Learns (steps : ℕ) (old new : Caller) : Type 0 where
   pub number : new.number ≡ old.number
   pub seen : StartsWith new.seen old.seen
   pub mine : new.mine ≡ old.mine
-  pub legal : IsLegal (opening_map old.table) new.seen
+  pub legal : IsLegal (map_at_opening old.table) new.seen
   -- of the caller's calls the history has just those that it made, each once
   pub own : entries_of new.seen new.number ≡ new.mine
   -- and of others' only finds and requests of the map's readers, and calls of its writer

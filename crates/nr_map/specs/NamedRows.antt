@@ -18,14 +18,14 @@ use Rattle.nr_map.specs.Views.{desk_of}
 use Rattle.nr_map.specs.WriterSeats.{KeyHas, LeadsIn, MapSeat}
 
 -- the rows of a filled key
-abbrev pub rows_of : KeyState → List Row
-rows_of (Hole number) = []
-rows_of (Asked number) = []
-rows_of (Rows number rows) = rows
+abbrev pub rows_of_state : KeyState → List Row
+rows_of_state (Hole number) = []
+rows_of_state (Asked number) = []
+rows_of_state (Rows number rows) = rows
 
 -- those that the call's key has after what the seat has seen
 abbrev pub rows_named : Table → WriterCall → MapSeat → List Row
-rows_named table call seat = rows_of (state_of (map_after table.shape seat.me.0.seen) (key_of call))
+rows_named table call seat = rows_of_state (state_of (map_after table.shape seat.me.0.seen) (key_of call))
 
 -- where the first words of the set, so many, take the writer
 abbrev pub reads_on : Table → Desk → WriterCall → ℕ → List Row → ℕ → Desk × Step

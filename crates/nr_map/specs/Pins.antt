@@ -8,7 +8,7 @@ use Rattle.nr_marks.specs.Marks.{acted}
 use Rattle.nr_marks.specs.Puts.{put_number}
 use Rattle.nr_map.specs.Callers.{Caller, Gains, KnowsOwn, token}
 use Rattle.nr_map.specs.Seats.{HoldsAt}
-use Rattle.nr_map.specs.Views.{View, number_of, rows_held}
+use Rattle.nr_map.specs.Views.{View, caller_number, rows_held}
 
 -- the reader, and the set that its find found
 pub record Pinned : Type 0 where
@@ -21,7 +21,7 @@ pinned seat = record { reader = token seat; rows = rows_held seat.me.0.role }
 -- the seat of a reader that holds so many rows, in the slot whose first content word stands at `begin`
 pub record Pins (seat : Seat (Unit {0}) View) (number begin count : ℕ) : Type 0 where
   pub holds : HoldsAt (token seat).table begin seat
-  pub number_is : number ≡ number_of seat.me.0.role
+  pub number_is : number ≡ caller_number seat.me.0.role
   pub count_is : count ≡ length (rows_held seat.me.0.role)
   pub own : KnowsOwn (token seat)
 

@@ -40,16 +40,16 @@ use Rattle.nr_marks.specs.PollNotes.{AllHeld}
 use Rattle.nr_marks.specs.Puts.{put_number}
 use Rattle.nr_map.specs.Entries.{acts_told, to_depart}
 use Rattle.nr_map.specs.Kinds.{kind_of, kind_shown}
-use Rattle.nr_map.specs.Views.{View, number_of, grip_of, is_sized, rows_held, slot_held}
+use Rattle.nr_map.specs.Views.{View, caller_number, grip_of, is_sized, rows_held, slot_held}
 use Rattle.nr_map.specs.Callers.{Caller, Grows, Rests, caller_of, map_seen}
 
 -- a reader that holds nothing
 abbrev pub IsIdle : Role → Type 0
-IsIdle role = role ≡ Reader (number_of role) Nothing
+IsIdle role = role ≡ Reader (caller_number role) Nothing
 
 -- the reader with its hold, and whether it has read the set's size
 abbrev pub holding : Role → Bool → Role
-holding role sized = Reader (number_of role) (On (slot_held role) (rows_held role) sized)
+holding role sized = Reader (caller_number role) (On (slot_held role) (rows_held role) sized)
 
 -- a reader that holds a slot, with a row set
 pub record Holds (shape : Shape) (role : Role) : Type 0 where
@@ -71,22 +71,22 @@ Then = Step (Unit {0}) → Me (Unit {0}) View → ℕ → Me (Unit {0}) View →
 -- a request: the reader holds nothing before and after
 pub record Asked (key found : ℕ) (old new : View) : Type 0 where
   pub role : new.role ≡ old.role
-  pub gains : Advances old (entry (number_of old.role) (model.Ask key) (ask_word found) ∷ []) new
+  pub gains : Advances old (entry (caller_number old.role) (model.Ask key) (ask_word found) ∷ []) new
   pub marks : new.marks ≡ old.marks
 
-abbrev pub asked : Then
-asked step before found after = Asked step.word found before.0 after.0
+abbrev pub has_asked : Then
+has_asked step before found after = Asked step.word found before.0 after.0
 
 -- an arrive: the reader holds the slot with the set that the key had, or the key was a hole
 pub record Arrived (key found : ℕ) (old new : View) : Type 0 where
-  pub number : number_of new.role ≡ number_of old.role
-  pub held : is_filled found ≡ true → Holds old.shape new.role × (slot_held new.role ≡ slot_of found) × Advances old (entry (number_of old.role) (model.Find key) (reply.Rows (rows_held new.role)) ∷ []) new
-  pub hole : is_filled found ≡ false → (new.role ≡ old.role) × Advances old (entry (number_of old.role) (model.Find key) reply.Hole ∷ []) new
+  pub number : caller_number new.role ≡ caller_number old.role
+  pub held : is_filled found ≡ true → Holds old.shape new.role × (slot_held new.role ≡ slot_of found) × Advances old (entry (caller_number old.role) (model.Find key) (reply.Rows (rows_held new.role)) ∷ []) new
+  pub hole : is_filled found ≡ false → (new.role ≡ old.role) × Advances old (entry (caller_number old.role) (model.Find key) reply.Hole ∷ []) new
   -- one act more; the set has the number of what was put last for the key
   pub marks : new.marks ≡ acted old.marks (put_number new.seen key)
 
-abbrev pub arrived : Then
-arrived step before found after = Arrived step.word found before.0 after.0
+abbrev pub has_arrived : Then
+has_arrived step before found after = Arrived step.word found before.0 after.0
 
 -- a read of a word of the held slot gives the word of the set
 pub record Read (place found : ℕ) (old new : View) : Type 0 where
@@ -95,17 +95,17 @@ pub record Read (place found : ℕ) (old new : View) : Type 0 where
   pub waits : Waits old new
   pub marks : new.marks ≡ old.marks
 
-abbrev pub read : Then
-read step before found after = Read step.word found before.0 after.0
+abbrev pub has_read : Then
+has_read step before found after = Read step.word found before.0 after.0
 
 -- a departure ends the hold
 pub record Departed (old new : View) : Type 0 where
-  pub role : new.role ≡ Reader (number_of old.role) Nothing
+  pub role : new.role ≡ Reader (caller_number old.role) Nothing
   pub waits : Waits old new
   pub marks : new.marks ≡ acted old.marks old.marks.put
 
-abbrev pub departed : Then
-departed step before found after = Departed before.0 after.0
+abbrev pub has_departed : Then
+has_departed step before found after = Departed before.0 after.0
 
 -- THE WRITER'S STEPS
 

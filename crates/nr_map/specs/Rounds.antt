@@ -3,9 +3,9 @@ use Rattle.std.specs.Prelude.{◌≡◌, ℕ, ◌+◌, ◌<◌, ◌&&◌, Bool, 
 use Rattle.std.specs.List.{count_by}
 use Rattle.nr_model.specs.Histories.{Entry, IsLegal, asks, cancels, cancels_key, entries_of, fills, fills_key, is_cancelled, is_done, is_send, sends}
 use Rattle.nr_model.specs.Laws.{pending}
-use Rattle.nr_model.specs.Maps.{key_of, state_of}
+use Rattle.nr_model.specs.Maps.{call_key, state_of}
 use Rattle.nr_core.specs.Sums.{total}
-use Rattle.nr_map.specs.Callers.{Caller, KnowsOwn, map_seen, opening_map}
+use Rattle.nr_map.specs.Callers.{Caller, KnowsOwn, map_seen, map_at_opening}
 use Rattle.nr_map.specs.Entries.{AreCallers}
 use Rattle.nr_map.specs.Rule.{StartsWith}
 
@@ -32,7 +32,7 @@ RoundsTellAll = (log : List Entry) (readers : List Caller) → All (HasCalls log
 pub record KnowsAll (writer : Caller) (readers : List Caller) : Type 0 where
   pub number : writer.number ≡ 0
   pub own : KnowsOwn writer
-  pub legal : IsLegal (opening_map writer.table) writer.seen
+  pub legal : IsLegal (map_at_opening writer.table) writer.seen
   pub callers : AreCallers writer.table.shape writer.seen
   pub count : length readers ≡ writer.table.shape.readers
   pub numbers : (at : ℕ) (other : Caller) → at < length readers → (slice_index_or readers at other).number ≡ at + 1
@@ -56,13 +56,13 @@ SendsOfAll =
 
 -- a request that was answered Send, a fill that was done, and a cancel that was, of whatever key
 abbrev pub is_sent : Entry → Bool
-is_sent entry = asks (key_of entry.call) entry.call && is_send entry.reply
+is_sent entry = asks (call_key entry.call) entry.call && is_send entry.reply
 
 abbrev pub is_fill : Entry → Bool
-is_fill entry = fills_key (key_of entry.call) entry.call && is_done entry.reply
+is_fill entry = fills_key (call_key entry.call) entry.call && is_done entry.reply
 
 abbrev pub is_cancel : Entry → Bool
-is_cancel entry = cancels_key (key_of entry.call) entry.call && is_cancelled entry.reply
+is_cancel entry = cancels_key (call_key entry.call) entry.call && is_cancelled entry.reply
 
 -- so of all keys: requests answered Send are fills and cancels, and one for each key that is asked
 abbrev pub SendsOfAllKeys : Type 0

@@ -7,11 +7,11 @@ use Rattle.nr_core.specs.declared.calls.NoSlot.{NoSlot}
 use Rattle.nr_map.specs.declared.answers.FillFault.TheVariants as fill
 use Rattle.nr_map.specs.declared.answers.UpdateFault.TheVariants as update
 use Rattle.nr_map.specs.Answers.{FillsKey, HasNoSlot, Publishes, UpdatesKey}
-use Rattle.nr_map.specs.Callers.{Caller}
+use Rattle.nr_map.specs.Callers.{Caller, Table}
 
 -- the map has a slot for each key, each reader and one more
-abbrev pub HasRoomForAll : Caller → Type 0
-HasRoomForAll caller = caller.table.shape.keys + caller.table.shape.readers + 1 ≤ caller.table.shape.slots
+abbrev pub HasRoomForAll : Table → Type 0
+HasRoomForAll map = map.shape.keys + map.shape.readers + 1 ≤ map.shape.slots
 
 -- a call that was done polled at most one slot more than there are readers
 abbrev pub PollsAreFew : Type 0
@@ -24,14 +24,14 @@ abbrev pub NoSlotIsRare : Type 0
 NoSlotIsRare =
     (steps : ℕ) (call : Call) (counts : NoSlot) (old new : Caller) →
     HasNoSlot steps old call counts new →
-    (length old.retired ≤ old.table.shape.readers) × (counts.held ≤ old.table.shape.readers) × (HasRoomForAll old → ⊥)
+    (length old.retired ≤ old.table.shape.readers) × (counts.held ≤ old.table.shape.readers) × (HasRoomForAll old.table → ⊥)
 
 abbrev pub RoomForFills : Type 0
 RoomForFills =
     (key number : ℕ) (rows : List Row) (old new : Caller) (counts : NoSlot) →
-    HasRoomForAll old → FillsKey key number rows old new (Err (fill.NoSlot counts)) → ⊥
+    HasRoomForAll old.table → FillsKey key number rows old new (Err (fill.NoSlot counts)) → ⊥
 
 abbrev pub RoomForUpdates : Type 0
 RoomForUpdates =
     (bound key : ℕ) (batch : List Delta) (old new : Caller) (counts : NoSlot) →
-    HasRoomForAll old → UpdatesKey bound key batch old new (Err (update.NoSlot counts)) → ⊥
+    HasRoomForAll old.table → UpdatesKey bound key batch old new (Err (update.NoSlot counts)) → ⊥

@@ -18,7 +18,7 @@ abbrev pub spare_of : Caller → Spare
 spare_of caller = record { slots = caller.table.shape.slots; fresh = caller.fresh; retired = caller.retired; numbers = caller.numbers }
 
 -- a slot was taken, by so many polls: the next that was never taken, or else the retired one at which the last poll was made
-abbrev pub Took : ℕ → ℕ → Spare → Spare → Type 0
-Took slot polls old new =
+abbrev pub TookByPolls : ℕ → ℕ → Spare → Spare → Type 0
+TookByPolls slot polls old new =
     ((old.fresh < old.slots) × (slot ≡ old.fresh) × (polls ≡ 0) × (new.fresh ≡ old.fresh + 1) × (new.retired ≡ old.retired))
     ⊎ ((old.slots ≤ old.fresh) × (place : ℕ) × (entry : Retired) × (get_elem? old.retired place ≡ some entry) × (entry.slot ≡ slot) × (polls ≡ place + 1) × (new.fresh ≡ old.fresh) × (new.retired ≡ remove old.retired place))

@@ -29,10 +29,10 @@ pub record View : Type 0 where
   pub told_pasts : List Past
 
 -- the number of the caller; the writer's is 0
-abbrev pub number_of : Role → ℕ
-number_of (Writer desk) = 0
-number_of (Reader reader grip) = reader
-number_of Note = 0
+abbrev pub caller_number : Role → ℕ
+caller_number (Writer desk) = 0
+caller_number (Reader reader grip) = reader
+caller_number Note = 0
 
 -- the writer's desk, and that of who has none
 abbrev pub no_desk : Desk
@@ -49,23 +49,23 @@ grip_of (Writer desk) = Nothing
 grip_of (Reader reader grip) = grip
 grip_of Note = Nothing
 
-abbrev pub slot_in : Grip → ℕ
-slot_in Nothing = 0
-slot_in (On slot rows sized) = slot
+abbrev pub slot_gripped : Grip → ℕ
+slot_gripped Nothing = 0
+slot_gripped (On slot rows sized) = slot
 
-abbrev pub rows_in : Grip → List Row
-rows_in Nothing = []
-rows_in (On slot rows sized) = rows
+abbrev pub rows_gripped : Grip → List Row
+rows_gripped Nothing = []
+rows_gripped (On slot rows sized) = rows
 
 abbrev pub is_sized : Grip → Bool
 is_sized Nothing = false
 is_sized (On slot rows sized) = sized
 
 abbrev pub slot_held : Role → ℕ
-slot_held role = slot_in (grip_of role)
+slot_held role = slot_gripped (grip_of role)
 
 abbrev pub rows_held : Role → List Row
-rows_held role = rows_in (grip_of role)
+rows_held role = rows_gripped (grip_of role)
 
 -- the shape in a view that nobody has
 abbrev pub no_shape : Shape

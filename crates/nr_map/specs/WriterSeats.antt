@@ -1,12 +1,10 @@
 -- Where the writer's seat stands between two steps, and where a step leads it.
-use Rattle.std.specs.Prelude.{◌≡◌, ℕ, suc, ◌+◌, ◌*◌, ◌<◌, ◌≤◌, ◌⊎◌, nat_lt, if◌then◌else◌, List, [], ◌∷◌, ◌++◌, length, slice_index}
-use mathlib.Core.Option.{some}
-use lib.ListN.{get_elem?}
+use Rattle.std.specs.Prelude.{◌≡◌, ℕ, suc, ◌+◌, ◌*◌, ◌≤◌, nat_lt, if◌then◌else◌, List, [], ◌∷◌, ◌++◌, length, slice_index}
 use Rattle.atomic_table.specs.declared.shared.Seat.{Seat}
 use Rattle.nr_model.specs.declared.rows.Row.{Row}
 use Rattle.nr_model.specs.declared.calls.Call.{Call}
 use Rattle.nr_model.specs.declared.calls.Reply.TheVariants as reply
-use Rattle.nr_model.specs.Histories.{Entry, IsLegal}
+use Rattle.nr_model.specs.Histories.{Entry}
 use Rattle.nr_model.specs.Maps.{state_of}
 use Rattle.nr_model.specs.declared.states.KeyState.TheVariants as states
 use Rattle.nr_words.specs.SetWords.{encode}
@@ -18,17 +16,15 @@ use Rattle.nr_core.specs.Writer.{moved_to, no_slot, settled, unnamed, went}
 use Rattle.nr_core.specs.declared.calls.NoSlot.{NoSlot}
 use Rattle.nr_core.specs.declared.calls.Step.{Step}
 use Rattle.nr_core.specs.declared.calls.Step.TheVariants.{Ended, Going}
-use Rattle.nr_core.specs.declared.places.Retired.{Retired}
 use Rattle.nr_core.specs.declared.shape.Shape.{Shape}
 use Rattle.nr_core.specs.declared.calls.WReply.TheVariants as writer
 use Rattle.nr_core.specs.declared.calls.WriterCall.{WriterCall}
 use Rattle.nr_core.specs.declared.places.Place.TheVariants.{Idle, Leaving, Putting, Reading, Searching, Withdrawing}
 use Rattle.nr_core.specs.declared.roles.Desk.{Desk}
 use Rattle.nr_core.specs.declared.roles.Role.TheVariants.{Writer}
-use Rattle.nr_map.specs.Entries.{AreCallers}
-use Rattle.nr_map.specs.Callers.{Caller, Grows, KnowsOwn, Table, map_seen, opening_map, token}
+use Rattle.nr_map.specs.Callers.{Grows, KnowsOwn, Table, map_seen, token, IsSound}
 use Rattle.nr_core.specs.Spares.{Spare}
-use Rattle.nr_map.specs.Spares.{Took, desk_with}
+use Rattle.nr_map.specs.Spares.{TookByPolls, desk_with}
 use Rattle.nr_map.specs.Plays.{Finds, Lacks, NotesTell, Room, SwapsAt, call_at, next_put}
 use Rattle.nr_map.specs.Polls.{AllHeldThen}
 use Rattle.nr_marks.specs.MarkSteps.{GoesMarks}
@@ -137,18 +133,12 @@ pub record PutsTo (table : Table) (desk : Desk) (old new : MapSeat) : Type 0 whe
   pub grows : Grows 1 (token old) [] (token new)
   pub marks : new.me.0.marks ≡ old.me.0.marks
 
--- what the writer knows is legal, and has the entries of the map's callers, with its own
-pub record Knows (caller : Caller) : Type 0 where
-  pub legal : IsLegal (opening_map caller.table) caller.seen
-  pub callers : AreCallers caller.table.shape caller.seen
-  pub own : KnowsOwn caller
-
 -- the call has its set, and looks for a slot
 pub record Settles (table : Table) (call : WriterCall) (rows : List Row) (spare : Spare) (seat : MapSeat) : Type 0 where
   pub slots : spare.slots ≡ table.shape.slots
   pub writes : WritesAt table (settled table.shape (desk_with spare Idle) call rows).0 seat
   pub short : (counts : NoSlot) → (settled table.shape (desk_with spare Idle) call rows).1 ≡ Ended (writer.NoSlot counts) → Lacks (call_of call) counts (token seat)
-  pub knows : Knows (token seat)
+  pub knows : IsSound (token seat)
   pub polls : seat.me.0.marks.polls ≡ []
 
 -- the key's set after the history before the step that ended a read-through
@@ -165,7 +155,7 @@ swept shape desk call rows polls = (if nat_lt polls (length desk.retired) then (
 -- the slot that a call took, with its departures, or there was none
 pub record TakesSlot (table : Table) (call : WriterCall) (rows : List Row) (slot departed : ℕ) (spare after : Spare) (old new : MapSeat) : Type 0 where
   pub polls : ℕ
-  pub took : Took slot polls spare after
+  pub took : TookByPolls slot polls spare after
   -- all polls but the last one found their slots held, each by another reader
   pub few : polls ≤ table.shape.readers + 1
   pub slots : after.slots ≡ spare.slots
@@ -188,7 +178,7 @@ pub record PublishesSet (table : Table) (call : WriterCall) (rows : List Row) (s
   pub polls : ℕ
   pub slot : ℕ
   pub mid : Spare
-  pub took : Took slot polls spare mid
+  pub took : TookByPolls slot polls spare mid
   -- the word that the key had
   pub word : ℕ
   pub log : List Entry

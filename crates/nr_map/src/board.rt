@@ -69,9 +69,9 @@ pub struct Note {
 
 impl Model for Note {
     ghost use Rattle.atomic_table.specs.declared.shared.Seat.{Seat as TableSeat};
-    ghost use Rattle.nr_map.specs.Views.{View as Knowledge};
+    ghost use Rattle.nr_map.specs.Views.{View};
 
-    ghost Value = { TableSeat (Unit {0}) Knowledge };
+    ghost Value = { TableSeat (Unit {0}) View };
 
     ghost view = { λ note. note.seat };
 }

@@ -1,5 +1,5 @@
 //! Laws over the definitions alone. Nothing runs here: each function's contract is the law.
-ghost use Rattle.nr_map.specs.ExactPlaces.{DoneIsExact, NoSlotIsExact};
+ghost use Rattle.nr_map.specs.ExactPlaces.{DoneMeansFewerInUse, NoSlotMeansAllInUse};
 ghost use Rattle.nr_map.specs.SlotBounds.{NoSlotIsRare, PollsAreFew, RoomForFills, RoomForUpdates};
 ghost use Rattle.nr_map.specs.Rounds.{BeginningsMeet, CallsStay, EntriesAreCallers, RoundsTellAll, SendsOfAll, SendsOfAllKeys};
 
@@ -39,15 +39,15 @@ pub fn beginnings_meet()
 
 /// Where the writer knows how all readers are, and gathers them again after a call that found no
 /// slot, the filled keys and the different pinned put numbers that no key has are all the slots.
-pub fn no_slot_is_exact()
-    ensures { NoSlotIsExact }
+pub fn no_slot_means_all_in_use()
+    ensures { NoSlotMeansAllInUse }
 {
     nr_marks::laws::no_slot_by_marks();
 }
 
 /// Where it gathers them before and after a fill or an update that was done, they were fewer.
-pub fn done_is_exact()
-    ensures { DoneIsExact }
+pub fn done_means_fewer_in_use()
+    ensures { DoneMeansFewerInUse }
 {
     nr_marks::laws::done_by_marks();
 }

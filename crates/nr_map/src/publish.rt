@@ -4,8 +4,8 @@ ghost use Rattle.nr_core.specs.States.{key_of};
 ghost use Rattle.nr_core.specs.Writer.{moved_to};
 ghost use Rattle.nr_core.specs.declared.places.Place.TheVariants.{Putting};
 ghost use Rattle.nr_map.specs.Views.{desk_of};
-ghost use Rattle.nr_map.specs.Callers.{Grows, token};
-ghost use Rattle.nr_map.specs.WriterSeats.{Knows, Settles, WritesAt};
+ghost use Rattle.nr_map.specs.Callers.{Grows, token, IsSound};
+ghost use Rattle.nr_map.specs.WriterSeats.{Settles, WritesAt};
 
 use crate::board::Seat;
 use crate::only_proved::only_proved;
@@ -95,7 +95,7 @@ impl ReaderMap {
 
     fn put_rows<G: Given>(&self, seat: &mut Seat, rows: &[Row], taken: Taken)
         requires writer { WritesAt self.now (moved_to (desk_of seat.old.me.0.role) (Putting G.call rows.now taken.slot taken.departures 0)) seat.old }
-        requires knows { Knows (token seat.old) }
+        requires knows { IsSound (token seat.old) }
         ensures writer { WritesAt self.now (moved_to (desk_of seat.old.me.0.role) (Putting G.call rows.now taken.slot taken.departures (2 * length rows.now + 1))) seat.new }
         ensures grows { Grows (2 * length rows.now + 1) (token seat.old) [] (token seat.new) }
         ensures marks { seat.new.me.0.marks ≡ seat.old.me.0.marks }

@@ -32,33 +32,33 @@ impl Split<View> for Seats {
 pub struct Asks;
 
 impl Play<(), View> for Asks {
-    ghost use Rattle.nr_map.specs.Plays.{asked};
+    ghost use Rattle.nr_map.specs.Plays.{has_asked};
 
-    ghost then = { asked };
+    ghost then = { has_asked };
 }
 
 pub struct Arrives;
 
 impl Play<(), View> for Arrives {
-    ghost use Rattle.nr_map.specs.Plays.{arrived};
+    ghost use Rattle.nr_map.specs.Plays.{has_arrived};
 
-    ghost then = { arrived };
+    ghost then = { has_arrived };
 }
 
 pub struct Reads;
 
 impl Play<(), View> for Reads {
-    ghost use Rattle.nr_map.specs.Plays.{read};
+    ghost use Rattle.nr_map.specs.Plays.{has_read};
 
-    ghost then = { read };
+    ghost then = { has_read };
 }
 
 pub struct Departs;
 
 impl Play<(), View> for Departs {
-    ghost use Rattle.nr_map.specs.Plays.{departed};
+    ghost use Rattle.nr_map.specs.Plays.{has_departed};
 
-    ghost then = { departed };
+    ghost then = { has_departed };
 }
 
 /// The call that a look begins, for the proof alone.

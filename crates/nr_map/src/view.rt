@@ -5,9 +5,9 @@ use std::marker::Model;
 pub struct View {}
 
 impl Model for View {
-    ghost use Rattle.nr_map.specs.Views.{View as Knowledge, no_shape, opener};
+    ghost use Rattle.nr_map.specs.Views.{View, no_shape, opener};
 
-    ghost Value = { Knowledge };
+    ghost Value = { View };
 
     ghost view = { λ _. opener no_shape };
 }

@@ -2,7 +2,7 @@
 //! scripts against the sequential model.
 ghost use Rattle.std.specs.Prelude.{◌≡◌, ◌<◌, IfOk};
 ghost use Rattle.std.specs.Bool.{OnTrue};
-ghost use Rattle.nr_model.specs.Maps.{FillFits, key_count, key_of};
+ghost use Rattle.nr_model.specs.Maps.{FillFits, key_count, call_key};
 
 use crate::calls::{Told, ask, cancel, evict, find, look, rows_of, state};
 use crate::worked::Worked;
@@ -191,7 +191,7 @@ impl Dice {
 
     /// Some call at a key of the model.
     fn call(&mut self, model: &SeqMap) -> Result<Call, Fail>
-        ensures { IfOk result (λ call. key_of call < key_count model.now) }
+        ensures { IfOk result (λ call. call_key call < key_count model.now) }
     {
         let key = self.roll(u64::from(model.keys())) as u32;
         match self.roll(8) {
@@ -206,7 +206,7 @@ impl Dice {
 
     /// A fill by that number, or by one below or above it.
     fn fill(&mut self, key: u32, number: u64) -> Call
-        ensures { key_of result ≡ key }
+        ensures { call_key result ≡ key }
     {
         let near = number.wrapping_add(self.roll(3));
         Call::Fill(key, near.wrapping_sub(1), one_row(self.roll(3)))
@@ -214,7 +214,7 @@ impl Dice {
 
     /// An update by one row more or less.
     fn update(&mut self, key: u32) -> Result<Call, Fail>
-        ensures { IfOk result (λ call. key_of call ≡ key) }
+        ensures { IfOk result (λ call. call_key call ≡ key) }
     {
         let a = self.roll(3);
         let plus = self.roll(2) == 0;
@@ -241,7 +241,7 @@ fn answers(
     reply: &Reply,
 ) -> bool
     requires own { (writer.old.table ≡ map.now) × (reader.old.table ≡ map.now) }
-    requires key { key_of call.now < map.now.shape.keys }
+    requires key { call_key call.now < map.now.shape.keys }
     requires fits { FillFits map.now.shape.rows call.now }
     ensures own { (writer.new.table ≡ map.now) × (reader.new.table ≡ map.now) }
 {

@@ -12,7 +12,7 @@ use Rattle.nr_core.proofs.Settle.{key_same}
 use Rattle.nr_core.proofs.Sums.{below-same, only-is, some_term}
 use Rattle.nr_core.specs.Core.{Core}
 use Rattle.nr_core.specs.Roles.{held, retirements, taken}
-use Rattle.nr_core.specs.Operations.{becomes, place_of}
+use Rattle.nr_core.specs.Operations.{becomes, target_of}
 use Rattle.nr_core.specs.declared.operation.Operation.{Operation}
 use Rattle.nr_core.specs.Slots.{name_number, bound_of}
 use Rattle.nr_core.specs.States.{key_of}
@@ -67,15 +67,15 @@ module _ {A : Type 0} (role : A → Role) (marks : A → Marks) where
   -- a writer's step, after which its desk and marks are these
   pub writer_step : (shape : Shape) (id : ℕ) (me : A) (operation : Operation) (tells : MarkTelling) (words : List ℕ) (callers : List A) (log : List Entry) → Core shape words (map role callers) log → Marked role marks shape words callers log → get_elem? callers id ≡ some me → (desk desk' : Desk) → role me ≡ Writer desk
       → (after : Role) (entries : List Entry) → after ≡ Writer desk' → (now : Marks) (news : List Past) → AllSince role marks callers news → NotesPresent role marks callers (marks me).polls now.polls
-      → Desked role marks shape (set words (place_of operation) (becomes operation (get_or words (place_of operation) 0))) callers (log ++ entries) desk' now
-      → tells (get_or words (place_of operation) 0) after (log ++ entries) now news → Remarked role marks shape words callers log id me operation after entries tells
+      → Desked role marks shape (set words (target_of operation) (becomes operation (get_or words (target_of operation) 0))) callers (log ++ entries) desk' now
+      → tells (get_or words (target_of operation) 0) after (log ++ entries) now news → Remarked role marks shape words callers log id me operation after entries tells
   writer_step shape id me operation tells words callers log core m at desk desk' was after entries is now news since noted own told = record {
     now = now;
     news = news;
     since = since;
     evolves = λ who _ _. evolves_writer role marks me who desk was;
-    marked = λ who is_role is_marks. marked_writer role marks shape words (set words (place_of operation) (becomes operation (get_or words (place_of operation) 0))) callers log (log ++ entries) id me who desk desk' core at was (is_role ∙ is) m
-        (subst (Desked role marks shape (set words (place_of operation) (becomes operation (get_or words (place_of operation) 0))) callers (log ++ entries) desk') (sym is_marks) own);
+    marked = λ who is_role is_marks. marked_writer role marks shape words (set words (target_of operation) (becomes operation (get_or words (target_of operation) 0))) callers log (log ++ entries) id me who desk desk' core at was (is_role ∙ is) m
+        (subst (Desked role marks shape (set words (target_of operation) (becomes operation (get_or words (target_of operation) 0))) callers (log ++ entries) desk') (sym is_marks) own);
     noted = noted;
     told = told;
   }

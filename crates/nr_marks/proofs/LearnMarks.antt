@@ -15,7 +15,7 @@ use Rattle.nr_core.specs.Core.{AtPlace, Core, Grips}
 use Rattle.nr_core.specs.Roles.{held, holds, retirements, taken}
 use Rattle.nr_core.specs.declared.operation.Operation.TheVariants.{Load}
 use Rattle.nr_core.specs.Slots.{name_number, unused}
-use Rattle.nr_core.specs.Steps.{Learns}
+use Rattle.nr_core.specs.Steps.{LoadsWord}
 use Rattle.nr_core.specs.Story.{map_after}
 use Rattle.nr_core.specs.Sums.{below, only}
 use Rattle.nr_core.specs.declared.places.Place.{Place}
@@ -99,7 +99,7 @@ module _ {A : Type 0} (role : A → Role) (marks : A → Marks) where
 
   module _ (shape : Shape) (id : ℕ) (me : A) (told : List Past) (place : ℕ) where
     -- the writer learns how the readers are that it was told of
-    pub learns_writer : (desk : Desk) → role me ≡ Writer desk → CanMark role marks shape id me told (Load place) (Learns (role me)) (WriterLearns shape (marks me) desk told)
+    pub learns_writer : (desk : Desk) → role me ≡ Writer desk → CanMark role marks shape id me told (Load place) (LoadsWord (role me)) (WriterLearns shape (marks me) desk told)
     learns_writer desk was words callers log core m once at since after entries ans =
         let own = desk_of role marks shape words callers log id me desk m at was in let words' = set words place (get_or words place 0) in
         let t = refreshed shape words callers log core once id me desk at was own told since in
@@ -108,9 +108,9 @@ module _ {A : Type 0} (role : A → Role) (marks : A → Marks) where
         (refl, t.2, subst (λ (l : List Entry). Lists desk (marks me) shape (log ++ l)) (sym ans.1) (subst (Lists desk (marks me) shape) (sym (append-nil log)) (listed role marks shape words callers log id me desk core at was own)))
 
     -- a reader compares itself with what it was told of itself
-    pub learns_reader : (reader : ℕ) (grip : Grip) → role me ≡ Reader reader grip → CanMark role marks shape id me told (Load place) (Learns (role me)) (ReaderLearns reader grip (marks me) told)
+    pub learns_reader : (reader : ℕ) (grip : Grip) → role me ≡ Reader reader grip → CanMark role marks shape id me told (Load place) (LoadsWord (role me)) (ReaderLearns reader grip (marks me) told)
     learns_reader reader grip was words callers log core m once at since after entries ans =
-        reader_step role marks shape id me told (Load place) (Learns (role me)) (ReaderLearns reader grip (marks me) told) words callers log m at reader grip grip was after entries (ans.0 ∙ was)
+        reader_step role marks shape id me told (Load place) (LoadsWord (role me)) (ReaderLearns reader grip (marks me) told) words callers log m at reader grip grip was after entries (ans.0 ∙ was)
         (λ j _. ap (λ l. name_number (get_or l j 0)) (set-get_or words place 0)) (λ k. ap (λ l. put_number (log ++ l) k) ans.1 ∙ nil_number log k) (ap (λ l. put_count (log ++ l)) ans.1 ∙ nil_count log) (marks me) refl (inl (refl, refl, refl))
         (λ j slot u desk there writes t e. (t.held id reader slot me grip at was e, λ _. e)) (
           refl,

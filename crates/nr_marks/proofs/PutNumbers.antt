@@ -2,7 +2,7 @@
 use Rattle.std.proofs.Common.{List, [], ap, append-nil, arith, cond, false, nat_eq, ℕ, ◌++◌, ◌+◌, ◌∙◌, ◌∷◌, ◌≡◌, ◌≤◌}
 use Rattle.std.specs.Prelude.{◌&&◌}
 use Rattle.nr_model.specs.Histories.{Entry, is_done}
-use Rattle.nr_model.specs.Maps.{key_of}
+use Rattle.nr_model.specs.Maps.{call_key}
 use Rattle.nr_core.proofs.Sums.{total-append}
 use Rattle.nr_marks.specs.Puts.{put_count, put_from, put_number, puts_at, puts_set}
 
@@ -23,7 +23,7 @@ count_grows log more = let t = total-append puts_set log more in omega arith
 
 -- an entry that puts nothing
 pub quiet_number : (log : List Entry) (e : Entry) (key : ℕ) → is_done e.reply ≡ false → put_number (log ++ e ∷ []) key ≡ put_number log key
-quiet_number log e key z = put_more log e key ∙ ap (λ b. cond (b && nat_eq (key_of e.call) key) (put_count log) (put_number log key)) z
+quiet_number log e key z = put_more log e key ∙ ap (λ b. cond (b && nat_eq (call_key e.call) key) (put_count log) (put_number log key)) z
 
 pub quiet_count : (log : List Entry) (e : Entry) → is_done e.reply ≡ false → put_count (log ++ e ∷ []) ≡ put_count log
 quiet_count log e z = let t = count_more log e in let none : puts_set e ≡ 0 = ap (λ b. cond {A = ℕ} b 1 0) z in omega arith

@@ -17,7 +17,7 @@ use Rattle.nr_core.proofs.KeyWords.{name-asked, name-bumped}
 use Rattle.nr_core.proofs.Sums.{below-term, only-same}
 use Rattle.nr_core.specs.Core.{Core}
 use Rattle.nr_core.specs.Roles.{retirements}
-use Rattle.nr_core.specs.Operations.{becomes, place_of}
+use Rattle.nr_core.specs.Operations.{becomes, target_of}
 use Rattle.nr_core.specs.declared.operation.Operation.{Operation}
 use Rattle.nr_core.specs.declared.operation.Operation.TheVariants.{Add, Load, Or}
 use Rattle.nr_core.specs.Slots.{content, departures, name_number, bound_of}
@@ -68,12 +68,12 @@ module _ {A : Type 0} (role : A → Role) (marks : A → Marks) (shape : Shape) 
   -- a reader's step that leaves what the keys name and puts nothing
   pub reader_step : (operation : Operation) (answers : Telling) (tells : MarkTelling) (words : List ℕ) (callers : List A) (log : List Entry) → Marked role marks shape words callers log → get_elem? callers id ≡ some me → (reader : ℕ) (x y : Grip) → role me ≡ Reader reader x
       → (after : Role) (entries : List Entry) → after ≡ Reader reader y
-      → ((key : ℕ) → key < shape.keys → name_number (get_or (set words (place_of operation) (becomes operation (get_or words (place_of operation) 0))) key 0) ≡ name_number (get_or words key 0))
+      → ((key : ℕ) → key < shape.keys → name_number (get_or (set words (target_of operation) (becomes operation (get_or words (target_of operation) 0))) key 0) ≡ name_number (get_or words key 0))
       → ((key : ℕ) → put_number (log ++ entries) key ≡ put_number log key) → put_count (log ++ entries) ≡ put_count log
       → (now : Marks) → now.polls ≡ (marks me).polls → ((gripped y ≡ gripped x) × (now.acts ≡ (marks me).acts) × (now.put ≡ (marks me).put)) ⊎ ((marks me).acts < now.acts)
       → ((j slot : ℕ) (u : A) (desk : Desk) → get_elem? callers j ≡ some u → role u ≡ Writer desk → Desked role marks shape words callers log desk (marks u) → gripped y ≡ Some slot
       → (get_or (marks u).puts slot 0 ≡ now.put) × (0 < retirements slot desk.retired → gripped x ≡ Some slot))
-      → tells (get_or words (place_of operation) 0) after (log ++ entries) now [] → Remarked role marks shape words callers log id me operation after entries tells
+      → tells (get_or words (target_of operation) 0) after (log ++ entries) now [] → Remarked role marks shape words callers log id me operation after entries tells
   reader_step operation answers tells words callers log m at reader x y was after entries is names puts many now same_polls moves holds told =
       let evolves : (who : A) → role who ≡ after → marks who ≡ now → Evolves role marks me who = λ who is_role is_marks c z e. let n : reader ≡ c = ap number_of (sym was ∙ e) in let g : gripped x ≡ gripped z = ap (λ r. gripped (grip_of r)) (sym was ∙ e) in (
         y,
@@ -86,7 +86,7 @@ module _ {A : Type 0} (role : A → Role) (marks : A → Marks) (shape : Shape) 
         news = [];
         since = no_places (Since role marks callers);
         evolves = evolves;
-        marked = λ who is_role is_marks. marked_reader role marks shape words (set words (place_of operation) (becomes operation (get_or words (place_of operation) 0))) callers log (log ++ entries) id me who reader x y at was (is_role ∙ is) (evolves who is_role is_marks) names puts many
+        marked = λ who is_role is_marks. marked_reader role marks shape words (set words (target_of operation) (becomes operation (get_or words (target_of operation) 0))) callers log (log ++ entries) id me who reader x y at was (is_role ∙ is) (evolves who is_role is_marks) names puts many
             (λ j slot u desk there writes t e. let h = holds j slot u desk there writes t e in (h.0 ∙ ap (λ (k : Marks). k.put) (sym is_marks), h.1)) m;
         noted = λ place note there. inl (ap (λ (l : List Past). get_elem? l place) (sym same_polls) ∙ there);
         told = told;
@@ -94,8 +94,8 @@ module _ {A : Type 0} (role : A → Role) (marks : A → Marks) (shape : Shape) 
 
   -- a step after which the reader holds the same
   same_hold : (operation : Operation) (answers : Telling) (reader : ℕ) (x : Grip) → role me ≡ Reader reader x
-      → ((words : List ℕ) (log entries : List Entry) (after : Role) → answers (get_or words (place_of operation) 0) after entries → (y : Grip) × (after ≡ Reader reader y) × (gripped y ≡ gripped x) × ((key : ℕ) → put_number (log ++ entries) key ≡ put_number log key) × (put_count (log ++ entries) ≡ put_count log))
-      → ((words : List ℕ) (roles : List Role) (log : List Entry) → Core shape words roles log → (key : ℕ) → key < shape.keys → name_number (get_or (set words (place_of operation) (becomes operation (get_or words (place_of operation) 0))) key 0) ≡ name_number (get_or words key 0))
+      → ((words : List ℕ) (log entries : List Entry) (after : Role) → answers (get_or words (target_of operation) 0) after entries → (y : Grip) × (after ≡ Reader reader y) × (gripped y ≡ gripped x) × ((key : ℕ) → put_number (log ++ entries) key ≡ put_number log key) × (put_count (log ++ entries) ≡ put_count log))
+      → ((words : List ℕ) (roles : List Role) (log : List Entry) → Core shape words roles log → (key : ℕ) → key < shape.keys → name_number (get_or (set words (target_of operation) (becomes operation (get_or words (target_of operation) 0))) key 0) ≡ name_number (get_or words key 0))
       → CanMark role marks shape id me known operation answers (KeepsMarks (marks me))
   same_hold operation answers reader x was told names words callers log core m once at since after entries ans = let a = told words log entries after ans in
       reader_step operation answers (KeepsMarks (marks me)) words callers log m at reader x a.0 was after entries a.1 (names words (map role callers) log core) a.3 a.4 (marks me) refl (inl (a.2, refl, refl))

@@ -13,7 +13,7 @@ use Rattle.nr_model.specs.Strays.{strays}
 use Rattle.nr_marks.specs.Marks.{Marks, Past}
 use Rattle.nr_marks.specs.PollNotes.{AllHeld}
 use Rattle.nr_marks.specs.Pasts.{AllCurrent, Living}
-use Rattle.nr_marks.specs.Exact.{Tidy, named_puts, pin_of, pins, retired_puts}
+use Rattle.nr_marks.specs.Exact.{Tidy, named_puts, pinned_put, pins, retired_puts}
 use Rattle.nr_marks.proofs.HowOften.{count_is, how_often, stray_count, strays_count}
 use Rattle.nr_marks.proofs.ListPlaces.{at_maps, at_unmap}
 
@@ -101,7 +101,7 @@ pins_it : (readers : List Past) (n : ℕ) (p : Past) (slot : ℕ) → get_elem? 
 pins_it [] n p slot e is = absurd (some-ne-none p (sym e))
 pins_it (x ∷ xs) zero p slot e is = let same = some-injective x p e in let one = only-same p.put in
     subst (λ (l : List ℕ). 0 < how_often p.put l) (sym (ap (λ b. cons_option (option_map (λ slot. x.put) b) (pins xs)) (ap (λ (y : Past). y.slot) same ∙ is))) (let o : only p.put x.put ≡ 1 = ap (λ (y : Past). only p.put y.put) same ∙ one in omega arith)
-pins_it (x ∷ xs) (suc n) p slot e is = let t = pins_it xs n p slot e is in more (pin_of x) t
+pins_it (x ∷ xs) (suc n) p slot e is = let t = pins_it xs n p slot e is in more (pinned_put x) t
   where
     more : (pin : Option ℕ) → 0 < how_often p.put (pins xs) → 0 < how_often p.put (cons_option pin (pins xs))
     more None l = l

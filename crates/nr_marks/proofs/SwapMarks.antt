@@ -6,7 +6,7 @@ use mathlib.Core.Logic.{dite}
 use mathlib.Core.Option.{some}
 use native.Mathlib.Decide.{ℕ_discrete}
 use Rattle.nr_model.specs.Histories.{Entry}
-use Rattle.nr_model.specs.Maps.{key_of as call_key}
+use Rattle.nr_model.specs.Maps.{call_key}
 use Rattle.nr_model.specs.declared.rows.Row.{Row}
 use Rattle.nr_words.specs.KeyWords.{arrivals_of, hole_word, is_filled, slot_of}
 use Rattle.nr_words.specs.SetWords.{encode}

@@ -5,7 +5,7 @@ use mathlib.Core.Logic.{dite}
 use mathlib.Core.Option.{some, some-injective, some-ne-none}
 use native.Mathlib.Decide.{dec_le, ℕ_discrete}
 use Rattle.nr_model.specs.Histories.{Entry}
-use Rattle.nr_model.specs.Maps.{is_filled, state_of}
+use Rattle.nr_model.specs.Maps.{is_filled_key, state_of}
 use Rattle.nr_model.specs.declared.states.KeyState.{KeyState}
 use Rattle.nr_core.proofs.Counting.{named_inside, retired_once}
 use Rattle.nr_core.proofs.Sums.{below-term, below-terms, only-is, only-le, only-same, some_term, term_le, terms_le}
@@ -61,12 +61,12 @@ name_has-is : (puts : List ℕ) (number n : ℕ) → 0 < name_has puts number n 
 name_has-is puts number zero l = absurd (omega arith)
 name_has-is puts number (suc slot) l = (slot, refl, only-is number (get_or puts slot 0) l)
 
-shown_empty : (shape : Shape) (words : List ℕ) (w : ℕ) (state : KeyState) → ShowsState shape words w state → name_number w ≡ 0 → is_filled state ≡ false
+shown_empty : (shape : Shape) (words : List ℕ) (w : ℕ) (state : KeyState) → ShowsState shape words w state → name_number w ≡ 0 → is_filled_key state ≡ false
 shown_empty shape words w (key.Hole number) t e = refl
 shown_empty shape words w (key.Asked number) t e = refl
 shown_empty shape words w (key.Rows number rows) t e = absurd (let z = t.1 in omega arith)
 
-shown_full : (shape : Shape) (words : List ℕ) (w : ℕ) (state : KeyState) (slot : ℕ) → ShowsState shape words w state → name_number w ≡ suc slot → is_filled state ≡ true
+shown_full : (shape : Shape) (words : List ℕ) (w : ℕ) (state : KeyState) (slot : ℕ) → ShowsState shape words w state → name_number w ≡ suc slot → is_filled_key state ≡ true
 shown_full shape words w (key.Hole number) slot t e = absurd (let z = t.0 in omega arith)
 shown_full shape words w (key.Asked number) slot t e = absurd (let z = t.0 in omega arith)
 shown_full shape words w (key.Rows number rows) slot t e = refl

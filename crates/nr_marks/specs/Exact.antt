@@ -2,7 +2,7 @@
 use Rattle.std.specs.Prelude.{◌≡◌, ℕ, suc, ◌+◌, ◌<◌, ◌≤◌, ◌⊎◌, List, [], ◌∷◌, length, map, slice_index, Option, true, false, zero, option_map}
 use mathlib.Core.Option.{some}
 use lib.ListN.{get_elem?}
-use Rattle.nr_model.specs.Maps.{filled_count, state_of, is_filled}
+use Rattle.nr_model.specs.Maps.{filled_count, state_of, is_filled_key}
 use Rattle.nr_model.specs.Histories.{Entry}
 use Rattle.nr_core.specs.declared.shape.Shape.{Shape}
 use Rattle.nr_core.specs.declared.roles.Desk.{Desk}
@@ -11,16 +11,16 @@ use Rattle.nr_core.specs.Roles.{taken}
 use Rattle.nr_core.specs.Story.{map_after}
 use Rattle.std.specs.List.{filter_map, range_with_len}
 use Rattle.nr_marks.specs.Puts.{put_count, put_number}
-use Rattle.nr_model.specs.Strays.{keyed, count_of}
+use Rattle.nr_model.specs.Strays.{keyed, count_of_put}
 use Rattle.nr_marks.specs.Marks.{Past, Marks}
 use Rattle.nr_marks.specs.Pasts.{Living}
 
 -- the put numbers that readers pin
-abbrev pub pin_of : Past → Option ℕ
-pin_of reader = option_map (λ slot. reader.put) reader.slot
+abbrev pub pinned_put : Past → Option ℕ
+pinned_put reader = option_map (λ slot. reader.put) reader.slot
 
 abbrev pub pins : List Past → List ℕ
-pins readers = filter_map pin_of readers
+pins readers = filter_map pinned_put readers
 
 -- the put numbers of the filled keys, by the history
 abbrev pub put_numbers : Shape → List Entry → List ℕ
@@ -40,7 +40,7 @@ retired_puts puts retired = map (λ (entry : Retired). slice_index puts entry.sl
 
 -- the put numbers that the writer knows are different, and below the next one
 pub record Tidy (retired : List Retired) (marks : Marks) (next : ℕ) : Type 0 where
-  pub once : (number : ℕ) → count_of (named_puts marks.puts marks.names) number + count_of (retired_puts marks.puts retired) number ≤ 1
+  pub once : (number : ℕ) → count_of_put (named_puts marks.puts marks.names) number + count_of_put (retired_puts marks.puts retired) number ≤ 1
   pub apart : (slot other : ℕ) → Living retired marks slot → Living retired marks other → slice_index marks.puts slot ≡ slice_index marks.puts other → slot ≡ other
   pub fresh : (slot : ℕ) → Living retired marks slot → slice_index marks.puts slot < next
 
@@ -51,9 +51,9 @@ pub record Lists (desk : Desk) (marks : Marks) (shape : Shape) (log : List Entry
   pub room : desk.fresh ≤ shape.slots
   -- while no call has taken a slot, each one that was ever taken is named or retired
   pub slots : ((slot : ℕ) → taken slot desk.place ≡ 0) → filled_count (map_after shape log) + length desk.retired ≡ desk.fresh
-  pub empty : (at : ℕ) → at < shape.keys → slice_index marks.names at ≡ 0 → is_filled (state_of (map_after shape log) at) ≡ false
-  pub full : (at slot : ℕ) → at < shape.keys → slice_index marks.names at ≡ suc slot → (is_filled (state_of (map_after shape log) at) ≡ true) × (slice_index marks.puts slot ≡ put_number log at)
+  pub empty : (at : ℕ) → at < shape.keys → slice_index marks.names at ≡ 0 → is_filled_key (state_of (map_after shape log) at) ≡ false
+  pub full : (at slot : ℕ) → at < shape.keys → slice_index marks.names at ≡ suc slot → (is_filled_key (state_of (map_after shape log) at) ≡ true) × (slice_index marks.puts slot ≡ put_number log at)
 
 -- a fill or update that is done took a free slot, or one that was retired; its put number is new
-abbrev pub Took : Shape → Desk → Marks → List Entry → Type 0
-Took shape desk now log = (desk.fresh < shape.slots) ⊎ ((at : ℕ) × (entry : Retired) × (get_elem? desk.retired at ≡ some entry) × (put_count log ≤ slice_index now.puts entry.slot))
+abbrev pub TookSpare : Shape → Desk → Marks → List Entry → Type 0
+TookSpare shape desk now log = (desk.fresh < shape.slots) ⊎ ((at : ℕ) × (entry : Retired) × (get_elem? desk.retired at ≡ some entry) × (put_count log ≤ slice_index now.puts entry.slot))

@@ -12,7 +12,7 @@ use Rattle.nr_marks.specs.Marks.{Marks, Past}
 use Rattle.nr_marks.specs.PollNotes.{AllHeld, Noted}
 use Rattle.nr_marks.specs.Pasts.{AllCurrent, AllKnown, AllReaders}
 use Rattle.nr_marks.specs.Puts.{put_count, put_number, puts_at, puts_set}
-use Rattle.nr_marks.specs.Exact.{Lists, Took, filled_puts, pins}
+use Rattle.nr_marks.specs.Exact.{Lists, TookSpare, filled_puts, pins}
 
 -- the filled keys and the different pinned put numbers that no key has
 abbrev pub slots_in_use : Shape → List Entry → List Past → ℕ
@@ -39,7 +39,7 @@ DoneByMarks =
     ((slot : ℕ) → taken slot desk.place ≡ 0) →
     AllCurrent desk.retired marks readers →
     AllCurrent after now readers →
-    Took shape desk now log →
+    TookSpare shape desk now log →
     slots_in_use shape log readers < shape.slots
 
 -- with one entry more: how many sets were put, and the number of what was put last for a key

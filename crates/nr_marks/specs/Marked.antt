@@ -15,7 +15,7 @@ use Rattle.nr_core.specs.Sums.{total, only}
 use Rattle.nr_core.specs.Slots.{name_number, named}
 use Rattle.nr_core.specs.Core.{Core}
 use Rattle.nr_core.specs.Roles.{is_by, retirements}
-use Rattle.nr_core.specs.Operations.{place_of, becomes}
+use Rattle.nr_core.specs.Operations.{target_of, becomes}
 use Rattle.nr_core.specs.declared.operation.Operation.{Operation}
 use Rattle.nr_core.specs.Steps.{Telling}
 use Rattle.nr_marks.specs.Puts.{put_count, put_number}
@@ -110,13 +110,13 @@ module _ {A : Type 0} (role : A → Role) (marks : A → Marks) where
     pub news : List Past
     pub since : AllSince callers news
     pub evolves : (who : A) → role who ≡ after → marks who ≡ now → Evolves before who
-    pub marked : (who : A) → role who ≡ after → marks who ≡ now → Marked shape (slice_set words (place_of operation) (becomes operation (slice_index words (place_of operation)))) (slice_set callers id who) (log ++ entries)
+    pub marked : (who : A) → role who ≡ after → marks who ≡ now → Marked shape (slice_set words (target_of operation) (becomes operation (slice_index words (target_of operation)))) (slice_set callers id who) (log ++ entries)
     pub noted : NotesPresent callers (marks before).polls now.polls
-    pub told : tells (slice_index words (place_of operation)) after (log ++ entries) now news
+    pub told : tells (slice_index words (target_of operation)) after (log ++ entries) now news
 
   -- Where the core makes the step that `answers` tells, the caller's marks go along. `known` is what the caller knows of readers.
   abbrev pub CanMark : Shape → ℕ → A → List Past → Operation → Telling → MarkTelling → Type 0
   CanMark shape id before known operation answers tells =
       (words : List ℕ) (callers : List A) (log : List Entry) → Core shape words (map role callers) log → Marked shape words callers log → Once callers → get_elem? callers id ≡ some before → AllSince callers known
-      → (after : Role) (entries : List Entry) → answers (slice_index words (place_of operation)) after entries
+      → (after : Role) (entries : List Entry) → answers (slice_index words (target_of operation)) after entries
       → Remarked shape words callers log id before operation after entries tells

@@ -1,6 +1,6 @@
 -- Put numbers: the sets that a history put, by fills and updates that were done, are numbered in their order from 0 on.
 use Rattle.std.specs.Prelude.{ℕ, ◌+◌, ◌==◌, ◌&&◌, Bool, if◌then◌else◌, List, [], ◌∷◌}
-use Rattle.nr_model.specs.Maps.{key_of}
+use Rattle.nr_model.specs.Maps.{call_key}
 use Rattle.nr_model.specs.Histories.{Entry, is_done}
 use Rattle.nr_core.specs.Sums.{total}
 
@@ -14,7 +14,7 @@ put_count log = total puts_set log
 
 -- the entry put a set of the key
 abbrev pub puts_at : ℕ → Entry → Bool
-puts_at key entry = is_done entry.reply && (key_of entry.call == key)
+puts_at key entry = is_done entry.reply && (call_key entry.call == key)
 
 -- the number of what the entries put last for the key, where `next` is the first number that they give and `last` the key's number before them
 abbrev pub put_from : ℕ → ℕ → ℕ → List Entry → ℕ

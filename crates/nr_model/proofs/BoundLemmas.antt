@@ -13,7 +13,7 @@ use Rattle.nr_model.specs.declared.states.KeyState.{KeyState}
 use Rattle.nr_model.specs.declared.states.KeyState.TheVariants.{Hole, Asked, Rows}
 use Rattle.nr_model.specs.Rows.{IsRowSet}
 use Rattle.nr_model.specs.Batches.{applied}
-use Rattle.nr_model.specs.Maps.{PartialMap, last_number, opening, state_of, key_of, state_after, rows_or, filled, next}
+use Rattle.nr_model.specs.Maps.{PartialMap, last_number, opening, state_of, call_key, state_after, rows_or, filled, next}
 use Rattle.nr_model.specs.Histories.{Entry, after}
 use Rattle.nr_model.specs.Laws.{BringsRowSet, RowsStayWithinBound}
 use Rattle.nr_model.proofs.HistoryLemmas.{state_of-next_same, state_of-next_other}
@@ -54,15 +54,15 @@ call_has bound (Cancel key) (Rows n rows) brings h = h
 step_has : (map : PartialMap) (call : Call) (key : ℕ) → key < length map.states → BringsRowSet map.bound call → HasRowSet map.bound (state_of map key) → HasRowSet map.bound (state_of (next map call) key)
 step_has map call key within brings h =
     ⊎_elim
-    (λ same. subst (λ k. HasRowSet map.bound (state_of map k) → HasRowSet map.bound (state_of (next map call) k)) same (λ own. subst (HasRowSet map.bound) (sym (state_of-next_same map call (omega (arith, same)))) (call_has map.bound call (state_of map (key_of call)) brings own)) h)
+    (λ same. subst (λ k. HasRowSet map.bound (state_of map k) → HasRowSet map.bound (state_of (next map call) k)) same (λ own. subst (HasRowSet map.bound) (sym (state_of-next_same map call (omega (arith, same)))) (call_has map.bound call (state_of map (call_key call)) brings own)) h)
     (λ other. subst (HasRowSet map.bound) (sym (state_of-next_other map key call other)) h)
-    (cases_eq (key_of call) key)
+    (cases_eq (call_key call) key)
 
 history_has : (history : List Entry) (map : PartialMap) (key : ℕ) → key < length map.states → All (λ e. BringsRowSet map.bound e.call) history → HasRowSet map.bound (state_of map key) → HasRowSet map.bound (state_of (after map history) key)
 history_has [] map key within brings h = h
 history_has (e ∷ history) map key within brings h =
     let Brings : Entry → Type 0 = λ x. BringsRowSet map.bound x.call in
-    let long = length-set map.states (key_of e.call) (state_after map.bound e.call (state_of map (key_of e.call))) in
+    let long = length-set map.states (call_key e.call) (state_after map.bound e.call (state_of map (call_key e.call))) in
     history_has history (next map e.call) key (omega (arith, within, long)) (All-tail Brings e history brings) (step_has map e.call key within (All-head Brings e history brings) h)
 
 pub rows_stay_within_bound_lem : RowsStayWithinBound

@@ -11,8 +11,8 @@ use Rattle.nr_model.specs.declared.calls.Call.{Call}
 use Rattle.nr_model.specs.declared.calls.Reply.{Reply}
 use Rattle.nr_model.specs.declared.states.KeyState.{KeyState}
 use Rattle.nr_model.specs.declared.states.KeyState.TheVariants.{Hole}
-use Rattle.nr_model.specs.Maps.{PartialMap, key_count, key_of, state_of, reply_at, state_after, reply_to, next}
-use Rattle.nr_model.specs.Runs.{shown, IsKept, states_in, AllKept}
+use Rattle.nr_model.specs.Maps.{PartialMap, key_count, call_key, state_of, reply_at, state_after, reply_to, next}
+use Rattle.nr_model.specs.Runs.{state_in, IsKeptRun, states_in, AllKept}
 
 pub length-states_in : (bound : ℕ) (heads : List Head) (cells : List Row) → length (states_in bound heads cells) ≡ length heads
 length-states_in bound [] cells = refl
@@ -25,17 +25,17 @@ next_run bound key cells = ap (take bound) (drop-drop (key * bound) bound cells 
 first_run : (bound : ℕ) (cells : List Row) → take bound (drop (zero * bound) cells) ≡ take bound cells
 first_run bound cells = let e : zero * bound ≡ 0 = omega arith in ap (λ n. take bound (drop n cells)) e
 
-pub state_at : (bound : ℕ) (heads : List Head) (cells : List Row) (key : ℕ) (h : Head) (state : KeyState) → key < length heads → get_or (states_in bound heads cells) key state ≡ shown (get_or heads key h) (take bound (drop (key * bound) cells))
+pub state_at : (bound : ℕ) (heads : List Head) (cells : List Row) (key : ℕ) (h : Head) (state : KeyState) → key < length heads → get_or (states_in bound heads cells) key state ≡ state_in (get_or heads key h) (take bound (drop (key * bound) cells))
 state_at bound [] cells key h state within = absurd (omega arith)
-state_at bound (first ∷ heads) cells zero h state within = ap (shown first) (sym (first_run bound cells))
+state_at bound (first ∷ heads) cells zero h state within = ap (state_in first) (sym (first_run bound cells))
 state_at bound (first ∷ heads) cells (suc key) h state within =
-    state_at bound heads (drop bound cells) key h state (omega arith) ∙ ap (shown (get_or heads key h)) (next_run bound key cells)
+    state_at bound heads (drop bound cells) key h state (omega arith) ∙ ap (state_in (get_or heads key h)) (next_run bound key cells)
 
-pub kept_at : (bound : ℕ) (heads : List Head) (cells : List Row) (key : ℕ) (h : Head) → key < length heads → AllKept bound heads cells → IsKept (get_or heads key h) (take bound (drop (key * bound) cells))
+pub kept_at : (bound : ℕ) (heads : List Head) (cells : List Row) (key : ℕ) (h : Head) → key < length heads → AllKept bound heads cells → IsKeptRun (get_or heads key h) (take bound (drop (key * bound) cells))
 kept_at bound [] cells key h within kept = absurd (omega arith)
-kept_at bound (first ∷ heads) cells zero h within kept = subst (IsKept first) (sym (first_run bound cells)) kept.0
+kept_at bound (first ∷ heads) cells zero h within kept = subst (IsKeptRun first) (sym (first_run bound cells)) kept.0
 kept_at bound (first ∷ heads) cells (suc key) h within kept =
-    subst (IsKept (get_or heads key h)) (next_run bound key cells) (kept_at bound heads (drop bound cells) key h (omega arith) kept.1)
+    subst (IsKeptRun (get_or heads key h)) (next_run bound key cells) (kept_at bound heads (drop bound cells) key h (omega arith) kept.1)
 
 -- the run of a key ends within the cells
 pub run_within : (bound keys key : ℕ) → key < keys → key * bound + bound ≤ keys * bound
@@ -82,16 +82,16 @@ put_first : (bound : ℕ) (cells run : List Row) → put_mid (zero * bound) boun
 put_first bound cells run = let e : zero * bound ≡ 0 = omega arith in ap (λ n. put_mid n bound cells run) e
 
 -- a key's new head and run change its state alone
-pub states_put : (bound : ℕ) (heads : List Head) (cells : List Row) (key : ℕ) (h : Head) (run : List Row) → key < length heads → length cells ≡ length heads * bound → length run ≡ bound → states_in bound (set heads key h) (put_mid (key * bound) bound cells run) ≡ set (states_in bound heads cells) key (shown h run)
+pub states_put : (bound : ℕ) (heads : List Head) (cells : List Row) (key : ℕ) (h : Head) (run : List Row) → key < length heads → length cells ≡ length heads * bound → length run ≡ bound → states_in bound (set heads key h) (put_mid (key * bound) bound cells run) ≡ set (states_in bound heads cells) key (state_in h run)
 states_put bound [] cells key h run within room long = absurd (omega arith)
 states_put bound (first ∷ heads) cells zero h run within room long =
     rw (put_first bound cells run, take_at run (drop bound cells) bound long, drop_at run (drop bound cells) bound long) refl
 states_put bound (first ∷ heads) cells (suc key) h run within room long =
     let keys = length heads in
     rw (first_put bound key keys cells run (omega arith) room, next_put bound key keys cells run (omega arith) room)
-    (ap (λ l. shown first (take bound cells) ∷ l) (states_put bound heads (drop bound cells) key h run (omega arith) (rest_room bound keys cells room) long))
+    (ap (λ l. state_in first (take bound cells) ∷ l) (states_put bound heads (drop bound cells) key h run (omega arith) (rest_room bound keys cells room) long))
 
-pub kept_put : (bound : ℕ) (heads : List Head) (cells : List Row) (key : ℕ) (h : Head) (run : List Row) → key < length heads → length cells ≡ length heads * bound → length run ≡ bound → AllKept bound heads cells → IsKept h run → AllKept bound (set heads key h) (put_mid (key * bound) bound cells run)
+pub kept_put : (bound : ℕ) (heads : List Head) (cells : List Row) (key : ℕ) (h : Head) (run : List Row) → key < length heads → length cells ≡ length heads * bound → length run ≡ bound → AllKept bound heads cells → IsKeptRun h run → AllKept bound (set heads key h) (put_mid (key * bound) bound cells run)
 kept_put bound [] cells key h run within room long kept one = absurd (omega arith)
 kept_put bound (first ∷ heads) cells zero h run within room long kept one =
     rw (put_first bound cells run, take_at run (drop bound cells) bound long, drop_at run (drop bound cells) bound long) (one, kept.1)
@@ -131,18 +131,18 @@ length-put bound heads cells key run within room long =
     omega (arith, ends, front, length-append (take start cells) (run ++ drop bound (drop start cells)), length-append run (drop bound (drop start cells)), length-drop bound (drop start cells), length-drop start cells, long)
 
 -- what a call makes of the key's head and run, it makes of the map
-pub reply_made : (bound : ℕ) (heads : List Head) (cells : List Row) (call : Call) (key : ℕ) (h : Head) (answer : Reply) → key ≡ key_of call → key < length heads → answer ≡ reply_at bound call (shown (get_or heads key h) (take bound (drop (key * bound) cells))) → answer ≡ reply_to (map_of bound heads cells) call
+pub reply_made : (bound : ℕ) (heads : List Head) (cells : List Row) (call : Call) (key : ℕ) (h : Head) (answer : Reply) → key ≡ call_key call → key < length heads → answer ≡ reply_at bound call (state_in (get_or heads key h) (take bound (drop (key * bound) cells))) → answer ≡ reply_to (map_of bound heads cells) call
 reply_made bound heads cells call key h answer at within made =
     made
     ∙ ap (reply_at bound call) (sym (state_at bound heads cells key h (Hole 0) within))
     ∙ ap (λ k. reply_at bound call (state_of (map_of bound heads cells) k)) at
 
-pub next_made : (bound : ℕ) (heads : List Head) (cells : List Row) (call : Call) (key : ℕ) (h new : Head) (run : List Row) → key ≡ key_of call → key < length heads → length cells ≡ length heads * bound → length run ≡ bound
-    → shown new run ≡ state_after bound call (shown (get_or heads key h) (take bound (drop (key * bound) cells)))
+pub next_made : (bound : ℕ) (heads : List Head) (cells : List Row) (call : Call) (key : ℕ) (h new : Head) (run : List Row) → key ≡ call_key call → key < length heads → length cells ≡ length heads * bound → length run ≡ bound
+    → state_in new run ≡ state_after bound call (state_in (get_or heads key h) (take bound (drop (key * bound) cells)))
     → map_of bound (set heads key new) (put_mid (key * bound) bound cells run) ≡ next (map_of bound heads cells) call
 next_made bound heads cells call key h new run at within room long made =
     let map : PartialMap = map_of bound heads cells in
     let Turned : ℕ → PartialMap = λ k. record { bound = bound; states = set map.states k (state_after bound call (state_of map k)) } in
     let With : List KeyState → PartialMap = λ states. record { bound = bound; states = states } in
-    let turned : shown new run ≡ state_after bound call (state_of map key) = made ∙ ap (state_after bound call) (sym (state_at bound heads cells key h (Hole 0) within)) in
+    let turned : state_in new run ≡ state_after bound call (state_of map key) = made ∙ ap (state_after bound call) (sym (state_at bound heads cells key h (Hole 0) within)) in
     ap With (states_put bound heads cells key new run within room long ∙ ap (set map.states key) turned) ∙ ap Turned at

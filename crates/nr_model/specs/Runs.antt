@@ -8,25 +8,25 @@ use Rattle.nr_model.specs.declared.states.KeyState.TheVariants.{Hole, Asked, Row
 use Rattle.nr_model.specs.Rows.{is_ascending}
 
 -- the state of a key with that head and that run
-abbrev pub shown : Head → List Row → KeyState
-shown (head.Hole n) run = Hole n
-shown (head.Asked n) run = Asked n
-shown (head.Rows n len) run = Rows n (take len run)
+abbrev pub state_in : Head → List Row → KeyState
+state_in (head.Hole n) run = Hole n
+state_in (head.Asked n) run = Asked n
+state_in (head.Rows n len) run = Rows n (take len run)
 
 -- the rows in use are in the run, and ascend
-abbrev pub IsKept : Head → List Row → Type 0
-IsKept (head.Hole n) run = Unit {0}
-IsKept (head.Asked n) run = Unit {0}
-IsKept (head.Rows n len) run = (len ≤ length run) × IsTrue (is_ascending (take len run))
+abbrev pub IsKeptRun : Head → List Row → Type 0
+IsKeptRun (head.Hole n) run = Unit {0}
+IsKeptRun (head.Asked n) run = Unit {0}
+IsKeptRun (head.Rows n len) run = (len ≤ length run) × IsTrue (is_ascending (take len run))
 
 -- the states of all keys, whose runs of so many cells follow each other
 abbrev pub states_in : ℕ → List Head → List Row → List KeyState
 states_in bound [] cells = []
-states_in bound (h ∷ heads) cells = shown h (take bound cells) ∷ states_in bound heads (drop bound cells)
+states_in bound (h ∷ heads) cells = state_in h (take bound cells) ∷ states_in bound heads (drop bound cells)
 
 abbrev pub AllKept : ℕ → List Head → List Row → Type 0
 AllKept bound [] cells = Unit {0}
-AllKept bound (h ∷ heads) cells = IsKept h (take bound cells) × AllKept bound heads (drop bound cells)
+AllKept bound (h ∷ heads) cells = IsKeptRun h (take bound cells) × AllKept bound heads (drop bound cells)
 
 -- each head has a run of its own, and keeps its rows there
 pub record AreRuns (bound : ℕ) (heads : List Head) (cells : List Row) : Type 0 where

@@ -1,6 +1,6 @@
 //! The calls of a partial map, and their replies.
 ghost use Rattle.std.specs.Prelude.{◌≡◌};
-ghost use Rattle.nr_model.specs.Maps.{key_of};
+ghost use Rattle.nr_model.specs.Maps.{call_key};
 
 use crate::batches::Batch;
 use crate::rows::RowSet;
@@ -25,7 +25,7 @@ pub enum Call {
 impl Call {
     /// The key of the call.
     pub fn key(&self) -> u32
-        ensures { result ≡ key_of self.now }
+        ensures { result ≡ call_key self.now }
     {
         match self {
             Call::Find(key) | Call::Ask(key) | Call::Evict(key) | Call::Cancel(key) => *key,

@@ -4,7 +4,7 @@ ghost use Rattle.nr_model.specs.declared.rows.Row.{Row as SetRow};
 ghost use Rattle.nr_model.specs.Rows.{is_ascending};
 ghost use Rattle.nr_model.specs.Batches.{applied};
 ghost use Rattle.nr_model.specs.Maps.{find_reply, ask_reply, fill_reply, update_reply, evict_reply, cancel_reply, asked, filled, updated, evicted, cancelled, reply_at, state_after, FillFits, StateFits};
-ghost use Rattle.nr_model.specs.Runs.{shown, IsKept};
+ghost use Rattle.nr_model.specs.Runs.{state_in, IsKeptRun};
 
 use crate::batches::{ApplyFault, Batch};
 use crate::calls::{Call, Reply};
@@ -27,9 +27,9 @@ const _: () = prove!(size_of::<Head>() + 15 * size_of::<Row>() == 264);
 impl Head {
     /// The key's state.
     pub fn state(&self, run: &[Row]) -> KeyState
-        requires kept { IsKept self.now run.now }
+        requires kept { IsKeptRun self.now run.now }
         requires room { length run.now ≤ MAX_ROWS }
-        ensures value { result ≡ shown self.now run.now }
+        ensures value { result ≡ state_in self.now run.now }
         ensures few { StateFits (length run.now) result }
     {
         match *self {
@@ -41,12 +41,12 @@ impl Head {
 
     /// Carries out a call at the key, and answers it.
     pub fn call(&mut self, run: &mut [Row], call: &Call) -> Reply
-        requires kept { IsKept self.old run.old }
+        requires kept { IsKeptRun self.old run.old }
         requires room { length run.old ≤ MAX_ROWS }
         requires fits { FillFits (length run.old) call.now }
-        ensures reply { result ≡ reply_at (length run.old) call.now (shown self.old run.old) }
-        ensures new { shown self.new run.new ≡ state_after (length run.old) call.now (shown self.old run.old) }
-        ensures kept { IsKept self.new run.new }
+        ensures reply { result ≡ reply_at (length run.old) call.now (state_in self.old run.old) }
+        ensures new { state_in self.new run.new ≡ state_after (length run.old) call.now (state_in self.old run.old) }
+        ensures kept { IsKeptRun self.new run.new }
     {
         match call {
             Call::Find(_) => self.find(run),
@@ -59,9 +59,9 @@ impl Head {
     }
 
     fn find(&self, run: &[Row]) -> Reply
-        requires kept { IsKept self.now run.now }
+        requires kept { IsKeptRun self.now run.now }
         requires room { length run.now ≤ MAX_ROWS }
-        ensures { result ≡ find_reply (shown self.now run.now) }
+        ensures { result ≡ find_reply (state_in self.now run.now) }
     {
         match *self {
             Head::Hole(_) | Head::Asked(_) => Reply::Hole,
@@ -70,9 +70,9 @@ impl Head {
     }
 
     fn ask(&mut self) -> Reply
-        ensures reply { (run : List SetRow) → result ≡ ask_reply (shown self.old run) }
-        ensures new { (run : List SetRow) → shown self.new run ≡ asked (shown self.old run) }
-        ensures kept { (run : List SetRow) → IsKept self.old run → IsKept self.new run }
+        ensures reply { (run : List SetRow) → result ≡ ask_reply (state_in self.old run) }
+        ensures new { (run : List SetRow) → state_in self.new run ≡ asked (state_in self.old run) }
+        ensures kept { (run : List SetRow) → IsKeptRun self.old run → IsKeptRun self.new run }
     {
         match *self {
             Head::Hole(number) => {
@@ -85,12 +85,12 @@ impl Head {
     }
 
     fn fill(&mut self, run: &mut [Row], number: u64, rows: &[Row]) -> Reply
-        requires kept { IsKept self.old run.old }
+        requires kept { IsKeptRun self.old run.old }
         requires in_order { IsTrue (is_ascending rows.now) }
         requires fits { length rows.now ≤ length run.old }
-        ensures reply { result ≡ fill_reply number (shown self.old run.old) }
-        ensures new { shown self.new run.new ≡ filled number rows.now (shown self.old run.old) }
-        ensures kept { IsKept self.new run.new }
+        ensures reply { result ≡ fill_reply number (state_in self.old run.old) }
+        ensures new { state_in self.new run.new ≡ filled number rows.now (state_in self.old run.old) }
+        ensures kept { IsKeptRun self.new run.new }
     {
         match *self {
             Head::Hole(_) => Reply::NotAsked,
@@ -105,11 +105,11 @@ impl Head {
     }
 
     fn update(&mut self, run: &mut [Row], batch: &Batch) -> Reply
-        requires kept { IsKept self.old run.old }
+        requires kept { IsKeptRun self.old run.old }
         requires room { length run.old ≤ MAX_ROWS }
-        ensures reply { result ≡ update_reply (length run.old) batch.now (shown self.old run.old) }
-        ensures new { shown self.new run.new ≡ updated (length run.old) batch.now (shown self.old run.old) }
-        ensures kept { IsKept self.new run.new }
+        ensures reply { result ≡ update_reply (length run.old) batch.now (state_in self.old run.old) }
+        ensures new { state_in self.new run.new ≡ updated (length run.old) batch.now (state_in self.old run.old) }
+        ensures kept { IsKeptRun self.new run.new }
     {
         match *self {
             Head::Hole(_) | Head::Asked(_) => Reply::Dropped,
@@ -125,9 +125,9 @@ impl Head {
     }
 
     fn evict(&mut self) -> Reply
-        ensures reply { (run : List SetRow) → result ≡ evict_reply (shown self.old run) }
-        ensures new { (run : List SetRow) → shown self.new run ≡ evicted (shown self.old run) }
-        ensures kept { (run : List SetRow) → IsKept self.old run → IsKept self.new run }
+        ensures reply { (run : List SetRow) → result ≡ evict_reply (state_in self.old run) }
+        ensures new { (run : List SetRow) → state_in self.new run ≡ evicted (state_in self.old run) }
+        ensures kept { (run : List SetRow) → IsKeptRun self.old run → IsKeptRun self.new run }
     {
         match *self {
             Head::Hole(_) | Head::Asked(_) => Reply::Nothing,
@@ -139,9 +139,9 @@ impl Head {
     }
 
     fn cancel(&mut self) -> Reply
-        ensures reply { (run : List SetRow) → result ≡ cancel_reply (shown self.old run) }
-        ensures new { (run : List SetRow) → shown self.new run ≡ cancelled (shown self.old run) }
-        ensures kept { (run : List SetRow) → IsKept self.old run → IsKept self.new run }
+        ensures reply { (run : List SetRow) → result ≡ cancel_reply (state_in self.old run) }
+        ensures new { (run : List SetRow) → state_in self.new run ≡ cancelled (state_in self.old run) }
+        ensures kept { (run : List SetRow) → IsKeptRun self.old run → IsKeptRun self.new run }
     {
         match *self {
             Head::Asked(number) if number < LAST_NUMBER => {

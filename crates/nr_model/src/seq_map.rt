@@ -1,6 +1,6 @@
 //! The partial map that one caller uses.
 ghost use Rattle.std.specs.Prelude.{◌≡◌, ◌≤◌, ◌<◌, ◌↔◌, ◌⊎◌, ℕ, length, IfOk, Err};
-ghost use Rattle.nr_model.specs.Maps.{last_number, opening, state_of, reply_to, next, key_of, key_count, FillFits, StateFits};
+ghost use Rattle.nr_model.specs.Maps.{last_number, opening, state_of, reply_to, next, call_key, key_count, FillFits, StateFits};
 ghost use Rattle.nr_model.specs.Sizes.{IsBadSize};
 
 use crate::calls::{Call, Reply};
@@ -115,7 +115,7 @@ impl SeqMap {
     /// Carries out a call at a key below `keys()`, and answers it. The set of a fill has at most
     /// `rows()` rows. Takes no memory, and changes no other key.
     pub fn call(&mut self, call: &Call) -> Reply
-        requires key { key_of call.now < key_count self.old }
+        requires key { call_key call.now < key_count self.old }
         requires fits { FillFits self.old.bound call.now }
         ensures reply { result ≡ reply_to self.old call.now }
         ensures new { self.new ≡ next self.old call.now }

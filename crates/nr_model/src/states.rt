@@ -1,6 +1,6 @@
 //! The state of one key.
 ghost use Rattle.std.specs.Prelude.{◌≡◌};
-ghost use Rattle.nr_model.specs.Maps.{is_filled, number_of};
+ghost use Rattle.nr_model.specs.Maps.{is_filled_key, number_of};
 
 use crate::rows::RowSet;
 
@@ -19,7 +19,7 @@ pub enum KeyState {
 impl KeyState {
     /// Whether the key has rows.
     pub fn is_filled(&self) -> bool
-        ensures { result ≡ is_filled self.now }
+        ensures { result ≡ is_filled_key self.now }
     {
         matches!(self, KeyState::Rows(_, _))
     }

@@ -14,8 +14,8 @@ abbrev pub no_names : ℕ → Naming
 no_names keys = record { keys = keys; names = [] }
 
 -- the number of a name, if it is known
-abbrev pub number_of : List (List ℕ) → List ℕ → Option ℕ
-number_of names name = position (bytes_eq name) names
+abbrev pub number_of_name : List (List ℕ) → List ℕ → Option ℕ
+number_of_name names name = position (bytes_eq name) names
 
 -- a known name has its number, and a new one gets the next, unless all are taken
 abbrev pub number_for : Naming → Option ℕ → Result ℕ NameFault
@@ -27,22 +27,22 @@ abbrev pub intern_reply : ℕ → Naming → List ℕ → Result ℕ NameFault
 intern_reply longest naming name =
     if length name == 0 then Err fault.Empty
     else if nat_lt longest (length name) then Err fault.TooLong
-    else number_for naming (number_of naming.names name)
+    else number_for naming (number_of_name naming.names name)
 
 -- the name is new, and gets a number
 abbrev pub adds : ℕ → Naming → List ℕ → Bool
-adds longest naming name = is_none (number_of naming.names name) && is_ok (intern_reply longest naming name)
+adds longest naming name = is_none (number_of_name naming.names name) && is_ok (intern_reply longest naming name)
 
 -- the names after it was interned
 abbrev pub next_names : ℕ → Naming → List ℕ → List (List ℕ)
 next_names longest naming name = if adds longest naming name then naming.names ++ name ∷ [] else naming.names
 
-abbrev pub next : ℕ → Naming → List ℕ → Naming
-next longest naming name = record naming { names = next_names longest naming name }
+abbrev pub next_naming : ℕ → Naming → List ℕ → Naming
+next_naming longest naming name = record naming { names = next_names longest naming name }
 
 -- a name has a number exactly where the number has the name, so no two share one
 abbrev pub IsOneToOne : List (List ℕ) → Type 0
-IsOneToOne names = (name : List ℕ) (number : ℕ) → (number_of names name ≡ Some number) ↔ (slice_get names number ≡ Some name)
+IsOneToOne names = (name : List ℕ) (number : ℕ) → (number_of_name names name ≡ Some number) ↔ (slice_get names number ≡ Some name)
 
 -- bytes that may be a name
 pub record IsName (longest : ℕ) (name : List ℕ) : Type 0 where
@@ -50,7 +50,7 @@ pub record IsName (longest : ℕ) (name : List ℕ) : Type 0 where
   pub short : length name ≤ longest
 
 -- what holds in every table of names
-pub record IsSound (longest limit : ℕ) (naming : Naming) : Type 0 where
+pub record IsSoundNaming (longest limit : ℕ) (naming : Naming) : Type 0 where
   pub within : naming.keys ≤ limit
   pub fits : length naming.names ≤ naming.keys
   pub are_names : All (IsName longest) naming.names

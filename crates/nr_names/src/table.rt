@@ -1,5 +1,5 @@
 ghost use Rattle.std.specs.Prelude.{◌≡◌, ◌≢◌, ◌≤◌, ◌<◌, ◌↔◌, ◌⊎◌, length, string_bytes, slice_get, IsTrue, IfOk, IfErr, OnOk, OnErr};
-ghost use Rattle.nr_names.specs.Naming.{no_names, number_of, intern_reply, adds, next, IsSound};
+ghost use Rattle.nr_names.specs.Naming.{no_names, number_of_name, intern_reply, adds, next_naming, IsSoundNaming};
 
 use crate::faults::NameFault;
 use std::alloc::{AllocError, Global};
@@ -69,10 +69,10 @@ impl NameTable {
         ensures reply { result ≢ Err NameFault.Memory → result ≡ intern_reply LONGEST_NAME self.old name.now }
         ensures memory { result ≡ Err NameFault.Memory → IsTrue (adds LONGEST_NAME self.old name.now) }
 
-        ensures next { OnOk result (self.new ≡ next LONGEST_NAME self.old name.now) }
+        ensures next { OnOk result (self.new ≡ next_naming LONGEST_NAME self.old name.now) }
         ensures kept { OnErr result (self.new ≡ self.old) }
-        ensures numbered { IfOk result (λ number. number_of self.new.names name.now ≡ Some number) }
-        ensures sound { IsSound LONGEST_NAME MAX_KEYS self.new }
+        ensures numbered { IfOk result (λ number. number_of_name self.new.names name.now ≡ Some number) }
+        ensures sound { IsSoundNaming LONGEST_NAME MAX_KEYS self.new }
     {
         let next = self.names.len() as u32;
         if name.is_empty() {
@@ -96,9 +96,9 @@ impl NameTable {
     fn add(&mut self, name: &str, number: u32) -> Result<(), AllocError>
         requires adds { IsTrue (adds LONGEST_NAME self.old name.now) }
         requires next { number ≡ length self.old.names }
-        ensures next { OnOk result (self.new ≡ next LONGEST_NAME self.old name.now) }
+        ensures next { OnOk result (self.new ≡ next_naming LONGEST_NAME self.old name.now) }
         ensures kept { OnErr result (self.new ≡ self.old) }
-        ensures sound { IsSound LONGEST_NAME MAX_KEYS self.new }
+        ensures sound { IsSoundNaming LONGEST_NAME MAX_KEYS self.new }
     {
         let key = String::from_str(self.alloc, name)?;
         let text = String::from_str(self.alloc, name)?;
@@ -117,7 +117,7 @@ impl NameTable {
 
         ensures no_name { (result ≡ Err NameFault.NoName) ↔ (length self.now.names ≤ number) }
         ensures refusal { IfErr result (λ fault. (fault ≡ NameFault.NoName) ⊎ (fault ≡ NameFault.Memory)) }
-        ensures sound { IsSound LONGEST_NAME MAX_KEYS self.now }
+        ensures sound { IsSoundNaming LONGEST_NAME MAX_KEYS self.now }
     {
         let Some(name) = self.names.get(number as usize) else {
             return Err(NameFault::NoName);

@@ -6,7 +6,7 @@ use Rattle.nr_lines.specs.Output.{Sends}
 use Rattle.nr_lines.specs.Run.{Runs}
 use Rattle.nr_prog.specs.declared.task.Task.{Task}
 use Rattle.nr_prog.specs.Faults.{line_of}
-use Rattle.nr_prog.specs.Program.{Ends, EndsRun}
+use Rattle.nr_prog.specs.Program.{EndsTask, EndsRun}
 
 pub run_ends : (text : List (List ℕ) → List ℕ) (limit status : ℕ) (told ran : Result (Unit {0}) RunFault) (had left held wrote holds : Option (List ℕ))
     → Runs text limit ran had left held wrote
@@ -17,8 +17,8 @@ run_ends text limit status told (Err fault) had left held wrote holds runs (one,
 
 -- the end of what was asked for
 pub asked_ends : (done asked : Task) (status : ℕ) (told : Result (Unit {0}) RunFault) (had left held holds : Option (List ℕ))
-    → done ≡ asked → Ends done status told had left held holds → (told : Result (Unit {0}) RunFault) × Ends asked status told had left held holds
-asked_ends done asked status told had left held holds is ends = (told, subst (λ (task : Task). Ends task status told had left held holds) is ends)
+    → done ≡ asked → EndsTask done status told had left held holds → (told : Result (Unit {0}) RunFault) × EndsTask asked status told had left held holds
+asked_ends done asked status told had left held holds is ends = (told, subst (λ (task : Task). EndsTask task status told had left held holds) is ends)
 
 -- the line that is told, under its other name
 pub tells_line : (held holds : Option (List ℕ)) (told : Result (Unit {0}) RunFault) (line other : List ℕ) → line ≡ other → Sends held holds line told → Sends held holds other told

@@ -22,11 +22,11 @@ EndsRun text limit status told had left held holds =
     ((status ≡ 0) × Runs text limit (Ok tt) had left held holds) ⊎ ((status ≡ 1) × TellsFault text limit told had left held holds)
 
 -- each task's end; words that ask for nothing have their line, with status 2
-abbrev pub Ends : Task → ℕ → Result (Unit {0}) RunFault → Option (List ℕ) → Option (List ℕ) → Option (List ℕ) → Option (List ℕ) → Type 0
-Ends Script status told had left held holds = EndsRun script_text longest_input status told had left held holds
-Ends Schedule status told had left held holds = EndsRun schedule_text longest_input status told had left held holds
-Ends (Load plan) status told had left held holds = EndsLoad plan status told held holds
-Ends (Explain misuse) status told had left held holds = (status ≡ 2) × Sends held holds (line_of_misuse misuse) told
+abbrev pub EndsTask : Task → ℕ → Result (Unit {0}) RunFault → Option (List ℕ) → Option (List ℕ) → Option (List ℕ) → Option (List ℕ) → Type 0
+EndsTask Script status told had left held holds = EndsRun script_text longest_input status told had left held holds
+EndsTask Schedule status told had left held holds = EndsRun schedule_text longest_input status told had left held holds
+EndsTask (Load plan) status told had left held holds = EndsLoad plan status told held holds
+EndsTask (Explain misuse) status told had left held holds = (status ≡ 2) × Sends held holds (line_of_misuse misuse) told
 
 -- what the task reads
 abbrev pub ReadsNothing : Task → Type 0

@@ -4,7 +4,7 @@ ghost use Rattle.nr_lines.specs.declared.fault.RunFault as faults;
 ghost use Rattle.nr_lines.specs.Output.{Sends};
 ghost use Rattle.nr_prog.specs.Faults.{line_of, line_of_misuse};
 ghost use Rattle.nr_prog.specs.Loads.{line_of_load, report_text, TellsLoad};
-ghost use Rattle.nr_prog.specs.Program.{Ends, ReadsNothing};
+ghost use Rattle.nr_prog.specs.Program.{EndsTask, ReadsNothing};
 ghost use Rattle.nr_prog.specs.Tasks.{task};
 
 use crate::report::{report_of, report_status};
@@ -56,7 +56,7 @@ pub fn main_with<T: Threads + Wait + Sync, R: Read, W: Write>(
     writer: &mut W,
 ) -> u8
     ensures ends { (told : Result (Unit {0}) faults.RunFault) ×
-        Ends (task (map string_bytes args.now)) result told (R.remaining reader.old) (R.remaining reader.new) (W.contents writer.old) (W.contents writer.new) }
+        EndsTask (task (map string_bytes args.now)) result told (R.remaining reader.old) (R.remaining reader.new) (W.contents writer.old) (W.contents writer.new) }
     ensures unread { ReadsNothing (task (map string_bytes args.now)) → reader.new ≡ reader.old }
 {
     let end = match task_of(args) {

@@ -9,29 +9,29 @@ use Rattle.nr_model.specs.declared.rows.TheConstants.{MAX_ROWS}
 use Rattle.nr_model.specs.Rows.{in_order}
 use Rattle.nr_model.proofs.LawLemmas.{order_keeps_rows_lem}
 use Rattle.nr_core.specs.States as machine
-use Rattle.nr_core.specs.Machine.{next}
+use Rattle.nr_core.specs.Machine.{next_state}
 use Rattle.nr_core.proofs.Reach.{all_keep_shape}
 use Rattle.nr_core.specs.Laws.{AllGiven}
 use Rattle.nr_core.specs.Slots.{bound_of}
 use Rattle.nr_schedule.specs.declared.command.Command.{Command}
 use Rattle.nr_schedule.specs.declared.command.Command.TheVariants as commands
-use Rattle.nr_schedule.specs.Commands.{command, one_number, two_numbers, alone, by_writer}
+use Rattle.nr_schedule.specs.Commands.{schedule_command, one_number, two_numbers, alone, by_writer}
 use Rattle.nr_text.specs.Grammar.{within, words, number, row, delta, each, set_of, batch_of, filling, filling_as, updating}
-use Rattle.nr_text.specs.Opening.{opening, is_in_limits}
+use Rattle.nr_text.specs.Opening.{opening_of_words, is_in_limits, shape_of_opening}
 use Rattle.nr_text.specs.declared.opening.Opening.{Opening}
 use Rattle.nr_core.specs.Sizes.{IsShape}
-use Rattle.nr_schedule.specs.Machine.{answer, answer_tried}
-use Rattle.nr_schedule.specs.Opened.{number_now, opened, shape_of, start_fill}
+use Rattle.nr_schedule.specs.Machine.{schedule_reply, answer_schedule_command}
+use Rattle.nr_schedule.specs.Opened.{number_now, opened_schedule, start_fill}
 use Rattle.nr_schedule.specs.ScheduleRuns.{fill_event, event_of, event_if, line_event, events, ScheduleRuns}
 use Rattle.nr_lines.specs.Dialogue.{stays_open}
 use Rattle.nr_lines.specs.Plain.{is_plain, or_bad}
-use Rattle.nr_lines.specs.Text.{after}
+use Rattle.nr_lines.specs.Text.{after_lines}
 
-fill_steps : (state : machine.State) (key number : ℕ) (set : Option (List Row)) → (stays_open (start_fill state key number set)).1 ≡ Some (fold next state (fill_event key number set))
+fill_steps : (state : machine.State) (key number : ℕ) (set : Option (List Row)) → (stays_open (start_fill state key number set)).1 ≡ Some (fold next_state state (fill_event key number set))
 fill_steps state key number None = refl
 fill_steps state key number (Some rows) = refl
 
-command_steps : (state : machine.State) (tried : Option Command) → (answer_tried (Some state) tried).1 ≡ Some (fold next state (event_if state tried))
+command_steps : (state : machine.State) (tried : Option Command) → (answer_schedule_command (Some state) tried).1 ≡ Some (fold next_state state (event_if state tried))
 command_steps state None = refl
 command_steps state (Some (commands.Open opening)) = refl
 command_steps state (Some (commands.Arrive reader key)) = refl
@@ -46,16 +46,16 @@ command_steps state (Some (commands.Evict key)) = refl
 command_steps state (Some (commands.Cancel key)) = refl
 command_steps state (Some commands.Go) = refl
 
-line_steps : (state : machine.State) (line : List ℕ) → (or_bad answer (Some state) line).1 ≡ Some (fold next state (line_event state line))
+line_steps : (state : machine.State) (line : List ℕ) → (or_bad schedule_reply (Some state) line).1 ≡ Some (fold next_state state (line_event state line))
 line_steps state line =
-    elim (is_plain line) as (λ plain. (if plain then answer (Some state) line else (codes "bad", Some state)).1 ≡ Some (fold next state (if plain then event_if state (command (words line)) else [])))
-    [ true ↦ command_steps state (command (words line)) | false ↦ refl ]
+    elim (is_plain line) as (λ plain. (if plain then schedule_reply (Some state) line else (codes "bad", Some state)).1 ≡ Some (fold next_state state (if plain then event_if state (schedule_command (words line)) else [])))
+    [ true ↦ command_steps state (schedule_command (words line)) | false ↦ refl ]
 
-lines_run : (lines : List (List ℕ)) (state : machine.State) → after (or_bad answer) (Some state) lines ≡ Some (fold next state (events state lines))
+lines_run : (lines : List (List ℕ)) (state : machine.State) → after_lines (or_bad schedule_reply) (Some state) lines ≡ Some (fold next_state state (events state lines))
 lines_run [] state = refl
 lines_run (line ∷ more) state =
     rw (line_steps state line)
-    (lines_run more (fold next state (line_event state line)) ∙ ap Some (sym (fold-append next state (line_event state line) (events (fold next state (line_event state line)) more))))
+    (lines_run more (fold next_state state (line_event state line)) ∙ ap Some (sym (fold-append next_state state (line_event state line) (events (fold next_state state (line_event state line)) more))))
 
 given_more : (bound : ℕ) (front back : List machine.Event) → AllGiven bound front → AllGiven bound back → AllGiven bound (front ++ back)
 given_more bound [] back front_given back_given = back_given
@@ -136,29 +136,29 @@ module _ (state : machine.State) where
       (either_gives _ _ _ (one_gives commands.Evict more (λ n. (tt, tt)))
       (either_gives _ _ _ (one_gives commands.Cancel more (λ n. (tt, tt))) gives_none)))))
 
-  command_gives : (line : List (List ℕ)) → Gives (command line)
+  command_gives : (line : List (List ℕ)) → Gives (schedule_command line)
   command_gives [] = gives_none
   command_gives (name ∷ more) =
-      either_gives _ _ _ (mapped_gives commands.Open (opening more) (λ _. tt))
+      either_gives _ _ _ (mapped_gives commands.Open (opening_of_words more) (λ _. tt))
       (either_gives _ _ _ (two_give commands.Arrive more (λ n m. (tt, tt)))
       (either_gives _ _ _ (two_give commands.Read more (λ n m. (tt, tt)))
       (either_gives _ _ _ (one_gives commands.Depart more (λ n. (tt, tt)))
       (either_gives _ _ _ (two_give commands.Ask more (λ n m. (tt, tt)))
       (either_gives _ _ _ (writer_gives more) (either_gives _ _ _ (alone_gives commands.Go more (tt, tt)) gives_none))))))
 
-  line_gives : (line : List ℕ) (plain : Bool) → AllGiven (bound_of state.shape) (if plain then event_if state (command (words line)) else [])
+  line_gives : (line : List ℕ) (plain : Bool) → AllGiven (bound_of state.shape) (if plain then event_if state (schedule_command (words line)) else [])
   line_gives line true = (command_gives (words line)).sets
   line_gives line false = tt
 
 lines_give : (bound : ℕ) (lines : List (List ℕ)) (state : machine.State) → bound_of state.shape ≡ bound → AllGiven bound (events state lines)
 lines_give bound [] state same = tt
 lines_give bound (line ∷ more) state same =
-    let after_line = fold next state (line_event state line) in
+    let after_line = fold next_state state (line_event state line) in
     let given = subst (λ (b : ℕ). AllGiven b (line_event state line)) same (line_gives state line (is_plain line)) in
     given_more bound (line_event state line) (events after_line more) given (lines_give bound more after_line (ap bound_of (all_keep_shape (line_event state line) state) ∙ same))
 
 -- sizes within their limits are a map's
-is_shape : (opening : Opening) → is_in_limits opening ≡ true → IsShape (shape_of opening)
+is_shape : (opening : Opening) → is_in_limits opening ≡ true → IsShape (shape_of_opening opening)
 is_shape opening limits = record {
   some = grind (arith, nat_tests);
   bound = grind (arith, nat_tests);
@@ -168,4 +168,4 @@ is_shape opening limits = record {
 }
 
 pub schedule_runs_lem : ScheduleRuns
-schedule_runs_lem opening lines limits = (is_shape opening limits, lines_give (bound_of (shape_of opening)) lines (opened opening) refl, lines_run lines (opened opening))
+schedule_runs_lem opening lines limits = (is_shape opening limits, lines_give (bound_of (shape_of_opening opening)) lines (opened_schedule opening) refl, lines_run lines (opened_schedule opening))

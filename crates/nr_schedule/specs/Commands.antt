@@ -4,7 +4,7 @@ use Rattle.std.specs.Str.{bytes_eq}
 use Rattle.nr_schedule.specs.declared.command.Command.{Command}
 use Rattle.nr_schedule.specs.declared.command.Command.TheVariants.{Open, Arrive, Read, Depart, Ask, Find, Fill, FillAs, Update, Evict, Cancel, Go}
 use Rattle.nr_text.specs.Grammar.{number, filling, filling_as, updating}
-use Rattle.nr_text.specs.Opening.{opening}
+use Rattle.nr_text.specs.Opening.{opening_of_words}
 
 -- a number alone, and two numbers
 abbrev pub one_number : (ℕ → Command) → List (List ℕ) → Option Command
@@ -33,10 +33,10 @@ alone command [] = Some command
 alone command other = None
 
 -- the command that a line's words spell
-abbrev pub command : List (List ℕ) → Option Command
-command [] = None
-command (name ∷ more) =
-    if bytes_eq name (codes "open") then option_map Open (opening more)
+abbrev pub schedule_command : List (List ℕ) → Option Command
+schedule_command [] = None
+schedule_command (name ∷ more) =
+    if bytes_eq name (codes "open") then option_map Open (opening_of_words more)
     else if bytes_eq name (codes "arrive") then two_numbers Arrive more
     else if bytes_eq name (codes "read") then two_numbers Read more
     else if bytes_eq name (codes "depart") then one_number Depart more

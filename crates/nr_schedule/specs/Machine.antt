@@ -12,33 +12,33 @@ use Rattle.nr_schedule.specs.declared.answer.StepAnswer.{StepAnswer}
 use Rattle.nr_schedule.specs.declared.answer.StepAnswer.TheVariants as answers
 use Rattle.nr_schedule.specs.declared.answer.StepRefusal.{StepRefusal}
 use Rattle.nr_schedule.specs.declared.answer.StepRefusal.TheVariants as refusals
-use Rattle.nr_schedule.specs.Commands.{command}
-use Rattle.nr_schedule.specs.Opened.{opened, answer_opened}
-use Rattle.nr_schedule.specs.Spelling.{spelled}
+use Rattle.nr_schedule.specs.Commands.{schedule_command}
+use Rattle.nr_schedule.specs.Opened.{opened_schedule, answer_opened_schedule}
+use Rattle.nr_schedule.specs.Spelling.{spelled_by_schedule}
 
 -- a schedule's machine, where it was opened
-abbrev pub State : Type 0
-State = Option machine.State
+abbrev pub ScheduleState : Type 0
+ScheduleState = Option machine.State
 
-abbrev pub closed : State
-closed = None
+abbrev pub closed_schedule : ScheduleState
+closed_schedule = None
 
 -- each command of a schedule that is closed
-abbrev pub answer_closed : Command → Result StepAnswer StepRefusal × State
-answer_closed (Open opening) = if is_in_limits opening then (Ok answers.Ok, Some (opened opening)) else (Err refusals.Bad, None)
-answer_closed other = (Err refusals.Closed, None)
+abbrev pub answer_closed_schedule : Command → Result StepAnswer StepRefusal × ScheduleState
+answer_closed_schedule (Open opening) = if is_in_limits opening then (Ok answers.Ok, Some (opened_schedule opening)) else (Err refusals.Bad, None)
+answer_closed_schedule other = (Err refusals.Closed, None)
 
 -- to a command, or to a line that spells none
-abbrev pub answer_tried : State → Option Command → Result StepAnswer StepRefusal × State
-answer_tried = answer_command (Err refusals.Bad) answer_closed answer_opened
+abbrev pub answer_schedule_command : ScheduleState → Option Command → Result StepAnswer StepRefusal × ScheduleState
+answer_schedule_command = answer_command (Err refusals.Bad) answer_closed_schedule answer_opened_schedule
 
-abbrev pub answer_line : State → List ℕ → Result StepAnswer StepRefusal × State
-answer_line state line = answer_tried state (command (words line))
+abbrev pub answer_schedule_line : ScheduleState → List ℕ → Result StepAnswer StepRefusal × ScheduleState
+answer_schedule_line state line = answer_schedule_command state (schedule_command (words line))
 
 -- the reply to a plain line, and the state after it
-abbrev pub answer : State → List ℕ → List ℕ × State
-answer state line = in_words spelled (answer_line state line)
+abbrev pub schedule_reply : ScheduleState → List ℕ → List ℕ × ScheduleState
+schedule_reply state line = in_words spelled_by_schedule (answer_schedule_line state line)
 
 -- what a schedule writes for its lines
 abbrev pub schedule_text : List (List ℕ) → List ℕ
-schedule_text lines = text (or_bad answer) closed lines
+schedule_text lines = text (or_bad schedule_reply) closed_schedule lines

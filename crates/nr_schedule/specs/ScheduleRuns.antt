@@ -3,20 +3,20 @@ use Rattle.std.specs.Prelude.{ℕ, ◌≡◌, true, if◌then◌else◌, fold, L
 use Rattle.nr_model.specs.declared.rows.Row.{Row}
 use Rattle.nr_core.specs.declared.calls.WriterCall.TheVariants as calls
 use Rattle.nr_core.specs.States.{State, Event, Arrive, Read, Depart, Ask, Start, Go}
-use Rattle.nr_core.specs.Machine.{next, run}
+use Rattle.nr_core.specs.Machine.{next_state, run}
 use Rattle.nr_core.specs.Slots.{bound_of}
 use Rattle.nr_core.specs.Sizes.{IsShape}
 use Rattle.nr_core.specs.Laws.{AllGiven}
 use Rattle.nr_text.specs.declared.opening.Opening.{Opening}
 use Rattle.nr_schedule.specs.declared.command.Command.{Command}
 use Rattle.nr_schedule.specs.declared.command.Command.TheVariants as commands
-use Rattle.nr_schedule.specs.Commands.{command}
+use Rattle.nr_schedule.specs.Commands.{schedule_command}
 use Rattle.nr_text.specs.Grammar.{within, words}
-use Rattle.nr_text.specs.Opening.{is_in_limits}
-use Rattle.nr_schedule.specs.Machine.{answer}
-use Rattle.nr_schedule.specs.Opened.{number_now, opened, shape_of}
+use Rattle.nr_text.specs.Opening.{is_in_limits, shape_of_opening}
+use Rattle.nr_schedule.specs.Machine.{schedule_reply}
+use Rattle.nr_schedule.specs.Opened.{number_now, opened_schedule}
 use Rattle.nr_lines.specs.Plain.{is_plain, or_bad}
-use Rattle.nr_lines.specs.Text.{after}
+use Rattle.nr_lines.specs.Text.{after_lines}
 
 -- the event of a command, where it is one of the machine's; a fill that names no number has that of its key as it stands
 abbrev pub fill_event : ℕ → ℕ → Option (List Row) → List Event
@@ -43,15 +43,15 @@ event_if state (Some command) = event_of state command
 
 -- the event that a line spells at a machine, if it spells one
 abbrev pub line_event : State → List ℕ → List Event
-line_event state line = if is_plain line then event_if state (command (words line)) else []
+line_event state line = if is_plain line then event_if state (schedule_command (words line)) else []
 
 -- the events that lines spell, one line after the other
 abbrev pub events : State → List (List ℕ) → List Event
 events state [] = []
-events state (line ∷ more) = line_event state line ++ events (fold next state (line_event state line)) more
+events state (line ∷ more) = line_event state line ++ events (fold next_state state (line_event state line)) more
 
 -- Whatever its lines are, an opened schedule is the run of the events that they spell: the laws over all lists of events speak of it.
 abbrev pub ScheduleRuns : Type 0
 ScheduleRuns = (opening : Opening) (lines : List (List ℕ)) → is_in_limits opening ≡ true
-    → IsShape (shape_of opening) × AllGiven (bound_of (shape_of opening)) (events (opened opening) lines)
-    × (after (or_bad answer) (Some (opened opening)) lines ≡ Some (run (shape_of opening) (events (opened opening) lines)))
+    → IsShape (shape_of_opening opening) × AllGiven (bound_of (shape_of_opening opening)) (events (opened_schedule opening) lines)
+    × (after_lines (or_bad schedule_reply) (Some (opened_schedule opening)) lines ≡ Some (run (shape_of_opening opening) (events (opened_schedule opening) lines)))

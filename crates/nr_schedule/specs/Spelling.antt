@@ -31,12 +31,12 @@ spelled_step Going = codes "-"
 spelled_step (Ended (ended.Reply reply)) = spelled_reply reply
 spelled_step (Ended (ended.NoSlot counts)) = codes "no-slot" ++ 32 ∷ (decimal counts.live ++ 32 ∷ decimal counts.held)
 
-abbrev pub spelled_answer : StepAnswer → List ℕ
-spelled_answer answer.Ok = codes "ok"
-spelled_answer (answer.Arrived found) = spelled_arrived found
-spelled_answer (answer.Word word) = decimal word
-spelled_answer (answer.Asked reply) = spelled_asked reply
-spelled_answer (answer.Writer step) = spelled_step step
+abbrev pub spelled_schedule_answer : StepAnswer → List ℕ
+spelled_schedule_answer answer.Ok = codes "ok"
+spelled_schedule_answer (answer.Arrived found) = spelled_arrived found
+spelled_schedule_answer (answer.Word word) = decimal word
+spelled_schedule_answer (answer.Asked reply) = spelled_asked reply
+spelled_schedule_answer (answer.Writer step) = spelled_step step
 
 -- the machine's refusals
 abbrev pub spelled_refused : Refusal → List ℕ
@@ -46,13 +46,13 @@ spelled_refused Busy = codes "busy"
 spelled_refused NotBusy = codes "not-busy"
 spelled_refused OutOfRange = codes "out-of-range"
 
-abbrev pub spelled_refusal : StepRefusal → List ℕ
-spelled_refusal refusal.Bad = codes "bad"
-spelled_refusal refusal.Closed = codes "closed"
-spelled_refusal refusal.TooMany = codes "too-many"
-spelled_refusal (refusal.Refused why) = spelled_refused why
+abbrev pub spelled_schedule_refusal : StepRefusal → List ℕ
+spelled_schedule_refusal refusal.Bad = codes "bad"
+spelled_schedule_refusal refusal.Closed = codes "closed"
+spelled_schedule_refusal refusal.TooMany = codes "too-many"
+spelled_schedule_refusal (refusal.Refused why) = spelled_refused why
 
 -- an answer, or why there is none
-abbrev pub spelled : Result StepAnswer StepRefusal → List ℕ
-spelled (Ok answer) = spelled_answer answer
-spelled (Err why) = spelled_refusal why
+abbrev pub spelled_by_schedule : Result StepAnswer StepRefusal → List ℕ
+spelled_by_schedule (Ok answer) = spelled_schedule_answer answer
+spelled_by_schedule (Err why) = spelled_schedule_refusal why

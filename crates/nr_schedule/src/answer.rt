@@ -75,9 +75,9 @@ pub(crate) type Tried<T> = Result<Result<T, StepRefusal>, RunFault>;
 
 impl fmt::Display for StepAnswer<'_> {
     ghost use Rattle.std.specs.Prelude.{Some};
-    ghost use Rattle.nr_schedule.specs.Spelling.{spelled_answer};
+    ghost use Rattle.nr_schedule.specs.Spelling.{spelled_schedule_answer};
 
-    ghost output = { λ answer. Some (spelled_answer answer) };
+    ghost output = { λ answer. Some (spelled_schedule_answer answer) };
 
     fn fmt<W: fmt::Write>(&self, f: &mut fmt::Formatter<W>) -> fmt::Result {
         match self {
@@ -104,9 +104,9 @@ impl fmt::Display for StepAnswer<'_> {
 
 impl fmt::Display for StepRefusal {
     ghost use Rattle.std.specs.Prelude.{Some};
-    ghost use Rattle.nr_schedule.specs.Spelling.{spelled_refusal};
+    ghost use Rattle.nr_schedule.specs.Spelling.{spelled_schedule_refusal};
 
-    ghost output = { λ refusal. Some (spelled_refusal refusal) };
+    ghost output = { λ refusal. Some (spelled_schedule_refusal refusal) };
 
     fn fmt<W: fmt::Write>(&self, f: &mut fmt::Formatter<W>) -> fmt::Result {
         f.write_str(match self {

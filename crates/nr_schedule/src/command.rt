@@ -2,7 +2,7 @@
 ghost use Rattle.std.specs.Prelude.{◌≡◌, ℕ, option_map};
 ghost use Rattle.nr_schedule.specs.declared.command.Command.{Command};
 ghost use Rattle.nr_schedule.specs.declared.command.Command.TheVariants.{Fill, FillAs, Update};
-ghost use Rattle.nr_schedule.specs.Commands.{command, by_writer, one_number, two_numbers};
+ghost use Rattle.nr_schedule.specs.Commands.{schedule_command, by_writer, one_number, two_numbers};
 ghost use Rattle.nr_text.specs.Grammar.{words, number, filling, filling_as, updating};
 ghost use Rattle.nr_text.specs.Words.{words_left};
 
@@ -56,7 +56,7 @@ pub(crate) enum Command<'a> {
 /// The command of a line, or none where it doesn't fit the grammar. A set or a batch that the line
 /// gives is put into the room for it.
 pub(crate) fn parse<'a>(line: &'a [u8], given: &'a mut Given) -> Option<Command<'a>>
-    ensures { result ≡ command (words line.now) }
+    ensures { result ≡ schedule_command (words line.now) }
 {
     let mut words = Words::new(line);
     let name = words.next()?;

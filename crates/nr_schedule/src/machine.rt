@@ -1,6 +1,6 @@
 //! A schedule: closed until it is opened, and then the step machine.
 ghost use Rattle.std.specs.Prelude.{◌≡◌, None, IfOk, IfErr};
-ghost use Rattle.nr_schedule.specs.Machine.{answer_line, answer_closed};
+ghost use Rattle.nr_schedule.specs.Machine.{answer_schedule_line, answer_closed_schedule};
 
 use crate::answer::{StepAnswer, StepRefusal, Tried};
 use crate::command::{Command, parse};
@@ -23,11 +23,11 @@ impl Machine for ScheduleMachine {
     ghost use Rattle.std.specs.Prelude.{◌^◌};
     ghost use Rattle.nr_schedule.specs.Machine as schedule;
 
-    ghost State = { schedule.State };
+    ghost State = { schedule.ScheduleState };
 
     ghost state_of = { λ machine. machine.opened };
 
-    ghost answer = { schedule.answer };
+    ghost answer = { schedule.schedule_reply };
 
     // Nothing in it counts up.
     ghost lines_left = { λ _. 2 ^ 64 };
@@ -54,10 +54,10 @@ impl Machine for ScheduleMachine {
 }
 
 impl ScheduleMachine {
-    ghost use Rattle.nr_schedule.specs.Machine.{closed};
+    ghost use Rattle.nr_schedule.specs.Machine.{closed_schedule};
 
     pub(crate) fn new() -> ScheduleMachine
-        ensures { result.opened ≡ closed }
+        ensures { result.opened ≡ closed_schedule }
     {
         ScheduleMachine {
             opened: None,
@@ -75,7 +75,7 @@ fn answer_plain<'a>(
     given: &mut Given,
     tried: &'a mut Result<Step, Refusal>,
 ) -> Tried<StepAnswer<'a>>
-    ensures answer { IfOk result (λ said. answer_line opened.old line.now ≡ (said, opened.new)) }
+    ensures answer { IfOk result (λ said. answer_schedule_line opened.old line.now ≡ (said, opened.new)) }
     ensures fault { IfErr result (λ fault. fault ≡ RunFault.Memory) }
 {
     let Some(command) = parse(line, given) else {
@@ -94,7 +94,7 @@ fn open(
     command: &Command<'_>,
 ) -> Tried<StepAnswer<'static>>
     requires { opened.old ≡ None }
-    ensures answer { IfOk result (λ said. answer_closed command.now ≡ (said, opened.new)) }
+    ensures answer { IfOk result (λ said. answer_closed_schedule command.now ≡ (said, opened.new)) }
     ensures fault { IfErr result (λ fault. fault ≡ RunFault.Memory) }
 {
     let Command::Open(opening) = command else {

@@ -2,12 +2,12 @@
 ghost use Rattle.std.specs.Prelude.{◌≡◌, true, false, IfOk, IfErr, MatchOption};
 ghost use Rattle.nr_model.specs.Maps.{FillFits};
 ghost use Rattle.nr_core.specs.Story.{call_of};
-ghost use Rattle.nr_core.specs.Machine.{next, arrive_answer, read_answer, depart_answer, ask_answer, go_answer};
+ghost use Rattle.nr_core.specs.Machine.{next_state, arrive_answer, read_answer, depart_answer, ask_answer, go_answer};
 ghost use Rattle.nr_core.specs.declared.calls.WriterCall.TheVariants as calls;
 ghost use Rattle.nr_core.specs.Refusals.{has_reader, has_key};
 ghost use Rattle.nr_text.specs.Grammar.{within};
 ghost use Rattle.nr_text.specs.Opening.{is_in_limits};
-ghost use Rattle.nr_schedule.specs.Opened.{answer_opened, answered, number_now, start, start_fill, opened};
+ghost use Rattle.nr_schedule.specs.Opened.{answer_opened_schedule, answered, number_now, start, start_fill, opened_schedule};
 ghost use Rattle.nr_schedule.specs.declared.answer.StepAnswer.TheVariants as answers;
 
 use crate::answer::{StepAnswer, StepRefusal, WriterStep};
@@ -43,7 +43,7 @@ impl Opened {
     /// The machine that an opening within the limits opens.
     pub(crate) fn open(alloc: Global, opening: &Opening) -> Result<Opened, RunFault>
         requires { is_in_limits opening.now ≡ true }
-        ensures ok { IfOk result (λ schedule. schedule ≡ opened opening.now) }
+        ensures ok { IfOk result (λ schedule. schedule ≡ opened_schedule opening.now) }
         ensures fault { IfErr result (λ fault. fault ≡ RunFault.Memory) }
     {
         let keys = opening.keys as u32;
@@ -68,7 +68,7 @@ impl Opened {
         command: &Command<'_>,
         tried: &'a mut Result<Step, Refusal>,
     ) -> Result<StepAnswer<'a>, StepRefusal>
-        ensures { answer_opened self.old command.now ≡ (result, self.new) }
+        ensures { answer_opened_schedule self.old command.now ≡ (result, self.new) }
     {
         match command {
             Command::Open(_) => Err(StepRefusal::Bad),
@@ -100,7 +100,7 @@ impl Opened {
 
     fn arrive(&mut self, reader: u64, key: u64) -> Result<Arrived, Refusal>
         ensures answer { result ≡ arrive_answer self.old reader key }
-        ensures new { self.new ≡ next self.old (machine.Arrive reader key) }
+        ensures new { self.new ≡ next_state self.old (machine.Arrive reader key) }
     {
         let reader = self.small(reader)?;
         let key = self.small(key)?;
@@ -109,7 +109,7 @@ impl Opened {
 
     fn read(&mut self, reader: u64, index: u64) -> Result<u64, Refusal>
         ensures answer { result ≡ read_answer self.old reader index }
-        ensures new { self.new ≡ next self.old (machine.Read reader index) }
+        ensures new { self.new ≡ next_state self.old (machine.Read reader index) }
     {
         let reader = self.small(reader)?;
         self.core.read(reader, index)
@@ -117,7 +117,7 @@ impl Opened {
 
     fn depart(&mut self, reader: u64) -> Result<(), Refusal>
         ensures answer { result ≡ depart_answer self.old reader }
-        ensures new { self.new ≡ next self.old (machine.Depart reader) }
+        ensures new { self.new ≡ next_state self.old (machine.Depart reader) }
     {
         let reader = self.small(reader)?;
         self.core.depart(reader)
@@ -125,7 +125,7 @@ impl Opened {
 
     fn ask(&mut self, reader: u64, key: u64) -> Result<AskReply, Refusal>
         ensures answer { result ≡ ask_answer self.old reader key }
-        ensures new { self.new ≡ next self.old (machine.Ask reader key) }
+        ensures new { self.new ≡ next_state self.old (machine.Ask reader key) }
     {
         let reader = self.small(reader)?;
         let key = self.small(key)?;
@@ -218,7 +218,7 @@ impl Opened {
         tried: &'a mut Result<Step, Refusal>,
     ) -> Result<StepAnswer<'a>, StepRefusal>
         ensures answer { result ≡ answered answers.Writer (go_answer self.old) }
-        ensures new { self.new ≡ next self.old machine.Go }
+        ensures new { self.new ≡ next_state self.old machine.Go }
     {
         *tried = self.core.go();
         let step = WriterStep::of(tried)?;

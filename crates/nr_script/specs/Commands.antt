@@ -5,7 +5,7 @@ use Rattle.std.specs.Str.{bytes_eq}
 use Rattle.nr_script.specs.declared.command.Command.{Command}
 use Rattle.nr_script.specs.declared.command.Command.TheVariants.{Open, Find, Ask, Fill, FillAs, Update, Evict, Cancel, Look, Pin, Show, Unpin}
 use Rattle.nr_text.specs.Grammar.{number, filling, filling_as, updating}
-use Rattle.nr_text.specs.Opening.{opening}
+use Rattle.nr_text.specs.Opening.{opening_of_words}
 
 -- the bytes of a name
 abbrev pub is_name_byte : ℕ → Bool
@@ -29,11 +29,11 @@ reader_alone command (reader ∷ []) = option_map command (number reader)
 reader_alone command other = None
 
 -- the command of a line's words
-abbrev pub command : List (List ℕ) → Option Command
-command [] = None
-command (name ∷ more) =
-    if bytes_eq name (codes "open") then option_map (λ opening. Open false opening) (opening more)
-    else if bytes_eq name (codes "open-named") then option_map (λ opening. Open true opening) (opening more)
+abbrev pub script_command : List (List ℕ) → Option Command
+script_command [] = None
+script_command (name ∷ more) =
+    if bytes_eq name (codes "open") then option_map (λ opening. Open false opening) (opening_of_words more)
+    else if bytes_eq name (codes "open-named") then option_map (λ opening. Open true opening) (opening_of_words more)
     else if bytes_eq name (codes "find") then reader_and_key Find more
     else if bytes_eq name (codes "ask") then reader_and_key Ask more
     else if bytes_eq name (codes "fill") then filling key Fill more

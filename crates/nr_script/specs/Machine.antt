@@ -12,37 +12,37 @@ use Rattle.nr_script.specs.declared.answer.Refusal.TheVariants as refusals
 use Rattle.nr_script.specs.declared.command.Command.{Command}
 use Rattle.nr_script.specs.declared.command.Command.TheVariants.{Open}
 use Rattle.nr_script.specs.declared.machine.ScriptMachine.{ScriptMachine}
-use Rattle.nr_script.specs.Commands.{command}
-use Rattle.nr_script.specs.Opened.{Opened, opened, answer_opened}
-use Rattle.nr_script.specs.Spelling.{spelled}
+use Rattle.nr_script.specs.Commands.{script_command}
+use Rattle.nr_script.specs.Opened.{Opened, opened_script, answer_opened_script}
+use Rattle.nr_script.specs.Spelling.{spelled_by_script}
 
 -- a script, which begins closed
-abbrev pub State : Type 0
-State = Option Opened
+abbrev pub ScriptState : Type 0
+ScriptState = Option Opened
 
-abbrev pub start : State
-start = None
+abbrev pub closed_script : ScriptState
+closed_script = None
 
 -- each command of a script that is closed
-abbrev pub answer_closed : Command → Result Answer Refusal × State
-answer_closed (Open named sizes) = if is_in_limits sizes then (Ok answers.Ok, Some (opened named sizes)) else (Err refusals.Bad, None)
-answer_closed other = (Err refusals.Closed, None)
+abbrev pub answer_closed_script : Command → Result Answer Refusal × ScriptState
+answer_closed_script (Open named sizes) = if is_in_limits sizes then (Ok answers.Ok, Some (opened_script named sizes)) else (Err refusals.Bad, None)
+answer_closed_script other = (Err refusals.Closed, None)
 
 -- to a command, or to a line that spells none
-abbrev pub answer_tried : State → Option Command → Result Answer Refusal × State
-answer_tried = answer_command (Err refusals.Bad) answer_closed answer_opened
+abbrev pub answer_script_command : ScriptState → Option Command → Result Answer Refusal × ScriptState
+answer_script_command = answer_command (Err refusals.Bad) answer_closed_script answer_opened_script
 
-abbrev pub answer_line : State → List ℕ → Result Answer Refusal × State
-answer_line state line = answer_tried state (command (words line))
+abbrev pub answer_script_line : ScriptState → List ℕ → Result Answer Refusal × ScriptState
+answer_script_line state line = answer_script_command state (script_command (words line))
 
 -- the reply to a plain line, and the state after it
-abbrev pub answer : State → List ℕ → List ℕ × State
-answer state line = in_words spelled (answer_line state line)
+abbrev pub script_reply : ScriptState → List ℕ → List ℕ × ScriptState
+script_reply state line = in_words spelled_by_script (answer_script_line state line)
 
 -- what a script writes for its lines
 abbrev pub script_text : List (List ℕ) → List ℕ
-script_text lines = text (or_bad answer) start lines
+script_text lines = text (or_bad script_reply) closed_script lines
 
 -- what the program keeps of a script
-abbrev pub state_of : ScriptMachine → State
-state_of machine = machine.opened
+abbrev pub script_state : ScriptMachine → ScriptState
+script_state machine = machine.opened

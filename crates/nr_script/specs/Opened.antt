@@ -5,21 +5,21 @@ use Rattle.nr_model.specs.declared.rows.TooMany.{TooMany}
 use Rattle.nr_model.specs.declared.calls.Call.{Call}
 use Rattle.nr_model.specs.declared.calls.Call.TheVariants as calls
 use Rattle.nr_model.specs.Maps.{key_count, state_of, number_of}
-use Rattle.nr_core.specs.declared.shape.Shape.{Shape}
 use Rattle.nr_alone.specs.Answers.{Answer}
 use Rattle.nr_alone.specs.declared.answer.Refusal.{Refusal as MapRefusal}
 use Rattle.nr_alone.specs.declared.answer.Refusal.TheVariants as map_refusals
-use Rattle.nr_alone.specs.MapState.{MapState, Outcome as MapOutcome, answer_call, answer_of_reader, answer_pinning, answer_show, answer_unpin, opened as map_opened}
+use Rattle.nr_alone.specs.MapState.{MapState, MapOutcome, answer_call, answer_of_reader, answer_pinning, answer_show, answer_unpin, opened_map}
 use Rattle.nr_names.specs.declared.faults.NameFault.{NameFault}
 use Rattle.nr_names.specs.declared.faults.NameFault.TheVariants as names
 use Rattle.nr_names.specs.declared.table.TheConstants.{LONGEST_NAME}
-use Rattle.nr_names.specs.Naming.{no_names, intern_reply, next as next_naming}
+use Rattle.nr_names.specs.Naming.{no_names, intern_reply, next_naming}
 use Rattle.nr_script.specs.declared.keys.Keys.{Keys}
 use Rattle.nr_script.specs.declared.keys.Keys.TheVariants as kinds
 use Rattle.nr_script.specs.declared.command.Command.{Command}
 use Rattle.nr_script.specs.declared.command.Command.TheVariants.{Open, Find, Ask, Fill, FillAs, Update, Evict, Cancel, Look, Pin as PinKey, Show, Unpin}
 use Rattle.nr_script.specs.declared.answer.Refusal.{Refusal}
 use Rattle.nr_script.specs.declared.answer.Refusal.TheVariants as refusals
+use Rattle.nr_text.specs.Opening.{shape_of_opening}
 use Rattle.nr_text.specs.Grammar.{number, within}
 use Rattle.nr_text.specs.declared.opening.Opening.{Opening}
 
@@ -31,30 +31,30 @@ pub record Opened : Type 0 where
   pub state : MapState
 
 -- what a command is answered, or why it is refused, and the script after it
-abbrev pub Outcome : Type 0
-Outcome = Result Answer Refusal × Opened
+abbrev pub ScriptOutcome : Type 0
+ScriptOutcome = Result Answer Refusal × Opened
 
 -- what the map answers to a call, or how the line is refused where the call is; the names stay
 abbrev pub refused : MapRefusal → Refusal
 refused map_refusals.Holding = refusals.Holding
 refused map_refusals.NotHolding = refusals.NotHolding
 
-abbrev pub by_map : Opened → MapOutcome → Outcome
+abbrev pub by_map : Opened → MapOutcome → ScriptOutcome
 by_map script (Ok answer, state) = (Ok answer, record script { state = state })
 by_map script (Err refusal, state) = (Err (refused refusal), record script { state = state })
 
 -- the readers are numbered from 1
-abbrev pub has_reader : Opened → ℕ → Bool
-has_reader script reader = nat_lt 0 reader && nat_le reader (length script.state.pins)
+abbrev pub script_has_reader : Opened → ℕ → Bool
+script_has_reader script reader = nat_lt 0 reader && nat_le reader (length script.state.pins)
 
 -- What a command needs is looked for in the order of the refusals; the command goes on with what was found, or is refused.
-abbrev pub with_found : {A : Type 0} → Result A Refusal × Opened → (A → Opened → Outcome) → Outcome
+abbrev pub with_found : {A : Type 0} → Result A Refusal × Opened → (A → Opened → ScriptOutcome) → ScriptOutcome
 with_found (Ok found, script) outcome = outcome found script
 with_found (Err refusal, script) outcome = (Err refusal, script)
 
 -- a reader of the script
 abbrev pub found_reader : Opened → ℕ → Result (Unit {0}) Refusal
-found_reader script reader = if has_reader script reader then Ok tt else Err refusals.NoReader
+found_reader script reader = if script_has_reader script reader then Ok tt else Err refusals.NoReader
 
 -- a key by its number, and by its name
 abbrev pub numbered_key : ℕ → Option ℕ → Result ℕ Refusal
@@ -93,7 +93,7 @@ is_no_key (kinds.Named naming) word = false
 abbrev pub found_by_reader : Opened → ℕ → List ℕ → Result ℕ Refusal × Opened
 found_by_reader script reader word =
     if is_no_key script.keys word then (Err refusals.Bad, script)
-    else if has_reader script reader then found_key script word
+    else if script_has_reader script reader then found_key script word
     else (Err refusals.NoReader, script)
 
 -- a set of no more rows than a key may have
@@ -105,39 +105,34 @@ abbrev pub found_set : Opened → Result (List Row) TooMany → Result (List Row
 found_set script set = found_rows (within script.state.map.bound set)
 
 -- a call of the writer, and of a reader, at its place in the map
-abbrev pub called : Opened → Call → Outcome
+abbrev pub called : Opened → Call → ScriptOutcome
 called script call = by_map script (answer_call script.state call)
 
-abbrev pub called_by : Opened → ℕ → Call → Outcome
+abbrev pub called_by : Opened → ℕ → Call → ScriptOutcome
 called_by script reader call = by_map script (answer_of_reader script.state (reader - 1) call)
 
 -- each command of an opened script; a fill that names no number has that of its key as it stands
-abbrev pub answer_opened : Opened → Command → Outcome
-answer_opened script (Open named sizes) = (Err refusals.Bad, script)
-answer_opened script (Find reader word) = with_found (found_by_reader script reader word) (λ key after. called_by after reader (calls.Find key))
-answer_opened script (Ask reader word) = with_found (found_by_reader script reader word) (λ key after. called_by after reader (calls.Ask key))
-answer_opened script (Fill word set) =
+abbrev pub answer_opened_script : Opened → Command → ScriptOutcome
+answer_opened_script script (Open named sizes) = (Err refusals.Bad, script)
+answer_opened_script script (Find reader word) = with_found (found_by_reader script reader word) (λ key after. called_by after reader (calls.Find key))
+answer_opened_script script (Ask reader word) = with_found (found_by_reader script reader word) (λ key after. called_by after reader (calls.Ask key))
+answer_opened_script script (Fill word set) =
     with_found (found_key script word) (λ key after. with_found (found_set after set, after) (λ rows fits. called fits (calls.Fill key (number_of (state_of fits.state.map key)) rows)))
-answer_opened script (FillAs word number set) =
+answer_opened_script script (FillAs word number set) =
     with_found (found_key script word) (λ key after. with_found (found_set after set, after) (λ rows fits. called fits (calls.Fill key number rows)))
-answer_opened script (Update word batch) = with_found (found_key script word) (λ key after. called after (calls.Update key batch))
-answer_opened script (Evict word) = with_found (found_key script word) (λ key after. called after (calls.Evict key))
-answer_opened script (Cancel word) = with_found (found_key script word) (λ key after. called after (calls.Cancel key))
-answer_opened script (Look word) = with_found (found_key script word) (λ key after. called after (calls.Find key))
-answer_opened script (PinKey reader word) =
+answer_opened_script script (Update word batch) = with_found (found_key script word) (λ key after. called after (calls.Update key batch))
+answer_opened_script script (Evict word) = with_found (found_key script word) (λ key after. called after (calls.Evict key))
+answer_opened_script script (Cancel word) = with_found (found_key script word) (λ key after. called after (calls.Cancel key))
+answer_opened_script script (Look word) = with_found (found_key script word) (λ key after. called after (calls.Find key))
+answer_opened_script script (PinKey reader word) =
     with_found (found_by_reader script reader word) (λ key after. by_map after (answer_pinning after.state (reader - 1) key (state_of after.state.map key)))
-answer_opened script (Show reader) = with_found (found_reader script reader, script) (λ _ of_reader. by_map of_reader (answer_show of_reader.state (reader - 1)))
-answer_opened script (Unpin reader) = with_found (found_reader script reader, script) (λ _ of_reader. by_map of_reader (answer_unpin of_reader.state (reader - 1)))
+answer_opened_script script (Show reader) = with_found (found_reader script reader, script) (λ _ of_reader. by_map of_reader (answer_show of_reader.state (reader - 1)))
+answer_opened_script script (Unpin reader) = with_found (found_reader script reader, script) (λ _ of_reader. by_map of_reader (answer_unpin of_reader.state (reader - 1)))
 
 -- what stands for the keys when a script is opened
 abbrev pub keys_opened : Bool → ℕ → Keys
 keys_opened true count = kinds.Named (no_names count)
 keys_opened false count = kinds.Numbered
 
--- the map that an opening line asks for
-abbrev pub shape_of : Opening → Shape
-shape_of sizes =
-    record { keys = sizes.keys; slots = sizes.slots; readers = sizes.readers; first_count = sizes.first_count; first_number = sizes.first_number; rows = sizes.rows }
-
-abbrev pub opened : Bool → Opening → Opened
-opened named sizes = record { keys = keys_opened named sizes.keys; state = map_opened (shape_of sizes) }
+abbrev pub opened_script : Bool → Opening → Opened
+opened_script named sizes = record { keys = keys_opened named sizes.keys; state = opened_map (shape_of_opening sizes) }

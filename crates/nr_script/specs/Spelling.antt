@@ -6,23 +6,23 @@ use Rattle.nr_alone.specs.Answers as answer
 use Rattle.nr_script.specs.declared.answer.Refusal.{Refusal}
 use Rattle.nr_script.specs.declared.answer.Refusal.TheVariants as refusal
 
-abbrev pub spelled_answer : Answer → List ℕ
-spelled_answer answer.Ok = codes "ok"
-spelled_answer (answer.Reply reply) = spelled_reply reply
-spelled_answer answer.NoSlot = codes "no-slot"
+abbrev pub spelled_script_answer : Answer → List ℕ
+spelled_script_answer answer.Ok = codes "ok"
+spelled_script_answer (answer.Reply reply) = spelled_reply reply
+spelled_script_answer answer.NoSlot = codes "no-slot"
 
-abbrev pub spelled_refusal : Refusal → List ℕ
-spelled_refusal refusal.Bad = codes "bad"
-spelled_refusal refusal.Closed = codes "closed"
-spelled_refusal refusal.NoReader = codes "no-reader"
-spelled_refusal refusal.NoKey = codes "no-key"
-spelled_refusal refusal.TooLong = codes "too-long"
-spelled_refusal refusal.Full = codes "full"
-spelled_refusal refusal.TooMany = codes "too-many"
-spelled_refusal refusal.Holding = codes "holding"
-spelled_refusal refusal.NotHolding = codes "not-holding"
+abbrev pub spelled_script_refusal : Refusal → List ℕ
+spelled_script_refusal refusal.Bad = codes "bad"
+spelled_script_refusal refusal.Closed = codes "closed"
+spelled_script_refusal refusal.NoReader = codes "no-reader"
+spelled_script_refusal refusal.NoKey = codes "no-key"
+spelled_script_refusal refusal.TooLong = codes "too-long"
+spelled_script_refusal refusal.Full = codes "full"
+spelled_script_refusal refusal.TooMany = codes "too-many"
+spelled_script_refusal refusal.Holding = codes "holding"
+spelled_script_refusal refusal.NotHolding = codes "not-holding"
 
 -- an answer, or why there is none
-abbrev pub spelled : Result Answer Refusal → List ℕ
-spelled (Ok answer) = spelled_answer answer
-spelled (Err refusal) = spelled_refusal refusal
+abbrev pub spelled_by_script : Result Answer Refusal → List ℕ
+spelled_by_script (Ok answer) = spelled_script_answer answer
+spelled_by_script (Err refusal) = spelled_script_refusal refusal

@@ -42,10 +42,10 @@ pub(crate) struct AnswerWord<'a>(pub(crate) &'a Said<'a>);
 
 impl fmt::Display for AnswerWord<'_> {
     ghost use Rattle.std.specs.Prelude.{Some};
-    ghost use Rattle.nr_alone.specs.Said.{told};
-    ghost use Rattle.nr_script.specs.Spelling.{spelled_answer};
+    ghost use Rattle.nr_alone.specs.Said.{answer_said};
+    ghost use Rattle.nr_script.specs.Spelling.{spelled_script_answer};
 
-    ghost output = { λ word. Some (spelled_answer (told word.0.now)) };
+    ghost output = { λ word. Some (spelled_script_answer (answer_said word.0.now)) };
 
     fn fmt<W: fmt::Write>(&self, f: &mut fmt::Formatter<W>) -> fmt::Result {
         match self.0 {
@@ -76,9 +76,9 @@ impl fmt::Display for AnswerWord<'_> {
 
 impl fmt::Display for Refusal {
     ghost use Rattle.std.specs.Prelude.{Some};
-    ghost use Rattle.nr_script.specs.Spelling.{spelled_refusal};
+    ghost use Rattle.nr_script.specs.Spelling.{spelled_script_refusal};
 
-    ghost output = { λ refusal. Some (spelled_refusal refusal) };
+    ghost output = { λ refusal. Some (spelled_script_refusal refusal) };
 
     fn fmt<W: fmt::Write>(&self, f: &mut fmt::Formatter<W>) -> fmt::Result {
         f.write_str(match self {

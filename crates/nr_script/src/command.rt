@@ -3,7 +3,7 @@ ghost use Rattle.std.specs.Prelude.{◌≡◌, List, ℕ, option_map};
 ghost use Rattle.std.specs.List.{list_all};
 ghost use Rattle.nr_script.specs.declared.command.Command.{Command};
 ghost use Rattle.nr_script.specs.declared.command.Command.TheVariants.{Fill, FillAs, Update};
-ghost use Rattle.nr_script.specs.Commands.{command, is_name_byte, key, reader_and_key, key_alone, reader_alone};
+ghost use Rattle.nr_script.specs.Commands.{script_command, is_name_byte, key, reader_and_key, key_alone, reader_alone};
 ghost use Rattle.nr_text.specs.Grammar.{words, number, filling, filling_as, updating};
 ghost use Rattle.nr_text.specs.Words.{words_left};
 
@@ -101,7 +101,7 @@ pub(crate) enum Command<'a> {
 /// The command of a line, or none where it doesn't fit the grammar. A set or a batch that the line
 /// gives is put into the room for it.
 pub(crate) fn parse<'a>(line: &'a [u8], given: &'a mut Given) -> Option<Command<'a>>
-    ensures { result ≡ command (words line.now) }
+    ensures { result ≡ script_command (words line.now) }
 {
     let mut words = Words::new(line);
     let name = words.next()?;

@@ -1,6 +1,6 @@
 //! A script over a running map: closed until it is opened, and then a map.
 ghost use Rattle.std.specs.Prelude.{◌≡◌, ℕ, List, None, IfOk, IfErr};
-ghost use Rattle.nr_script.specs.Machine.{answer_line, answer_closed};
+ghost use Rattle.nr_script.specs.Machine.{answer_script_line, answer_closed_script};
 
 use crate::answer::{AnswerWord, Refusal, Tried};
 use crate::command::{Command, parse};
@@ -21,14 +21,14 @@ pub(crate) struct ScriptMachine {
 impl Machine for ScriptMachine {
     ghost use Rattle.std.specs.Prelude.{string_bytes};
     ghost use Rattle.std.specs.Prelude.{◌^◌};
-    ghost use Rattle.nr_script.specs.Machine.{state_of};
+    ghost use Rattle.nr_script.specs.Machine.{script_state};
     ghost use Rattle.nr_script.specs.Machine as script;
 
-    ghost State = { script.State };
+    ghost State = { script.ScriptState };
 
-    ghost state_of = { state_of };
+    ghost state_of = { script_state };
 
-    ghost answer = { script.answer };
+    ghost answer = { script.script_reply };
 
     // Nothing in it counts up.
     ghost lines_left = { λ _. 2 ^ 64 };
@@ -55,10 +55,10 @@ impl Machine for ScriptMachine {
 }
 
 impl ScriptMachine {
-    ghost use Rattle.nr_script.specs.Machine.{state_of, start};
+    ghost use Rattle.nr_script.specs.Machine.{script_state, closed_script};
 
     pub(crate) fn new() -> ScriptMachine
-        ensures { state_of result ≡ start }
+        ensures { script_state result ≡ closed_script }
     {
         ScriptMachine {
             opened: None,
@@ -89,7 +89,7 @@ fn answer_plain<'a>(
     given: &mut Given,
     found: &'a mut RowSet,
 ) -> Tried<Answer<'a>>
-    ensures answer { IfOk result (λ said. answer_line opened.old line.now ≡ (said, opened.new)) }
+    ensures answer { IfOk result (λ said. answer_script_line opened.old line.now ≡ (said, opened.new)) }
     ensures fault { IfErr result (λ fault. fault ≡ RunFault.Memory) }
 {
     let Some(command) = parse(line, given) else {
@@ -104,7 +104,7 @@ fn answer_plain<'a>(
 // The answer to a command before the script is opened.
 fn open(opened: &mut Option<Opened>, alloc: Global, command: &Command<'_>) -> Tried<Answer<'static>>
     requires { opened.old ≡ None }
-    ensures answer { IfOk result (λ said. answer_closed command.now ≡ (said, opened.new)) }
+    ensures answer { IfOk result (λ said. answer_closed_script command.now ≡ (said, opened.new)) }
     ensures fault { IfErr result (λ fault. fault ≡ RunFault.Memory) }
 {
     let Command::Open { named, sizes } = command else {

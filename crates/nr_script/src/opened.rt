@@ -3,8 +3,8 @@ ghost use Rattle.std.specs.Prelude.{◌≡◌, ◌<◌, ◌≤◌, ◌-◌, leng
 ghost use Rattle.nr_model.specs.Maps.{FillFits, key_count, last_number, state_of};
 ghost use Rattle.nr_model.specs.declared.calls.Call.TheVariants as model;
 ghost use Rattle.nr_alone.specs.MapState.{answer_pinning, answer_show, answer_unpin};
-ghost use Rattle.nr_alone.specs.WriterCalls.{call_of, key_of};
-ghost use Rattle.nr_script.specs.Opened.{answer_opened, by_map, called, called_by, found_by_reader, found_key, found_reader, found_set, has_reader, with_found};
+ghost use Rattle.nr_alone.specs.WriterCalls.{model_call, writer_key};
+ghost use Rattle.nr_script.specs.Opened.{answer_opened_script, by_map, called, called_by, found_by_reader, found_key, found_reader, found_set, script_has_reader, with_found};
 
 use crate::answer::{Refusal, Tried};
 use crate::command::{Command, KeyWord};
@@ -47,7 +47,7 @@ impl Opened {
         requires readers { (0 < sizes.now.readers) × (sizes.now.readers ≤ MAX_READERS) }
         requires number { sizes.now.first_number ≤ last_number }
         requires rows { (0 < sizes.now.rows) × (sizes.now.rows ≤ MAX_ROWS) }
-        ensures ok { IfOk result (λ opened. opened ≡ script.opened named sizes.now) }
+        ensures ok { IfOk result (λ opened. opened ≡ script.opened_script named sizes.now) }
         ensures fault { IfErr result (λ fault. fault ≡ RunFault.Memory) }
     {
         let shape = Shape {
@@ -78,7 +78,7 @@ impl Opened {
         command: &Command<'_>,
         found: &'a mut RowSet,
     ) -> Tried<Answer<'a>>
-        ensures answer { IfOk result (λ said. answer_opened self.old command.now ≡ (said, self.new)) }
+        ensures answer { IfOk result (λ said. answer_opened_script self.old command.now ≡ (said, self.new)) }
         ensures fault { IfErr result (λ fault. fault ≡ RunFault.Memory) }
     {
         match command {
@@ -146,9 +146,9 @@ impl Opened {
 
     /// A call of the writer's at one of the map's keys.
     fn call<'a>(&mut self, call: &WriterCall<'_>, found: &'a mut RowSet) -> Answer<'a>
-        requires key { key_of call.now < key_count self.old.state.map }
-        requires fits { FillFits self.old.state.map.bound (call_of call.now) }
-        ensures { called self.old (call_of call.now) ≡ (Ok result, self.new) }
+        requires key { writer_key call.now < key_count self.old.state.map }
+        requires fits { FillFits self.old.state.map.bound (model_call call.now) }
+        ensures { called self.old (model_call call.now) ≡ (Ok result, self.new) }
     {
         self.map.call(call, found)
     }
@@ -225,7 +225,7 @@ impl Opened {
     }
 
     fn has_reader(&self, reader: u64) -> bool
-        ensures { result ≡ has_reader self.now reader }
+        ensures { result ≡ script_has_reader self.now reader }
     {
         0 < reader && reader <= u64::from(self.map.readers())
     }

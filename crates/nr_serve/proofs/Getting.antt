@@ -11,7 +11,7 @@ use Rattle.nr_serve.specs.declared.answers.Got.TheVariants as got
 use Rattle.nr_serve.specs.declared.answers.Requested.{Requested}
 use Rattle.nr_serve.specs.declared.answers.Requested.TheVariants.{NotMade, Sent, Waiting, Filled}
 use Rattle.nr_serve.specs.declared.answers.Tried.TheVariants as tried
-use Rattle.nr_serve.specs.Gets.{Fits, Gets, TriesOnce, are_due, found, is_due, may_keep, may_keep_after, miss, misses}
+use Rattle.nr_serve.specs.Gets.{RequestsFit, Gets, TriesOnce, are_due, found, is_due, may_keep, may_keep_after, miss, misses}
 use Rattle.nr_serve.specs.Hands.{Moves, last_count}
 use Rattle.nr_serve.proofs.Moving.{moves_both, moves_none}
 
@@ -43,20 +43,20 @@ may_keep_where kept may (Sent number) so keeps = refl
 may_keep_where kept may Waiting so keeps = keeps
 may_keep_where kept may Filled so keeps = keeps
 
-fits_more : (before mid after : Option Request) (requests : List Requested) (request : Requested) → Fits before requests mid → Fits mid (request ∷ []) after → Fits before (requests ++ request ∷ []) after
+fits_more : (before mid after : Option Request) (requests : List Requested) (request : Requested) → RequestsFit before requests mid → RequestsFit mid (request ∷ []) after → RequestsFit before (requests ++ request ∷ []) after
 fits_more before mid after requests request fits once = record {
   due = due_more (is_some before) requests request fits.due (is_due_where (is_some mid) _ request fits.kept (and_parts (is_due (is_some mid) request) true once.due).0);
   kept = λ some. may_keep_after-snoc (is_some before) requests request ∙ may_keep_where (is_some mid) _ request fits.kept (once.kept some);
 }
 
-fits_still : (before mid after : Option Request) (requests : List Requested) → Fits before requests mid → Fits mid [] after → Fits before requests after
+fits_still : (before mid after : Option Request) (requests : List Requested) → RequestsFit before requests mid → RequestsFit mid [] after → RequestsFit before requests after
 fits_still before mid after requests fits still = record { due = fits.due; kept = λ some. fits.kept (still.kept some) }
 
 -- so many tries found a hole
 pub record Missed (key count : ℕ) (old new : Hands) : Type 0 where
   pub requests : List Requested
   pub count_is : length requests ≡ count
-  pub fits : Fits old.kept requests new.kept
+  pub fits : RequestsFit old.kept requests new.kept
   pub moves : Moves (length (misses old.reader.number key requests)) old (misses old.reader.number key requests) new
 
 pub missed_none : (key : ℕ) (a : Hands) → a.sends ≤ last_count → Missed key 0 a a

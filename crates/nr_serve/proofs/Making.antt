@@ -4,10 +4,10 @@ use Rattle.nr_model.specs.declared.calls.Call.{Call}
 use Rattle.nr_model.specs.declared.calls.Reply.{Reply}
 use Rattle.nr_model.specs.Histories.{Entry, IsLegal, entries_of}
 use Rattle.nr_core.specs.Story.{entry}
-use Rattle.nr_map.specs.Callers.{Caller, Gains, Rests, Table, opening_map}
+use Rattle.nr_map.specs.Callers.{Caller, Gains, Rests, Table, map_at_opening, IsSound}
 use Rattle.nr_map.specs.Entries.{AreCallers}
 use Rattle.nr_map.specs.Rule.{StartsWith}
-use Rattle.nr_serve.specs.Callers.{IsSound, Makes}
+use Rattle.nr_serve.specs.Callers.{Makes}
 
 starts_both : (a b c : List Entry) → StartsWith b a → StartsWith c b → StartsWith c a
 starts_both a b c one two = record { rest = one.rest ++ two.rest; is = two.is ∙ ap (λ (l : List Entry). l ++ two.rest) one.is ∙ append_assoc a one.rest two.rest }
@@ -40,7 +40,7 @@ makes_by_gains steps a call reply b gains = record {
   mine = gains.mine;
   steps_made = gains.steps_made;
   sound = inr (record {
-    legal = subst (λ (t : Table). IsLegal (opening_map t) b.seen) (sym gains.table) gains.legal;
+    legal = subst (λ (t : Table). IsLegal (map_at_opening t) b.seen) (sym gains.table) gains.legal;
     own = gains.own;
     callers = subst (λ (t : Table). AreCallers t.shape b.seen) (sym gains.table) gains.callers;
   });
@@ -48,7 +48,7 @@ makes_by_gains steps a call reply b gains = record {
 
 still_sound : (a b : Caller) → b.table ≡ a.table → b.number ≡ a.number → b.seen ≡ a.seen → b.mine ≡ a.mine → IsSound a → IsSound b
 still_sound a b table number seen mine sound = record {
-  legal = subst (λ (at : Table × List Entry). IsLegal (opening_map at.0) at.1) (λ i. (sym table i, sym seen i)) sound.legal;
+  legal = subst (λ (at : Table × List Entry). IsLegal (map_at_opening at.0) at.1) (λ i. (sym table i, sym seen i)) sound.legal;
   own = (λ i. entries_of (seen i) (number i)) ∙ sound.own ∙ sym mine;
   callers = subst (λ (at : Table × List Entry). AreCallers at.0.shape at.1) (λ i. (sym table i, sym seen i)) sound.callers;
 }

@@ -1,5 +1,5 @@
 -- What contracts see of a dataflow, and what holds of it between its calls.
-use Rattle.std.specs.Prelude.{◌≡◌, ◌+◌, ◌<◌, ◌≤◌, Option, IfSome}
+use Rattle.std.specs.Prelude.{◌≡◌, ◌<◌, ◌≤◌, Option, IfSome}
 use Rattle.nr_map.specs.Callers.{Caller, Table}
 use Rattle.nr_trigger.specs.declared.post.Post.{Post}
 use Rattle.nr_trigger.specs.Tokens.{Queue, TakerSeen}
@@ -19,7 +19,3 @@ pub record IsPlaced (map : Table) (queue : Queue) (writer : Caller) (taker : Tak
   pub takes : taker.queue ≡ queue.id
   pub keys : taker.keys ≤ map.shape.keys
   pub near : IfSome kept (λ post. post.upquery.key < map.shape.keys)
-
--- the map has a slot for each key, each reader and one more
-abbrev pub HasRoom : Table → Type 0
-HasRoom map = map.shape.keys + map.shape.readers + 1 ≤ map.shape.slots

@@ -57,7 +57,7 @@ are_due kept [] = true
 are_due kept (request ∷ requests) = is_due kept request && are_due (may_keep kept request) requests
 
 -- so the requests fit the tickets kept before and after
-pub record Fits (before : Option Request) (requests : List Requested) (after : Option Request) : Type 0 where
+pub record RequestsFit (before : Option Request) (requests : List Requested) (after : Option Request) : Type 0 where
   pub due : are_due (is_some before) requests ≡ true
   pub kept : is_some after ≡ true → may_keep_after (is_some before) requests ≡ true
 
@@ -69,10 +69,10 @@ AnswersPin pin before got.Barred reader rows = Rests 1 pin.reader reader × (row
 
 -- one try: it finds a hole, or rows, which the caller gets unless it is barred
 abbrev pub TriesOnce : ℕ → Hands → List Row → Tried → Hands → List Row → Type 0
-TriesOnce key old before (tried.Missed request) new rows = Moves (length (miss old.reader.number key request)) old (miss old.reader.number key request) new × Fits old.kept (request ∷ []) new.kept × (rows ≡ before)
-TriesOnce key old before (tried.Ended got.Rows) new rows = Moves (2 * length rows + 3) old (found old.reader.number key (reply.Rows rows) ∷ []) new × Fits old.kept [] new.kept
+TriesOnce key old before (tried.Missed request) new rows = Moves (length (miss old.reader.number key request)) old (miss old.reader.number key request) new × RequestsFit old.kept (request ∷ []) new.kept × (rows ≡ before)
+TriesOnce key old before (tried.Ended got.Rows) new rows = Moves (2 * length rows + 3) old (found old.reader.number key (reply.Rows rows) ∷ []) new × RequestsFit old.kept [] new.kept
 TriesOnce key old before (tried.Ended got.GaveUp) new rows = ⊥
-TriesOnce key old before (tried.Ended got.Barred) new rows = ((set : List Row) × Moves 3 old (found old.reader.number key (reply.Rows set) ∷ []) new) × Fits old.kept [] new.kept × (rows ≡ before)
+TriesOnce key old before (tried.Ended got.Barred) new rows = ((set : List Row) × Moves 3 old (found old.reader.number key (reply.Rows set) ∷ []) new) × RequestsFit old.kept [] new.kept × (rows ≡ before)
 
 -- how a get ends after so many tries that found a hole: by one find more, or by none after as many as it may make
 abbrev pub Ends : ℕ → ℕ → ℕ → Got → ℕ → List Entry → ℕ → List Row → List Row → Type 0
@@ -83,7 +83,7 @@ Ends by key tries got.Barred missed last steps before rows = (missed < tries) ×
 -- a get of so many tries: those that found a hole, and how it ended
 pub record Gets (key tries : ℕ) (old : Hands) (before : List Row) (got : Got) (new : Hands) (rows : List Row) : Type 0 where
   pub requests : List Requested
-  pub fits : Fits old.kept requests new.kept
+  pub fits : RequestsFit old.kept requests new.kept
   pub last : List Entry
   pub last_steps : ℕ
   pub ends : Ends old.reader.number key tries got (length requests) last last_steps before rows

@@ -7,13 +7,13 @@ use Rattle.nr_model.specs.declared.calls.Reply.TheVariants as reply
 use Rattle.nr_model.specs.Histories.{Entry}
 use Rattle.nr_map.specs.Tickets.{Request}
 use Rattle.nr_trigger.specs.declared.post.Upquery.{Upquery}
-use Rattle.nr_trigger.specs.Posts.{named}
+use Rattle.nr_trigger.specs.Posts.{upquery_of}
 use Rattle.nr_trigger.specs.Tokens.{IsSamePoster, PosterSeen}
 
 -- what the tickets that are kept name, one at most
 abbrev pub kept_upqueries : Option Request → List Upquery
 kept_upqueries None = []
-kept_upqueries (Some ticket) = named ticket ∷ []
+kept_upqueries (Some ticket) = upquery_of ticket ∷ []
 
 -- what was to be sent, by the requests that were answered Send
 abbrev pub sent_by : Call → Reply → List Upquery

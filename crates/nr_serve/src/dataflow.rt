@@ -48,7 +48,7 @@ impl<'a, S> Model for Dataflow<'a, S> {
 }
 
 impl<'a, S: Source> Dataflow<'a, S> {
-    ghost use Rattle.nr_serve.specs.Flows.{HasRoom};
+    ghost use Rattle.nr_map.specs.SlotBounds.{HasRoomForAll};
     ghost use Rattle.nr_serve.specs.Turns.{FillsPost, Nexts, Turns};
     ghost use Rattle.nr_serve.specs.Lending.{LendsSource};
 
@@ -85,7 +85,7 @@ impl<'a, S: Source> Dataflow<'a, S> {
     pub fn turn<R: Wait>(&mut self, rt: &R) -> Turn
         ensures turns { Turns S.gives self.old result self.new }
         ensures places { (self.new.map ≡ self.old.map) × (self.new.queue ≡ self.old.queue) }
-        ensures room { HasRoom self.old.map → (counts : NoSlot) → result ≢ Turn.Kept counts }
+        ensures room { HasRoomForAll self.old.map → (counts : NoSlot) → result ≢ Turn.Kept counts }
     {
         let Some(trigger) = self.next(rt) else {
             return Turn::Idle;
@@ -124,7 +124,7 @@ impl<'a, S: Source> Dataflow<'a, S> {
         requires key { trigger.now.upquery.key < self.old.map.shape.keys }
         ensures answers { FillsPost S.gives self.old trigger.now result self.new }
         ensures rest { self.new ≡ record self.old { writer = self.new.writer; source = self.new.source } }
-        ensures room { HasRoom self.old.map → (counts : NoSlot) → result ≢ Err (FillFault.NoSlot counts) }
+        ensures room { HasRoomForAll self.old.map → (counts : NoSlot) → result ≢ Err (FillFault.NoSlot counts) }
     {
         laws::room_for_fills();
         let key = trigger.key();
@@ -150,7 +150,7 @@ impl<'a, S: Source> Dataflow<'a, S> {
         requires key { key < self.old.map.shape.keys }
         ensures updates { UpdatesKey self.old.map.shape.rows key batch.now self.old.writer self.new.writer result }
         ensures rest { self.new ≡ record self.old { writer = self.new.writer } }
-        ensures room { HasRoom self.old.map → (counts : NoSlot) → result ≢ Err (UpdateFault.NoSlot counts) }
+        ensures room { HasRoomForAll self.old.map → (counts : NoSlot) → result ≢ Err (UpdateFault.NoSlot counts) }
     {
         laws::room_for_updates();
         self.map.update(&mut self.writer, key, batch)

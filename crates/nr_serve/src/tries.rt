@@ -1,7 +1,7 @@
 //! The tries of a get.
 ghost use Rattle.std.specs.Prelude.{◌≡◌, ◌<◌, ◌+◌, ◌*◌, [], ◌∷◌, length, None};
 ghost use Rattle.nr_map.specs.Callers.{Rests};
-ghost use Rattle.nr_serve.specs.Gets.{AnswersPin, Fits, Gets, TriesOnce, requested};
+ghost use Rattle.nr_serve.specs.Gets.{AnswersPin, RequestsFit, Gets, TriesOnce, requested};
 ghost use Rattle.nr_serve.specs.Hands.{IsReady, Moves};
 
 use crate::answers::{Got, Requested, Tried};
@@ -22,7 +22,7 @@ fn post_kept<R: Wait>(rt: &R, map: &ReaderMap, triggers: &Triggers, hands: Hands
     requires { IsReady map.now triggers.now hands }
     ensures ready { IsReady map.now triggers.now result }
     ensures moves { Moves 0 hands [] result }
-    ensures fits { Fits hands.kept [] result.kept }
+    ensures fits { RequestsFit hands.kept [] result.kept }
 {
     let Hands {
         reader,
@@ -50,7 +50,7 @@ fn request<R: Wait>(
     requires key { key < map.now.shape.keys }
     ensures ready { IsReady map.now triggers.now result.1 }
     ensures moves { Moves (length (requested hands.reader.number key result.0)) hands (requested hands.reader.number key result.0) result.1 }
-    ensures fits { Fits hands.kept (result.0 ∷ []) result.1.kept }
+    ensures fits { RequestsFit hands.kept (result.0 ∷ []) result.1.kept }
 {
     let Hands {
         mut reader,

@@ -10,7 +10,7 @@ use Rattle.nr_core.proofs.Sums.{below-first}
 use Rattle.nr_core.specs.Sums.{below, total}
 use Rattle.nr_map.specs.declared.answers.KeyKind.{KeyKind}
 use Rattle.nr_map.specs.declared.answers.KeyKind.TheVariants as kind
-use Rattle.nr_map.specs.Callers.{Caller, Table, map_seen, opening_map}
+use Rattle.nr_map.specs.Callers.{Caller, Table, map_seen, map_at_opening}
 use Rattle.nr_map.specs.Kinds.{kind_of}
 use Rattle.nr_map.specs.Meetings.{StatesKey}
 use Rattle.nr_map.specs.Rounds.{BeginningsMeet}
@@ -38,7 +38,7 @@ pub counts_on : BeginningsMeet → (first old new : Caller) (k asked more : ℕ)
 counts_on meet first old new k asked more shown stays exact states is same =
     let back : old.seen ≡ first.seen = meet old.seen first.seen stays.seen (subst (λ (l : List Entry). StartsWith l old.seen) same states.learns.seen) in
     let table : new.table ≡ first.table = states.learns.table ∙ stays.table in
-    let maps : map_seen new ≡ map_seen first = ap (λ (t : Table). after (opening_map t) new.seen) table ∙ ap (λ (l : List Entry). after (opening_map first.table) l) same in
+    let maps : map_seen new ≡ map_seen first = ap (λ (t : Table). after (map_at_opening t) new.seen) table ∙ ap (λ (l : List Entry). after (map_at_opening first.table) l) same in
     let pend : asked_one shown ≡ pending_at first k = asks_pending shown (state_of (map_seen new) k) states.state ∙ ap (λ (m : PartialMap). pending (state_of m k)) maps in
     rw add-one (omega (arith, exact back, is, pend))
 

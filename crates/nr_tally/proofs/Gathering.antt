@@ -2,13 +2,13 @@
 use Rattle.std.proofs.Common.{◌≡◌, ◌≢◌, ◌<◌, ◌≤◌, ℕ, ◌+◌, List, [], ◌++◌, length, get_or, set, refl, sym, ap, ◌∙◌, subst, append_assoc, below_more, arith}
 use Rattle.std.proofs.lemmas.List.{append-nil, get_or-set_same, get_or-set_other, get_or_default}
 use Rattle.nr_model.specs.Histories.{Entry, IsLegal, entries_of}
-use Rattle.nr_map.specs.Callers.{Caller, Table, opening_map}
+use Rattle.nr_map.specs.Callers.{Caller, Table, map_at_opening, IsSound}
 use Rattle.nr_map.specs.Entries.{AreCallers}
 use Rattle.nr_map.specs.Meetings.{Gathers, Learns}
 use Rattle.nr_map.specs.Rounds.{CallsStay}
 use Rattle.nr_map.specs.Rule.{StartsWith}
 use Rattle.nr_tally.specs.Balance.{Stays}
-use Rattle.nr_tally.specs.Rounds.{Hears, IsSound}
+use Rattle.nr_tally.specs.Rounds.{Hears}
 
 pub starts_then : (a b c : List Entry) → StartsWith b a → StartsWith c b → StartsWith c a
 starts_then a b c one two = record { rest = one.rest ++ two.rest; is = two.is ∙ ap (λ (l : List Entry). l ++ two.rest) one.is ∙ append_assoc a one.rest two.rest }
@@ -27,7 +27,7 @@ learns_sound steps old new l =
     let same : old.table ≡ new.table = sym l.table in
     record {
       own = l.own;
-      legal = subst (λ (t : Table). IsLegal (opening_map t) new.seen) same l.legal;
+      legal = subst (λ (t : Table). IsLegal (map_at_opening t) new.seen) same l.legal;
       callers = subst (λ (t : Table). AreCallers t.shape new.seen) same l.callers;
     }
 

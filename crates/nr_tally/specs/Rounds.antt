@@ -1,12 +1,11 @@
 -- What the writer and the readers know after a round of gathers, and after a count of the asked keys.
 use Rattle.std.specs.Prelude.{◌≡◌, ◌<◌, ℕ, ◌+◌, List, length, slice_index_or}
-use Rattle.nr_model.specs.Histories.{Entry, IsLegal}
+use Rattle.nr_model.specs.Histories.{Entry}
 use Rattle.nr_model.specs.Laws.{pending}
 use Rattle.nr_core.specs.Sums.{total}
 use Rattle.nr_map.specs.declared.answers.KeyKind.{KeyKind}
 use Rattle.nr_map.specs.declared.answers.KeyKind.TheVariants as kind
-use Rattle.nr_map.specs.Callers.{Caller, KnowsOwn, map_seen, opening_map}
-use Rattle.nr_map.specs.Entries.{AreCallers}
+use Rattle.nr_map.specs.Callers.{Caller, map_seen, IsSound}
 use Rattle.nr_map.specs.Rounds.{HasCalls, HasHeard, KnowsAll}
 use Rattle.nr_tally.specs.Balance.{Stays}
 
@@ -14,12 +13,6 @@ use Rattle.nr_tally.specs.Balance.{Stays}
 pub record IsInOrder (count : ℕ) (readers : List Caller) : Type 0 where
   pub count_is : length readers ≡ count
   pub numbers : (at : ℕ) (other : Caller) → at < length readers → (slice_index_or readers at other).number ≡ at + 1
-
--- the history that the writer knows is legal and its map's callers', and has of its own calls just those that it made
-pub record IsSound (writer : Caller) : Type 0 where
-  pub own : KnowsOwn writer
-  pub legal : IsLegal (opening_map writer.table) writer.seen
-  pub callers : AreCallers writer.table.shape writer.seen
 
 -- the writer has the reader's calls, and the reader has seen what the writer had seen before the round
 pub record Hears (before after : List Entry) (old new : Caller) : Type 0 where
@@ -39,7 +32,7 @@ asked_one kind.Asked = 1
 asked_one kind.Rows = 0
 
 -- a count of the asked keys, exact where the writer learnt of no call meanwhile
-pub record Counts (old new : Caller) (asked : ℕ) : Type 0 where
+pub record CountsAsked (old new : Caller) (asked : ℕ) : Type 0 where
   pub stays : Stays old new
   pub sound : IsSound old → IsSound new
   pub exact : new.seen ≡ old.seen → asked ≡ total pending (map_seen old).states

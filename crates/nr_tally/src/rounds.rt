@@ -1,6 +1,6 @@
 //! Rounds of gathers, and the keys that are asked.
 ghost use Rattle.std.specs.Prelude.{◌≡◌, ◌<◌, All};
-ghost use Rattle.nr_tally.specs.Rounds.{Counts, IsInOrder, IsTally, Rounds, asked_one};
+ghost use Rattle.nr_tally.specs.Rounds.{CountsAsked, IsInOrder, IsTally, Rounds, asked_one};
 ghost use Rattle.nr_tally.specs.Balance.{Balances, Stays, StaysEach};
 
 use nr_map::{KeyKind, Reader, ReaderMap, Writer, laws};
@@ -29,7 +29,7 @@ fn one_if_asked(kind: KeyKind) -> u64
 // How many keys are asked; exact where the writer learnt of no call meanwhile.
 fn count_asked(map: &ReaderMap, writer: &mut Writer) -> u64
     requires { writer.old.table ≡ map.now }
-    ensures { Counts writer.old writer.new result }
+    ensures { CountsAsked writer.old writer.new result }
 {
     laws::beginnings_meet();
     let mut asked: u64 = 0;

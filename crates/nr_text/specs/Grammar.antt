@@ -22,14 +22,14 @@ number_on n (d ∷ ds) = if is_ascii_digit d then number_on (10 * n + (d - 48)) 
 abbrev pub number : List ℕ → Option ℕ
 number word = if nat_lt 0 (length word) && nat_le (length word) 20 then number_on 0 word else None
 
-abbrev pub row_of : Option ℕ → Option ℕ → Option Row
-row_of (Some a) (Some b) = Some (record { a = a; b = b })
-row_of (Some a) None = None
-row_of None b = None
+abbrev pub row_of_numbers : Option ℕ → Option ℕ → Option Row
+row_of_numbers (Some a) (Some b) = Some (record { a = a; b = b })
+row_of_numbers (Some a) None = None
+row_of_numbers None b = None
 
 -- a row: two numbers round a colon
 abbrev pub row : List ℕ → Option Row
-row word = row_of (number (before_first (λ b. b == 58) word)) (number (after_first (λ b. b == 58) word))
+row word = row_of_numbers (number (before_first (λ b. b == 58) word)) (number (after_first (λ b. b == 58) word))
 
 abbrev pub onto_all : {A : Type 0} → Option A → Option (List A) → Option (List A)
 onto_all (Some first) (Some more) = Some (first ∷ more)

@@ -18,13 +18,13 @@ pub struct Opening {
 }
 
 impl Opening {
-    ghost use Rattle.nr_text.specs.Opening.{opening, is_in_limits};
+    ghost use Rattle.nr_text.specs.Opening.{opening_of_words, is_in_limits};
     ghost use Rattle.nr_text.specs.Words.{words_left};
 
     /// The opening that three to six numbers spell. The first count and the first number are 0 and
     /// the rows 15 where they are left out.
     pub fn parse(mut words: Words<'_>) -> Option<Opening>
-        ensures { result ≡ opening (words_left words.entry) }
+        ensures { result ≡ opening_of_words (words_left words.entry) }
     {
         let keys = words.next()?;
         let slots = words.next()?;

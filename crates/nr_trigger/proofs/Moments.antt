@@ -3,11 +3,11 @@ use Rattle.std.proofs.Common.{◌≡◌, ◌<◌, ℕ, [], ◌∷◌, Option, So
 use Rattle.atomic_table.specs.Seated.{TableId}
 use Rattle.crossbeam_queue.specs.Fifo.{Held, Learns}
 use Rattle.nr_trigger.specs.declared.post.Post.{Post}
-use Rattle.nr_trigger.specs.Views.{View, Taking, Posting, Taker, Poster, has_posted, has_taken}
+use Rattle.nr_trigger.specs.Views.{PassView, Taking, Posting, Taker, Poster, has_posted, has_taken}
 use Rattle.nr_trigger.specs.Delivers.{Delivers, Moment}
 use Rattle.nr_trigger.specs.Tokens.{WasEmpty, WasFull, poster_seen, taker_seen}
 
-pub pass-learns-moment : (place : ℕ) (view : View) → Learns Delivers place view (Moment view)
+pub pass-learns-moment : (place : ℕ) (view : PassView) → Learns Delivers place view (Moment view)
 pass-learns-moment place view held views delivers there = record { views = views; place = place; there = there; delivers = delivers }
 
 empty-moment : (queue : TableId) (taking : Taking) → Held 0 (Moment (Taker taking)) → WasEmpty (taker_seen queue taking)
@@ -15,13 +15,13 @@ empty-moment queue taking ([], none, moment) =
     record { moment = moment; all = (moment.delivers.fits moment.place (Taker taking) moment.there).2 ∙ sym (append-nil moment.delivers.taken) ∙ moment.delivers.whole }
 empty-moment queue taking (x ∷ held, none, moment) = absurd (omega (arith, none))
 
-pub pop-tells : (queue : TableId) (taking : Taking) (result : Option Post) (new : View)
+pub pop-tells : (queue : TableId) (taking : Taking) (result : Option Post) (new : PassView)
     → MatchOption result ((new ≡ Taker taking) × Held 0 (Moment (Taker taking))) (λ post. has_taken (Taker taking) post new)
     → MatchOption result (WasEmpty (taker_seen queue taking)) (λ post. post.upquery.key < taking.keys)
 pop-tells queue taking None new tells = empty-moment queue taking tells.1
 pop-tells queue taking (Some post) new tells = tells.1
 
-pub push-tells : (queue : TableId) (room : ℕ) (posting : Posting) (post : Post) (result : Result (Unit {0}) Post) (new : View)
+pub push-tells : (queue : TableId) (room : ℕ) (posting : Posting) (post : Post) (result : Result (Unit {0}) Post) (new : PassView)
     → MatchResult result (λ _. has_posted (Poster posting) post new) (λ back. (back ≡ post) × (new ≡ Poster posting) × Held room (Moment (Poster posting)))
     → IfErr result (λ _. WasFull room (poster_seen queue posting))
 push-tells queue room posting post (Ok done) new tells = tt

@@ -5,8 +5,8 @@ use mathlib.Core.Option.{some}
 use Rattle.nr_trigger.specs.declared.post.Post.{Post}
 use Rattle.nr_trigger.specs.declared.post.Upquery.{Upquery}
 use Rattle.nr_trigger.specs.Posts.{part}
-use Rattle.nr_trigger.specs.Views.{View, Posting, Opener, Spare, Taker, Poster}
-use Rattle.nr_trigger.specs.Delivers.{Delivers, Fits}
+use Rattle.nr_trigger.specs.Views.{PassView, Posting, Opener, Spare, Taker, Poster}
+use Rattle.nr_trigger.specs.Delivers.{Delivers, KnowsItsPart}
 use Rattle.nr_trigger.specs.Once.{ComesOutOnce, IsAmong}
 use Rattle.nr_trigger.proofs.Parts.{part-append}
 use Rattle.nr_trigger.proofs.Places.{some-at}
@@ -21,14 +21,14 @@ own-part-has-it before after post none =
     omega (arith, count, sum)
 
 -- the pass at a poster's place is that poster's
-place-is-posters : (posted taken : List Post) (keys passes number : ℕ) (view : View) → Fits posted taken keys passes (number + 2) view → (posting : Posting) × (view ≡ Poster posting) × (posting.number ≡ number)
+place-is-posters : (posted taken : List Post) (keys passes number : ℕ) (view : PassView) → KnowsItsPart posted taken keys passes (number + 2) view → (posting : Posting) × (view ≡ Poster posting) × (posting.number ≡ number)
 place-is-posters posted taken keys passes number Opener fits = absurd (let first = fits.0 in omega (arith, first))
 place-is-posters posted taken keys passes number Spare fits = absurd (omega (arith, fits))
 place-is-posters posted taken keys passes number (Taker taking) fits = absurd (let first = fits.0 in omega (arith, first))
 place-is-posters posted taken keys passes number (Poster posting) fits = (posting, refl, let place = fits.0 in omega (arith, place))
 
 -- whoever posted is a poster
-poster-is-there : (held : List Post) (views : List View) (now : Delivers held views) (number : ℕ) → (part number now.posted ≡ [] → ⊥) → (posting : Posting) × IsAmong views (Poster posting) × (posting.number ≡ number)
+poster-is-there : (held : List Post) (views : List PassView) (now : Delivers held views) (number : ℕ) → (part number now.posted ≡ [] → ⊥) → (posting : Posting) × IsAmong views (Poster posting) × (posting.number ≡ number)
 poster-is-there held views now number some-posted =
     ⊎_elim
     (λ (h : number + 2 < length views).

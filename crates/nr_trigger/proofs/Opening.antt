@@ -6,11 +6,11 @@ use lib.ListN.{get_elem?}
 use Rattle.crossbeam_queue.specs.Fifo.{Forks}
 use Rattle.nr_trigger.specs.declared.post.Post.{Post}
 use Rattle.nr_trigger.specs.Posts.{KeysAreBelow}
-use Rattle.nr_trigger.specs.Views.{View, Opener, Spare, newcomer}
-use Rattle.nr_trigger.specs.Delivers.{Delivers, Fits}
+use Rattle.nr_trigger.specs.Views.{PassView, Opener, Spare, opening_taker}
+use Rattle.nr_trigger.specs.Delivers.{Delivers, KnowsItsPart}
 use Rattle.nr_trigger.proofs.Places.{each-after-change, inside-or-last, place-is-inside}
 
-alone : (a b : View) (place : ℕ) → get_elem? (a ∷ []) place ≡ some b → (place ≡ 0) × (a ≡ b)
+alone : (a b : PassView) (place : ℕ) → get_elem? (a ∷ []) place ≡ some b → (place ≡ 0) × (a ≡ b)
 alone a b zero there = (refl, some-injective a b there)
 alone a b (suc place) there = absurd (some-ne-none b (sym there))
 
@@ -25,18 +25,18 @@ opening-delivers = record {
   whole = refl;
   keys = 0;
   below = tt;
-  fits = λ place view there. let first = alone Opener view place there in subst (Fits [] [] 0 1 place) first.1 (first.0, refl, refl);
+  fits = λ place view there. let first = alone Opener view place there in subst (KnowsItsPart [] [] 0 1 place) first.1 (first.0, refl, refl);
   silent = λ number long. refl;
 }
 
-pub first-pass-becomes-takers : (keys place : ℕ) (view : View) → view ≡ Opener → Forks Delivers place view (newcomer keys) Spare
+pub first-pass-becomes-takers : (keys place : ℕ) (view : PassView) → view ≡ Opener → Forks Delivers place view (opening_taker keys) Spare
 first-pass-becomes-takers keys place view is held views old at =
-    let me = subst (Fits old.posted old.taken old.keys (length views) place) is (old.fits place view at) in
-    let changed : List View = set views place (newcomer keys) in
-    let size : length changed ≡ length views = length-set views place (newcomer keys) in
+    let me = subst (KnowsItsPart old.posted old.taken old.keys (length views) place) is (old.fits place view at) in
+    let changed : List PassView = set views place (opening_taker keys) in
+    let size : length changed ≡ length views = length-set views place (opening_taker keys) in
     let one : length views ≡ 1 = me.1 in
     let two : length (changed ++ Spare ∷ []) ≡ 2 = omega (arith, length-append changed (Spare ∷ []), size, one) in
-    let F : ℕ → View → Type 0 = Fits old.posted old.taken keys (length (changed ++ Spare ∷ [])) in
+    let F : ℕ → PassView → Type 0 = KnowsItsPart old.posted old.taken keys (length (changed ++ Spare ∷ [])) in
     record {
       posted = old.posted;
       taken = old.taken;
@@ -46,7 +46,7 @@ first-pass-becomes-takers keys place view is held views old at =
       fits = λ at' view there.
           ⊎_elim
           (λ (h : get_elem? changed at' ≡ some view).
-          each-after-change F views place (newcomer keys) (me.0, two, nothing-taken old.taken held old.posted old.whole me.2, refl)
+          each-after-change F views place (opening_taker keys) (me.0, two, nothing-taken old.taken held old.posted old.whole me.2, refl)
           (λ at' view other there. let inside = place-is-inside views at' view there in absurd (other (omega (arith, inside, one, me.0)))) at' view h)
           (λ (h : (at' ≡ length changed) × (Spare ≡ view)). subst (F at') h.1 (h.0 ∙ size ∙ one))
           (inside-or-last changed Spare view at' there);

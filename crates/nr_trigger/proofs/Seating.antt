@@ -6,28 +6,28 @@ use lib.ListN.{get_elem?}
 use Rattle.crossbeam_queue.specs.Fifo.{Forks}
 use Rattle.nr_trigger.specs.declared.post.Post.{Post}
 use Rattle.nr_trigger.specs.Posts.{part}
-use Rattle.nr_trigger.specs.Views.{View, Taking, Opener, Spare, Taker, Poster, with_poster, next_poster}
-use Rattle.nr_trigger.specs.Delivers.{Delivers, Fits}
+use Rattle.nr_trigger.specs.Views.{PassView, Taking, Opener, Spare, Taker, Poster, with_poster, next_poster}
+use Rattle.nr_trigger.specs.Delivers.{Delivers, KnowsItsPart}
 use Rattle.nr_trigger.proofs.Places.{each-after-change, inside-or-last}
 
 -- another pass than the taker's fits among however many
-others-fit-among-more : (posted taken : List Post) (keys passes more place at : ℕ) (view : View) → place ≢ at → at ≡ 0 → Fits posted taken keys passes place view → Fits posted taken keys more place view
+others-fit-among-more : (posted taken : List Post) (keys passes more place at : ℕ) (view : PassView) → place ≢ at → at ≡ 0 → KnowsItsPart posted taken keys passes place view → KnowsItsPart posted taken keys more place view
 others-fit-among-more posted taken keys passes more place at Opener other first fits = absurd (other (fits.0 ∙ sym first))
 others-fit-among-more posted taken keys passes more place at Spare other first fits = fits
 others-fit-among-more posted taken keys passes more place at (Taker taking) other first fits = absurd (other (fits.0 ∙ sym first))
 others-fit-among-more posted taken keys passes more place at (Poster posting) other first fits = fits
 
-pub taker-makes-poster : (place : ℕ) (view : View) (taking : Taking) → view ≡ Taker taking → Forks Delivers place view (with_poster view) (next_poster view)
+pub taker-makes-poster : (place : ℕ) (view : PassView) (taking : Taking) → view ≡ Taker taking → Forks Delivers place view (with_poster view) (next_poster view)
 taker-makes-poster place view taking is = subst (λ view. Forks Delivers place view (with_poster view) (next_poster view)) (sym is) (λ held views old at.
     let me = old.fits place (Taker taking) at in
-    let left : View = with_poster (Taker taking) in
-    let right : View = next_poster (Taker taking) in
-    let changed : List View = set views place left in
+    let left : PassView = with_poster (Taker taking) in
+    let right : PassView = next_poster (Taker taking) in
+    let changed : List PassView = set views place left in
     let size : length changed ≡ length views = length-set views place left in
     let more : length (changed ++ right ∷ []) ≡ length views + 1 = omega (arith, length-append changed (right ∷ []), size) in
     let count : length views ≡ taking.made + 2 = me.1 in
     let quiet : part taking.made old.posted ≡ [] = old.silent taking.made (omega (arith, count)) in
-    let F : ℕ → View → Type 0 = Fits old.posted old.taken old.keys (length (changed ++ right ∷ [])) in
+    let F : ℕ → PassView → Type 0 = KnowsItsPart old.posted old.taken old.keys (length (changed ++ right ∷ [])) in
     record {
       posted = old.posted;
       taken = old.taken;

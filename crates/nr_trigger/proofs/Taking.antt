@@ -6,22 +6,22 @@ use lib.ListN.{get_elem?}
 use Rattle.crossbeam_queue.specs.Fifo.{Pops}
 use Rattle.nr_trigger.specs.declared.post.Post.{Post}
 use Rattle.nr_trigger.specs.Posts.{KeysAreBelow}
-use Rattle.nr_trigger.specs.Views.{View, Taking, Opener, Spare, Taker, Poster, has_taken}
-use Rattle.nr_trigger.specs.Delivers.{Delivers, Fits}
+use Rattle.nr_trigger.specs.Views.{PassView, Taking, Opener, Spare, Taker, Poster, has_taken}
+use Rattle.nr_trigger.specs.Delivers.{Delivers, KnowsItsPart}
 use Rattle.nr_trigger.proofs.Parts.{key-is-below}
 use Rattle.nr_trigger.proofs.Places.{each-after-change}
 
 -- another pass than the taker's fits whatever was taken
-others-fit-what-was-taken : (posted taken more : List Post) (keys passes place at : ℕ) (view : View) → place ≢ at → at ≡ 0 → Fits posted taken keys passes place view → Fits posted more keys passes place view
+others-fit-what-was-taken : (posted taken more : List Post) (keys passes place at : ℕ) (view : PassView) → place ≢ at → at ≡ 0 → KnowsItsPart posted taken keys passes place view → KnowsItsPart posted more keys passes place view
 others-fit-what-was-taken posted taken more keys passes place at Opener other first fits = fits
 others-fit-what-was-taken posted taken more keys passes place at Spare other first fits = fits
 others-fit-what-was-taken posted taken more keys passes place at (Taker taking) other first fits = absurd (other (fits.0 ∙ sym first))
 others-fit-what-was-taken posted taken more keys passes place at (Poster posting) other first fits = fits
 
-pub taker-takes : (place : ℕ) (view : View) (taking : Taking) → view ≡ Taker taking → Pops Delivers place view (has_taken view)
+pub taker-takes : (place : ℕ) (view : PassView) (taking : Taking) → view ≡ Taker taking → Pops Delivers place view (has_taken view)
 taker-takes place view taking is = subst (λ view. Pops Delivers place view (has_taken view)) (sym is) (λ post held views old at.
     let me = old.fits place (Taker taking) at in
-    let new : View = Taker (record taking { taken = taking.taken ++ post ∷ [] }) in
+    let new : PassView = Taker (record taking { taken = taking.taken ++ post ∷ [] }) in
     let taken : List Post = old.taken ++ post ∷ [] in
     let size : length (set views place new) ≡ length views = length-set views place new in
     let below : post.upquery.key < old.keys = key-is-below old.keys old.taken post held (subst (KeysAreBelow old.keys) (sym old.whole) old.below) in (
@@ -32,8 +32,8 @@ taker-takes place view taking is = subst (λ view. Pops Delivers place view (has
         whole = append_assoc old.taken (post ∷ []) held ∙ old.whole;
         keys = old.keys;
         below = old.below;
-        fits = subst (λ passes. (at' : ℕ) (view : View) → get_elem? (set views place new) at' ≡ some view → Fits old.posted taken old.keys passes at' view) (sym size)
-            (each-after-change (Fits old.posted taken old.keys (length views)) views place new (me.0, me.1, ap (λ l. l ++ post ∷ []) me.2, me.3)
+        fits = subst (λ passes. (at' : ℕ) (view : PassView) → get_elem? (set views place new) at' ≡ some view → KnowsItsPart old.posted taken old.keys passes at' view) (sym size)
+            (each-after-change (KnowsItsPart old.posted taken old.keys (length views)) views place new (me.0, me.1, ap (λ l. l ++ post ∷ []) me.2, me.3)
             (λ at' view other there. others-fit-what-was-taken old.posted old.taken taken old.keys (length views) at' place view other me.0 (old.fits at' view there)));
         silent = λ number long. old.silent number (subst (λ passes. passes ≤ number + 2) size long);
       },

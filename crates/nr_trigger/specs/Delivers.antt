@@ -4,17 +4,17 @@ use mathlib.Core.Option.{some}
 use lib.ListN.{get_elem?}
 use Rattle.nr_trigger.specs.declared.post.Post.{Post}
 use Rattle.nr_trigger.specs.Posts.{KeysAreBelow, part}
-use Rattle.nr_trigger.specs.Views.{View, Opener, Spare, Taker, Poster}
+use Rattle.nr_trigger.specs.Views.{PassView, Opener, Spare, Taker, Poster}
 
 -- What the pass at a place knows is so. The taker's is the first, and each poster's stands at the place of its number.
 module _ (posted taken : List Post) (keys passes place : ℕ) where
-  abbrev pub Fits : View → Type 0
-  Fits Opener = (place ≡ 0) × (passes ≡ 1) × (posted ≡ [])
-  Fits Spare = place ≡ 1
-  Fits (Taker taking) = (place ≡ 0) × (passes ≡ taking.made + 2) × (taking.taken ≡ taken) × (taking.keys ≡ keys)
-  Fits (Poster posting) = (place ≡ posting.number + 2) × (posting.posted ≡ part posting.number posted) × (posting.keys ≡ keys)
+  abbrev pub KnowsItsPart : PassView → Type 0
+  KnowsItsPart Opener = (place ≡ 0) × (passes ≡ 1) × (posted ≡ [])
+  KnowsItsPart Spare = place ≡ 1
+  KnowsItsPart (Taker taking) = (place ≡ 0) × (passes ≡ taking.made + 2) × (taking.taken ≡ taken) × (taking.keys ≡ keys)
+  KnowsItsPart (Poster posting) = (place ≡ posting.number + 2) × (posting.posted ≡ part posting.number posted) × (posting.keys ≡ keys)
 
-pub record Delivers (held : List Post) (views : List View) : Type 0 where
+pub record Delivers (held : List Post) (views : List PassView) : Type 0 where
   -- everything that was posted, oldest first, and what of it was taken
   pub posted : List Post
   pub taken : List Post
@@ -24,13 +24,13 @@ pub record Delivers (held : List Post) (views : List View) : Type 0 where
   pub keys : ℕ
   pub below : KeysAreBelow keys posted
   -- the taker's pass knows what was taken, each poster's its own part of what was posted
-  pub fits : (place : ℕ) (view : View) → get_elem? views place ≡ some view → Fits posted taken keys (length views) place view
+  pub fits : (place : ℕ) (view : PassView) → get_elem? views place ≡ some view → KnowsItsPart posted taken keys (length views) place view
   -- a poster that wasn't made yet has posted nothing
   pub silent : (number : ℕ) → length views ≤ number + 2 → part number posted ≡ []
 
 -- a moment at which the queue held that and one of its passes knew this
-pub record Moment (view : View) (held : List Post) : Type 0 where
-  pub views : List View
+pub record Moment (view : PassView) (held : List Post) : Type 0 where
+  pub views : List PassView
   pub place : ℕ
   pub there : get_elem? views place ≡ some view
   pub delivers : Delivers held views

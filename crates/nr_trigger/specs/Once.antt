@@ -4,14 +4,14 @@ use mathlib.Core.Option.{some}
 use lib.ListN.{get_elem?}
 use Rattle.nr_trigger.specs.declared.post.Post.{Post}
 use Rattle.nr_trigger.specs.Posts.{part}
-use Rattle.nr_trigger.specs.Views.{View, Taking, Posting, Taker, Poster}
+use Rattle.nr_trigger.specs.Views.{PassView, Taking, Posting, Taker, Poster}
 use Rattle.nr_trigger.specs.Delivers.{Delivers}
 
 -- some pass of the queue knows this
-abbrev pub IsAmong : List View → View → Type 0
+abbrev pub IsAmong : List PassView → PassView → Type 0
 IsAmong views view = (place : ℕ) × (get_elem? views place ≡ some view)
 
-pub record HasComeOnce (taken held : List Post) (views : List View) : Type 0 where
+pub record HasComeOnce (taken held : List Post) (views : List PassView) : Type 0 where
   -- what was taken is the taker's list
   pub taker : (taking : Taking) → IsAmong views (Taker taking) → taking.taken ≡ taken
   -- of a poster's list a beginning was taken, and the queue holds the rest, in the same order
@@ -21,4 +21,4 @@ pub record HasComeOnce (taken held : List Post) (views : List View) : Type 0 whe
 
 -- so it is at every moment
 abbrev pub ComesOutOnce : Type 0
-ComesOutOnce = (held : List Post) (views : List View) (now : Delivers held views) → HasComeOnce now.taken held views
+ComesOutOnce = (held : List Post) (views : List PassView) (now : Delivers held views) → HasComeOnce now.taken held views

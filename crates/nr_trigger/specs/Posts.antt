@@ -5,8 +5,8 @@ use Rattle.nr_trigger.specs.declared.post.Post.{Post}
 use Rattle.nr_trigger.specs.declared.post.Upquery.{Upquery}
 
 -- what a ticket names
-abbrev pub named : Request → Upquery
-named ticket = record { key = ticket.key; number = ticket.number }
+abbrev pub upquery_of : Request → Upquery
+upquery_of ticket = record { key = ticket.key; number = ticket.number }
 
 -- the upqueries of one poster, in their order
 abbrev pub part : ℕ → List Post → List Upquery

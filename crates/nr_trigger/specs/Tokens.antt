@@ -56,7 +56,7 @@ pub record IsSeated (queue : TableId) (keys : ℕ) (taker : TakerSeen) (posters 
   pub posts : (number : ℕ) → number < made → slice_get posters number ≡ Some (new_poster queue keys number)
 
 -- a new queue of that capacity with its tokens, which know a number above each key
-pub record IsOpened (capacity count keys : ℕ) (queue : Queue) (posters : List PosterSeen) (taker : TakerSeen) : Type 0 where
+pub record IsOpenedQueue (capacity count keys : ℕ) (queue : Queue) (posters : List PosterSeen) (taker : TakerSeen) : Type 0 where
   pub room : queue.capacity ≡ capacity
   pub tokens : IsSeated queue.id keys taker posters count
 

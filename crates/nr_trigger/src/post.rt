@@ -1,6 +1,6 @@
 //! What goes through the queue.
 ghost use Rattle.std.specs.Prelude.{◌≡◌};
-ghost use Rattle.nr_trigger.specs.Posts.{named};
+ghost use Rattle.nr_trigger.specs.Posts.{upquery_of};
 
 use nr_map::Ticket;
 
@@ -13,7 +13,7 @@ pub struct Upquery {
 
 impl Upquery {
     pub(crate) fn of(ticket: &Ticket) -> Upquery
-        ensures { result ≡ named ticket.now }
+        ensures { result ≡ upquery_of ticket.now }
     {
         Upquery {
             key: ticket.key(),

@@ -32,9 +32,9 @@ pub struct Begins<L> {
 }
 
 impl<L: Limit> Split<View> for Begins<L> {
-    ghost use Rattle.nr_trigger.specs.Views.{Spare, newcomer};
+    ghost use Rattle.nr_trigger.specs.Views.{Spare, opening_taker};
 
-    ghost left = { λ _. newcomer L.keys };
+    ghost left = { λ _. opening_taker L.keys };
 
     ghost right = { λ _. Spare };
 }

@@ -1,8 +1,8 @@
 //! The queue of tickets.
 ghost use Rattle.std.specs.Prelude.{◌≡◌, ◌<◌, ◌+◌, ◌⊎◌, ◌↔◌, ℕ, length, [], ◌++◌, ◌∷◌, Err, IfOk, IfErr, IsTrue, MatchOption, MatchResult};
 ghost use Rattle.nr_model.specs.Sizes.{IsBadSize};
-ghost use Rattle.nr_trigger.specs.Posts.{named};
-ghost use Rattle.nr_trigger.specs.Tokens.{IsOpened, IsSeated, IsSamePoster, IsSameTaker, WasEmpty, WasFull, new_poster, new_taker};
+ghost use Rattle.nr_trigger.specs.Posts.{upquery_of};
+ghost use Rattle.nr_trigger.specs.Tokens.{IsOpenedQueue, IsSeated, IsSamePoster, IsSameTaker, WasEmpty, WasFull, new_poster, new_taker};
 ghost use Rattle.nr_trigger.specs.Views.{Opener};
 
 use crate::post::{Post, Upquery};
@@ -47,7 +47,7 @@ impl Triggers {
     ) -> Result<(Triggers, Vec<Poster>, Taker), OpenFault>
         ghost keys: { ℕ }
         ensures bad_size { (result ≡ Err OpenFault.BadSize) ↔ (IsBadSize MAX_CAPACITY capacity ⊎ IsBadSize MAX_POSTERS posters) }
-        ensures ok { IfOk result (λ opened. IsOpened capacity posters keys opened.0 opened.1.items opened.2) }
+        ensures ok { IfOk result (λ opened. IsOpenedQueue capacity posters keys opened.0 opened.1.items opened.2) }
     {
         if is_bad_size(MAX_CAPACITY, capacity) || is_bad_size(MAX_POSTERS, posters) {
             return Err(OpenFault::BadSize);
@@ -61,7 +61,7 @@ impl Triggers {
         requires own { poster.old.queue ≡ self.now.id }
         requires key { ticket.key < poster.old.keys }
         ensures own { IsSamePoster poster.old poster.new }
-        ensures posted { MatchResult result (λ _. poster.new.posted ≡ poster.old.posted ++ named ticket ∷ []) (λ back. (back ≡ ticket) × (poster.new ≡ poster.old)) }
+        ensures posted { MatchResult result (λ _. poster.new.posted ≡ poster.old.posted ++ upquery_of ticket ∷ []) (λ back. (back ≡ ticket) × (poster.new ≡ poster.old)) }
         ensures full { IfErr result (λ _. WasFull self.now.capacity poster.old) }
     {
         match self.push(rt, poster, Upquery::of(&ticket)) {
@@ -179,7 +179,7 @@ fn seated(
 ) -> Result<(Triggers, Vec<Poster>, Taker), AllocError>
     ghost keys: { ℕ }
     requires { 0 < capacity }
-    ensures { IfOk result (λ opened. IsOpened capacity posters keys opened.0 opened.1.items opened.2) }
+    ensures { IfOk result (λ opened. IsOpenedQueue capacity posters keys opened.0 opened.1.items opened.2) }
 {
     let (queue, seat) = RuledArrayQueue::ruled(alloc, capacity as usize)?;
     let triggers = Triggers { queue };

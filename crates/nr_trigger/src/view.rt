@@ -5,9 +5,9 @@ use std::marker::Model;
 pub struct View {}
 
 impl Model for View {
-    ghost use Rattle.nr_trigger.specs.Views.{View as Knowledge, Opener};
+    ghost use Rattle.nr_trigger.specs.Views.{PassView, Opener};
 
-    ghost Value = { Knowledge };
+    ghost Value = { PassView };
 
     ghost view = { λ _. Opener };
 }

@@ -1,9 +1,9 @@
 //! The steps of a reader: each is one operation on one word.
 ghost use Rattle.std.specs.Prelude.{◌≡◌};
 ghost use Rattle.nr_core.specs.States.{Arrive, Read, Depart, Ask};
-ghost use Rattle.nr_core.specs.Machine.{next, arrive_answer, read_answer, depart_answer, ask_answer, gripped, arrived_at, asked_at};
+ghost use Rattle.nr_core.specs.Machine.{next_state, arrive_answer, read_answer, depart_answer, ask_answer, arrive_hold, arrived_at, asked_at};
 ghost use Rattle.nr_core.specs.Reach.{HasRoom};
-ghost use Rattle.nr_core.specs.Parts.{state_of};
+ghost use Rattle.nr_core.specs.Parts.{machine_state};
 
 use crate::calls::{Arrived, AskReply, Refusal};
 use crate::machine::Machine;
@@ -14,21 +14,21 @@ impl Machine {
     /// Adds one arrival to the key's word. The word that the addition finds says what the reader
     /// holds from then on: the slot that it names, or nothing.
     pub fn arrive(&mut self, reader: u32, key: u32) -> Result<Arrived, Refusal>
-        requires { HasRoom (state_of self.old) }
-        ensures answer { result ≡ arrive_answer (state_of self.old) reader key }
-        ensures new { state_of self.new ≡ next (state_of self.old) (Arrive reader key) }
+        requires { HasRoom (machine_state self.old) }
+        ensures answer { result ≡ arrive_answer (machine_state self.old) reader key }
+        ensures new { machine_state self.new ≡ next_state (machine_state self.old) (Arrive reader key) }
     {
         self.may_come(reader, key)?;
         let word = self.words.fetch_add(self.layout.key(key), ARRIVE);
-        self.holds[reader as usize - 1] = gripped(word);
+        self.holds[reader as usize - 1] = arrive_hold(word);
         Ok(arrived_at(word))
     }
 
     /// Sets the bit that says that the key is asked, and answers by the word that it finds.
     pub fn ask(&mut self, reader: u32, key: u32) -> Result<AskReply, Refusal>
-        requires { HasRoom (state_of self.old) }
-        ensures answer { result ≡ ask_answer (state_of self.old) reader key }
-        ensures new { state_of self.new ≡ next (state_of self.old) (Ask reader key) }
+        requires { HasRoom (machine_state self.old) }
+        ensures answer { result ≡ ask_answer (machine_state self.old) reader key }
+        ensures new { machine_state self.new ≡ next_state (machine_state self.old) (Ask reader key) }
     {
         self.may_come(reader, key)?;
         let word = self.words.fetch_or(self.layout.key(key), 1);
@@ -38,9 +38,9 @@ impl Machine {
     /// Loads a content word of the slot that the reader holds. Word 0 tells the reader how many
     /// rows there are.
     pub fn read(&mut self, reader: u32, index: u64) -> Result<u64, Refusal>
-        requires { HasRoom (state_of self.old) }
-        ensures answer { result ≡ read_answer (state_of self.old) reader index }
-        ensures new { state_of self.new ≡ next (state_of self.old) (Read reader index) }
+        requires { HasRoom (machine_state self.old) }
+        ensures answer { result ≡ read_answer (machine_state self.old) reader index }
+        ensures new { machine_state self.new ≡ next_state (machine_state self.old) (Read reader index) }
     {
         let (slot, size) = self.may_read(reader, index)?;
         let word = self.words.load(self.layout.content(slot, index as u32));
@@ -51,9 +51,9 @@ impl Machine {
 
     /// Adds one to the departure word of the slot that the reader holds.
     pub fn depart(&mut self, reader: u32) -> Result<(), Refusal>
-        requires { HasRoom (state_of self.old) }
-        ensures answer { result ≡ depart_answer (state_of self.old) reader }
-        ensures new { state_of self.new ≡ next (state_of self.old) (Depart reader) }
+        requires { HasRoom (machine_state self.old) }
+        ensures answer { result ≡ depart_answer (machine_state self.old) reader }
+        ensures new { machine_state self.new ≡ next_state (machine_state self.old) (Depart reader) }
     {
         let slot = self.may_depart(reader)?;
         self.words.fetch_add(self.layout.departures(slot), 1);
@@ -63,8 +63,8 @@ impl Machine {
 }
 
 /// What a reader holds whose arrive found the word.
-fn gripped(word: u64) -> Hold
-    ensures { result ≡ gripped word }
+fn arrive_hold(word: u64) -> Hold
+    ensures { result ≡ arrive_hold word }
 {
     let found = parts(word);
     if found.filled {

@@ -6,7 +6,7 @@ ghost use Rattle.nr_core.specs.declared.places.Place.TheVariants.{Idle};
 ghost use Rattle.nr_core.specs.States.{Go};
 ghost use Rattle.nr_core.specs.Machine.{moved, found_by};
 ghost use Rattle.nr_core.specs.Outcomes.{step_of};
-ghost use Rattle.nr_core.specs.Parts.{state_of};
+ghost use Rattle.nr_core.specs.Parts.{machine_state};
 ghost use Rattle.nr_core.specs.Writer.{moved_to, no_slot, settled, swapped, went};
 ghost use Rattle.nr_core.specs.Reach.{HasRoom};
 
@@ -20,8 +20,8 @@ impl Machine {
     /// retired ones, and where none is retired either it ends.
     pub fn settle(&mut self) -> Outcome
         requires { length self.old.spare.retired ≤ self.old.layout.slots }
-        ensures answer { (found : List Row) → step_of found result ≡ (settled (state_of self.old).shape (state_of self.old).desk self.old.call self.old.rows).1 }
-        ensures new { state_of self.new ≡ record (state_of self.old) { desk = (settled (state_of self.old).shape (state_of self.old).desk self.old.call self.old.rows).0 } }
+        ensures answer { (found : List Row) → step_of found result ≡ (settled (machine_state self.old).shape (machine_state self.old).desk self.old.call self.old.rows).1 }
+        ensures new { machine_state self.new ≡ record (machine_state self.old) { desk = (settled (machine_state self.old).shape (machine_state self.old).desk self.old.call self.old.rows).0 } }
     {
         if let Some(slot) = self.spare.take_fresh() {
             self.stage = Stage::Putting(slot, self.first_count, 0);
@@ -38,9 +38,9 @@ impl Machine {
     /// nobody holds it, and the call takes it. Else the next one is polled, or the call ends.
     pub fn poll(&mut self, poll: u32) -> Outcome
         requires stage { self.old.stage ≡ Searching poll }
-        requires room { HasRoom (state_of self.old) }
-        ensures answer { (found : List Row) → step_of found result ≡ (went (state_of self.old).shape (state_of self.old).desk (state_of self.old).desk.place (found_by (state_of self.old) Go)).1 }
-        ensures new { state_of self.new ≡ moved (state_of self.old) Go }
+        requires room { HasRoom (machine_state self.old) }
+        ensures answer { (found : List Row) → step_of found result ≡ (went (machine_state self.old).shape (machine_state self.old).desk (machine_state self.old).desk.place (found_by (machine_state self.old) Go)).1 }
+        ensures new { machine_state self.new ≡ moved (machine_state self.old) Go }
     {
         let retired = self.spare.retired_at(poll as usize);
         let departed = self.words.load(self.layout.departures(retired.slot));
@@ -59,8 +59,8 @@ impl Machine {
     /// The call ends with no slot: each is retired, or named by a key.
     fn no_slot(&mut self) -> Outcome
         requires { length self.old.spare.retired ≤ self.old.layout.slots }
-        ensures answer { (found : List Row) → step_of found result ≡ no_slot (state_of self.old).shape (state_of self.old).desk }
-        ensures new { state_of self.new ≡ record (state_of self.old) { desk = moved_to (state_of self.old).desk Idle } }
+        ensures answer { (found : List Row) → step_of found result ≡ no_slot (machine_state self.old).shape (machine_state self.old).desk }
+        ensures new { machine_state self.new ≡ record (machine_state self.old) { desk = moved_to (machine_state self.old).desk Idle } }
     {
         self.stage = Stage::Idle;
         Outcome::NoSlot(self.spare.counts())
@@ -69,7 +69,7 @@ impl Machine {
     /// The call has swapped another word in for that one, whose slot is retired with its arrivals.
     pub fn retire(&mut self, word: u64)
         requires { length self.old.spare.retired < self.old.layout.slots }
-        ensures { state_of self.new ≡ record (state_of self.old) { desk = swapped (state_of self.old).desk word } }
+        ensures { machine_state self.new ≡ record (machine_state self.old) { desk = swapped (machine_state self.old).desk word } }
     {
         self.spare.retire(word);
         self.stage = Stage::Idle;

@@ -5,7 +5,7 @@ ghost use Rattle.nr_core.specs.States.{Arrive, Read, Depart, Ask, Start, hold_of
 ghost use Rattle.nr_core.specs.Refusals.{refusal, has_reader, has_key};
 ghost use Rattle.nr_core.specs.Reach.{HasRoom};
 ghost use Rattle.nr_core.specs.Slots.{slot_room};
-ghost use Rattle.nr_core.specs.Parts.{state_of};
+ghost use Rattle.nr_core.specs.Parts.{machine_state};
 
 use crate::calls::{Refusal, WriterCall};
 use crate::machine::Machine;
@@ -13,26 +13,26 @@ use crate::places::{Hold, Stage};
 
 impl Machine {
     fn has_reader(&self, reader: u32) -> bool
-        ensures { result ≡ has_reader (state_of self.now).shape reader }
+        ensures { result ≡ has_reader (machine_state self.now).shape reader }
     {
         0 < reader && reader <= self.readers
     }
 
     fn has_key(&self, key: u32) -> bool
-        ensures { result ≡ has_key (state_of self.now).shape key }
+        ensures { result ≡ has_key (machine_state self.now).shape key }
     {
         key < self.layout.keys
     }
 
     /// For an arrive or a request, whose reader has to hold nothing.
     pub fn may_come(&self, reader: u32, key: u32) -> Result<(), Refusal>
-        requires { HasRoom (state_of self.now) }
-        ensures arrive { OnOk result (refusal (state_of self.now) (Arrive reader key) ≡ None) }
-        ensures arrive_refused { IfErr result (λ why. refusal (state_of self.now) (Arrive reader key) ≡ Some why) }
-        ensures ask { OnOk result (refusal (state_of self.now) (Ask reader key) ≡ None) }
-        ensures ask_refused { IfErr result (λ why. refusal (state_of self.now) (Ask reader key) ≡ Some why) }
-        ensures reader { OnOk result ((0 < reader) × (reader ≤ (state_of self.now).shape.readers)) }
-        ensures key { OnOk result (key < (state_of self.now).shape.keys) }
+        requires { HasRoom (machine_state self.now) }
+        ensures arrive { OnOk result (refusal (machine_state self.now) (Arrive reader key) ≡ None) }
+        ensures arrive_refused { IfErr result (λ why. refusal (machine_state self.now) (Arrive reader key) ≡ Some why) }
+        ensures ask { OnOk result (refusal (machine_state self.now) (Ask reader key) ≡ None) }
+        ensures ask_refused { IfErr result (λ why. refusal (machine_state self.now) (Ask reader key) ≡ Some why) }
+        ensures reader { OnOk result ((0 < reader) × (reader ≤ (machine_state self.now).shape.readers)) }
+        ensures key { OnOk result (key < (machine_state self.now).shape.keys) }
     {
         if !self.has_reader(reader) || !self.has_key(key) {
             return Err(Refusal::OutOfRange);
@@ -45,12 +45,12 @@ impl Machine {
 
     /// For a departure, whose reader has to hold a slot: the slot.
     pub fn may_depart(&self, reader: u32) -> Result<u32, Refusal>
-        requires { HasRoom (state_of self.now) }
-        ensures depart { OnOk result (refusal (state_of self.now) (Depart reader) ≡ None) }
-        ensures refused { IfErr result (λ why. refusal (state_of self.now) (Depart reader) ≡ Some why) }
-        ensures reader { OnOk result ((0 < reader) × (reader ≤ (state_of self.now).shape.readers)) }
-        ensures slot { IfOk result (λ slot. slot ≡ slot_in (hold_of (state_of self.now) reader)) }
-        ensures slot_in { IfOk result (λ slot. slot < (state_of self.now).shape.slots) }
+        requires { HasRoom (machine_state self.now) }
+        ensures depart { OnOk result (refusal (machine_state self.now) (Depart reader) ≡ None) }
+        ensures refused { IfErr result (λ why. refusal (machine_state self.now) (Depart reader) ≡ Some why) }
+        ensures reader { OnOk result ((0 < reader) × (reader ≤ (machine_state self.now).shape.readers)) }
+        ensures slot { IfOk result (λ slot. slot ≡ slot_in (hold_of (machine_state self.now) reader)) }
+        ensures slot_in { IfOk result (λ slot. slot < (machine_state self.now).shape.slots) }
     {
         if !self.has_reader(reader) {
             return Err(Refusal::OutOfRange);
@@ -64,13 +64,13 @@ impl Machine {
     /// For a read, whose reader has to hold a slot: the slot, and the number of rows as far as the
     /// reader knows it. It may read word 0, and once it has read it, two words for each row.
     pub fn may_read(&self, reader: u32, index: u64) -> Result<(u32, Option<u64>), Refusal>
-        requires { HasRoom (state_of self.now) }
-        ensures read { OnOk result (refusal (state_of self.now) (Read reader index) ≡ None) }
-        ensures refused { IfErr result (λ why. refusal (state_of self.now) (Read reader index) ≡ Some why) }
-        ensures reader { OnOk result ((0 < reader) × (reader ≤ (state_of self.now).shape.readers)) }
-        ensures hold { IfOk result (λ held. hold_of (state_of self.now) reader ≡ On held.0 held.1) }
-        ensures slot_in { IfOk result (λ held. held.0 < (state_of self.now).shape.slots) }
-        ensures index_in { OnOk result (index < slot_room (state_of self.now).shape) }
+        requires { HasRoom (machine_state self.now) }
+        ensures read { OnOk result (refusal (machine_state self.now) (Read reader index) ≡ None) }
+        ensures refused { IfErr result (λ why. refusal (machine_state self.now) (Read reader index) ≡ Some why) }
+        ensures reader { OnOk result ((0 < reader) × (reader ≤ (machine_state self.now).shape.readers)) }
+        ensures hold { IfOk result (λ held. hold_of (machine_state self.now) reader ≡ On held.0 held.1) }
+        ensures slot_in { IfOk result (λ held. held.0 < (machine_state self.now).shape.slots) }
+        ensures index_in { OnOk result (index < slot_room (machine_state self.now).shape) }
     {
         if !self.has_reader(reader) {
             return Err(Refusal::OutOfRange);
@@ -90,9 +90,9 @@ impl Machine {
 
     /// For a start, before which the writer has to be in no call.
     pub fn may_start(&self, call: &WriterCall) -> Result<(), Refusal>
-        ensures start { OnOk result (refusal (state_of self.now) (Start call.now) ≡ None) }
-        ensures refused { IfErr result (λ why. refusal (state_of self.now) (Start call.now) ≡ Some why) }
-        ensures key { OnOk result (key_of call.now < (state_of self.now).shape.keys) }
+        ensures start { OnOk result (refusal (machine_state self.now) (Start call.now) ≡ None) }
+        ensures refused { IfErr result (λ why. refusal (machine_state self.now) (Start call.now) ≡ Some why) }
+        ensures key { OnOk result (key_of call.now < (machine_state self.now).shape.keys) }
     {
         if !self.has_key(call.key()) {
             return Err(Refusal::OutOfRange);

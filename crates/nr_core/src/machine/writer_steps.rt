@@ -7,9 +7,9 @@ ghost use Rattle.nr_core.specs.declared.places.Place.TheVariants.{Idle, Reading 
 ghost use Rattle.nr_core.specs.declared.places.Stage.TheVariants.{Reading, Leaving, Withdrawing, Putting};
 ghost use Rattle.nr_core.specs.States.{Start, Go};
 ghost use Rattle.nr_core.specs.Story.{call_of};
-ghost use Rattle.nr_core.specs.Machine.{next, moved, found_by, start_answer, go_answer};
-ghost use Rattle.nr_core.specs.Outcomes.{step_of, told};
-ghost use Rattle.nr_core.specs.Parts.{state_of};
+ghost use Rattle.nr_core.specs.Machine.{next_state, moved, found_by, start_answer, go_answer};
+ghost use Rattle.nr_core.specs.Outcomes.{step_of, step_or_refusal};
+ghost use Rattle.nr_core.specs.Parts.{machine_state};
 ghost use Rattle.nr_core.specs.Writer.{looked, fill_asked, cancel_asked, decoded, went, moved_to};
 ghost use Rattle.nr_core.specs.Slots.{bound_of, slot_room};
 ghost use Rattle.nr_model.specs.Maps.{FillFits};
@@ -26,11 +26,11 @@ use nr_words::{hole_word, naming, parts, word_at};
 impl Machine {
     /// The look: loads the word of the call's key.
     pub fn start(&mut self, call: &WriterCall) -> Result<Outcome, Refusal>
-        requires room { HasRoom (state_of self.old) }
-        requires fits { FillFits (bound_of (state_of self.old).shape) (call_of call.now) }
-        ensures answer { (found : List Row) → told found result ≡ start_answer (state_of self.old) call.now }
-        ensures new { state_of self.new ≡ next (state_of self.old) (Start call.now) }
-        ensures given { IsGivenCall (bound_of (state_of self.old).shape) call.now }
+        requires room { HasRoom (machine_state self.old) }
+        requires fits { FillFits (bound_of (machine_state self.old).shape) (call_of call.now) }
+        ensures answer { (found : List Row) → step_or_refusal found result ≡ start_answer (machine_state self.old) call.now }
+        ensures new { machine_state self.new ≡ next_state (machine_state self.old) (Start call.now) }
+        ensures given { IsGivenCall (bound_of (machine_state self.old).shape) call.now }
     {
         call.given();
         self.may_start(call)?;
@@ -40,9 +40,9 @@ impl Machine {
 
     /// The next step of the writer's call. The set that a find ends with is written into `found`.
     pub fn go(&mut self, found: &mut RowSet) -> Result<Outcome, Refusal>
-        requires { HasRoom (state_of self.old) }
-        ensures answer { told found.new result ≡ go_answer (state_of self.old) }
-        ensures new { state_of self.new ≡ next (state_of self.old) Go }
+        requires { HasRoom (machine_state self.old) }
+        ensures answer { step_or_refusal found.new result ≡ go_answer (machine_state self.old) }
+        ensures new { machine_state self.new ≡ next_state (machine_state self.old) Go }
     {
         match self.stage {
             Stage::Idle => Err(Refusal::NotBusy),
@@ -63,8 +63,8 @@ impl Machine {
     /// Where the call goes from its look, which found that word.
     fn look(&mut self, call: &WriterCall, word: u64) -> Outcome
         requires { length self.old.spare.retired ≤ self.old.layout.slots }
-        ensures answer { (found : List Row) → step_of found result ≡ (looked (state_of self.old).shape (state_of self.old).desk call.now word).1 }
-        ensures new { state_of self.new ≡ record (state_of self.old) { desk = (looked (state_of self.old).shape (state_of self.old).desk call.now word).0 } }
+        ensures answer { (found : List Row) → step_of found result ≡ (looked (machine_state self.old).shape (machine_state self.old).desk call.now word).1 }
+        ensures new { machine_state self.new ≡ record (machine_state self.old) { desk = (looked (machine_state self.old).shape (machine_state self.old).desk call.now word).0 } }
     {
         let found = parts(word);
         match call {
@@ -112,7 +112,7 @@ impl Machine {
     /// The call reads the words of a slot that its key names, from the first one on.
     fn read_from(&mut self, call: &WriterCall, slot: u32) -> Outcome
         ensures answer { result ≡ Outcome.Going }
-        ensures new { state_of self.new ≡ record (state_of self.old) { desk = moved_to (state_of self.old).desk (ReadingAt call.now slot []) } }
+        ensures new { machine_state self.new ≡ record (machine_state self.old) { desk = moved_to (machine_state self.old).desk (ReadingAt call.now slot []) } }
     {
         self.call = *call;
         self.got.clear();
@@ -124,8 +124,8 @@ impl Machine {
     /// number alone.
     fn fill_asked(&mut self, call: &WriterCall, number: u64, rows: &RowSet, asked: u64) -> Outcome
         requires { length self.old.spare.retired ≤ self.old.layout.slots }
-        ensures answer { (found : List Row) → step_of found result ≡ (fill_asked (state_of self.old).shape (state_of self.old).desk call.now number rows.now asked).1 }
-        ensures new { state_of self.new ≡ record (state_of self.old) { desk = (fill_asked (state_of self.old).shape (state_of self.old).desk call.now number rows.now asked).0 } }
+        ensures answer { (found : List Row) → step_of found result ≡ (fill_asked (machine_state self.old).shape (machine_state self.old).desk call.now number rows.now asked).1 }
+        ensures new { machine_state self.new ≡ record (machine_state self.old) { desk = (fill_asked (machine_state self.old).shape (machine_state self.old).desk call.now number rows.now asked).0 } }
     {
         if asked != number {
             return self.end(Outcome::Stale);
@@ -137,8 +137,8 @@ impl Machine {
 
     /// Where a cancel goes whose key is asked with that number: the last one is not taken back.
     fn cancel_asked(&mut self, key: u32, asked: u64) -> Outcome
-        ensures answer { (found : List Row) → step_of found result ≡ (cancel_asked (state_of self.old).desk key asked).1 }
-        ensures new { state_of self.new ≡ record (state_of self.old) { desk = (cancel_asked (state_of self.old).desk key asked).0 } }
+        ensures answer { (found : List Row) → step_of found result ≡ (cancel_asked (machine_state self.old).desk key asked).1 }
+        ensures new { machine_state self.new ≡ record (machine_state self.old) { desk = (cancel_asked (machine_state self.old).desk key asked).0 } }
     {
         if asked < LAST_NUMBER {
             self.stage = Stage::Withdrawing(key);
@@ -151,9 +151,9 @@ impl Machine {
     /// Loads the next content word of a slot that a key names.
     fn read_on(&mut self, slot: u32, found: &mut RowSet) -> Outcome
         requires stage { self.old.stage ≡ Reading slot }
-        requires room { HasRoom (state_of self.old) }
-        ensures answer { step_of found.new result ≡ (went (state_of self.old).shape (state_of self.old).desk (state_of self.old).desk.place (found_by (state_of self.old) Go)).1 }
-        ensures new { state_of self.new ≡ moved (state_of self.old) Go }
+        requires room { HasRoom (machine_state self.old) }
+        ensures answer { step_of found.new result ≡ (went (machine_state self.old).shape (machine_state self.old).desk (machine_state self.old).desk.place (found_by (machine_state self.old) Go)).1 }
+        ensures new { machine_state self.new ≡ moved (machine_state self.old) Go }
     {
         let word = self.words.load(self.layout.content(slot, self.got.len()));
         self.got.push(word);
@@ -166,12 +166,12 @@ impl Machine {
 
     /// Where the call goes from its last read, which completes the set. Only finds and updates read.
     fn decide(&mut self, found: &mut RowSet) -> Outcome
-        requires bound { bound_of (state_of self.old).shape ≤ MAX_ROWS }
-        requires fits { length self.old.got ≤ slot_room (state_of self.old).shape }
+        requires bound { bound_of (machine_state self.old).shape ≤ MAX_ROWS }
+        requires fits { length self.old.got ≤ slot_room (machine_state self.old).shape }
         requires few { length self.old.spare.retired ≤ self.old.layout.slots }
         requires whole { length self.old.got ≡ 2 * slice_index self.old.got 0 + 1 }
-        ensures answer { step_of found.new result ≡ (decoded (state_of self.old).shape (state_of self.old).desk self.old.call (decode self.old.got)).1 }
-        ensures new { state_of self.new ≡ record (state_of self.old) { desk = (decoded (state_of self.old).shape (state_of self.old).desk self.old.call (decode self.old.got)).0 } }
+        ensures answer { step_of found.new result ≡ (decoded (machine_state self.old).shape (machine_state self.old).desk self.old.call (decode self.old.got)).1 }
+        ensures new { machine_state self.new ≡ record (machine_state self.old) { desk = (decoded (machine_state self.old).shape (machine_state self.old).desk self.old.call (decode self.old.got)).0 } }
     {
         let Some(rows) = self.got.set() else {
             return self.end(Outcome::Going);
@@ -199,10 +199,10 @@ impl Machine {
     /// nobody holds.
     fn put(&mut self, slot: u32, departed: u64, index: u32) -> Outcome
         requires stage { self.old.stage ≡ Putting slot departed index }
-        requires room { HasRoom (state_of self.old) }
+        requires room { HasRoom (machine_state self.old) }
         requires more { index ≤ 2 * length self.old.rows }
-        ensures answer { (found : List Row) → step_of found result ≡ (went (state_of self.old).shape (state_of self.old).desk (state_of self.old).desk.place (found_by (state_of self.old) Go)).1 }
-        ensures new { state_of self.new ≡ moved (state_of self.old) Go }
+        ensures answer { (found : List Row) → step_of found result ≡ (went (machine_state self.old).shape (machine_state self.old).desk (machine_state self.old).desk.place (found_by (machine_state self.old) Go)).1 }
+        ensures new { machine_state self.new ≡ moved (machine_state self.old) Go }
     {
         let word = word_at(&self.rows, index as usize);
         self.words.store(self.layout.content(slot, index), word);
@@ -214,10 +214,10 @@ impl Machine {
     /// that the old word named is retired.
     fn publish(&mut self, slot: u32, departed: u64, index: u32) -> Outcome
         requires stage { self.old.stage ≡ Putting slot departed index }
-        requires room { HasRoom (state_of self.old) }
+        requires room { HasRoom (machine_state self.old) }
         requires all_put { 2 * length self.old.rows < index }
-        ensures answer { (found : List Row) → step_of found result ≡ (went (state_of self.old).shape (state_of self.old).desk (state_of self.old).desk.place (found_by (state_of self.old) Go)).1 }
-        ensures new { state_of self.new ≡ moved (state_of self.old) Go }
+        ensures answer { (found : List Row) → step_of found result ≡ (went (machine_state self.old).shape (machine_state self.old).desk (machine_state self.old).desk.place (found_by (machine_state self.old) Go)).1 }
+        ensures new { machine_state self.new ≡ moved (machine_state self.old) Go }
     {
         let place = self.layout.key(self.call.key());
         let word = self.words.swap(place, naming(slot, departed));
@@ -229,9 +229,9 @@ impl Machine {
     /// retired.
     fn unpublish(&mut self, key: u32) -> Outcome
         requires stage { self.old.stage ≡ Leaving key }
-        requires room { HasRoom (state_of self.old) }
-        ensures answer { (found : List Row) → step_of found result ≡ (went (state_of self.old).shape (state_of self.old).desk (state_of self.old).desk.place (found_by (state_of self.old) Go)).1 }
-        ensures new { state_of self.new ≡ moved (state_of self.old) Go }
+        requires room { HasRoom (machine_state self.old) }
+        ensures answer { (found : List Row) → step_of found result ≡ (went (machine_state self.old).shape (machine_state self.old).desk (machine_state self.old).desk.place (found_by (machine_state self.old) Go)).1 }
+        ensures new { machine_state self.new ≡ moved (machine_state self.old) Go }
     {
         let hole = hole_word(self.number(key), false);
         let word = self.words.swap(self.layout.key(key), hole);
@@ -243,9 +243,9 @@ impl Machine {
     /// taken back fills no later one. The old word names no slot.
     fn withdraw(&mut self, key: u32) -> Outcome
         requires stage { self.old.stage ≡ Withdrawing key }
-        requires room { HasRoom (state_of self.old) }
-        ensures answer { (found : List Row) → step_of found result ≡ (went (state_of self.old).shape (state_of self.old).desk (state_of self.old).desk.place (found_by (state_of self.old) Go)).1 }
-        ensures new { state_of self.new ≡ moved (state_of self.old) Go }
+        requires room { HasRoom (machine_state self.old) }
+        ensures answer { (found : List Row) → step_of found result ≡ (went (machine_state self.old).shape (machine_state self.old).desk (machine_state self.old).desk.place (found_by (machine_state self.old) Go)).1 }
+        ensures new { machine_state self.new ≡ moved (machine_state self.old) Go }
     {
         let number = self.number(key) + 1;
         let hole = hole_word(number, false);
@@ -257,7 +257,7 @@ impl Machine {
     /// The call ends so.
     fn end(&mut self, outcome: Outcome) -> Outcome
         ensures answer { result ≡ outcome }
-        ensures new { state_of self.new ≡ record (state_of self.old) { desk = moved_to (state_of self.old).desk Idle } }
+        ensures new { machine_state self.new ≡ record (machine_state self.old) { desk = moved_to (machine_state self.old).desk Idle } }
     {
         self.stage = Stage::Idle;
         outcome

@@ -3,7 +3,7 @@ use Rattle.nr_map.specs.Callers.{Rests}
 use Rattle.nr_model.specs.declared.calls.Reply.TheVariants as reply
 use Rattle.nr_alone.specs.Answers as answers
 use Rattle.nr_alone.specs.MapState.{Pin}
-use Rattle.nr_alone.specs.Seats.{caller_of, pin_of}
+use Rattle.nr_alone.specs.Seats.{reader_in, pin_of}
 use Rattle.nr_alone.proofs.calls.show_at.Goals as goal
 
 pub returns-in-Pinned : goal.returns-in-Pinned
@@ -14,7 +14,7 @@ returns-in-Pinned c =
       ap pin_of is,
       ap (λ rows. answers.Reply (reply.Rows rows)) told.copied,
       2 * length pin.rows,
-      subst (λ s. Rests (2 * length pin.rows) (caller_of s) c.copy_to.new.self.reader) (sym is) told.rests,
+      subst (λ s. Rests (2 * length pin.rows) (reader_in s) c.copy_to.new.self.reader) (sym is) told.rests,
       (λ j. Some (record x { rows = told.rows j; put = (told.marks j).put })) ∙ sym (ap pin_of is),
-      told.holds ∙ ap (λ s. (caller_of s).holds) (sym is),
+      told.holds ∙ ap (λ s. (reader_in s).holds) (sym is),
     )

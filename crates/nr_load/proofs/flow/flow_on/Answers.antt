@@ -1,6 +1,6 @@
 use Rattle.std.proofs.Common.{◌≡◌, ℕ, ◌+◌, refl, sym, ap, ◌∙◌, subst, arith}
 use Rattle.nr_map.specs.Callers.{Caller, Table}
-use Rattle.nr_serve.specs.Flows.{HasRoom}
+use Rattle.nr_map.specs.SlotBounds.{HasRoomForAll}
 use Rattle.nr_serve.specs.Hands.{capped}
 use Rattle.nr_load.specs.Flowed.{Flows}
 use Rattle.nr_load.specs.Gained.{Gained}
@@ -22,7 +22,7 @@ loop-init g c =
     let opened = c.open-flow.ensures in
     record {
       map = ap (λ f. f.map) opened ∙ sym c.requires.own;
-      room = subst HasRoom (sym (ap (λ f. f.map) opened)) c.args.shared.now.slots;
+      room = subst HasRoomForAll (sym (ap (λ f. f.map) opened)) c.args.shared.now.slots;
       count = 0;
       gained = gained_none c.args.writer.table.shape.keys c.args.writer c.open-flow.result.writer (ap (λ f. f.writer) opened);
       fills = refl;
@@ -33,7 +33,7 @@ loop-preserved-then-eq g c =
     let i = c.loop.invariant in let t = c.turn_once-turned.ensures in
     record {
       map = t.places.0 ∙ i.map;
-      room = subst HasRoom (sym t.places.0) i.room;
+      room = subst HasRoomForAll (sym t.places.0) i.room;
       count = i.count + t.gained.0;
       gained = goes_on c.args.writer c.loop.flow.writer _ c.loop.flow.map i.count t.gained.0 i.map i.gained t.gained.1;
       fills = omega (arith, i.fills, t.gained.2);
@@ -44,7 +44,7 @@ loop-preserved g c =
     let i = c.loop.invariant in let t = c.turn_once-turned.ensures in
     record {
       map = t.places.0 ∙ i.map;
-      room = subst HasRoom (sym t.places.0) i.room;
+      room = subst HasRoomForAll (sym t.places.0) i.room;
       count = i.count + t.gained.0;
       gained = goes_on c.args.writer c.loop.flow.writer _ c.loop.flow.map i.count t.gained.0 i.map i.gained t.gained.1;
       fills = omega (arith, i.fills, t.gained.2);

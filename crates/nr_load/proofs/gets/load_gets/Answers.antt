@@ -3,7 +3,7 @@ use Rattle.std.specs.Prelude.{MatchOption}
 use Rattle.rand_pcg.specs.Lcg.{Lcg}
 use Rattle.nr_serve.specs.declared.hands.Hands.{Hands}
 use Rattle.nr_load.specs.Drawn.{drawn, drawn_on}
-use Rattle.nr_load.specs.Works.{answers, GoesOn, GetsKey, Works}
+use Rattle.nr_load.specs.Works.{answers, MayGoOn, GetsKey, Works}
 use Rattle.nr_load.proofs.Working.{Begins, begins, ends, ends_with, goes_on, answers_one, faultless}
 use Rattle.nr_load.proofs.gets.load_gets.Goals as goal
 
@@ -21,7 +21,7 @@ loop-made-preserved g c =
     let i = c.loop-made.invariant in let got = c.get_drawn-got in
     let key : drawn c.loop-made.draws.keys c.loop-made.draws.generator ≡ drawn c.args.draws.now.keys c.loop-made.draws.generator = ap (λ (n : ℕ). drawn n c.loop-made.draws.generator) i.keys in
     let gets : GetsKey 1000000 (drawn c.args.draws.now.keys c.loop-made.draws.generator) c.loop-made.client.hands got.result.0 got.new.client.hands = subst (λ (k : ℕ). GetsKey 1000000 k c.loop-made.client.hands got.result.0 got.new.client.hands) key got.ensures.gets in
-    let on : GoesOn got.result.0 = faultless c.fault_of-fault.result got.result.0 c.fault_of-fault.ensures (sym c.is_some.ensures ∙ c.if-is_some.false) in
+    let on : MayGoOn got.result.0 = faultless c.fault_of-fault.result got.result.0 c.fault_of-fault.ensures (sym c.is_some.ensures ∙ c.if-is_some.false) in
     let begun : Begins 1000000 c.args.draws.now.keys (c.loop-made.made + 1) c.args.draws.now.generator (c.loop-made.answered + answers got.result.0) c.args.client.now.hands got.new.client.hands (drawn_on c.loop-made.draws.generator) = goes_on 1000000 _ _ _ _ _ _ _ _ got.result.0 i.begun gets on in
     record {
       map = got.ensures.places.0 ∙ i.map;

@@ -1,7 +1,7 @@
 use Rattle.std.proofs.Common.{◌≡◌, ◌≤◌}
 use Rattle.nr_core.specs.Sums.{below}
 use Rattle.nr_tally.specs.Balance.{Stays}
-use Rattle.nr_tally.specs.Rounds.{IsSound}
+use Rattle.nr_map.specs.Callers.{IsSound}
 use Rattle.nr_tally.proofs.Counting.{pending_at}
 use Rattle.nr_tally.proofs.rounds.count_asked.Given as goal
 

@@ -1,7 +1,7 @@
 use Rattle.std.proofs.Common.{◌≡◌, ◌<◌, ◌≤◌, ℕ, get_or}
-use Rattle.nr_map.specs.Callers.{Caller}
+use Rattle.nr_map.specs.Callers.{Caller, IsSound}
 use Rattle.nr_tally.specs.Balance.{Stays}
-use Rattle.nr_tally.specs.Rounds.{Hears, IsSound}
+use Rattle.nr_tally.specs.Rounds.{Hears}
 use Rattle.nr_tally.proofs.rounds.gather_all.Given as goal
 
 abbrev pub invariant-loop-reader : goal.invariant-loop-reader

@@ -3,7 +3,7 @@ use Rattle.std.proofs.lemmas.Bool.{cases_lt}
 use Rattle.std.proofs.lemmas.List.{with_items_is}
 use Rattle.nr_alone.specs.declared.seat.Seat.{Seat}
 use Rattle.nr_alone.specs.declared.seat.Seat.TheVariants.{Idle}
-use Rattle.nr_alone.specs.Seats.{caller_of}
+use Rattle.nr_alone.specs.Seats.{reader_in}
 use Rattle.nr_alone.specs.Alone.{IsAlone, shown_by}
 use Rattle.nr_alone.specs.Rounds.{Gathered}
 use Rattle.nr_alone.proofs.Rounds.{same_length}
@@ -13,7 +13,7 @@ use Rattle.nr_alone.proofs.alone.Alone.open.Goals as goal
 pub gather_round-requires-clause-seats : goal.gather_round-requires-clause-seats
 gather_round-requires-clause-seats c =
     let is = c.as_mut_slice.ensures.value ∙ c.in-Ok.ensures in
-    subst (λ (l : List Seat). All (λ (s : Seat). (caller_of s).table ≡ c.in_ok-map.map) l) (sym is) (all_idle c.in_ok-map.map c.in_ok-map.readers.items c.in_ok-map.ensures.ok.own)
+    subst (λ (l : List Seat). All (λ (s : Seat). (reader_in s).table ≡ c.in_ok-map.map) l) (sym is) (all_idle c.in_ok-map.map c.in_ok-map.readers.items c.in_ok-map.ensures.ok.own)
 
 pub invariant_of-result : goal.invariant_of-result
 invariant_of-result c =

@@ -7,7 +7,7 @@ use Rattle.nr_alone.specs.declared.seat.Seat.{Seat}
 use Rattle.nr_alone.specs.Alone.{IsAlone, shown_by}
 use Rattle.nr_alone.specs.MapState.{MapState, answer_show}
 use Rattle.nr_alone.specs.Rounds.{Gathered}
-use Rattle.nr_alone.specs.Seats.{Shows}
+use Rattle.nr_alone.specs.Seats.{ShowsPin}
 use Rattle.nr_alone.proofs.ReaderLines.{many_pins, says_show}
 use Rattle.nr_alone.proofs.Rounds.{same_length}
 use Rattle.nr_alone.proofs.alone.Alone.show.Goals as goal
@@ -19,7 +19,7 @@ invariant_of-self-2 c =
     let g : Gathered at w0 (set seats.items at x) w' seats' = subst (λ (l : List Seat). Gathered at w0 l w' seats') c.as_mut_slice.ensures.value c.gather_round.ensures in
     let size : length seats' ≡ (with_item seats at x).len = same_length seats' (set seats.items at x) g.round.same ∙ ap (λ (l : List Seat). length l) (sym c.as_mut_slice.ensures.value) ∙ c.as_mut_slice.ensures.len in
     let low : at < length seats.items = let few = subst (λ (s : MapState). at < length s.pins) (sym c.self.view_is) c.requires in omega (arith, many_pins seats.items) in
-    let made : Shows old x (Ok c.in_ok-answer.answer) = subst (λ (r : Result Answer Refusal). Shows old x r) c.in_ok-answer.was c.show_at.ensures in
+    let made : ShowsPin old x (Ok c.in_ok-answer.answer) = subst (λ (r : Result Answer Refusal). ShowsPin old x r) c.in_ok-answer.was c.show_at.ensures in
     subst (λ (l : List Seat). IsAlone c.self.inside.map w' l) (sym (with_items_is (with_item seats at x) seats' size))
     (says_show c.laws.ensures c.self.inside.map w0 seats.items c.self.invariant at old x low c.index_mut.ensures.value w' seats' g c.in_ok-answer.answer made).0
 
@@ -30,7 +30,7 @@ returns c =
     let g : Gathered at w0 (set seats.items at x) w' seats' = subst (λ (l : List Seat). Gathered at w0 l w' seats') c.as_mut_slice.ensures.value c.gather_round.ensures in
     let size : length seats' ≡ (with_item seats at x).len = same_length seats' (set seats.items at x) g.round.same ∙ ap (λ (l : List Seat). length l) (sym c.as_mut_slice.ensures.value) ∙ c.as_mut_slice.ensures.len in
     let low : at < length seats.items = let few = subst (λ (s : MapState). at < length s.pins) (sym c.self.view_is) c.requires in omega (arith, many_pins seats.items) in
-    let made : Shows old x (Ok c.in_ok-answer.answer) = subst (λ (r : Result Answer Refusal). Shows old x r) c.in_ok-answer.was c.show_at.ensures in
+    let made : ShowsPin old x (Ok c.in_ok-answer.answer) = subst (λ (r : Result Answer Refusal). ShowsPin old x r) c.in_ok-answer.was c.show_at.ensures in
     subst (λ (s : MapState). answer_show s at ≡ (Ok c.in_ok-answer.answer, shown_by c.self.inside.map w' (with_items (with_item seats at x) seats').items)) c.self.view_is
     (subst (λ (l : List Seat). answer_show (shown_by c.self.inside.map w0 seats.items) at ≡ (Ok c.in_ok-answer.answer, shown_by c.self.inside.map w' l)) (sym (with_items_is (with_item seats at x) seats' size))
     (says_show c.laws.ensures c.self.inside.map w0 seats.items c.self.invariant at old x low c.index_mut.ensures.value w' seats' g c.in_ok-answer.answer made).1)

@@ -2,7 +2,7 @@ use mathlib.Core.List.{List, [], ◌∷◌}
 use base.Shift.{Keyless}
 use denote.RawPtr.{Ptr}
 use Rattle.std.specs.Global.{Global}
-use Rattle.nr_c.specs.WriterHandles.{handle_owns}
+use Rattle.nr_c.specs.WriterHandles.{writer_handle_owns}
 use mir.Raw.{raw}
 use denote.Memory.{lone}
 use denote.Struct.Struct.{exits_of}
@@ -15,7 +15,7 @@ use Rattle.nr_c.specs.contracts.writer_side.WriterSide as T
 use Rattle.nr_c.proofs.writer_side.WriterSide.TheSendSync.{the_send as token}
 use Rattle.nr_c.specs.contracts.writer_handle.NrWriter.{the_row, the_type}
 
-quiet_live : (a : Global) (p : Ptr) (l : List T.the_row.Denot) → Keyless (handle_owns a p l)
+quiet_live : (a : Global) (p : Ptr) (l : List T.the_row.Denot) → Keyless (writer_handle_owns a p l)
 quiet_live a p [] = tt
 quiet_live a p (t ∷ ts) = (lies T.the_row token p t, heap.frees.frees a (raw (lone T.the_row.mir)) p)
 

@@ -37,7 +37,7 @@ use Rattle.std.proofs.VecSteps.Shapes.{after}
 use Rattle.std_alloc.proofs.BoxSteps.Form.{D, R, B, τ, word, handle}
 use Rattle.std_alloc.proofs.BoxSteps.Steps.{box_out, box_in}
 use Rattle.nr_c.proofs.AsWriterBox.{E}
-use Rattle.nr_c.specs.WriterFollows.{with_side}
+use Rattle.nr_c.specs.WriterFollows.{with_writer_side}
 use Rattle.nr_c.specs.contracts.writer_handle.NrWriter.{the_row as S}
 use Rattle.nr_c.specs.contracts.writer_side.WriterSide.{the_row as T}
 use Rattle.nr_c.specs.contracts.writer_handle.NrWriter.side as F
@@ -68,17 +68,17 @@ module _ {M : Type 1} {𝓤 : Ura M} (𝓛 : Logic 𝓤) (at_mem : Memory → SP
     abbrev Rest : Fml
     Rest = fsep (fsep (token E.al h.alloc (bare (τ E)) (block_ptr b o)) (handle E h.alloc hv)) (cell_at full_share S.mir (word E hv b o ∷ []) rb ro)
 
-    back : h.ptr ≡ block_ptr b o → (w : T.Denot) → ent 𝓤 (sep 𝓤 (sem 𝓛 ((mem T).own_at w b o)) (sem 𝓛 Rest)) (sem 𝓛 ((mem S).own_at (with_side h w) rb ro))
+    back : h.ptr ≡ block_ptr b o → (w : T.Denot) → ent 𝓤 (sep 𝓤 (sem 𝓛 ((mem T).own_at w b o)) (sem 𝓛 Rest)) (sem 𝓛 ((mem S).own_at (with_writer_side h w) rb ro))
     unfolding part_of
     back at_b w =
         qed 𝓛 (‵ (part_at (R E) full_share w b o) ∷ ‵ Rest ∷ []) ∵ move ! (1 ∷ []) $ fsplit ! $ fsplit ! $ move ! (3 ∷ []) $
         box_in E ! (boxed h w) b o w at_b refl $ move ! (1 ∷ 0 ∷ []) $ fjoin ! $
-        fpack ! (List Val) (λ us. fsep (cell_at full_share S.mir us rb ro) (S.own_val (with_side h w) us)) (word E hv b o ∷ []) $ done !
+        fpack ! (List Val) (λ us. fsep (cell_at full_share S.mir us rb ro) (S.own_val (with_writer_side h w) us)) (word E hv b o ∷ []) $ done !
 
     exits : (γ' : GName)
-        → ent 𝓤 (sep 𝓤 (sem 𝓛 ((MutRef (named 0) κ T).own_val (record { ref_ptr = (b, o); ghost_name = γ'; now = t }) (vptr b o ∷ []))) (sep 𝓤 (A.lft κ q) (sem 𝓛 (follows S T γ γ' (with_side h))))) (Post (vptr b o))
+        → ent 𝓤 (sep 𝓤 (sem 𝓛 ((MutRef (named 0) κ T).own_val (record { ref_ptr = (b, o); ghost_name = γ'; now = t }) (vptr b o ∷ []))) (sep 𝓤 (A.lft κ q) (sem 𝓛 (follows S T γ γ' (with_writer_side h))))) (Post (vptr b o))
     exits γ' =
-        qed 𝓛 (‵ ((MutRef (named 0) κ T).own_val (record { ref_ptr = (b, o); ghost_name = γ'; now = t }) (vptr b o ∷ [])) ∷ ‵ (flft κ q) ∷ ‵ (follows S T γ γ' (with_side h)) ∷ []) ∵
+        qed 𝓛 (‵ ((MutRef (named 0) κ T).own_val (record { ref_ptr = (b, o); ghost_name = γ'; now = t }) (vptr b o ∷ [])) ∷ ‵ (flft κ q) ∷ ‵ (follows S T γ γ' (with_writer_side h)) ∷ []) ∵
         suffices ! _ (ends_at 𝓛 F.ended stayed (F.clauses 𝓛 at_mem run) bound (vptr b o) (record { ref_ptr = (b, o); ghost_name = γ'; now = t }) (tt, tt) (tt, tt)) $
         nothing ! $ nothing ! $ fjoin ! $ join ! $ nothing ! $ move ! (2 ∷ 0 ∷ []) $ join ! $ join ! $ frame ! $ says ! is $ done !
 
@@ -102,8 +102,8 @@ module _ {M : Type 1} {𝓤 : Ura M} (𝓛 : Logic 𝓤) (at_mem : Memory → SP
         exec ! C Λ En (after 1 (code.function).body) (at_ret En Post) $
         sets ! (of_opd ! (get ! refl)) refl (tt, tt) $
         move ! (1 ∷ 2 ∷ []) $ fjoin ! $ move ! (2 ∷ 3 ∷ 4 ∷ 1 ∷ 0 ∷ []) $ group ! 5 $
-        use1 𝓛 (later (some (λ (γ' : GName). raw (Part 𝓛 S T (with_side h) (named 0) κ q rb ro b o γ (sem 𝓛 (Rest b o hv)) (back b o hv at_b) t γ'))))
-        (lends_Part 𝓛 S T (with_side h) (named 0) κ q rb ro b o γ (sem 𝓛 (Rest b o hv)) (back b o hv at_b) (S.coded.code h) (S.coded.code h) t) $ await ! tt $ pick ! (λ γ'.
+        use1 𝓛 (later (some (λ (γ' : GName). raw (Part 𝓛 S T (with_writer_side h) (named 0) κ q rb ro b o γ (sem 𝓛 (Rest b o hv)) (back b o hv at_b) t γ'))))
+        (lends_Part 𝓛 S T (with_writer_side h) (named 0) κ q rb ro b o γ (sem 𝓛 (Rest b o hv)) (back b o hv at_b) (S.coded.code h) (S.coded.code h) t) $ await ! tt $ pick ! (λ γ'.
         returns ! (look_at ! 0 refl) $ free_all ! refl $
         keep ! (0 ∷ []) $ by ! (exits b o hv γ')))))
 

@@ -2,7 +2,7 @@ use Rattle.std.proofs.Common.{Bool, ap, arith, cond, get_or, length, refl, subst
 use Rattle.std.proofs.lemmas.Bool.{lt-leb}
 use Rattle.atomic_table.specs.Table.{Allows, Me}
 use Rattle.nr_words.specs.SetWords.{encode}
-use Rattle.nr_core.specs.Operations.{becomes, going, place_of}
+use Rattle.nr_core.specs.Operations.{becomes, going, target_of}
 use Rattle.nr_core.specs.declared.operation.Operation.{Operation}
 use Rattle.nr_core.specs.declared.operation.Operation.TheVariants.{Store, Swap}
 use Rattle.nr_words.specs.KeyWords.{naming}
@@ -31,7 +31,7 @@ swap-requires c = let shared = c.self.inside.table.shared in let about = c.self.
     let operation : going shared.key at at.place ≡ Swap (key_of call) word = ap (λ (b : Bool). cond {A = Operation} b (Store (content shared.key slot last) (get_or (encode rows) last 0)) (Swap (key_of call) word)) (lt-leb last (2 * length rows) (omega arith)) in
     let n : ℕ = shared.table_id.slots in
     let told : ℕ → Me (Unit {0}) View → Type 0 = λ found after. (other : Desk) → seat.me.0.role ≡ Writer other → Went other found seat.me.0 after.0 in
-    let allows = subst (λ (o : Operation). Allows (Kept shared.key) n seat.id seat.me (place_of o) (becomes o) told) operation
+    let allows = subst (λ (o : Operation). Allows (Kept shared.key) n seat.id seat.me (target_of o) (becomes o) told) operation
     (goes_so shared.key n seat.id seat.me at (desk_at seat.me.0.role publishing.desk (Putting call rows slot c.args.departed last) publishing.writes.role publishing.place) refl) in (
       ap (λ (t : Table). t.id) (publishing.writes.own ∙ sym c.self.view_is),
       omega (arith, c.requires.key, ap (λ (s : Shape). s.keys) about.0, ap (λ (t : Table). t.shape.keys) c.self.view_is),

@@ -9,7 +9,7 @@ use Rattle.nr_map.proofs.ReaderSeats.{read_seat}
 use Rattle.nr_map.proofs.ReaderSteps.{reads_so}
 use Rattle.nr_map.proofs.Rows.{length-encode}
 use Rattle.nr_map.specs.Callers.{Table}
-use Rattle.nr_map.specs.Plays.{read}
+use Rattle.nr_map.specs.Plays.{has_read}
 use Rattle.nr_map.specs.Rule.{Kept}
 use Rattle.nr_marks.specs.Marks.{gripped}
 use Rattle.nr_map.specs.Views.{grip_of, rows_held, slot_held}
@@ -24,7 +24,7 @@ load-requires c = let shared = c.self.inside.table.shared in let board = stands 
     let slot : ℕ = slot_held seat.me.0.role in let index : ℕ = c.args.index in let place = content_at board slot reader.holds.inside c.args.begin index reader.begin_is in (
       ap (λ (t : Table). t.id) (reader.own ∙ sym c.self.view_is),
       content_in board slot reader.holds.inside c.args.begin index reader.begin_is (omega (arith, c.requires.index, reader.holds.row_set.1)),
-      subst (λ (at : ℕ). Allows (Kept shared.key) shared.table_id.slots seat.id seat.me at (λ n. n) (read (step shared.table_id.slots at 0 0 none) seat.me)) (sym place)
+      subst (λ (at : ℕ). Allows (Kept shared.key) shared.table_id.slots seat.id seat.me at (λ n. n) (has_read (step shared.table_id.slots at 0 0 none) seat.me)) (sym place)
           (reads_so shared.key shared.table_id.slots seat.id seat.me index reader.holds.is c.requires.index (ap (λ (t : Table). t.shape) reader.own ∙ sym board.key_is)),
     )
 

@@ -4,7 +4,7 @@ use Rattle.nr_model.specs.declared.rows.Row.{Row}
 use Rattle.nr_model.specs.declared.heads.Head.{Head}
 use Rattle.nr_model.specs.declared.calls.Call.{Call}
 use Rattle.nr_model.specs.Maps.{reply_at, state_after, reply_to, next}
-use Rattle.nr_model.specs.Runs.{shown}
+use Rattle.nr_model.specs.Runs.{state_in}
 use Rattle.nr_model.proofs.RunLemmas.{map_of, has_head, run_within, run_between, put_between, run_full, length-put, kept_at, kept_put, reply_made, next_made}
 use Rattle.nr_model.proofs.seq_map.SeqMap.call.Goals as goal
 
@@ -54,11 +54,11 @@ returns-clause-reply c =
     let room = c.self.invariant.4.room in
     let read = run_between rows start cells c.deref_mut.result.now c.deref_mut.ensures.value in
     let full = run_full rows heads cells key within room in
-    let made : c.call.result ≡ reply_at rows call (shown (get_or heads key head) (take rows (drop start cells))) =
+    let made : c.call.result ≡ reply_at rows call (state_in (get_or heads key head) (take rows (drop start cells))) =
     c.call.ensures.reply
-    ∙ ap (λ (run : List Row). reply_at (length run) call (shown head run)) read
-    ∙ ap (λ (n : ℕ). reply_at n call (shown head (take rows (drop start cells)))) full
-    ∙ ap (λ (h : Head). reply_at rows call (shown h (take rows (drop start cells)))) c.index_mut.ensures.value in
+    ∙ ap (λ (run : List Row). reply_at (length run) call (state_in head run)) read
+    ∙ ap (λ (n : ℕ). reply_at n call (state_in head (take rows (drop start cells)))) full
+    ∙ ap (λ (h : Head). reply_at rows call (state_in h (take rows (drop start cells)))) c.index_mut.ensures.value in
     reply_made rows heads cells call key head c.call.result c.key-key.ensures within made ∙ ap (λ m. reply_to m call) c.self.view_is
 
 pub returns-clause-new : goal.returns-clause-new
@@ -68,11 +68,11 @@ returns-clause-new c =
     let room = c.self.invariant.4.room in
     let read = run_between rows start cells c.deref_mut.result.now c.deref_mut.ensures.value in
     let full = run_full rows heads cells key within room in
-    let made : shown c.call.new.self c.call.new.run ≡ state_after rows call (shown (get_or heads key head) (take rows (drop start cells))) =
+    let made : state_in c.call.new.self c.call.new.run ≡ state_after rows call (state_in (get_or heads key head) (take rows (drop start cells))) =
     c.call.ensures.new
-    ∙ ap (λ (run : List Row). state_after (length run) call (shown head run)) read
-    ∙ ap (λ (n : ℕ). state_after n call (shown head (take rows (drop start cells)))) full
-    ∙ ap (λ (h : Head). state_after rows call (shown h (take rows (drop start cells)))) c.index_mut.ensures.value in
+    ∙ ap (λ (run : List Row). state_after (length run) call (state_in head run)) read
+    ∙ ap (λ (n : ℕ). state_after n call (state_in head (take rows (drop start cells)))) full
+    ∙ ap (λ (h : Head). state_after rows call (state_in h (take rows (drop start cells)))) c.index_mut.ensures.value in
     let long : length c.call.new.run ≡ rows = c.call.auto.run ∙ ap length read ∙ full in
     let put = put_between rows start c.self.inside.cells c.deref_mut.result.now c.call.new.run c.deref_mut.ensures.value (length-put rows heads cells key c.call.new.run within room long) in
     ap (λ (l : List Row). map_of rows (set heads key c.call.new.self) l) put

@@ -1,7 +1,7 @@
 use Rattle.std.proofs.Common.{ℕ, ap, subst, sym, ◌∙◌}
 use Rattle.nr_map.specs.Answers.{UpdatesKey}
 use Rattle.nr_map.specs.Callers.{Caller}
-use Rattle.nr_serve.specs.Flows.{HasRoom}
+use Rattle.nr_map.specs.SlotBounds.{HasRoomForAll}
 use Rattle.nr_serve.proofs.dataflow.Dataflow.apply.Goals as goal
 
 pub returns-clause-updates : goal.returns-clause-updates
@@ -12,5 +12,5 @@ returns-clause-updates g c =
 pub returns-clause-room : goal.returns-clause-room
 returns-clause-room g c room counts none =
     let law = c.room_for_updates.ensures in
-    let slots = subst HasRoom (ap (λ flow. flow.map) (sym c.self.view_is) ∙ sym c.self.invariant.writes) room in
+    let slots = subst HasRoomForAll (ap (λ flow. flow.map) (sym c.self.view_is) ∙ sym c.self.invariant.writes) room in
     law _ _ _ _ c.update.new.writer counts slots (subst (UpdatesKey _ _ _ _ _) none c.update.ensures)

@@ -1,5 +1,5 @@
 use Rattle.nr_map.proofs.NoSlots.{done_lem}
-use Rattle.nr_map.proofs.laws.done_is_exact.Goals as goal
+use Rattle.nr_map.proofs.laws.done_means_fewer_in_use.Goals as goal
 
 pub returns : goal.returns
 returns c = done_lem c.done_by_marks.ensures
