@@ -25,10 +25,13 @@ pub invariant_of-self-2 : goal.invariant_of-self-2
 invariant_of-self-2 c =
     let seats = c.self.inside.seats in let w0 = c.self.inside.writer in let at = c.args.at in let w' = c.gather_round.new.writer in let seats' = c.gather_round.new.seats in
     let old = c.index_mut.result.now in let x = c.find_at.new.seat in
-    let g : Gathered at w0 (set seats.items at x) w' seats' = subst (λ (l : List Seat). Gathered at w0 l w' seats') c.as_mut_slice.ensures.value (subst (λ (w : Caller). Gathered at w c.as_mut_slice.result.now w' seats') c.find_at.ensures.writer c.gather_round.ensures) in
+    let g : Gathered at w0 (set seats.items at x) w' seats' =
+        subst (λ (l : List Seat). Gathered at w0 l w' seats') c.as_mut_slice.ensures.value
+        (subst (λ (w : Caller). Gathered at w c.as_mut_slice.result.now w' seats') c.find_at.ensures.writer c.gather_round.ensures) in
     let size : length seats' ≡ (with_item seats at x).len = same_length seats' (set seats.items at x) g.round.same ∙ ap (λ (l : List Seat). length l) (sym c.as_mut_slice.ensures.value) ∙ c.as_mut_slice.ensures.len in
     let low : at < length seats.items = let few = subst (λ (s : MapState). at < length s.pins) (sym c.self.view_is) c.requires.reader in omega (arith, many_pins seats.items) in
-    let made : MakesCall c.self.inside.writer.seen (model.Find c.args.key) old x (Ok c.in_ok-answer.answer) = subst (λ (r : Result Answer Refusal). MakesCall c.self.inside.writer.seen (model.Find c.args.key) old x r) c.in_ok-answer.was c.find_at.ensures.made in
+    let made : MakesCall c.self.inside.writer.seen (model.Find c.args.key) old x (Ok c.in_ok-answer.answer) =
+        subst (λ (r : Result Answer Refusal). MakesCall c.self.inside.writer.seen (model.Find c.args.key) old x r) c.in_ok-answer.was c.find_at.ensures.made in
     subst (λ (l : List Seat). IsAlone c.self.inside.map w' l) (sym (with_items_is (with_item seats at x) seats' size))
     (says_call c.laws.ensures c.self.inside.map w0 seats.items c.self.invariant at old x low c.index_mut.ensures.value w' seats' g c.self.inside.writer.seen (model.Find c.args.key) c.in_ok-answer.answer made).0
 
@@ -36,10 +39,13 @@ pub returns : goal.returns
 returns c =
     let seats = c.self.inside.seats in let w0 = c.self.inside.writer in let at = c.args.at in let w' = c.gather_round.new.writer in let seats' = c.gather_round.new.seats in
     let old = c.index_mut.result.now in let x = c.find_at.new.seat in
-    let g : Gathered at w0 (set seats.items at x) w' seats' = subst (λ (l : List Seat). Gathered at w0 l w' seats') c.as_mut_slice.ensures.value (subst (λ (w : Caller). Gathered at w c.as_mut_slice.result.now w' seats') c.find_at.ensures.writer c.gather_round.ensures) in
+    let g : Gathered at w0 (set seats.items at x) w' seats' =
+        subst (λ (l : List Seat). Gathered at w0 l w' seats') c.as_mut_slice.ensures.value
+        (subst (λ (w : Caller). Gathered at w c.as_mut_slice.result.now w' seats') c.find_at.ensures.writer c.gather_round.ensures) in
     let size : length seats' ≡ (with_item seats at x).len = same_length seats' (set seats.items at x) g.round.same ∙ ap (λ (l : List Seat). length l) (sym c.as_mut_slice.ensures.value) ∙ c.as_mut_slice.ensures.len in
     let low : at < length seats.items = let few = subst (λ (s : MapState). at < length s.pins) (sym c.self.view_is) c.requires.reader in omega (arith, many_pins seats.items) in
-    let made : MakesCall c.self.inside.writer.seen (model.Find c.args.key) old x (Ok c.in_ok-answer.answer) = subst (λ (r : Result Answer Refusal). MakesCall c.self.inside.writer.seen (model.Find c.args.key) old x r) c.in_ok-answer.was c.find_at.ensures.made in
+    let made : MakesCall c.self.inside.writer.seen (model.Find c.args.key) old x (Ok c.in_ok-answer.answer) =
+        subst (λ (r : Result Answer Refusal). MakesCall c.self.inside.writer.seen (model.Find c.args.key) old x r) c.in_ok-answer.was c.find_at.ensures.made in
     subst (λ (s : MapState). answer_of_reader s at (model.Find c.args.key) ≡ (Ok c.in_ok-answer.answer, shown_by c.self.inside.map w' (with_items (with_item seats at x) seats').items)) c.self.view_is
     (subst (λ (l : List Seat). answer_of_reader (shown_by c.self.inside.map w0 seats.items) at (model.Find c.args.key) ≡ (Ok c.in_ok-answer.answer, shown_by c.self.inside.map w' l)) (sym (with_items_is (with_item seats at x) seats' size))
     (says_call c.laws.ensures c.self.inside.map w0 seats.items c.self.invariant at old x low c.index_mut.ensures.value w' seats' g c.self.inside.writer.seen (model.Find c.args.key) c.in_ok-answer.answer made).1)
