@@ -67,7 +67,8 @@ rest_is (x ∷ xs) (e ∷ []) few same =
 rest_is rest (e ∷ f ∷ es) few same = absurd (omega arith)
 
 -- a history that has exactly the calls, and one that has also those that were made since
-pub exact_step : (log later es : List Entry) → length es ≤ 1 → StartsWith later log → (before now : ℕ → List Entry) → ((c : ℕ) → entries_of log c ≡ before c) → ((c : ℕ) → entries_of later c ≡ now c) → ((c : ℕ) → now c ≡ before c ++ entries_of es c) → later ≡ log ++ es
+pub exact_step : (log later es : List Entry) → length es ≤ 1 → StartsWith later log → (before now : ℕ → List Entry) → ((c : ℕ) → entries_of log c ≡ before c) → ((c : ℕ) → entries_of later c ≡ now c)
+    → ((c : ℕ) → now c ≡ before c ++ entries_of es c) → later ≡ log ++ es
 exact_step log later es few goes before now was is grown =
     let same : (c : ℕ) → entries_of goes.rest c ≡ entries_of es c = λ c.
     append_cancel_left (entries_of log c) (entries_of goes.rest c) (entries_of es c)

@@ -5,6 +5,7 @@ pub mod Shown
 pub mod InUse
 pub mod Lines
 pub mod ReaderLines
+pub mod AfterLine
 pub mod Opening
 pub mod Sizes
 pub mod Numbers

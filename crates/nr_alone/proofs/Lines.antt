@@ -66,7 +66,8 @@ module _ (table : Table) (w0 : Caller) (seats0 : List Seat) (alone : IsAlone tab
     others = λ at apart. are.others (suc at) (omega arith);
   }
 
-  module _ (at : ℕ) (x : Seat) (low : at < length seats0) (are : AreOf (suc at) es) (same_table : (caller_in x).table ≡ (caller_in (get_or seats0 at x)).table) (same_number : (caller_in x).number ≡ (caller_in (get_or seats0 at x)).number) (mine : mine_of x ≡ mine_of (get_or seats0 at x) ++ es) (fits : SeatHoldsItsPin x) where
+  module _ (at : ℕ) (x : Seat) (low : at < length seats0) (are : AreOf (suc at) es) (same_table : (caller_in x).table ≡ (caller_in (get_or seats0 at x)).table)
+      (same_number : (caller_in x).number ≡ (caller_in (get_or seats0 at x)).number) (mine : mine_of x ≡ mine_of (get_or seats0 at x) ++ es) (fits : SeatHoldsItsPin x) where
     placed : (P : ℕ → Seat → Type 0) → ((k : ℕ) (other : Seat) → k < length seats0 → P k (get_or seats0 k other)) → P at x → (k : ℕ) (other : Seat) → k < length (set seats0 at x) → P k (get_or (set seats0 at x) k other)
     placed P all here k other inside = dite (ℕ_discrete k at)
         (λ is. subst (λ (n : ℕ). P n (get_or (set seats0 at x) n other)) (sym is) (subst (λ (s : Seat). P at s) (sym (get_or-set_same seats0 at x other low)) here))
@@ -111,11 +112,13 @@ module _ (laws : Laws) (table : Table) (w0 : Caller) (seats0 seats : List Seat) 
       (laws.begins (map_at_opening table) (log_of w' seats') (log_begins w' seats').rest
       (subst (λ (l : List Entry). IsLegal (map_at_opening table) l) (log_begins w' seats').is (subst (λ (t : Table). IsLegal (map_at_opening t) w'.seen) s.alone.stands.own s.alone.sound.legal)))
 
-pub reply_is : (laws : Laws) (table : Table) (w0 : Caller) (seats0 seats : List Seat) (n : ℕ) (call : Call) (r : Reply) (mid : List Entry) (w' : Caller) (seats' : List Seat) → SettlesLine table w0 seats0 seats (entry n call r ∷ []) mid w' seats' → r ≡ reply_to (map_after table.shape (log_of w0 seats0)) call
+pub reply_is : (laws : Laws) (table : Table) (w0 : Caller) (seats0 seats : List Seat) (n : ℕ) (call : Call) (r : Reply) (mid : List Entry) (w' : Caller) (seats' : List Seat)
+    → SettlesLine table w0 seats0 seats (entry n call r ∷ []) mid w' seats' → r ≡ reply_to (map_after table.shape (log_of w0 seats0)) call
 reply_is laws table w0 seats0 seats n call r mid w' seats' s = ((laws.goes_on (map_at_opening table) (log_of w0 seats0) (entry n call r)).1.1 (legal_now laws table w0 seats0 seats (entry n call r ∷ []) mid w' seats' s)).1
 
 -- a call with its reply
-module _ (laws : Laws) (table : Table) (w0 : Caller) (seats0 seats : List Seat) (n : ℕ) (call : Call) (r : Reply) (mid : List Entry) (w' : Caller) (seats' : List Seat) (s : SettlesLine table w0 seats0 seats (entry n call r ∷ []) mid w' seats') (kept : map pin_of seats ≡ map pin_of seats0) where
+module _ (laws : Laws) (table : Table) (w0 : Caller) (seats0 seats : List Seat) (n : ℕ) (call : Call) (r : Reply) (mid : List Entry) (w' : Caller) (seats' : List Seat)
+    (s : SettlesLine table w0 seats0 seats (entry n call r ∷ []) mid w' seats') (kept : map pin_of seats ≡ map pin_of seats0) where
   abbrev state : MapState
   state = shown_by table w0 seats0
 
@@ -123,7 +126,8 @@ module _ (laws : Laws) (table : Table) (w0 : Caller) (seats0 seats : List Seat) 
   is = reply_is laws table w0 seats0 seats n call r mid w' seats' s
 
   pub goes_to : shown_by table w' seats' ≡ after_call state call
-  goes_to = shown_now_by laws table w0 seats0 seats (entry n call r ∷ []) mid w' seats' s kept ∙ ap (λ (k : Reply). shown_after table (log_of w0 seats0 ++ entry n call k ∷ []) seats0) is ∙ goes_on laws.puts table (log_of w0 seats0) n call seats0 laws.goes_on
+  goes_to = shown_now_by laws table w0 seats0 seats (entry n call r ∷ []) mid w' seats' s kept ∙ ap (λ (k : Reply). shown_after table (log_of w0 seats0 ++ entry n call k ∷ []) seats0) is
+      ∙ goes_on laws.puts table (log_of w0 seats0) n call seats0 laws.goes_on
 
   pub answers_so : (is_done r && is_full state) ≡ false → answer_call state call ≡ (Ok (answers.Reply r), shown_by table w' seats')
   answers_so none = answered state call (ap (λ (k : Reply). is_done k && is_full state) (sym is) ∙ none)
@@ -133,7 +137,8 @@ module _ (laws : Laws) (table : Table) (w0 : Caller) (seats0 seats : List Seat) 
   answers_quiet quiet = answers_so (ap (λ (b : Bool). b && is_full state) quiet)
 
 -- a call of the writer's that is done, or that found no slot
-module _ (laws : Laws) (table : Table) (w0 : Caller) (seats0 : List Seat) (call : Call) (w : Caller) (w' : Caller) (seats' : List Seat) (alone : IsAlone table w0 seats0) (es : List Entry) (g : Gathered 0 w seats0 w' seats') (s : SettlesLine table w0 seats0 seats0 es g.mid.seen w' seats') where
+module _ (laws : Laws) (table : Table) (w0 : Caller) (seats0 : List Seat) (call : Call) (w : Caller) (w' : Caller) (seats' : List Seat) (alone : IsAlone table w0 seats0) (es : List Entry)
+    (g : Gathered 0 w seats0 w' seats') (s : SettlesLine table w0 seats0 seats0 es g.mid.seen w' seats') where
   abbrev log : List Entry
   log = log_of w0 seats0
 

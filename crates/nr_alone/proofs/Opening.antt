@@ -35,7 +35,8 @@ no_puts : (a n : ℕ) → map (put_number []) (range_with_len a n) ≡ replicate
 no_puts a zero = refl
 no_puts a (suc n) = ap (λ (l : List ℕ). 0 ∷ l) (no_puts (a + 1) n)
 
-module _ (laws : Laws) (shape : Shape) (table : Table) (w : Caller) (readers : List Caller) (new : IsOpened shape table w readers) (some : 0 < shape.readers) (w' : Caller) (seats' : List Seat) (g : Gathered 0 w (map Idle readers) w' seats') where
+module _ (laws : Laws) (shape : Shape) (table : Table) (w : Caller) (readers : List Caller) (new : IsOpened shape table w readers) (some : 0 < shape.readers) (w' : Caller) (seats' : List Seat)
+    (g : Gathered 0 w (map Idle readers) w' seats') where
   abbrev seats : List Seat
   seats = map Idle readers
 

@@ -68,7 +68,8 @@ found_hole (states.Rows n rows) stood at key is = absurd (cc)
 map_same : (m : PartialMap) (key : ℕ) → next m (model.Find key) ≡ m
 map_same m key = λ j. record { bound = m.bound; states = set-get_or m.states key (states.Hole 0) j }
 
-module _ (laws : Laws) (table : Table) (w0 : Caller) (seats0 : List Seat) (alone : IsAlone table w0 seats0) (at : ℕ) (old x : Seat) (low : at < length seats0) (item : old ≡ get_or seats0 at old) (w' : Caller) (seats' : List Seat) (g : Gathered at w0 (set seats0 at x) w' seats') where
+module _ (laws : Laws) (table : Table) (w0 : Caller) (seats0 : List Seat) (alone : IsAlone table w0 seats0) (at : ℕ) (old x : Seat) (low : at < length seats0) (item : old ≡ get_or seats0 at old)
+    (w' : Caller) (seats' : List Seat) (g : Gathered at w0 (set seats0 at x) w' seats') where
   abbrev log : List Entry
   log = log_of w0 seats0
 
@@ -78,7 +79,8 @@ module _ (laws : Laws) (table : Table) (w0 : Caller) (seats0 : List Seat) (alone
   here : (d : Seat) → get_or seats0 at d ≡ old
   here d = get_or_default seats0 at d old low ∙ sym item
 
-  settled_at : (es : List Entry) → AreOf (suc at) es → (caller_in x).table ≡ (caller_in old).table → (caller_in x).number ≡ (caller_in old).number → mine_of x ≡ mine_of old ++ es → SeatHoldsItsPin x → SettlesLine table w0 seats0 (set seats0 at x) es g.mid.seen w' seats'
+  settled_at : (es : List Entry) → AreOf (suc at) es → (caller_in x).table ≡ (caller_in old).table → (caller_in x).number ≡ (caller_in old).number → mine_of x ≡ mine_of old ++ es → SeatHoldsItsPin x
+      → SettlesLine table w0 seats0 (set seats0 at x) es g.mid.seen w' seats'
   settled_at es are t n m fits = settled laws table w0 seats0 w0 (set seats0 at x) at es w' seats' alone.stands
       (reader_line table w0 seats0 alone es at x low are (t ∙ ap (λ (s : Seat). (caller_in s).table) (sym (here x))) (n ∙ ap (λ (s : Seat). (caller_in s).number) (sym (here x))) (m ∙ ap (λ (s : Seat). mine_of s ++ es) (sym (here x))) fits) g
 
@@ -114,7 +116,8 @@ module _ (laws : Laws) (table : Table) (w0 : Caller) (seats0 : List Seat) (alone
       )
 
   -- the find of a pin leaves all but the pins
-  found : (heard : List Entry) (key : ℕ) (r : Reply) (pins' : List (Option Pin)) → Calls heard (model.Find key) r (caller_in old) (caller_in x) → SeatHoldsItsPin x → map pin_of (set seats0 at x) ≡ pins' → shown_by table w' seats' ≡ record stood { pins = pins' }
+  found : (heard : List Entry) (key : ℕ) (r : Reply) (pins' : List (Option Pin)) → Calls heard (model.Find key) r (caller_in old) (caller_in x) → SeatHoldsItsPin x
+      → map pin_of (set seats0 at x) ≡ pins' → shown_by table w' seats' ≡ record stood { pins = pins' }
   found heard key r pins' made fits kept =
       let s = settled_call heard (model.Find key) r made fits in let e : Entry = entry (suc at) (model.Find key) r in
       let maps : map_after table.shape (log ++ e ∷ []) ≡ map_after table.shape log = (laws.goes_on (map_at_opening table) log e).0 ∙ map_same (map_after table.shape log) key in

@@ -132,7 +132,8 @@ tables_on t xs ys e own at other low = let low' : at < length xs = omega (arith,
     ap (λ (s : Still). s.table) (same_at ys xs e at other other low) ∙ own at other low'
 
 -- a round of all seats, after a gather of the first one
-pub round_over : (w : Caller) (seats : List Seat) (at : ℕ) (w1 : Caller) (old s1 : Seat) (w' : Caller) (seats' : List Seat) → at < length seats → old ≡ get_or seats at old → GathersSeat w old w1 s1 → Round w1 (set seats at s1) w' seats' → Gathered at w seats w' seats'
+pub round_over : (w : Caller) (seats : List Seat) (at : ℕ) (w1 : Caller) (old s1 : Seat) (w' : Caller) (seats' : List Seat) → at < length seats → old ≡ get_or seats at old → GathersSeat w old w1 s1
+    → Round w1 (set seats at s1) w' seats' → Gathered at w seats w' seats'
 round_over w seats at w1 old s1 w' seats' low item g r =
     let same_place : (other : Seat) → old ≡ get_or seats at other = λ other. item ∙ get_or_default seats at old other low in
     let size : length (set seats at s1) ≡ length seats = length-set seats at s1 in

@@ -28,7 +28,8 @@ beyond_it [] at past = refl
 beyond_it (x ∷ xs) zero past = absurd (omega arith)
 beyond_it (x ∷ xs) (suc at) past = beyond_it xs at (omega arith)
 
-module _ (laws : Laws) (table : Table) (w0 : Caller) (seats0 : List Seat) (w : Caller) (seats : List Seat) (first : ℕ) (es : List Entry) (w' : Caller) (seats' : List Seat) (alone : ReadyForRound table w0 seats0) (line : IsLine table w0 seats0 w seats first es) (g : Gathered first w seats w' seats') where
+module _ (laws : Laws) (table : Table) (w0 : Caller) (seats0 : List Seat) (w : Caller) (seats : List Seat) (first : ℕ) (es : List Entry) (w' : Caller) (seats' : List Seat)
+    (alone : ReadyForRound table w0 seats0) (line : IsLine table w0 seats0 w seats first es) (g : Gathered first w seats w' seats') where
   abbrev log : List Entry
   log = log_of w0 seats0
 
@@ -84,7 +85,8 @@ module _ (laws : Laws) (table : Table) (w0 : Caller) (seats0 : List Seat) (w : C
   mines = same_map (λ (s : Still). s.mine) seats' seats g.round.same
 
   just : HasJust (log ++ es) w' seats'
-  just caller = ap (λ (l : List Entry). entries_of l caller) (sym mid_is) ∙ now caller ∙ ap (λ (m : List Entry). calls_of m (map mine_of seats) caller) (sym (g.round.stays.mine ∙ g.stays.mine)) ∙ ap (λ (m : List (List Entry)). calls_of w'.mine m caller) (sym mines)
+  just caller = ap (λ (l : List Entry). entries_of l caller) (sym mid_is) ∙ now caller ∙ ap (λ (m : List Entry). calls_of m (map mine_of seats) caller) (sym (g.round.stays.mine ∙ g.stays.mine))
+      ∙ ap (λ (m : List (List Entry)). calls_of w'.mine m caller) (sym mines)
 
   own : w'.table ≡ table
   own = g.round.stays.only.table ∙ table_is

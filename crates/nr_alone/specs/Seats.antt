@@ -92,6 +92,7 @@ Unpins old new (Err refusals.NotHolding) = (new ≡ old) × (pin_of old ≡ None
 
 -- steps that read the pinned rows
 abbrev pub ShowsPin : Seat → Seat → Result Answer Refusal → Type 0
-ShowsPin old new (Ok answer) = (pin : Pin) × (pin_of old ≡ Some pin) × (answer ≡ answers.Reply (reply.Rows pin.rows)) × (steps : ℕ) × Rests steps (caller_in old) (caller_in new) × (pin_of new ≡ pin_of old) × ((caller_in new).holds ≡ (caller_in old).holds)
+ShowsPin old new (Ok answer) = (pin : Pin) × (pin_of old ≡ Some pin) × (answer ≡ answers.Reply (reply.Rows pin.rows)) × (steps : ℕ) × Rests steps (caller_in old) (caller_in new)
+    × (pin_of new ≡ pin_of old) × ((caller_in new).holds ≡ (caller_in old).holds)
 ShowsPin old new (Err refusals.Holding) = ⊥
 ShowsPin old new (Err refusals.NotHolding) = (new ≡ old) × (pin_of old ≡ None)

@@ -45,7 +45,8 @@ module _ (t : Table) (seed gets : ℕ) (joined : Joined) (e : Ended t seed gets 
       let size : length (map reader_of joined.outcomes.items) ≡ length joined.outcomes.items = length-map joined.outcomes.items reader_of in
       record {
         count_is = omega (arith, size, same, e.opened.count);
-        numbers = λ at other low. same_numbers seed gets e.readers joined.outcomes.items e.served same at other (omega (arith, low, size, same)) ∙ numbered t e.readers t.shape.readers e.opened.count e.opened.reads at other (omega (arith, low, size, same));
+        numbers = λ at other low. same_numbers seed gets e.readers joined.outcomes.items e.served same at other (omega (arith, low, size, same))
+            ∙ numbered t e.readers t.shape.readers e.opened.count e.opened.reads at other (omega (arith, low, size, same));
       }
 
   pub few_answered : (readers : ℕ) → t.shape.readers ≡ readers → answered_in joined.outcomes.items ≤ readers * gets

@@ -24,12 +24,14 @@ all_stay : (test : Entry → Bool) (w w' : Caller) (rs rs' : List Caller) → St
 all_stay test w w' rs rs' stays each = let own : count_by test w'.mine ≡ count_by test w.mine = ap (count_by test) stays.mine in omega (arith, own, total_stays test rs rs' each)
 
 -- the count of fills is below its last number, since the sends are
-pub exact : (w w' : Caller) (rs rs' : List Caller) (sends fills asked : ℕ) → Balances w' rs' asked → Stays w w' → StaysEach rs rs' → of_all is_sent w rs ≡ sends → fills ≡ capped (of_all is_fill w rs) → of_all is_cancel w rs ≡ 0 → sends < 18446744073709551616 → fills ≡ of_all is_fill w rs
+pub exact : (w w' : Caller) (rs rs' : List Caller) (sends fills asked : ℕ) → Balances w' rs' asked → Stays w w' → StaysEach rs rs' → of_all is_sent w rs ≡ sends → fills ≡ capped (of_all is_fill w rs)
+    → of_all is_cancel w rs ≡ 0 → sends < 18446744073709551616 → fills ≡ of_all is_fill w rs
 exact w w' rs rs' sends fills asked balance stays each sent filled cancelled low =
     omega (arith, balance, all_stay is_sent w w' rs rs' stays each, all_stay is_fill w w' rs rs' stays each, all_stay is_cancel w w' rs rs' stays each, sent, filled, cancelled, low)
 
 -- what was counted before the gathers is what balances after them
-pub balanced : (w w' : Caller) (rs rs' : List Caller) (sends fills asked : ℕ) → Balances w' rs' asked → Stays w w' → StaysEach rs rs' → of_all is_sent w rs ≡ sends → fills ≡ of_all is_fill w rs → of_all is_cancel w rs ≡ 0 → sends ≡ fills + asked
+pub balanced : (w w' : Caller) (rs rs' : List Caller) (sends fills asked : ℕ) → Balances w' rs' asked → Stays w w' → StaysEach rs rs' → of_all is_sent w rs ≡ sends → fills ≡ of_all is_fill w rs
+    → of_all is_cancel w rs ≡ 0 → sends ≡ fills + asked
 balanced w w' rs rs' sends fills asked balance stays each sent filled cancelled =
     omega (arith, balance, all_stay is_sent w w' rs rs' stays each, all_stay is_fill w w' rs rs' stays each, all_stay is_cancel w w' rs rs' stays each, sent, filled, cancelled)
 

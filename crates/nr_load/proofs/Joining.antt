@@ -20,7 +20,8 @@ joined_count (h ∷ hs) [] kept = absurd kept
 joined_count (h ∷ hs) (o ∷ os) kept = omega (arith, joined_count hs os kept.1)
 
 -- those that were started so far
-pub started : (seed gets : ℕ) (readers rest : List Caller) (handles : List (PromisedHandle Outcome Serving)) → ((more : List (PromisedHandle Outcome Serving)) → CarriesFirst seed gets rest more → CarriesFirst seed gets readers (handles ++ more)) → CarriesFirst seed gets readers handles
+pub started : (seed gets : ℕ) (readers rest : List Caller) (handles : List (PromisedHandle Outcome Serving))
+    → ((more : List (PromisedHandle Outcome Serving)) → CarriesFirst seed gets rest more → CarriesFirst seed gets readers (handles ++ more)) → CarriesFirst seed gets readers handles
 started seed gets readers rest handles f = subst (λ (hs : List (PromisedHandle Outcome Serving)). CarriesFirst seed gets readers hs) (append-nil handles) (f [] tt)
 
 pub served : (seed gets : ℕ) (readers : List Caller) (handles : List (PromisedHandle Outcome Serving)) (outcomes : List Outcome) → CarriesFirst seed gets readers handles → KeptBy handles outcomes → ServesFirst seed gets readers outcomes

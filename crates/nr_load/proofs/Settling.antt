@@ -25,7 +25,8 @@ IsNew reader = reader.mine ≡ []
 pub all_new : (t : Table) (rs : List Caller) (count : ℕ) → length rs ≡ count → ((place : ℕ) → place < count → slice_get rs place ≡ Some (newcomer t (place + 1) no_marks)) → All IsNew rs
 all_new t rs count size new at other low = ap (λ (r : Caller). r.mine) (get_or_from_slice_get rs at _ other (new at (omega (arith, size, low))))
 
-pub numbered : (t : Table) (rs : List Caller) (count : ℕ) → length rs ≡ count → ((place : ℕ) → place < count → slice_get rs place ≡ Some (newcomer t (place + 1) no_marks)) → (at : ℕ) (other : Caller) → at < length rs → (get_or rs at other).number ≡ at + 1
+pub numbered : (t : Table) (rs : List Caller) (count : ℕ) → length rs ≡ count → ((place : ℕ) → place < count → slice_get rs place ≡ Some (newcomer t (place + 1) no_marks)) → (at : ℕ) (other : Caller)
+    → at < length rs → (get_or rs at other).number ≡ at + 1
 numbered t rs count size new at other low = ap (λ (r : Caller). r.number) (get_or_from_slice_get rs at _ other (new at (omega (arith, size, low))))
 
 -- all that a new token did is what it gained
@@ -63,7 +64,8 @@ all_own seed gets t [] (o ∷ os) own serves = absurd serves
 all_own seed gets t (r ∷ rs) (o ∷ os) own serves =
     All-cons (λ (x : Caller). x.table ≡ t) o.reader (map reader_of os) (serves.0.gained.table ∙ All-head (λ (x : Caller). x.table ≡ t) r rs own) (all_own seed gets t rs os (All-tail (λ (x : Caller). x.table ≡ t) r rs own) serves.1)
 
-pub same_numbers : (seed gets : ℕ) (rs : List Caller) (os : List Outcome) → ServesFirst seed gets rs os → length os ≡ length rs → (at : ℕ) (other : Caller) → at < length rs → (get_or (map reader_of os) at other).number ≡ (get_or rs at other).number
+pub same_numbers : (seed gets : ℕ) (rs : List Caller) (os : List Outcome) → ServesFirst seed gets rs os → length os ≡ length rs → (at : ℕ) (other : Caller) → at < length rs
+    → (get_or (map reader_of os) at other).number ≡ (get_or rs at other).number
 same_numbers seed gets [] os serves same at other low = absurd (omega (arith, low))
 same_numbers seed gets (r ∷ rs) [] serves same at other low = absurd (omega (arith, same))
 same_numbers seed gets (r ∷ rs) (o ∷ os) serves same zero other low = serves.0.gained.number

@@ -77,7 +77,8 @@ missed_more key n a b c before rows request missed once =
     }
 
 -- a last find
-found_last : (key steps : ℕ) (a b c : Hands) (rows : List Row) (requests : List Requested) → Moves (length (misses a.reader.number key requests)) a (misses a.reader.number key requests) b → Moves steps b (found b.reader.number key (reply.Rows rows) ∷ []) c
+found_last : (key steps : ℕ) (a b c : Hands) (rows : List Row) (requests : List Requested) → Moves (length (misses a.reader.number key requests)) a (misses a.reader.number key requests) b
+    → Moves steps b (found b.reader.number key (reply.Rows rows) ∷ []) c
     → Moves (length (misses a.reader.number key requests) + steps) a (misses a.reader.number key requests ++ found a.reader.number key (reply.Rows rows) ∷ []) c
 found_last key steps a b c rows requests missed last =
     moves_both (length (misses a.reader.number key requests)) steps _ a (misses a.reader.number key requests) b (found a.reader.number key (reply.Rows rows) ∷ []) c refl missed

@@ -26,7 +26,8 @@ posts_both k₀ k₁ k₂ p₀ p₁ p₂ s₁ s₂ one two = record {
   same = record { queue = two.same.queue ∙ one.same.queue; keys = two.same.keys ∙ one.same.keys; number = two.same.number ∙ one.same.number };
   gain = one.gain ++ two.gain;
   posted = two.posted ∙ ap (λ (l : List Upquery). l ++ two.gain) one.posted ∙ append_assoc p₀.posted one.gain two.gain;
-  all = sym (append_assoc (kept_upqueries k₀) s₁ s₂) ∙ ap (λ (l : List Upquery). l ++ s₂) one.all ∙ append_assoc one.gain (kept_upqueries k₁) s₂ ∙ ap (λ (l : List Upquery). one.gain ++ l) two.all ∙ sym (append_assoc one.gain two.gain (kept_upqueries k₂));
+  all = sym (append_assoc (kept_upqueries k₀) s₁ s₂) ∙ ap (λ (l : List Upquery). l ++ s₂) one.all ∙ append_assoc one.gain (kept_upqueries k₁) s₂ ∙ ap (λ (l : List Upquery). one.gain ++ l) two.all
+      ∙ sym (append_assoc one.gain two.gain (kept_upqueries k₂));
 }
 
 pub moves_both : (m n sum : ℕ) (a : Hands) (es : List Entry) (b : Hands) (fs : List Entry) (c : Hands) → sum ≡ m + n → Moves m a es b → Moves n b fs c → Moves sum a (es ++ fs) c

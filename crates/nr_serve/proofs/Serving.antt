@@ -17,7 +17,9 @@ serves_on map queue opened old new steps entries serving ready moves =
     let before = opened.reader.mine in
     let begins = serving.begins in
     let mine = moves.makes.mine in
-    let grown : since opened new ≡ since opened old ++ entries = ap (λ (l : List Entry). drop (length before) l) (mine ∙ ap (λ (l : List Entry). l ++ entries) (sym begins) ∙ append_assoc before (since opened old) entries) ∙ drop-append_seam before (since opened old ++ entries) in
+    let grown : since opened new ≡ since opened old ++ entries =
+        ap (λ (l : List Entry). drop (length before) l) (mine ∙ ap (λ (l : List Entry). l ++ entries) (sym begins) ∙ append_assoc before (since opened old) entries)
+        ∙ drop-append_seam before (since opened old ++ entries) in
     let count : length (sent (since opened new)) ≡ length (sent (since opened old)) + length (sent entries) =
     ap (λ (l : List Entry). length (sent l)) grown ∙ ap (λ (l : List Upquery). length l) (sent-append (since opened old) entries) ∙ length-append (sent (since opened old)) (sent entries) in
     record {
@@ -27,7 +29,8 @@ serves_on map queue opened old new steps entries serving ready moves =
     }
 
 -- so it does where its hands were taken out and other ones put back
-pub stays_serving : (map : Table) (queue : Queue) (opened old new : Hands) (before after : Option Hands) (steps : ℕ) (entries : List Entry) → before ≡ Some old → after ≡ Some new → IsServing map queue opened (unwrap_or before opened) → IsReady map queue new → Moves steps old entries new
+pub stays_serving : (map : Table) (queue : Queue) (opened old new : Hands) (before after : Option Hands) (steps : ℕ) (entries : List Entry) → before ≡ Some old → after ≡ Some new
+    → IsServing map queue opened (unwrap_or before opened) → IsReady map queue new → Moves steps old entries new
     → IsSome after × IsServing map queue opened (unwrap_or after opened)
 stays_serving map queue opened old new before after steps entries was is serving ready moves =
     let old_serving = subst (λ (hands : Option Hands). IsServing map queue opened (unwrap_or hands opened)) was serving in

@@ -27,12 +27,14 @@ finds steps key a b answer reader posted gains =
     (subst (λ (by : ℕ). Moves steps b (found by key answer ∷ []) (record b { reader = reader })) number
     (record { makes = makes_by_gains steps b.reader (call.Find key) answer reader gains; posts = posts_none b.kept b.poster; sends = omega (arith, posted.sends) }))
 
-misses_once : (key : ℕ) (a b c : Hands) (reader : Caller) (request : Requested) → Moves 0 a [] b → Gains 1 b.reader (call.Find key) reply.Hole reader → Moves (length (requested reader.number key request)) (record b { reader = reader }) (requested reader.number key request) c
+misses_once : (key : ℕ) (a b c : Hands) (reader : Caller) (request : Requested) → Moves 0 a [] b → Gains 1 b.reader (call.Find key) reply.Hole reader
+    → Moves (length (requested reader.number key request)) (record b { reader = reader }) (requested reader.number key request) c
     → Moves (length (miss a.reader.number key request)) a (miss a.reader.number key request) c
 misses_once key a b c reader request posted gains asked =
     let number : reader.number ≡ a.reader.number = gains.number ∙ posted.makes.number in
     let asked' = subst (λ (by : ℕ). Moves (length (requested by key request)) (record b { reader = reader }) (requested by key request) c) number asked in
-    moves_both 1 (length (requested a.reader.number key request)) _ a (found a.reader.number key reply.Hole ∷ []) (record b { reader = reader }) (requested a.reader.number key request) c (omega arith) (finds 1 key a b reply.Hole reader posted gains) asked'
+    moves_both 1 (length (requested a.reader.number key request)) _ a (found a.reader.number key reply.Hole ∷ []) (record b { reader = reader }) (requested a.reader.number key request) c (omega arith)
+        (finds 1 key a b reply.Hole reader posted gains) asked'
 
 -- a request fits the ticket that was kept before the post, too
 fits_once : (before mid after : Option Request) (request : Requested) → RequestsFit before [] mid → RequestsFit mid (request ∷ []) after → RequestsFit before (request ∷ []) after
@@ -45,7 +47,8 @@ fits_once before mid after Waiting first then = record { due = refl; kept = then
 fits_once before mid after Filled first then = record { due = refl; kept = then.kept }
 
 -- a try that finds a hole: the post, the find, and the request with what it came from
-pub tries_hole : (key : ℕ) (a b from c : Hands) (reader : Caller) (request : Requested) (rows : List Row) → Moves 0 a [] b → RequestsFit a.kept [] b.kept → Gains 1 b.reader (call.Find key) reply.Hole reader → from ≡ record b { reader = reader }
+pub tries_hole : (key : ℕ) (a b from c : Hands) (reader : Caller) (request : Requested) (rows : List Row) → Moves 0 a [] b → RequestsFit a.kept [] b.kept
+    → Gains 1 b.reader (call.Find key) reply.Hole reader → from ≡ record b { reader = reader }
     → Moves (length (requested from.reader.number key request)) from (requested from.reader.number key request) c → RequestsFit from.kept (request ∷ []) c.kept → TriesOnce key a rows (tried.Missed request) c rows
 tries_hole key a b from c reader request rows posted first gains is asked then = (
   misses_once key a b c reader request posted gains (subst (λ (hands : Hands). Moves (length (requested hands.reader.number key request)) hands (requested hands.reader.number key request) c) is asked),

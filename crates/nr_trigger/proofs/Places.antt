@@ -17,7 +17,8 @@ inside-or-last (x ∷ l) last a zero there = inl there
 inside-or-last (x ∷ l) last a (suc place) there = elim (inside-or-last l last a place there) [ inl h ↦ inl h | inr h ↦ inr (ap suc h.0, h.1) ]
 
 -- what holds of the changed element, and of each other one, holds of each
-pub each-after-change : {A : Type 0} (F : ℕ → A → Type 0) (l : List A) (at : ℕ) (new : A) → F at new → ((place : ℕ) (a : A) → place ≢ at → get_elem? l place ≡ some a → F place a) → (place : ℕ) (a : A) → get_elem? (set l at new) place ≡ some a → F place a
+pub each-after-change : {A : Type 0} (F : ℕ → A → Type 0) (l : List A) (at : ℕ) (new : A) → F at new → ((place : ℕ) (a : A) → place ≢ at → get_elem? l place ≡ some a → F place a) → (place : ℕ) (a : A)
+    → get_elem? (set l at new) place ≡ some a → F place a
 each-after-change {A} F l at new changed others place a there =
     ⊎_elim (λ (h : (place ≡ at) × (new ≡ a)). subst (λ (at : ℕ × A). F at.0 at.1) (λ i. (sym h.0 i, h.1 i)) changed)
     (λ (h : (place ≢ at) × (get_elem? l place ≡ some a)). others place a h.0 h.1) (at_set l at place new a there)

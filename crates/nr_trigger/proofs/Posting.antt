@@ -11,7 +11,8 @@ use Rattle.nr_trigger.proofs.Parts.{own-part-gains, other-part-stays, keys-stay-
 use Rattle.nr_trigger.proofs.Places.{each-after-change, place-is-inside}
 
 -- another pass than the poster's fits a post more
-others-fit-a-post-more : (posted taken : List Post) (keys passes place at : ℕ) (post : Post) (view : PassView) → place ≢ at → at ≡ post.poster + 2 → at < passes → KnowsItsPart posted taken keys passes place view → KnowsItsPart (posted ++ post ∷ []) taken keys passes place view
+others-fit-a-post-more : (posted taken : List Post) (keys passes place at : ℕ) (post : Post) (view : PassView) → place ≢ at → at ≡ post.poster + 2 → at < passes
+    → KnowsItsPart posted taken keys passes place view → KnowsItsPart (posted ++ post ∷ []) taken keys passes place view
 others-fit-a-post-more posted taken keys passes place at post Opener other spot inside fits = absurd (let one = fits.1 in omega (arith, one, inside, spot))
 others-fit-a-post-more posted taken keys passes place at post Spare other spot inside fits = fits
 others-fit-a-post-more posted taken keys passes place at post (Taker taking) other spot inside fits = fits

@@ -56,5 +56,7 @@ returns g c =
     elim c.match-next.branch [
       | in-None w ↦ flows c.args.writer c.loop.flow.writer c.end-writer.result.0 c.match-next.fills i.count _ i.gained (w.fills-is ∙ i.fills) (c.end-writer.ensures.writer ∙ ap (λ f. f.writer) w.flow-is)
       | in-Some+then-is_last w ↦ let t = w.turn_once-turned.ensures in
-          flows c.args.writer w.turn_once-turned.new.flow.writer c.end-writer.result.0 c.match-next.fills (i.count + t.gained.0) _ (goes_on c.args.writer c.loop.flow.writer _ c.loop.flow.map i.count t.gained.0 i.map i.gained t.gained.1) (omega (arith, i.fills, t.gained.2, w.fills-is)) (c.end-writer.ensures.writer ∙ ap (λ f. f.writer) w.flow-is)
+          flows c.args.writer w.turn_once-turned.new.flow.writer c.end-writer.result.0 c.match-next.fills (i.count + t.gained.0) _
+          (goes_on c.args.writer c.loop.flow.writer _ c.loop.flow.map i.count t.gained.0 i.map i.gained t.gained.1) (omega (arith, i.fills, t.gained.2, w.fills-is))
+          (c.end-writer.ensures.writer ∙ ap (λ f. f.writer) w.flow-is)
     ]

@@ -15,7 +15,8 @@ use Rattle.nr_load.proofs.load.settle.Goals as goal
 pub collect-readers-requires-clause-room : goal.collect-readers-requires-clause-room
 collect-readers-requires-clause-room c =
     let e = c.requires.ended in
-    (omega (arith, served_few c.args.plan.now.seed c.args.plan.now.gets e.readers c.args.joined.outcomes.items e.served, e.opened.count, ap (λ (shape : Shape). shape.readers) c.requires.sizes, c.requires.room.0, c.args.joined.outcomes.ok), c.requires.room.1)
+    (omega (arith, served_few c.args.plan.now.seed c.args.plan.now.gets e.readers c.args.joined.outcomes.items e.served, e.opened.count, ap (λ (shape : Shape). shape.readers) c.requires.sizes,
+        c.requires.room.0, c.args.joined.outcomes.ok), c.requires.room.1)
 
 pub collect-readers-requires-clause-made : goal.collect-readers-requires-clause-made
 collect-readers-requires-clause-made c =
@@ -45,10 +46,12 @@ pub account-asked-requires-clause-some : goal.account-asked-requires-clause-some
 account-asked-requires-clause-some c = subst (λ (shape : Shape). 0 < shape.readers) (sym c.requires.sizes) c.requires.readers.0
 
 pub account-asked-requires-clause-sends : goal.account-asked-requires-clause-sends
-account-asked-requires-clause-sends c = subst (λ (rs : List Caller). of_all is_sent c.args.joined.flowed.writer rs ≡ c.collect-readers.result.0.sends) (sym c.collect-readers.ensures.readers) (all_sent _ _ _ c.args.joined c.requires.ended ∙ sym c.collect-readers.ensures.sends)
+account-asked-requires-clause-sends c = subst (λ (rs : List Caller). of_all is_sent c.args.joined.flowed.writer rs ≡ c.collect-readers.result.0.sends) (sym c.collect-readers.ensures.readers)
+    (all_sent _ _ _ c.args.joined c.requires.ended ∙ sym c.collect-readers.ensures.sends)
 
 pub account-asked-requires-clause-fills : goal.account-asked-requires-clause-fills
-account-asked-requires-clause-fills c = subst (λ (rs : List Caller). c.args.joined.flowed.fills ≡ capped (of_all is_fill c.args.joined.flowed.writer rs)) (sym c.collect-readers.ensures.readers) (all_filled _ _ _ c.args.joined c.requires.ended)
+account-asked-requires-clause-fills c = subst (λ (rs : List Caller). c.args.joined.flowed.fills ≡ capped (of_all is_fill c.args.joined.flowed.writer rs)) (sym c.collect-readers.ensures.readers)
+    (all_filled _ _ _ c.args.joined c.requires.ended)
 
 pub account-asked-requires-clause-cancels : goal.account-asked-requires-clause-cancels
 account-asked-requires-clause-cancels c = subst (λ (rs : List Caller). of_all is_cancel c.args.joined.flowed.writer rs ≡ 0) (sym c.collect-readers.ensures.readers) (all_cancelled _ _ _ c.args.joined c.requires.ended)

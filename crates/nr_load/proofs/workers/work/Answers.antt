@@ -32,7 +32,8 @@ returns g c =
     let sends : c.sends-sends.result ≡ few.count = omega (arith, c.sends-sends.ensures, counted, few.low, load.ensures.few.0, c.args.shared.now.gets) in
     record {
       works = record { old = old; new = new; begins = first; empty = ap (λ (hands : Hands). hands.kept) c.open-client.ensures.hands; ends = sym c.end-reader.ensures.reader; generator = load.new.draws.generator; works = works };
-      gained = subst (λ (r : Caller). Gained c.args.reader.table.shape.keys c.args.reader r c.sends-sends.result 0) (sym c.end-reader.ensures.reader) (subst (λ (n : ℕ). Gained c.args.reader.table.shape.keys c.args.reader new.reader n 0) (sym sends) gained);
+      gained = subst (λ (r : Caller). Gained c.args.reader.table.shape.keys c.args.reader r c.sends-sends.result 0) (sym c.end-reader.ensures.reader)
+          (subst (λ (n : ℕ). Gained c.args.reader.table.shape.keys c.args.reader new.reader n 0) (sym sends) gained);
       few = omega (arith, sends, few.low, load.ensures.few.0);
       made = load.ensures.few.0;
       answered = omega (arith, load.ensures.few.0, load.ensures.few.1);

@@ -1,18 +1,13 @@
-use Rattle.std.proofs.Common.{◌≡◌, ◌<◌, List, length, set, sym, ap, ◌∙◌, subst, arith, Ok, Result}
-use Rattle.std.proofs.lemmas.List.{with_items_is}
-use Rattle.std.specs.Vec.{with_item, with_items}
-use Rattle.nr_board.specs.Callers.{Caller}
+use Rattle.std.proofs.Common.{◌<◌, sym, subst, arith, Ok, Result}
 use Rattle.nr_model.specs.Maps.{key_count}
 use Rattle.nr_model.specs.declared.calls.Call.TheVariants as model
 use Rattle.nr_alone.specs.Answers.{Answer}
 use Rattle.nr_alone.specs.declared.answer.Refusal.{Refusal}
-use Rattle.nr_alone.specs.declared.seat.Seat.{Seat}
-use Rattle.nr_alone.specs.Alone.{IsAlone, log_of, shown_by}
+use Rattle.nr_alone.specs.Alone.{log_of}
 use Rattle.nr_alone.specs.MapState.{MapState, answer_of_reader}
-use Rattle.nr_alone.specs.Rounds.{Gathered}
 use Rattle.nr_alone.specs.Seats.{MakesCall}
-use Rattle.nr_alone.proofs.ReaderLines.{many_pins, says_call}
-use Rattle.nr_alone.proofs.Rounds.{same_length}
+use Rattle.nr_alone.proofs.AfterLine.{alone_here, answers_here, place_here, round_here}
+use Rattle.nr_alone.proofs.ReaderLines.{says_call}
 use Rattle.nr_alone.proofs.Sizes.{keys_are}
 use Rattle.nr_alone.proofs.alone.Alone.find.Goals as goal
 
@@ -23,23 +18,22 @@ find_at-requires-clause-key c =
 
 pub invariant_of-self-2 : goal.invariant_of-self-2
 invariant_of-self-2 c =
-    let seats = c.self.inside.seats in let w0 = c.self.inside.writer in let at = c.args.at in let w' = c.gather_round.new.writer in let seats' = c.gather_round.new.seats in
-    let old = c.index_mut.result.now in let x = c.find_at.new.seat in
-    let g : Gathered at w0 (set seats.items at x) w' seats' = subst (λ (l : List Seat). Gathered at w0 l w' seats') c.as_mut_slice.ensures.value (subst (λ (w : Caller). Gathered at w c.as_mut_slice.result.now w' seats') c.find_at.ensures.writer c.gather_round.ensures) in
-    let size : length seats' ≡ (with_item seats at x).len = same_length seats' (set seats.items at x) g.round.same ∙ ap (λ (l : List Seat). length l) (sym c.as_mut_slice.ensures.value) ∙ c.as_mut_slice.ensures.len in
-    let low : at < length seats.items = let few = subst (λ (s : MapState). at < length s.pins) (sym c.self.view_is) c.requires.reader in omega (arith, many_pins seats.items) in
-    let made : MakesCall c.self.inside.writer.seen (model.Find c.args.key) old x (Ok c.in_ok-answer.answer) = subst (λ (r : Result Answer Refusal). MakesCall c.self.inside.writer.seen (model.Find c.args.key) old x r) c.in_ok-answer.was c.find_at.ensures.made in
-    subst (λ (l : List Seat). IsAlone c.self.inside.map w' l) (sym (with_items_is (with_item seats at x) seats' size))
-    (says_call c.laws.ensures c.self.inside.map w0 seats.items c.self.invariant at old x low c.index_mut.ensures.value w' seats' g c.self.inside.writer.seen (model.Find c.args.key) c.in_ok-answer.answer made).0
+    let map = c.self.inside.map in let w0 = c.self.inside.writer in let seats = c.self.inside.seats in let at = c.args.at in
+    let w' = c.gather_round.new.writer in let seats' = c.gather_round.new.seats in let items = c.as_mut_slice.ensures.value in
+    let old = c.index_mut.result.now in let x = c.find_at.new.seat in let call = model.Find c.args.key in let answer = c.in_ok-answer.answer in
+    let g = round_here map w0 seats at x w' seats' _ items _ c.find_at.ensures.writer c.gather_round.ensures in
+    let low = place_here map w0 seats at _ c.self.view_is c.requires.reader in
+    let made : MakesCall c.self.inside.writer.seen call old x (Ok answer) = subst (λ (r : Result Answer Refusal). MakesCall c.self.inside.writer.seen call old x r) c.in_ok-answer.was c.find_at.ensures.made in
+    let said = says_call c.laws.ensures map w0 seats.items c.self.invariant at old x low c.index_mut.ensures.value w' seats' g c.self.inside.writer.seen call answer made in
+    alone_here map w0 seats at x w' seats' _ items c.as_mut_slice.ensures.len g said.0
 
 pub returns : goal.returns
 returns c =
-    let seats = c.self.inside.seats in let w0 = c.self.inside.writer in let at = c.args.at in let w' = c.gather_round.new.writer in let seats' = c.gather_round.new.seats in
-    let old = c.index_mut.result.now in let x = c.find_at.new.seat in
-    let g : Gathered at w0 (set seats.items at x) w' seats' = subst (λ (l : List Seat). Gathered at w0 l w' seats') c.as_mut_slice.ensures.value (subst (λ (w : Caller). Gathered at w c.as_mut_slice.result.now w' seats') c.find_at.ensures.writer c.gather_round.ensures) in
-    let size : length seats' ≡ (with_item seats at x).len = same_length seats' (set seats.items at x) g.round.same ∙ ap (λ (l : List Seat). length l) (sym c.as_mut_slice.ensures.value) ∙ c.as_mut_slice.ensures.len in
-    let low : at < length seats.items = let few = subst (λ (s : MapState). at < length s.pins) (sym c.self.view_is) c.requires.reader in omega (arith, many_pins seats.items) in
-    let made : MakesCall c.self.inside.writer.seen (model.Find c.args.key) old x (Ok c.in_ok-answer.answer) = subst (λ (r : Result Answer Refusal). MakesCall c.self.inside.writer.seen (model.Find c.args.key) old x r) c.in_ok-answer.was c.find_at.ensures.made in
-    subst (λ (s : MapState). answer_of_reader s at (model.Find c.args.key) ≡ (Ok c.in_ok-answer.answer, shown_by c.self.inside.map w' (with_items (with_item seats at x) seats').items)) c.self.view_is
-    (subst (λ (l : List Seat). answer_of_reader (shown_by c.self.inside.map w0 seats.items) at (model.Find c.args.key) ≡ (Ok c.in_ok-answer.answer, shown_by c.self.inside.map w' l)) (sym (with_items_is (with_item seats at x) seats' size))
-    (says_call c.laws.ensures c.self.inside.map w0 seats.items c.self.invariant at old x low c.index_mut.ensures.value w' seats' g c.self.inside.writer.seen (model.Find c.args.key) c.in_ok-answer.answer made).1)
+    let map = c.self.inside.map in let w0 = c.self.inside.writer in let seats = c.self.inside.seats in let at = c.args.at in
+    let w' = c.gather_round.new.writer in let seats' = c.gather_round.new.seats in let items = c.as_mut_slice.ensures.value in
+    let old = c.index_mut.result.now in let x = c.find_at.new.seat in let call = model.Find c.args.key in let answer = c.in_ok-answer.answer in
+    let g = round_here map w0 seats at x w' seats' _ items _ c.find_at.ensures.writer c.gather_round.ensures in
+    let low = place_here map w0 seats at _ c.self.view_is c.requires.reader in
+    let made : MakesCall c.self.inside.writer.seen call old x (Ok answer) = subst (λ (r : Result Answer Refusal). MakesCall c.self.inside.writer.seen call old x r) c.in_ok-answer.was c.find_at.ensures.made in
+    let said = says_call c.laws.ensures map w0 seats.items c.self.invariant at old x low c.index_mut.ensures.value w' seats' g c.self.inside.writer.seen call answer made in
+    answers_here map w0 seats at x w' seats' _ items c.as_mut_slice.ensures.len g (λ (s : MapState). answer_of_reader s at call) _ answer c.self.view_is said.1

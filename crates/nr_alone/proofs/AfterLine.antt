@@ -1,0 +1,35 @@
+-- What a reader's line leaves: the seats that its round gathered lie in the map's list again, and the map shows what the line was answered.
+use Rattle.std.proofs.Common.{◌≡◌, ◌<◌, ℕ, List, length, set, sym, ap, ◌∙◌, subst, arith, Vec, Ok}
+use Rattle.std.proofs.lemmas.List.{with_items_is}
+use Rattle.std.specs.Vec.{with_item, with_items}
+use Rattle.nr_board.specs.Callers.{Caller, Table}
+use Rattle.nr_alone.specs.declared.seat.Seat.{Seat}
+use Rattle.nr_alone.specs.Alone.{IsAlone, shown_by}
+use Rattle.nr_alone.specs.Answers.{Answer}
+use Rattle.nr_alone.specs.MapState.{MapOutcome, MapState}
+use Rattle.nr_alone.specs.Rounds.{Gathered}
+use Rattle.nr_alone.proofs.ReaderLines.{many_pins}
+use Rattle.nr_alone.proofs.Rounds.{same_length}
+
+module _ {Z : Type 0} (table : Table) (w0 : Caller) (seats : Vec Seat Z) (at : ℕ) where
+  -- the reader's place is that of a seat
+  pub place_here : (now : MapState) → shown_by table w0 seats.items ≡ now → at < length now.pins → at < length seats.items
+  place_here now shows low = let few = subst (λ (s : MapState). at < length s.pins) (sym shows) low in omega (arith, many_pins seats.items)
+
+  module _ (x : Seat) (w' : Caller) (seats' slice : List Seat) (items : slice ≡ set seats.items at x) where
+    pub round_here : (w : Caller) → w ≡ w0 → Gathered at w slice w' seats' → Gathered at w0 (set seats.items at x) w' seats'
+    round_here w same g = subst (λ (l : List Seat). Gathered at w0 l w' seats') items (subst (λ (c : Caller). Gathered at c slice w' seats') same g)
+
+    module _ (len : length slice ≡ (with_item seats at x).len) (g : Gathered at w0 (set seats.items at x) w' seats') where
+      all_here : (with_items (with_item seats at x) seats').items ≡ seats'
+      all_here = with_items_is (with_item seats at x) seats' (same_length seats' (set seats.items at x) g.round.same ∙ ap (λ (l : List Seat). length l) (sym items) ∙ len)
+
+      pub alone_here : IsAlone table w' seats' → IsAlone table w' (with_items (with_item seats at x) seats').items
+      alone_here alone = subst (λ (l : List Seat). IsAlone table w' l) (sym all_here) alone
+
+      pub answers_here : (line : MapState → MapOutcome) (now : MapState) (answer : Answer) → shown_by table w0 seats.items ≡ now
+          → line (shown_by table w0 seats.items) ≡ (Ok answer, shown_by table w' seats')
+          → line now ≡ (Ok answer, shown_by table w' (with_items (with_item seats at x) seats').items)
+      answers_here line now answer shows said =
+          subst (λ (s : MapState). line s ≡ (Ok answer, shown_by table w' (with_items (with_item seats at x) seats').items)) shows
+          (subst (λ (l : List Seat). line (shown_by table w0 seats.items) ≡ (Ok answer, shown_by table w' l)) (sym all_here) said)
