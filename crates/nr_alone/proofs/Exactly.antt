@@ -9,7 +9,7 @@ use mathlib.Core.Logic.{dite}
 use native.Mathlib.Decide.{ℕ_discrete}
 use Rattle.nr_model.specs.Histories.{Entry, IsLegal, entries_of}
 use Rattle.nr_model.specs.Laws.{LegalBegins}
-use Rattle.nr_core.specs.declared.shape.Shape.{Shape}
+use Rattle.nr_machine.specs.declared.shape.Shape.{Shape}
 use Rattle.nr_board.specs.Callers.{Caller, Table, map_at_opening}
 use Rattle.nr_board.specs.Entries.{AreCallers, is_reading}
 use Rattle.nr_map.specs.Rounds.{EntriesAreCallers}

@@ -10,12 +10,12 @@ use Rattle.nr_core.proofs.Histories.{of-append}
 use Rattle.nr_core.proofs.Sums.{total-set, term_le, terms_le, at_set}
 use Rattle.nr_core.specs.Core.{Core}
 use Rattle.nr_core.specs.Roles.{is_by, is_reader, is_writer}
-use Rattle.nr_core.specs.Operations.{becomes, target_of}
-use Rattle.nr_core.specs.declared.operation.Operation.{Operation}
+use Rattle.nr_machine.specs.Operations.{becomes, target_of}
+use Rattle.nr_machine.specs.declared.operation.Operation.{Operation}
 use Rattle.nr_core.specs.Steps.{CanStep, Stepped, Telling}
-use Rattle.nr_core.specs.Sums.{total}
-use Rattle.nr_core.specs.declared.roles.Role.{Role}
-use Rattle.nr_core.specs.declared.shape.Shape.{Shape}
+use Rattle.nr_machine.specs.Sums.{total}
+use Rattle.nr_machine.specs.declared.roles.Role.{Role}
+use Rattle.nr_machine.specs.declared.shape.Shape.{Shape}
 use Rattle.nr_marks.proofs.Knowing.{knowing_step}
 use Rattle.nr_marks.specs.Marked.{AllSince, CanMark, MarkTelling, Remarked}
 use Rattle.nr_marks.specs.Marks.{Past}

@@ -11,10 +11,10 @@ use Rattle.nr_core.proofs.Seat.{notes}
 use Rattle.nr_core.proofs.Sums.{at_set, at_snoc, set_again, total-append}
 use Rattle.nr_core.specs.Core.{Core}
 use Rattle.nr_core.specs.Roles.{is_reader, is_writer}
-use Rattle.nr_core.specs.Sums.{total}
-use Rattle.nr_core.specs.declared.roles.Role.{Role}
-use Rattle.nr_core.specs.declared.roles.Role.TheVariants.{Note}
-use Rattle.nr_core.specs.declared.shape.Shape.{Shape}
+use Rattle.nr_machine.specs.Sums.{total}
+use Rattle.nr_machine.specs.declared.roles.Role.{Role}
+use Rattle.nr_machine.specs.declared.roles.Role.TheVariants.{Note}
+use Rattle.nr_machine.specs.declared.shape.Shape.{Shape}
 use Rattle.nr_board.specs.Notes.{note_of, spent, with_note}
 use Rattle.nr_marks.proofs.Knowing.{knowing_set, knowing_snoc, told_since}
 use Rattle.nr_marks.proofs.ListPlaces.{no_places}

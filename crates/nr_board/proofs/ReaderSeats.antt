@@ -5,11 +5,11 @@ use Rattle.nr_model.specs.declared.calls.Reply.TheVariants as reply
 use Rattle.nr_model.specs.Rows.{IsRowSet}
 use Rattle.nr_words.specs.KeyWords.{is_filled, slot_of}
 use Rattle.nr_core.proofs.WordPlaces.{same_content}
-use Rattle.nr_core.specs.Slots.{bound_of, content}
+use Rattle.nr_machine.specs.Slots.{bound_of, content}
 use Rattle.nr_core.specs.Steps.{ask_word}
-use Rattle.nr_core.specs.declared.roles.Grip.TheVariants.{Nothing, On}
-use Rattle.nr_core.specs.declared.roles.Role.TheVariants.{Reader}
-use Rattle.nr_core.specs.declared.shape.Shape.{Shape}
+use Rattle.nr_machine.specs.declared.roles.Grip.TheVariants.{Nothing, On}
+use Rattle.nr_machine.specs.declared.roles.Role.TheVariants.{Reader}
+use Rattle.nr_machine.specs.declared.shape.Shape.{Shape}
 use Rattle.nr_board.proofs.Tokens.{MapSeat, seat_grows, seat_rests}
 use Rattle.nr_board.specs.Callers.{Gains, Rests, Table, token}
 use Rattle.nr_board.specs.Plays.{Arrived, Asked, Departed, Holds, IsIdle, Read}

@@ -18,15 +18,15 @@ use Rattle.nr_core.proofs.Depart.{departs}
 use Rattle.nr_core.proofs.KeyWords.{names_none, names_one}
 use Rattle.nr_core.proofs.Read.{reads}
 use Rattle.nr_core.specs.Roles.{is_by, is_reader}
-use Rattle.nr_core.specs.declared.operation.Operation.TheVariants.{Add, Load, Or}
-use Rattle.nr_core.specs.Slots.{content, departures, name_number, bound_of}
+use Rattle.nr_machine.specs.declared.operation.Operation.TheVariants.{Add, Load, Or}
+use Rattle.nr_machine.specs.Slots.{content, departures, name_number, bound_of}
 use Rattle.nr_core.specs.Steps.{Arrives, Asks, CanStep, Departs, ReadsHeld, ask_word}
-use Rattle.nr_core.specs.Story.{entry}
-use Rattle.nr_core.specs.declared.roles.Grip.{Grip}
-use Rattle.nr_core.specs.declared.roles.Grip.TheVariants.{Nothing, On}
-use Rattle.nr_core.specs.declared.roles.Role.{Role}
-use Rattle.nr_core.specs.declared.roles.Role.TheVariants.{Reader}
-use Rattle.nr_core.specs.declared.shape.Shape.{Shape}
+use Rattle.nr_machine.specs.Story.{entry}
+use Rattle.nr_machine.specs.declared.roles.Grip.{Grip}
+use Rattle.nr_machine.specs.declared.roles.Grip.TheVariants.{Nothing, On}
+use Rattle.nr_machine.specs.declared.roles.Role.{Role}
+use Rattle.nr_machine.specs.declared.roles.Role.TheVariants.{Reader}
+use Rattle.nr_machine.specs.declared.shape.Shape.{Shape}
 use Rattle.nr_marks.proofs.ReaderMarks.{arrives_marked, asks_marked, departs_marked, reads_marked}
 use Rattle.nr_marks.specs.MarkSteps.{ArrivesMarks, DepartsMarks, KeepsMarks}
 use Rattle.nr_board.proofs.Lift.{Choice, knows_pasts, lifts}

@@ -8,25 +8,25 @@ use mathlib.Core.Logic.{dite}
 use native.Mathlib.Decide.{ℕ_discrete}
 use Rattle.nr_words.specs.KeyWords.{same_count}
 use Rattle.nr_core.proofs.Choices.{by_cases}
-use Rattle.nr_core.specs.States.{retired_at}
+use Rattle.nr_machine.specs.States.{retired_at}
 use Rattle.nr_model.specs.Histories.{Entry, entries_of}
 use Rattle.nr_model.specs.declared.calls.Call.{Call}
 use Rattle.nr_model.specs.declared.rows.Row.{Row}
-use Rattle.nr_core.specs.Story.{call_of, ending}
-use Rattle.nr_core.specs.Writer.{moved_to, no_slot, polled, polls_on, settled, taking_fresh, taking_retired}
-use Rattle.nr_core.specs.declared.calls.Step.{Step}
-use Rattle.nr_core.specs.declared.calls.Step.TheVariants.{Ended, Going}
-use Rattle.nr_core.specs.declared.calls.WReply.TheVariants as writer
-use Rattle.nr_core.specs.declared.calls.WriterCall.{WriterCall}
-use Rattle.nr_core.specs.declared.places.Place.TheVariants.{Idle, Searching}
-use Rattle.nr_core.specs.declared.roles.Desk.{Desk}
-use Rattle.nr_core.specs.declared.shape.Shape.{Shape}
+use Rattle.nr_machine.specs.Story.{call_of, ending}
+use Rattle.nr_machine.specs.Writer.{moved_to, no_slot, polled, polls_on, settled, taking_fresh, taking_retired}
+use Rattle.nr_machine.specs.declared.calls.Step.{Step}
+use Rattle.nr_machine.specs.declared.calls.Step.TheVariants.{Ended, Going}
+use Rattle.nr_machine.specs.declared.calls.WReply.TheVariants as writer
+use Rattle.nr_machine.specs.declared.calls.WriterCall.{WriterCall}
+use Rattle.nr_machine.specs.declared.places.Place.TheVariants.{Idle, Searching}
+use Rattle.nr_machine.specs.declared.roles.Desk.{Desk}
+use Rattle.nr_machine.specs.declared.shape.Shape.{Shape}
 use Rattle.nr_board.proofs.Tokens.{grows_both}
 use Rattle.nr_board.specs.Callers.{Caller, Grows, Table, token, IsSound}
 use Rattle.nr_board.specs.Entries.{acts_told, to_depart}
 use Rattle.nr_board.specs.Polls.{AllHeldThen, HeldThen}
 use Rattle.nr_board.specs.Rule.{StartsWith}
-use Rattle.nr_core.specs.Spares.{Spare, none_spare}
+use Rattle.nr_machine.specs.Spares.{Spare, none_spare}
 use Rattle.nr_board.specs.Spares.{desk_with}
 use Rattle.nr_marks.proofs.ExactPlace.{noted_more, noted_none}
 use Rattle.nr_marks.specs.MarkSteps.{PollTells}

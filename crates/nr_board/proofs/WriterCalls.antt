@@ -14,20 +14,20 @@ use Rattle.nr_model.specs.declared.states.KeyState.TheVariants as states
 use Rattle.nr_model.specs.Histories.{Entry, IsLegal, entries_of}
 use Rattle.nr_words.specs.KeyWords.{slot_of}
 use Rattle.nr_core.proofs.Without.{not_reply}
-use Rattle.nr_core.specs.Story.{call_of, ending, entry, map_after}
-use Rattle.nr_core.specs.Writer.{decided, ended, looked, moved_to, renewed, settled, unnamed}
-use Rattle.nr_core.specs.declared.calls.NoSlot.{NoSlot}
-use Rattle.nr_core.specs.declared.calls.Step.{Step}
-use Rattle.nr_core.specs.declared.calls.Step.TheVariants.{Going}
-use Rattle.nr_core.specs.declared.calls.WriterCall.{WriterCall}
-use Rattle.nr_core.specs.declared.calls.WriterCall.TheVariants.{Cancel, Evict, Find, Update}
-use Rattle.nr_core.specs.declared.places.Place.TheVariants.{Idle, Leaving, Reading, Withdrawing}
-use Rattle.nr_core.specs.declared.roles.Desk.{Desk}
+use Rattle.nr_machine.specs.Story.{call_of, ending, entry, map_after}
+use Rattle.nr_machine.specs.Writer.{decided, ended, looked, moved_to, renewed, settled, unnamed}
+use Rattle.nr_machine.specs.declared.calls.NoSlot.{NoSlot}
+use Rattle.nr_machine.specs.declared.calls.Step.{Step}
+use Rattle.nr_machine.specs.declared.calls.Step.TheVariants.{Going}
+use Rattle.nr_machine.specs.declared.calls.WriterCall.{WriterCall}
+use Rattle.nr_machine.specs.declared.calls.WriterCall.TheVariants.{Cancel, Evict, Find, Update}
+use Rattle.nr_machine.specs.declared.places.Place.TheVariants.{Idle, Leaving, Reading, Withdrawing}
+use Rattle.nr_machine.specs.declared.roles.Desk.{Desk}
 use Rattle.nr_board.proofs.Publishing.{knows_after}
 use Rattle.nr_board.proofs.Tokens.{grows_both}
 use Rattle.nr_board.specs.WriterAnswers.{HasNoSlot, KeyHad, Publishes, RetiresOne, SlotsStay}
 use Rattle.nr_board.specs.Callers.{Gains, Grows, Table, map_at_opening, token}
-use Rattle.nr_core.specs.Spares.{Spare}
+use Rattle.nr_machine.specs.Spares.{Spare}
 use Rattle.nr_board.specs.Spares.{TookByPolls, desk_with, spare_of}
 use Rattle.nr_marks.specs.Marks.{Marks, Past, with_name, with_polls, without_name}
 use Rattle.nr_marks.specs.PollNotes.{Noted}
@@ -41,10 +41,10 @@ use Rattle.nr_board.specs.Kinds.{kind_of}
 use Rattle.nr_board.specs.Polls.{HeldThen}
 use Rattle.nr_model.proofs.LawLemmas.{legal_goes_on_lem}
 use Rattle.nr_core.proofs.Settle.{key_same}
-use Rattle.nr_core.specs.States.{key_of}
+use Rattle.nr_machine.specs.States.{key_of}
 use Rattle.nr_board.specs.Views.{desk_of, caller_number}
 use Rattle.nr_board.specs.WriterSeats.{GoesOn, KeyHas, LacksSlot, LeadsIn, MapSeat, PublishesSet, RestsAt, Settles, WritesAt}
-use Rattle.nr_core.specs.Slots.{bound_of}
+use Rattle.nr_machine.specs.Slots.{bound_of}
 use Rattle.nr_model.specs.Rows.{IsRowSet}
 
 -- the slots that a resting token shows

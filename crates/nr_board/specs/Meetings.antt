@@ -7,8 +7,8 @@ use Rattle.nr_model.specs.Maps.{state_of}
 use Rattle.nr_board.specs.declared.answers.KeyKind.{KeyKind}
 use Rattle.nr_board.specs.Callers.{Caller, map_seen, map_at_opening}
 use Rattle.nr_board.specs.Kinds.{kind_of}
-use Rattle.nr_core.specs.declared.places.Place.TheVariants.{Idle}
-use Rattle.nr_core.specs.declared.roles.Desk.{Desk}
+use Rattle.nr_machine.specs.declared.places.Place.TheVariants.{Idle}
+use Rattle.nr_machine.specs.declared.roles.Desk.{Desk}
 use Rattle.nr_marks.specs.Exact.{Lists}
 use Rattle.nr_marks.specs.Marks.{Past}
 use Rattle.nr_marks.specs.Pasts.{Current}

@@ -9,21 +9,21 @@ use Rattle.nr_model.specs.Maps.{state_of}
 use Rattle.nr_model.specs.declared.states.KeyState.TheVariants as states
 use Rattle.nr_words.specs.SetWords.{encode}
 use Rattle.nr_core.specs.Core.{AreNumbers}
-use Rattle.nr_core.specs.Slots.{content}
-use Rattle.nr_core.specs.States.{key_of, number_at, retired_at}
-use Rattle.nr_core.specs.Story.{call_of, ending, entry, map_after}
-use Rattle.nr_core.specs.Writer.{moved_to, no_slot, settled, unnamed, went}
-use Rattle.nr_core.specs.declared.calls.NoSlot.{NoSlot}
-use Rattle.nr_core.specs.declared.calls.Step.{Step}
-use Rattle.nr_core.specs.declared.calls.Step.TheVariants.{Ended, Going}
-use Rattle.nr_core.specs.declared.shape.Shape.{Shape}
-use Rattle.nr_core.specs.declared.calls.WReply.TheVariants as writer
-use Rattle.nr_core.specs.declared.calls.WriterCall.{WriterCall}
-use Rattle.nr_core.specs.declared.places.Place.TheVariants.{Idle, Leaving, Putting, Reading, Searching, Withdrawing}
-use Rattle.nr_core.specs.declared.roles.Desk.{Desk}
-use Rattle.nr_core.specs.declared.roles.Role.TheVariants.{Writer}
+use Rattle.nr_machine.specs.Slots.{content}
+use Rattle.nr_machine.specs.States.{key_of, number_at, retired_at}
+use Rattle.nr_machine.specs.Story.{call_of, ending, entry, map_after}
+use Rattle.nr_machine.specs.Writer.{moved_to, no_slot, settled, unnamed, went}
+use Rattle.nr_machine.specs.declared.calls.NoSlot.{NoSlot}
+use Rattle.nr_machine.specs.declared.calls.Step.{Step}
+use Rattle.nr_machine.specs.declared.calls.Step.TheVariants.{Ended, Going}
+use Rattle.nr_machine.specs.declared.shape.Shape.{Shape}
+use Rattle.nr_machine.specs.declared.calls.WReply.TheVariants as writer
+use Rattle.nr_machine.specs.declared.calls.WriterCall.{WriterCall}
+use Rattle.nr_machine.specs.declared.places.Place.TheVariants.{Idle, Leaving, Putting, Reading, Searching, Withdrawing}
+use Rattle.nr_machine.specs.declared.roles.Desk.{Desk}
+use Rattle.nr_machine.specs.declared.roles.Role.TheVariants.{Writer}
 use Rattle.nr_board.specs.Callers.{Grows, KnowsOwn, Table, map_seen, token, IsSound}
-use Rattle.nr_core.specs.Spares.{Spare}
+use Rattle.nr_machine.specs.Spares.{Spare}
 use Rattle.nr_board.specs.Spares.{TookByPolls, desk_with}
 use Rattle.nr_board.specs.Plays.{Finds, Lacks, NotesTell, Room, SwapsAt, call_at, next_put}
 use Rattle.nr_board.specs.Polls.{AllHeldThen}

@@ -1,6 +1,6 @@
 -- What opens a map and its handles.
 use Rattle.std.specs.Prelude.{ℕ, ◌≡◌, ◌⊎◌, List, [], ◌∷◌, ◌++◌, Some}
-use Rattle.nr_core.specs.declared.shape.Shape.{Shape}
+use Rattle.nr_machine.specs.declared.shape.Shape.{Shape}
 use Rattle.nr_board.specs.Callers.{Caller}
 use Rattle.nr_map.specs.Opened.{IsOpened}
 use Rattle.nr_c.specs.declared.codes.TheConstants.{NR_BAD_SIZE, NR_DONE, NR_NO_MEMORY, NR_NO_READER}

@@ -1,5 +1,5 @@
 -- The sizes of a map as C has them.
-use Rattle.nr_core.specs.declared.shape.Shape.{Shape}
+use Rattle.nr_machine.specs.declared.shape.Shape.{Shape}
 use Rattle.nr_c.specs.declared.sizes.NrShape.{NrShape}
 use Rattle.nr_c.specs.declared.sizes.NrSizes.{NrSizes}
 

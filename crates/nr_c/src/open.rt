@@ -1,6 +1,6 @@
 //! What opens a map and its handles, and what ends them.
 ghost use Rattle.std.specs.Prelude.{◌≡◌, ◌↔◌, [], ◌∷◌, Err, IfOk, IfErr, Some};
-ghost use Rattle.nr_core.specs.Sizes.{IsBadShape};
+ghost use Rattle.nr_machine.specs.Sizes.{IsBadShape};
 ghost use Rattle.nr_c.specs.declared.codes.TheConstants.{NR_BAD_SIZE};
 ghost use Rattle.nr_c.specs.declared.hand.Hand.TheVariants as hand;
 ghost use Rattle.nr_c.specs.declared.reader_side.ReaderSide.{ReaderSide as ReaderHeld};

@@ -24,7 +24,6 @@ pub mod WordPlaces
 pub mod Reach
 -- This crate's own.
 mod Shapes
-mod Walks
 mod OnKey
 mod OffKeys
 mod DeskFrames

@@ -3,17 +3,14 @@ ghost use Rattle.std.specs.Prelude.{◌≡◌, ◌≤◌, ◌<◌, ◌↔◌, �
 ghost use Rattle.nr_model.specs.Maps.{FillFits, number_of};
 ghost use Rattle.nr_model.specs.declared.rows.TheConstants.{DEFAULT_ROWS, MAX_ROWS};
 ghost use Rattle.nr_model.specs.declared.seq_map.TheConstants.{MAX_KEYS};
-ghost use Rattle.nr_core.specs.Sizes.{IsBadShape};
-ghost use Rattle.nr_core.specs.declared.shape.TheConstants.{MAX_READERS, MAX_SLOTS};
-ghost use Rattle.nr_core.specs.Story.{call_of, shown};
-ghost use Rattle.nr_core.specs.States.{opening_state, number_at, Arrive, Read, Depart, Ask, Start, Go};
-ghost use Rattle.nr_core.specs.Machine.{next_state, arrive_answer, read_answer, depart_answer, ask_answer, start_answer, go_answer};
+ghost use Rattle.nr_machine.specs.Sizes.{IsBadShape};
+ghost use Rattle.nr_machine.specs.declared.shape.TheConstants.{MAX_READERS, MAX_SLOTS};
+ghost use Rattle.nr_machine.specs.Story.{call_of, shown};
+ghost use Rattle.nr_machine.specs.States.{opening_state, number_at, Arrive, Read, Depart, Ask, Start, Go};
+ghost use Rattle.nr_machine.specs.Machine.{next_state, arrive_answer, read_answer, depart_answer, ask_answer, start_answer, go_answer};
 ghost use Rattle.nr_model.specs.Sizes.{IsBadSize};
 
-use crate::calls::{Arrived, AskReply, Refusal, Step, WriterCall};
-use crate::machine::Machine;
-use crate::outcome::Outcome;
-use crate::shape::Shape;
+use nr_machine::{Arrived, AskReply, Machine, Outcome, Refusal, Shape, Step, WriterCall};
 use nr_model::{DEFAULT_ROWS, OpenFault, RowSet};
 use std::alloc::Global;
 use std::marker::Model;
@@ -29,8 +26,8 @@ pub struct Core {
 }
 
 impl Model for Core {
-    ghost use Rattle.nr_core.specs.States.{State};
-    ghost use Rattle.nr_core.specs.Parts.{machine_state};
+    ghost use Rattle.nr_machine.specs.States.{State};
+    ghost use Rattle.nr_machine.specs.Parts.{machine_state};
     ghost use Rattle.nr_core.specs.Reach.{Reached};
 
     ghost Value = { State };

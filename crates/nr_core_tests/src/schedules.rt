@@ -1,7 +1,7 @@
 //! Schedules as calls of the machine, with the answers that they must give.
 ghost use Rattle.std.specs.Prelude.{◌≡◌, IsTrue, IfOk};
 ghost use Rattle.nr_model.specs.Maps.{FillFits};
-ghost use Rattle.nr_core.specs.Story.{call_of};
+ghost use Rattle.nr_machine.specs.Story.{call_of};
 
 use nr_core::{
     Arrived, AskReply, Core, MAX_READERS, MAX_SLOTS, NoSlot, OpenFault, Refusal, Shape, Step,

@@ -6,7 +6,7 @@ use Rattle.nr_model.specs.declared.calls.Call.{Call}
 use Rattle.nr_model.specs.declared.calls.Call.TheVariants as call
 use Rattle.nr_model.specs.declared.calls.Reply.{Reply}
 use Rattle.nr_model.specs.Histories.{Entry}
-use Rattle.nr_core.specs.Story.{entry}
+use Rattle.nr_machine.specs.Story.{entry}
 use Rattle.nr_board.specs.declared.answers.Evict.{Evict}
 use Rattle.nr_board.specs.declared.answers.Evict.TheVariants as evict
 use Rattle.nr_board.specs.declared.answers.FillFault.{FillFault}

@@ -1,8 +1,8 @@
 -- The exact place of a no-slot.
 use Rattle.std.proofs.Common.{◌≡◌, ℕ, ◌+◌, ◌≤◌, List, [], ◌∷◌, ◌++◌, get_or, inl, inr, ⊎_elim, length, refl, sym, ap, ◌∙◌, subst, arith}
 use Rattle.nr_model.specs.Maps.{filled_count}
-use Rattle.nr_core.specs.declared.places.Retired.{Retired}
-use Rattle.nr_core.specs.declared.shape.Shape.{Shape}
+use Rattle.nr_machine.specs.declared.places.Retired.{Retired}
+use Rattle.nr_machine.specs.declared.shape.Shape.{Shape}
 use Rattle.nr_marks.specs.MarkLaws.{DoneByMarks, NoSlotByMarks}
 use Rattle.nr_marks.specs.Exact.{TookSpare}
 use Rattle.nr_marks.specs.Marks.{Marks, Past}
@@ -10,7 +10,7 @@ use Rattle.nr_marks.specs.Pasts.{AllReaders}
 use Rattle.nr_marks.specs.PollNotes.{AllHeld, Noted}
 use Rattle.nr_marks.proofs.PutNumbers.{count_grows, count_more}
 use Rattle.nr_marks.specs.Puts.{put_count}
-use Rattle.nr_core.specs.Story.{entry, map_after}
+use Rattle.nr_machine.specs.Story.{entry, map_after}
 use Rattle.nr_model.specs.declared.calls.Call.{Call}
 use Rattle.nr_model.specs.declared.calls.Reply.TheVariants as reply
 use Rattle.nr_model.specs.declared.rows.Row.{Row}

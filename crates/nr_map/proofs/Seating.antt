@@ -3,7 +3,7 @@ use Rattle.std.proofs.Common.{◌≡◌, ℕ, zero, suc, ◌+◌, ◌<◌, List,
 use Rattle.std.specs.Prelude.{All, Some, slice_get}
 use mathlib.Core.Logic.{dite}
 use native.Mathlib.Decide.{ℕ_discrete}
-use Rattle.nr_core.specs.declared.shape.Shape.{Shape}
+use Rattle.nr_machine.specs.declared.shape.Shape.{Shape}
 use Rattle.nr_marks.specs.Marks.{no_marks}
 use Rattle.nr_board.proofs.Tokens.{MapSeat}
 use Rattle.nr_board.specs.Callers.{Caller, Table}

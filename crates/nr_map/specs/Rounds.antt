@@ -4,7 +4,7 @@ use Rattle.std.specs.List.{count_by}
 use Rattle.nr_model.specs.Histories.{Entry, IsLegal, asks, cancels, cancels_key, entries_of, fills, fills_key, is_cancelled, is_done, is_send, sends}
 use Rattle.nr_model.specs.Laws.{pending}
 use Rattle.nr_model.specs.Maps.{call_key, state_of}
-use Rattle.nr_core.specs.Sums.{total}
+use Rattle.nr_machine.specs.Sums.{total}
 use Rattle.nr_board.specs.Callers.{Caller, KnowsOwn, map_seen, map_at_opening}
 use Rattle.nr_board.specs.Entries.{AreCallers}
 use Rattle.nr_board.specs.Rule.{StartsWith}

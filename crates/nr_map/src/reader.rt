@@ -19,8 +19,8 @@ pub struct Reader {
 
 impl Model for Reader {
     ghost use Rattle.std.specs.Prelude.{◌≡◌};
-    ghost use Rattle.nr_core.specs.declared.roles.Role.TheVariants.{Reader as reader_role};
-    ghost use Rattle.nr_core.specs.declared.roles.Grip.TheVariants.{Nothing};
+    ghost use Rattle.nr_machine.specs.declared.roles.Role.TheVariants.{Reader as reader_role};
+    ghost use Rattle.nr_machine.specs.declared.roles.Grip.TheVariants.{Nothing};
     ghost use Rattle.nr_board.specs.Callers.{Caller, token, KnowsOwn};
 
     ghost Value = { Caller };
@@ -31,8 +31,8 @@ impl Model for Reader {
 }
 
 impl Reader {
-    ghost use Rattle.nr_core.specs.declared.roles.Role.TheVariants.{Reader as reader_role};
-    ghost use Rattle.nr_core.specs.declared.roles.Grip.TheVariants.{Nothing};
+    ghost use Rattle.nr_machine.specs.declared.roles.Role.TheVariants.{Reader as reader_role};
+    ghost use Rattle.nr_machine.specs.declared.roles.Grip.TheVariants.{Nothing};
     ghost use Rattle.nr_board.specs.Callers.{KnowsOwn};
 
     pub(crate) fn of_seat(seat: Seat, number: u32) -> Reader

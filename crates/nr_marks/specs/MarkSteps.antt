@@ -1,19 +1,19 @@
 -- What each kind of step tells of the marks.
 use Rattle.std.specs.Prelude.{◌≡◌, ℕ, suc, ◌+◌, ◌≤◌, List, [], ◌∷◌, ◌++◌, length, slice_index, ◌*◌, nat_le, Bool, true, false}
 use Rattle.nr_model.specs.Histories.{Entry}
-use Rattle.nr_core.specs.declared.shape.Shape.{Shape}
-use Rattle.nr_core.specs.declared.calls.WriterCall.{WriterCall}
-use Rattle.nr_core.specs.declared.roles.Grip.{Grip}
-use Rattle.nr_core.specs.declared.roles.Desk.{Desk}
-use Rattle.nr_core.specs.declared.places.Place.{Place}
-use Rattle.nr_core.specs.declared.places.Place.TheVariants.{Idle, Reading, Leaving, Withdrawing, Searching, Putting}
-use Rattle.nr_core.specs.declared.calls.NoSlot.{NoSlot}
-use Rattle.nr_core.specs.declared.calls.Step.{Step}
-use Rattle.nr_core.specs.declared.calls.Step.TheVariants.{Ended}
+use Rattle.nr_machine.specs.declared.shape.Shape.{Shape}
+use Rattle.nr_machine.specs.declared.calls.WriterCall.{WriterCall}
+use Rattle.nr_machine.specs.declared.roles.Grip.{Grip}
+use Rattle.nr_machine.specs.declared.roles.Desk.{Desk}
+use Rattle.nr_machine.specs.declared.places.Place.{Place}
+use Rattle.nr_machine.specs.declared.places.Place.TheVariants.{Idle, Reading, Leaving, Withdrawing, Searching, Putting}
+use Rattle.nr_machine.specs.declared.calls.NoSlot.{NoSlot}
+use Rattle.nr_machine.specs.declared.calls.Step.{Step}
+use Rattle.nr_machine.specs.declared.calls.Step.TheVariants.{Ended}
 use Rattle.nr_words.specs.KeyWords.{same_count}
-use Rattle.nr_core.specs.States.{retired_at, key_of}
-use Rattle.nr_core.specs.Writer.{looked, read_on}
-use Rattle.nr_core.specs.declared.calls.WReply.TheVariants as writer
+use Rattle.nr_machine.specs.States.{retired_at, key_of}
+use Rattle.nr_machine.specs.Writer.{looked, read_on}
+use Rattle.nr_machine.specs.declared.calls.WReply.TheVariants as writer
 use Rattle.nr_marks.specs.Puts.{put_count, put_number}
 use Rattle.nr_marks.specs.Marks.{Past, Marks, acted, with_polls, with_name, without_name}
 use Rattle.nr_marks.specs.PollNotes.{NoRoom, Missed}

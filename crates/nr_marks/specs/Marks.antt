@@ -1,10 +1,10 @@
 -- Marks, which contracts alone see beside a caller's role: a reader's count of acts and the put number of its hold; the writer's names, put numbers and polls.
 use Rattle.std.specs.Prelude.{ℕ, suc, List, [], ◌∷◌, slice_set, Option, Some, None, replicate}
-use Rattle.nr_core.specs.declared.shape.Shape.{Shape}
-use Rattle.nr_core.specs.declared.roles.Role.{Role}
-use Rattle.nr_core.specs.declared.roles.Role.TheVariants.{Writer, Reader, Note}
-use Rattle.nr_core.specs.declared.roles.Grip.{Grip}
-use Rattle.nr_core.specs.declared.roles.Grip.TheVariants.{Nothing, On}
+use Rattle.nr_machine.specs.declared.shape.Shape.{Shape}
+use Rattle.nr_machine.specs.declared.roles.Role.{Role}
+use Rattle.nr_machine.specs.declared.roles.Role.TheVariants.{Writer, Reader, Note}
+use Rattle.nr_machine.specs.declared.roles.Grip.{Grip}
+use Rattle.nr_machine.specs.declared.roles.Grip.TheVariants.{Nothing, On}
 
 -- a reader as it was once: how many arrives and departs it had made, the slot that it held, and the put number of the set there
 pub record Past : Type 0 where

@@ -2,8 +2,8 @@
 use Rattle.std.specs.Prelude.{◌≡◌, ℕ, suc, ◌<◌, ◌≤◌, ◌⊎◌, List, length, slice_index, Some}
 use mathlib.Core.Option.{some}
 use lib.ListN.{get_elem?}
-use Rattle.nr_core.specs.declared.roles.Grip.{Grip}
-use Rattle.nr_core.specs.declared.places.Retired.{Retired}
+use Rattle.nr_machine.specs.declared.roles.Grip.{Grip}
+use Rattle.nr_machine.specs.declared.places.Retired.{Retired}
 use Rattle.nr_marks.specs.Marks.{Past, Marks, gripped}
 
 -- the slot is named or retired, as the writer's lists say

@@ -8,18 +8,18 @@ use Rattle.nr_model.specs.declared.rows.Row.{Row}
 use Rattle.nr_model.specs.declared.rows.TheConstants.{MAX_ROWS}
 use Rattle.nr_model.specs.Rows.{in_order}
 use Rattle.nr_model.proofs.LawLemmas.{order_keeps_rows_lem}
-use Rattle.nr_core.specs.States as machine
-use Rattle.nr_core.specs.Machine.{next_state}
+use Rattle.nr_machine.specs.States as machine
+use Rattle.nr_machine.specs.Machine.{next_state}
 use Rattle.nr_core.proofs.Reach.{all_keep_shape}
 use Rattle.nr_core.specs.Laws.{AllGiven}
-use Rattle.nr_core.specs.Slots.{bound_of}
+use Rattle.nr_machine.specs.Slots.{bound_of}
 use Rattle.nr_schedule.specs.declared.command.Command.{Command}
 use Rattle.nr_schedule.specs.declared.command.Command.TheVariants as commands
 use Rattle.nr_schedule.specs.Commands.{schedule_command, one_number, two_numbers, alone, by_writer}
 use Rattle.nr_text.specs.Grammar.{within, words, number, row, delta, each, set_of, batch_of, filling, filling_as, updating}
 use Rattle.nr_text.specs.Opening.{opening_of_words, is_in_limits, shape_of_opening}
 use Rattle.nr_text.specs.declared.opening.Opening.{Opening}
-use Rattle.nr_core.specs.Sizes.{IsShape}
+use Rattle.nr_machine.specs.Sizes.{IsShape}
 use Rattle.nr_schedule.specs.Machine.{schedule_reply, answer_schedule_command}
 use Rattle.nr_schedule.specs.Opened.{number_now, opened_schedule, start_fill}
 use Rattle.nr_schedule.specs.ScheduleRuns.{fill_event, event_of, event_if, line_event, events, ScheduleRuns}

@@ -3,8 +3,8 @@ use Rattle.std.specs.Prelude.{ℕ, ◌&&◌, nat_lt, nat_le, Bool, List, [], ◌
 use Rattle.nr_model.specs.declared.rows.TheConstants.{DEFAULT_ROWS, MAX_ROWS}
 use Rattle.nr_model.specs.declared.seq_map.TheConstants.{MAX_KEYS}
 use Rattle.nr_model.specs.Maps.{last_number}
-use Rattle.nr_core.specs.declared.shape.Shape.{Shape}
-use Rattle.nr_core.specs.declared.shape.TheConstants.{MAX_SLOTS, MAX_READERS}
+use Rattle.nr_machine.specs.declared.shape.Shape.{Shape}
+use Rattle.nr_machine.specs.declared.shape.TheConstants.{MAX_SLOTS, MAX_READERS}
 use Rattle.nr_text.specs.declared.opening.Opening.{Opening}
 use Rattle.nr_text.specs.Grammar.{number}
 

@@ -1,5 +1,5 @@
 use Rattle.std.proofs.Common.{◌≡◌, ◌≤◌}
-use Rattle.nr_core.specs.Sums.{below}
+use Rattle.nr_machine.specs.Sums.{below}
 use Rattle.nr_tally.specs.Balance.{Stays}
 use Rattle.nr_board.specs.Callers.{IsSound}
 use Rattle.nr_tally.proofs.Counting.{pending_at}

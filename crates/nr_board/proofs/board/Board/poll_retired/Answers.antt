@@ -2,13 +2,13 @@ use Rattle.std.proofs.Common.{List, ap, arith, get_or, inr, length, refl, subst,
 use Rattle.std.specs.Prelude.{remove}
 use Rattle.nr_model.specs.declared.rows.Row.{Row}
 use Rattle.nr_words.specs.KeyWords.{same_count}
-use Rattle.nr_core.specs.States.{no_retired}
-use Rattle.nr_core.specs.declared.calls.WriterCall.{WriterCall}
-use Rattle.nr_core.specs.declared.places.Retired.{Retired}
+use Rattle.nr_machine.specs.States.{no_retired}
+use Rattle.nr_machine.specs.declared.calls.WriterCall.{WriterCall}
+use Rattle.nr_machine.specs.declared.places.Retired.{Retired}
 use Rattle.nr_board.proofs.PollNotes.{at_get}
 use Rattle.nr_board.proofs.Searching.{Searched, searched_more, searched_none, takes_it}
 use Rattle.nr_board.specs.Callers.{Table}
-use Rattle.nr_core.specs.Spares.{Spare}
+use Rattle.nr_machine.specs.Spares.{Spare}
 use Rattle.nr_board.specs.WriterSeats.{GoesOn, MapSeat, TakesSlot}
 use Rattle.nr_board.proofs.board.Board.poll_retired.Goals as goal
 

@@ -1,7 +1,7 @@
 use Rattle.std.proofs.Common.{[], ap, length, refl, subst, sym, ℕ, ◌*◌, ◌+◌, ◌∙◌}
-use Rattle.nr_core.specs.Writer.{moved_to}
-use Rattle.nr_core.specs.declared.places.Place.TheVariants.{Putting}
-use Rattle.nr_core.specs.declared.roles.Desk.{Desk}
+use Rattle.nr_machine.specs.Writer.{moved_to}
+use Rattle.nr_machine.specs.declared.places.Place.TheVariants.{Putting}
+use Rattle.nr_machine.specs.declared.roles.Desk.{Desk}
 use Rattle.nr_board.proofs.Publishing.{published}
 use Rattle.nr_board.proofs.Tokens.{grows_both}
 use Rattle.nr_board.specs.Callers.{Table, token}

@@ -2,10 +2,10 @@ use Rattle.std.proofs.Common.{ℕ, ap, subst, sym, ◌<◌, ◌∙◌, ◌≡◌
 use Rattle.nr_model.specs.Batches.{applied}
 use Rattle.nr_model.specs.declared.batches.ApplyFault.TheVariants as fault
 use Rattle.nr_model.specs.declared.calls.Reply.TheVariants as reply
-use Rattle.nr_core.specs.Slots.{bound_of}
-use Rattle.nr_core.specs.States.{key_of}
-use Rattle.nr_core.specs.declared.calls.WriterCall.{WriterCall}
-use Rattle.nr_core.specs.declared.places.Place.TheVariants.{Idle}
+use Rattle.nr_machine.specs.Slots.{bound_of}
+use Rattle.nr_machine.specs.States.{key_of}
+use Rattle.nr_machine.specs.declared.calls.WriterCall.{WriterCall}
+use Rattle.nr_machine.specs.declared.places.Place.TheVariants.{Idle}
 use Rattle.nr_board.proofs.Looks.{has_looked, is_empty, is_full, slot_so, update_dropped, update_reads}
 use Rattle.nr_board.proofs.SetRooms.{reads_set}
 use Rattle.nr_board.proofs.WriterCalls.{about_to_read, has_not_updated, has_read, has_refused, has_renewed, has_updated, look_ends}

@@ -1,0 +1,26 @@
+-- What the writer keeps beside the words: the slots that no key names, those that were never taken and the retired ones, and the number of each key.
+use Rattle.std.specs.Prelude.{◌≡◌, ℕ, ◌+◌, ◌-◌, ◌<◌, ◌≤◌, List, [], ◌∷◌, length, Option, Some, None}
+use Rattle.nr_machine.specs.declared.calls.NoSlot.{NoSlot}
+use Rattle.nr_machine.specs.declared.places.Retired.{Retired}
+
+-- of so many slots those from `fresh` on were never taken; the retired ones, oldest first
+pub record Spare : Type 0 where
+  pub slots : ℕ
+  pub fresh : ℕ
+  pub retired : List Retired
+  -- the number of each key
+  pub numbers : List ℕ
+
+-- every slot is retired, or named by a key
+abbrev pub none_spare : Spare → NoSlot
+none_spare spare = record { live = spare.slots - length spare.retired; held = length spare.retired }
+
+-- the next slot that was never taken, if there is one
+abbrev pub TakesFresh : Spare → Spare → Option ℕ → Type 0
+TakesFresh old new (Some slot) = (old.fresh < old.slots) × (slot ≡ old.fresh) × (new ≡ record old { fresh = old.fresh + 1 })
+TakesFresh old new None = (old.slots ≤ old.fresh) × (new ≡ old)
+
+-- the oldest retired slot, if there is one
+abbrev pub TakesOldest : Spare → Spare → Option Retired → Type 0
+TakesOldest old new (Some oldest) = old ≡ record new { retired = oldest ∷ new.retired }
+TakesOldest old new None = (old.retired ≡ []) × (new ≡ old)
