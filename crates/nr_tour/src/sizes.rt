@@ -9,7 +9,7 @@ use std::alloc::Global;
 use std::io::{self, Print};
 
 #[derive(Drop)]
-pub struct Sized {
+pub struct Small {
     sizes: [u32; 4],
     filled: Result<(), FillFault>,
     changed: Result<(), UpdateFault>,
@@ -60,13 +60,13 @@ fn update(map: &ReaderMap, writer: &mut Writer, key: u32, change: &Batch) -> Res
 }
 
 /// Key 0 is filled with two rows, changed to two others, and refuses a third.
-pub fn kept_small(alloc: Global, change: &Batch, more: &Batch) -> Result<Sized, OpenFault> {
+pub fn kept_small(alloc: Global, change: &Batch, more: &Batch) -> Result<Small, OpenFault> {
     let (map, mut writer, mut reader) = opened_small(alloc)?;
     ask(&map, &mut reader, 0);
     let filled = map.fill(&mut writer, 0, 0, &set_of(&map, &ROWS));
     let changed = update(&map, &mut writer, 0, change);
     let refused = update(&map, &mut writer, 0, more);
-    Ok(Sized {
+    Ok(Small {
         sizes: [map.keys(), map.slots(), map.readers(), map.rows()],
         filled,
         changed,
@@ -74,7 +74,7 @@ pub fn kept_small(alloc: Global, change: &Batch, more: &Batch) -> Result<Sized, 
     })
 }
 
-pub fn show<R: Print>(rt: &R, told: &Sized) -> io::Result<()> {
+pub fn show<R: Print>(rt: &R, told: &Small) -> io::Result<()> {
     let [keys, slots, readers, rows] = told.sizes;
     println!(rt;
         "Other sizes\n  keys {keys}, slots {slots}, readers {readers}, rows a key {rows}\n  a fill: {:?}\n  an update: {:?}\n  a third row: {:?}",
