@@ -130,7 +130,7 @@ pub(crate) struct Outcome {
 
 impl<'a> Trial<'a> {
     /// A trial in which nothing fails.
-    pub fn new(kind: Kind, input: &'a [u8], text: &'a [u8]) -> Trial<'a> {
+    pub(crate) fn new(kind: Kind, input: &'a [u8], text: &'a [u8]) -> Trial<'a> {
         Trial {
             kind,
             input,
@@ -143,7 +143,7 @@ impl<'a> Trial<'a> {
         }
     }
 
-    pub fn run(&self, alloc: Global) -> Outcome {
+    pub(crate) fn run(&self, alloc: Global) -> Outcome {
         let calls = Calls::new();
         let mut source = Source {
             calls: &calls,
@@ -172,7 +172,7 @@ impl<'a> Trial<'a> {
     }
 
     /// What it comes to where nothing fails.
-    pub fn whole(&self) -> Outcome {
+    pub(crate) fn whole(&self) -> Outcome {
         Outcome {
             end: Ok(()),
             written: Some(self.text.len()),

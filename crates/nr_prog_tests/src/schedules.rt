@@ -1,7 +1,6 @@
 //! Schedules, and the replies that their lines must get.
-use crate::streams::{Failing, Lines, spelled};
-use nr_prog::{RunFault, run_steps};
-use std::io::Read;
+use crate::streams::{Lines, spelled};
+use nr_prog::run_steps;
 use std::process::Abort;
 
 const EVICTED_SET_STAYS_WHILE_IT_IS_HELD: Lines = "open 1 3 1|ok
@@ -294,20 +293,11 @@ const SCHEDULES: [Lines; 10] = [
 /// The run ends well, with each line answered so.
 fn assert_answered(rt: &(impl Abort + AllocGlobal), schedule: Lines) {
     let (input, text) = spelled(rt, schedule);
-    assert_runs(rt, &mut input.as_slice(), Ok(()), text.as_slice());
-}
-
-/// The run ends so, and has written this text.
-fn assert_runs<R: Read>(
-    rt: &(impl Abort + AllocGlobal),
-    reader: &mut R,
-    end: Result<(), RunFault>,
-    text: &[u8],
-) {
+    let mut reader = input.as_slice();
     let mut written = Vec::new(rt.alloc());
-    let ended = run_steps(rt.alloc(), reader, &mut written);
-    assert_eq!(rt; ended, end);
-    assert_eq!(rt; written.as_slice(), text);
+    let ended = run_steps(rt.alloc(), &mut reader, &mut written);
+    assert_eq!(rt; ended, Ok(()));
+    assert_eq!(rt; written.as_slice(), text.as_slice());
 }
 
 #[test]
@@ -320,41 +310,4 @@ fn schedules_are_answered(rt: HostRuntime) {
 #[test]
 fn the_empty_input_has_no_reply(rt: HostRuntime) {
     assert_answered(&rt, "");
-}
-
-#[test]
-fn a_line_that_is_cut_is_not_answered(rt: HostRuntime) {
-    let mut reader = Failing {
-        bytes: b"open 1 1 1\nask 1 0\nask 1 0",
-    };
-    assert_runs(&rt, &mut reader, Err(RunFault::Read), b"ok\nsend\n");
-}
-
-#[test]
-fn a_full_output_ends_the_run(rt: HostRuntime) {
-    let mut reader: &[u8] = b"open 1 1 1\nask 1 0\nask 1 0\n";
-    let mut room = [0u8; 5];
-    let mut writer = room.as_mut_slice();
-    let ended = run_steps(rt.alloc(), &mut reader, &mut writer);
-    assert_eq!(rt; ended, Err(RunFault::Write));
-    assert_eq!(rt; room.as_slice(), b"ok\nse".as_slice());
-}
-
-// Passes as well where any one request for memory is refused (`rt try --test --fail-alloc N`).
-#[test]
-fn want_of_memory_ends_the_run(rt: HostRuntime) {
-    let text: &[u8] = b"ok\nsend\nnot-holding\nout-of-range\n";
-    for _ in 0..2 {
-        let mut reader: &[u8] = b"open 2 3 1\nask 1 1\nread 1 0\nwriter evict 2\n";
-        let mut room = [0u8; 64];
-        let mut writer = room.as_mut_slice();
-        let ended = run_steps(rt.alloc(), &mut reader, &mut writer);
-        let written = room.split(|b| *b == 0).next().unwrap_or(b"");
-        if ended.is_ok() {
-            assert_eq!(rt; written, text);
-        } else {
-            assert_eq!(rt; ended, Err(RunFault::Memory));
-            assert!(rt; text.starts_with(written));
-        }
-    }
 }

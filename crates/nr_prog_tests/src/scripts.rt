@@ -1,7 +1,6 @@
 //! Scripts, and the replies that their lines must get.
-use crate::streams::{Dripping, Lines, Narrow, spelled};
-use nr_prog::{RunFault, replies, run};
-use std::alloc::{AllocError, Global};
+use crate::streams::{Lines, spelled};
+use nr_prog::replies;
 use std::process::Abort;
 
 const EMPTY_INPUT: Lines = "";
@@ -333,23 +332,6 @@ const SCRIPTS: [Lines; 23] = [
     A_KEY_HAS_THE_ROWS_OF_ITS_OPENING,
 ];
 
-/// Those that are cut at each byte, which takes a run a byte.
-const CUT_SCRIPTS: [Lines; 2] = [FIRST_PATH, PINNED_SET_KEEPS_ITS_SLOT];
-
-/// The front of a text that answers as many lines as the input's front has ended.
-fn answered<'a>(input: &[u8], text: &'a [u8]) -> &'a [u8] {
-    let mut lines = input.iter().filter(|b| **b == b'\n').count();
-    for (i, b) in text.iter().enumerate() {
-        if lines == 0 {
-            return &text[..i];
-        }
-        if *b == b'\n' {
-            lines -= 1;
-        }
-    }
-    text
-}
-
 /// The script of these bytes has this text.
 fn assert_replies(rt: &(impl Abort + AllocGlobal), input: &[u8], text: &[u8]) {
     let Ok(written) = replies(rt.alloc(), input) else {
@@ -386,141 +368,4 @@ fn a_last_line_needs_no_feed(rt: HostRuntime) {
     for script in SCRIPTS {
         assert_needs_no_feed(&rt, script);
     }
-}
-
-/// The run over these bytes, which come one at a time until a call fails, is answered so.
-fn assert_drips(
-    rt: &(impl Abort + AllocGlobal),
-    bytes: &[u8],
-    fails_at: usize,
-    end: Result<(), RunFault>,
-    text: &[u8],
-) {
-    let mut reader = Dripping {
-        bytes,
-        calls: 0,
-        fails_at,
-    };
-    let mut writer = Narrow {
-        held: Vec::new(rt.alloc()),
-        width: 1,
-        room: usize::MAX,
-    };
-    let ended = run(rt.alloc(), &mut reader, &mut writer);
-    assert_eq!(rt; ended, end, "at {fails_at}");
-    assert_eq!(rt; writer.held.as_slice(), text, "at {fails_at}");
-}
-
-fn assert_drips_whole(rt: &(impl Abort + AllocGlobal), script: Lines) {
-    let (input, text) = spelled(rt, script);
-    assert_drips(rt, input.as_slice(), usize::MAX, Ok(()), text.as_slice());
-}
-
-#[test]
-fn bytes_may_come_and_go_one_by_one(rt: HostRuntime) {
-    for script in SCRIPTS {
-        assert_drips_whole(&rt, script);
-    }
-}
-
-fn assert_reads_may_fail(rt: &(impl Abort + AllocGlobal), bytes: &[u8], text: &[u8]) {
-    for fails_at in 0..=bytes.len() {
-        let whole = answered(&bytes[..fails_at], text);
-        assert_drips(rt, bytes, fails_at, Err(RunFault::Read), whole);
-    }
-}
-
-#[test]
-fn a_read_that_fails_ends_the_run(rt: HostRuntime) {
-    for script in CUT_SCRIPTS {
-        let (input, text) = spelled(&rt, script);
-        assert_reads_may_fail(&rt, input.as_slice(), text.as_slice());
-    }
-}
-
-#[test]
-fn a_line_that_is_cut_is_not_answered(rt: HostRuntime) {
-    let (input, _) = spelled(&rt, FIRST_PATH);
-    let fails_at = input.len().saturating_sub(4);
-    let five_lines: &[u8] = b"ok\nhole\nsend\nwaiting\ndone\n";
-    assert_drips(
-        &rt,
-        input.as_slice(),
-        fails_at,
-        Err(RunFault::Read),
-        five_lines,
-    );
-}
-
-/// The run with a writer that takes so many bytes at a call, and fails once it holds so many, ends by
-/// that fault, with a beginning of the text written.
-fn assert_cut(
-    rt: &(impl Abort + AllocGlobal),
-    input: &[u8],
-    width: usize,
-    room: usize,
-    written: &[u8],
-) {
-    let mut reader = input;
-    let mut writer = Narrow {
-        held: Vec::new(rt.alloc()),
-        width,
-        room,
-    };
-    let ended = run(rt.alloc(), &mut reader, &mut writer);
-    assert_eq!(rt; ended, Err(RunFault::Write), "at {room}");
-    assert_eq!(rt; writer.held.as_slice(), written, "at {room}");
-}
-
-fn assert_writes_may_fail(rt: &(impl Abort + AllocGlobal), input: &[u8], text: &[u8]) {
-    for room in 0..text.len() {
-        assert_cut(rt, input, 1, room, &text[..room]);
-    }
-}
-
-#[test]
-fn a_write_that_fails_ends_the_run(rt: HostRuntime) {
-    for script in CUT_SCRIPTS {
-        let (input, text) = spelled(&rt, script);
-        assert_writes_may_fail(&rt, input.as_slice(), text.as_slice());
-    }
-}
-
-#[test]
-fn a_write_of_no_bytes_is_a_fault(rt: HostRuntime) {
-    assert_cut(&rt, b"find 1 0\n", 0, usize::MAX, b"");
-}
-
-/// A find whose line has so many bytes.
-fn long_line(alloc: Global, bytes: usize) -> Result<Vec<u8>, AllocError> {
-    let mut line = Vec::new(alloc);
-    line.extend_from_slice(b"find 1 ")?;
-    for _ in 7..bytes {
-        line.push(b'a')?;
-    }
-    Ok(line)
-}
-
-/// A line of so many bytes is answered so alone, and so where another follows it.
-fn assert_long(rt: &(impl Abort + AllocGlobal), bytes: usize, alone: &[u8], followed: &[u8]) {
-    let Ok(mut input) = long_line(rt.alloc(), bytes) else {
-        panic!(rt; "no memory")
-    };
-    assert_replies(rt, input.as_slice(), alone);
-    assert!(rt; input.extend_from_slice(b"\nfind 1 a").is_ok());
-    assert_replies(rt, input.as_slice(), followed);
-}
-
-#[test]
-fn a_line_may_have_4096_bytes(rt: HostRuntime) {
-    assert_long(&rt, 4096, b"closed\n", b"closed\nclosed\n");
-    assert_long(&rt, 4097, b"bad\n", b"bad\nclosed\n");
-    assert_long(&rt, 9000, b"bad\n", b"bad\nclosed\n");
-}
-
-#[test]
-fn bytes_outside_print_are_bad(rt: HostRuntime) {
-    let input: &[u8] = b"find 1 ~\nfind 1 \x7f\nfind 1 \x1f\nfind 1 \xc3\xa9\n\0\n";
-    let text: &[u8] = b"closed\nbad\nbad\nbad\nbad\n";
-    assert_replies(&rt, input, text);
 }

@@ -3,6 +3,10 @@
 #![tactic(auto)]
 
 #[cfg(test)]
-mod calls;
+mod clients;
+#[cfg(test)]
+mod flows;
+#[cfg(test)]
+mod opened;
 #[cfg(test)]
 mod threads;

@@ -1,7 +1,7 @@
 //! Clients in threads of their own. What is asserted does not depend on how their steps fall.
 ghost use Rattle.std.specs.Prelude.{◌≡◌};
 
-use crate::calls::{Opened, Plain, end_client, end_flow, is_row, one_row};
+use crate::opened::{Opened, Plain, end_client, end_flow, is_row, one_row};
 use nr_map::{Asked, Cancel, Reader, ReaderMap, Writer};
 use nr_model::RowSet;
 use nr_serve::{Client, Dataflow, Gate, Got, Lobby, OpenGate, Turn};
@@ -220,6 +220,9 @@ fn turns_until_filled<R: Wait>(rt: &R, flow: &mut Dataflow<'_, Plain>) -> (u32, 
     (passed, false)
 }
 
+// What the client and the dataflow came to: the dataflow has a thread of its own, and the client this
+// one. None where no thread is to be had. With `join` the client would sleep for ever there, as the
+// dataflow would come after it.
 fn both_sides<R: Threads + Wait + Sync>(
     rt: &R,
     map: &ReaderMap,
@@ -229,19 +232,29 @@ fn both_sides<R: Threads + Wait + Sync>(
     poster: Poster,
     writer: Writer,
     taker: Taker,
-) -> ((Got, u64), (bool, Cancel, u32, bool))
+) -> Option<((Got, u64), (bool, Cancel, u32, bool))>
     requires map { (reader.table ≡ map.now) × (writer.table ≡ map.now) × (map.now.shape.keys ≡ 1) }
     requires queue { (poster.queue ≡ triggers.now.id) × (taker.queue ≡ triggers.now.id) }
     requires keys { (poster.keys ≡ 1) × (taker.keys ≡ 1) }
 {
-    join(
+    thread::scope(
+        thread::scope_env(),
         rt,
-        move || -> (Got, u64)
-            requires { (reader.table ≡ map.now) × (map.now.shape.keys ≡ 1) × (poster.queue ≡ triggers.now.id) × (poster.keys ≡ 1) }
-        { waits(rt, map, triggers, lobby, reader, poster) },
-        move || -> (bool, Cancel, u32, bool)
-            requires { (writer.table ≡ map.now) × (map.now.shape.keys ≡ 1) × (taker.queue ≡ triggers.now.id) × (taker.keys ≡ 1) }
-        { loses_and_cancels(rt, map, triggers, lobby, writer, taker) },
+        |scope| -> Option<((Got, u64), (bool, Cancel, u32, bool))>
+            requires map { (reader.table ≡ map.now) × (writer.table ≡ map.now) × (map.now.shape.keys ≡ 1) }
+            requires queue { (poster.queue ≡ triggers.now.id) × (taker.queue ≡ triggers.now.id) }
+            requires keys { (poster.keys ≡ 1) × (taker.keys ≡ 1) }
+        {
+            let Ok(flow) = scope.spawn(
+                move || -> (bool, Cancel, u32, bool)
+                    requires { (writer.table ≡ map.now) × (map.now.shape.keys ≡ 1) × (taker.queue ≡ triggers.now.id) × (taker.keys ≡ 1) }
+                { loses_and_cancels(rt, map, triggers, lobby, writer, taker) },
+            ) else {
+                return None;
+            };
+            let waited = waits(rt, map, triggers, lobby, reader, poster);
+            Some((waited, flow.join(rt)))
+        },
     )
 }
 
@@ -257,9 +270,8 @@ fn a_cancel_wakes_who_waits(rt: HostRuntime) -> Result<(), Fail> {
         poster,
     } = opened;
     let lobby = Lobby::open();
-    let (waited, cancelled) = both_sides(
-        &rt, &map, &triggers, &lobby, reader, poster, writer, taker,
-    );
+    let sides = both_sides(&rt, &map, &triggers, &lobby, reader, poster, writer, taker);
+    let (waited, cancelled) = sides.ok_or("no thread")?;
     assert_eq!(rt; cancelled, (true, Cancel::Cancelled, 0, true));
     assert_eq!(rt; waited, (Got::Rows, 2));
     assert_eq!(rt; lobby.count(&rt), 2);

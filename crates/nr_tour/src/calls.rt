@@ -19,6 +19,24 @@ pub const CHANGE: [Delta; 2] = [
     },
 ];
 
+/// The change of key 1 where its row is `1:100` and will be `1:200`.
+pub const RISE: [Delta; 2] = [
+    Delta {
+        plus: false,
+        row: Row { a: 1, b: 100 },
+    },
+    Delta {
+        plus: true,
+        row: Row { a: 1, b: 200 },
+    },
+];
+
+/// A change that only brings a row.
+pub const MORE: [Delta; 1] = [Delta {
+    plus: true,
+    row: Row { a: 1, b: 1 },
+}];
+
 /// The set of those rows. `fill` takes at most `rows()` of them, so where there are more this is the
 /// empty set.
 pub fn set_of(map: &ReaderMap, rows: &[Row]) -> RowSet

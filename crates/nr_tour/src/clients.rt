@@ -2,9 +2,10 @@
 ghost use Rattle.std.specs.Prelude.{◌≡◌};
 
 use crate::queue::{Server, opened_server};
+use crate::source::Shelf;
 use nr_map::{Reader, ReaderMap, Writer};
-use nr_model::{OpenFault, Row, RowSet};
-use nr_serve::{Client, Dataflow, Got, Lobby, OpenGate, Source, Turn};
+use nr_model::{OpenFault, RowSet};
+use nr_serve::{Client, Dataflow, Got, Lobby, OpenGate, Turn};
 use nr_trigger::{Poster, Taker, Triggers};
 use std::alloc::Global;
 use std::io::{self, Print};
@@ -16,23 +17,6 @@ pub struct Served {
     got: Got,
     rows: RowSet,
     sends: u64,
-}
-
-/// Where the dataflow has its rows from: key `k` has the one row `k:100`.
-#[derive(Drop)]
-struct Shelf;
-
-impl Source for Shelf {
-    fn rows(&mut self, key: u32, _bound: u32) -> RowSet {
-        let row = Row {
-            a: u64::from(key),
-            b: 100,
-        };
-        match RowSet::of(&[row]) {
-            Ok(rows) => rows,
-            Err(_) => RowSet::new(),
-        }
-    }
 }
 
 // A client's thread: a reader and a poster in one hand. It asks where the key is missing, posts the
@@ -74,13 +58,16 @@ fn fill_one<R: Wait>(
     requires map { (writer.table ≡ map.now) × (map.now.shape.keys ≡ 2) }
     requires queue { (taker.queue ≡ triggers.now.id) × (taker.keys ≡ 2) }
 {
-    let mut flow = Dataflow::open(map, writer, triggers, taker, Shelf, lobby);
+    let source = Shelf { b: 100 };
+    let mut flow = Dataflow::open(map, writer, triggers, taker, source, lobby);
     for _ in rt.forever() {
         match flow.turn(rt) {
             Turn::Filled(_) => break,
             Turn::Idle | Turn::Passed(_) | Turn::Kept(_) => thread::yield_now(),
         }
     }
+    // Nobody fills a key from now on, so nobody may sleep for one.
+    lobby.close(rt);
     let (_writer, _taker, kept, _source) = flow.end();
     if let Some(trigger) = kept {
         trigger.into_key();

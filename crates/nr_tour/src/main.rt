@@ -3,19 +3,25 @@
 //! and prints in another, so that no token or pin lives where a line may fail to be written.
 #![tactic(auto)]
 
+mod attempts;
 mod calls;
 mod cancels;
 mod clients;
+mod flow;
+mod gates;
+mod lobbies;
 mod lookups;
 mod meetings;
 mod opening;
 mod pins;
 mod queue;
+mod sizes;
 mod slots;
+mod source;
 mod threads;
 mod upkeep;
 
-use crate::calls::CHANGE;
+use crate::calls::{CHANGE, MORE, RISE};
 use nr_model::Batch;
 use std::io::Print;
 use std::sync::Wait;
@@ -30,16 +36,23 @@ fn show_map<R: AllocGlobal + Print + Threads + Sync>(rt: &R) -> anyhow::Result<(
     upkeep::show(rt, &upkeep::kept_up(alloc, &change)?)?;
     pins::show(rt, &pins::kept_over_update(alloc, &change)?)?;
     slots::show(rt, &slots::short_of_slots(alloc, &change)?)?;
+    let more = Batch::of(&MORE)?;
+    sizes::show(rt, &sizes::kept_small(alloc, &change, &more)?)?;
+    cancels::show(rt, &cancels::taken_back(alloc)?)?;
+    meetings::show(rt, &meetings::learnt(alloc)?)?;
     Ok(())
 }
 
-// What else a server needs.
+// The queue and the server over it.
 fn show_server<R: AllocGlobal + Print + Threads + Wait + Sync>(rt: &R) -> anyhow::Result<()> {
     let alloc = rt.alloc();
-    cancels::show(rt, &cancels::taken_back(alloc)?)?;
-    meetings::show(rt, &meetings::learnt(alloc)?)?;
     queue::show(rt, &queue::passed_on(rt, alloc)?)?;
+    attempts::show(rt, &attempts::passed_on(alloc)?)?;
     clients::show(rt, &clients::waited_for(rt, alloc)?)?;
+    let rise = Batch::of(&RISE)?;
+    flow::show(rt, &flow::in_one_hand(rt, alloc, &rise)?)?;
+    gates::show(rt, &gates::held_back(rt, alloc)?)?;
+    lobbies::show(rt, &lobbies::raised_once(rt))?;
     Ok(())
 }
 

@@ -14,6 +14,8 @@ pub struct Kept {
     pinned: RowSet,
     first: Option<Row>,
     found: RowSet,
+    holder: u32,
+    released: u32,
 }
 
 // None where the key is a hole: then the reader comes back in place of a pin, and ends here.
@@ -43,12 +45,15 @@ fn hold_over_update(
     };
     let mut found = RowSet::new();
     map.find(two, 0, &mut found);
-    pin.release(map);
+    let holder = pin.number();
+    let released = pin.release(map);
     Some(Kept {
         updated,
         pinned,
         first,
         found,
+        holder,
+        released: released.number(),
     })
 }
 
@@ -65,10 +70,12 @@ pub fn show<R: Print>(rt: &R, told: &Option<Kept>) -> io::Result<()> {
         return println!(rt; "A pin\n  the key was a hole");
     };
     println!(rt;
-        "A pin\n  an update beside it: {:?}\n  it has {:?}\n  its first row: {:?}\n  reader 2 finds {:?}",
+        "A pin\n  an update beside it: {:?}\n  it has {:?}\n  its first row: {:?}\n  reader 2 finds {:?}\n  it was held by reader {}, which came back as {}",
         told.updated,
         told.pinned.as_slice(),
         told.first,
-        told.found.as_slice()
+        told.found.as_slice(),
+        told.holder,
+        told.released
     )
 }

@@ -1,0 +1,121 @@
+//! The queue for a thread that may not wait: each call makes one attempt.
+ghost use Rattle.std.specs.Prelude.{◌≡◌, ◌<◌, ◌≤◌, MatchOption};
+
+use crate::calls::{ROWS, set_of};
+use crate::queue::{Server, opened_server};
+use nr_map::{Asked, FillFault, Reader, ReaderMap, Writer};
+use nr_model::OpenFault;
+use nr_trigger::{Poster, Taker, Triggers, Upquery};
+use std::alloc::Global;
+use std::io::{self, Print};
+
+#[derive(Drop)]
+pub struct Attempts {
+    back: Option<Upquery>,
+    answers: [Option<(u32, Result<(), FillFault>)>; 3],
+    left: [Option<Upquery>; 2],
+}
+
+// Requests a key, and gives what the ticket of a request that is to be sent names. The ticket is spent
+// here, so whoever has the request owes its upquery now.
+fn request(map: &ReaderMap, reader: &mut Reader, key: u32) -> Option<Upquery>
+    requires own { reader.old.table ≡ map.now }
+    requires key { key < map.now.shape.keys }
+    ensures own { reader.new.table ≡ map.now }
+    ensures key { MatchOption result (Unit {0}) (λ upquery. upquery.key ≡ key) }
+{
+    match map.ask(reader, key) {
+        Asked::Send(ticket) => {
+            let upquery = Upquery {
+                key: ticket.key(),
+                number: ticket.number(),
+            };
+            ticket.into_key();
+            Some(upquery)
+        }
+        Asked::Waiting | Asked::Filled => None,
+    }
+}
+
+// One attempt to post a request. It comes back where the queue is full, and also where another thread
+// is in the way: so try again later, and don't take it for a full queue.
+fn try_post(triggers: &Triggers, poster: &mut Poster, upquery: Option<Upquery>) -> Option<Upquery>
+    requires queue { poster.old.queue ≡ triggers.now.id }
+    requires key { MatchOption upquery (Unit {0}) (λ upquery. upquery.key < poster.old.keys) }
+    ensures queue { (poster.new.queue ≡ triggers.now.id) × (poster.new.keys ≡ poster.old.keys) }
+    ensures key { MatchOption result (Unit {0}) (λ upquery. upquery.key < poster.new.keys) }
+{
+    triggers.try_post(poster, upquery?).err()
+}
+
+// One attempt to take a trigger, which is answered and spent. None doesn't say that nothing was posted.
+fn try_answer(
+    map: &ReaderMap,
+    triggers: &Triggers,
+    writer: &mut Writer,
+    taker: &mut Taker,
+) -> Option<(u32, Result<(), FillFault>)>
+    requires own { writer.old.table ≡ map.now }
+    requires queue { (taker.old.queue ≡ triggers.now.id) × (taker.old.keys ≤ map.now.shape.keys) }
+    ensures own { writer.new.table ≡ map.now }
+    ensures queue { (taker.new.queue ≡ triggers.now.id) × (taker.new.keys ≡ taker.old.keys) }
+{
+    let trigger = triggers.try_take(taker)?;
+    let filled = map.fill(writer, trigger.key(), trigger.number(), &set_of(map, &ROWS));
+    Some((trigger.into_key(), filled))
+}
+
+// Two requests and room for one, as in the chapter before.
+fn post_in_turn(
+    map: &ReaderMap,
+    triggers: &Triggers,
+    reader: &mut Reader,
+    poster: &mut Poster,
+    writer: &mut Writer,
+    taker: &mut Taker,
+) -> Attempts
+    requires map { (reader.old.table ≡ map.now) × (writer.old.table ≡ map.now) × (map.now.shape.keys ≡ 2) }
+    requires poster { (poster.old.queue ≡ triggers.now.id) × (poster.old.keys ≡ 2) }
+    requires taker { (taker.old.queue ≡ triggers.now.id) × (taker.old.keys ≡ 2) }
+{
+    let first = request(map, reader, 0);
+    let second = request(map, reader, 1);
+    let first = try_post(triggers, poster, first);
+    let back = try_post(triggers, poster, second);
+    let one = try_answer(map, triggers, writer, taker);
+    let second = try_post(triggers, poster, back);
+    let two = try_answer(map, triggers, writer, taker);
+    let none = try_answer(map, triggers, writer, taker);
+    Attempts {
+        back,
+        answers: [one, two, none],
+        left: [first, second],
+    }
+}
+
+/// Nobody else calls here, so no attempt fails for a thread that is in the way.
+pub fn passed_on(alloc: Global) -> Result<Attempts, OpenFault> {
+    let Server {
+        map,
+        mut writer,
+        mut reader,
+        triggers,
+        mut poster,
+        mut taker,
+    } = opened_server(alloc, 1)?;
+    Ok(post_in_turn(
+        &map,
+        &triggers,
+        &mut reader,
+        &mut poster,
+        &mut writer,
+        &mut taker,
+    ))
+}
+
+pub fn show<R: Print>(rt: &R, told: &Attempts) -> io::Result<()> {
+    println!(rt;
+        "One attempt\n  the second request: {:?}\n  answers: {:?}\n  requests left: {:?}",
+        told.back, told.answers, told.left
+    )
+}
