@@ -1,5 +1,5 @@
 //! A worker's gets.
-ghost use Rattle.std.specs.Prelude.{◌≡◌, ◌≤◌, MatchOption, None, false};
+ghost use Rattle.std.specs.Prelude.{◌≡◌, ◌≤◌, MatchOption, None, false, true};
 ghost use Rattle.nr_load.specs.Drawn.{drawn, drawn_on};
 ghost use Rattle.nr_load.specs.Works.{answers, MayGoOn, GetsKey, Works};
 
@@ -23,6 +23,34 @@ pub struct Worked {
     /// Whether it found the lobby closed, and began no more.
     pub stopped: bool,
     pub fault: Option<LoadFault>,
+}
+
+impl Worked {
+    // The lobby was found closed after so many gets.
+    fn stopped(made: u32, answered: u32) -> Worked
+        ensures made { (result.made ≡ made) × (result.answered ≡ answered) }
+        ensures stopped { result.stopped ≡ true }
+    {
+        Worked {
+            made,
+            answered,
+            stopped: true,
+            fault: None,
+        }
+    }
+
+    // Ended by a fault, or without one by the last get.
+    fn ended(made: u32, answered: u32, fault: Option<LoadFault>) -> Worked
+        ensures made { (result.made ≡ made) × (result.answered ≡ answered) }
+        ensures fault { result.fault ≡ fault }
+    {
+        Worked {
+            made,
+            answered,
+            stopped: false,
+            fault,
+        }
+    }
 }
 
 // Whether it is one row of the key, not below what was known of it; then that is known.
@@ -104,40 +132,20 @@ pub fn load_gets<R: Wait, G: Gate>(
     ensures places { (client.new.map ≡ client.old.map) × (client.new.queue ≡ client.old.queue) × (client.new.opened ≡ client.old.opened) }
 {
     let Ok(mut known) = Vec::from_elem(alloc, 0u64, draws.keys() as usize) else {
-        return Worked {
-            made: 0,
-            answered: 0,
-            stopped: false,
-            fault: Some(LoadFault::Memory),
-        };
+        return Worked::ended(0, 0, Some(LoadFault::Memory));
     };
     let mut rows = RowSet::new();
     let mut answered: u32 = 0;
     for made in 0..gets {
         if lobby.is_closed(rt) {
-            return Worked {
-                made,
-                answered,
-                stopped: true,
-                fault: None,
-            };
+            return Worked::stopped(made, answered);
         }
         let (got, is_wrong) = get_drawn(rt, client, draws, &mut rows, known.as_mut_slice());
         answered += answers_of(got);
         let fault = fault_of(got, is_wrong);
         if fault.is_some() {
-            return Worked {
-                made: made + 1,
-                answered,
-                stopped: false,
-                fault,
-            };
+            return Worked::ended(made + 1, answered, fault);
         }
     }
-    Worked {
-        made: gets,
-        answered,
-        stopped: false,
-        fault: None,
-    }
+    Worked::ended(gets, answered, None)
 }

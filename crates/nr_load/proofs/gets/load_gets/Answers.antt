@@ -8,13 +8,18 @@ use Rattle.nr_load.proofs.Working.{Begins, begins, ends, ends_with, goes_on, ans
 use Rattle.nr_load.proofs.gets.load_gets.Goals as goal
 
 pub returns-then-is_closed-clause-works : goal.returns-then-is_closed-clause-works
-returns-then-is_closed-clause-works g c = ends 1000000 _ _ _ _ _ _ _ c.loop-made.invariant.begun
+returns-then-is_closed-clause-works g c =
+    subst (λ (n : ℕ). Works 1000000 c.args.draws.now.keys n c.args.draws.now.generator c.stopped.result.answered c.args.client.now.hands c.loop-made.client.hands c.loop-made.draws.generator) (sym c.stopped.ensures.made.0)
+    (subst (λ (n : ℕ). Works 1000000 c.args.draws.now.keys c.loop-made.made c.args.draws.now.generator n c.args.client.now.hands c.loop-made.client.hands c.loop-made.draws.generator) (sym c.stopped.ensures.made.1)
+    (ends 1000000 _ _ _ _ _ _ _ c.loop-made.invariant.begun))
 
 pub returns-clause-works : goal.returns-clause-works
 returns-clause-works g c =
     let all : c.loop-made.made ≡ c.args.gets = omega arith in
-    subst (λ (n : ℕ). Works 1000000 c.args.draws.now.keys n c.args.draws.now.generator c.loop-made.answered c.args.client.now.hands c.loop-made.client.hands c.loop-made.draws.generator) all
-    (ends 1000000 _ _ _ _ _ _ _ c.loop-made.invariant.begun)
+    subst (λ (n : ℕ). Works 1000000 c.args.draws.now.keys n c.args.draws.now.generator c.ended-2.result.answered c.args.client.now.hands c.loop-made.client.hands c.loop-made.draws.generator) (sym c.ended-2.ensures.made.0)
+    (subst (λ (n : ℕ). Works 1000000 c.args.draws.now.keys c.args.gets c.args.draws.now.generator n c.args.client.now.hands c.loop-made.client.hands c.loop-made.draws.generator) (sym c.ended-2.ensures.made.1)
+    (subst (λ (n : ℕ). Works 1000000 c.args.draws.now.keys n c.args.draws.now.generator c.loop-made.answered c.args.client.now.hands c.loop-made.client.hands c.loop-made.draws.generator) all
+    (ends 1000000 _ _ _ _ _ _ _ c.loop-made.invariant.begun)))
 
 pub loop-made-preserved : goal.loop-made-preserved
 loop-made-preserved g c =
