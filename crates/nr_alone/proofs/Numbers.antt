@@ -45,7 +45,7 @@ none_cancelled shape key [] are none = refl
 none_cancelled shape key (e ∷ rest) are none = ⊎_elim
     (λ (own : e.caller ≡ 0). let some_there : e ∷ entries_of rest 0 ≡ [] = sym (entries_own e rest 0 own) ∙ none in absurd (cc))
     (λ (other : (e.caller ≤ shape.readers) × (is_reading e.call ≡ true)). omega
-      (arith, one_more key e rest, reading_cancels_none key e.call e.reply other.1, none_cancelled shape key rest are.1 (left_of (e.caller == 0) e (entries_of rest 0) none)))
+    (arith, one_more key e rest, reading_cancels_none key e.call e.reply other.1, none_cancelled shape key rest are.1 (left_of (e.caller == 0) e (entries_of rest 0) none)))
     are.0.1
 
 pub number_is : NumbersCountCancels → LegalBegins → (table : Table) (w : Caller) (seats : List Seat) → IsAlone table w seats → (key : ℕ) → key < table.shape.keys

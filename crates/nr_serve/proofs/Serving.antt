@@ -18,8 +18,8 @@ serves_on map queue opened old new steps entries serving ready moves =
     let begins = serving.begins in
     let mine = moves.makes.mine in
     let grown : since opened new ≡ since opened old ++ entries =
-        ap (λ (l : List Entry). drop (length before) l) (mine ∙ ap (λ (l : List Entry). l ++ entries) (sym begins) ∙ append_assoc before (since opened old) entries)
-        ∙ drop-append_seam before (since opened old ++ entries) in
+    ap (λ (l : List Entry). drop (length before) l) (mine ∙ ap (λ (l : List Entry). l ++ entries) (sym begins) ∙ append_assoc before (since opened old) entries)
+    ∙ drop-append_seam before (since opened old ++ entries) in
     let count : length (sent (since opened new)) ≡ length (sent (since opened old)) + length (sent entries) =
     ap (λ (l : List Entry). length (sent l)) grown ∙ ap (λ (l : List Upquery). length l) (sent-append (since opened old) entries) ∙ length-append (sent (since opened old)) (sent entries) in
     record {

@@ -34,7 +34,7 @@ misses_once key a b c reader request posted gains asked =
     let number : reader.number ≡ a.reader.number = gains.number ∙ posted.makes.number in
     let asked' = subst (λ (by : ℕ). Moves (length (requested by key request)) (record b { reader = reader }) (requested by key request) c) number asked in
     moves_both 1 (length (requested a.reader.number key request)) _ a (found a.reader.number key reply.Hole ∷ []) (record b { reader = reader }) (requested a.reader.number key request) c (omega arith)
-        (finds 1 key a b reply.Hole reader posted gains) asked'
+    (finds 1 key a b reply.Hole reader posted gains) asked'
 
 -- a request fits the ticket that was kept before the post, too
 fits_once : (before mid after : Option Request) (request : Requested) → RequestsFit before [] mid → RequestsFit mid (request ∷ []) after → RequestsFit before (request ∷ []) after

@@ -16,8 +16,15 @@ returns-in-Err c = inr (
   refl,
   c.take_reader-idle.result,
   c.in-Err.idle,
-  record { old = c.side-side.result.now; new = _; led = c.side-side.ensures.value; leads = refl; map = c.put-in-Err.ensures.map ∙ c.take_reader-idle.ensures.map;
-        old_hand = c.take_reader-idle.ensures.reader; new_hand = c.put-in-Err.ensures.hand },
+  record {
+    old = c.side-side.result.now;
+    new = _;
+    led = c.side-side.ensures.value;
+    leads = refl;
+    map = c.put-in-Err.ensures.map ∙ c.take_reader-idle.ensures.map;
+    old_hand = c.take_reader-idle.ensures.reader;
+    new_hand = c.put-in-Err.ensures.hand;
+  },
   c.in-Err.ensures,
   refl,
 )

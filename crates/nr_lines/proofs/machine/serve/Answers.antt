@@ -18,7 +18,7 @@ returns-in_err-reply_to g c =
     let p = err_from_is_err_and c.from_residual-in_err-reply_to.result c.from_residual-in_err-reply_to.ensures.1 in
     rw (p.1, p.2, c.in_err-reply_to.ensures.fault)
     (ends_answering (or_bad g.M.Machine.answer) (g.M.Machine.state_of c.args.machine.now) c.args.limit c.lines.input c.read_line.new.self _ _ _ _ _ _ _ c.read_line.new.line c.lines.invariant
-      c.in_ok-end.end c.in_default.not-NoLine c.in_ok-end.ensures)
+    c.in_ok-end.end c.in_default.not-NoLine c.in_ok-end.ensures)
 
 pub returns-in_err-send : goal.returns-in_err-send
 returns-in_err-send g c =

@@ -12,12 +12,12 @@ pub returns-then-is_ok-clause-gained : goal.returns-then-is_ok-clause-gained
 returns-then-is_ok-clause-gained g c =
     let filled = turns_gain _ c.args.flow.now c.turn.new.self (turn.Filled c.in-Filled.key) c.in-Filled.ensures.turns in
     let changed : Gained c.args.flow.now.map.shape.keys c.turn.new.self.writer c.change.new.flow.writer 0 0 =
-        subst (λ (t : Table). Gained t.shape.keys c.turn.new.self.writer c.change.new.flow.writer 0 0) c.turn.ensures.places.0 c.change.ensures.gained in
+    subst (λ (t : Table). Gained t.shape.keys c.turn.new.self.writer c.change.new.flow.writer 0 0) c.turn.ensures.places.0 c.change.ensures.gained in
     (1, gained_then c.args.flow.now.map.shape.keys c.args.flow.now.writer c.turn.new.self.writer c.change.new.flow.writer 0 1 0 0 filled changed, omega (arith, c.saturating_add.ensures))
 
 pub returns-else-is_ok-clause-gained : goal.returns-else-is_ok-clause-gained
 returns-else-is_ok-clause-gained g c =
     let filled = turns_gain _ c.args.flow.now c.turn.new.self (turn.Filled c.in-Filled.key) c.in-Filled.ensures.turns in
     let changed : Gained c.args.flow.now.map.shape.keys c.turn.new.self.writer c.change.new.flow.writer 0 0 =
-        subst (λ (t : Table). Gained t.shape.keys c.turn.new.self.writer c.change.new.flow.writer 0 0) c.turn.ensures.places.0 c.change.ensures.gained in
+    subst (λ (t : Table). Gained t.shape.keys c.turn.new.self.writer c.change.new.flow.writer 0 0) c.turn.ensures.places.0 c.change.ensures.gained in
     (1, gained_then c.args.flow.now.map.shape.keys c.args.flow.now.writer c.turn.new.self.writer c.change.new.flow.writer 0 1 0 0 filled changed, omega (arith, c.saturating_add.ensures))

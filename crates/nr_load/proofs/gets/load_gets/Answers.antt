@@ -26,10 +26,10 @@ loop-made-preserved g c =
     let i = c.loop-made.invariant in let got = c.get_drawn-got in
     let key : drawn c.loop-made.draws.keys c.loop-made.draws.generator ≡ drawn c.args.draws.now.keys c.loop-made.draws.generator = ap (λ (n : ℕ). drawn n c.loop-made.draws.generator) i.keys in
     let gets : GetsKey 1000000 (drawn c.args.draws.now.keys c.loop-made.draws.generator) c.loop-made.client.hands got.result.0 got.new.client.hands =
-        subst (λ (k : ℕ). GetsKey 1000000 k c.loop-made.client.hands got.result.0 got.new.client.hands) key got.ensures.gets in
+    subst (λ (k : ℕ). GetsKey 1000000 k c.loop-made.client.hands got.result.0 got.new.client.hands) key got.ensures.gets in
     let on : MayGoOn got.result.0 = faultless c.fault_of-fault.result got.result.0 c.fault_of-fault.ensures (sym c.is_some.ensures ∙ c.if-is_some.false) in
     let begun : Begins 1000000 c.args.draws.now.keys (c.loop-made.made + 1) c.args.draws.now.generator (c.loop-made.answered + answers got.result.0) c.args.client.now.hands got.new.client.hands
-        (drawn_on c.loop-made.draws.generator) = goes_on 1000000 _ _ _ _ _ _ _ _ got.result.0 i.begun gets on in
+    (drawn_on c.loop-made.draws.generator) = goes_on 1000000 _ _ _ _ _ _ _ _ got.result.0 i.begun gets on in
     record {
       map = got.ensures.places.0 ∙ i.map;
       queue = got.ensures.places.1 ∙ i.queue;
@@ -37,6 +37,6 @@ loop-made-preserved g c =
       keys = got.ensures.draws.0 ∙ i.keys;
       few = omega (arith, i.few, c.answers_of-answered.ensures, answers_one got.result.0);
       begun = subst (λ (x : ℕ). Begins 1000000 c.args.draws.now.keys (c.loop-made.made + 1) c.args.draws.now.generator
-            (c.loop-made.answered + x) c.args.client.now.hands got.new.client.hands got.new.draws.generator) (sym c.answers_of-answered.ensures)
+          (c.loop-made.answered + x) c.args.client.now.hands got.new.client.hands got.new.draws.generator) (sym c.answers_of-answered.ensures)
           (subst (λ (x : Lcg). Begins 1000000 c.args.draws.now.keys (c.loop-made.made + 1) c.args.draws.now.generator (c.loop-made.answered + answers got.result.0) c.args.client.now.hands got.new.client.hands x) (sym got.ensures.draws.1) begun);
     }

@@ -14,9 +14,17 @@ use Rattle.nr_load.proofs.load.settle.Goals as goal
 
 pub collect-readers-requires-clause-room : goal.collect-readers-requires-clause-room
 collect-readers-requires-clause-room c =
-    let e = c.requires.ended in
-    (omega (arith, served_few c.args.plan.now.seed c.args.plan.now.gets e.readers c.args.joined.outcomes.items e.served, e.opened.count, ap (λ (shape : Shape). shape.readers) c.requires.sizes,
-        c.requires.room.0, c.args.joined.outcomes.ok), c.requires.room.1)
+    let e = c.requires.ended in (
+      omega (
+        arith,
+        served_few c.args.plan.now.seed c.args.plan.now.gets e.readers c.args.joined.outcomes.items e.served,
+        e.opened.count,
+        ap (λ (shape : Shape). shape.readers) c.requires.sizes,
+        c.requires.room.0,
+        c.args.joined.outcomes.ok,
+      ),
+      c.requires.room.1,
+    )
 
 pub collect-readers-requires-clause-made : goal.collect-readers-requires-clause-made
 collect-readers-requires-clause-made c =

@@ -29,7 +29,7 @@ loop-reader-preserved g c =
       queue = All-rest (IsPosterOf c.args.shared.now.map c.args.shared.now.triggers) c.in-Some-next.poster (into_iter_items c.next-in-loop-reader.new.self) _ post.0 i.queue;
       carries = λ hs rest.
           subst (λ (xs : List (PromisedHandle Outcome Serving)). CarriesFirst c.args.shared.now.plan.seed c.args.shared.now.plan.gets (vec_items c.args.readers) xs)
-              (sym (ap (λ (l : List (PromisedHandle Outcome Serving)). l ++ hs) push.items ∙ append_assoc (vec_items c.loop-reader.handles) (h ∷ []) hs))
+          (sym (ap (λ (l : List (PromisedHandle Outcome Serving)). l ++ hs) push.items ∙ append_assoc (vec_items c.loop-reader.handles) (h ∷ []) hs))
           (i.carries (h ∷ hs)
           (subst (λ (rs : List Caller). CarriesFirst c.args.shared.now.plan.seed c.args.shared.now.plan.gets rs (h ∷ hs)) (sym step.0) (c.in-Ok.ensures, rest)));
     }

@@ -9,7 +9,7 @@ pub loop-reader-preserved : goal.loop-reader-preserved
 loop-reader-preserved c =
     let i = c.loop-reader.invariant in let learns = c.gather.ensures.of_reader.learns in
     let gathers : Gathers c.loop-reader.writer c.reader-item.result c.gather.new.writer c.gather.new.reader =
-        subst (λ (r : Caller). Gathers c.loop-reader.writer r c.gather.new.writer c.gather.new.reader) (sym c.reader-item.is) c.gather.ensures in
+    subst (λ (r : Caller). Gathers c.loop-reader.writer r c.gather.new.writer c.gather.new.reader) (sym c.reader-item.is) c.gather.ensures in
     record {
       stays = stays_then _ c.loop-reader.writer _ i.stays (learns_stays 3 _ _ learns);
       sound = λ some. learns_sound 3 _ _ learns;

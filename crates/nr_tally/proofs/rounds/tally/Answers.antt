@@ -10,7 +10,7 @@ returns c =
     let one = c.gather_all.ensures in let counted = c.count_asked-asked.ensures in let two = c.gather_all-2.ensures in
     let table : c.args.map.now ≡ c.args.writer.now.table = sym c.requires.own in
     let tally = tallies c.rounds_tell_all.ensures c.entries_are_callers.ensures c.calls_stay.ensures c.args.writer.now c.gather_all.new.writer c.count_asked-asked.new.writer c.gather_all-2.new.writer
-        c.args.readers.now c.gather_all.new.readers c.gather_all-2.new.readers c.count_asked-asked.result
+    c.args.readers.now c.gather_all.new.readers c.gather_all-2.new.readers c.count_asked-asked.result
     one counted two c.requires.writer (subst (λ (t : Table). IsInOrder t.shape.readers c.args.readers.now) table c.requires.order) (subst (λ (t : Table). 0 < t.shape.readers) table c.requires.some) in
     record {
       tally = tally;

@@ -21,7 +21,7 @@ invariant_of-result c =
     let g : Gathered 0 w (map Idle readers) w' seats' = subst (λ (l : List Seat). Gathered 0 w l w' seats') (c.as_mut_slice.ensures.value ∙ c.in-Ok.ensures) c.gather_round.ensures in
     let size : length seats' ≡ c.in-Ok.seats.len = same_length seats' (map Idle readers) g.round.same ∙ ap (λ (l : List Seat). length l) (sym (c.as_mut_slice.ensures.value ∙ c.in-Ok.ensures)) ∙ c.as_mut_slice.ensures.len in
     let some : 0 < c.args.shape.now.readers = ⊎_elim (λ (low : 0 < c.args.shape.now.readers). low)
-        (λ (none : c.args.shape.now.readers ≤ 0). let e = c.in_ok-map.ensures.bad_size.1 (inr (inr (inl (inl (omega arith))))) in absurd (cc)) (cases_lt 0 c.args.shape.now.readers) in
+    (λ (none : c.args.shape.now.readers ≤ 0). let e = c.in_ok-map.ensures.bad_size.1 (inr (inr (inl (inl (omega arith))))) in absurd (cc)) (cases_lt 0 c.args.shape.now.readers) in
     subst (λ (l : List Seat). IsAlone map' w' l) (sym (with_items_is c.in-Ok.seats seats' size))
     (alone c.laws.ensures c.args.shape.now map' w readers c.in_ok-map.ensures.ok some w' seats' g)
 
@@ -31,6 +31,6 @@ returns-clause-ok c =
     let g : Gathered 0 w (map Idle readers) w' seats' = subst (λ (l : List Seat). Gathered 0 w l w' seats') (c.as_mut_slice.ensures.value ∙ c.in-Ok.ensures) c.gather_round.ensures in
     let size : length seats' ≡ c.in-Ok.seats.len = same_length seats' (map Idle readers) g.round.same ∙ ap (λ (l : List Seat). length l) (sym (c.as_mut_slice.ensures.value ∙ c.in-Ok.ensures)) ∙ c.as_mut_slice.ensures.len in
     let some : 0 < c.args.shape.now.readers = ⊎_elim (λ (low : 0 < c.args.shape.now.readers). low)
-        (λ (none : c.args.shape.now.readers ≤ 0). let e = c.in_ok-map.ensures.bad_size.1 (inr (inr (inl (inl (omega arith))))) in absurd (cc)) (cases_lt 0 c.args.shape.now.readers) in
+    (λ (none : c.args.shape.now.readers ≤ 0). let e = c.in_ok-map.ensures.bad_size.1 (inr (inr (inl (inl (omega arith))))) in absurd (cc)) (cases_lt 0 c.args.shape.now.readers) in
     ap (λ (l : List Seat). shown_by map' w' l) (with_items_is c.in-Ok.seats seats' size)
     ∙ shows c.laws.ensures c.args.shape.now map' w readers c.in_ok-map.ensures.ok some w' seats' g

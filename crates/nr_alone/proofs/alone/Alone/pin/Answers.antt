@@ -24,7 +24,7 @@ invariant_of-self-2 c =
     let low = place_here map w0 seats at _ c.self.view_is c.requires.reader in
     let made : MakesPin c.self.inside.writer.seen c.args.key old x (Ok answer) = subst (λ (r : Result Answer Refusal). MakesPin c.self.inside.writer.seen c.args.key old x r) c.in_ok-answer.was c.pin_at.ensures.made in
     let near : c.args.key < map.shape.keys =
-        let low_key = subst (λ (s : MapState). c.args.key < key_count s.map) (sym c.self.view_is) c.requires.key in omega (arith, low_key, keys_are map (log_of w0 seats.items)) in
+    let low_key = subst (λ (s : MapState). c.args.key < key_count s.map) (sym c.self.view_is) c.requires.key in omega (arith, low_key, keys_are map (log_of w0 seats.items)) in
     let said = says_pin c.laws.ensures map w0 seats.items c.self.invariant at old x low c.index_mut.ensures.value w' seats' g c.self.inside.writer.seen c.args.key answer near made in
     alone_here map w0 seats at x w' seats' _ items c.as_mut_slice.ensures.len g said.0
 
@@ -37,6 +37,6 @@ returns c =
     let low = place_here map w0 seats at _ c.self.view_is c.requires.reader in
     let made : MakesPin c.self.inside.writer.seen c.args.key old x (Ok answer) = subst (λ (r : Result Answer Refusal). MakesPin c.self.inside.writer.seen c.args.key old x r) c.in_ok-answer.was c.pin_at.ensures.made in
     let near : c.args.key < map.shape.keys =
-        let low_key = subst (λ (s : MapState). c.args.key < key_count s.map) (sym c.self.view_is) c.requires.key in omega (arith, low_key, keys_are map (log_of w0 seats.items)) in
+    let low_key = subst (λ (s : MapState). c.args.key < key_count s.map) (sym c.self.view_is) c.requires.key in omega (arith, low_key, keys_are map (log_of w0 seats.items)) in
     let said = says_pin c.laws.ensures map w0 seats.items c.self.invariant at old x low c.index_mut.ensures.value w' seats' g c.self.inside.writer.seen c.args.key answer near made in
     answers_here map w0 seats at x w' seats' _ items c.as_mut_slice.ensures.len g (λ (s : MapState). answer_pinning s at c.args.key (state_of s.map c.args.key)) _ answer c.self.view_is said.1
