@@ -3,8 +3,8 @@
 ghost use Rattle.std.specs.Prelude.{◌≡◌, IfOk, IfSome};
 
 use crate::calls::{
-    Told, ask, cancel, evict, fill, fill_rows, find, find_into, look, look_into, pairs_are, rows_of,
-    state, update,
+    Told, ask, cancel, evict, fill, fill_rows, find, find_into, look, look_into, pairs_are,
+    rows_of, state, update,
 };
 use nr_map::{
     Cancel, Evict, FillFault, Found, KeyKind, Reader, ReaderMap, Shape, UpdateFault, Writer,
