@@ -38,8 +38,10 @@ use nr_words::{ARRIVE, Layout, hole_word, naming, opening_words};
 use std::alloc::{AllocError, Global};
 use std::marker::Model;
 
+/// What a token makes its steps with.
 pub type Seat = atomic_table::Seat<(), View>;
 
+/// The words of a map of one shape. Whoever has no seat of it makes no step.
 #[derive(Drop)]
 pub struct Board {
     table: Table<(), View, Shape, Law, Global>,

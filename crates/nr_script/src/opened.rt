@@ -4,6 +4,7 @@ ghost use Rattle.nr_model.specs.Maps.{FillFits, key_count, last_number, state_of
 ghost use Rattle.nr_model.specs.declared.calls.Call.TheVariants as model;
 ghost use Rattle.nr_alone.specs.MapState.{answer_pinning, answer_show, answer_unpin};
 ghost use Rattle.nr_alone.specs.WriterCalls.{model_call, writer_key};
+ghost use Rattle.nr_script.specs.declared.command.Command.TheVariants as command;
 ghost use Rattle.nr_script.specs.Opened.{answer_opened_script, by_map, called, called_by, found_by_reader, found_key, found_reader, found_set, script_has_reader, with_found};
 
 use crate::answer::{Refusal, Tried};
