@@ -15,6 +15,7 @@ mod meetings;
 mod opening;
 mod pins;
 mod queue;
+mod rooms;
 mod sizes;
 mod slots;
 mod source;
@@ -35,6 +36,7 @@ fn show_map<R: AllocGlobal + Print + Threads + Sync>(rt: &R) -> anyhow::Result<(
     threads::show(rt, &threads::asked_at_once(rt, alloc)?)?;
     upkeep::show(rt, &upkeep::kept_up(alloc, &change)?)?;
     pins::show(rt, &pins::kept_over_update(alloc, &change)?)?;
+    rooms::show(rt, &rooms::passed_over(alloc)?)?;
     slots::show(rt, &slots::short_of_slots(alloc, &change)?)?;
     let more = Batch::of(&MORE)?;
     sizes::show(rt, &sizes::kept_small(alloc, &change, &more)?)?;
