@@ -17,6 +17,7 @@
 #ifndef NR_H
 #define NR_H
 
+#include <stdbool.h>
 #include <stddef.h>
 #include <stdint.h>
 
@@ -67,10 +68,10 @@ typedef struct nr_rows {
   nr_row row[255];
 } nr_rows;
 
-/* A row to be added where `plus` is not 0, and else to be taken away. */
+/* A row to be added where `plus` is true, and else to be taken away. */
 typedef struct nr_delta {
   nr_row row;
-  uint64_t plus;
+  bool plus;
 } nr_delta;
 
 /* What a map is opened with: 1 to 65,536 keys, 1 to 131,072 slots, 1 to 1,024 readers, 1 to 255 rows a

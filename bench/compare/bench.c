@@ -159,8 +159,8 @@ int main(int arguments, char **argument) {
   if (rounds > MOST_ROUNDS || arguments - 5 > MOST) stop("too many");
   for (uint32_t i = 0; i < 255; i++) set[i] = (nr_row){7 + i / 4, i % 4};
   nr_row old = set[rows / 2], other = {old.a, 1000};
-  there[0] = (nr_delta){old, 0}, there[1] = (nr_delta){other, 1};
-  back[0] = (nr_delta){other, 0}, back[1] = (nr_delta){old, 1};
+  there[0] = (nr_delta){old, false}, there[1] = (nr_delta){other, true};
+  back[0] = (nr_delta){other, false}, back[1] = (nr_delta){old, true};
   shuffle(order, keys);
   for (int i = 5; i < arguments; i++) {
     char *split = strchr(argument[i], '=');

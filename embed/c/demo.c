@@ -65,7 +65,7 @@ static void test_queue(nr_taker *taker, nr_poster *poster) {
 
 /* The calls of one thread, at the end. */
 static void test_calls(nr_writer *writer, nr_reader *one, nr_reader *two) {
-  nr_delta batch[2] = {{{7, 49}, 0}, {{9, 9}, 1}};
+  nr_delta batch[2] = {{{7, 49}, false}, {{9, 9}, true}};
   nr_rows rows;
   if (nr_update(writer, 7, batch, 2) != NR_DONE || nr_update(writer, 7, batch, 2) != NR_NO_ROW) stop("an update");
   if (nr_update(writer, 7, batch, 0) != NR_BAD_BATCH) stop("a batch of none");

@@ -44,7 +44,7 @@ impl Rows {
 #[repr(C)]
 pub struct Delta {
     row: Row,
-    plus: u64,
+    plus: bool,
 }
 
 #[repr(C)]
@@ -174,11 +174,11 @@ pub unsafe extern "C" fn nr_fill(
 
 // Applies signed rows to sorted ones; false where a row that is taken away isn't there.
 fn applied(pile: &mut Vec<Row>, deltas: &[Delta]) -> bool {
-    for delta in deltas.iter().filter(|delta| delta.plus != 0) {
+    for delta in deltas.iter().filter(|delta| delta.plus) {
         let place = pile.partition_point(|row| *row <= delta.row);
         pile.insert(place, delta.row);
     }
-    for delta in deltas.iter().filter(|delta| delta.plus == 0) {
+    for delta in deltas.iter().filter(|delta| !delta.plus) {
         let place = pile.partition_point(|row| *row < delta.row);
         if pile.get(place) != Some(&delta.row) {
             return false;

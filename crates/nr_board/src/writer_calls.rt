@@ -1,5 +1,6 @@
 //! The writer's calls, as its seat makes them.
 ghost use Rattle.std.specs.Prelude.{◌≡◌, ◌<◌};
+ghost use Rattle.nr_model.specs.Batches.{IsBatch};
 ghost use Rattle.nr_model.specs.Rows.{IsRowSet};
 ghost use Rattle.nr_machine.specs.declared.calls.WriterCall.TheVariants as writer;
 ghost use Rattle.nr_board.specs.Callers.{token};
@@ -10,7 +11,7 @@ use crate::board::{Board, Seat};
 use crate::only_proved::only_proved;
 use crate::rule::Given;
 use nr_core::Spare;
-use nr_model::{ApplyFault, Batch, LAST_NUMBER, Pile, Row, RowRoom};
+use nr_model::{ApplyFault, Delta, LAST_NUMBER, Pile, Row, RowRoom};
 use nr_words::parts;
 
 impl Board {
@@ -77,21 +78,22 @@ impl Board {
         spare: &mut Spare,
         pile: &mut Pile,
         key: u32,
-        batch: &Batch,
+        deltas: &[Delta],
     ) -> Result<(), UpdateFault>
-        requires call { G.call ≡ writer.Update key batch.now }
+        requires call { G.call ≡ writer.Update key deltas.now }
+        requires batch { IsBatch deltas.now }
         requires own { (token seat.old).table ≡ self.now }
         requires rests { RestsAt (token seat.old).table spare.old seat.old }
         requires key { key < self.now.shape.keys }
         ensures rests { RestsAt (token seat.new).table spare.new seat.new }
-        ensures updates { UpdatesKey self.now.shape.rows key batch.now (token seat.old) (token seat.new) result }
+        ensures updates { UpdatesKey self.now.shape.rows key deltas.now (token seat.old) (token seat.new) result }
     {
         let found = parts(self.look::<G>(seat, key));
         if !found.filled {
             return Err(UpdateFault::Dropped);
         }
         self.read_set::<G, Pile>(seat, found.slot, pile);
-        match pile.apply(batch, self.rows()) {
+        match pile.apply_deltas(deltas, self.rows()) {
             Ok(()) => {}
             Err(ApplyFault::NoRow) => return Err(UpdateFault::NoRow),
             Err(ApplyFault::TooMany) => return Err(UpdateFault::TooMany),

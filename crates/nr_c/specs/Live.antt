@@ -1,17 +1,30 @@
 -- What a call from C keeps of a handle, and what its token gains.
-use Rattle.std.specs.Prelude.{ℕ, ◌≡◌, List, [], ◌∷◌, Some}
+use Rattle.std.specs.Prelude.{ℕ, ◌≡◌, ◌<◌, List, [], ◌∷◌}
 use Rattle.nr_map.specs.declared.answers.Asked.{Asked}
 use Rattle.nr_map.specs.declared.answers.Asked.TheVariants as asked
 use Rattle.nr_board.specs.declared.answers.Found.{Found}
 use Rattle.nr_map.specs.Answers.{AsksKey, FindsIn}
+use Rattle.nr_map.specs.Pins.{Pinned}
 use Rattle.nr_board.specs.Callers.{Caller}
 use Rattle.nr_c.specs.declared.hand.Hand.{Hand}
-use Rattle.nr_c.specs.declared.hand.Hand.TheVariants.{Idle}
+use Rattle.nr_c.specs.declared.hand.Hand.TheVariants.{Holds, Idle}
 use Rattle.nr_c.specs.declared.reader_side.ReaderSide.{ReaderSide}
 use Rattle.nr_c.specs.declared.writer_side.WriterSide.{WriterSide}
 use Rattle.nr_c.specs.declared.rows.NrRows.{NrRows}
 use Rattle.nr_c.specs.Codes.{ask_code, found_code}
 use Rattle.nr_c.specs.RowCells.{ShowsSet}
+
+-- the handle is live, its reader holds nothing, and its map has that key
+abbrev pub MayRead : ℕ → List ReaderSide → Type 0
+MayRead key live = (held : ReaderSide) × (idle : Caller) × (live ≡ held ∷ []) × (held.hand ≡ Idle idle) × (key < held.map.value.shape.keys)
+
+-- the handle is live, and its reader holds a set
+abbrev pub HasPin : List ReaderSide → Type 0
+HasPin live = (held : ReaderSide) × (pin : Pinned) × (live ≡ held ∷ []) × (held.hand ≡ Holds pin)
+
+-- the writer's handle is live, and its map has that key
+abbrev pub MayWrite : ℕ → List WriterSide → Type 0
+MayWrite key live = (held : WriterSide) × (live ≡ held ∷ []) × (key < held.map.value.shape.keys)
 
 -- the handle leads to one side, of the same map before and after, whose reader was in the one hand and is in the other
 pub record TurnsHand (before after : List ReaderSide) (was is : Hand) : Type 0 where
@@ -20,8 +33,8 @@ pub record TurnsHand (before after : List ReaderSide) (was is : Hand) : Type 0 w
   pub led : before ≡ old ∷ []
   pub leads : after ≡ new ∷ []
   pub map : new.map ≡ old.map
-  pub old_hand : old.hand ≡ Some was
-  pub new_hand : new.hand ≡ Some is
+  pub old_hand : old.hand ≡ was
+  pub new_hand : new.hand ≡ is
 
 -- so a reader that holds nothing became another such one
 abbrev pub ReaderCalls : (Caller → Caller → Type 0) → List ReaderSide → List ReaderSide → Type 0

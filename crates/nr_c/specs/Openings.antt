@@ -1,5 +1,5 @@
 -- What opens a map and its handles.
-use Rattle.std.specs.Prelude.{ℕ, ◌≡◌, ◌⊎◌, List, [], ◌∷◌, ◌++◌, Some}
+use Rattle.std.specs.Prelude.{ℕ, ◌≡◌, ◌⊎◌, List, [], ◌∷◌, ◌++◌}
 use Rattle.nr_machine.specs.declared.shape.Shape.{Shape}
 use Rattle.nr_board.specs.Callers.{Caller}
 use Rattle.nr_map.specs.Opened.{IsOpened}
@@ -34,7 +34,7 @@ pub record LeadsToReader (before : List WriterSide) (reader : Caller) (handle : 
   pub was : before ≡ held ∷ []
   pub is : handle ≡ side ∷ []
   pub map : side.map.value ≡ held.map.value
-  pub idle : side.hand ≡ Some (Idle reader)
+  pub idle : side.hand ≡ Idle reader
 
 -- the last reader without a handle gets one; or none has none, or there is no memory
 abbrev pub TakesReader : ℕ → List WriterSide → List WriterSide → List ReaderSide → Type 0

@@ -1,12 +1,7 @@
 -- Rows as C has them, and as the map has them. A single row is the same.
-use Rattle.std.specs.Prelude.{◌≡◌, ◌==◌, not, List, length, take}
+use Rattle.std.specs.Prelude.{◌≡◌, List, length, take}
 use Rattle.nr_model.specs.declared.rows.Row.{Row}
-use Rattle.nr_model.specs.declared.batches.Delta.{Delta}
 use Rattle.nr_c.specs.declared.rows.NrRows.{NrRows}
-use Rattle.nr_c.specs.declared.rows.NrDelta.{NrDelta}
-
-abbrev pub delta_of : NrDelta → Delta
-delta_of cell = record { plus = not (cell.plus == 0); row = cell.row }
 
 -- the cells in use have just the rows of the set
 pub record ShowsSet (rows : NrRows) (set : List Row) : Type 0 where

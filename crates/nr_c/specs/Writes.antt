@@ -1,5 +1,6 @@
 -- What each call of the writer says of its token, by its code.
-use Rattle.std.specs.Prelude.{ℕ, ◌≡◌, ◌<◌, ◌⊎◌, List, length, map, false, Result}
+use Rattle.std.specs.Prelude.{ℕ, ◌≡◌, ◌<◌, ◌⊎◌, List, length, false, Result}
+use Rattle.nr_model.specs.declared.batches.Delta.{Delta}
 use Rattle.nr_model.specs.declared.batches.TheConstants.{MAX_DELTAS}
 use Rattle.nr_model.specs.declared.rows.Row.{Row}
 use Rattle.nr_model.specs.Maps.{number_of, state_of}
@@ -14,10 +15,9 @@ use Rattle.nr_board.specs.WriterAnswers.{CancelsKey, EvictsKey, FillsKey, LooksI
 use Rattle.nr_board.specs.Callers.{Caller, map_seen}
 use Rattle.nr_board.specs.Meetings.{StatesKey}
 use Rattle.nr_c.specs.declared.codes.TheConstants.{NR_BAD_BATCH, NR_NOT_SORTED, NR_TOO_MANY}
-use Rattle.nr_c.specs.declared.rows.NrDelta.{NrDelta}
 use Rattle.nr_c.specs.declared.rows.NrRows.{NrRows}
 use Rattle.nr_c.specs.Codes.{cancel_code, evict_code, fill_code, found_code, kind_code, update_code}
-use Rattle.nr_c.specs.RowCells.{ShowsSet, delta_of}
+use Rattle.nr_c.specs.RowCells.{ShowsSet}
 
 -- a find of the writer's own: the caller's cells show the rows of the reply, and stay as they are on a hole
 abbrev pub LooksByCode : ℕ → NrRows → NrRows → ℕ → Caller → Caller → Type 0
@@ -34,13 +34,13 @@ abbrev pub FillsByCode : ℕ → ℕ → List Row → ℕ → Caller → Caller 
 FillsByCode key number rows code old new = RefusesRows rows code old new ⊎ MapFills key number rows code old new
 
 -- an update is refused by the number of its rows, and the writer stays; or it is the map's update with them
-abbrev pub RefusesBatch : List NrDelta → ℕ → Caller → Caller → Type 0
+abbrev pub RefusesBatch : List Delta → ℕ → Caller → Caller → Type 0
 RefusesBatch deltas code old new = (code ≡ NR_BAD_BATCH) × ((length deltas ≡ 0) ⊎ (MAX_DELTAS < length deltas)) × (new ≡ old)
 
-abbrev pub MapUpdates : ℕ → List NrDelta → ℕ → Caller → Caller → Type 0
-MapUpdates key deltas code old new = (answer : Result (Unit {0}) UpdateFault) × (code ≡ update_code answer) × UpdatesKey old.table.shape.rows key (map delta_of deltas) old new answer
+abbrev pub MapUpdates : ℕ → List Delta → ℕ → Caller → Caller → Type 0
+MapUpdates key deltas code old new = (answer : Result (Unit {0}) UpdateFault) × (code ≡ update_code answer) × UpdatesKey old.table.shape.rows key deltas old new answer
 
-abbrev pub UpdatesByCode : ℕ → List NrDelta → ℕ → Caller → Caller → Type 0
+abbrev pub UpdatesByCode : ℕ → List Delta → ℕ → Caller → Caller → Type 0
 UpdatesByCode key deltas code old new = RefusesBatch deltas code old new ⊎ MapUpdates key deltas code old new
 
 abbrev pub EvictsByCode : ℕ → ℕ → Caller → Caller → Type 0

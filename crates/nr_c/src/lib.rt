@@ -11,7 +11,6 @@
 #![tactic(auto)]
 
 mod codes;
-mod deltas;
 mod hand;
 mod meets;
 mod open;

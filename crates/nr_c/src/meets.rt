@@ -1,5 +1,5 @@
 //! What one handle's token learns of another's.
-ghost use Rattle.std.specs.Prelude.{◌≡◌, [], ◌∷◌, Some};
+ghost use Rattle.std.specs.Prelude.{◌≡◌, [], ◌∷◌};
 ghost use Rattle.nr_board.specs.Callers.{Caller};
 ghost use Rattle.nr_map.specs.Pins.{Pinned};
 ghost use Rattle.nr_c.specs.declared.hand.Hand.TheVariants as hands;
@@ -14,7 +14,7 @@ use crate::writer_handle::NrWriter;
 /// The reader learns, in 3 steps, all that the writer has seen.
 #[unsafe(no_mangle)]
 pub extern "C" fn nr_meet(reader: &mut NrReader, writer: &mut NrWriter)
-    requires live { (held : ReaderHeld) × (idle : Caller) × (other : WriterHeld) × (reader.old.live ≡ held ∷ []) × (held.hand ≡ Some (hands.Idle idle)) × (writer.old.live ≡ other ∷ []) × (held.map.value ≡ other.map.value) }
+    requires live { (held : ReaderHeld) × (idle : Caller) × (other : WriterHeld) × (reader.old.live ≡ held ∷ []) × (held.hand ≡ hands.Idle idle) × (writer.old.live ≡ other ∷ []) × (held.map.value ≡ other.map.value) }
     ensures { MeetsOf reader.old.live writer.old.live reader.new.live writer.new.live }
 {
     let side = reader.side();
@@ -28,7 +28,7 @@ pub extern "C" fn nr_meet(reader: &mut NrReader, writer: &mut NrWriter)
 /// steps for each.
 #[unsafe(no_mangle)]
 pub extern "C" fn nr_gather(writer: &mut NrWriter, reader: &mut NrReader)
-    requires live { (held : ReaderHeld) × (idle : Caller) × (other : WriterHeld) × (reader.old.live ≡ held ∷ []) × (held.hand ≡ Some (hands.Idle idle)) × (writer.old.live ≡ other ∷ []) × (held.map.value ≡ other.map.value) }
+    requires live { (held : ReaderHeld) × (idle : Caller) × (other : WriterHeld) × (reader.old.live ≡ held ∷ []) × (held.hand ≡ hands.Idle idle) × (writer.old.live ≡ other ∷ []) × (held.map.value ≡ other.map.value) }
     ensures { GathersOf writer.old.live reader.old.live writer.new.live reader.new.live }
 {
     let side = reader.side();
@@ -41,7 +41,7 @@ pub extern "C" fn nr_gather(writer: &mut NrWriter, reader: &mut NrReader)
 /// The reader learns, in 3 steps, all that another reader has seen.
 #[unsafe(no_mangle)]
 pub extern "C" fn nr_meet_readers(reader: &mut NrReader, other: &mut NrReader)
-    requires live { (held : ReaderHeld) × (idle : Caller) × (theirs : ReaderHeld) × (friend : Caller) × (reader.old.live ≡ held ∷ []) × (held.hand ≡ Some (hands.Idle idle)) × (other.old.live ≡ theirs ∷ []) × (theirs.hand ≡ Some (hands.Idle friend)) × (held.map.value ≡ theirs.map.value) }
+    requires live { (held : ReaderHeld) × (idle : Caller) × (theirs : ReaderHeld) × (friend : Caller) × (reader.old.live ≡ held ∷ []) × (held.hand ≡ hands.Idle idle) × (other.old.live ≡ theirs ∷ []) × (theirs.hand ≡ hands.Idle friend) × (held.map.value ≡ theirs.map.value) }
     ensures { MeetsReader reader.old.live other.old.live reader.new.live other.new.live }
 {
     let side = reader.side();
@@ -56,7 +56,7 @@ pub extern "C" fn nr_meet_readers(reader: &mut NrReader, other: &mut NrReader)
 /// As `nr_gather`, with a reader that holds a set, which it keeps.
 #[unsafe(no_mangle)]
 pub extern "C" fn nr_gather_pin(writer: &mut NrWriter, reader: &mut NrReader)
-    requires live { (held : ReaderHeld) × (pin : Pinned) × (other : WriterHeld) × (reader.old.live ≡ held ∷ []) × (held.hand ≡ Some (hands.Holds pin)) × (writer.old.live ≡ other ∷ []) × (held.map.value ≡ other.map.value) }
+    requires live { (held : ReaderHeld) × (pin : Pinned) × (other : WriterHeld) × (reader.old.live ≡ held ∷ []) × (held.hand ≡ hands.Holds pin) × (writer.old.live ≡ other ∷ []) × (held.map.value ≡ other.map.value) }
     ensures { GathersPin writer.old.live reader.old.live writer.new.live reader.new.live }
 {
     let side = reader.side();

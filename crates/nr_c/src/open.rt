@@ -9,7 +9,6 @@ ghost use Rattle.nr_c.specs.Openings.{IsNewWriter, Opens, TakesReader};
 ghost use Rattle.nr_c.specs.Sizes.{shape_of_sizes, sizes_of};
 
 use crate::codes::{NR_BAD_SIZE, NR_DONE, NR_NO_MEMORY, NR_NO_READER};
-use crate::deltas::first_batch;
 use crate::reader_handle::NrReader;
 use crate::reader_side::ReaderSide;
 use crate::sizes::{NrShape, NrSizes};
@@ -47,12 +46,7 @@ fn opened(alloc: Global, shape: &NrShape) -> Result<Box<WriterSide, Global>, Ope
 {
     let (map, writer, spare) = ReaderMap::open_with(alloc, &shape.shape())?;
     let map = Arc::new(alloc, map).map_err(|_| OpenFault::Memory)?;
-    let side = WriterSide {
-        map,
-        writer,
-        batch: first_batch(),
-        spare,
-    };
+    let side = WriterSide { map, writer, spare };
     Ok(Box::new(alloc, side).map_err(|_| OpenFault::Memory)?)
 }
 
@@ -88,7 +82,7 @@ fn seated(
     reader: Reader,
 ) -> Result<Box<ReaderSide, Global>, Reader>
     requires own { reader.table ≡ map.now.value }
-    ensures ok { IfOk result (λ side. (side.value.map.value ≡ map.now.value) × (side.value.hand ≡ Some (hand.Idle reader))) }
+    ensures ok { IfOk result (λ side. (side.value.map.value ≡ map.now.value) × (side.value.hand ≡ hand.Idle reader)) }
     ensures back { IfErr result (λ back. back ≡ reader) }
 {
     let Ok(map) = Arc::try_clone(map) else {

@@ -1,9 +1,5 @@
 //! A reader that holds a set.
-ghost use Rattle.std.specs.Prelude.{◌≡◌, ◌<◌, [], ◌∷◌, Some};
-ghost use Rattle.nr_board.specs.Callers.{Caller};
-ghost use Rattle.nr_map.specs.Pins.{Pinned};
-ghost use Rattle.nr_c.specs.declared.hand.Hand.TheVariants as hand;
-ghost use Rattle.nr_c.specs.declared.reader_side.ReaderSide.{ReaderSide as Held};
+ghost use Rattle.nr_c.specs.Live.{HasPin, MayRead};
 ghost use Rattle.nr_c.specs.Pins.{PinsCells, Releases, ReadsRow};
 
 use crate::codes::{NR_HOLE, NR_NO_ROW, NR_ROWS};
@@ -16,7 +12,7 @@ use nr_model::Row;
 /// number of its rows; or `NR_HOLE` after 1, and then the reader holds nothing and `count` stays.
 #[unsafe(no_mangle)]
 pub extern "C" fn nr_pin(reader: &mut NrReader, key: u32, count: &mut u32) -> u32
-    requires live { (held : Held) × (idle : Caller) × (reader.old.live ≡ held ∷ []) × (held.hand ≡ Some (hand.Idle idle)) × (key < held.map.value.shape.keys) }
+    requires live { MayRead key reader.old.live }
     ensures { PinsCells key count.old count.new result reader.old.live reader.new.live }
 {
     let side = reader.side();
@@ -38,7 +34,7 @@ pub extern "C" fn nr_pin(reader: &mut NrReader, key: u32, count: &mut u32) -> u3
 /// no step, and `row` stays.
 #[unsafe(no_mangle)]
 pub extern "C" fn nr_row_at(reader: &mut NrReader, place: u32, row: &mut Row) -> u32
-    requires live { (held : Held) × (pin : Pinned) × (reader.old.live ≡ held ∷ []) × (held.hand ≡ Some (hand.Holds pin)) }
+    requires live { HasPin reader.old.live }
     ensures { ReadsRow place row.old row.new result reader.old.live reader.new.live }
 {
     let side = reader.side();
@@ -55,7 +51,7 @@ pub extern "C" fn nr_row_at(reader: &mut NrReader, place: u32, row: &mut Row) ->
 /// Ends the hold, in 1 step.
 #[unsafe(no_mangle)]
 pub extern "C" fn nr_release(reader: &mut NrReader)
-    requires live { (held : Held) × (pin : Pinned) × (reader.old.live ≡ held ∷ []) × (held.hand ≡ Some (hand.Holds pin)) }
+    requires live { HasPin reader.old.live }
     ensures { Releases reader.old.live reader.new.live }
 {
     let side = reader.side();

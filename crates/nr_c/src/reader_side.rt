@@ -1,23 +1,23 @@
 //! What a reader's handle leads to.
-ghost use Rattle.std.specs.Prelude.{◌≡◌, None, Some};
+ghost use Rattle.std.specs.Prelude.{◌≡◌};
 ghost use Rattle.nr_c.specs.Hands.{table_of};
 ghost use Rattle.nr_board.specs.Callers.{Caller};
 ghost use Rattle.nr_map.specs.Pins.{Pinned};
-ghost use Rattle.nr_c.specs.declared.hand.Hand.TheVariants as hand;
+ghost use Rattle.nr_c.specs.declared.hand.Hand.TheVariants as hands;
 
 use crate::hand::Hand;
 use nr_map::{Pin, Reader, ReaderMap};
 use std::alloc::Global;
+use std::mem;
 use std::sync::Arc;
 
 /// How many words keep two readers' sides on different lines of the processors' caches.
 pub const APART: usize = 28;
 
-/// A reader, whether or not it holds a set, with its share of the map. It has no reader within a
-/// call alone.
+/// A reader, whether or not it holds a set, with its share of the map.
 pub struct ReaderSide {
     pub map: Arc<ReaderMap, Global>,
-    pub hand: Option<Hand>,
+    pub hand: Hand,
     /// Keeps what the calls of two threads write apart.
     pub apart: [u64; APART],
     ghost own: { table_of hand map.value ≡ map.value },
@@ -31,12 +31,10 @@ impl Drop for ReaderSide {
             hand,
             apart: _,
         } = self;
-        let Some(hand) = hand else {
-            return;
-        };
         match hand {
             Hand::Idle(reader) => drop(reader),
             Hand::Holds(pin) => drop(pin.release(&map)),
+            Hand::Taken => {}
         }
     }
 }
@@ -46,62 +44,57 @@ impl ReaderSide {
     pub fn of(map: Arc<ReaderMap, Global>, reader: Reader) -> ReaderSide
         requires own { reader.table ≡ map.value }
         ensures map { result.map ≡ map }
-        ensures hand { result.hand ≡ Some (hand.Idle reader) }
+        ensures hand { result.hand ≡ hands.Idle reader }
     {
         ReaderSide {
             map,
-            hand: Some(Hand::Idle(reader)),
+            hand: Hand::Idle(reader),
             apart: [0; APART],
         }
     }
 
     /// The reader, which holds nothing, for a call.
     pub fn take_reader(&mut self) -> Reader
-        requires idle { (reader : Caller) × (self.old.hand ≡ Some (hand.Idle reader)) }
-        ensures reader { self.old.hand ≡ Some (hand.Idle result) }
+        requires idle { (reader : Caller) × (self.old.hand ≡ hands.Idle reader) }
+        ensures reader { self.old.hand ≡ hands.Idle result }
         ensures own { result.table ≡ self.old.map.value }
         ensures map { self.new.map ≡ self.old.map }
-        ensures hand { self.new.hand ≡ None }
+        ensures hand { self.new.hand ≡ hands.Taken }
     {
-        let Some(hand) = self.hand.take() else {
-            unreachable!()
-        };
-        match hand {
+        match mem::replace(&mut self.hand, Hand::Taken) {
             Hand::Idle(reader) => reader,
             Hand::Holds(pin) => {
                 drop(pin.release(&self.map));
                 unreachable!()
             }
+            Hand::Taken => unreachable!(),
         }
     }
 
     /// The pin, for a call.
     pub fn take_pin(&mut self) -> Pin
-        requires holds { (pin : Pinned) × (self.old.hand ≡ Some (hand.Holds pin)) }
-        ensures pin { self.old.hand ≡ Some (hand.Holds result) }
+        requires holds { (pin : Pinned) × (self.old.hand ≡ hands.Holds pin) }
+        ensures pin { self.old.hand ≡ hands.Holds result }
         ensures own { result.reader.table ≡ self.old.map.value }
         ensures map { self.new.map ≡ self.old.map }
-        ensures hand { self.new.hand ≡ None }
+        ensures hand { self.new.hand ≡ hands.Taken }
     {
-        let Some(hand) = self.hand.take() else {
-            unreachable!()
-        };
-        match hand {
-            Hand::Idle(_) => unreachable!(),
+        match mem::replace(&mut self.hand, Hand::Taken) {
             Hand::Holds(pin) => pin,
+            Hand::Idle(_) | Hand::Taken => unreachable!(),
         }
     }
 
     /// Puts the reader back.
     pub fn put(&mut self, hand: Hand)
-        requires none { self.old.hand ≡ None }
-        requires own { table_of (Some hand) self.old.map.value ≡ self.old.map.value }
+        requires taken { self.old.hand ≡ hands.Taken }
+        requires own { table_of hand self.old.map.value ≡ self.old.map.value }
         ensures map { self.new.map ≡ self.old.map }
-        ensures hand { self.new.hand ≡ Some hand }
+        ensures hand { self.new.hand ≡ hand }
     {
-        match self.hand.replace(hand) {
-            None => {}
-            Some(_) => unreachable!(),
+        match mem::replace(&mut self.hand, hand) {
+            Hand::Taken => {}
+            _ => unreachable!(),
         }
     }
 }

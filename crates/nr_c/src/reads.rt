@@ -1,11 +1,10 @@
 //! What a reader that holds nothing calls.
-ghost use Rattle.std.specs.Prelude.{◌≡◌, ◌<◌, [], ◌∷◌, Some};
+ghost use Rattle.std.specs.Prelude.{◌≡◌, ◌<◌};
 ghost use Rattle.nr_board.specs.Callers.{Caller};
 ghost use Rattle.nr_c.specs.declared.hand.Hand.TheVariants as hands;
-ghost use Rattle.nr_c.specs.declared.reader_side.ReaderSide.{ReaderSide as Held};
 ghost use Rattle.nr_map.specs.Answers.{AsksKey, FindsIn};
 ghost use Rattle.nr_c.specs.Hands.{table_of};
-ghost use Rattle.nr_c.specs.Live.{AsksByCode, FindsByCode, ReaderCalls};
+ghost use Rattle.nr_c.specs.Live.{AsksByCode, FindsByCode, MayRead, ReaderCalls};
 ghost use Rattle.nr_c.specs.RowCells.{ShowsSet};
 
 use crate::codes::{NR_FILLED, NR_SEND, NR_WAITING, of_found};
@@ -18,7 +17,7 @@ use nr_map::{Asked, Found, ReaderMap};
 /// is a hole. 1 step for a hole, and 2n + 3 for n rows. Answers `NR_ROWS` or `NR_HOLE`.
 #[unsafe(no_mangle)]
 pub extern "C" fn nr_find(reader: &mut NrReader, key: u32, rows: &mut NrRows) -> u32
-    requires live { (held : Held) × (idle : Caller) × (reader.old.live ≡ held ∷ []) × (held.hand ≡ Some (hands.Idle idle)) × (key < held.map.value.shape.keys) }
+    requires live { MayRead key reader.old.live }
     ensures { ReaderCalls (FindsByCode key rows.old rows.new result) reader.old.live reader.new.live }
 {
     let side = reader.side();
@@ -26,27 +25,16 @@ pub extern "C" fn nr_find(reader: &mut NrReader, key: u32, rows: &mut NrRows) ->
 }
 
 // A find by a reader that stays where it is.
-fn find_idle(map: &ReaderMap, hand: &mut Option<Hand>, key: u32, rows: &mut NrRows) -> Found
-    requires idle { (idle : Caller) × (hand.old ≡ Some (hands.Idle idle)) }
+fn find_idle(map: &ReaderMap, hand: &mut Hand, key: u32, rows: &mut NrRows) -> Found
+    requires idle { (idle : Caller) × (hand.old ≡ hands.Idle idle) }
     requires own { table_of hand.old map.now ≡ map.now }
     requires key { key < map.now.shape.keys }
     ensures own { table_of hand.new map.now ≡ map.now }
-    ensures finds { (old new : Caller) × (hand.old ≡ Some (hands.Idle old)) × (hand.new ≡ Some (hands.Idle new)) × FindsIn ShowsSet key old rows.old new rows.new result }
-{
-    match hand {
-        Some(within) => find_within(map, within, key, rows),
-        None => unreachable!(),
-    }
-}
-
-fn find_within(map: &ReaderMap, hand: &mut Hand, key: u32, rows: &mut NrRows) -> Found
-    requires idle { (idle : Caller) × (hand.old ≡ hands.Idle idle) × (idle.table ≡ map.now) }
-    requires key { key < map.now.shape.keys }
-    ensures { (old new : Caller) × (hand.old ≡ hands.Idle old) × (hand.new ≡ hands.Idle new) × (new.table ≡ map.now) × FindsIn ShowsSet key old rows.old new rows.new result }
+    ensures finds { (old new : Caller) × (hand.old ≡ hands.Idle old) × (hand.new ≡ hands.Idle new) × FindsIn ShowsSet key old rows.old new rows.new result }
 {
     match hand {
         Hand::Idle(reader) => map.find_into(reader, key, rows),
-        Hand::Holds(_) => unreachable!(),
+        Hand::Holds(_) | Hand::Taken => unreachable!(),
     }
 }
 
@@ -54,7 +42,7 @@ fn find_within(map: &ReaderMap, hand: &mut Hand, key: u32, rows: &mut NrRows) ->
 /// which whoever sends the upquery hands on to the fill; or `NR_WAITING` or `NR_FILLED`.
 #[unsafe(no_mangle)]
 pub extern "C" fn nr_ask(reader: &mut NrReader, key: u32, number: &mut u64) -> u32
-    requires live { (held : Held) × (idle : Caller) × (reader.old.live ≡ held ∷ []) × (held.hand ≡ Some (hands.Idle idle)) × (key < held.map.value.shape.keys) }
+    requires live { MayRead key reader.old.live }
     ensures { ReaderCalls (AsksByCode key number.old number.new result) reader.old.live reader.new.live }
 {
     let side = reader.side();
@@ -70,26 +58,15 @@ pub extern "C" fn nr_ask(reader: &mut NrReader, key: u32, number: &mut u64) -> u
 }
 
 // A request by a reader that stays where it is.
-fn ask_idle(map: &ReaderMap, hand: &mut Option<Hand>, key: u32) -> Asked
-    requires idle { (idle : Caller) × (hand.old ≡ Some (hands.Idle idle)) }
+fn ask_idle(map: &ReaderMap, hand: &mut Hand, key: u32) -> Asked
+    requires idle { (idle : Caller) × (hand.old ≡ hands.Idle idle) }
     requires own { table_of hand.old map.now ≡ map.now }
     requires key { key < map.now.shape.keys }
     ensures own { table_of hand.new map.now ≡ map.now }
-    ensures asks { (old new : Caller) × (hand.old ≡ Some (hands.Idle old)) × (hand.new ≡ Some (hands.Idle new)) × AsksKey key old new result }
-{
-    match hand {
-        Some(within) => ask_within(map, within, key),
-        None => unreachable!(),
-    }
-}
-
-fn ask_within(map: &ReaderMap, hand: &mut Hand, key: u32) -> Asked
-    requires idle { (idle : Caller) × (hand.old ≡ hands.Idle idle) × (idle.table ≡ map.now) }
-    requires key { key < map.now.shape.keys }
-    ensures { (old new : Caller) × (hand.old ≡ hands.Idle old) × (hand.new ≡ hands.Idle new) × (new.table ≡ map.now) × AsksKey key old new result }
+    ensures asks { (old new : Caller) × (hand.old ≡ hands.Idle old) × (hand.new ≡ hands.Idle new) × AsksKey key old new result }
 {
     match hand {
         Hand::Idle(reader) => map.ask(reader, key),
-        Hand::Holds(_) => unreachable!(),
+        Hand::Holds(_) | Hand::Taken => unreachable!(),
     }
 }

@@ -1,34 +1,17 @@
-//! Rows as C has them. A row is the model's own.
-ghost use Rattle.std.specs.Prelude.{◌≡◌};
+//! Rows as C has them. A row, and a signed one, is the model's own.
+ghost use Rattle.std.specs.Prelude.{◌≡◌, ◌<◌, ◌⊎◌, length};
+ghost use Rattle.std.specs.Bool.{OnFalse, OnTrue};
+ghost use Rattle.nr_model.specs.Batches.{IsBatch};
 ghost use Rattle.nr_model.specs.Rows.{is_ascending};
-ghost use Rattle.nr_c.specs.RowCells.{delta_of};
+ghost use Rattle.nr_model.specs.declared.batches.TheConstants.{MAX_DELTAS};
 
-use nr_model::{Delta, MAX_ROWS, Row, RowRoom, RowSource, put_over};
+use nr_model::{Delta, MAX_DELTAS, MAX_ROWS, Row, RowRoom, RowSource, put_over};
 
 /// Room for the rows of a key. The first `count` of them are in use, in ascending order.
 #[repr(C)]
 pub struct NrRows {
     pub count: u64,
     pub row: [Row; MAX_ROWS],
-}
-
-/// A row that is added where `plus` is not 0, and else one that is taken away.
-#[repr(C)]
-#[derive(Clone, Copy)]
-pub struct NrDelta {
-    pub row: Row,
-    pub plus: u64,
-}
-
-impl NrDelta {
-    pub fn delta(self) -> Delta
-        ensures { result ≡ delta_of self }
-    {
-        Delta {
-            plus: self.plus != 0,
-            row: self.row,
-        }
-    }
 }
 
 impl RowRoom for NrRows {
@@ -40,6 +23,14 @@ impl RowRoom for NrRows {
         put_over(&mut self.row, count, source);
         self.count = count as u64;
     }
+}
+
+/// Whether those signed rows are one to sixty-four.
+pub fn are_batch(deltas: &[Delta]) -> bool
+    ensures batch { OnTrue result (IsBatch deltas.now) }
+    ensures none { OnFalse result ((length deltas.now ≡ 0) ⊎ (MAX_DELTAS < length deltas.now)) }
+{
+    !deltas.is_empty() && deltas.len() <= MAX_DELTAS
 }
 
 /// Whether no row is below the one before it.

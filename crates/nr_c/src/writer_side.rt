@@ -2,17 +2,14 @@
 ghost use Rattle.std.specs.Prelude.{◌≡◌, All};
 
 use nr_map::{Reader, ReaderMap, Writer};
-use nr_model::Batch;
 use std::alloc::Global;
 use std::sync::Arc;
 
-/// The writer with its share of the map, the batch that each update writes anew, and the readers
-/// that no handle has yet.
+/// The writer with its share of the map, and the readers that no handle has yet.
 #[derive(Drop)]
 pub struct WriterSide {
     pub map: Arc<ReaderMap, Global>,
     pub writer: Writer,
-    pub batch: Batch,
     pub spare: Vec<Reader, Global>,
     ghost own: { writer.table ≡ map.value },
     ghost spares: { All (λ reader. reader.table ≡ map.value) spare.items },

@@ -1,23 +1,20 @@
 //! What the writer calls.
-ghost use Rattle.std.specs.Prelude.{◌≡◌, ◌<◌, [], ◌∷◌};
-ghost use Rattle.nr_c.specs.declared.writer_side.WriterSide.{WriterSide as Held};
-ghost use Rattle.nr_c.specs.Live.{WriterCalls};
+ghost use Rattle.nr_c.specs.Live.{MayWrite, WriterCalls};
 ghost use Rattle.nr_c.specs.Writes.{CancelsByCode, EvictsByCode, FillsByCode, IsNumber, LooksByCode, StatesByCode, UpdatesByCode};
 
 use crate::codes::{
     NR_BAD_BATCH, NR_NOT_SORTED, NR_TOO_MANY, of_cancel, of_evict, of_fill, of_found, of_kind,
     of_update,
 };
-use crate::deltas::write_over;
-use crate::rows::{NrDelta, NrRows, ascends};
+use crate::rows::{NrRows, are_batch, ascends};
 use crate::writer_handle::NrWriter;
-use nr_model::Row;
+use nr_model::{Delta, Row};
 
 /// A find of the writer's own. 1 step for a hole, and 2n + 2 for n rows. Answers `NR_ROWS` or
 /// `NR_HOLE`, and the caller's cells stay as they are where the key is a hole.
 #[unsafe(no_mangle)]
 pub extern "C" fn nr_look(writer: &mut NrWriter, key: u32, rows: &mut NrRows) -> u32
-    requires live { (held : Held) × (writer.old.live ≡ held ∷ []) × (key < held.map.value.shape.keys) }
+    requires live { MayWrite key writer.old.live }
     ensures { WriterCalls (LooksByCode key rows.old rows.new result) writer.old.live writer.new.live }
 {
     let side = writer.side();
@@ -30,7 +27,7 @@ pub extern "C" fn nr_look(writer: &mut NrWriter, key: u32, rows: &mut NrRows) ->
 /// `NR_NOT_ASKED`, `NR_ALREADY`, `NR_STALE` or `NR_NO_SLOT`.
 #[unsafe(no_mangle)]
 pub extern "C" fn nr_fill(writer: &mut NrWriter, key: u32, number: u64, rows: &[Row]) -> u32
-    requires live { (held : Held) × (writer.old.live ≡ held ∷ []) × (key < held.map.value.shape.keys) }
+    requires live { MayWrite key writer.old.live }
     ensures { WriterCalls (FillsByCode key number rows.now result) writer.old.live writer.new.live }
 {
     let side = writer.side();
@@ -47,22 +44,22 @@ pub extern "C" fn nr_fill(writer: &mut NrWriter, key: u32, number: u64, rows: &[
 /// `NR_BAD_BATCH` where they are none or more, with no step; and else as the map's update does:
 /// `NR_DONE`, `NR_DROPPED`, `NR_NO_ROW`, `NR_TOO_MANY` or `NR_NO_SLOT`.
 #[unsafe(no_mangle)]
-pub extern "C" fn nr_update(writer: &mut NrWriter, key: u32, deltas: &[NrDelta]) -> u32
-    requires live { (held : Held) × (writer.old.live ≡ held ∷ []) × (key < held.map.value.shape.keys) }
+pub extern "C" fn nr_update(writer: &mut NrWriter, key: u32, deltas: &[Delta]) -> u32
+    requires live { MayWrite key writer.old.live }
     ensures { WriterCalls (UpdatesByCode key deltas.now result) writer.old.live writer.new.live }
 {
     let side = writer.side();
-    if !write_over(&mut side.batch, deltas) {
+    if !are_batch(deltas) {
         return NR_BAD_BATCH;
     }
-    of_update(side.map.update(&mut side.writer, key, &side.batch))
+    of_update(side.map.update_rows(&mut side.writer, key, deltas))
 }
 
 /// Makes a filled key a hole, in 2 steps, and 1 where it is not filled. Answers `NR_EVICTED` or
 /// `NR_NOTHING`.
 #[unsafe(no_mangle)]
 pub extern "C" fn nr_evict(writer: &mut NrWriter, key: u32) -> u32
-    requires live { (held : Held) × (writer.old.live ≡ held ∷ []) × (key < held.map.value.shape.keys) }
+    requires live { MayWrite key writer.old.live }
     ensures { WriterCalls (EvictsByCode key result) writer.old.live writer.new.live }
 {
     let side = writer.side();
@@ -73,7 +70,7 @@ pub extern "C" fn nr_evict(writer: &mut NrWriter, key: u32) -> u32
 /// `NR_CANCELLED`, `NR_NOTHING` or `NR_WORN`.
 #[unsafe(no_mangle)]
 pub extern "C" fn nr_cancel(writer: &mut NrWriter, key: u32) -> u32
-    requires live { (held : Held) × (writer.old.live ≡ held ∷ []) × (key < held.map.value.shape.keys) }
+    requires live { MayWrite key writer.old.live }
     ensures { WriterCalls (CancelsByCode key result) writer.old.live writer.new.live }
 {
     let side = writer.side();
@@ -83,7 +80,7 @@ pub extern "C" fn nr_cancel(writer: &mut NrWriter, key: u32) -> u32
 /// What a key is, in 1 step: `NR_HOLE`, `NR_ASKED` or `NR_ROWS`.
 #[unsafe(no_mangle)]
 pub extern "C" fn nr_state(writer: &mut NrWriter, key: u32) -> u32
-    requires live { (held : Held) × (writer.old.live ≡ held ∷ []) × (key < held.map.value.shape.keys) }
+    requires live { MayWrite key writer.old.live }
     ensures { WriterCalls (StatesByCode key result) writer.old.live writer.new.live }
 {
     let side = writer.side();
@@ -94,7 +91,7 @@ pub extern "C" fn nr_state(writer: &mut NrWriter, key: u32) -> u32
 /// number. No step.
 #[unsafe(no_mangle)]
 pub extern "C" fn nr_number(writer: &mut NrWriter, key: u32) -> u64
-    requires live { (held : Held) × (writer.old.live ≡ held ∷ []) × (key < held.map.value.shape.keys) }
+    requires live { MayWrite key writer.old.live }
     ensures { WriterCalls (IsNumber key result) writer.old.live writer.new.live }
 {
     let side = writer.side();

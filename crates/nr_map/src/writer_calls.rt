@@ -1,11 +1,12 @@
 //! The writer's calls.
 ghost use Rattle.std.specs.Prelude.{◌≡◌, ◌<◌, ◌≤◌, length};
+ghost use Rattle.nr_model.specs.Batches.{IsBatch};
 ghost use Rattle.nr_model.specs.Rows.{IsRowSet};
 
 use crate::reader_map::ReaderMap;
 use crate::writer::Writer;
 use nr_board::{Evict, FillFault, Found, UpdateFault};
-use nr_model::{Batch, Row, RowRoom, RowSet};
+use nr_model::{Batch, Delta, Row, RowRoom, RowSet};
 use std::marker::Brand;
 
 // A writer's type says that it stands between two calls, and in the midst of one it doesn't. So each
@@ -82,12 +83,28 @@ impl ReaderMap {
         requires key { key < self.now.shape.keys }
         ensures { UpdatesKey self.now.shape.rows key batch.now writer.old writer.new result }
     {
+        self.update_rows(writer, key, batch.as_slice())
+    }
+
+    /// As `update`, with one to sixty-four signed rows in place of a batch, so that those which
+    /// stand somewhere need no copy.
+    pub fn update_rows(
+        &self,
+        writer: &mut Writer,
+        key: u32,
+        deltas: &[Delta],
+    ) -> Result<(), UpdateFault>
+        requires own { writer.old.table ≡ self.now }
+        requires key { key < self.now.shape.keys }
+        requires batch { IsBatch deltas.now }
+        ensures { UpdatesKey self.now.shape.rows key deltas.now writer.old writer.new result }
+    {
         self.board.update_key::<Brand>(
             &mut writer.seat,
             &mut writer.spare,
             &mut writer.pile,
             key,
-            batch,
+            deltas,
         )
     }
 

@@ -4,7 +4,7 @@ ghost use Rattle.std.specs.Prelude.{◌≡◌, ◌<◌};
 use nr_map::{
     Asked, Cancel, Evict, FillFault, Found, KeyKind, Reader, ReaderMap, UpdateFault, Writer,
 };
-use nr_model::{Batch, Delta, MAX_ROWS, Pile, Row, RowSet};
+use nr_model::{Batch, Delta, MAX_DELTAS, MAX_ROWS, Pile, Row, RowSet};
 
 /// An answer to a request, whose ticket was spent: its key and its number.
 #[derive(Clone, Copy, Debug, PartialEq, Eq)]
@@ -129,6 +129,23 @@ pub(crate) fn update(
         Ok(batch) => Some(map.update(writer, key, &batch)),
         Err(_) => None,
     }
+}
+
+/// Updates a key with signed rows where they stand. `None` where they are no batch.
+pub(crate) fn update_rows(
+    map: &ReaderMap,
+    writer: &mut Writer,
+    key: u32,
+    deltas: &[Delta],
+) -> Option<Result<(), UpdateFault>>
+    requires own { writer.old.table ≡ map.now }
+    requires key { key < map.now.shape.keys }
+    ensures own { writer.new.table ≡ map.now }
+{
+    if deltas.is_empty() || deltas.len() > MAX_DELTAS {
+        return None;
+    }
+    Some(map.update_rows(writer, key, deltas))
 }
 
 /// Evicts a key.

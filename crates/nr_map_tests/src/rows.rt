@@ -1,6 +1,6 @@
 //! Maps whose keys may have few rows or many, and what a find leaves of a caller's old rows.
 
-use crate::calls::{Told, minus, pairs_are, plus};
+use crate::calls::{Told, minus, pairs_are, plus, rows_of};
 use crate::worked::Worked;
 use nr_map::{FillFault, Found, MAX_READERS, MAX_SLOTS, ReaderMap, Shape, UpdateFault};
 use nr_model::{MAX_KEYS, MAX_ROWS, OpenFault, Pile, Row, RowSet};
@@ -147,6 +147,10 @@ fn rows_go_from_a_slice_into_any_room(rt: HostRuntime) -> Result<(), Fail> {
     assert_eq!(rt; worked.look_into(&rt, 2, &mut pile), Found::Hole);
     assert_eq!(rt; pile.as_slice(), numbered(1).as_slice());
     piles(&rt, &mut worked, 0, &mut pile, &numbered(16));
+    worked.updates_rows(&rt, 1, &[minus(1, 0), plus(5, 0)], Ok(()));
+    worked.updates_rows(&rt, 1, &[minus(1, 0)], Err(UpdateFault::NoRow));
+    worked.updates_rows(&rt, 2, &[plus(5, 0)], Err(UpdateFault::Dropped));
+    piles(&rt, &mut worked, 1, &mut pile, &rows_of(&[(5, 0)]));
     Ok(())
 }
 

@@ -4,7 +4,7 @@ ghost use Rattle.std.specs.Prelude.{◌≡◌, IfOk, IfSome};
 
 use crate::calls::{
     Told, ask, cancel, evict, fill, fill_rows, find, find_into, look, look_into, pairs_are,
-    rows_of, state, update,
+    rows_of, state, update, update_rows,
 };
 use nr_map::{
     Cancel, Evict, FillFault, Found, KeyKind, Reader, ReaderMap, Shape, UpdateFault, Writer,
@@ -202,6 +202,20 @@ impl Worked {
     {
         assert!(rt; key < self.map.keys());
         let updated = update(&self.map, &mut self.writer, key, deltas);
+        assert_eq!(rt; updated, Some(answer));
+    }
+
+    pub(crate) fn updates_rows<R: Abort>(
+        &mut self,
+        rt: &R,
+        key: u32,
+        deltas: &[Delta],
+        answer: Result<(), UpdateFault>,
+    )
+        ensures { self.new ≡ self.old }
+    {
+        assert!(rt; key < self.map.keys());
+        let updated = update_rows(&self.map, &mut self.writer, key, deltas);
         assert_eq!(rt; updated, Some(answer));
     }
 

@@ -1,7 +1,8 @@
 //! Signed rows, and batches of one to sixty-four of them.
-ghost use Rattle.std.specs.Prelude.{◌≡◌, ◌≤◌, ◌<◌, ◌+◌, ◌++◌, ◌∷◌, ◌↔◌, ℕ, [], length, slice_get, IfOk, IfErr, OnOk, Err};
+ghost use Rattle.std.specs.Prelude.{◌≡◌, ◌≤◌, ◌<◌, ◌↔◌, ℕ, [], length, slice_get, IfOk, Err};
+ghost use Rattle.nr_model.specs.Batches.{IsBatch};
 
-use crate::cells::{padded_copy, wipe_from};
+use crate::cells::padded_copy;
 use crate::rows::{BLANK, Row};
 use std::marker::Model;
 use thiserror::Error;
@@ -9,17 +10,18 @@ use thiserror::Error;
 /// The number of signed rows that a batch has room for.
 pub const MAX_DELTAS: usize = 64;
 
-/// A row that is added, or one that is taken away.
+/// A row that is added, or one that is taken away. It lies in memory as C has it.
+#[repr(C)]
 #[derive(Clone, Copy, Debug, PartialEq, Eq)]
 pub struct Delta {
-    pub plus: bool,
     pub row: Row,
+    pub plus: bool,
 }
 
 /// What stands in a cell that is not in use.
 const NO_DELTA: Delta = Delta {
-    plus: false,
     row: BLANK,
+    plus: false,
 };
 
 /// Why signed rows are no batch.
@@ -85,30 +87,6 @@ impl Batch {
         })
     }
 
-    /// The batch of that one row, in place of what it was: the first step where a batch is written
-    /// anew, row by row. Of the cells those that were in use are written, and no other.
-    pub fn start(&mut self, first: Delta)
-        ensures { self.new ≡ first ∷ [] }
-    {
-        self.cells[0] = first;
-        wipe_from(&mut self.cells, NO_DELTA, 1, self.len);
-        self.len = 1;
-    }
-
-    /// Puts one more row behind the others. Refused where the batch has 64, and then it stays.
-    pub fn push(&mut self, next: Delta) -> Result<(), BatchFault>
-        ensures ok { OnOk result (self.new ≡ self.old ++ next ∷ []) }
-        ensures few { OnOk result (length self.old < MAX_DELTAS) }
-        ensures full { IfErr result (λ fault. (fault ≡ BatchFault.TooLong) × (length self.old ≡ MAX_DELTAS) × (self.new ≡ self.old)) }
-    {
-        if self.len == MAX_DELTAS {
-            return Err(BatchFault::TooLong);
-        }
-        self.cells[self.len] = next;
-        self.len += 1;
-        Ok(())
-    }
-
     /// How many signed rows the batch has, 1 to 64.
     pub fn len(&self) -> usize
         ensures value { result ≡ length self.now }
@@ -129,9 +107,10 @@ impl Batch {
         }
     }
 
-    pub(crate) fn as_slice(&self) -> &[Delta]
+    /// The signed rows.
+    pub fn as_slice(&self) -> &[Delta]
         ensures value { result.now ≡ self.now }
-        ensures bounded { length result.now ≤ MAX_DELTAS }
+        ensures batch { IsBatch result.now }
     {
         &self.cells[..self.len]
     }

@@ -119,31 +119,6 @@ fn sets_and_batches_have_their_limits(rt: HostRuntime) -> Result<(), Fail> {
 }
 
 #[test]
-fn a_batch_is_written_anew_row_by_row(rt: HostRuntime) -> Result<(), Fail> {
-    let mut batch = batch_of(&[plus(1, 1), plus(2, 2), plus(3, 3)])?;
-    batch.start(minus(4, 4));
-    assert_eq!(rt; batch.len(), 1);
-    assert_eq!(rt; batch.get(0), Some(minus(4, 4)));
-    assert_eq!(rt; batch.push(plus(5, 5)), Ok(()));
-    assert_eq!(rt; batch.len(), 2);
-    assert_eq!(rt; batch.get(1), Some(plus(5, 5)));
-    assert_eq!(rt; batch.get(2), None);
-    Ok(())
-}
-
-#[test]
-fn no_row_is_pushed_over_the_last(rt: HostRuntime) -> Result<(), Fail> {
-    let mut batch = batch_of(&[plus(1, 1); 63])?;
-    assert_eq!(rt; batch.push(plus(2, 2)), Ok(()));
-    assert_eq!(rt; batch.push(plus(3, 3)), Err(BatchFault::TooLong));
-    assert_eq!(rt; batch.len(), 64);
-    assert_eq!(rt; batch.get(63), Some(plus(2, 2)));
-    batch.start(plus(4, 4));
-    assert_eq!(rt; batch.len(), 1);
-    Ok(())
-}
-
-#[test]
 fn rows_are_put_over_the_first_cells(rt: HostRuntime) -> Result<(), Fail> {
     let mut cells = [row(9, 9); 3];
     let two = set_of(&[row(4, 4), row(1, 1)])?;

@@ -2,9 +2,9 @@
 ghost use Rattle.std.specs.Prelude.{◌≡◌, ◌<◌, IsTrue};
 ghost use Rattle.nr_model.specs.Rows.{is_ascending};
 
-use crate::calls::{ask, fill};
+use crate::calls::{CHANGE, ask, fill};
 use crate::opening::opened;
-use nr_map::{FillFault, Found, Reader, ReaderMap, Writer};
+use nr_map::{FillFault, Found, Reader, ReaderMap, UpdateFault, Writer};
 use nr_model::{OpenFault, Pile, Row};
 use std::alloc::Global;
 use std::io::{self, Print};
@@ -13,6 +13,7 @@ use std::io::{self, Print};
 pub struct Copied {
     found: Found,
     filled: Option<Result<(), FillFault>>,
+    changed: Result<(), UpdateFault>,
     looked: Found,
     rows: Pile,
 }
@@ -36,7 +37,8 @@ fn fill_from(
     Some(map.fill_rows(writer, key, number, rows))
 }
 
-// A pile is a room for rows, as any type is that has `RowRoom`: a find writes them there.
+// A pile is a room for rows, as any type is that has `RowRoom`: a find writes them there. A change
+// needs no batch where its signed rows stand, one to sixty-four.
 fn copy_rows(map: &ReaderMap, writer: &mut Writer, reader: &mut Reader) -> Copied
     requires own { (reader.old.table ≡ map.now) × (writer.old.table ≡ map.now) }
     requires keys { 1 < map.now.shape.keys }
@@ -44,17 +46,19 @@ fn copy_rows(map: &ReaderMap, writer: &mut Writer, reader: &mut Reader) -> Copie
     let mut pile = Pile::new();
     let found = map.find_into(reader, 0, &mut pile);
     let filled = fill_from(map, writer, 1, pile.as_slice());
+    let changed = map.update_rows(writer, 1, &CHANGE);
     let mut rows = Pile::new();
     let looked = map.look_into(writer, 1, &mut rows);
     Copied {
         found,
         filled,
+        changed,
         looked,
         rows,
     }
 }
 
-/// Key 0 is filled, and key 1 gets the same rows.
+/// Key 0 is filled, and key 1 gets the same rows, of which one goes and another comes.
 pub fn passed_over(alloc: Global) -> Result<Copied, OpenFault> {
     let (map, mut writer, mut one, _two) = opened(alloc, 2, 5)?;
     ask(&map, &mut one, 0);
@@ -65,9 +69,10 @@ pub fn passed_over(alloc: Global) -> Result<Copied, OpenFault> {
 
 pub fn show<R: Print>(rt: &R, told: &Copied) -> io::Result<()> {
     println!(rt;
-        "Another room\n  reader 1 finds {:?}\n  a fill with them: {:?}\n  the writer finds {:?}: {:?}",
+        "Another room\n  reader 1 finds {:?}\n  a fill with them: {:?}\n  a change: {:?}\n  the writer finds {:?}: {:?}",
         told.found,
         told.filled,
+        told.changed,
         told.looked,
         told.rows.as_slice()
     )

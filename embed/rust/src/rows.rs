@@ -36,16 +36,16 @@ impl Default for Rows {
 #[derive(Clone, Copy, Debug)]
 pub struct Delta {
     row: Row,
-    plus: u64,
+    plus: bool,
 }
 
 impl Delta {
     pub fn plus(row: Row) -> Delta {
-        Delta { row, plus: 1 }
+        Delta { row, plus: true }
     }
 
     pub fn minus(row: Row) -> Delta {
-        Delta { row, plus: 0 }
+        Delta { row, plus: false }
     }
 }
 

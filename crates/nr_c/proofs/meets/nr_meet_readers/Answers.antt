@@ -1,5 +1,4 @@
-use Rattle.std.proofs.Common.{refl, ap, Some, ◌∙◌}
-use Rattle.nr_board.specs.Callers.{Caller}
+use Rattle.std.proofs.Common.{refl, ap, ◌∙◌}
 use Rattle.nr_c.specs.declared.hand.Hand.TheVariants.{Idle}
 use Rattle.nr_c.proofs.meets.nr_meet_readers.Goals as goal
 
@@ -16,7 +15,7 @@ returns c = (
     leads = refl;
     map = c.put-2.ensures.map ∙ c.take_reader-friend.ensures.map;
     old_hand = c.take_reader-friend.ensures.reader;
-    new_hand = c.put-2.ensures.hand ∙ ap (λ (r : Caller). Some (Idle r)) c.meet_readers.ensures.other;
+    new_hand = c.put-2.ensures.hand ∙ ap Idle c.meet_readers.ensures.other;
   },
   c.meet_readers.ensures.reader,
 )

@@ -1,17 +1,15 @@
-use Rattle.std.proofs.Common.{◌∙◌, ℕ, List, map, inl, inr, refl, sym, ap, subst}
-use Rattle.nr_model.specs.declared.batches.Delta.{Delta}
+use Rattle.std.proofs.Common.{◌∙◌, ℕ, inl, inr, refl, sym, ap, subst}
 use Rattle.nr_board.specs.WriterAnswers.{UpdatesKey}
 use Rattle.nr_board.specs.Callers.{Table}
-use Rattle.nr_c.specs.RowCells.{delta_of}
 use Rattle.nr_c.proofs.writes.nr_update.Goals as goal
 
-pub returns-then-not-write_over : goal.returns-then-not-write_over
-returns-then-not-write_over c =
-    record { old = c.side-side.result.now; new = _; was = c.side-side.ensures.value; is = refl; map = refl; spare = refl; made = inl (refl, c.if-not-write_over.ensures.refused, refl) }
+pub returns-then-not-are_batch : goal.returns-then-not-are_batch
+returns-then-not-are_batch c =
+    record { old = c.side-side.result.now; new = _; was = c.side-side.ensures.value; is = refl; map = refl; spare = refl; made = inl (refl, c.if-not-are_batch.ensures.none, refl) }
 
 pub returns : goal.returns
 returns c =
     let side = c.side-side.result.now in
     let bound = ap (λ (t : Table). t.shape.rows) (c.deref.ensures ∙ sym side.own) in
-    let updates = subst (λ (deltas : List Delta). UpdatesKey c.deref.result.now.shape.rows c.args.key deltas side.writer c.update.new.writer c.update.result) c.if-not-write_over.ensures.written c.update.ensures in
-    record { old = side; new = _; was = c.side-side.ensures.value; is = refl; map = refl; spare = refl; made = inr (c.update.result, c.of_update.ensures, subst (λ (n : ℕ). UpdatesKey n c.args.key (map delta_of c.args.deltas.now) side.writer c.update.new.writer c.update.result) bound updates) }
+    let updates = subst (λ (n : ℕ). UpdatesKey n c.args.key c.args.deltas.now side.writer c.update_rows.new.writer c.update_rows.result) bound c.update_rows.ensures in
+    record { old = side; new = _; was = c.side-side.ensures.value; is = refl; map = refl; spare = refl; made = inr (c.update_rows.result, c.of_update.ensures, updates) }
