@@ -1,3 +1,4 @@
+//! Why a call on names is refused.
 use thiserror::Error;
 
 /// Why a call on names was refused.

@@ -1,3 +1,4 @@
+//! A table of names that threads share.
 ghost use Rattle.std.specs.Prelude.{◌≡◌, ◌≢◌, ◌≤◌, ◌<◌, ◌↔◌, ◌⊎◌, length, string_bytes, IfOk, IfErr, OnOk, OnErr};
 ghost use Rattle.nr_names.specs.Naming.{IsName};
 ghost use Rattle.nr_names.specs.declared.table.TheConstants.{LONGEST_NAME, MAX_KEYS};

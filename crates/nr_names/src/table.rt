@@ -1,3 +1,4 @@
+//! Names and their numbers.
 ghost use Rattle.std.specs.Prelude.{◌≡◌, ◌≢◌, ◌≤◌, ◌<◌, ◌↔◌, ◌⊎◌, length, string_bytes, slice_get, IsTrue, IfOk, IfErr, OnOk, OnErr};
 ghost use Rattle.nr_names.specs.Naming.{no_names, number_of_name, intern_reply, adds, next_naming, IsSoundNaming};
 
