@@ -1,7 +1,7 @@
 /* Measures maps that have the functions of nr.h against each other, in one process: rounds in turn, each beginning with
    another map, until the time is over, at least five. Prints a line for each column and map: the rows of a key, the
    column, the map, the median of its times, and the median of its times over the first map's in the same round.
-   Usage: peers SECONDS ROWS NAME=LIBRARY.so .. */
+   Usage: peers SECONDS ROWS[@BOUND] NAME=LIBRARY.so .. */
 #define _GNU_SOURCE
 #include "library.h"
 #include <malloc.h>
@@ -21,7 +21,7 @@ static library maps[MOST];
 static double each[COLUMNS][MOST][MOST_ROUNDS], over[COLUMNS][MOST][MOST_ROUNDS];
 static double bytes[MOST];
 static int count, deltas;
-static uint32_t rows;
+static uint32_t rows, bound;
 static uint32_t order[READERS][ORDER];
 static nr_row set[255];
 static nr_delta there[2], back[2];
@@ -155,7 +155,7 @@ static void begin(char *argument) {
   *split = 0;
   library *l = &maps[count];
   double before = in_use();
-  load(l, argument, split + 1, (nr_shape){KEYS, KEYS + READERS + 1, READERS, rows > 15 ? rows : 15, 0, 0});
+  load(l, argument, split + 1, (nr_shape){KEYS, KEYS + READERS + 1, READERS, bound, 0, 0});
   for (uint32_t key = 0; key < KEYS; key++) {
     uint64_t number;
     if (l->ask(&l->reader[0].handle, key, &number) != NR_SEND) stop("a request");
@@ -169,15 +169,17 @@ static void tell(const char *column, int m, double value, double ratio) {
 }
 
 int main(int arguments, char **argument) {
-  if (arguments < 4) stop("usage: peers SECONDS ROWS NAME=LIBRARY.so ..");
+  if (arguments < 4) stop("usage: peers SECONDS ROWS[@BOUND] NAME=LIBRARY.so ..");
   double until = now() + atof(argument[1]) * 1e9;
+  const char *at = strchr(argument[2], '@');
   rows = (uint32_t)atoi(argument[2]);
+  bound = at ? (uint32_t)atoi(at + 1) : rows > 15 ? rows : 15;
   for (uint32_t i = 0; i < 255; i++) set[i] = (nr_row){7 + i / 4, i % 4};
   nr_row old = set[rows / 2], other = {old.a, 1000};
   /* An update takes one row and puts another; without rows it puts one, and then takes it. */
   deltas = rows ? 2 : 1;
-  there[0] = (nr_delta){other, 1}, there[1] = (nr_delta){old, 0};
-  back[0] = (nr_delta){other, 0}, back[1] = (nr_delta){old, 1};
+  there[0] = (nr_delta){other, true}, there[1] = (nr_delta){old, false};
+  back[0] = (nr_delta){other, false}, back[1] = (nr_delta){old, true};
   shuffle(order, KEYS);
   for (int i = 3; i < arguments; i++) begin(argument[i]);
   int rounds = 0;
