@@ -8,14 +8,15 @@
 #include <sched.h>
 #include <stdatomic.h>
 
-enum { KEYS = 8192, MOST_ROUNDS = 2000, SAMPLES = 4000, PART = 1024, BESIDE = 3 };
+enum { KEYS = 8192, MOST_ROUNDS = 2000, SAMPLES = 4000, PART = 1024, BESIDE = 3, HOT_KEY = 17 };
 
 static const double WINDOW = 2e6;
 
-typedef enum { READ_1, READ_3, HOT_3, BESIDE_WRITER, UPDATE, HALF, LAST, FILL, EVICT, COLUMNS } column;
+typedef enum { READ_1, READ_3, HOT_3, BESIDE_WRITER, UPDATE, HALF, LAST, HOT_WRITTEN, HOT_UPDATE, FILL, EVICT, COLUMNS } column;
 
 static const char *const names[COLUMNS] = {"read by 1", "read by 3", "hot key by 3", "read by 3 beside writer",
-    "update beside 3 readers", "p50 of a read beside writer", "p99.9 of a read beside writer", "fill", "eviction"};
+    "update beside 3 readers", "p50 of a read beside writer", "p99.9 of a read beside writer",
+    "hot key by 3 beside its writer", "update of the hot key", "fill", "eviction"};
 
 static library maps[MOST];
 static double each[COLUMNS][MOST][MOST_ROUNDS], over[COLUMNS][MOST][MOST_ROUNDS];
@@ -44,7 +45,7 @@ static void wait_for_all(void) {
 }
 
 static void find(const job *j, int i, nr_rows *found) {
-  uint32_t key = j->hot ? 17 : order[j->id][i % ORDER];
+  uint32_t key = j->hot ? HOT_KEY : order[j->id][i % ORDER];
   if (j->map->find(&j->map->reader[j->id].handle, key, found) != NR_ROWS) stop("a find");
   if (found->count != rows && (rows || found->count > 1)) stop("a number of rows");
 }
@@ -102,7 +103,7 @@ static double run(library *l, int threads, void *(*body)(void *), int hot, int w
   int made = 0, *place = &from[l - maps];
   atomic_store(&go, 1);
   while (writes && atomic_load(&running)) {
-    update(l, order[READERS - 1][(*place)++ % ORDER]);
+    update(l, hot ? HOT_KEY : order[READERS - 1][(*place)++ % ORDER]);
     made++;
   }
   double took = now() - began;
@@ -141,6 +142,7 @@ static void measure(int m, int r) {
   run(l, 1, reads_apart, 0, 1, &none);
   each[HALF][m][r] = at_part(samples, SAMPLES, 0.5);
   each[LAST][m][r] = at_part(samples, SAMPLES, 0.999);
+  each[HOT_UPDATE][m][r] = run(l, BESIDE, reads, 1, 1, &each[HOT_WRITTEN][m][r]);
   fill_again(l, r, &each[FILL][m][r], &each[EVICT][m][r]);
 }
 
