@@ -1,5 +1,5 @@
 -- What a reader's line leaves: the seats that its round gathered lie in the map's list again, and the map shows what the line was answered.
-use Rattle.std.proofs.Common.{◌≡◌, ◌<◌, ℕ, List, length, set, sym, ap, ◌∙◌, subst, arith, Vec, Ok}
+use Rattle.std.proofs.Common.{◌≡◌, ◌<◌, ℕ, List, length, set, sym, ap, ◌∙◌, subst, arith, refl, Vec, Ok, Result}
 use Rattle.std.proofs.lemmas.List.{with_items_is}
 use Rattle.std.specs.Vec.{with_item, with_items}
 use Rattle.nr_board.specs.Callers.{Caller, Table}
@@ -7,7 +7,9 @@ use Rattle.nr_alone.specs.declared.seat.Seat.{Seat}
 use Rattle.nr_alone.specs.Alone.{IsAlone, shown_by}
 use Rattle.nr_alone.specs.Answers.{Answer}
 use Rattle.nr_alone.specs.MapState.{MapOutcome, MapState}
-use Rattle.nr_alone.specs.Rounds.{Gathered}
+use Rattle.nr_alone.specs.Rounds.{Gathered, WriterStays}
+use Rattle.nr_alone.specs.Seats.{NotesFor}
+use Rattle.nr_alone.specs.declared.answer.Refusal.{Refusal}
 use Rattle.nr_alone.proofs.ReaderLines.{many_pins}
 use Rattle.nr_alone.proofs.Rounds.{same_length}
 
@@ -19,6 +21,13 @@ module _ {Z : Type 0} (table : Table) (w0 : Caller) (seats : Vec Seat Z) (at : �
   module _ (x : Seat) (w' : Caller) (seats' slice : List Seat) (items : slice ≡ set seats.items at x) where
     pub round_here : (w : Caller) → w ≡ w0 → Gathered at w slice w' seats' → Gathered at w0 (set seats.items at x) w' seats'
     round_here w same g = subst (λ (l : List Seat). Gathered at w0 l w' seats') items (subst (λ (c : Caller). Gathered at c slice w' seats') same g)
+
+    -- the same where the writer made a note before the round
+    pub round_after_note : (w : Caller) (result : Result Answer Refusal) (answer : Answer) → result ≡ Ok answer → NotesFor w0 w result → Gathered at w slice w' seats' → Gathered at w0 (set seats.items at x) w' seats'
+    round_after_note w result answer was notes g =
+        let h = subst (λ (c : Caller). Gathered at c slice w' seats') (subst (NotesFor w0 w) was notes) g in
+        let stays : WriterStays w0 h.mid = record { number = h.stays.number; mine = h.stays.mine; seen = h.stays.seen; only = record { table = h.stays.only.table; fresh = h.stays.only.fresh; retired = h.stays.only.retired; numbers = h.stays.only.numbers; marks = h.stays.only.marks } } in
+        round_here w0 refl (record { mid = h.mid; stays = stays; sound = h.sound; all = h.all; heard = h.heard; round = h.round })
 
     module _ (len : length slice ≡ (with_item seats at x).len) (g : Gathered at w0 (set seats.items at x) w' seats') where
       all_here : (with_items (with_item seats at x) seats').items ≡ seats'

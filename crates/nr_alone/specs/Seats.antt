@@ -10,7 +10,7 @@ use Rattle.nr_machine.specs.Story.{entry}
 use Rattle.nr_marks.specs.Marks.{Past}
 use Rattle.nr_marks.specs.Puts.{put_number}
 use Rattle.nr_board.specs.Callers.{Caller, Gains, KnowsOwn, Rests, Table}
-use Rattle.nr_board.specs.Meetings.{how_is}
+use Rattle.nr_board.specs.Meetings.{how_is, with_step}
 use Rattle.nr_board.specs.Rule.{StartsWith}
 use Rattle.nr_alone.specs.MapState.{Pin}
 use Rattle.nr_alone.specs.Answers.{Answer}
@@ -63,6 +63,11 @@ pub record Calls (heard : List Entry) (call : Call) (reply' : Reply) (old new : 
   pub seen : new.seen ≡ before ++ entry old.number call reply' ∷ []
   pub mine : new.mine ≡ old.mine ++ entry old.number call reply' ∷ []
   pub own : KnowsOwn new
+
+-- for a call that is made the writer makes a note; else it stays as it is
+abbrev pub NotesFor : Caller → Caller → Result Answer Refusal → Type 0
+NotesFor old new (Ok answer) = new ≡ with_step old
+NotesFor old new (Err refusal) = new ≡ old
 
 abbrev pub MakesCall : List Entry → Call → Seat → Seat → Result Answer Refusal → Type 0
 MakesCall heard call old new (Ok answer) = (reply' : Reply) × (answer ≡ answers.Reply reply') × Calls heard call reply' (caller_in old) (caller_in new) × (pin_of old ≡ None) × (pin_of new ≡ None) × SeatHoldsItsPin new

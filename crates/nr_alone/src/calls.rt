@@ -1,7 +1,7 @@
 //! The calls of one reader.
 ghost use Rattle.std.specs.Prelude.{◌≡◌, ◌<◌};
 ghost use Rattle.nr_model.specs.declared.calls.Call.TheVariants as model;
-ghost use Rattle.nr_alone.specs.Seats.{caller_in, GainsFind, MakesCall, MakesPin, PinsBy, ShowsPin, Unpins};
+ghost use Rattle.nr_alone.specs.Seats.{caller_in, GainsFind, MakesCall, MakesPin, NotesFor, PinsBy, ShowsPin, Unpins};
 
 use crate::answer::{Answer, Refusal, Said};
 use crate::seat::Seat;
@@ -20,7 +20,7 @@ pub(crate) fn find_at<'a>(
 ) -> Result<Answer<'a>, Refusal>
     requires own { (writer.old.table ≡ map.now) × ((caller_in seat.old).table ≡ map.now) }
     requires key { key < map.now.shape.keys }
-    ensures writer { writer.new ≡ writer.old }
+    ensures writer { NotesFor writer.old writer.new result }
     ensures made { MakesCall writer.old.seen (model.Find key) seat.old seat.new result }
 {
     let Seat::Idle(reader) = seat else {
@@ -42,7 +42,7 @@ pub(crate) fn ask_at(
 ) -> Result<Answer<'static>, Refusal>
     requires own { (writer.old.table ≡ map.now) × ((caller_in seat.old).table ≡ map.now) }
     requires key { key < map.now.shape.keys }
-    ensures writer { writer.new ≡ writer.old }
+    ensures writer { NotesFor writer.old writer.new result }
     ensures made { MakesCall writer.old.seen (model.Ask key) seat.old seat.new result }
 {
     let Seat::Idle(asker) = seat else {
@@ -69,7 +69,7 @@ pub(crate) fn pin_at(
 ) -> Result<Answer<'static>, Refusal>
     requires own { (writer.old.table ≡ map.now) × ((caller_in seat.old).table ≡ map.now) }
     requires key { key < map.now.shape.keys }
-    ensures writer { writer.new ≡ writer.old }
+    ensures writer { NotesFor writer.old writer.new result }
     ensures made { MakesPin writer.old.seen key seat.old seat.new result }
 {
     let Seat::Idle(idle) = seat else {

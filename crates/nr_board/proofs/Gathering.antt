@@ -1,5 +1,5 @@
 -- What a token learns of another, and what it knows of both after a gather.
-use Rattle.std.proofs.Common.{◌≡◌, ℕ, List, [], ◌∷◌, ◌++◌, length, sym, ap, ◌∙◌, subst, arith, append-nil, length-append, refl}
+use Rattle.std.proofs.Common.{◌≡◌, ℕ, ◌+◌, List, [], ◌∷◌, ◌++◌, length, sym, ap, ◌∙◌, subst, arith, append-nil, length-append, refl}
 use mathlib.Core.Option.{some}
 use lib.ListN.{get_elem?}
 use Rattle.atomic_table.specs.Seated.{TableId}
@@ -19,8 +19,8 @@ use Rattle.nr_marks.specs.Pasts.{Compared, Current}
 use Rattle.nr_board.proofs.Tokens.{MapSeat}
 use Rattle.nr_board.specs.Callers.{Caller, KnowsOwn, Table, caller_of, map_seen, token}
 use Rattle.nr_board.specs.Learning.{HearsOf, Learned, LearnsOf}
-use Rattle.nr_board.specs.Meetings.{Gathers, Learns, Meets, desk_seen, how_is}
-use Rattle.nr_board.specs.Notes.{note_of, with_note}
+use Rattle.nr_board.specs.Meetings.{Gathers, HearsNote, Learns, Meets, desk_seen, how_is, known_to, with_step}
+use Rattle.nr_board.specs.Notes.{has_noted, note_of, with_note}
 use Rattle.nr_board.specs.Rule.{StartsWith}
 use Rattle.nr_board.specs.Views.{View, desk_of, grip_of, caller_number}
 use Rattle.nr_core.specs.Core.{AreNumbers}
@@ -33,13 +33,12 @@ begins_with_calls log caller own begins = record {
   is = ap (λ (l : List Entry). entries_of l caller.number) begins.is ∙ of-append caller.number caller.seen begins.rest ∙ ap (λ (l : List Entry). l ++ entries_of begins.rest caller.number) own;
 }
 
--- a note of the other was taken in, and the history so far learnt
-pub meets_seat : (seat other joined new : MapSeat) (note : View) (found : ℕ) → KnowsOwn (token other) → note ≡ note_of other.me.0 → joined.me.0 ≡ with_note seat.me.0 note → new.table_id ≡ seat.table_id → Learned 0 found joined.me.0 new.me.0
-    → Meets 3 (token seat) (token other) (token new) × HearsOf seat.me.0 other.me.0 new.me.0
-meets_seat seat other joined new note found own is took same learned =
-    let joins : joined.me.0 ≡ with_note seat.me.0 (note_of other.me.0) = took ∙ ap (with_note seat.me.0) is in
-    let told = subst (λ (v : View). Learned 0 found v new.me.0) joins learned in let learns = told.learns seat.table_id in (
-      subst (λ (id : TableId). Meets 3 (token seat) (token other) (caller_of id new.me.0)) (sym same) (record {
+-- a note was taken in, and the history so far learnt
+pub hears_seat : (seat note joined new : MapSeat) (found : ℕ) → joined.me.0 ≡ with_note seat.me.0 note.me.0 → new.table_id ≡ seat.table_id → Learned 0 found joined.me.0 new.me.0
+    → HearsNote 2 (token seat) (known_to (token note)) (token new) × HearsOf seat.me.0 note.me.0 new.me.0
+hears_seat seat note joined new found took same learned =
+    let told = subst (λ (v : View). Learned 0 found v new.me.0) took learned in let learns = told.learns seat.table_id in (
+      subst (λ (id : TableId). HearsNote 2 (token seat) (known_to (token note)) (caller_of id new.me.0)) (sym same) (record {
         learns = record {
           table = learns.table;
           number = learns.number;
@@ -58,10 +57,28 @@ meets_seat seat other joined new note found own is took same learned =
           pasts = learns.pasts;
         };
         seen = told.told;
-        calls = begins_with_calls new.me.0.seen (token other) own told.told;
       }),
       (told.news, told.pasts, told.of_readers),
     )
+
+-- who hears a note has all calls that its maker had made
+pub meets_maker : (steps : ℕ) (old maker new : Caller) → KnowsOwn maker → HearsNote steps old (known_to maker) new → Meets steps old maker new
+meets_maker steps old maker new own hears = record {
+  learns = hears.learns;
+  seen = hears.seen;
+  calls = begins_with_calls new.seen maker own hears.seen;
+}
+
+-- the other made the note
+pub meets_seat : (seat other note new : MapSeat) → KnowsOwn (token other) → note.me.0 ≡ note_of other.me.0 → HearsNote 2 (token seat) (known_to (token note)) (token new) → HearsOf seat.me.0 note.me.0 new.me.0
+    → Meets 2 (token seat) (token other) (token new) × HearsOf seat.me.0 (note_of other.me.0) new.me.0
+meets_seat seat other note new own is hears readers = (
+  meets_maker 2 (token seat) (token other) (token new) own (record {
+    learns = hears.learns;
+    seen = subst (StartsWith new.me.0.seen) (ap (λ (v : View). v.seen) is) hears.seen;
+  }),
+  subst (λ (v : View). HearsOf seat.me.0 v new.me.0) is readers,
+)
 
 -- a list that goes on twice and is itself did not go on
 nothing_more : {A : Type 0} (xs ys zs : List A) → xs ≡ (xs ++ ys) ++ zs → ys ≡ []
@@ -82,7 +99,7 @@ pub record Compares (writer reader heard : View) (desk : Desk) (one : Past) : Ty
   pub current : Current desk.retired writer.marks one
   pub lists : Lists desk writer.marks writer.shape heard.seen
 
-compares_so : (writer reader heard told : View) (desk : Desk) (number : ℕ) (grip : Grip) → writer.role ≡ Writer desk → reader.role ≡ Reader number grip → heard.role ≡ Writer desk → HearsOf writer reader heard → HearsOf reader heard told
+compares_so : (writer reader heard told : View) (desk : Desk) (number : ℕ) (grip : Grip) → writer.role ≡ Writer desk → reader.role ≡ Reader number grip → heard.role ≡ Writer desk → HearsOf writer (note_of reader) heard → HearsOf reader (note_of heard) told
     → Compares writer reader heard desk (past number grip reader.marks)
 compares_so writer reader heard told desk number grip writes reads still first second =
     let news = first.0 in let noted = with_note writer (note_of reader) in let asked = with_note reader (note_of heard) in
@@ -97,9 +114,29 @@ compares_so writer reader heard told desk number grip writes reads still first s
       lists = learnt.1;
     }
 
--- a seat that lent itself is the same token
-same_token : (seat lent : MapSeat) → lent.table_id ≡ seat.table_id → lent.me ≡ seat.me → token lent ≡ token seat
-same_token seat lent id me = λ j. caller_of (id j) (me j).0
+-- what was learnt by other counts of steps
+recounted : (steps sum before after : ℕ) (old new : Caller) → new.steps ≡ old.steps + sum → Learns steps (record old { steps = before }) (record new { steps = after }) → Learns sum old new
+recounted steps sum before after old new count learns = record {
+  table = learns.table;
+  number = learns.number;
+  seen = learns.seen;
+  mine = learns.mine;
+  legal = learns.legal;
+  own = learns.own;
+  callers = learns.callers;
+  steps_made = count;
+  fresh = learns.fresh;
+  retired = learns.retired;
+  numbers = learns.numbers;
+  holds = learns.holds;
+  marks = learns.marks;
+  news = learns.news;
+  pasts = learns.pasts;
+}
+
+-- a seat that made a note is a token that made a step
+pub noting_token : (seat noting : MapSeat) → noting.table_id ≡ seat.table_id → noting.me ≡ (has_noted seat.me.0, seat.me.1) → token noting ≡ with_step (token seat)
+noting_token seat noting id me = λ j. caller_of (id j) (me j).0
 
 pub learns_seat : (at found : ℕ) (seat new : MapSeat) → new.table_id ≡ seat.table_id → Learned at found seat.me.0 new.me.0 → Learns 1 (token seat) (token new)
 learns_seat at found seat new same learned = subst (λ (id : TableId). Learns 1 (token seat) (caller_of id new.me.0)) (sym same) (learned.learns seat.table_id)
@@ -109,33 +146,39 @@ pub learned_numbers : (table : Table) (seat new : MapSeat) (at found : ℕ) → 
 learned_numbers table seat new at found own learned desk is = subst (λ (p : Shape × Shape). AreNumbers p.0 (map_after p.1 new.me.0.seen) desk.numbers) (λ j. ((own j).shape, (sym (learned.learns seat.table_id).table j).shape))
     (subst (λ r. LearnsOf r seat.me.0 new.me.0 learned.news) is learned.of_readers).2
 
-pub heard_numbers : (table : Table) (seat other new : MapSeat) → (token seat).table ≡ table → Meets 3 (token seat) (token other) (token new) → HearsOf seat.me.0 other.me.0 new.me.0 → (desk : Desk) → seat.me.0.role ≡ Writer desk → AreNumbers table.shape (map_seen (token new)) desk.numbers
-heard_numbers table seat other new own meets hears desk is = subst (λ (p : Shape × Shape). AreNumbers p.0 (map_after p.1 new.me.0.seen) desk.numbers) (λ j. ((own j).shape, (sym meets.learns.table j).shape))
-    (subst (λ r. LearnsOf r (with_note seat.me.0 (note_of other.me.0)) new.me.0 hears.0) is hears.2).2
+pub heard_numbers : (table : Table) (seat new : MapSeat) (note : View) → (token seat).table ≡ table → Learns 2 (token seat) (token new) → HearsOf seat.me.0 note new.me.0 → (desk : Desk) → seat.me.0.role ≡ Writer desk → AreNumbers table.shape (map_seen (token new)) desk.numbers
+heard_numbers table seat new note own learns hears desk is = subst (λ (p : Shape × Shape). AreNumbers p.0 (map_after p.1 new.me.0.seen) desk.numbers) (λ j. ((own j).shape, (sym learns.table j).shape))
+    (subst (λ r. LearnsOf r (with_note seat.me.0 note) new.me.0 hears.0) is hears.2).2
 
--- the writer, which was between two calls, heard of the reader and the reader of it; each was lent to the other once
+-- the writer, which was between two calls, heard of the reader and the reader of it; each made one note
 module _ (writer reader heard lent last told : MapSeat) (fresh : ℕ) (retired : List Retired) (numbers : List ℕ) (number : ℕ) (grip : Grip)
     (writes : writer.me.0.role ≡ Writer (record { place = Idle; fresh = fresh; retired = retired; numbers = numbers })) (reads : reader.me.0.role ≡ Reader number grip) (stays : heard.me.0.role ≡ writer.me.0.role)
-    (first : (lent.table_id ≡ reader.table_id) × (lent.me ≡ reader.me)) (second : (last.table_id ≡ heard.table_id) × (last.me ≡ heard.me))
-    (meets : Meets 3 (token writer) (token reader) (token heard)) (meets_back : Meets 3 (token lent) (token heard) (token told)) (hears : HearsOf writer.me.0 reader.me.0 heard.me.0) (hears_back : HearsOf lent.me.0 heard.me.0 told.me.0) where
+    (first : (lent.table_id ≡ reader.table_id) × (lent.me ≡ (has_noted reader.me.0, reader.me.1))) (second : (last.table_id ≡ heard.table_id) × (last.me ≡ (has_noted heard.me.0, heard.me.1)))
+    (meets : Meets 2 (token writer) (token reader) (token heard)) (meets_back : Meets 2 (token lent) (token heard) (token told)) (hears : HearsOf writer.me.0 (note_of reader.me.0) heard.me.0) (hears_back : HearsOf lent.me.0 (note_of heard.me.0) told.me.0) where
   abbrev desk : Desk
   desk = record { place = Idle; fresh = fresh; retired = retired; numbers = numbers }
 
   writes_still : heard.me.0.role ≡ Writer desk
   writes_still = stays ∙ writes
 
-  compares : Compares writer.me.0 reader.me.0 heard.me.0 desk (past number grip reader.me.0.marks)
-  compares = compares_so writer.me.0 reader.me.0 heard.me.0 told.me.0 desk number grip writes reads writes_still hears (subst (λ (v : View). HearsOf v heard.me.0 told.me.0) (λ j. (first.1 j).0) hears_back)
+  compares : Compares writer.me.0 (has_noted reader.me.0) heard.me.0 desk (past number grip reader.me.0.marks)
+  compares = compares_so writer.me.0 (has_noted reader.me.0) heard.me.0 told.me.0 desk number grip writes reads writes_still hears (subst (λ (v : View). HearsOf v (note_of heard.me.0) told.me.0) (λ j. (first.1 j).0) hears_back)
 
-  back : Meets 3 (token reader) (token heard) (token told)
-  back = subst (λ (r : Caller). Meets 3 r (token heard) (token told)) (same_token reader lent first.0 first.1) meets_back
+  there : Meets 3 (token writer) (token reader) (with_step (token heard))
+  there = record { learns = recounted 2 3 writer.me.0.steps heard.me.0.steps (token writer) (with_step (token heard)) (omega (arith, meets.learns.steps_made)) meets.learns; seen = meets.seen; calls = meets.calls }
+
+  lends : Meets 2 (with_step (token reader)) (token heard) (token told)
+  lends = subst (λ (r : Caller). Meets 2 r (token heard) (token told)) (noting_token reader lent first.0 first.1) meets_back
+
+  back : Meets 3 (token reader) (with_step (token heard)) (token told)
+  back = record { learns = recounted 2 3 (reader.me.0.steps + 1) told.me.0.steps (token reader) (token told) (omega (arith, lends.learns.steps_made)) lends.learns; seen = lends.seen; calls = lends.calls }
 
   one_is : past number grip reader.me.0.marks ≡ how_is (token reader)
   one_is = λ j. record { reader = caller_number (sym reads j); count = reader.me.0.marks.acts; slot = gripped (grip_of (sym reads j)); put = reader.me.0.marks.put }
 
-  gathers_heard : Gathers (token writer) (token reader) (token heard) (token told)
+  gathers_heard : Gathers (token writer) (token reader) (with_step (token heard)) (token told)
   gathers_heard = let log = heard.me.0.seen in let learns = back.learns in let known = compares in record {
-    of_reader = meets;
+    of_reader = there;
     of_writer = back;
     all = ap (entries_of log) (sym learns.number) ∙ just_calls log (token told) (subst (λ (p : ℕ × List Entry). StartsWith (entries_of log p.0) p.1) (λ j. (sym learns.number j, sym learns.mine j)) meets.calls) (back.seen, learns.own) ∙ learns.mine;
     place = 0;
@@ -148,4 +191,4 @@ module _ (writer reader heard lent last told : MapSeat) (fresh : ℕ) (retired :
       desk_at = λ j. record { place = Idle; fresh = (desk_of (sym writes_still j)).fresh; retired = (desk_of (sym writes_still j)).retired; numbers = (desk_of (sym writes_still j)).numbers }
 
   pub gathers_seats : Gathers (token writer) (token reader) (token last) (token told)
-  gathers_seats = subst (λ (w : Caller). Gathers (token writer) (token reader) w (token told)) (sym (same_token heard last second.0 second.1)) gathers_heard
+  gathers_seats = subst (λ (w : Caller). Gathers (token writer) (token reader) w (token told)) (sym (noting_token heard last second.0 second.1)) gathers_heard

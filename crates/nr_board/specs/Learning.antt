@@ -12,7 +12,7 @@ use Rattle.nr_marks.specs.Pasts.{Compared, Refreshed}
 use Rattle.nr_board.specs.Callers.{caller_of}
 use Rattle.nr_board.specs.Kinds.{kind_of, kind_shown}
 use Rattle.nr_board.specs.Meetings.{Learns}
-use Rattle.nr_board.specs.Notes.{note_of, with_note}
+use Rattle.nr_board.specs.Notes.{with_note}
 use Rattle.nr_board.specs.Plays.{Then}
 use Rattle.nr_board.specs.Rule.{StartsWith}
 use Rattle.nr_board.specs.Views.{View}
@@ -37,6 +37,6 @@ pub record Learned (at found : ℕ) (old new : View) : Type 0 where
 abbrev pub has_learned : Then
 has_learned step before found after = Learned step.word found before.0 after.0
 
--- what one token learnt of readers from another
+-- what a token learnt of readers by a note
 abbrev pub HearsOf : View → View → View → Type 0
-HearsOf old other new = (news : List Past) × (new.pasts ≡ news ++ old.pasts) × LearnsOf old.role (with_note old (note_of other)) new news
+HearsOf old note new = (news : List Past) × (new.pasts ≡ news ++ old.pasts) × LearnsOf old.role (with_note old note) new news

@@ -2,10 +2,10 @@
 use Rattle.std.specs.Prelude.{◌≡◌, ℕ, ◌+◌, List, ◌++◌}
 use mathlib.Core.Option.{some}
 use lib.ListN.{get_elem?}
-use Rattle.nr_model.specs.Histories.{IsLegal, entries_of}
+use Rattle.nr_model.specs.Histories.{Entry, IsLegal, entries_of}
 use Rattle.nr_model.specs.Maps.{state_of}
 use Rattle.nr_board.specs.declared.answers.KeyKind.{KeyKind}
-use Rattle.nr_board.specs.Callers.{Caller, map_seen, map_at_opening}
+use Rattle.nr_board.specs.Callers.{Caller, Table, map_seen, map_at_opening}
 use Rattle.nr_board.specs.Kinds.{kind_of}
 use Rattle.nr_machine.specs.declared.places.Place.TheVariants.{Idle}
 use Rattle.nr_machine.specs.declared.roles.Desk.{Desk}
@@ -44,13 +44,30 @@ how_is reader = record { reader = reader.number; count = reader.marks.acts; slot
 abbrev pub desk_seen : Caller → Desk
 desk_seen writer = record { place = Idle; fresh = writer.fresh; retired = writer.retired; numbers = writer.numbers }
 
+-- what a note tells: of which map it is, and what its maker had seen
+pub record Known : Type 0 where
+  pub table : Table
+  pub seen : List Entry
+
+abbrev pub known_to : Caller → Known
+known_to caller = record { table = caller.table; seen = caller.seen }
+
+-- who makes a note makes one step, and is else as it was
+abbrev pub with_step : Caller → Caller
+with_step caller = record caller { steps = caller.steps + 1 }
+
+-- the history begins with all that the note's maker had seen too
+pub record HearsNote (steps : ℕ) (old : Caller) (note : Known) (new : Caller) : Type 0 where
+  pub learns : Learns steps old new
+  pub seen : StartsWith new.seen note.seen
+
 -- the history begins with all that the other had seen too, so it has all calls that the other had made
 pub record Meets (steps : ℕ) (old other new : Caller) : Type 0 where
   pub learns : Learns steps old new
   pub seen : StartsWith new.seen other.seen
   pub calls : StartsWith (entries_of new.seen other.number) other.mine
 
--- the writer learnt of the reader, and then the reader of the writer: of either the writer's history has exactly its calls
+-- the writer learnt of the reader, and then the reader of the writer, 1 step of each for the note and 2 to hear: of either the writer's history has exactly its calls
 pub record Gathers (writer reader writer' reader' : Caller) : Type 0 where
   pub of_reader : Meets 3 writer reader writer'
   pub of_writer : Meets 3 reader writer' reader'

@@ -1,5 +1,6 @@
 -- Notes: a token makes one of what it has seen, and another takes it in.
-use Rattle.std.specs.Prelude.{◌+◌, ◌<◌, []}
+use Rattle.std.specs.Prelude.{◌≡◌, ◌+◌, ◌<◌, []}
+use Rattle.atomic_table.specs.declared.shared.Seat.{Seat}
 use Rattle.nr_machine.specs.declared.roles.Role.{Role}
 use Rattle.nr_machine.specs.declared.roles.Role.TheVariants.{Note}
 use Rattle.nr_core.specs.Roles.{is_reader, is_writer}
@@ -10,16 +11,20 @@ use Rattle.nr_board.specs.Views.{no_shape, View}
 abbrev pub IsCaller : Role → Type 0
 IsCaller role = 0 < is_writer role + is_reader role
 
--- the token that a note is split from keeps its view; the split is the note's step
-abbrev pub itself : View → View
-itself view = view
+-- the token that makes a note counts the note's step, and is else as it was
+abbrev pub has_noted : View → View
+has_noted view = record view { steps = view.steps + 1 }
 
 abbrev pub note_of : View → View
-note_of view = record { role = Note; shape = view.shape; made = 0; seen = view.seen; told = []; mine = []; steps = 1; marks = no_marks; pasts = told_by view.role view.marks view.pasts; told_pasts = [] }
+note_of view = record { role = Note; shape = view.shape; made = 0; seen = view.seen; told = []; mine = []; steps = 0; marks = no_marks; pasts = told_by view.role view.marks view.pasts; told_pasts = [] }
 
--- the token that takes a note in, with the note's step and its own
+-- the seat of a note that nobody has taken in
+abbrev pub IsNote : Seat (Unit {0}) View → Type 0
+IsNote seat = (seat.me.0.role ≡ Note) × (seat.me.1 ≡ [])
+
+-- the token that takes a note in counts its own step
 abbrev pub with_note : View → View → View
-with_note view note = record view { told = note.seen; told_pasts = note.pasts; steps = view.steps + note.steps + 1 }
+with_note view note = record view { told = note.seen; told_pasts = note.pasts; steps = view.steps + 1 }
 
 -- what is left of a note
 abbrev pub spent : View

@@ -7,7 +7,7 @@ ghost use Rattle.nr_model.specs.declared.calls.Reply.TheVariants as reply;
 ghost use Rattle.nr_words.specs.KeyWords.{is_filled, slot_of};
 ghost use Rattle.nr_words.specs.SetWords.{encode};
 ghost use Rattle.nr_machine.specs.declared.roles.Desk.{Desk};
-ghost use Rattle.nr_machine.specs.declared.roles.Role.TheVariants.{Note as note_role, Writer};
+ghost use Rattle.nr_machine.specs.declared.roles.Role.TheVariants.{Writer};
 ghost use Rattle.nr_core.specs.Core.{AreNumbers};
 ghost use Rattle.nr_machine.specs.Given.{IsGivenCall};
 ghost use Rattle.nr_machine.specs.States.{key_of};
@@ -22,7 +22,7 @@ ghost use Rattle.nr_board.specs.Callers.{Gains, Rests, map_seen, token};
 ghost use Rattle.nr_marks.specs.Marks.{acted, with_polls};
 ghost use Rattle.nr_marks.specs.Puts.{put_number};
 ghost use Rattle.nr_board.specs.Seats.{IdlesAt, HoldsAt};
-ghost use Rattle.nr_board.specs.Notes.{IsCaller, note_of, with_note};
+ghost use Rattle.nr_board.specs.Notes.{IsCaller, IsNote, has_noted, note_of, with_note};
 ghost use Rattle.nr_board.specs.Kinds.{kind_of, kind_shown};
 ghost use Rattle.nr_board.specs.Learning.{Learned};
 ghost use Rattle.nr_board.specs.Meetings.{Learns};
@@ -63,8 +63,9 @@ impl Model for Board {
     ghost invariant = { λ board. (board.table.shared.key ≡ board.shape) × (board.table.shared.table_id.words ≡ total_of (layout board.shape)) × (0 < board.shape.keys) × (board.shape.keys < 2 ^ 32) × IsShape board.shape };
 }
 
-/// What a token has seen, noted in a step that counts once another token takes the note in. So a
-/// note can't be dropped.
+/// What a token has seen. The token that made the note counts its step, so nothing is lost where the
+/// note is dropped.
+#[derive(Drop)]
 pub struct Note {
     seat: Seat,
 }
@@ -261,10 +262,10 @@ impl Board {
         words.swap::<Goes>(seat, key as usize, hole);
     }
 
-    /// A note of what the token has seen. The token stays as it is.
+    /// A note of what the token has seen, in 1 step. Else the token stays as it is.
     pub fn note(&self, seat: &mut Seat) -> Note
         requires { seat.old.table_id ≡ self.now.id }
-        ensures same { (seat.new.table_id ≡ seat.old.table_id) × (seat.new.me ≡ seat.old.me) }
+        ensures maker { (seat.new.table_id ≡ seat.old.table_id) × (seat.new.me ≡ (has_noted seat.old.me.0, seat.old.me.1)) }
         ensures note { (result.table_id ≡ seat.old.table_id) × (result.me ≡ (note_of seat.old.me.0, [])) }
     {
         let words = &self.table.shared;
@@ -273,10 +274,10 @@ impl Board {
         }
     }
 
-    /// The token takes a note in.
+    /// The token takes a note in, in 1 step.
     pub fn take_note(&self, seat: &mut Seat, note: Note)
         requires own { (seat.old.table_id ≡ self.now.id) × (note.table_id ≡ self.now.id) }
-        requires note { (note.me.0.role ≡ note_role) × (note.me.1 ≡ []) }
+        requires note { IsNote note }
         ensures own { seat.new.table_id ≡ seat.old.table_id }
         ensures took { seat.new.me.0 ≡ with_note seat.old.me.0 note.me.0 }
     {

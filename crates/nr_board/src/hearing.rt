@@ -4,26 +4,40 @@ ghost use Rattle.nr_core.specs.Core.{AreNumbers};
 ghost use Rattle.nr_machine.specs.declared.roles.Desk.{Desk};
 ghost use Rattle.nr_machine.specs.declared.roles.Role.TheVariants.{Writer as writer_role};
 ghost use Rattle.nr_board.specs.Callers.{KnowsOwn, map_seen, token};
-ghost use Rattle.nr_board.specs.Meetings.{Meets};
+ghost use Rattle.nr_board.specs.Meetings.{HearsNote, Meets, known_to};
 ghost use Rattle.nr_board.specs.Learning.{HearsOf};
-ghost use Rattle.nr_board.specs.Notes.{IsCaller};
+ghost use Rattle.nr_board.specs.Notes.{IsCaller, IsNote, has_noted, note_of};
 
-use crate::board::{Board, Seat};
+use crate::board::{Board, Note, Seat};
 
 impl Board {
-    /// A token learns, in 3 steps, all that another has seen, which lends itself for a note.
+    /// A token learns, in 2 steps, all that a note's maker had seen: it takes the note in, and then
+    /// learns the history, which begins with that.
+    pub fn hear_note(&self, seat: &mut Seat, note: Note)
+        requires own { ((token seat.old).table ≡ self.now) × (note.table_id ≡ self.now.id) }
+        requires note { IsNote note }
+        requires caller { IsCaller seat.old.me.0.role }
+        ensures hears { HearsNote 2 (token seat.old) (known_to (token note)) (token seat.new) }
+        ensures readers { HearsOf seat.old.me.0 note.me.0 seat.new.me.0 }
+        ensures numbers { (desk : Desk) → seat.old.me.0.role ≡ writer_role desk → AreNumbers self.now.shape (map_seen (token seat.new)) desk.numbers }
+        ensures role { (seat.new.table_id ≡ seat.old.table_id) × (seat.new.me.0.role ≡ seat.old.me.0.role) }
+    {
+        self.take_note(seat, note);
+        self.learn(seat);
+    }
+
+    /// A token learns, in 2 steps, all that another has seen, which makes a note of it, in 1 step.
     pub fn hear(&self, seat: &mut Seat, other: &mut Seat)
         requires own { ((token seat.old).table ≡ self.now) × ((token other.old).table ≡ self.now) }
         requires caller { IsCaller seat.old.me.0.role }
         requires knows { KnowsOwn (token other.old) }
-        ensures meets { Meets 3 (token seat.old) (token other.old) (token seat.new) }
-        ensures readers { HearsOf seat.old.me.0 other.old.me.0 seat.new.me.0 }
+        ensures meets { Meets 2 (token seat.old) (token other.old) (token seat.new) }
+        ensures readers { HearsOf seat.old.me.0 (note_of other.old.me.0) seat.new.me.0 }
         ensures numbers { (desk : Desk) → seat.old.me.0.role ≡ writer_role desk → AreNumbers self.now.shape (map_seen (token seat.new)) desk.numbers }
         ensures role { (seat.new.table_id ≡ seat.old.table_id) × (seat.new.me.0.role ≡ seat.old.me.0.role) }
-        ensures other { (other.new.table_id ≡ other.old.table_id) × (other.new.me ≡ other.old.me) }
+        ensures other { (other.new.table_id ≡ other.old.table_id) × (other.new.me ≡ (has_noted other.old.me.0, other.old.me.1)) }
     {
         let note = self.note(other);
-        self.take_note(seat, note);
-        self.learn(seat);
+        self.hear_note(seat, note);
     }
 }

@@ -110,9 +110,9 @@ impl Play<(), View> for Sees {
 pub struct Notes;
 
 impl Split<View> for Notes {
-    ghost use Rattle.nr_board.specs.Notes.{itself, note_of};
+    ghost use Rattle.nr_board.specs.Notes.{has_noted, note_of};
 
-    ghost left = { itself };
+    ghost left = { has_noted };
 
     ghost right = { note_of };
 }

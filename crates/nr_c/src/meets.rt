@@ -11,7 +11,7 @@ use crate::hand::Hand;
 use crate::reader_handle::NrReader;
 use crate::writer_handle::NrWriter;
 
-/// The reader learns, in 3 steps, all that the writer has seen.
+/// The reader learns, in 2 steps, all that the writer has seen, which makes a note of it in 1 step.
 #[unsafe(no_mangle)]
 pub extern "C" fn nr_meet(reader: &mut NrReader, writer: &mut NrWriter)
     requires live { (held : ReaderHeld) × (idle : Caller) × (other : WriterHeld) × (reader.old.live ≡ held ∷ []) × (held.hand ≡ hands.Idle idle) × (writer.old.live ≡ other ∷ []) × (held.map.value ≡ other.map.value) }
@@ -38,7 +38,8 @@ pub extern "C" fn nr_gather(writer: &mut NrWriter, reader: &mut NrReader)
     side.put(Hand::Idle(idle));
 }
 
-/// The reader learns, in 3 steps, all that another reader has seen.
+/// The reader learns, in 2 steps, all that another reader has seen, which makes a note of it in 1
+/// step.
 #[unsafe(no_mangle)]
 pub extern "C" fn nr_meet_readers(reader: &mut NrReader, other: &mut NrReader)
     requires live { (held : ReaderHeld) × (idle : Caller) × (theirs : ReaderHeld) × (friend : Caller) × (reader.old.live ≡ held ∷ []) × (held.hand ≡ hands.Idle idle) × (other.old.live ≡ theirs ∷ []) × (theirs.hand ≡ hands.Idle friend) × (held.map.value ≡ theirs.map.value) }

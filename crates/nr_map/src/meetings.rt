@@ -1,6 +1,6 @@
 //! What one token learns of another: each learns a history that begins with all that both had seen.
 ghost use Rattle.std.specs.Prelude.{◌≡◌, ◌<◌};
-ghost use Rattle.nr_board.specs.Meetings.{Gathers, Meets, StatesKey};
+ghost use Rattle.nr_board.specs.Meetings.{Gathers, Meets, StatesKey, with_step};
 
 use crate::pin::Pin;
 use crate::reader::Reader;
@@ -20,28 +20,28 @@ impl ReaderMap {
         KeyKind::of_word(word)
     }
 
-    /// The reader learns, in 3 steps, all that the writer has seen. The writer lends itself for a
-    /// note, and keeps all that it is.
+    /// The reader learns, in 2 steps, all that the writer has seen, which makes a note of it in 1
+    /// step, and else stays as it is.
     pub fn meet(&self, reader: &mut Reader, writer: &mut Writer)
         requires own { (reader.old.table ≡ self.now) × (writer.old.table ≡ self.now) }
-        ensures reader { Meets 3 reader.old writer.old reader.new }
-        ensures writer { writer.new ≡ writer.old }
+        ensures reader { Meets 2 reader.old writer.old reader.new }
+        ensures writer { writer.new ≡ with_step writer.old }
     {
         self.board.hear(&mut reader.seat, &mut writer.seat);
     }
 
-    /// The reader learns, in 3 steps, all that another reader has seen. The other lends itself for
-    /// a note, and keeps all that it is.
+    /// The reader learns, in 2 steps, all that another reader has seen, which makes a note of it in
+    /// 1 step, and else stays as it is.
     pub fn meet_readers(&self, reader: &mut Reader, other: &mut Reader)
         requires own { (reader.old.table ≡ self.now) × (other.old.table ≡ self.now) }
-        ensures reader { Meets 3 reader.old other.old reader.new }
-        ensures other { other.new ≡ other.old }
+        ensures reader { Meets 2 reader.old other.old reader.new }
+        ensures other { other.new ≡ with_step other.old }
     {
         self.board.hear(&mut reader.seat, &mut other.seat);
     }
 
     /// The writer learns all that the reader has seen, and then the reader all that the writer has:
-    /// 3 steps for each. The writer's history then has exactly the calls of both.
+    /// 3 steps for each, of which 1 is its note's. The writer's history then has exactly the calls of both.
     pub fn gather(&self, writer: &mut Writer, reader: &mut Reader)
         requires own { (reader.old.table ≡ self.now) × (writer.old.table ≡ self.now) }
         ensures { Gathers writer.old reader.old writer.new reader.new }

@@ -35,21 +35,20 @@ fn gather(map: &ReaderMap, writer: &mut Writer, reader: &mut Reader)
     map.gather(writer, reader);
 }
 
-// A reader learns all that another one has seen, as where the other hands it a message. The other
-// stays as it is.
+// A reader learns all that another one has seen, which makes a note of it in one step and else stays
+// as it is.
 fn tell(map: &ReaderMap, from: &mut Reader, to: &mut Reader)
     requires own { (from.old.table ≡ map.now) × (to.old.table ≡ map.now) }
-    ensures own { (from.new ≡ from.old) × (to.new.table ≡ map.now) }
+    ensures own { (from.new ≡ with_step from.old) × (to.new.table ≡ map.now) }
     ensures seen { StartsWith to.new.seen from.old.seen }
 {
     map.meet_readers(to, from);
 }
 
 // A reader learns all that the writer has seen, as where the dataflow tells it that a key is filled.
-// The writer stays as it is.
 fn inform(map: &ReaderMap, writer: &mut Writer, reader: &mut Reader)
     requires own { (reader.old.table ≡ map.now) × (writer.old.table ≡ map.now) }
-    ensures own { (reader.new.table ≡ map.now) × (writer.new ≡ writer.old) }
+    ensures own { (reader.new.table ≡ map.now) × (writer.new ≡ with_step writer.old) }
     ensures seen { StartsWith reader.new.seen writer.old.seen }
 {
     map.meet(reader, writer);

@@ -6,7 +6,7 @@ use Rattle.nr_alone.specs.declared.answer.Refusal.{Refusal}
 use Rattle.nr_alone.specs.Alone.{log_of}
 use Rattle.nr_alone.specs.MapState.{MapState, answer_of_reader}
 use Rattle.nr_alone.specs.Seats.{MakesCall}
-use Rattle.nr_alone.proofs.AfterLine.{alone_here, answers_here, place_here, round_here}
+use Rattle.nr_alone.proofs.AfterLine.{alone_here, answers_here, place_here, round_after_note}
 use Rattle.nr_alone.proofs.ReaderLines.{says_call}
 use Rattle.nr_alone.proofs.Sizes.{keys_are}
 use Rattle.nr_alone.proofs.alone.Alone.find.Goals as goal
@@ -21,7 +21,7 @@ invariant_of-self-2 c =
     let map = c.self.inside.map in let w0 = c.self.inside.writer in let seats = c.self.inside.seats in let at = c.args.at in
     let w' = c.gather_round.new.writer in let seats' = c.gather_round.new.seats in let items = c.as_mut_slice.ensures.value in
     let old = c.index_mut.result.now in let x = c.find_at.new.seat in let call = model.Find c.args.key in let answer = c.in_ok-answer.answer in
-    let g = round_here map w0 seats at x w' seats' _ items _ c.find_at.ensures.writer c.gather_round.ensures in
+    let g = round_after_note map w0 seats at x w' seats' _ items _ _ answer c.in_ok-answer.was c.find_at.ensures.writer c.gather_round.ensures in
     let low = place_here map w0 seats at _ c.self.view_is c.requires.reader in
     let made : MakesCall c.self.inside.writer.seen call old x (Ok answer) = subst (λ (r : Result Answer Refusal). MakesCall c.self.inside.writer.seen call old x r) c.in_ok-answer.was c.find_at.ensures.made in
     let said = says_call c.laws.ensures map w0 seats.items c.self.invariant at old x low c.index_mut.ensures.value w' seats' g c.self.inside.writer.seen call answer made in
@@ -32,7 +32,7 @@ returns c =
     let map = c.self.inside.map in let w0 = c.self.inside.writer in let seats = c.self.inside.seats in let at = c.args.at in
     let w' = c.gather_round.new.writer in let seats' = c.gather_round.new.seats in let items = c.as_mut_slice.ensures.value in
     let old = c.index_mut.result.now in let x = c.find_at.new.seat in let call = model.Find c.args.key in let answer = c.in_ok-answer.answer in
-    let g = round_here map w0 seats at x w' seats' _ items _ c.find_at.ensures.writer c.gather_round.ensures in
+    let g = round_after_note map w0 seats at x w' seats' _ items _ _ answer c.in_ok-answer.was c.find_at.ensures.writer c.gather_round.ensures in
     let low = place_here map w0 seats at _ c.self.view_is c.requires.reader in
     let made : MakesCall c.self.inside.writer.seen call old x (Ok answer) = subst (λ (r : Result Answer Refusal). MakesCall c.self.inside.writer.seen call old x r) c.in_ok-answer.was c.find_at.ensures.made in
     let said = says_call c.laws.ensures map w0 seats.items c.self.invariant at old x low c.index_mut.ensures.value w' seats' g c.self.inside.writer.seen call answer made in

@@ -5,7 +5,7 @@ use Rattle.nr_alone.specs.declared.answer.Refusal.{Refusal}
 use Rattle.nr_alone.specs.Alone.{log_of}
 use Rattle.nr_alone.specs.MapState.{MapState, answer_pinning}
 use Rattle.nr_alone.specs.Seats.{MakesPin}
-use Rattle.nr_alone.proofs.AfterLine.{alone_here, answers_here, place_here, round_here}
+use Rattle.nr_alone.proofs.AfterLine.{alone_here, answers_here, place_here, round_after_note}
 use Rattle.nr_alone.proofs.ReaderLines.{says_pin}
 use Rattle.nr_alone.proofs.Sizes.{keys_are}
 use Rattle.nr_alone.proofs.alone.Alone.pin.Goals as goal
@@ -20,7 +20,7 @@ invariant_of-self-2 c =
     let map = c.self.inside.map in let w0 = c.self.inside.writer in let seats = c.self.inside.seats in let at = c.args.at in
     let w' = c.gather_round.new.writer in let seats' = c.gather_round.new.seats in let items = c.as_mut_slice.ensures.value in
     let old = c.index_mut.result.now in let x = c.pin_at.new.seat in let answer = c.in_ok-answer.answer in
-    let g = round_here map w0 seats at x w' seats' _ items _ c.pin_at.ensures.writer c.gather_round.ensures in
+    let g = round_after_note map w0 seats at x w' seats' _ items _ _ answer c.in_ok-answer.was c.pin_at.ensures.writer c.gather_round.ensures in
     let low = place_here map w0 seats at _ c.self.view_is c.requires.reader in
     let made : MakesPin c.self.inside.writer.seen c.args.key old x (Ok answer) = subst (λ (r : Result Answer Refusal). MakesPin c.self.inside.writer.seen c.args.key old x r) c.in_ok-answer.was c.pin_at.ensures.made in
     let near : c.args.key < map.shape.keys =
@@ -33,7 +33,7 @@ returns c =
     let map = c.self.inside.map in let w0 = c.self.inside.writer in let seats = c.self.inside.seats in let at = c.args.at in
     let w' = c.gather_round.new.writer in let seats' = c.gather_round.new.seats in let items = c.as_mut_slice.ensures.value in
     let old = c.index_mut.result.now in let x = c.pin_at.new.seat in let answer = c.in_ok-answer.answer in
-    let g = round_here map w0 seats at x w' seats' _ items _ c.pin_at.ensures.writer c.gather_round.ensures in
+    let g = round_after_note map w0 seats at x w' seats' _ items _ _ answer c.in_ok-answer.was c.pin_at.ensures.writer c.gather_round.ensures in
     let low = place_here map w0 seats at _ c.self.view_is c.requires.reader in
     let made : MakesPin c.self.inside.writer.seen c.args.key old x (Ok answer) = subst (λ (r : Result Answer Refusal). MakesPin c.self.inside.writer.seen c.args.key old x r) c.in_ok-answer.was c.pin_at.ensures.made in
     let near : c.args.key < map.shape.keys =
