@@ -2,6 +2,8 @@
 #![tactic(auto)]
 
 mod faults;
+mod lent;
+mod opening;
 mod shared;
 mod table;
 

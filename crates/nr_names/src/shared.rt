@@ -1,11 +1,11 @@
 //! A table of names that threads share.
 ghost use Rattle.std.specs.Prelude.{◌≡◌, ◌≢◌, ◌≤◌, ◌<◌, ◌↔◌, ◌⊎◌, length, string_bytes, IfOk, IfErr, OnOk, OnErr};
-ghost use Rattle.nr_names.specs.Naming.{IsName};
+ghost use Rattle.nr_names.specs.Naming.{no_names, IsName};
 ghost use Rattle.nr_names.specs.declared.table.TheConstants.{LONGEST_NAME, MAX_KEYS};
 
 use crate::faults::NameFault;
+use crate::lent::{intern_lent, name_lent};
 use crate::table::NameTable;
-use std::alloc::Global;
 use std::marker::Model;
 use std::sync::{Mutex, Wait};
 
@@ -30,20 +30,15 @@ impl Model for Names {
 }
 
 impl Names {
-    /// Opens a table for as many names as there are keys, from 1 to 65,536, with none interned.
-    ///
-    /// Refused with `Memory` where the room for the names' places can't be had.
-    pub fn open(alloc: Global, keys: u32) -> Result<Names, NameFault>
-        requires some { 0 < keys }
-        requires within { keys ≤ MAX_KEYS }
-        ensures keys { IfOk result (λ names. names ≡ keys) }
-        ensures refusal { IfErr result (λ fault. fault ≡ NameFault.Memory) }
+    // A table without names under a lock, and beside it how many keys it has.
+    pub(crate) fn of(table: NameTable) -> Names
+        requires { table ≡ no_names table.keys }
+        ensures { result ≡ table.keys }
     {
-        let table = NameTable::open(alloc, keys)?;
-        Ok(Names {
+        Names {
             keys: table.keys(),
             table: Mutex::new(table),
-        })
+        }
     }
 
     /// The number of a name, as the table gives or refuses it; it is below the number of keys.
@@ -57,13 +52,7 @@ impl Names {
         ensures too_long { (result ≡ Err NameFault.TooLong) ↔ (LONGEST_NAME < length name.now) }
         ensures never_no_name { result ≢ Err NameFault.NoName }
     {
-        let number = self.table.lock(rt).intern(name)?;
-        // The lock doesn't tell that the table has this many keys, so the number is looked at.
-        if number < self.keys {
-            Ok(number)
-        } else {
-            Err(NameFault::Full)
-        }
+        intern_lent(&mut self.table.lock(rt), self.keys, name)
     }
 
     /// Sets the text to the name that has the number, or refuses, as the table does. No name has
@@ -75,9 +64,6 @@ impl Names {
         ensures no_name { self.now ≤ number → result ≡ Err NameFault.NoName }
         ensures refusal { IfErr result (λ fault. (fault ≡ NameFault.NoName) ⊎ (fault ≡ NameFault.Memory)) }
     {
-        if number >= self.keys {
-            return Err(NameFault::NoName);
-        }
-        self.table.lock(rt).name(number, text)
+        name_lent(&self.table.lock(rt), self.keys, number, text)
     }
 }
