@@ -1,6 +1,7 @@
 -- What a call of the writer says of its token, by its answer.
 use Rattle.std.specs.Prelude.{◌≡◌, ℕ, suc, ◌+◌, ◌*◌, ◌≤◌, List, [], ◌∷◌, ◌++◌, length, slice_index, slice_set, Result, Ok, Err}
 use Rattle.nr_model.specs.declared.rows.Row.{Row}
+use Rattle.nr_model.specs.Rows.{IsRowSet}
 use Rattle.nr_model.specs.declared.batches.ApplyFault.TheVariants as fault
 use Rattle.nr_model.specs.declared.batches.Delta.{Delta}
 use Rattle.nr_model.specs.declared.calls.Call.{Call}
@@ -60,9 +61,9 @@ abbrev pub LooksAt : ℕ → Caller → List Row → Caller → List Row → Fou
 LooksAt key old before new rows found.Rows = Gains (2 * length rows + 2) old (model.Find key) (reply.Rows rows) new × SlotsStay old new
 LooksAt key old before new rows found.Hole = Gains 1 old (model.Find key) reply.Hole new × SlotsStay old new × (rows ≡ before)
 
--- into any room
+-- into any room, of rows that ascend and are at most the map's rows
 abbrev pub LooksIn : {Room : Type 0} → (Room → List Row → Type 0) → ℕ → Caller → Room → Caller → Room → Found → Type 0
-LooksIn shows key old before new room found.Rows = (rows : List Row) × Gains (2 * length rows + 2) old (model.Find key) (reply.Rows rows) new × SlotsStay old new × shows room rows
+LooksIn shows key old before new room found.Rows = (rows : List Row) × Gains (2 * length rows + 2) old (model.Find key) (reply.Rows rows) new × SlotsStay old new × shows room rows × IsRowSet old.table.shape.rows rows
 LooksIn shows key old before new room found.Hole = Gains 1 old (model.Find key) reply.Hole new × SlotsStay old new × (room ≡ before)
 
 -- a call that put a set, besides its other steps: by so many polls it took a slot, it put each word and named the slot at its key, with the next put number, and retired what the key named before

@@ -1,4 +1,5 @@
 pub mod Gathered
+pub mod Written
 pub mod AllKeys
 pub mod Seating
 pub mod SetRooms

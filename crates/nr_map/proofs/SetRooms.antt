@@ -3,6 +3,7 @@ use Rattle.std.proofs.Common.{◌≡◌, ℕ, ◌+◌, ◌*◌, List, length, su
 use Rattle.nr_model.specs.declared.calls.Call.TheVariants as model
 use Rattle.nr_model.specs.declared.calls.Reply.TheVariants as reply
 use Rattle.nr_model.specs.declared.rows.Row.{Row}
+use Rattle.nr_model.specs.Rows.{IsRowSet}
 use Rattle.nr_board.specs.declared.answers.Found.{Found}
 use Rattle.nr_board.specs.declared.answers.Found.TheVariants as found
 use Rattle.nr_board.specs.WriterAnswers.{LooksAt, LooksIn}
@@ -11,9 +12,18 @@ use Rattle.nr_board.specs.Callers.{Caller, Gains}
 
 module _ (key : ℕ) (old new : Caller) (before after : List Row) where
   pub finds_set : (answer : Found) → FindsIn (λ (room rows : List Row). room ≡ rows) key old before new after answer → FindsKey key old before new after answer
-  finds_set found.Rows (rows, gains, same) = subst (λ (set : List Row). Gains (2 * length set + 3) old (model.Find key) (reply.Rows set) new) (sym same) gains
+  finds_set found.Rows (rows, gains, same, held) = subst (λ (set : List Row). Gains (2 * length set + 3) old (model.Find key) (reply.Rows set) new) (sym same) gains
   finds_set found.Hole told = told
 
   pub looks_set : (answer : Found) → LooksIn (λ (room rows : List Row). room ≡ rows) key old before new after answer → LooksAt key old before new after answer
-  looks_set found.Rows (rows, gains, stay, same) = (subst (λ (set : List Row). Gains (2 * length set + 2) old (model.Find key) (reply.Rows set) new) (sym same) gains, stay)
+  looks_set found.Rows (rows, gains, stay, same, held) = (subst (λ (set : List Row). Gains (2 * length set + 2) old (model.Find key) (reply.Rows set) new) (sym same) gains, stay)
   looks_set found.Hole told = told
+
+  -- of rows that the find found, and no others
+  pub finds_row_set : (answer : Found) → FindsIn (λ (room rows : List Row). room ≡ rows) key old before new after answer → answer ≡ found.Rows → IsRowSet old.table.shape.rows after
+  finds_row_set found.Rows (rows, gains, same, held) is = subst (IsRowSet old.table.shape.rows) (sym same) held
+  finds_row_set found.Hole told is = absurd (cc)
+
+  pub looks_row_set : (answer : Found) → LooksIn (λ (room rows : List Row). room ≡ rows) key old before new after answer → answer ≡ found.Rows → IsRowSet old.table.shape.rows after
+  looks_row_set found.Rows (rows, gains, stay, same, held) is = subst (IsRowSet old.table.shape.rows) (sym same) held
+  looks_row_set found.Hole told is = absurd (cc)

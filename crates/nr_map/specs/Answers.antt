@@ -1,6 +1,7 @@
 -- What a reader's call says of its token, by its answer.
 use Rattle.std.specs.Prelude.{◌≡◌, ℕ, ◌+◌, ◌*◌, List, length}
 use Rattle.nr_model.specs.declared.rows.Row.{Row}
+use Rattle.nr_model.specs.Rows.{IsRowSet}
 use Rattle.nr_model.specs.declared.calls.Call.TheVariants as model
 use Rattle.nr_model.specs.declared.calls.Reply.TheVariants as reply
 use Rattle.nr_board.specs.declared.answers.Found.{Found}
@@ -14,9 +15,9 @@ abbrev pub FindsKey : ℕ → Caller → List Row → Caller → List Row → Fo
 FindsKey key old before new rows found.Rows = Gains (2 * length rows + 3) old (model.Find key) (reply.Rows rows) new
 FindsKey key old before new rows found.Hole = Gains 1 old (model.Find key) reply.Hole new × (rows ≡ before)
 
--- a find into any room: on a hole it stays; else it shows all rows of the reply
+-- a find into any room: on a hole it stays; else it shows all rows of the reply, which ascend and are at most the map's rows
 abbrev pub FindsIn : {Room : Type 0} → (Room → List Row → Type 0) → ℕ → Caller → Room → Caller → Room → Found → Type 0
-FindsIn shows key old before new room found.Rows = (rows : List Row) × Gains (2 * length rows + 3) old (model.Find key) (reply.Rows rows) new × shows room rows
+FindsIn shows key old before new room found.Rows = (rows : List Row) × Gains (2 * length rows + 3) old (model.Find key) (reply.Rows rows) new × shows room rows × IsRowSet old.table.shape.rows rows
 FindsIn shows key old before new room found.Hole = Gains 1 old (model.Find key) reply.Hole new × (room ≡ before)
 
 -- a find arrives, and departs from the set that it found

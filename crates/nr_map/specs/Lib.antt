@@ -1,5 +1,6 @@
 pub mod Rounds
 pub mod Pins
+pub mod Written
 pub mod Opened
 pub mod Tickets
 pub mod Answers

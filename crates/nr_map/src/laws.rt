@@ -1,5 +1,6 @@
 //! Laws over the definitions alone. Nothing runs here: each function's contract is the law.
 ghost use Rattle.nr_map.specs.ExactPlaces.{DoneMeansFewerInUse, NoSlotMeansAllInUse};
+ghost use Rattle.nr_map.specs.Written.{FindsWhatItHeard, FindsWritten, HearsAllCalls, ReadsNoOlder};
 ghost use Rattle.nr_map.specs.SlotBounds.{NoSlotIsRare, PollsAreFew, RoomForFills, RoomForUpdates};
 ghost use Rattle.nr_map.specs.Rounds.{BeginningsMeet, CallsStay, EntriesAreCallers, RoundsTellAll, SendsOfAll, SendsOfAllKeys};
 
@@ -71,4 +72,29 @@ pub fn room_for_fills()
 /// Nor is an update.
 pub fn room_for_updates()
     ensures { RoomForUpdates }
+{}
+
+/// A find that comes after a put of its key, in any legal history, has the rows of that put or of a
+/// later one, and is a hole only where the key was evicted since.
+pub fn finds_written()
+    ensures { FindsWritten }
+{}
+
+/// So who hears a note whose maker had seen a put of a key, by its own fill or update or by another
+/// note, finds the key's rows of that put or of a later one, or a hole where the key was evicted
+/// since. It may make other calls between.
+pub fn finds_what_it_heard()
+    ensures { FindsWhatItHeard }
+{}
+
+/// Who hears a note reads nothing older than its maker had seen: the find's answer is that of a
+/// history which begins with all of it. So a thread's second reader that met the first never goes
+/// back behind what the first one read.
+pub fn reads_no_older()
+    ensures { ReadsNoOlder }
+{}
+
+/// Who hears a note has all calls that its maker had made.
+pub fn hears_all_calls()
+    ensures { HearsAllCalls }
 {}

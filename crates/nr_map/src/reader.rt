@@ -63,6 +63,8 @@ impl Reader {
 }
 
 impl ReaderMap {
+    ghost use Rattle.nr_model.specs.Rows.{IsRowSet};
+    ghost use Rattle.nr_board.specs.declared.answers.Found.TheVariants as found;
     ghost use Rattle.nr_map.specs.Answers.{AsksKey, FindsIn, FindsKey, acts_of};
 
     /// Looks a key up, and writes its rows into the caller's set, which stays as it is where the
@@ -73,6 +75,7 @@ impl ReaderMap {
         requires key { key < self.now.shape.keys }
         ensures own { reader.new.table ≡ self.now }
         ensures finds { FindsKey key reader.old rows.old reader.new rows.new result }
+        ensures row_set { result ≡ found.Rows → IsRowSet reader.old.table.shape.rows rows.new }
         ensures idle { reader.new.holds ≡ None }
         ensures acts { reader.new.marks.acts ≡ reader.old.marks.acts + acts_of result }
     {

@@ -12,6 +12,7 @@ use std::marker::Brand;
 // A writer's type says that it stands between two calls, and in the midst of one it doesn't. So each
 // public call lends the writer's seat and slots, one by one, to the call as its seat makes it.
 impl ReaderMap {
+    ghost use Rattle.nr_board.specs.declared.answers.Found.TheVariants as found;
     ghost use Rattle.nr_board.specs.WriterAnswers.{LooksAt, LooksIn, FillsKey, UpdatesKey, EvictsKey};
 
     /// A find of the writer's own: writes the key's rows into the caller's set, which stays as it
@@ -19,7 +20,8 @@ impl ReaderMap {
     pub fn look(&self, writer: &mut Writer, key: u32, rows: &mut RowSet) -> Found
         requires own { writer.old.table ≡ self.now }
         requires key { key < self.now.shape.keys }
-        ensures { LooksAt key writer.old rows.old writer.new rows.new result }
+        ensures looks { LooksAt key writer.old rows.old writer.new rows.new result }
+        ensures row_set { result ≡ found.Rows → IsRowSet writer.old.table.shape.rows rows.new }
     {
         self.look_into(writer, key, rows)
     }

@@ -5,6 +5,8 @@ use Rattle.nr_machine.specs.declared.places.Place.TheVariants.{Idle}
 use Rattle.nr_model.specs.declared.calls.Reply.TheVariants as reply
 use Rattle.nr_board.proofs.Looks.{find_hole, find_reads, has_looked, is_empty, is_full, slot_so}
 use Rattle.nr_board.proofs.WriterCalls.{about_to_read, has_found, has_read, look_ends}
+use Rattle.nr_model.specs.Rows.{IsRowSet}
+use Rattle.nr_board.specs.Callers.{Table}
 use Rattle.nr_board.specs.Spares.{desk_with}
 use Rattle.nr_board.proofs.board.Board.look_up.Goals as goal
 
@@ -22,4 +24,4 @@ pub returns : goal.returns
 returns g c = let looks = has_looked {before = c.args.seat.now} refl c.requires.own c.requires.rests c.requires.call c.look.ensures.leads c.look.ensures.marks in
     let (rows, shows, reads) = c.read_set.ensures in
     let told = has_found (has_read looks (find_reads c.args.self.now.shape (desk_with c.args.spare.now Idle) c.args.key c.look.result (is_full c.look.result c.parts-found.ensures.parts c.if-not-found.false)) c.requires.call reads) in
-    record { rests = told.0; looks = (rows, told.1.0, told.1.1, shows) }
+    record { rests = told.0; looks = (rows, told.1.0, told.1.1, shows, subst (λ (t : Table). IsRowSet t.shape.rows rows) (sym c.requires.own) reads.row_set) }
