@@ -53,6 +53,7 @@ extern "C" {
 #define NR_NO_POSTER 23u /* each poster had a handle already */
 #define NR_NOT_POSTED 24u /* the queue is full, or another thread is in the way */
 #define NR_NOT_TAKEN 25u /* the queue is empty, or another thread is in the way */
+#define NR_OTHER 26u     /* the key hasn't, or no more, the set that the reader holds */
 
 /* VALUES */
 
@@ -147,6 +148,12 @@ uint32_t nr_pin(nr_reader *reader, uint32_t key, uint32_t *count);
 /* A row of the held set, from 0, in 2 steps: NR_ROWS. NR_NO_ROW where it has no such row, without a step,
    and `row` stays. Owed: `reader` is live and holds a set. */
 uint32_t nr_row_at(nr_reader *reader, uint32_t place, nr_row *row);
+
+/* Finds a key again, in 1 step, which loads one word and writes none. NR_ROWS where the key still has
+   the set that the reader holds, put by the same fill or update: this is a find of the key, and its
+   rows are those of the held set. NR_OTHER where it hasn't. The reader holds the same set in either
+   case. Owed: the handle is live and its reader holds a set; `key` is below the map's keys. */
+uint32_t nr_again(nr_reader *reader, uint32_t key);
 
 /* Ends the hold, in 1 step. Owed: `reader` is live and holds a set. A reader that is closed while it
    holds a set is released. */

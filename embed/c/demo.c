@@ -84,6 +84,8 @@ static void test_calls(nr_writer *writer, nr_reader *one, nr_reader *two) {
   uint32_t held;
   if (nr_pin(one, 8, &held) != NR_ROWS || held != 2) stop("a pin at the end");
   nr_gather_pin(writer, one);
+  if (nr_again(one, 8) != NR_ROWS || nr_again(one, 9) != NR_OTHER) stop("a find again");
+  if (nr_update(writer, 8, batch + 1, 1) != NR_DONE || nr_again(one, 8) != NR_OTHER) stop("a find again after an update");
   nr_size sizes;
   nr_sizes(one, &sizes);
   if (sizes.keys != KEYS || sizes.slots != KEYS + READERS + 1 || sizes.readers != READERS || sizes.rows != 15) stop("sizes");

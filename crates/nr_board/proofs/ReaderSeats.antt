@@ -1,19 +1,33 @@
 -- What the reader's steps tell of its seat.
-use Rattle.std.proofs.Common.{◌≡◌, ℕ, ◌<◌, true, false, ap, sym, subst, arith, ◌∙◌}
+use Rattle.std.proofs.Common.{Bool, refl, cond, eq-eqb, nat_eq, ne_eqb, suc, ◌+◌, ◌≡◌, ℕ, ◌<◌, true, false, [], ap, sym, subst, arith, ◌∙◌}
+use Rattle.std.proofs.lemmas.Bool.{eqb-true}
+use Rattle.std.specs.Prelude.{◌↔◌, ◌&&◌}
+use mathlib.Core.Logic.{dite}
+use native.Mathlib.Decide.{ℕ_discrete}
 use Rattle.nr_model.specs.declared.calls.Call.TheVariants as model
 use Rattle.nr_model.specs.declared.calls.Reply.TheVariants as reply
+use Rattle.nr_model.specs.Maps.{state_of}
 use Rattle.nr_model.specs.Rows.{IsRowSet}
-use Rattle.nr_words.specs.KeyWords.{is_filled, slot_of}
+use Rattle.nr_words.specs.KeyWords.{has_ask, is_filled, slot_of}
+use Rattle.nr_core.proofs.Choices.{by_cases}
+use Rattle.nr_core.proofs.KeyWords.{names_one}
 use Rattle.nr_core.proofs.WordPlaces.{same_content}
-use Rattle.nr_machine.specs.Slots.{bound_of, content}
+use Rattle.nr_machine.specs.Slots.{bound_of, content, name_number, names_slot}
 use Rattle.nr_core.specs.Steps.{ask_word}
+use Rattle.nr_machine.specs.Story.{map_after}
+use Rattle.nr_marks.specs.MarkSteps.{ComparesPuts, found_again}
+use Rattle.nr_marks.specs.Puts.{put_number}
 use Rattle.nr_machine.specs.declared.roles.Grip.TheVariants.{Nothing, On}
 use Rattle.nr_machine.specs.declared.roles.Role.TheVariants.{Reader}
 use Rattle.nr_machine.specs.declared.shape.Shape.{Shape}
 use Rattle.nr_board.proofs.Tokens.{MapSeat, seat_grows, seat_rests}
-use Rattle.nr_board.specs.Callers.{Gains, Rests, Table, token}
-use Rattle.nr_board.specs.Plays.{Arrived, Asked, Departed, Holds, IsIdle, Read}
-use Rattle.nr_board.specs.Seats.{HoldsAt, IdlesAt}
+use Rattle.nr_board.specs.Callers.{Gains, Grows, Rests, Table, map_seen, token}
+use Rattle.nr_board.specs.Kinds.{kind_of, kind_shown}
+use Rattle.nr_board.specs.Meetings.{HasPut}
+use Rattle.nr_board.specs.declared.answers.KeyKind.{KeyKind}
+use Rattle.nr_board.specs.declared.answers.KeyKind.TheVariants as kind
+use Rattle.nr_board.specs.Plays.{Arrived, Asked, Departed, FoundAgain, Holds, IsIdle, Read}
+use Rattle.nr_board.specs.Seats.{HoldsAt, IdlesAt, names_at}
 use Rattle.nr_board.specs.Views.{grip_of, is_sized, caller_number, rows_held, slot_held}
 
 module _ (table : Table) (before after : MapSeat) (same : after.table_id ≡ before.table_id) where
@@ -55,3 +69,67 @@ module _ (table : Table) (before after : MapSeat) (same : after.table_id ≡ bef
 -- the slot that a reader holds is one of the map's, by whichever name it is known
 pub held_inside : {table : Table} {seat : MapSeat} (slot : ℕ) → HoldsAt table (content table.shape slot 0) seat → slot < table.shape.slots
 held_inside {table = table} {seat = seat} slot holds = let same = same_content table.shape slot 0 (slot_held seat.me.0.role) 0 (omega arith) (omega arith) holds.begin_is in omega (arith, same, holds.holds.inside)
+
+-- the name of a filled word
+pub filled_name : (word : ℕ) → is_filled word ≡ true → name_number word ≡ suc (slot_of word)
+filled_name word full = ap (λ (b : Bool). cond {A = ℕ} b (slot_of word + 1) 0) full ∙ omega arith
+
+names_filled : (shape : Shape) (begin held word : ℕ) → begin ≡ content shape held 0 → is_filled word ≡ true → names_slot held word ≡ nat_eq (content shape (slot_of word) 0) begin
+names_filled shape begin held word begin_is full = let found : ℕ = slot_of word in let name = filled_name word full in dite (ℕ_discrete found held)
+    (λ e. eq-eqb (name_number word) (suc held) (omega arith) ∙ sym (eq-eqb (content shape found 0) begin (ap (λ (s : ℕ). content shape s 0) e ∙ sym begin_is)))
+    (λ ne. ne_eqb (name_number word) (suc held) (λ e. ne (omega arith)) ∙ sym (ne_eqb (content shape found 0) begin (λ e. ne (same_content shape found 0 held 0 (omega arith) (omega arith) (e ∙ begin_is)))))
+
+names_empty : (held word : ℕ) → is_filled word ≡ false → names_slot held word ≡ false
+names_empty held word empty = let none : name_number word ≡ 0 = ap (λ (b : Bool). cond {A = ℕ} b (slot_of word + 1) 0) empty in ne_eqb (name_number word) (suc held) (λ e. absurd (omega arith))
+
+-- a word names the slot that is held exactly where the slot of its name begins at the same place
+pub names_by_begin : (shape : Shape) (begin held word : ℕ) → begin ≡ content shape held 0 → names_slot held word ≡ names_at shape begin word
+names_by_begin shape begin held word begin_is = let at_begin : Bool = nat_eq (content shape (slot_of word) 0) begin in by_cases (λ _. names_slot held word ≡ names_at shape begin word) (is_filled word)
+    (λ full. names_filled shape begin held word begin_is full ∙ sym (ap (λ (b : Bool). b && at_begin) full))
+    (λ empty. names_empty held word empty ∙ sym (ap (λ (b : Bool). b && at_begin) empty))
+
+-- a key has rows exactly where its word is filled
+rows_shown : (word : ℕ) → is_filled word ≡ true → kind_shown word ≡ kind.Rows
+rows_shown word full = ap (λ (b : Bool). cond {A = KeyKind} b kind.Rows (cond {A = KeyKind} (has_ask word) kind.Asked kind.Hole)) full
+
+abbrev of_rows : KeyKind → ℕ
+of_rows kind.Hole = 0
+of_rows kind.Asked = 0
+of_rows kind.Rows = 1
+
+shown_filled : (word : ℕ) → kind_shown word ≡ kind.Rows → is_filled word ≡ true
+shown_filled word is = by_cases (λ (b : Bool). b ≡ true) (is_filled word) (λ full. refl)
+    (λ empty. absurd (let shown : of_rows (kind_shown word) ≡ 1 = ap of_rows is in let none = none_of (has_ask word) in
+    let other : kind_shown word ≡ cond {A = KeyKind} (has_ask word) kind.Asked kind.Hole = ap (λ (b : Bool). cond {A = KeyKind} b kind.Rows (cond {A = KeyKind} (has_ask word) kind.Asked kind.Hole)) empty in omega (arith, ap of_rows other)))
+  where
+    none_of : (b : Bool) → of_rows (cond {A = KeyKind} b kind.Asked kind.Hole) ≡ 0
+    none_of true = refl
+    none_of false = refl
+
+-- what a find again tells of the seat, by its answer
+module _ (table : Table) (before after : MapSeat) (same : after.table_id ≡ before.table_id) (begin key found : ℕ)
+    (holds : HoldsAt table begin before) (told : FoundAgain key found before.me.0 after.me.0)
+    (answer : Bool) (names : names_slot (slot_held before.me.0.role) found ≡ answer) where
+  pub again_gains : answer ≡ true → Gains 1 (token before) (model.Find key) (reply.Rows (rows_held before.me.0.role)) (token after)
+  again_gains so = seat_grows before after _ same (told.same (names ∙ so))
+
+  pub again_learns : answer ≡ false → Grows 1 (token before) [] (token after)
+  again_learns not_so = seat_grows before after _ same (told.other (names ∙ not_so))
+
+  own_table : (token after).table ≡ (token before).table
+  own_table = by_cases (λ _. (token after).table ≡ (token before).table) answer (λ yes. (again_gains yes).table) (λ no. (again_learns no).table)
+
+  pub again_holds : HoldsAt table begin after
+  again_holds = record { own = own_table ∙ holds.own; holds = subst (Holds table.shape) (sym told.role) holds.holds; begin_is = holds.begin_is ∙ ap (λ r. content table.shape (slot_held r) 0) (sym told.role) }
+
+  pub again_marks : after.me.0.marks ≡ found_again answer before.me.0.marks
+  again_marks = told.marks ∙ ap (λ (b : Bool). found_again b before.me.0.marks) names
+
+  -- the key has the put number of the hold exactly where the answer is yes
+  pub again_exact : (answer ≡ true) ↔ HasPut key before.me.0.marks.put (token after)
+  again_exact = let held : ℕ = slot_held before.me.0.role in let put : ℕ = before.me.0.marks.put in let Compares : Bool → Type 0 = λ b. ComparesPuts b found put (put_number after.me.0.seen key) in
+      let kind_is : kind_shown found ≡ kind_of (state_of (map_seen (token after)) key) = told.kind ∙ ap (λ (t : Table). kind_of (state_of (map_after t.shape after.me.0.seen) key)) (sym own_table) in
+      let compares : Compares answer = subst Compares names told.put in (
+        (λ yes. (sym kind_is ∙ rows_shown found (names_one found held (eqb-true (name_number found) (suc held) (names ∙ yes))).0, subst Compares yes compares)),
+        (λ has. let named = filled_name found (shown_filled found (kind_is ∙ has.0)) in by_cases (λ (b : Bool). b ≡ true) answer (λ yes. refl) (λ no. absurd (subst Compares no compares (omega arith) has.1))),
+      )

@@ -1,10 +1,10 @@
--- The reader's steps on the table: request, arrive, read, depart.
-use Rattle.std.proofs.Common.{inr, ◌≡◌, ℕ, suc, ◌+◌, ◌-◌, ◌%◌, ◌^◌, ◌<◌, ◌≤◌, List, [], ◌∷◌, ◌++◌, Bool, true, false, length, get_or, ⊎_elim, refl, sym, ap, ◌∙◌, subst, arith, eq-eqb}
+-- The reader's steps on the table: request, arrive, read, find again, depart.
+use Rattle.std.proofs.Common.{inr, ◌≡◌, ℕ, suc, ◌+◌, ◌-◌, ◌%◌, ◌^◌, ◌<◌, ◌≤◌, List, [], ◌∷◌, ◌++◌, Bool, true, false, cond, length, get_or, set, ⊎_elim, refl, sym, ap, ◌∙◌, subst, arith, eq-eqb}
 use Rattle.std.specs.Prelude.{None, Option, Some, bit_or}
 use mathlib.Core.Option.{none, some}
 use Rattle.atomic_table.specs.Table.{Allows, Me, State, step}
 use Rattle.nr_model.specs.Histories.{Entry}
-use Rattle.nr_model.specs.Maps.{call_key}
+use Rattle.nr_model.specs.Maps.{call_key, state_of}
 use Rattle.nr_model.specs.Rows.{IsRowSet}
 use Rattle.nr_model.specs.declared.rows.Row.{Row}
 use Rattle.nr_model.specs.declared.calls.Call.TheVariants as model
@@ -14,30 +14,36 @@ use Rattle.nr_words.specs.SetWords.{encode}
 use Rattle.nr_words.specs.declared.key_words.TheConstants.{ARRIVE}
 use Rattle.nr_core.proofs.Arrive.{arrives}
 use Rattle.nr_core.proofs.Ask.{asks}
+use Rattle.nr_core.proofs.Choices.{by_cases}
 use Rattle.nr_core.proofs.Depart.{departs}
+use Rattle.nr_core.proofs.FindAgain.{finds_again}
 use Rattle.nr_core.proofs.KeyWords.{names_none, names_one}
 use Rattle.nr_core.proofs.Read.{reads}
 use Rattle.nr_core.specs.Roles.{is_by, is_reader}
 use Rattle.nr_machine.specs.declared.operation.Operation.TheVariants.{Add, Load, Or}
-use Rattle.nr_machine.specs.Slots.{content, departures, name_number, bound_of}
-use Rattle.nr_core.specs.Steps.{Arrives, Asks, CanStep, Departs, ReadsHeld, ask_word}
-use Rattle.nr_machine.specs.Story.{entry}
+use Rattle.nr_machine.specs.Slots.{content, departures, name_number, bound_of, names_slot}
+use Rattle.nr_core.specs.Steps.{Arrives, Asks, CanStep, Departs, FindsAgain, ReadsHeld, ask_word}
+use Rattle.nr_machine.specs.Story.{entry, map_after}
 use Rattle.nr_machine.specs.declared.roles.Grip.{Grip}
 use Rattle.nr_machine.specs.declared.roles.Grip.TheVariants.{Nothing, On}
 use Rattle.nr_machine.specs.declared.roles.Role.{Role}
 use Rattle.nr_machine.specs.declared.roles.Role.TheVariants.{Reader}
 use Rattle.nr_machine.specs.declared.shape.Shape.{Shape}
+use Rattle.nr_marks.proofs.FindAgainMarks.{finds_again_marked}
 use Rattle.nr_marks.proofs.ReaderMarks.{arrives_marked, asks_marked, departs_marked, reads_marked}
-use Rattle.nr_marks.specs.MarkSteps.{ArrivesMarks, DepartsMarks, KeepsMarks}
+use Rattle.nr_marks.specs.MarkSteps.{ArrivesMarks, DepartsMarks, FindsAgainMarks, KeepsMarks, found_again}
+use Rattle.nr_board.proofs.Learning.{shows_kind}
 use Rattle.nr_board.proofs.Lift.{Choice, knows_pasts, lifts}
 use Rattle.nr_board.proofs.Moves.{ActsGo, learned, learning, waiting}
 use Rattle.nr_board.specs.Entries.{AreCallers, acts_told, is_reading, to_depart}
 use Rattle.nr_marks.specs.Marked.{KnowsMarks}
 use Rattle.nr_marks.specs.Marks.{Marks, gripped}
 use lib.ListN.{get_elem?}
+use lib.Seq.{set-get_or}
 use Rattle.nr_model.specs.declared.calls.Call.{Call}
 use Rattle.nr_model.specs.declared.calls.Reply.{Reply}
-use Rattle.nr_board.specs.Plays.{Advances, Arrived, Asked, Departed, IsIdle, holding, Read, has_arrived, has_asked, has_departed, has_read_word}
+use Rattle.nr_board.specs.Kinds.{kind_of, kind_shown}
+use Rattle.nr_board.specs.Plays.{Advances, Arrived, Asked, Departed, FoundAgain, IsIdle, holding, Read, has_arrived, has_asked, has_departed, has_found_again, has_read_word}
 use Rattle.nr_board.specs.Rule.{Fits, Kept, marks_of, role_of}
 use Rattle.nr_board.specs.Views.{View, grip_of, is_sized, caller_number, rows_held, slot_held}
 
@@ -131,6 +137,49 @@ reads_so shape slots id me index is low sized = let view = me.0 in let reader = 
       waits = waits;
       marks = marked.told.0;
     }))
+
+pub finds_again_so : (shape : Shape) (slots id : ℕ) (me : Me (Unit {0}) View) (key : ℕ) → key < shape.keys → me.0.role ≡ holding me.0.role (is_sized (grip_of me.0.role)) → me.0.shape ≡ shape
+    → Allows (Kept shape) slots id me key (λ word. word) (has_found_again (step slots key 0 0 none) me)
+finds_again_so shape slots id me key near is sized = let view = me.0 in let reader = caller_number view.role in let slot : ℕ = slot_held view.role in let rows = rows_held view.role in let sized_so = is_sized (grip_of view.role) in
+    let tells = FindsAgain shape reader slot rows sized_so key in let notes = FindsAgainMarks view.marks slot key in let e = entry reader (model.Find key) (reply.Rows rows) in
+    lifts shape id view (Load key) tells notes slots me.1 (λ found next. FoundAgain key found view next) view.pasts (subst (λ r. CanStep shape id r (Load key) tells) (sym is) (finds_again shape id reader slot rows sized_so key near))
+    (finds_again_marked role_of marks_of shape id view view.pasts reader slot key rows sized_so near is) (knows_pasts shape id view)
+    (λ state kept at step marked. let found : ℕ = get_or state.words key 0 in let names = names_slot slot found in
+    let role : step.after ≡ view.role = step.told.0 ∙ sym is in let within = reader_within shape id view _ state kept at is in
+    let inside : (other : ℕ) → name_number found ≡ suc other → other < view.shape.slots = λ other so. subst (λ (s : Shape). other < s.slots) (sym sized) (step.told.2 other so) in
+    let log : List Entry = kept.log ++ step.entries in let kind : kind_shown found ≡ kind_of (state_of (map_after view.shape log) key) = sym (ap (λ (l : List ℕ). kind_shown (get_or l key 0)) (set-get_or state.words key 0))
+    ∙ shows_kind shape (set state.words key found) (get_or (set state.words key found) key 0) (state_of (map_after shape log) key) (step.core.shows key near) ∙ ap (λ (s : Shape). kind_of (state_of (map_after s log) key)) (sym sized) in
+    let holds = ap (λ r. gripped (grip_of r)) is in let held = ap (λ r. gripped (grip_of r)) step.told.0 in
+    let after = learned view step.after log step.entries marked.now marked.news in
+    let choose : (told : List Entry) → AreCallers shape step.entries → step.entries ≡ told → marked.now.acts ≡ view.marks.acts + acts_told told
+    → (Advances view told after → FoundAgain key found view after)
+    → Choice shape id view (Load key) tells notes state kept step marked (λ next. FoundAgain key found view next)
+    = λ told callers is_told count tell. learning shape id view (Load key) tells notes state kept at step marked (ap caller_number role) sized callers
+    (acts_so view step.after step.entries marked.now (Some slot) (Some slot) told holds held is_told (omega arith))
+    (λ next. FoundAgain key found view next) (reader_is view.role _ is) marked.told.1 told is_told tell in
+    by_cases (λ _. Choice shape id view (Load key) tells notes state kept step marked (λ next. FoundAgain key found view next)) names
+    (λ yes. let is_told : step.entries ≡ e ∷ [] = step.told.1 ∙ ap (λ (b : Bool). cond {A = List Entry} b (e ∷ []) []) yes in
+    let count : marked.now.acts ≡ suc (suc view.marks.acts) = ap (λ (m : Marks). m.acts) marked.told.0 ∙ ap (λ (b : Bool). (found_again b view.marks).acts) yes in
+    choose (e ∷ []) (reader_entry shape reader (model.Find key) _ step.entries is_told near within refl) is_told (omega arith) (λ advances. record {
+      role = role;
+      same = λ _. advances;
+      other = λ no. differ names _ yes no;
+      inside = inside;
+      marks = marked.told.0;
+      put = marked.told.2;
+      kind = kind;
+    }))
+    (λ no. let is_told : step.entries ≡ [] = step.told.1 ∙ ap (λ (b : Bool). cond {A = List Entry} b (e ∷ []) []) no in
+    let count : marked.now.acts ≡ view.marks.acts = ap (λ (m : Marks). m.acts) marked.told.0 ∙ ap (λ (b : Bool). (found_again b view.marks).acts) no in
+    choose [] (subst (AreCallers shape) (sym is_told) tt) is_told (omega arith) (λ advances. record {
+      role = role;
+      same = λ yes. differ names _ yes no;
+      other = λ _. advances;
+      inside = inside;
+      marks = marked.told.0;
+      put = marked.told.2;
+      kind = kind;
+    })))
 
 pub departs_so : (shape : Shape) (slots id : ℕ) (me : Me (Unit {0}) View) → me.0.role ≡ holding me.0.role (is_sized (grip_of me.0.role)) → me.0.shape ≡ shape
     → let place = departures shape (slot_held me.0.role) in Allows (Kept shape) slots id me place (λ word. (word + 1) % 2 ^ 64) (has_departed (step slots place 1 0 none) me)

@@ -5,6 +5,7 @@ use lib.ListN.{get_elem?}
 use Rattle.nr_model.specs.Histories.{Entry, IsLegal, entries_of}
 use Rattle.nr_model.specs.Maps.{state_of}
 use Rattle.nr_board.specs.declared.answers.KeyKind.{KeyKind}
+use Rattle.nr_board.specs.declared.answers.KeyKind.TheVariants as kind
 use Rattle.nr_board.specs.Callers.{Caller, Table, map_seen, map_at_opening}
 use Rattle.nr_board.specs.Kinds.{kind_of}
 use Rattle.nr_machine.specs.declared.places.Place.TheVariants.{Idle}
@@ -12,6 +13,7 @@ use Rattle.nr_machine.specs.declared.roles.Desk.{Desk}
 use Rattle.nr_marks.specs.Exact.{Lists}
 use Rattle.nr_marks.specs.Marks.{Past}
 use Rattle.nr_marks.specs.Pasts.{Current}
+use Rattle.nr_marks.specs.Puts.{put_number}
 use Rattle.nr_board.specs.Entries.{AreCallers}
 use Rattle.nr_board.specs.Rule.{StartsWith}
 
@@ -82,3 +84,7 @@ pub record Gathers (writer reader writer' reader' : Caller) : Type 0 where
 pub record StatesKey (at : ℕ) (old new : Caller) (kind : KeyKind) : Type 0 where
   pub learns : Learns 1 old new
   pub state : kind ≡ kind_of (state_of (map_seen new) at)
+
+-- after the history so far the key is filled, by the set of that put number
+abbrev pub HasPut : ℕ → ℕ → Caller → Type 0
+HasPut at put caller = (kind_of (state_of (map_seen caller) at) ≡ kind.Rows) × (put_number caller.seen at ≡ put)

@@ -1,5 +1,5 @@
 -- What each kind of step tells its token.
-use Rattle.std.specs.Prelude.{◌≡◌, ℕ, ◌+◌, ◌-◌, ◌*◌, ◌<◌, ◌≤◌, ◌⊎◌, nat_le, Bool, List, [], ◌∷◌, ◌++◌, length, take, slice_index, true, false}
+use Rattle.std.specs.Prelude.{◌≡◌, ℕ, suc, ◌+◌, ◌-◌, ◌*◌, ◌<◌, ◌≤◌, ◌⊎◌, nat_le, Bool, List, [], ◌∷◌, ◌++◌, length, take, slice_index, true, false}
 use mathlib.Core.Option.{some}
 use lib.ListN.{get_elem?}
 use Rattle.atomic_table.specs.Seated.{TableId}
@@ -27,14 +27,14 @@ use Rattle.nr_machine.specs.declared.places.Place.TheVariants.{Idle, Leaving, Pu
 use Rattle.nr_machine.specs.declared.places.Retired.{Retired}
 use Rattle.nr_machine.specs.declared.roles.Grip.TheVariants.{Nothing, On}
 use Rattle.nr_machine.specs.declared.shape.Shape.{Shape}
-use Rattle.nr_machine.specs.Slots.{bound_of, content, name_number}
+use Rattle.nr_machine.specs.Slots.{bound_of, content, name_number, names_slot}
 use Rattle.nr_machine.specs.States.{key_of, number_at}
 use Rattle.nr_core.specs.Core.{AreNumbers}
 use Rattle.nr_core.specs.Steps.{ask_word}
 use Rattle.nr_core.specs.Roles.{retirements}
 use Rattle.nr_machine.specs.Story.{call_of, ending, entry, map_after}
 use Rattle.nr_machine.specs.Writer.{looked, moved_to, went}
-use Rattle.nr_marks.specs.MarkSteps.{GoesMarks, LooksMarks}
+use Rattle.nr_marks.specs.MarkSteps.{ComparesPuts, GoesMarks, LooksMarks, found_again}
 use Rattle.nr_marks.specs.Marks.{Marks, Past, acted}
 use Rattle.nr_marks.specs.PollNotes.{AllHeld}
 use Rattle.nr_marks.specs.Puts.{put_number}
@@ -97,6 +97,20 @@ pub record Read (place found : ℕ) (old new : View) : Type 0 where
 
 abbrev pub has_read_word : Then
 has_read_word step before found after = Read step.word found before.0 after.0
+
+-- a reader that holds a slot finds a key again: where the key's word names that slot, the find is an entry, and the key has the set that the reader holds; else it learns the history so far
+pub record FoundAgain (key found : ℕ) (old new : View) : Type 0 where
+  pub role : new.role ≡ old.role
+  pub same : names_slot (slot_held old.role) found ≡ true → Advances old (entry (caller_number old.role) (model.Find key) (reply.Rows (rows_held old.role)) ∷ []) new
+  pub other : names_slot (slot_held old.role) found ≡ false → Advances old [] new
+  pub inside : (slot : ℕ) → name_number found ≡ suc slot → slot < old.shape.slots
+  pub marks : new.marks ≡ found_again (names_slot (slot_held old.role) found) old.marks
+  -- whether the key still has the put number of the hold
+  pub put : ComparesPuts (names_slot (slot_held old.role) found) found old.marks.put (put_number new.seen key)
+  pub kind : kind_shown found ≡ kind_of (state_of (map_after old.shape new.seen) key)
+
+abbrev pub has_found_again : Then
+has_found_again step before found after = FoundAgain step.word found before.0 after.0
 
 -- a departure ends the hold
 pub record Departed (old new : View) : Type 0 where

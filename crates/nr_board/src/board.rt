@@ -1,5 +1,5 @@
 //! The table of words. It is private to this module, whose functions make one step each.
-ghost use Rattle.std.specs.Prelude.{ℕ, ◌≡◌, ◌<◌, ◌≤◌, ◌^◌, true, false, [], length, slice_index, IfOk};
+ghost use Rattle.std.specs.Prelude.{ℕ, ◌≡◌, ◌↔◌, ◌<◌, ◌≤◌, ◌^◌, true, false, [], length, slice_index, IfOk};
 ghost use Rattle.nr_model.specs.Maps.{state_of};
 ghost use Rattle.nr_model.specs.declared.rows.TheConstants.{MAX_ROWS};
 ghost use Rattle.nr_model.specs.declared.calls.Call.TheVariants as model;
@@ -18,23 +18,24 @@ ghost use Rattle.nr_machine.specs.Slots.{bound_of, content, layout};
 ghost use Rattle.nr_core.specs.Roles.{is_writer};
 ghost use Rattle.nr_machine.specs.Sizes.{IsShape};
 ghost use Rattle.nr_board.specs.Views.{rows_held, with_reader, next_reader, opener};
-ghost use Rattle.nr_board.specs.Callers.{Gains, Rests, map_seen, token};
+ghost use Rattle.nr_board.specs.Callers.{Gains, Grows, Rests, map_seen, token};
 ghost use Rattle.nr_marks.specs.Marks.{acted, with_polls};
+ghost use Rattle.nr_marks.specs.MarkSteps.{found_again};
 ghost use Rattle.nr_marks.specs.Puts.{put_number};
-ghost use Rattle.nr_board.specs.Seats.{IdlesAt, HoldsAt};
+ghost use Rattle.nr_board.specs.Seats.{IdlesAt, HoldsAt, names_at};
 ghost use Rattle.nr_board.specs.Notes.{IsCaller, IsNote, has_noted, note_of, with_note};
 ghost use Rattle.nr_board.specs.Kinds.{kind_of, kind_shown};
 ghost use Rattle.nr_board.specs.Learning.{Learned};
-ghost use Rattle.nr_board.specs.Meetings.{Learns};
+ghost use Rattle.nr_board.specs.Meetings.{HasPut, Learns};
 ghost use Rattle.nr_board.specs.WriterSeats.{GoesOn, IsBetween, IsReading, IsPolling, IsPutting, IsPublishing, IsLeaving, IsWithdrawing, LeadsTo, PutsTo};
 
 use crate::rule::{
-    Arrives, Asks, Departs, Given, Goes, Law, Looks, Notes, Puts, Reads, Seats, Sees,
+    Arrives, Asks, Departs, FindsAgain, Given, Goes, Law, Looks, Notes, Puts, Reads, Seats, Sees,
 };
 use crate::view::View;
 use atomic_table::Table;
 use nr_core::Shape;
-use nr_words::{ARRIVE, Layout, hole_word, naming, opening_words};
+use nr_words::{ARRIVE, Layout, hole_word, naming, opening_words, parts};
 use std::alloc::{AllocError, Global};
 use std::marker::Model;
 
@@ -172,6 +173,33 @@ impl Board {
         let words = &self.table.shared;
         let place = begin + index;
         words.load::<Reads>(seat, place as usize)
+    }
+
+    /// A reader that holds a slot, whose first content word stands at `begin`, finds a key again, by
+    /// one load of the key's word: whether the key still has the set that the reader holds. Then the
+    /// find is an entry, and it is answered with that set.
+    pub fn find_again(&self, seat: &mut Seat, begin: u64, key: u32) -> bool
+        requires reader { HoldsAt self.now begin seat.old }
+        requires key { key < self.now.shape.keys }
+        ensures reader { HoldsAt self.now begin seat.new }
+        ensures role { seat.new.me.0.role ≡ seat.old.me.0.role }
+        ensures same { result ≡ true → Gains 1 (token seat.old) (model.Find key) (reply.Rows (rows_held seat.old.me.0.role)) (token seat.new) }
+        ensures other { result ≡ false → Grows 1 (token seat.old) [] (token seat.new) }
+        ensures exact { (result ≡ true) ↔ HasPut key seat.old.me.0.marks.put (token seat.new) }
+        ensures marks { seat.new.me.0.marks ≡ found_again result seat.old.me.0.marks }
+    {
+        let words = &self.table.shared;
+        let word = words.load::<FindsAgain>(seat, key as usize);
+        self.names_at(word, begin)
+    }
+
+    /// Whether a key's word names the slot whose first content word stands at `begin`.
+    fn names_at(&self, word: u64, begin: u64) -> bool
+        requires slot { is_filled word ≡ true → slot_of word < self.now.shape.slots }
+        ensures { result ≡ names_at self.now.shape begin word }
+    {
+        let found = parts(word);
+        found.filled && self.content(found.slot) == begin
     }
 
     /// A reader departs from the slot that it holds, whose first content word stands at `begin`.

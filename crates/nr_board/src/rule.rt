@@ -53,6 +53,15 @@ impl Play<(), View> for Reads {
     ghost then = { has_read_word };
 }
 
+/// A reader that holds a slot finds a key again.
+pub struct FindsAgain;
+
+impl Play<(), View> for FindsAgain {
+    ghost use Rattle.nr_board.specs.Plays.{has_found_again};
+
+    ghost then = { has_found_again };
+}
+
 pub struct Departs;
 
 impl Play<(), View> for Departs {

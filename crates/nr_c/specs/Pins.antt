@@ -1,9 +1,10 @@
 -- A reader that holds a set, as C calls it.
-use Rattle.std.specs.Prelude.{ℕ, ◌≡◌, ◌≤◌, ◌⊎◌, List, length, slice_get, Some, Ok, Err}
+use Rattle.std.specs.Prelude.{ℕ, ◌≡◌, ◌↔◌, ◌<◌, ◌≤◌, ◌⊎◌, Bool, true, if◌then◌else◌, List, [], ◌∷◌, length, slice_get, Some, Ok, Err}
 use Rattle.nr_model.specs.declared.rows.Row.{Row}
 use Rattle.nr_board.specs.Callers.{Caller, Rests}
-use Rattle.nr_map.specs.Pins.{Pinned, PinsKey}
-use Rattle.nr_c.specs.declared.codes.TheConstants.{NR_HOLE, NR_NO_ROW, NR_ROWS}
+use Rattle.nr_board.specs.Meetings.{HasPut}
+use Rattle.nr_map.specs.Pins.{FindsByPin, Pinned, PinsKey}
+use Rattle.nr_c.specs.declared.codes.TheConstants.{NR_HOLE, NR_NO_ROW, NR_OTHER, NR_ROWS}
 use Rattle.nr_c.specs.declared.hand.Hand.TheVariants.{Holds, Idle}
 use Rattle.nr_c.specs.declared.reader_side.ReaderSide.{ReaderSide}
 use Rattle.nr_c.specs.Live.{TurnsHand}
@@ -19,6 +20,15 @@ abbrev pub ReadsRow : ℕ → Row → Row → ℕ → List ReaderSide → List R
 ReadsRow place stood stands code before after =
     ((code ≡ NR_ROWS) × (old new : Pinned) × TurnsHand before after (Holds old) (Holds new) × (slice_get old.rows place ≡ Some stands) × (new.rows ≡ old.rows) × Rests 2 old.reader new.reader)
     ⊎ ((code ≡ NR_NO_ROW) × (pin : Pinned) × TurnsHand before after (Holds pin) (Holds pin) × (length pin.rows ≤ place) × (stands ≡ stood))
+
+-- the handle is live, its reader holds a set, and its map has that key
+abbrev pub HasPinOf : ℕ → List ReaderSide → Type 0
+HasPinOf key live = (held : ReaderSide) × (pin : Pinned) × (live ≡ held ∷ []) × (held.hand ≡ Holds pin) × (key < held.map.value.shape.keys)
+
+-- a find again by its code; the reader holds the same set
+abbrev pub FindsByHold : ℕ → ℕ → List ReaderSide → List ReaderSide → Type 0
+FindsByHold key code before after = (found : Bool) × (code ≡ (if found then NR_ROWS else NR_OTHER)) × (old new : Pinned) × TurnsHand before after (Holds old) (Holds new)
+    × FindsByPin key old.reader old.rows new.reader found × ((found ≡ true) ↔ HasPut key old.reader.marks.put new.reader) × (new.rows ≡ old.rows)
 
 -- the hold ends
 abbrev pub Releases : List ReaderSide → List ReaderSide → Type 0

@@ -83,6 +83,9 @@ pub const NR_NOT_POSTED: u32 = 24;
 /// To a take: the queue is empty, or another thread is in the way.
 pub const NR_NOT_TAKEN: u32 = 25;
 
+/// To a find again: the key has not, or no more, the set that the reader holds.
+pub const NR_OTHER: u32 = 26;
+
 pub fn of_found(found: Found) -> u32
     ensures { result ≡ found_code found }
 {

@@ -1,8 +1,8 @@
 //! A reader that holds a set.
 ghost use Rattle.nr_c.specs.Live.{HasPin, MayRead};
-ghost use Rattle.nr_c.specs.Pins.{PinsCells, Releases, ReadsRow};
+ghost use Rattle.nr_c.specs.Pins.{FindsByHold, HasPinOf, PinsCells, Releases, ReadsRow};
 
-use crate::codes::{NR_HOLE, NR_NO_ROW, NR_ROWS};
+use crate::codes::{NR_HOLE, NR_NO_ROW, NR_OTHER, NR_ROWS};
 use crate::hand::Hand;
 use crate::reader_handle::NrReader;
 use nr_model::Row;
@@ -46,6 +46,21 @@ pub extern "C" fn nr_row_at(reader: &mut NrReader, place: u32, row: &mut Row) ->
     *row = pin.row(&side.map, place);
     side.put(Hand::Holds(pin));
     NR_ROWS
+}
+
+/// Finds a key again, in 1 step, which loads one word and writes none: `NR_ROWS` where the key still
+/// has the set that the reader holds, put by the same fill or update, and then this is a find of the
+/// key. `NR_OTHER` where it hasn't; the reader holds the same set in either case.
+#[unsafe(no_mangle)]
+pub extern "C" fn nr_again(reader: &mut NrReader, key: u32) -> u32
+    requires live { HasPinOf key reader.old.live }
+    ensures { FindsByHold key result reader.old.live reader.new.live }
+{
+    let side = reader.side();
+    let mut pin = side.take_pin();
+    let found = pin.again(&side.map, key);
+    side.put(Hand::Holds(pin));
+    if found { NR_ROWS } else { NR_OTHER }
 }
 
 /// Ends the hold, in 1 step.

@@ -3,7 +3,7 @@ use Rattle.std.proofs.Common.{List, [], append-nil, refl, subst, sym, ◌++◌, 
 use Rattle.std.specs.Prelude.{None, Option, Some, fold}
 use Rattle.nr_model.specs.Histories.{Entry}
 use Rattle.nr_core.proofs.Opening.{opening_core}
-use Rattle.nr_core.proofs.ReaderEvents.{after_arrive, after_ask, after_depart, after_read}
+use Rattle.nr_core.proofs.ReaderEvents.{after_arrive, after_ask, after_depart, after_find_again, after_read}
 use Rattle.nr_core.proofs.StateRoles.{IsCoreState}
 use Rattle.nr_core.proofs.WriterEvents.{after_go, after_start}
 use Rattle.nr_core.specs.Laws.{AllGiven, IsGiven}
@@ -11,7 +11,7 @@ use Rattle.nr_machine.specs.Machine.{moved, unless}
 use Rattle.nr_machine.specs.Refusals.{refusal}
 use Rattle.nr_machine.specs.Sizes.{IsShape}
 use Rattle.nr_machine.specs.Slots.{bound_of}
-use Rattle.nr_machine.specs.States.{Arrive, Ask, Depart, Event, Go, Read, Start, State}
+use Rattle.nr_machine.specs.States.{Arrive, Ask, Depart, Event, FindAgain, Go, Read, Start, State}
 use Rattle.nr_machine.specs.Story.{Story, beginning, story_of, tell, told}
 use Rattle.nr_machine.specs.declared.calls.Refusal.{Refusal}
 use Rattle.nr_machine.specs.declared.shape.Shape.{Shape}
@@ -21,6 +21,7 @@ after_event state log (Arrive r k) given is_core ok = after_arrive state log r k
 after_event state log (Read r i) given is_core ok = after_read state log r i is_core ok
 after_event state log (Depart r) given is_core ok = after_depart state log r is_core ok
 after_event state log (Ask r k) given is_core ok = after_ask state log r k is_core ok
+after_event state log (FindAgain r k) given is_core ok = after_find_again state log r k is_core ok
 after_event state log (Start call) given is_core ok = after_start state log call given is_core ok
 after_event state log Go given is_core ok = after_go state log is_core ok
 

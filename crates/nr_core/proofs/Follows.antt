@@ -1,5 +1,5 @@
 -- What one event more does: one operation on one word, never a put into a held slot, and entries of its own caller.
-use Rattle.std.proofs.Common.{sym, List, [], ap, append-nil, arith, cond, get_or, length, nat_eq, refl, subst, ℕ, ◌*◌, ◌++◌, ◌<◌, ◌∙◌, ◌≡◌, ◌≢◌, ◌≤◌}
+use Rattle.std.proofs.Common.{Bool, true, false, sym, List, [], ap, append-nil, arith, cond, get_or, length, nat_eq, refl, subst, ℕ, ◌*◌, ◌++◌, ◌<◌, ◌∙◌, ◌≡◌, ◌≢◌, ◌≤◌}
 use Rattle.std.proofs.lemmas.Bool.{eqb-true, leb-true, ltb-true}
 use Rattle.std.specs.Prelude.{None, Option, Some, nat_le, ◌&&◌}
 use Rattle.nr_model.specs.Histories.{Entry, entries_of}
@@ -22,7 +22,7 @@ use Rattle.nr_core.proofs.StateRoles.{IsCoreState}
 use Rattle.nr_core.proofs.WordPlaces.{content_apart, content_inside, departures_inside, same_content}
 use Rattle.nr_core.specs.Core.{AtDesk, AtPlace, Puts}
 use Rattle.nr_core.specs.Laws.{EndsWithout, Follows, IsJustified, caller_of_event}
-use Rattle.nr_machine.specs.Machine.{found_by, moved, unless}
+use Rattle.nr_machine.specs.Machine.{found_by, moved, names_held, unless}
 use Rattle.nr_machine.specs.Operations.{going, operation, target_of}
 use Rattle.nr_machine.specs.declared.operation.Operation.{Operation}
 use Rattle.nr_machine.specs.declared.operation.Operation.TheVariants.{Load, Store, Swap}
@@ -31,7 +31,7 @@ use Rattle.nr_machine.specs.Refusals.{has_key, has_reader, if_busy, if_holding, 
 use Rattle.nr_core.specs.Roles.{held}
 use Rattle.nr_words.specs.KeyWords.{naming}
 use Rattle.nr_machine.specs.Slots.{bound_of, content, slot_room}
-use Rattle.nr_machine.specs.States.{retired_at, Arrive, Ask, Depart, Event, Go, Read, Start, State, hold_of, key_of, slot_in}
+use Rattle.nr_machine.specs.States.{retired_at, Arrive, Ask, Depart, Event, FindAgain, Go, Read, Start, State, hold_of, key_of, slot_in}
 use Rattle.nr_machine.specs.Story.{Story, answering, call_of, map_after, polls_after, shown, told}
 use Rattle.nr_machine.specs.Writer.{looked, went}
 use Rattle.nr_machine.specs.declared.calls.NoSlot.{NoSlot}
@@ -50,11 +50,17 @@ own_answering : (caller : ℕ) (call : Call) (reply : KeyState → Reply) (shows
 own_answering caller call reply None c = none_of (nat_eq caller c)
 own_answering caller call reply (Some state) c = refl
 
+own_if : (caller : ℕ) (call : Call) (reply : KeyState → Reply) (shows : Option KeyState) (made : Bool) (c : ℕ)
+    → entries_of (cond made (answering caller call reply shows) []) c ≡ cond (nat_eq caller c) (cond made (answering caller call reply shows) []) []
+own_if caller call reply shows true c = own_answering caller call reply shows c
+own_if caller call reply shows false c = none_of (nat_eq caller c)
+
 told_by : (state : State) (event : Event) (c : ℕ) → entries_of (told state event) c ≡ cond (nat_eq (caller_of_event event) c) (told state event) []
 told_by state (Arrive r k) c = own_answering r (model.Find k) find_reply (shown state k) c
 told_by state (Read r i) c = none_of (nat_eq r c)
 told_by state (Depart r) c = none_of (nat_eq r c)
 told_by state (Ask r k) c = own_answering r (model.Ask k) ask_reply (shown state k) c
+told_by state (FindAgain r k) c = own_if r (model.Find k) find_reply (shown state k) (names_held (hold_of state r) (found_by state (FindAgain r k))) c
 told_by state (Start call) c = own_ending (call_of call) (looked state.shape state.desk call (found_by state (Start call))).1 c
 told_by state Go c = own_ending_at state.desk.place (went state.shape state.desk state.desk.place (found_by state Go)).1 c
 
@@ -82,6 +88,7 @@ held_untouched state log (Arrive r k) is_core ok s i held_so low here = let shap
 held_untouched state log (Ask r k) is_core ok s i held_so low here = let shape = state.shape in
     let g = guard (has_reader shape r && has_key shape k) (if_holding (hold_of state r)) refuse.OutOfRange ok in let b = both (has_reader shape r) (has_key shape k) g.0 in let near : k < shape.keys = ltb-true k shape.keys b.1 in absurd (omega arith)
 held_untouched state log (Read r p) is_core ok s i held_so low here = ap Load here
+held_untouched state log (FindAgain r k) is_core ok s i held_so low here = ap Load here
 held_untouched state log (Start call) is_core ok s i held_so low here = ap Load here
 held_untouched state log (Depart r) is_core ok s i held_so low here = absurd (content_apart state.shape s i (slot_in (hold_of state r)) low (sym here))
 held_untouched state log Go is_core ok s i held_so low here = go state.desk.place refl here
@@ -109,6 +116,9 @@ inside_words state log (Arrive r k) is_core ok = let wide = is_core.core.wide in
     let g = guard (has_reader state.shape r && has_key state.shape k) (if_holding (hold_of state r)) refuse.OutOfRange ok in let b = both (has_reader state.shape r) (has_key state.shape k) g.0 in let near : k < state.shape.keys = ltb-true k state.shape.keys b.1 in omega arith
 inside_words state log (Ask r k) is_core ok = let wide = is_core.core.wide in
     let g = guard (has_reader state.shape r && has_key state.shape k) (if_holding (hold_of state r)) refuse.OutOfRange ok in let b = both (has_reader state.shape r) (has_key state.shape k) g.0 in let near : k < state.shape.keys = ltb-true k state.shape.keys b.1 in omega arith
+inside_words state log (FindAgain r k) is_core ok = let wide = is_core.core.wide in
+    let g = guard (has_reader state.shape r && has_key state.shape k) (if_not_holding (hold_of state r)) refuse.OutOfRange ok in
+    let b = both (has_reader state.shape r) (has_key state.shape k) g.0 in let near : k < state.shape.keys = ltb-true k state.shape.keys b.1 in omega arith
 inside_words state log (Start call) is_core ok = let wide = is_core.core.wide in
     let g = guard (has_key state.shape (key_of call)) (if_busy state.desk.place) refuse.OutOfRange ok in let near : key_of call < state.shape.keys = ltb-true (key_of call) state.shape.keys g.0 in omega arith
 inside_words state log (Read r index) is_core ok = let wide = is_core.core.wide in

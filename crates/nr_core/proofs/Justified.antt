@@ -24,7 +24,7 @@ use Rattle.nr_machine.specs.Operations.{going, target_of}
 use Rattle.nr_machine.specs.Refusals.{has_key, if_busy, refusal}
 use Rattle.nr_core.specs.Roles.{held, taken}
 use Rattle.nr_machine.specs.Slots.{bound_of, content, departures}
-use Rattle.nr_machine.specs.States.{Arrive, Ask, Depart, Event, Go, Read, Start, State, key_of, retired_at}
+use Rattle.nr_machine.specs.States.{Arrive, Ask, Depart, Event, FindAgain, Go, Read, Start, State, key_of, retired_at}
 use Rattle.nr_machine.specs.Story.{Poll, Story, call_of, ending, map_after, poll_at, polls_after, polls_at, tell, told}
 use Rattle.nr_machine.specs.Writer.{decoded, ended, looked, moved_to, put_on, swapped, went}
 use Rattle.nr_machine.specs.declared.calls.NoSlot.{NoSlot}
@@ -149,6 +149,7 @@ no_slot_is_justified story (Arrive r k) is_core swept after counts e = absurd e
 no_slot_is_justified story (Read r i) is_core swept after counts e = absurd e
 no_slot_is_justified story (Depart r) is_core swept after counts e = absurd e
 no_slot_is_justified story (Ask r k) is_core swept after counts e = absurd e
+no_slot_is_justified story (FindAgain r k) is_core swept after counts e = absurd e
 no_slot_is_justified story (Start call) is_core swept after counts e =
     let state = story.state in let shape = state.shape in let desk = state.desk in let w = get_or state.words (key_of call) 0 in let outcome = looked shape desk call w in
     let a = answered (refusal state (Start call)) outcome.1 (Ended (writer.NoSlot counts)) e in

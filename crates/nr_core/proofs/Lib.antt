@@ -2,6 +2,7 @@
 pub mod Arrive
 pub mod Ask
 pub mod Read
+pub mod FindAgain
 pub mod Depart
 pub mod Look
 pub mod Go

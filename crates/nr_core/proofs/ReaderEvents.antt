@@ -19,6 +19,7 @@ use Rattle.nr_core.proofs.Arrive.{arrives}
 use Rattle.nr_core.proofs.Ask.{asks}
 use Rattle.nr_core.proofs.Choices.{by_cases}
 use Rattle.nr_core.proofs.Depart.{departs}
+use Rattle.nr_core.proofs.FindAgain.{finds_again}
 use Rattle.nr_core.proofs.Guards.{both, guard, no_some, reader_in}
 use Rattle.nr_core.proofs.Histories.{of-append, replies_so}
 use Rattle.nr_core.proofs.KeyWords.{names_none, names_one}
@@ -27,11 +28,11 @@ use Rattle.nr_core.proofs.Shown.{shown_is}
 use Rattle.nr_core.proofs.StateRoles.{AllFound, Found, IsCoreState, erased, fit_reader, found_quiet, found_set, no_grip, one_other, one_same, same_rows}
 use Rattle.nr_core.proofs.Sums.{set_again}
 use Rattle.nr_core.specs.Core.{Core}
-use Rattle.nr_machine.specs.Machine.{moved, read_hold}
+use Rattle.nr_machine.specs.Machine.{moved, names_held, read_hold}
 use Rattle.nr_machine.specs.declared.operation.Operation.TheVariants.{Load, Add}
 use Rattle.nr_machine.specs.Refusals.{has_key, has_reader, if_beyond, if_holding, if_not_holding, if_unreadable, refusal}
-use Rattle.nr_machine.specs.Slots.{bound_of, content, departures, name_number}
-use Rattle.nr_machine.specs.States.{Arrive, Ask, Depart, Read, State, slot_in}
+use Rattle.nr_machine.specs.Slots.{bound_of, content, departures, name_number, names_slot}
+use Rattle.nr_machine.specs.States.{Arrive, Ask, Depart, FindAgain, Read, State, slot_in}
 use Rattle.nr_core.specs.Steps.{ask_word}
 use Rattle.nr_machine.specs.Story.{answering, entry, map_after, opening_map, told}
 use Rattle.nr_machine.specs.declared.places.Hold.{Hold}
@@ -130,6 +131,45 @@ after_depart state log r is_core ok = let shape = state.shape in let words = sta
       fit = fit_reader shape.readers roles state.holds state.desk f i low Nothing hold.Nothing refl;
       found = found_set roles log [] i Nothing is_core.found (λ _ _. refl) (λ s rows b is. absurd (no_grip s rows b is));
     })
+
+pub after_find_again : (state : State) (log : List Entry) (r k : ℕ) → IsCoreState state log → refusal state (FindAgain r k) ≡ None → IsCoreState (moved state (FindAgain r k)) (log ++ told state (FindAgain r k))
+after_find_again state log r k is_core ok = let shape = state.shape in let words = state.words in let roles = is_core.roles in let core = is_core.core in let f = is_core.fit in
+    let g = guard (has_reader shape r && has_key shape k) (if_not_holding (get_or state.holds (r - 1) hold.Nothing)) refuse.OutOfRange ok in
+    let both_in = both (has_reader shape r) (has_key shape k) g.0 in let near : k < shape.keys = ltb-true k shape.keys both_in.1 in let in_r = reader_in shape r both_in.0 in let low_r = in_r.0 in let high_r = in_r.1 in
+    let i : ℕ = r - 1 in let low : i < shape.readers = omega arith in let number : suc i ≡ r = omega arith in
+    let o = f.readers i low in let x = is_held o.0 (ap if_not_holding (sym o.2) ∙ g.1) in let s = x.0 in let m = x.1 in let b = x.2 in let grip = On s m b in
+    let there_is : get_elem? roles (suc i) ≡ some (Reader (suc i) grip) = o.1 ∙ ap (λ (y : Grip). some (Reader (suc i) y)) x.3 in
+    let holds_it : get_or state.holds i hold.Nothing ≡ erased grip = o.2 ∙ ap erased x.3 in
+    let t = finds_again shape (suc i) (suc i) s m b k near words roles log core there_is in let w : ℕ = get_or words k 0 in let words' = set words k w in
+    let state_now : KeyState = state_of (map_after shape log) k in
+    let Result : Bool → Option KeyState → Type 0 = λ names shows. IsCoreState (moved state (FindAgain r k)) (log ++ cond names (answering r (model.Find k) find_reply shows) []) in
+    let e = entry (suc i) (model.Find k) (reply.Rows m) in
+    let same_roles : set roles (suc i) (Reader (suc i) grip) ≡ roles = set_again roles (suc i) (Reader (suc i) grip) there_is in
+    let core_as : (es : List Entry) → t.entries ≡ es → Core shape words' roles (log ++ es) = λ es is.
+    subst (λ (p : (List Role) × (List Entry)). Core shape words' p.0 (log ++ p.1)) (λ j. (same_roles j, is j)) (subst (λ (role : Role). Core shape words' (set roles (suc i) role) (log ++ t.entries)) t.told.0 t.core) in
+    let is_named : names_held (get_or state.holds i hold.Nothing) w ≡ names_slot s w = ap (λ (y : Hold). names_held y w) holds_it in
+    subst (λ (p : Bool × Option KeyState). Result p.0 p.1) (λ j. (sym is_named j, sym (shown_is state roles log core f.writer k near) j))
+    (by_cases (λ names. Result names (Some state_now)) (names_slot s w)
+    (λ named. let c1 = core_as (e ∷ []) (t.told.1 ∙ ap (λ (v : Bool). cond {A = List Entry} v (e ∷ []) []) named) in
+    let reply_is : reply.Rows m ≡ find_reply state_now = reply_of shape log (suc i) (model.Find k) (reply.Rows m) c1.legal in record {
+      roles = roles;
+      core = subst (λ (p : ℕ × Reply). Core shape words' roles (log ++ entry p.0 (model.Find k) p.1 ∷ [])) (λ j. (number j, reply_is j)) c1;
+      fit = f;
+      found = subst (λ (p : ℕ × Reply). AllFound roles (log ++ entry p.0 (model.Find k) p.1 ∷ [])) (λ j. (number j, reply_is j)) (subst (λ (l : List Role). AllFound l (log ++ e ∷ [])) same_roles
+          (found_set roles log (e ∷ []) i grip is_core.found (λ j ne. one_other (suc i) (suc j) (model.Find k) (reply.Rows m) (λ z. ne (omega arith)))
+          (λ s' rows b' is. (
+            k,
+            entries_of log (suc i),
+            of-append (suc i) log (e ∷ []) ∙ ap (λ (l : List Entry). entries_of log (suc i) ++ l)
+                (one_same (suc i) (suc i) (model.Find k) (reply.Rows m) refl ∙ ap (λ (a : List Row). entry (suc i) (model.Find k) (reply.Rows a) ∷ []) (same_rows s s' m rows b b' is)),
+          ))));
+    })
+    (λ other. record {
+      roles = roles;
+      core = core_as [] (t.told.1 ∙ ap (λ (v : Bool). cond {A = List Entry} v (e ∷ []) []) other);
+      fit = f;
+      found = λ j s' rows b' there. found_quiet log [] (suc j) rows refl (is_core.found j s' rows b' there);
+    }))
 
 pub after_read : (state : State) (log : List Entry) (r p : ℕ) → IsCoreState state log → refusal state (Read r p) ≡ None → IsCoreState (moved state (Read r p)) (log ++ told state (Read r p))
 after_read state log r p is_core ok = let shape = state.shape in let words = state.words in let roles = is_core.roles in let core = is_core.core in let f = is_core.fit in

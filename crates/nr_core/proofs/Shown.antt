@@ -1,5 +1,5 @@
 -- The words of a core state show the map after its history.
-use Rattle.std.proofs.Common.{List, [], ap, arith, cond, drop, eq-eqb, get_or, length, ne_eqb, refl, suc, take, ℕ, ◌%◌, ◌*◌, ◌+◌, ◌-◌, ◌<◌, ◌∙◌, ◌∷◌, ◌≡◌, ◌≤◌}
+use Rattle.std.proofs.Common.{List, [], ap, arith, cond, drop, eq-eqb, get_or, length, ne_eqb, refl, suc, take, ℕ, ◌%◌, ◌+◌, ◌-◌, ◌<◌, ◌∙◌, ◌∷◌, ◌≡◌, ◌≤◌}
 use Rattle.std.proofs.lemmas.List.{get_or-drop, get_or-take, length-drop, length-take-le}
 use lib.ListN.{get_elem?}
 use mathlib.Core.Option.{some}
@@ -29,7 +29,7 @@ begins_with [] l fits same = refl
 begins_with (x ∷ m) [] fits same = absurd (omega arith)
 begins_with (x ∷ m) (y ∷ l) fits same = λ k. same 0 (omega arith) k ∷ begins_with m l (omega arith) (λ i low. same (suc i) (omega arith)) k
 
-spelt_set : (shape : Shape) (words : List ℕ) (s : ℕ) (rows : List Row) → length words ≡ total_of (layout shape) → s < shape.slots → SlotSpells shape words s rows → decode (slot_content shape words s) ≡ Some rows
+pub spelt_set : (shape : Shape) (words : List ℕ) (s : ℕ) (rows : List Row) → length words ≡ total_of (layout shape) → s < shape.slots → SlotSpells shape words s rows → decode (slot_content shape words s) ≡ Some rows
 spelt_set shape words s rows wide near sp = let short = sp.0.1 in let size = length-row_words rows in
     let c : ℕ = content shape s 0 in
     let d1 : length (drop c words) ≡ length words - c = length-drop c words in

@@ -31,7 +31,7 @@ use Rattle.nr_machine.specs.Operations.{going, target_of}
 use Rattle.nr_machine.specs.Refusals.{has_key, has_reader, if_holding, if_not_holding, if_unreadable, refusal}
 use Rattle.nr_core.specs.Roles.{held}
 use Rattle.nr_machine.specs.Slots.{bound_of, content, name_number}
-use Rattle.nr_machine.specs.States.{Arrive, Ask, Depart, Event, Go, Read, Start, State, hold_of, key_of, no_retired, retired_at, slot_in}
+use Rattle.nr_machine.specs.States.{Arrive, Ask, Depart, Event, FindAgain, Go, Read, Start, State, hold_of, key_of, no_retired, retired_at, slot_in}
 use Rattle.nr_machine.specs.Story.{Poll, holders_from, is_on, map_after, poll_at, polls_after}
 use Rattle.nr_machine.specs.Sums.{only, total}
 use Rattle.nr_machine.specs.Writer.{cancel_asked, decided, decoded, ended, fill_asked, looked, moved_to, no_slot, read_on, renewed, settled, swapped, taking_fresh, taking_retired, went}
@@ -301,5 +301,6 @@ swept_event state log polls (Read r p) is_core s ok =
 swept_event state log polls (Depart r) is_core s ok =
     let g = guard (has_reader state.shape r) (if_not_holding (hold_of state r)) refuse.OutOfRange ok in let i = reader_in state.shape r g.0 in let lo = i.0 in let hi = i.1 in let size = is_core.fit.size in
     reader_swept state (moved state (Depart r)).words (moved state (Depart r)).holds (moved state (Depart r)).made polls (other_reader state (r - 1) hold.Nothing (omega arith) (λ u more. absurd (omega arith))) s
+swept_event state log polls (FindAgain r k) is_core s ok = reader_swept state (moved state (FindAgain r k)).words state.holds (moved state (FindAgain r k)).made polls (λ c u more. inl more) s
 swept_event state log polls (Start call) is_core s ok = record { few = omega arith; sweep = look_good state.shape (moved state (Start call)).words state.holds (moved state (Start call)).made state.desk call (get_or state.words (key_of call) 0); held = λ i low. absurd (omega arith) }
 swept_event state log polls Go is_core s ok = go_swept state log polls is_core s state.desk.place refl (get_or state.words (target_of (going state.shape state.desk state.desk.place)) 0) refl (moved state Go).words (moved state Go).made

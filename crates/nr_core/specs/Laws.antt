@@ -19,7 +19,7 @@ use Rattle.nr_machine.specs.declared.places.Place.{Place}
 use Rattle.nr_machine.specs.declared.places.Place.TheVariants.{Idle, Reading, Leaving, Withdrawing, Searching, Putting}
 use Rattle.nr_words.specs.SetWords.{encode}
 use Rattle.nr_machine.specs.Slots.{bound_of, content, slot_room}
-use Rattle.nr_machine.specs.States.{State, Event, Arrive, Read, Depart, Ask, Start, Go, word, hold_of, number_at}
+use Rattle.nr_machine.specs.States.{State, Event, Arrive, Read, Depart, Ask, FindAgain, Start, Go, word, hold_of, number_at}
 use Rattle.nr_machine.specs.Refusals.{refusal}
 use Rattle.nr_machine.specs.Operations.{target_of, becomes, operation}
 use Rattle.nr_machine.specs.declared.operation.Operation.{Operation}
@@ -36,6 +36,7 @@ IsGiven bound (Arrive reader at) = Unit {0}
 IsGiven bound (Read reader index) = Unit {0}
 IsGiven bound (Depart reader) = Unit {0}
 IsGiven bound (Ask reader at) = Unit {0}
+IsGiven bound (FindAgain reader at) = Unit {0}
 IsGiven bound (Start call) = IsGivenCall bound call
 IsGiven bound Go = Unit {0}
 
@@ -79,6 +80,7 @@ caller_of_event (Arrive reader at) = reader
 caller_of_event (Read reader index) = reader
 caller_of_event (Depart reader) = reader
 caller_of_event (Ask reader at) = reader
+caller_of_event (FindAgain reader at) = reader
 caller_of_event (Start call) = 0
 caller_of_event Go = 0
 

@@ -21,7 +21,7 @@ use Rattle.nr_machine.specs.Refusals.{if_not_busy}
 use Rattle.nr_machine.specs.Given.{IsGivenCall}
 use Rattle.nr_core.specs.Roles.{is_reader, readers_from}
 use Rattle.nr_core.specs.Core.{Core}
-use Rattle.nr_core.specs.Steps.{CanStep, Arrives, Asks, ReadsHeld, Departs, Looks, Goes, LoadsWord}
+use Rattle.nr_core.specs.Steps.{CanStep, Arrives, Asks, ReadsHeld, FindsAgain, Departs, Looks, Goes, LoadsWord}
 
 -- a reader that holds nothing arrives at a key, or asks for it
 abbrev pub ArriveLaw : Type 0
@@ -34,6 +34,10 @@ AskLaw = (shape : Shape) (id reader at : ℕ) → at < shape.keys → CanStep sh
 abbrev pub ReadLaw : Type 0
 ReadLaw = (shape : Shape) (id reader slot : ℕ) (rows : List Row) (sized : Bool) (index : ℕ) → index < length (encode rows)
     → CanStep shape id (Reader reader (On slot rows sized)) (Load (content shape slot index)) (ReadsHeld reader slot rows sized index)
+
+-- it finds a key again, by a load of the key's word
+abbrev pub FindAgainLaw : Type 0
+FindAgainLaw = (shape : Shape) (id reader slot : ℕ) (rows : List Row) (sized : Bool) (at : ℕ) → at < shape.keys → CanStep shape id (Reader reader (On slot rows sized)) (Load at) (FindsAgain shape reader slot rows sized at)
 
 abbrev pub DepartLaw : Type 0
 DepartLaw = (shape : Shape) (id reader slot : ℕ) (rows : List Row) (sized : Bool) → CanStep shape id (Reader reader (On slot rows sized)) (Add (departures shape slot) 1) (Departs reader)

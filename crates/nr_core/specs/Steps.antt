@@ -16,7 +16,7 @@ use Rattle.nr_machine.specs.declared.roles.Grip.TheVariants.{Nothing, On}
 use Rattle.nr_machine.specs.declared.roles.Desk.{Desk}
 use Rattle.nr_words.specs.KeyWords.{is_filled, has_ask, slot_of}
 use Rattle.nr_words.specs.SetWords.{encode}
-use Rattle.nr_machine.specs.Slots.{bound_of, name_number}
+use Rattle.nr_machine.specs.Slots.{bound_of, name_number, names_slot}
 use Rattle.nr_machine.specs.Operations.{target_of, becomes}
 use Rattle.nr_machine.specs.declared.operation.Operation.{Operation}
 use Rattle.nr_machine.specs.Writer.{looked, went}
@@ -61,6 +61,13 @@ Asks reader at word after entries = (after ≡ Reader reader Nothing) × (entrie
 abbrev pub ReadsHeld : ℕ → ℕ → List Row → Bool → ℕ → Telling
 ReadsHeld reader slot rows sized index word after entries =
     (word ≡ slice_index (encode rows) index) × (after ≡ Reader reader (On slot rows (if index == 0 then true else sized))) × (entries ≡ [])
+
+-- a load by a reader that holds a slot: where the key's word names that slot, it is a find of the key, which has the set that the reader holds
+abbrev pub FindsAgain : Shape → ℕ → ℕ → List Row → Bool → ℕ → Telling
+FindsAgain shape reader slot rows sized at word after entries =
+    (after ≡ Reader reader (On slot rows sized))
+    × (entries ≡ (if names_slot slot word then entry reader (model.Find at) (reply.Rows rows) ∷ [] else []))
+    × ((other : ℕ) → name_number word ≡ suc other → other < shape.slots)
 
 abbrev pub Departs : ℕ → Telling
 Departs reader word after entries = (after ≡ Reader reader Nothing) × (entries ≡ [])

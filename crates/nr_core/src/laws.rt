@@ -5,7 +5,7 @@
 //! (`CanStep`): whatever the core state is, a caller of that role can make that operation, then the
 //! core state stands again, and this is what the operation told the caller.
 ghost use Rattle.nr_core.specs.Laws.{EverySchedule, SlotBound, RunGoesOn};
-ghost use Rattle.nr_core.specs.StepLaws.{ArriveLaw, AskLaw, ReadLaw, DepartLaw, LookLaw, GoLaw, LearnLaw, OpeningLaw, SeatLaw, NoteLaw};
+ghost use Rattle.nr_core.specs.StepLaws.{ArriveLaw, AskLaw, ReadLaw, FindAgainLaw, DepartLaw, LookLaw, GoLaw, LearnLaw, OpeningLaw, SeatLaw, NoteLaw};
 
 /// Whatever the callers attempt, in any order: the history is legal, the words show its map, the
 /// writer lists each key's number, each slot is accounted for, a held slot is not written, and each
@@ -38,6 +38,11 @@ pub fn asks()
 /// A reader that holds a slot reads a word of its set.
 pub fn reads()
     ensures { ReadLaw }
+{}
+
+/// A reader that holds a slot finds a key again, by one load, where the key names that slot.
+pub fn finds_again()
+    ensures { FindAgainLaw }
 {}
 
 /// A reader that holds a slot departs.

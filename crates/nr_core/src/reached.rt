@@ -6,8 +6,8 @@ ghost use Rattle.nr_model.specs.declared.seq_map.TheConstants.{MAX_KEYS};
 ghost use Rattle.nr_machine.specs.Sizes.{IsBadShape};
 ghost use Rattle.nr_machine.specs.declared.shape.TheConstants.{MAX_READERS, MAX_SLOTS};
 ghost use Rattle.nr_machine.specs.Story.{call_of, shown};
-ghost use Rattle.nr_machine.specs.States.{opening_state, number_at, Arrive, Read, Depart, Ask, Start, Go};
-ghost use Rattle.nr_machine.specs.Machine.{next_state, arrive_answer, read_answer, depart_answer, ask_answer, start_answer, go_answer};
+ghost use Rattle.nr_machine.specs.States.{opening_state, number_at, Arrive, Read, Depart, Ask, FindAgain, Start, Go};
+ghost use Rattle.nr_machine.specs.Machine.{next_state, arrive_answer, read_answer, depart_answer, ask_answer, find_again_answer, start_answer, go_answer};
 ghost use Rattle.nr_model.specs.Sizes.{IsBadSize};
 
 use nr_machine::{Arrived, AskReply, Machine, Outcome, Refusal, Shape, Step, WriterCall};
@@ -134,6 +134,16 @@ impl Core {
         ensures new { self.new ≡ next_state self.old (Depart reader) }
     {
         self.machine.depart(reader)
+    }
+
+    /// A reader that holds a slot finds a key again: one load of the key's word, which tells whether
+    /// it names that slot. Refused where there is no such reader or key (`OutOfRange`), and then where
+    /// the reader holds no slot (`NotHolding`).
+    pub fn find_again(&mut self, reader: u32, key: u32) -> Result<bool, Refusal>
+        ensures answer { result ≡ find_again_answer self.old reader key }
+        ensures new { self.new ≡ next_state self.old (FindAgain reader key) }
+    {
+        self.machine.find_again(reader, key)
     }
 
     /// A reader asks for a key: one bitwise or on the key's word. Refused where there is no such

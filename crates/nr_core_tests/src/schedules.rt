@@ -19,6 +19,8 @@ enum Line {
     Read(u32, u64),
     Depart(u32),
     Ask(u32, u32),
+    /// A reader that holds a slot finds the key again.
+    Again(u32, u32),
     Find(u32),
     /// A fill with that number, and with these rows.
     Fill(u64, &'static [(u64, u64)]),
@@ -41,7 +43,7 @@ enum Told {
     Without(NoSlot),
 }
 
-use Line::{Arrive, Ask, Cancel, Depart, Evict, Fill, Find, Go, Goes, Minus, Plus, Read};
+use Line::{Again, Arrive, Ask, Cancel, Depart, Evict, Fill, Find, Go, Goes, Minus, Plus, Read};
 use Told::{Says, Sends, Without, Word};
 
 /// Steps, each with its answer.
@@ -63,6 +65,7 @@ fn answer(core: &mut Core, line: &Line) -> Told {
             Err(why) => refused(why),
         },
         Ask(reader, key) => asked(core, *reader, *key),
+        Again(reader, key) => found_again(core, *reader, *key),
         Find(key) => started(core, &WriterCall::Find(*key)),
         Fill(number, rows) => started(core, &WriterCall::Fill(0, *number, rows_of(rows))),
         Plus(a, b) => updated(core, plus(*a, *b)),
@@ -79,6 +82,14 @@ fn asked(core: &mut Core, reader: u32, key: u32) -> Told {
         Ok(AskReply::Send(number)) => Sends(number),
         Ok(AskReply::Waiting) => Says("waiting"),
         Ok(AskReply::Filled) => Says("filled"),
+        Err(why) => refused(why),
+    }
+}
+
+fn found_again(core: &mut Core, reader: u32, key: u32) -> Told {
+    match core.find_again(reader, key) {
+        Ok(true) => Says("same"),
+        Ok(false) => Says("other"),
         Err(why) => refused(why),
     }
 }
@@ -305,6 +316,39 @@ fn counts_wrap(rt: HostRuntime) -> Result<(), Fail> {
     runs_anew(&rt, &sized(1, 2, 1_099_511_627_775), WRAPPED)
 }
 
+// the second update gives the key its rows back, in another slot; the hole has number 0, as the held slot has
+const FOUND_AGAIN: Lines = &[
+    (Ask(1, 0), Sends(0)),
+    (Fill(0, &[(5, 6)]), Says("-")),
+    (Goes(3), Says("-")),
+    (Go, Says("done")),
+    (Arrive(1, 0), Says("held")),
+    (Again(1, 0), Says("same")),
+    (Plus(7, 8), Says("-")),
+    (Goes(8), Says("-")),
+    (Again(1, 0), Says("same")),
+    (Go, Says("done")),
+    (Again(1, 0), Says("other")),
+    (Minus(7, 8), Says("-")),
+    (Goes(8), Says("-")),
+    (Go, Says("done")),
+    (Again(1, 0), Says("other")),
+    (Evict, Says("-")),
+    (Go, Says("evicted")),
+    (Again(1, 0), Says("other")),
+    (Ask(2, 0), Sends(0)),
+    (Again(1, 0), Says("other")),
+    (Read(1, 0), Word(1)),
+    (Read(1, 1), Word(5)),
+    (Depart(1), Says("ok")),
+    (Again(1, 0), Says("not-holding")),
+];
+
+#[test]
+fn a_held_slot_is_found_again_until_its_key_is_put_anew(rt: HostRuntime) -> Result<(), Fail> {
+    runs_anew(&rt, &sized(3, 2, 0), FOUND_AGAIN)
+}
+
 const PUBLISHED: Lines = &[
     (Ask(1, 0), Sends(0)),
     (Fill(0, &[(4, 4)]), Says("-")),
@@ -433,6 +477,10 @@ const RANGES: Lines = &[
     (Depart(0), Says("out-of-range")),
     (Depart(2), Says("out-of-range")),
     (Depart(1), Says("not-holding")),
+    (Again(0, 0), Says("out-of-range")),
+    (Again(2, 0), Says("out-of-range")),
+    (Again(1, 1), Says("out-of-range")),
+    (Again(1, 0), Says("not-holding")),
     (Find(1), Says("out-of-range")),
     (Go, Says("not-busy")),
     (Ask(1, 0), Sends(0)),
@@ -446,6 +494,8 @@ const RANGES: Lines = &[
     (Arrive(1, 1), Says("out-of-range")),
     (Ask(1, 0), Says("holding")),
     (Ask(1, 1), Says("out-of-range")),
+    (Again(1, 1), Says("out-of-range")),
+    (Again(1, 0), Says("same")),
     (Read(1, u64::MAX), Says("out-of-range")),
     (Read(1, 0), Word(0)),
     (Read(1, 1), Says("out-of-range")),

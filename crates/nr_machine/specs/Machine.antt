@@ -1,5 +1,5 @@
 -- The machine: the state after an event, the answer to it, and the run of a list of events.
-use Rattle.std.specs.Prelude.{ℕ, ◌-◌, ◌==◌, if◌then◌else◌, List, [], ◌∷◌, ◌++◌, slice_set, fold, Option, Some, None, Result, Ok, Err}
+use Rattle.std.specs.Prelude.{ℕ, Bool, false, ◌-◌, ◌==◌, if◌then◌else◌, List, [], ◌∷◌, ◌++◌, slice_set, fold, Option, Some, None, Result, Ok, Err}
 use Rattle.nr_machine.specs.declared.shape.Shape.{Shape}
 use Rattle.nr_machine.specs.declared.calls.WriterCall.{WriterCall}
 use Rattle.nr_machine.specs.declared.calls.Refusal.{Refusal}
@@ -12,7 +12,8 @@ use Rattle.nr_machine.specs.declared.places.Hold.{Hold}
 use Rattle.nr_machine.specs.declared.places.Hold.TheVariants.{Nothing, On}
 use Rattle.nr_machine.specs.declared.roles.Desk.{Desk}
 use Rattle.nr_words.specs.KeyWords.{is_filled, has_ask, slot_of}
-use Rattle.nr_machine.specs.States.{State, Event, Arrive, Read, Depart, Ask, Start, Go, opening_state, word, hold_of}
+use Rattle.nr_machine.specs.States.{State, Event, Arrive, Read, Depart, Ask, FindAgain, Start, Go, opening_state, word, hold_of}
+use Rattle.nr_machine.specs.Slots.{names_slot}
 use Rattle.nr_machine.specs.Refusals.{refusal}
 use Rattle.nr_machine.specs.Operations.{target_of, becomes, operation}
 use Rattle.nr_machine.specs.Writer.{looked, went}
@@ -34,6 +35,7 @@ holds_after state (Arrive reader key) found = with_hold state reader (arrive_hol
 holds_after state (Read reader index) found = with_hold state reader (read_hold index found (hold_of state reader))
 holds_after state (Depart reader) found = with_hold state reader Nothing
 holds_after state (Ask reader key) found = state.holds
+holds_after state (FindAgain reader key) found = state.holds
 holds_after state (Start call) found = state.holds
 holds_after state Go found = state.holds
 
@@ -42,6 +44,7 @@ desk_after state (Arrive reader key) found = state.desk
 desk_after state (Read reader index) found = state.desk
 desk_after state (Depart reader) found = state.desk
 desk_after state (Ask reader key) found = state.desk
+desk_after state (FindAgain reader key) found = state.desk
 desk_after state (Start call) found = (looked state.shape state.desk call found).0
 desk_after state Go found = (went state.shape state.desk state.desk.place found).0
 
@@ -93,6 +96,14 @@ depart_answer state reader = or_refusal (refusal state (Depart reader)) tt
 
 abbrev pub ask_answer : State → ℕ → ℕ → Result AskReply Refusal
 ask_answer state reader key = or_refusal (refusal state (Ask reader key)) (asked_at (found_by state (Ask reader key)))
+
+-- whether the word names the slot of the hold
+abbrev pub names_held : Hold → ℕ → Bool
+names_held Nothing found = false
+names_held (On slot size) found = names_slot slot found
+
+abbrev pub find_again_answer : State → ℕ → ℕ → Result Bool Refusal
+find_again_answer state reader key = or_refusal (refusal state (FindAgain reader key)) (names_held (hold_of state reader) (found_by state (FindAgain reader key)))
 
 abbrev pub start_answer : State → WriterCall → Result Step Refusal
 start_answer state call = or_refusal (refusal state (Start call)) (looked state.shape state.desk call (found_by state (Start call))).1

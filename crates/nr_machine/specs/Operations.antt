@@ -10,7 +10,7 @@ use Rattle.nr_words.specs.declared.key_words.TheConstants.{ARRIVE}
 use Rattle.nr_words.specs.KeyWords.{hole_word}
 use Rattle.nr_words.specs.SetWords.{encode}
 use Rattle.nr_machine.specs.Slots.{content, departures}
-use Rattle.nr_machine.specs.States.{Arrive, Ask, Depart, Event, Go, Read, Start, State, hold_of, key_of, number_at, retired_at, slot_in}
+use Rattle.nr_machine.specs.States.{Arrive, Ask, Depart, Event, FindAgain, Go, Read, Start, State, hold_of, key_of, number_at, retired_at, slot_in}
 use Rattle.nr_words.specs.KeyWords.{naming}
 
 -- the word that the operation is on
@@ -56,5 +56,6 @@ operation state (Arrive reader key) = Add key ARRIVE
 operation state (Read reader index) = Load (content state.shape (slot_in (hold_of state reader)) index)
 operation state (Depart reader) = Add (departures state.shape (slot_in (hold_of state reader))) 1
 operation state (Ask reader key) = Or key 1
+operation state (FindAgain reader key) = Load key
 operation state (Start call) = Load (key_of call)
 operation state Go = going state.shape state.desk state.desk.place

@@ -7,7 +7,7 @@ use Rattle.nr_machine.specs.declared.places.Hold.{Hold}
 use Rattle.nr_machine.specs.declared.places.Hold.TheVariants.{Nothing, On}
 use Rattle.nr_machine.specs.declared.places.Place.{Place}
 use Rattle.nr_machine.specs.declared.places.Place.TheVariants.{Idle, Reading, Leaving, Withdrawing, Searching, Putting}
-use Rattle.nr_machine.specs.States.{State, Event, Arrive, Read, Depart, Ask, Start, Go, hold_of, key_of}
+use Rattle.nr_machine.specs.States.{State, Event, Arrive, Read, Depart, Ask, FindAgain, Start, Go, hold_of, key_of}
 
 -- the readers are 1, 2, .., the keys 0, 1, ..
 abbrev pub has_reader : Shape → ℕ → Bool
@@ -58,5 +58,6 @@ refusal state (Arrive reader key) = (if has_reader state.shape reader && has_key
 refusal state (Read reader index) = (if has_reader state.shape reader then if_unreadable index (hold_of state reader) else Some OutOfRange)
 refusal state (Depart reader) = (if has_reader state.shape reader then if_not_holding (hold_of state reader) else Some OutOfRange)
 refusal state (Ask reader key) = (if has_reader state.shape reader && has_key state.shape key then if_holding (hold_of state reader) else Some OutOfRange)
+refusal state (FindAgain reader key) = (if has_reader state.shape reader && has_key state.shape key then if_not_holding (hold_of state reader) else Some OutOfRange)
 refusal state (Start call) = (if has_key state.shape (key_of call) then if_busy state.desk.place else Some OutOfRange)
 refusal state Go = if_not_busy state.desk.place

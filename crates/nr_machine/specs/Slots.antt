@@ -1,5 +1,5 @@
 -- Slots: where their words stand, which slot a key's word names, and which set a slot spells.
-use Rattle.std.specs.Prelude.{◌≡◌, ℕ, suc, ◌+◌, ◌<◌, nat_le, List, cond, length, take, drop, slice_index}
+use Rattle.std.specs.Prelude.{◌≡◌, ℕ, suc, ◌+◌, ◌<◌, ◌==◌, nat_le, Bool, List, cond, length, take, drop, slice_index}
 use Rattle.nr_model.specs.declared.rows.Row.{Row}
 use Rattle.nr_model.specs.Rows.{IsRowSet}
 use Rattle.nr_machine.specs.declared.shape.Shape.{Shape}
@@ -34,6 +34,10 @@ words_at_opening shape = opening_words (layout shape) shape.first_count shape.fi
 -- 0 for a word that is not filled, else 1 more than its slot
 abbrev pub name_number : ℕ → ℕ
 name_number word = cond (is_filled word) (slot_of word + 1) 0
+
+-- the word names the slot
+abbrev pub names_slot : ℕ → ℕ → Bool
+names_slot slot word = name_number word == suc slot
 
 -- how many keys name the slot
 abbrev pub named : Shape → List ℕ → ℕ → ℕ

@@ -32,6 +32,7 @@ pub data Event : Type 0 where
   Read : (reader index : ℕ) → Event
   Depart : (reader : ℕ) → Event
   Ask : (reader key : ℕ) → Event
+  FindAgain : (reader key : ℕ) → Event
   Start : (call : WriterCall) → Event
   Go : Event
 

@@ -20,11 +20,11 @@ use Rattle.nr_machine.specs.declared.places.Place.{Place}
 use Rattle.nr_machine.specs.declared.places.Place.TheVariants.{Idle, Reading, Leaving, Withdrawing, Searching, Putting}
 use Rattle.nr_words.specs.KeyWords.{is_filled, has_ask, slot_of, same_count}
 use Rattle.nr_machine.specs.Slots.{bound_of, slot_content}
-use Rattle.nr_machine.specs.States.{Arrive, Ask, Depart, Event, Go, Read, Start, State, number_at, opening_state, retired_at, word}
+use Rattle.nr_machine.specs.States.{Arrive, Ask, Depart, Event, FindAgain, Go, Read, Start, State, hold_of, number_at, opening_state, retired_at, word}
 use Rattle.nr_words.specs.SetWords.{decode}
 use Rattle.nr_machine.specs.Refusals.{refusal}
 use Rattle.nr_machine.specs.Writer.{looked, went}
-use Rattle.nr_machine.specs.Machine.{found_by, unless, next_state}
+use Rattle.nr_machine.specs.Machine.{found_by, names_held, unless, next_state}
 
 -- the map at opening, and the map that a history leaves
 abbrev pub opening_map : Shape → PartialMap
@@ -70,12 +70,13 @@ ending_at (Withdrawing at) step = ending (model.Cancel at) step
 ending_at (Searching call rows poll) step = ending (call_of call) step
 ending_at (Putting call rows slot departed index) step = ending (call_of call) step
 
--- the calls that take effect in an event that is not refused: a find at its arrive, a request at its ask
+-- the calls that take effect in an event that is not refused: a find at its arrive or where it finds again, a request at its ask
 abbrev pub told : State → Event → List Entry
 told state (Arrive reader at) = answering reader (model.Find at) find_reply (shown state at)
 told state (Read reader index) = []
 told state (Depart reader) = []
 told state (Ask reader at) = answering reader (model.Ask at) ask_reply (shown state at)
+told state (FindAgain reader at) = (if names_held (hold_of state reader) (found_by state (FindAgain reader at)) then answering reader (model.Find at) find_reply (shown state at) else [])
 told state (Start call) = ending (call_of call) (looked state.shape state.desk call (found_by state (Start call))).1
 told state Go = ending_at state.desk.place (went state.shape state.desk state.desk.place (found_by state Go)).1
 
@@ -114,6 +115,7 @@ polls_after state polls (Arrive reader at) = polls
 polls_after state polls (Read reader index) = polls
 polls_after state polls (Depart reader) = polls
 polls_after state polls (Ask reader at) = polls
+polls_after state polls (FindAgain reader at) = polls
 polls_after state polls (Start call) = []
 polls_after state polls Go = polls_at state polls state.desk.place
 

@@ -1,12 +1,12 @@
 -- A reader that holds a set.
-use Rattle.std.specs.Prelude.{◌≡◌, ℕ, ◌+◌, List, length, IsSome, None, Result, Ok, Err}
+use Rattle.std.specs.Prelude.{◌≡◌, ℕ, ◌+◌, Bool, true, false, List, [], length, IsSome, None, Result, Ok, Err}
 use Rattle.atomic_table.specs.declared.shared.Seat.{Seat}
 use Rattle.nr_model.specs.declared.rows.Row.{Row}
 use Rattle.nr_model.specs.declared.calls.Call.TheVariants as model
 use Rattle.nr_model.specs.declared.calls.Reply.TheVariants as reply
 use Rattle.nr_marks.specs.Marks.{acted}
 use Rattle.nr_marks.specs.Puts.{put_number}
-use Rattle.nr_board.specs.Callers.{Caller, Gains, KnowsOwn, token}
+use Rattle.nr_board.specs.Callers.{Caller, Gains, Grows, KnowsOwn, token}
 use Rattle.nr_board.specs.Seats.{HoldsAt}
 use Rattle.nr_board.specs.Views.{View, caller_number, rows_held}
 
@@ -29,3 +29,8 @@ pub record Pins (seat : Seat (Unit {0}) View) (number begin count : ℕ) : Type 
 abbrev pub PinsKey : ℕ → Caller → Result Pinned Caller → Type 0
 PinsKey key old (Ok pin) = Gains 2 old (model.Find key) (reply.Rows pin.rows) pin.reader × (pin.reader.marks ≡ acted old.marks (put_number pin.reader.seen key)) × IsSome pin.reader.holds
 PinsKey key old (Err reader) = Gains 1 old (model.Find key) reply.Hole reader × (reader.marks.acts ≡ old.marks.acts + 1) × (reader.holds ≡ None)
+
+-- a find by a pin: where the key has the set that the pin holds, it is answered with its rows; else it is no entry, and the pin learns the history so far
+abbrev pub FindsByPin : ℕ → Caller → List Row → Caller → Bool → Type 0
+FindsByPin key old rows new true = Gains 1 old (model.Find key) (reply.Rows rows) new
+FindsByPin key old rows new false = Grows 1 old [] new

@@ -1,7 +1,9 @@
 //! A reader that holds a set, and reads it as often as it likes.
-ghost use Rattle.std.specs.Prelude.{◌≡◌, ◌<◌, ◌≤◌, ◌*◌, length, slice_get, IsSome, None, Some};
+ghost use Rattle.std.specs.Prelude.{◌≡◌, ◌↔◌, ◌<◌, ◌≤◌, ◌*◌, length, slice_get, true, IsSome, None, Some};
 ghost use Rattle.nr_model.specs.Rows.{IsRowSet};
 ghost use Rattle.nr_marks.specs.Marks.{acted};
+ghost use Rattle.nr_marks.specs.MarkSteps.{found_again};
+ghost use Rattle.nr_board.specs.Meetings.{HasPut};
 ghost use Rattle.nr_board.specs.Callers.{Rests};
 
 use crate::reader::Reader;
@@ -58,6 +60,8 @@ impl ReaderMap {
 }
 
 impl Pin {
+    ghost use Rattle.nr_map.specs.Pins.{FindsByPin};
+
     /// The number of the reader that holds the set.
     pub fn number(&self) -> u32
         ensures { result ≡ self.now.reader.number }
@@ -99,6 +103,22 @@ impl Pin {
     {
         map.board
             .copy_rows(&mut self.seat, self.begin, self.count, rows);
+    }
+
+    /// Finds a key again, in 1 step, which loads one word and writes none: whether the key still has
+    /// the set that the pin holds, put by the same fill or update. Then it is a find of the key, which
+    /// is answered with the pin's rows. Else nothing is found, and the pin stays as it is.
+    pub fn again(&mut self, map: &ReaderMap, key: u32) -> bool
+        requires own { self.old.reader.table ≡ map.now }
+        requires key { key < map.now.shape.keys }
+        ensures own { self.new.reader.table ≡ map.now }
+        ensures finds { FindsByPin key self.old.reader self.old.rows self.new.reader result }
+        ensures exact { (result ≡ true) ↔ HasPut key self.old.reader.marks.put self.new.reader }
+        ensures rows { self.new.rows ≡ self.old.rows }
+        ensures holds { self.new.reader.holds ≡ self.old.reader.holds }
+        ensures marks { self.new.reader.marks ≡ found_again result self.old.reader.marks }
+    {
+        map.board.find_again(&mut self.seat, self.begin, key)
     }
 
     /// Ends the hold, in 1 step, and gives the reader back.

@@ -2,9 +2,9 @@
 //! the threads' steps fall.
 ghost use Rattle.std.specs.Prelude.{◌≡◌, ◌<◌, IfOk};
 
-use crate::calls::{Told, UPDATED, find, minus, pairs_are, plus, state, update};
+use crate::calls::{Told, UPDATED, evict, find, minus, pairs_are, plus, state, update};
 use crate::worked::Worked;
-use nr_map::{Asked, Found, KeyKind, NoSlot, Pin, Reader, ReaderMap, UpdateFault, Writer};
+use nr_map::{Asked, Evict, Found, KeyKind, NoSlot, Pin, Reader, ReaderMap, UpdateFault, Writer};
 use nr_model::{Row, RowSet};
 use std::alloc::Global;
 use std::process::Abort;
@@ -124,6 +124,66 @@ fn a_slot_more_than_keys_and_readers_is_enough(rt: HostRuntime) -> Result<(), Fa
 fn polls_find_pinned_sets_held(rt: HostRuntime) -> Result<(), Fail> {
     let none = NoSlot { live: 1, held: 2 };
     with_slots(&rt, rt.alloc(), 3, Err(UpdateFault::NoSlot(none)))
+}
+
+// Whether a pin finds a key again.
+fn finds_again<R: Abort>(rt: &R, map: &ReaderMap, pin: &mut Pin, key: u32, answer: bool)
+    requires own { pin.old.reader.table ≡ map.now }
+    requires key { key < map.now.shape.keys }
+    ensures own { pin.new.reader.table ≡ map.now }
+{
+    assert_eq!(rt; pin.again(map, key), answer);
+}
+
+// A pin of key 0 finds it again, and not key 1, which has the same row. After two updates key 0 has
+// that row again, by another set, and the pin doesn't find it.
+fn pin_is_outdated<R: Abort>(rt: &R, map: &ReaderMap, writer: &mut Writer, reader: Reader) -> Reader
+    requires writer { writer.old.table ≡ map.now }
+    requires reader { reader.table ≡ map.now }
+    requires keys { 1 < map.now.shape.keys }
+    ensures writer { writer.new.table ≡ map.now }
+    ensures reader { result.table ≡ map.now }
+{
+    let mut pin = pinned(rt, map, reader);
+    finds_again(rt, map, &mut pin, 0, true);
+    finds_again(rt, map, &mut pin, 1, false);
+    adds(rt, map, writer, 2, Ok(()));
+    finds_again(rt, map, &mut pin, 0, false);
+    assert_eq!(rt; update(map, writer, 0, &[minus(2, 2)]), UPDATED);
+    finds_again(rt, map, &mut pin, 0, false);
+    holds(rt, map, &mut pin, 0, row(1));
+    pin.release(map)
+}
+
+// A new pin finds it until it is evicted.
+fn pin_is_current<R: Abort>(rt: &R, map: &ReaderMap, writer: &mut Writer, reader: Reader)
+    requires writer { writer.old.table ≡ map.now }
+    requires reader { reader.table ≡ map.now }
+    requires key { 0 < map.now.shape.keys }
+{
+    let mut pin = pinned(rt, map, reader);
+    finds_again(rt, map, &mut pin, 0, true);
+    finds_again(rt, map, &mut pin, 0, true);
+    assert_eq!(rt; evict(map, writer, 0), Evict::Evicted);
+    finds_again(rt, map, &mut pin, 0, false);
+    pin.release(map);
+}
+
+#[test]
+fn pin_finds_its_key_until_it_is_put_anew(rt: HostRuntime) -> Result<(), Fail> {
+    let mut worked = Worked::open(rt.alloc(), 2, 4, 1, 0)?;
+    worked.asks(&rt, 0, Told::Send(0, 0));
+    worked.fills(&rt, 0, 0, &[(1, 1)], Ok(()));
+    worked.asks(&rt, 1, Told::Send(1, 0));
+    worked.fills(&rt, 1, 0, &[(1, 1)], Ok(()));
+    let Worked {
+        map,
+        mut writer,
+        reader,
+    } = worked;
+    let reader = pin_is_outdated(&rt, &map, &mut writer, reader);
+    pin_is_current(&rt, &map, &mut writer, reader);
+    Ok(())
 }
 
 const TURNS: u32 = 1_000;

@@ -46,7 +46,7 @@ below_some f zero l = absurd (omega arith)
 below_some f (suc n) l = dite (ℕ_discrete (f n) 0) (λ z. let t = below_some f n (omega arith) in (t.0, let l' = t.1 in omega arith, t.2)) (λ nz. (n, omega arith, omega arith))
 
 -- a slot that is held is not taken
-not_taken : (shape : Shape) (words : List ℕ) (at : PartialMap) (holders : ℕ → ℕ) (fresh : ℕ) (retired : List Retired) (slot : ℕ) (p : Place) → 0 < holders slot → AtPlace shape words at holders fresh retired p → taken slot p ≡ 0
+pub not_taken : (shape : Shape) (words : List ℕ) (at : PartialMap) (holders : ℕ → ℕ) (fresh : ℕ) (retired : List Retired) (slot : ℕ) (p : Place) → 0 < holders slot → AtPlace shape words at holders fresh retired p → taken slot p ≡ 0
 not_taken shape words at holders fresh retired slot Idle l t = refl
 not_taken shape words at holders fresh retired slot (Reading a b c) l t = refl
 not_taken shape words at holders fresh retired slot (Leaving a) l t = refl
@@ -54,7 +54,7 @@ not_taken shape words at holders fresh retired slot (Withdrawing a) l t = refl
 not_taken shape words at holders fresh retired slot (Searching a b c) l t = refl
 not_taken shape words at holders fresh retired slot (Putting a b mine c d) l t = dite (ℕ_discrete (only slot mine) 0) (λ z. z) (λ nz. absurd (let same = only-is slot mine (omega arith) in let z : holders slot ≡ 0 = ap holders (sym same) ∙ t.nobody in omega arith))
 
-grip_near : (shape : Shape) (words : List ℕ) (at : PartialMap) (holders : ℕ → ℕ) (x : Grip) (slot : ℕ) → Grips shape words at holders x → gripped x ≡ Some slot → slot < shape.slots
+pub grip_near : (shape : Shape) (words : List ℕ) (at : PartialMap) (holders : ℕ → ℕ) (x : Grip) (slot : ℕ) → Grips shape words at holders x → gripped x ≡ Some slot → slot < shape.slots
 grip_near shape words at holders Nothing slot t e = absurd (cc)
 grip_near shape words at holders (On s rows sized) slot t e = subst (λ (y : ℕ). y < shape.slots) (some_is s slot e) t.0
 

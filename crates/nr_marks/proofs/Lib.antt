@@ -13,6 +13,7 @@ pub mod GoMarks
 pub mod HowOften
 pub mod Tidy
 pub mod LearnMarks
+pub mod FindAgainMarks
 pub mod SeatMarks
 pub mod Strays
 pub mod PutLists

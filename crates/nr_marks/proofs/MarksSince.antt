@@ -21,7 +21,7 @@ use Rattle.nr_machine.specs.declared.roles.Role.TheVariants.{Note, Reader, Write
 use Rattle.nr_machine.specs.declared.shape.Shape.{Shape}
 use Rattle.nr_marks.specs.Puts.{put_count, put_number}
 use Rattle.nr_marks.specs.Marks.{Marks, Past, gripped}
-use Rattle.nr_marks.specs.Marked.{Desked, Evolves, KnowsMarks, Marked, Since, Sweeping, lives}
+use Rattle.nr_marks.specs.Marked.{Desked, Evolves, HasWriter, KnowsMarks, Marked, Since, Sweeping, lives}
 use Rattle.nr_marks.proofs.ListPlaces.{at_left, at_maps, set_other}
 
 module _ {A : Type 0} (role : A → Role) (marks : A → Marks) where
@@ -108,21 +108,23 @@ module _ {A : Type 0} (role : A → Role) (marks : A → Marks) where
   evolves_writer me next desk was c x e = absurd (not_both (role me) desk c x was e)
 
   -- a caller's step, after which it knows what it should, and so does each other caller
-  set_marked : (shape : Shape) (words words' : List ℕ) (callers : List A) (log log' : List Entry) (id : ℕ) (next : A) → Marked role marks shape words callers log
+  set_marked : (shape : Shape) (words words' : List ℕ) (callers : List A) (log log' : List Entry) (id : ℕ) (next : A) → Marked role marks shape words callers log → HasWriter role marks (set callers id next)
       → KnowsMarks role marks shape words' (set callers id next) log' (role next) (marks next)
       → ((j : ℕ) (u : A) (desk : Desk) → j ≢ id → get_elem? callers j ≡ some u → role u ≡ Writer desk → Desked role marks shape words callers log desk (marks u) → Desked role marks shape words' (set callers id next) log' desk (marks u))
       → Marked role marks shape words' (set callers id next) log'
-  set_marked shape words words' callers log log' id next m own others = record {
+  set_marked shape words words' callers log log' id next m has own others = record {
     each = λ j u there. ⊎_elim
         (λ (z : (j ≡ id) × (next ≡ u)). subst (λ (y : A). KnowsMarks role marks shape words' (set callers id next) log' (role y) (marks y)) z.1 own)
         (λ (z : (j ≢ id) × (get_elem? callers j ≡ some u)). knows_frame shape words words' callers (set callers id next) log log' (role u) (marks u) (λ desk is. others j u desk z.0 z.1 is) (m.each j u z.1))
         (at_set callers id j next u there);
+    writer = has;
   }
 
   -- a writer's step: what its new desk knows of the others as they are
   pub marked_writer : (shape : Shape) (words words' : List ℕ) (callers : List A) (log log' : List Entry) (id : ℕ) (me next : A) (desk desk' : Desk) → Core shape words (map role callers) log → get_elem? callers id ≡ some me → role me ≡ Writer desk → role next ≡ Writer desk'
       → Marked role marks shape words callers log → Desked role marks shape words' callers log' desk' (marks next) → Marked role marks shape words' (set callers id next) log'
   marked_writer shape words words' callers log log' id me next desk desk' core at was is m own = set_marked shape words words' callers log log' id next m
+      (record { place = id; who = next; desk = desk'; there = here_after callers id me next at; is = is })
       (subst (λ r. KnowsMarks role marks shape words' (set callers id next) log' r (marks next)) (sym is)
       (desk_frame shape words' words' callers (set callers id next) log' log' desk' (marks next) (λ _ _. refl) (λ _. refl) refl (λ old. since_set callers id me next old at (evolves_writer me next desk was))
       (λ place reader slot who grip there reads holds. ⊎_elim (λ (z : (place ≡ id) × (next ≡ who)). absurd (not_both (role next) desk' reader grip is (ap role z.1 ∙ reads)))
@@ -137,6 +139,8 @@ module _ {A : Type 0} (role : A → Role) (marks : A → Marks) where
       → (get_or (marks u).puts slot 0 ≡ (marks next).put) × (0 < retirements slot desk.retired → gripped x ≡ Some slot))
       → Marked role marks shape words callers log → Marked role marks shape words' (set callers id next) log'
   marked_reader shape words words' callers log log' id me next c x y at was is step names puts many holds m = set_marked shape words words' callers log log' id next m
+      (let w = m.writer in let apart : w.place ≢ id = λ e. not_both (role me) w.desk c x (ap role (some-injective me w.who (sym at ∙ ap (get_elem? callers) (sym e) ∙ w.there)) ∙ w.is) was in
+      record { place = w.place; who = w.who; desk = w.desk; there = set_other callers id w.place next w.who apart w.there; is = w.is })
       (subst (λ r. KnowsMarks role marks shape words' (set callers id next) log' r (marks next)) (sym is) (subst (λ r. KnowsMarks role marks shape words callers log r (marks me)) was (m.each id me at)))
       (λ j u desk ne there writes t. desk_frame shape words words' callers (set callers id next) log log' desk (marks u) names puts many (λ old. since_set callers id me next old at step)
       (λ place reader slot who grip here reads on. ⊎_elim

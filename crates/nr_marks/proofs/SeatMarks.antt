@@ -3,9 +3,11 @@ use Rattle.std.proofs.Common.{List, [], ap, arith, get_or, inl, refl, set, subst
 use Rattle.std.proofs.lemmas.List.{length-replicate}
 use Rattle.std.specs.Prelude.{None, Some, replicate}
 use lib.ListN.{get_elem?}
+use mathlib.Core.Logic.{dite}
+use native.Mathlib.Decide.{ℕ_discrete}
 use mathlib.Core.Option.{some, some-injective, some-ne-none}
 use Rattle.nr_model.specs.Histories.{Entry}
-use Rattle.nr_core.proofs.Sums.{at_set, at_snoc, below-same, below-zero, only-zero}
+use Rattle.nr_core.proofs.Sums.{at_set, at_snoc, here_after, below-same, below-zero, only-zero}
 use Rattle.nr_core.specs.Roles.{is_reader}
 use Rattle.nr_machine.specs.Slots.{name_number, named}
 use Rattle.nr_machine.specs.States.{opening_desk}
@@ -17,7 +19,7 @@ use Rattle.nr_machine.specs.declared.roles.Role.TheVariants.{Note, Reader, Write
 use Rattle.nr_machine.specs.declared.shape.Shape.{Shape}
 use Rattle.nr_marks.specs.Marks.{Marks, gripped, opening_marks}
 use Rattle.nr_marks.specs.Marked.{Desked, Evolves, KnowsMarks, Marked, Since}
-use Rattle.nr_marks.proofs.ListPlaces.{no_places}
+use Rattle.nr_marks.proofs.ListPlaces.{at_left, no_places, set_other}
 use Rattle.nr_marks.proofs.MarksSince.{desk_frame, knows_frame, since_set, since_snoc}
 
 zeros : (n i : ℕ) → let none : ℕ = 0 in get_or (replicate n none) i 0 ≡ none
@@ -34,7 +36,7 @@ module _ {A : Type 0} (role : A → Role) (marks : A → Marks) where
 
   -- the writer is alone, and no key names a slot
   pub opens_marked : (shape : Shape) (words : List ℕ) (me : A) → role me ≡ Writer (opening_desk shape) → marks me ≡ opening_marks shape → ((key : ℕ) → key < shape.keys → name_number (get_or words key 0) ≡ 0) → Marked role marks shape words (me ∷ []) []
-  opens_marked shape words me is are none = record { each = each }
+  opens_marked shape words me is are none = record { each = each; writer = record { place = 0; who = me; desk = opening_desk shape; there = refl; is = is } }
     where
       alone : (place : ℕ) (who : A) → get_elem? (me ∷ []) place ≡ some who → me ≡ who
       alone zero who e = some-injective me who e
@@ -63,6 +65,7 @@ module _ {A : Type 0} (role : A → Role) (marks : A → Marks) where
     each = λ j u there. ⊎_elim
         (λ (z : get_elem? callers j ≡ some u). knows_frame role marks shape words words callers (callers ++ next ∷ []) log log (role u) (marks u) (λ desk is t. more desk (marks u) t) (m.each j u z))
         (λ (z : next ≡ u). subst (λ (b : A). KnowsMarks role marks shape words (callers ++ next ∷ []) log (role b) (marks b)) z own) (at_snoc callers next u j there);
+    writer = let w = m.writer in record { place = w.place; who = w.who; desk = w.desk; there = at_left callers (next ∷ []) w.place w.who w.there; is = w.is };
   }
     where
       more : (desk : Desk) (mine : Marks) → Desked role marks shape words callers log desk mine → Desked role marks shape words (callers ++ next ∷ []) log desk mine
@@ -82,6 +85,9 @@ module _ {A : Type 0} (role : A → Role) (marks : A → Marks) where
     alike_marked m = record {
       each = λ j u there. ⊎_elim (λ (z : (j ≡ id) × (next ≡ u)). subst (λ (b : A). KnowsMarks role marks shape words (set callers id next) log (role b) (marks b)) z.1 own)
           (λ (z : (j ≢ id) × (get_elem? callers j ≡ some u)). knows (role u) (marks u) (m.each j u z.1)) (at_set callers id j next u there);
+      writer = let w = m.writer in dite (ℕ_discrete w.place id)
+          (λ e. record { place = id; who = next; desk = w.desk; there = here_after callers id me next at; is = same ∙ ap role (some-injective me w.who (sym at ∙ ap (get_elem? callers) (sym e) ∙ w.there)) ∙ w.is })
+          (λ ne. record { place = w.place; who = w.who; desk = w.desk; there = set_other callers id w.place next w.who ne w.there; is = w.is });
     }
       where
         desk_alike : (desk : Desk) (mine : Marks) → Desked role marks shape words callers log desk mine → Desked role marks shape words (set callers id next) log desk mine

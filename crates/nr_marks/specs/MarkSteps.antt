@@ -1,5 +1,5 @@
 -- What each kind of step tells of the marks.
-use Rattle.std.specs.Prelude.{◌≡◌, ℕ, suc, ◌+◌, ◌≤◌, List, [], ◌∷◌, ◌++◌, length, slice_index, ◌*◌, nat_le, Bool, true, false}
+use Rattle.std.specs.Prelude.{◌≡◌, ◌≢◌, ℕ, suc, ◌+◌, ◌<◌, ◌≤◌, List, [], ◌∷◌, ◌++◌, length, slice_index, ◌*◌, nat_le, Bool, true, false}
 use Rattle.nr_model.specs.Histories.{Entry}
 use Rattle.nr_machine.specs.declared.shape.Shape.{Shape}
 use Rattle.nr_machine.specs.declared.calls.WriterCall.{WriterCall}
@@ -11,6 +11,7 @@ use Rattle.nr_machine.specs.declared.calls.NoSlot.{NoSlot}
 use Rattle.nr_machine.specs.declared.calls.Step.{Step}
 use Rattle.nr_machine.specs.declared.calls.Step.TheVariants.{Ended}
 use Rattle.nr_words.specs.KeyWords.{same_count}
+use Rattle.nr_machine.specs.Slots.{name_number, names_slot}
 use Rattle.nr_machine.specs.States.{retired_at, key_of}
 use Rattle.nr_machine.specs.Writer.{looked, read_on}
 use Rattle.nr_machine.specs.declared.calls.WReply.TheVariants as writer
@@ -32,6 +33,19 @@ KeepsMarks marks word after log now news = (now ≡ marks) × (news ≡ [])
 -- an arrive's hold has the key's put number
 abbrev pub ArrivesMarks : Marks → ℕ → MarkTelling
 ArrivesMarks marks at word after log now news = (now ≡ acted marks (put_number log at)) × (news ≡ [])
+
+-- a find by a reader that holds the set counts as a departure and an arrive at the same slot
+abbrev pub found_again : Bool → Marks → Marks
+found_again true marks = acted (acted marks marks.put) marks.put
+found_again false marks = marks
+
+-- where the word names the slot that is held, the key's put number is still the hold's; where it names another, it is another
+abbrev pub ComparesPuts : Bool → ℕ → ℕ → ℕ → Type 0
+ComparesPuts true word put number = number ≡ put
+ComparesPuts false word put number = 0 < name_number word → number ≢ put
+
+abbrev pub FindsAgainMarks : Marks → ℕ → ℕ → MarkTelling
+FindsAgainMarks marks slot at word after log now news = (now ≡ found_again (names_slot slot word) marks) × (news ≡ []) × ComparesPuts (names_slot slot word) word marks.put (put_number log at)
 
 abbrev pub DepartsMarks : Marks → MarkTelling
 DepartsMarks marks word after log now news = (now ≡ acted marks marks.put) × (news ≡ [])

@@ -100,9 +100,18 @@ module _ {A : Type 0} (role : A → Role) (marks : A → Marks) where
   KnowsMarks shape words callers log (Reader reader grip) mine = (0 < reader) × (reader ≤ shape.readers)
   KnowsMarks shape words callers log Note mine = Unit {0}
 
+  -- one of the callers is the writer
+  pub record HasWriter (callers : List A) : Type 0 where
+    pub place : ℕ
+    pub who : A
+    pub desk : Desk
+    pub there : get_elem? callers place ≡ some who
+    pub is : role who ≡ Writer desk
+
   -- what stands between any two steps
   pub record Marked (shape : Shape) (words : List ℕ) (callers : List A) (log : List Entry) : Type 0 where
     pub each : (place : ℕ) (who : A) → get_elem? callers place ≡ some who → KnowsMarks shape words callers log (role who) (marks who)
+    pub writer : HasWriter callers
 
   -- the marks of the caller at `id` after its step, and what it learnt of readers; then what stands goes on
   pub record Remarked (shape : Shape) (words : List ℕ) (callers : List A) (log : List Entry) (id : ℕ) (before : A) (operation : Operation) (after : Role) (entries : List Entry) (tells : MarkTelling) : Type 0 where

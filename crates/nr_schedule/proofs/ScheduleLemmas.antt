@@ -38,6 +38,7 @@ command_steps state (Some (commands.Arrive reader key)) = refl
 command_steps state (Some (commands.Read reader index)) = refl
 command_steps state (Some (commands.Depart reader)) = refl
 command_steps state (Some (commands.Ask reader key)) = refl
+command_steps state (Some (commands.Again reader key)) = refl
 command_steps state (Some (commands.Find key)) = refl
 command_steps state (Some (commands.Fill key set)) = fill_steps state key (number_now state key) (within state.shape.rows set)
 command_steps state (Some (commands.FillAs key number set)) = fill_steps state key number (within state.shape.rows set)
@@ -144,7 +145,8 @@ module _ (state : machine.State) where
       (either_gives _ _ _ (two_give commands.Read more (λ n m. (tt, tt)))
       (either_gives _ _ _ (one_gives commands.Depart more (λ n. (tt, tt)))
       (either_gives _ _ _ (two_give commands.Ask more (λ n m. (tt, tt)))
-      (either_gives _ _ _ (writer_gives more) (either_gives _ _ _ (alone_gives commands.Go more (tt, tt)) gives_none))))))
+      (either_gives _ _ _ (two_give commands.Again more (λ n m. (tt, tt)))
+      (either_gives _ _ _ (writer_gives more) (either_gives _ _ _ (alone_gives commands.Go more (tt, tt)) gives_none)))))))
 
   line_gives : (line : List ℕ) (plain : Bool) → AllGiven (bound_of state.shape) (if plain then event_if state (schedule_command (words line)) else [])
   line_gives line true = (command_gives (words line)).sets

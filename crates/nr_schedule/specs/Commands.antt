@@ -2,7 +2,7 @@
 use Rattle.std.specs.Prelude.{ℕ, if◌then◌else◌, List, [], ◌∷◌, Option, Some, None, codes, option_and_then, option_map}
 use Rattle.std.specs.Str.{bytes_eq}
 use Rattle.nr_schedule.specs.declared.command.Command.{Command}
-use Rattle.nr_schedule.specs.declared.command.Command.TheVariants.{Open, Arrive, Read, Depart, Ask, Find, Fill, FillAs, Update, Evict, Cancel, Go}
+use Rattle.nr_schedule.specs.declared.command.Command.TheVariants.{Open, Arrive, Read, Depart, Ask, Again, Find, Fill, FillAs, Update, Evict, Cancel, Go}
 use Rattle.nr_text.specs.Grammar.{number, filling, filling_as, updating}
 use Rattle.nr_text.specs.Opening.{opening_of_words}
 
@@ -41,6 +41,7 @@ schedule_command (name ∷ more) =
     else if bytes_eq name (codes "read") then two_numbers Read more
     else if bytes_eq name (codes "depart") then one_number Depart more
     else if bytes_eq name (codes "ask") then two_numbers Ask more
+    else if bytes_eq name (codes "again") then two_numbers Again more
     else if bytes_eq name (codes "writer") then by_writer more
     else if bytes_eq name (codes "go") then alone Go more
     else None

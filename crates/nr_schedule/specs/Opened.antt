@@ -11,12 +11,12 @@ use Rattle.nr_machine.specs.declared.calls.WriterCall.TheVariants as calls
 use Rattle.nr_machine.specs.Refusals.{has_key}
 use Rattle.nr_machine.specs.States as machine
 use Rattle.nr_machine.specs.States.{number_at}
-use Rattle.nr_machine.specs.Machine.{next_state, arrive_answer, read_answer, depart_answer, ask_answer, start_answer, go_answer}
+use Rattle.nr_machine.specs.Machine.{next_state, arrive_answer, read_answer, depart_answer, ask_answer, find_again_answer, start_answer, go_answer}
 use Rattle.nr_text.specs.Opening.{shape_of_opening}
 use Rattle.nr_text.specs.Grammar.{within}
 use Rattle.nr_text.specs.declared.opening.Opening.{Opening}
 use Rattle.nr_schedule.specs.declared.command.Command.{Command}
-use Rattle.nr_schedule.specs.declared.command.Command.TheVariants.{Open, Arrive, Read, Depart, Ask, Find, Fill, FillAs, Update, Evict, Cancel, Go}
+use Rattle.nr_schedule.specs.declared.command.Command.TheVariants.{Open, Arrive, Read, Depart, Ask, Again, Find, Fill, FillAs, Update, Evict, Cancel, Go}
 use Rattle.nr_schedule.specs.declared.answer.StepAnswer.{StepAnswer}
 use Rattle.nr_schedule.specs.declared.answer.StepAnswer.TheVariants as answers
 use Rattle.nr_schedule.specs.declared.answer.StepRefusal.{StepRefusal}
@@ -51,6 +51,7 @@ answer_opened_schedule state (Arrive reader key) = (answered answers.Arrived (ar
 answer_opened_schedule state (Read reader index) = (answered answers.Word (read_answer state reader index), next_state state (machine.Read reader index))
 answer_opened_schedule state (Depart reader) = (answered (λ _. answers.Ok) (depart_answer state reader), next_state state (machine.Depart reader))
 answer_opened_schedule state (Ask reader key) = (answered answers.Asked (ask_answer state reader key), next_state state (machine.Ask reader key))
+answer_opened_schedule state (Again reader key) = (answered answers.Again (find_again_answer state reader key), next_state state (machine.FindAgain reader key))
 answer_opened_schedule state (Find key) = start state (calls.Find key)
 answer_opened_schedule state (Fill key rows) = start_fill state key (number_now state key) (within state.shape.rows rows)
 answer_opened_schedule state (FillAs key number rows) = start_fill state key number (within state.shape.rows rows)

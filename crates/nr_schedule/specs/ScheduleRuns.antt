@@ -2,7 +2,7 @@
 use Rattle.std.specs.Prelude.{ℕ, ◌≡◌, true, if◌then◌else◌, fold, List, [], ◌∷◌, ◌++◌, Option, None, Some}
 use Rattle.nr_model.specs.declared.rows.Row.{Row}
 use Rattle.nr_machine.specs.declared.calls.WriterCall.TheVariants as calls
-use Rattle.nr_machine.specs.States.{State, Event, Arrive, Read, Depart, Ask, Start, Go}
+use Rattle.nr_machine.specs.States.{State, Event, Arrive, Read, Depart, Ask, FindAgain, Start, Go}
 use Rattle.nr_machine.specs.Machine.{next_state, run}
 use Rattle.nr_machine.specs.Slots.{bound_of}
 use Rattle.nr_machine.specs.Sizes.{IsShape}
@@ -29,6 +29,7 @@ event_of state (commands.Arrive reader key) = Arrive reader key ∷ []
 event_of state (commands.Read reader index) = Read reader index ∷ []
 event_of state (commands.Depart reader) = Depart reader ∷ []
 event_of state (commands.Ask reader key) = Ask reader key ∷ []
+event_of state (commands.Again reader key) = FindAgain reader key ∷ []
 event_of state (commands.Find key) = Start (calls.Find key) ∷ []
 event_of state (commands.Fill key rows) = fill_event key (number_now state key) (within state.shape.rows rows)
 event_of state (commands.FillAs key number rows) = fill_event key number (within state.shape.rows rows)

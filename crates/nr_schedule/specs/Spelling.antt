@@ -1,5 +1,5 @@
 -- How the answers to a schedule's lines are spelled.
-use Rattle.std.specs.Prelude.{ℕ, List, ◌∷◌, ◌++◌, codes, Result, Ok, Err}
+use Rattle.std.specs.Prelude.{ℕ, Bool, true, false, List, ◌∷◌, ◌++◌, codes, Result, Ok, Err}
 use Rattle.std.specs.Fmt.{decimal}
 use Rattle.nr_machine.specs.declared.calls.Arrived.{Arrived}
 use Rattle.nr_machine.specs.declared.calls.Arrived.TheVariants as arrived
@@ -25,6 +25,11 @@ spelled_asked (asked.Send number) = codes "send"
 spelled_asked asked.Waiting = codes "waiting"
 spelled_asked asked.Filled = codes "filled"
 
+-- whether the key has the set that the reader holds
+abbrev pub spelled_again : Bool → List ℕ
+spelled_again true = codes "same"
+spelled_again false = codes "other"
+
 -- the writer's call goes on, or has ended: with no slot, the live number and the held number
 abbrev pub spelled_step : Step → List ℕ
 spelled_step Going = codes "-"
@@ -36,6 +41,7 @@ spelled_schedule_answer answer.Ok = codes "ok"
 spelled_schedule_answer (answer.Arrived found) = spelled_arrived found
 spelled_schedule_answer (answer.Word word) = decimal word
 spelled_schedule_answer (answer.Asked reply) = spelled_asked reply
+spelled_schedule_answer (answer.Again same) = spelled_again same
 spelled_schedule_answer (answer.Writer step) = spelled_step step
 
 -- the machine's refusals

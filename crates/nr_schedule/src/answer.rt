@@ -47,6 +47,8 @@ pub(crate) enum StepAnswer<'a> {
     Arrived(Arrived),
     Word(u64),
     Asked(AskReply),
+    /// Whether the key has the set that the reader holds.
+    Again(bool),
     Writer(WriterStep<'a>),
 }
 
@@ -88,6 +90,8 @@ impl fmt::Display for StepAnswer<'_> {
             StepAnswer::Asked(AskReply::Send(_)) => f.write_str("send"),
             StepAnswer::Asked(AskReply::Waiting) => f.write_str("waiting"),
             StepAnswer::Asked(AskReply::Filled) => f.write_str("filled"),
+            StepAnswer::Again(true) => f.write_str("same"),
+            StepAnswer::Again(false) => f.write_str("other"),
             StepAnswer::Writer(told) => match told.step() {
                 Step::Going => f.write_str("-"),
                 Step::Ended(WReply::Reply(reply)) => {

@@ -27,6 +27,10 @@ pub(crate) enum Command<'a> {
         reader: u64,
         key: u64,
     },
+    Again {
+        reader: u64,
+        key: u64,
+    },
     /// This and the next five begin a call of the writer.
     Find {
         key: u64,
@@ -79,6 +83,10 @@ pub(crate) fn parse<'a>(line: &'a [u8], given: &'a mut Given) -> Option<Command<
     if name == b"ask".as_slice() {
         let (reader, key) = two_numbers(words)?;
         return Some(Command::Ask { reader, key });
+    }
+    if name == b"again".as_slice() {
+        let (reader, key) = two_numbers(words)?;
+        return Some(Command::Again { reader, key });
     }
     if name == b"writer".as_slice() {
         return by_writer(words, given);

@@ -2,7 +2,7 @@
 ghost use Rattle.std.specs.Prelude.{◌≡◌, true, false, IfOk, IfErr, MatchOption};
 ghost use Rattle.nr_model.specs.Maps.{FillFits};
 ghost use Rattle.nr_machine.specs.Story.{call_of};
-ghost use Rattle.nr_machine.specs.Machine.{next_state, arrive_answer, read_answer, depart_answer, ask_answer, go_answer};
+ghost use Rattle.nr_machine.specs.Machine.{next_state, arrive_answer, read_answer, depart_answer, ask_answer, find_again_answer, go_answer};
 ghost use Rattle.nr_machine.specs.declared.calls.WriterCall.TheVariants as calls;
 ghost use Rattle.nr_machine.specs.Refusals.{has_reader, has_key};
 ghost use Rattle.nr_text.specs.Grammar.{within};
@@ -88,6 +88,10 @@ impl Opened {
                 let reply = self.ask(*reader, *key)?;
                 Ok(StepAnswer::Asked(reply))
             }
+            Command::Again { reader, key } => {
+                let same = self.find_again(*reader, *key)?;
+                Ok(StepAnswer::Again(same))
+            }
             Command::Find { key } => self.find(*key, tried),
             Command::Fill { key, rows } => self.fill(*key, None, rows, tried),
             Command::FillAs { key, number, rows } => self.fill(*key, Some(*number), rows, tried),
@@ -130,6 +134,15 @@ impl Opened {
         let reader = self.small(reader)?;
         let key = self.small(key)?;
         self.core.ask(reader, key)
+    }
+
+    fn find_again(&mut self, reader: u64, key: u64) -> Result<bool, Refusal>
+        ensures answer { result ≡ find_again_answer self.old reader key }
+        ensures new { self.new ≡ next_state self.old (machine.FindAgain reader key) }
+    {
+        let reader = self.small(reader)?;
+        let key = self.small(key)?;
+        self.core.find_again(reader, key)
     }
 
     /// A fill that answers the request of that number, or else of the key's number as it stands.

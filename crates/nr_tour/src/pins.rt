@@ -11,6 +11,7 @@ use std::io::{self, Print};
 #[derive(Drop)]
 pub struct Kept {
     updated: Result<(), UpdateFault>,
+    again: [bool; 2],
     pinned: RowSet,
     first: Option<Row>,
     found: RowSet,
@@ -35,7 +36,10 @@ fn hold_over_update(
         Err(_) => return None,
     };
     // A pin can't be dropped, so from here to its release there is no way out: no `?`.
+    // Each of these is one load: is the set that the pin holds still the key's?
+    let before = pin.again(map, 0);
     let updated = map.update(writer, 0, change);
+    let after = pin.again(map, 0);
     let mut pinned = RowSet::new();
     pin.copy_to(map, &mut pinned);
     let first = if 0 < pin.len() {
@@ -49,6 +53,7 @@ fn hold_over_update(
     let released = pin.release(map);
     Some(Kept {
         updated,
+        again: [before, after],
         pinned,
         first,
         found,
@@ -70,8 +75,9 @@ pub fn show<R: Print>(rt: &R, told: &Option<Kept>) -> io::Result<()> {
         return println!(rt; "A pin\n  the key was a hole");
     };
     println!(rt;
-        "A pin\n  an update beside it: {:?}\n  it has {:?}\n  its first row: {:?}\n  reader 2 finds {:?}\n  it was held by reader {}, which came back as {}",
+        "A pin\n  an update beside it: {:?}\n  the key has its set before and after: {:?}\n  it has {:?}\n  its first row: {:?}\n  reader 2 finds {:?}\n  it was held by reader {}, which came back as {}",
         told.updated,
+        told.again,
         told.pinned.as_slice(),
         told.first,
         told.found.as_slice(),

@@ -148,6 +148,13 @@ impl Pin<'_> {
         let found = unsafe { ffi::nr_row_at(&mut self.reader.handle, place, &mut row) } == ffi::NR_ROWS;
         found.then_some(row)
     }
+
+    /// Finds a key again, by one load that writes nothing: whether the key still has the set that the pin holds, put
+    /// by the same fill or update. Panics where the map has no such key.
+    pub fn again(&mut self, key: u32) -> bool {
+        let key = self.reader.map.checked(key);
+        unsafe { ffi::nr_again(&mut self.reader.handle, key) == ffi::NR_ROWS }
+    }
 }
 
 impl Drop for Pin<'_> {

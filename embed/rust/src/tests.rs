@@ -16,6 +16,37 @@ fn a_forgotten_pin_is_released_by_the_next_call() -> Result<(), Fault> {
 }
 
 #[test]
+fn a_pin_finds_its_key_until_it_is_put_anew() -> Result<(), Fault> {
+    let ReaderMap { mut writer, mut readers } = ReaderMap::open(&Shape::new(2, 4, 1))?;
+    let one = Row { a: 1, b: 1 };
+    for key in 0..2 {
+        let Asked::Send(ticket) = readers[0].ask(key) else { panic!() };
+        writer.fill(ticket, &[one])?;
+    }
+    let mut pin = readers[0].pin(0).expect("the key is filled");
+    assert_eq!((pin.again(0), pin.again(1)), (true, false));
+    writer.update(0, &[Delta::plus(one)])?;
+    writer.update(0, &[Delta::minus(one)])?;
+    assert_eq!((pin.again(0), pin.row(0)), (false, Some(one)));
+    drop(pin);
+    let mut pin = readers[0].pin(0).expect("the key is filled");
+    assert!(pin.again(0) && pin.again(0));
+    assert!(writer.evict(0));
+    assert!(!pin.again(0));
+    Ok(())
+}
+
+#[test]
+#[should_panic(expected = "the map has 1 keys, and the key is 1")]
+fn a_pin_finds_no_key_that_is_not_there() {
+    let ReaderMap { mut writer, mut readers } = ReaderMap::open(&Shape::new(1, 3, 1)).unwrap();
+    let Asked::Send(ticket) = readers[0].ask(0) else { panic!() };
+    writer.fill(ticket, &[]).unwrap();
+    let mut pin = readers[0].pin(0).expect("the key is filled");
+    let _ = pin.again(1);
+}
+
+#[test]
 fn each_refusal_has_its_name() -> Result<(), Fault> {
     let ReaderMap { mut writer, mut readers } = ReaderMap::open(&Shape { rows: 1, ..Shape::new(1, 3, 1) })?;
     let ticket = |number| Ticket { key: 0, number };

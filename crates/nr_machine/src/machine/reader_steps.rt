@@ -1,7 +1,8 @@
 //! The steps of a reader: each is one operation on one word.
-ghost use Rattle.std.specs.Prelude.{◌≡◌};
-ghost use Rattle.nr_machine.specs.States.{Arrive, Read, Depart, Ask};
-ghost use Rattle.nr_machine.specs.Machine.{next_state, arrive_answer, read_answer, depart_answer, ask_answer, arrive_hold, arrived_at, asked_at};
+ghost use Rattle.std.specs.Prelude.{◌≡◌, None};
+ghost use Rattle.nr_machine.specs.States.{Arrive, Read, Depart, Ask, FindAgain};
+ghost use Rattle.nr_machine.specs.Machine.{next_state, arrive_answer, read_answer, depart_answer, ask_answer, find_again_answer, arrive_hold, arrived_at, asked_at, names_held};
+ghost use Rattle.nr_machine.specs.declared.places.Hold.TheVariants.{On};
 ghost use Rattle.nr_machine.specs.Room.{HasRoom};
 ghost use Rattle.nr_machine.specs.Parts.{machine_state};
 
@@ -49,6 +50,17 @@ impl Machine {
         Ok(word)
     }
 
+    /// Loads the key's word: whether it names the slot that the reader holds.
+    pub fn find_again(&mut self, reader: u32, key: u32) -> Result<bool, Refusal>
+        requires { HasRoom (machine_state self.old) }
+        ensures answer { result ≡ find_again_answer (machine_state self.old) reader key }
+        ensures new { machine_state self.new ≡ next_state (machine_state self.old) (FindAgain reader key) }
+    {
+        let slot = self.may_find_again(reader, key)?;
+        let word = self.words.load(self.layout.key(key));
+        Ok(names_slot(word, slot))
+    }
+
     /// Adds one to the departure word of the slot that the reader holds.
     pub fn depart(&mut self, reader: u32) -> Result<(), Refusal>
         requires { HasRoom (machine_state self.old) }
@@ -72,6 +84,14 @@ fn arrive_hold(word: u64) -> Hold
     } else {
         Hold::Nothing
     }
+}
+
+/// Whether the word names the slot.
+fn names_slot(word: u64, slot: u32) -> bool
+    ensures { result ≡ names_held (On slot None) word }
+{
+    let found = parts(word);
+    found.filled && found.slot == slot
 }
 
 /// What the arrive answers.

@@ -1,7 +1,7 @@
 //! Why a step is refused: a reader or key out of range first, the index of a read last.
-ghost use Rattle.std.specs.Prelude.{◌≡◌, ◌<◌, ◌≤◌, None, Some, OnOk, IfOk, IfErr};
+ghost use Rattle.std.specs.Prelude.{◌≡◌, ◌<◌, ◌≤◌, None, Some, OnOk, IfOk, IfErr, Option, ℕ};
 ghost use Rattle.nr_machine.specs.declared.places.Hold.TheVariants.{On};
-ghost use Rattle.nr_machine.specs.States.{Arrive, Read, Depart, Ask, Start, hold_of, slot_in, key_of};
+ghost use Rattle.nr_machine.specs.States.{Arrive, Read, Depart, Ask, FindAgain, Start, hold_of, slot_in, key_of};
 ghost use Rattle.nr_machine.specs.Refusals.{refusal, has_reader, has_key};
 ghost use Rattle.nr_machine.specs.Room.{HasRoom};
 ghost use Rattle.nr_machine.specs.Slots.{slot_room};
@@ -53,6 +53,23 @@ impl Machine {
         ensures slot_in { IfOk result (λ slot. slot < (machine_state self.now).shape.slots) }
     {
         if !self.has_reader(reader) {
+            return Err(Refusal::OutOfRange);
+        }
+        match self.hold(reader) {
+            Hold::Nothing => Err(Refusal::NotHolding),
+            Hold::On(slot, _) => Ok(slot),
+        }
+    }
+
+    /// For a find again, whose reader has to hold a slot: the slot.
+    pub fn may_find_again(&self, reader: u32, key: u32) -> Result<u32, Refusal>
+        requires { HasRoom (machine_state self.now) }
+        ensures again { OnOk result (refusal (machine_state self.now) (FindAgain reader key) ≡ None) }
+        ensures refused { IfErr result (λ why. refusal (machine_state self.now) (FindAgain reader key) ≡ Some why) }
+        ensures key { OnOk result (key < (machine_state self.now).shape.keys) }
+        ensures hold { IfOk result (λ slot. (size : Option ℕ) × (hold_of (machine_state self.now) reader ≡ On slot size)) }
+    {
+        if !self.has_reader(reader) || !self.has_key(key) {
             return Err(Refusal::OutOfRange);
         }
         match self.hold(reader) {
