@@ -1,9 +1,10 @@
 -- A reader that holds a set, as C calls it.
-use Rattle.std.specs.Prelude.{ℕ, ◌≡◌, ◌≤◌, ◌⊎◌, List, length, slice_get, Some, Ok, Err}
+use Rattle.std.specs.Prelude.{ℕ, ◌≡◌, ◌≤◌, ◌⊎◌, List, length, slice_get, Some, None, Ok, Err}
 use Rattle.nr_model.specs.declared.rows.Row.{Row}
+use Rattle.nr_marks.specs.Marks.{acted}
 use Rattle.nr_board.specs.Callers.{Caller, Rests}
 use Rattle.nr_map.specs.Pins.{Pinned, PinsKey}
-use Rattle.nr_c.specs.declared.codes.TheConstants.{NR_HOLE, NR_NO_ROW, NR_ROWS}
+use Rattle.nr_c.specs.Numbers.{answer_hole, answer_no_row, answer_rows}
 use Rattle.nr_c.specs.declared.hand.Hand.TheVariants.{Holds, Idle}
 use Rattle.nr_c.specs.declared.reader_side.ReaderSide.{ReaderSide}
 use Rattle.nr_c.specs.Live.{TurnsHand}
@@ -11,15 +12,15 @@ use Rattle.nr_c.specs.Live.{TurnsHand}
 -- a pin by its code: the reader holds the set of the key, and how many rows it has is told; or the key was a hole
 abbrev pub PinsCells : ℕ → ℕ → ℕ → ℕ → List ReaderSide → List ReaderSide → Type 0
 PinsCells key told tells code before after =
-    ((code ≡ NR_ROWS) × (old : Caller) × (pin : Pinned) × TurnsHand before after (Idle old) (Holds pin) × PinsKey key old (Ok pin) × (tells ≡ length pin.rows))
-    ⊎ ((code ≡ NR_HOLE) × (old new : Caller) × TurnsHand before after (Idle old) (Idle new) × PinsKey key old (Err new) × (tells ≡ told))
+    ((code ≡ answer_rows) × (old : Caller) × (pin : Pinned) × TurnsHand before after (Idle old) (Holds pin) × PinsKey key old (Ok pin) × (tells ≡ length pin.rows))
+    ⊎ ((code ≡ answer_hole) × (old new : Caller) × TurnsHand before after (Idle old) (Idle new) × PinsKey key old (Err new) × (tells ≡ told))
 
 -- a row of the held set by its code; the reader holds the same set
 abbrev pub ReadsRow : ℕ → Row → Row → ℕ → List ReaderSide → List ReaderSide → Type 0
 ReadsRow place stood stands code before after =
-    ((code ≡ NR_ROWS) × (old new : Pinned) × TurnsHand before after (Holds old) (Holds new) × (slice_get old.rows place ≡ Some stands) × (new.rows ≡ old.rows) × Rests 2 old.reader new.reader)
-    ⊎ ((code ≡ NR_NO_ROW) × (pin : Pinned) × TurnsHand before after (Holds pin) (Holds pin) × (length pin.rows ≤ place) × (stands ≡ stood))
+    ((code ≡ answer_rows) × (old new : Pinned) × TurnsHand before after (Holds old) (Holds new) × (slice_get old.rows place ≡ Some stands) × (new.rows ≡ old.rows) × Rests 2 old.reader new.reader × (new.reader.holds ≡ old.reader.holds) × (new.reader.marks ≡ old.reader.marks))
+    ⊎ ((code ≡ answer_no_row) × (pin : Pinned) × TurnsHand before after (Holds pin) (Holds pin) × (length pin.rows ≤ place) × (stands ≡ stood))
 
--- the hold ends
+-- the hold ends, by one act more
 abbrev pub Releases : List ReaderSide → List ReaderSide → Type 0
-Releases before after = (old : Pinned) × (new : Caller) × TurnsHand before after (Holds old) (Idle new) × Rests 1 old.reader new
+Releases before after = (old : Pinned) × (new : Caller) × TurnsHand before after (Holds old) (Idle new) × Rests 1 old.reader new × (new.holds ≡ None) × (new.marks ≡ acted old.reader.marks old.reader.marks.put)
