@@ -1,5 +1,6 @@
 -- The number that stands for each answer.
 use Rattle.std.specs.Prelude.{ℕ, Result, Ok, Err}
+use Rattle.nr_c.specs.Numbers.{answer_already, answer_asked, answer_cancelled, answer_done, answer_dropped, answer_evicted, answer_filled, answer_hole, answer_no_row, answer_no_slot, answer_not_asked, answer_nothing, answer_rows, answer_send, answer_stale, answer_too_many, answer_waiting, answer_worn}
 use Rattle.nr_map.specs.declared.answers.Asked.{Asked}
 use Rattle.nr_map.specs.declared.answers.Asked.TheVariants as asked
 use Rattle.nr_board.specs.declared.answers.Cancel.{Cancel}
@@ -16,38 +17,38 @@ use Rattle.nr_board.specs.declared.answers.KeyKind.{KeyKind}
 use Rattle.nr_board.specs.declared.answers.KeyKind.TheVariants as kind
 
 abbrev pub found_code : Found → ℕ
-found_code found.Rows = 0
-found_code found.Hole = 1
+found_code found.Rows = answer_rows
+found_code found.Hole = answer_hole
 
 abbrev pub ask_code : Asked → ℕ
-ask_code (asked.Send ticket) = 2
-ask_code asked.Waiting = 3
-ask_code asked.Filled = 4
+ask_code (asked.Send ticket) = answer_send
+ask_code asked.Waiting = answer_waiting
+ask_code asked.Filled = answer_filled
 
 abbrev pub fill_code : Result (Unit {0}) FillFault → ℕ
-fill_code (Ok done) = 5
-fill_code (Err fill.NotAsked) = 6
-fill_code (Err fill.Already) = 7
-fill_code (Err fill.Stale) = 8
-fill_code (Err (fill.NoSlot counts)) = 12
+fill_code (Ok done) = answer_done
+fill_code (Err fill.NotAsked) = answer_not_asked
+fill_code (Err fill.Already) = answer_already
+fill_code (Err fill.Stale) = answer_stale
+fill_code (Err (fill.NoSlot counts)) = answer_no_slot
 
 abbrev pub update_code : Result (Unit {0}) UpdateFault → ℕ
-update_code (Ok done) = 5
-update_code (Err update.Dropped) = 9
-update_code (Err update.NoRow) = 10
-update_code (Err update.TooMany) = 11
-update_code (Err (update.NoSlot counts)) = 12
+update_code (Ok done) = answer_done
+update_code (Err update.Dropped) = answer_dropped
+update_code (Err update.NoRow) = answer_no_row
+update_code (Err update.TooMany) = answer_too_many
+update_code (Err (update.NoSlot counts)) = answer_no_slot
 
 abbrev pub evict_code : Evict → ℕ
-evict_code evict.Evicted = 13
-evict_code evict.Nothing = 15
+evict_code evict.Evicted = answer_evicted
+evict_code evict.Nothing = answer_nothing
 
 abbrev pub cancel_code : Cancel → ℕ
-cancel_code cancel.Cancelled = 14
-cancel_code cancel.Nothing = 15
-cancel_code cancel.Worn = 16
+cancel_code cancel.Cancelled = answer_cancelled
+cancel_code cancel.Nothing = answer_nothing
+cancel_code cancel.Worn = answer_worn
 
 abbrev pub kind_code : KeyKind → ℕ
-kind_code kind.Hole = 1
-kind_code kind.Asked = 17
-kind_code kind.Rows = 0
+kind_code kind.Hole = answer_hole
+kind_code kind.Asked = answer_asked
+kind_code kind.Rows = answer_rows

@@ -1,3 +1,4 @@
+pub mod Numbers
 pub mod Codes
 pub mod RowCells
 pub mod Hands

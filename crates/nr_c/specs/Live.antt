@@ -1,9 +1,9 @@
 -- What a call from C keeps of a handle, and what its token gains.
-use Rattle.std.specs.Prelude.{ℕ, ◌≡◌, ◌<◌, List, [], ◌∷◌}
+use Rattle.std.specs.Prelude.{ℕ, ◌+◌, ◌≡◌, ◌<◌, List, [], ◌∷◌, None}
 use Rattle.nr_map.specs.declared.answers.Asked.{Asked}
 use Rattle.nr_map.specs.declared.answers.Asked.TheVariants as asked
 use Rattle.nr_board.specs.declared.answers.Found.{Found}
-use Rattle.nr_map.specs.Answers.{AsksKey, FindsIn}
+use Rattle.nr_map.specs.Answers.{AsksKey, FindsIn, acts_of}
 use Rattle.nr_map.specs.Pins.{Pinned}
 use Rattle.nr_board.specs.Callers.{Caller}
 use Rattle.nr_c.specs.declared.hand.Hand.{Hand}
@@ -50,9 +50,9 @@ pub record WriterCalls (became : Caller → Caller → Type 0) (before after : L
   pub spare : new.spare ≡ old.spare
   pub made : became old.writer new.writer
 
--- a find by its code: the caller's cells show the rows of the reply, and stay as they are on a hole
+-- a find by its code: the caller's cells show the rows of the reply, and stay as they are on a hole; the reader holds nothing
 abbrev pub FindsByCode : ℕ → NrRows → NrRows → ℕ → Caller → Caller → Type 0
-FindsByCode key before after code old new = (found : Found) × (code ≡ found_code found) × FindsIn ShowsSet key old before new after found
+FindsByCode key before after code old new = (found : Found) × (code ≡ found_code found) × FindsIn ShowsSet key old before new after found × (new.holds ≡ None) × (new.marks.acts ≡ old.marks.acts + acts_of found)
 
 -- the number that a request tells: that of a ticket, and else what stood there
 abbrev pub number_told : ℕ → Asked → ℕ
@@ -60,6 +60,6 @@ number_told before (asked.Send ticket) = ticket.number
 number_told before asked.Waiting = before
 number_told before asked.Filled = before
 
--- a request by its code; the number of a ticket is told
+-- a request by its code; the number of a ticket is told, and the reader holds nothing
 abbrev pub AsksByCode : ℕ → ℕ → ℕ → ℕ → Caller → Caller → Type 0
-AsksByCode key before after code old new = (answer : Asked) × (code ≡ ask_code answer) × AsksKey key old new answer × (after ≡ number_told before answer)
+AsksByCode key before after code old new = (answer : Asked) × (code ≡ ask_code answer) × AsksKey key old new answer × (after ≡ number_told before answer) × (new.holds ≡ None) × (new.marks ≡ old.marks)

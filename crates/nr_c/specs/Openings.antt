@@ -3,7 +3,7 @@ use Rattle.std.specs.Prelude.{ℕ, ◌≡◌, ◌⊎◌, List, [], ◌∷◌, �
 use Rattle.nr_machine.specs.declared.shape.Shape.{Shape}
 use Rattle.nr_board.specs.Callers.{Caller}
 use Rattle.nr_map.specs.Opened.{IsOpened}
-use Rattle.nr_c.specs.declared.codes.TheConstants.{NR_BAD_SIZE, NR_DONE, NR_NO_MEMORY, NR_NO_READER}
+use Rattle.nr_c.specs.Numbers.{answer_bad_size, answer_done, answer_no_memory, answer_no_reader}
 use Rattle.nr_c.specs.declared.hand.Hand.TheVariants.{Idle}
 use Rattle.nr_c.specs.declared.reader_side.ReaderSide.{ReaderSide}
 use Rattle.nr_c.specs.declared.writer_side.WriterSide.{WriterSide}
@@ -14,7 +14,7 @@ IsNewWriter shape side = IsOpened shape side.map.value side.writer side.spare.it
 
 -- an opening by its code: the handle leads to the side of a new map, or nowhere
 abbrev pub Opens : Shape → ℕ → List WriterSide → Type 0
-Opens shape code after = ((code ≡ NR_DONE) × (side : WriterSide) × (after ≡ side ∷ []) × IsNewWriter shape side) ⊎ (((code ≡ NR_BAD_SIZE) ⊎ (code ≡ NR_NO_MEMORY)) × (after ≡ []))
+Opens shape code after = ((code ≡ answer_done) × (side : WriterSide) × (after ≡ side ∷ []) × IsNewWriter shape side) ⊎ (((code ≡ answer_bad_size) ⊎ (code ≡ answer_no_memory)) × (after ≡ []))
 
 -- the writer's handle leads to one side, of the same map and with the same writer, and these readers have no handle
 pub record Keeps (before after : List WriterSide) (had has : List Caller) : Type 0 where
@@ -36,9 +36,9 @@ pub record LeadsToReader (before : List WriterSide) (reader : Caller) (handle : 
   pub map : side.map.value ≡ held.map.value
   pub idle : side.hand ≡ Idle reader
 
--- the last reader without a handle gets one; or none has none, or there is no memory
+-- no reader is without a handle; or the last one without gets one, or for want of memory stays without
 abbrev pub TakesReader : ℕ → List WriterSide → List WriterSide → List ReaderSide → Type 0
 TakesReader code before after handle =
-    ((code ≡ NR_DONE) × (rest : List Caller) × (reader : Caller) × Keeps before after (rest ++ reader ∷ []) rest × LeadsToReader before reader handle)
-    ⊎ ((code ≡ NR_NO_READER) × Keeps before after [] [] × (handle ≡ []))
-    ⊎ ((code ≡ NR_NO_MEMORY) × (spare : List Caller) × Keeps before after spare spare × (handle ≡ []))
+    ((code ≡ answer_no_reader) × Keeps before after [] [] × (handle ≡ []))
+    ⊎ ((code ≡ answer_done) × (rest : List Caller) × (reader : Caller) × Keeps before after (rest ++ reader ∷ []) rest × LeadsToReader before reader handle)
+    ⊎ ((code ≡ answer_no_memory) × (rest : List Caller) × (reader : Caller) × Keeps before after (rest ++ reader ∷ []) (rest ++ reader ∷ []) × (handle ≡ []))

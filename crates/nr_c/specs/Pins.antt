@@ -1,10 +1,11 @@
 -- A reader that holds a set, as C calls it.
-use Rattle.std.specs.Prelude.{ℕ, ◌≡◌, ◌↔◌, ◌<◌, ◌≤◌, ◌⊎◌, Bool, true, if◌then◌else◌, List, [], ◌∷◌, length, slice_get, Some, Ok, Err}
+use Rattle.std.specs.Prelude.{ℕ, ◌≡◌, ◌↔◌, ◌<◌, ◌≤◌, ◌⊎◌, Bool, true, if◌then◌else◌, List, [], ◌∷◌, length, slice_get, Some, None, Ok, Err}
 use Rattle.nr_model.specs.declared.rows.Row.{Row}
+use Rattle.nr_marks.specs.Marks.{acted}
 use Rattle.nr_board.specs.Callers.{Caller, Rests}
 use Rattle.nr_board.specs.Meetings.{HasPut}
 use Rattle.nr_map.specs.Pins.{FindsByPin, Pinned, PinsKey}
-use Rattle.nr_c.specs.declared.codes.TheConstants.{NR_HOLE, NR_NO_ROW, NR_OTHER, NR_ROWS}
+use Rattle.nr_c.specs.Numbers.{answer_hole, answer_no_row, answer_other, answer_rows}
 use Rattle.nr_c.specs.declared.hand.Hand.TheVariants.{Holds, Idle}
 use Rattle.nr_c.specs.declared.reader_side.ReaderSide.{ReaderSide}
 use Rattle.nr_c.specs.Live.{TurnsHand}
@@ -12,14 +13,14 @@ use Rattle.nr_c.specs.Live.{TurnsHand}
 -- a pin by its code: the reader holds the set of the key, and how many rows it has is told; or the key was a hole
 abbrev pub PinsCells : ℕ → ℕ → ℕ → ℕ → List ReaderSide → List ReaderSide → Type 0
 PinsCells key told tells code before after =
-    ((code ≡ NR_ROWS) × (old : Caller) × (pin : Pinned) × TurnsHand before after (Idle old) (Holds pin) × PinsKey key old (Ok pin) × (tells ≡ length pin.rows))
-    ⊎ ((code ≡ NR_HOLE) × (old new : Caller) × TurnsHand before after (Idle old) (Idle new) × PinsKey key old (Err new) × (tells ≡ told))
+    ((code ≡ answer_rows) × (old : Caller) × (pin : Pinned) × TurnsHand before after (Idle old) (Holds pin) × PinsKey key old (Ok pin) × (tells ≡ length pin.rows))
+    ⊎ ((code ≡ answer_hole) × (old new : Caller) × TurnsHand before after (Idle old) (Idle new) × PinsKey key old (Err new) × (tells ≡ told))
 
 -- a row of the held set by its code; the reader holds the same set
 abbrev pub ReadsRow : ℕ → Row → Row → ℕ → List ReaderSide → List ReaderSide → Type 0
 ReadsRow place stood stands code before after =
-    ((code ≡ NR_ROWS) × (old new : Pinned) × TurnsHand before after (Holds old) (Holds new) × (slice_get old.rows place ≡ Some stands) × (new.rows ≡ old.rows) × Rests 2 old.reader new.reader)
-    ⊎ ((code ≡ NR_NO_ROW) × (pin : Pinned) × TurnsHand before after (Holds pin) (Holds pin) × (length pin.rows ≤ place) × (stands ≡ stood))
+    ((code ≡ answer_rows) × (old new : Pinned) × TurnsHand before after (Holds old) (Holds new) × (slice_get old.rows place ≡ Some stands) × (new.rows ≡ old.rows) × Rests 2 old.reader new.reader × (new.reader.holds ≡ old.reader.holds) × (new.reader.marks ≡ old.reader.marks))
+    ⊎ ((code ≡ answer_no_row) × (pin : Pinned) × TurnsHand before after (Holds pin) (Holds pin) × (length pin.rows ≤ place) × (stands ≡ stood))
 
 -- the handle is live, its reader holds a set, and its map has that key
 abbrev pub HasPinOf : ℕ → List ReaderSide → Type 0
@@ -27,9 +28,9 @@ HasPinOf key live = (held : ReaderSide) × (pin : Pinned) × (live ≡ held ∷ 
 
 -- a find again by its code; the reader holds the same set
 abbrev pub FindsByHold : ℕ → ℕ → List ReaderSide → List ReaderSide → Type 0
-FindsByHold key code before after = (found : Bool) × (code ≡ (if found then NR_ROWS else NR_OTHER)) × (old new : Pinned) × TurnsHand before after (Holds old) (Holds new)
+FindsByHold key code before after = (found : Bool) × (code ≡ (if found then answer_rows else answer_other)) × (old new : Pinned) × TurnsHand before after (Holds old) (Holds new)
     × FindsByPin key old.reader old.rows new.reader found × ((found ≡ true) ↔ HasPut key old.reader.marks.put new.reader) × (new.rows ≡ old.rows)
 
--- the hold ends
+-- the hold ends, by one act more
 abbrev pub Releases : List ReaderSide → List ReaderSide → Type 0
-Releases before after = (old : Pinned) × (new : Caller) × TurnsHand before after (Holds old) (Idle new) × Rests 1 old.reader new
+Releases before after = (old : Pinned) × (new : Caller) × TurnsHand before after (Holds old) (Idle new) × Rests 1 old.reader new × (new.holds ≡ None) × (new.marks ≡ acted old.reader.marks old.reader.marks.put)

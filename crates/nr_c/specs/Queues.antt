@@ -1,7 +1,7 @@
 -- What opens a queue of requests and its handles.
 use Rattle.std.specs.Prelude.{ℕ, ◌≡◌, ◌⊎◌, List, [], ◌∷◌, ◌++◌}
 use Rattle.nr_trigger.specs.Tokens.{IsOpenedQueue, PosterSeen}
-use Rattle.nr_c.specs.declared.codes.TheConstants.{NR_BAD_SIZE, NR_DONE, NR_NO_MEMORY, NR_NO_POSTER}
+use Rattle.nr_c.specs.Numbers.{answer_bad_size, answer_done, answer_no_memory, answer_no_poster}
 use Rattle.nr_c.specs.declared.poster_side.PosterSide.{PosterSide}
 use Rattle.nr_c.specs.declared.taker_side.TakerSide.{TakerSide}
 
@@ -12,7 +12,7 @@ IsNewQueue capacity posters keys side = IsOpenedQueue capacity posters keys side
 -- an opening by its code: the handle leads to the side of a new queue, or nowhere
 abbrev pub OpensQueue : ℕ → ℕ → ℕ → ℕ → List TakerSide → Type 0
 OpensQueue capacity posters keys code after =
-    ((code ≡ NR_DONE) × (side : TakerSide) × (after ≡ side ∷ []) × IsNewQueue capacity posters keys side) ⊎ (((code ≡ NR_BAD_SIZE) ⊎ (code ≡ NR_NO_MEMORY)) × (after ≡ []))
+    ((code ≡ answer_done) × (side : TakerSide) × (after ≡ side ∷ []) × IsNewQueue capacity posters keys side) ⊎ (((code ≡ answer_bad_size) ⊎ (code ≡ answer_no_memory)) × (after ≡ []))
 
 -- the taker's handle leads to one side, of the same queue and with the same taker, and these posters have no handle
 pub record KeepsTaker (before after : List TakerSide) (had has : List PosterSeen) : Type 0 where
@@ -34,9 +34,9 @@ pub record LeadsToPoster (before : List TakerSide) (poster : PosterSeen) (handle
   pub queue : side.queue.value ≡ held.queue.value
   pub poster_is : side.poster ≡ poster
 
--- the last poster without a handle gets one; or none has none, or there is no memory
+-- no poster is without a handle; or the last one without gets one, or for want of memory stays without
 abbrev pub TakesPoster : ℕ → List TakerSide → List TakerSide → List PosterSide → Type 0
 TakesPoster code before after handle =
-    ((code ≡ NR_DONE) × (rest : List PosterSeen) × (poster : PosterSeen) × KeepsTaker before after (rest ++ poster ∷ []) rest × LeadsToPoster before poster handle)
-    ⊎ ((code ≡ NR_NO_POSTER) × KeepsTaker before after [] [] × (handle ≡ []))
-    ⊎ ((code ≡ NR_NO_MEMORY) × (spare : List PosterSeen) × KeepsTaker before after spare spare × (handle ≡ []))
+    ((code ≡ answer_no_poster) × KeepsTaker before after [] [] × (handle ≡ []))
+    ⊎ ((code ≡ answer_done) × (rest : List PosterSeen) × (poster : PosterSeen) × KeepsTaker before after (rest ++ poster ∷ []) rest × LeadsToPoster before poster handle)
+    ⊎ ((code ≡ answer_no_memory) × (rest : List PosterSeen) × (poster : PosterSeen) × KeepsTaker before after (rest ++ poster ∷ []) (rest ++ poster ∷ []) × (handle ≡ []))

@@ -1,10 +1,11 @@
 -- What each call of the writer says of its token, by its code.
-use Rattle.std.specs.Prelude.{ℕ, ◌≡◌, ◌<◌, ◌⊎◌, List, length, false, Result}
+use Rattle.std.specs.Prelude.{ℕ, ◌≡◌, ◌<◌, ◌≤◌, ◌⊎◌, List, length, false, Result}
 use Rattle.nr_model.specs.declared.batches.Delta.{Delta}
 use Rattle.nr_model.specs.declared.batches.TheConstants.{MAX_DELTAS}
 use Rattle.nr_model.specs.declared.rows.Row.{Row}
 use Rattle.nr_model.specs.Maps.{number_of, state_of}
-use Rattle.nr_model.specs.Rows.{is_ascending}
+use Rattle.nr_model.specs.Batches.{IsBatch}
+use Rattle.nr_model.specs.Rows.{IsRowSet, is_ascending}
 use Rattle.nr_board.specs.declared.answers.Cancel.{Cancel}
 use Rattle.nr_board.specs.declared.answers.Evict.{Evict}
 use Rattle.nr_board.specs.declared.answers.FillFault.{FillFault}
@@ -14,7 +15,7 @@ use Rattle.nr_board.specs.declared.answers.UpdateFault.{UpdateFault}
 use Rattle.nr_board.specs.WriterAnswers.{CancelsKey, EvictsKey, FillsKey, LooksIn, UpdatesKey}
 use Rattle.nr_board.specs.Callers.{Caller, map_seen}
 use Rattle.nr_board.specs.Meetings.{StatesKey}
-use Rattle.nr_c.specs.declared.codes.TheConstants.{NR_BAD_BATCH, NR_NOT_SORTED, NR_TOO_MANY}
+use Rattle.nr_c.specs.Numbers.{answer_bad_batch, answer_not_sorted, answer_too_many}
 use Rattle.nr_c.specs.declared.rows.NrRows.{NrRows}
 use Rattle.nr_c.specs.Codes.{cancel_code, evict_code, fill_code, found_code, kind_code, update_code}
 use Rattle.nr_c.specs.RowCells.{ShowsSet}
@@ -23,22 +24,24 @@ use Rattle.nr_c.specs.RowCells.{ShowsSet}
 abbrev pub LooksByCode : ℕ → NrRows → NrRows → ℕ → Caller → Caller → Type 0
 LooksByCode key before after code old new = (found : Found) × (code ≡ found_code found) × LooksIn ShowsSet key old before new after found
 
--- a fill is refused by its rows, and the writer stays; or it is the map's fill with those rows
+-- rows that no fill takes: more than a key may have, and else out of order
 abbrev pub RefusesRows : List Row → ℕ → Caller → Caller → Type 0
-RefusesRows rows code old new = (((code ≡ NR_TOO_MANY) × (old.table.shape.rows < length rows)) ⊎ ((code ≡ NR_NOT_SORTED) × (is_ascending rows ≡ false))) × (new ≡ old)
+RefusesRows rows code old new =
+    let bound = old.table.shape.rows in (((code ≡ answer_too_many) × (bound < length rows)) ⊎ ((code ≡ answer_not_sorted) × (length rows ≤ bound) × (is_ascending rows ≡ false))) × (new ≡ old)
 
+-- any others are the map's fill
 abbrev pub MapFills : ℕ → ℕ → List Row → ℕ → Caller → Caller → Type 0
-MapFills key number rows code old new = (answer : Result (Unit {0}) FillFault) × (code ≡ fill_code answer) × FillsKey key number rows old new answer
+MapFills key number rows code old new = IsRowSet old.table.shape.rows rows × (answer : Result (Unit {0}) FillFault) × (code ≡ fill_code answer) × FillsKey key number rows old new answer
 
 abbrev pub FillsByCode : ℕ → ℕ → List Row → ℕ → Caller → Caller → Type 0
 FillsByCode key number rows code old new = RefusesRows rows code old new ⊎ MapFills key number rows code old new
 
--- an update is refused by the number of its rows, and the writer stays; or it is the map's update with them
+-- signed rows that are none or too many, and any others
 abbrev pub RefusesBatch : List Delta → ℕ → Caller → Caller → Type 0
-RefusesBatch deltas code old new = (code ≡ NR_BAD_BATCH) × ((length deltas ≡ 0) ⊎ (MAX_DELTAS < length deltas)) × (new ≡ old)
+RefusesBatch deltas code old new = (code ≡ answer_bad_batch) × ((length deltas ≡ 0) ⊎ (MAX_DELTAS < length deltas)) × (new ≡ old)
 
 abbrev pub MapUpdates : ℕ → List Delta → ℕ → Caller → Caller → Type 0
-MapUpdates key deltas code old new = (answer : Result (Unit {0}) UpdateFault) × (code ≡ update_code answer) × UpdatesKey old.table.shape.rows key deltas old new answer
+MapUpdates key deltas code old new = IsBatch deltas × (answer : Result (Unit {0}) UpdateFault) × (code ≡ update_code answer) × UpdatesKey old.table.shape.rows key deltas old new answer
 
 abbrev pub UpdatesByCode : ℕ → List Delta → ℕ → Caller → Caller → Type 0
 UpdatesByCode key deltas code old new = RefusesBatch deltas code old new ⊎ MapUpdates key deltas code old new

@@ -1,10 +1,10 @@
 //! What opens a map and its handles, and what ends them.
 ghost use Rattle.std.specs.Prelude.{◌≡◌, ◌↔◌, [], ◌∷◌, Err, IfOk, IfErr, Some};
 ghost use Rattle.nr_machine.specs.Sizes.{IsBadShape};
-ghost use Rattle.nr_c.specs.declared.codes.TheConstants.{NR_BAD_SIZE};
 ghost use Rattle.nr_c.specs.declared.hand.Hand.TheVariants as hand;
 ghost use Rattle.nr_c.specs.declared.reader_side.ReaderSide.{ReaderSide as ReaderHeld};
 ghost use Rattle.nr_c.specs.declared.writer_side.WriterSide.{WriterSide as WriterHeld};
+ghost use Rattle.nr_c.specs.Numbers.{answer_bad_size};
 ghost use Rattle.nr_c.specs.Openings.{IsNewWriter, Opens, TakesReader};
 ghost use Rattle.nr_c.specs.Sizes.{shape_of_sizes, sizes_of};
 
@@ -26,7 +26,7 @@ use std::sync::Arc;
 #[unsafe(no_mangle)]
 pub extern "C" fn nr_open(alloc: Global, shape: &NrShape, writer: &mut NrWriter) -> u32
     requires empty { writer.old.live ≡ [] }
-    ensures bad_size { (result ≡ NR_BAD_SIZE) ↔ IsBadShape (shape_of_sizes shape.now) }
+    ensures bad_size { (result ≡ answer_bad_size) ↔ IsBadShape (shape_of_sizes shape.now) }
     ensures opens { Opens (shape_of_sizes shape.now) result writer.new.live }
 {
     match opened(alloc, shape) {

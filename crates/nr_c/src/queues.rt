@@ -2,9 +2,9 @@
 ghost use Rattle.std.specs.Prelude.{◌≡◌, ◌↔◌, ◌⊎◌, ℕ, [], ◌∷◌, Err, IfOk, IfErr};
 ghost use Rattle.nr_model.specs.Sizes.{IsBadSize};
 ghost use Rattle.nr_trigger.specs.declared.triggers.TheConstants.{MAX_CAPACITY, MAX_POSTERS};
-ghost use Rattle.nr_c.specs.declared.codes.TheConstants.{NR_BAD_SIZE};
 ghost use Rattle.nr_c.specs.declared.poster_side.PosterSide.{PosterSide as PosterHeld};
 ghost use Rattle.nr_c.specs.declared.taker_side.TakerSide.{TakerSide as TakerHeld};
+ghost use Rattle.nr_c.specs.Numbers.{answer_bad_size};
 ghost use Rattle.nr_c.specs.Queues.{IsNewQueue, OpensQueue, TakesPoster};
 
 use crate::codes::{NR_BAD_SIZE, NR_DONE, NR_NO_MEMORY, NR_NO_POSTER};
@@ -29,7 +29,7 @@ pub extern "C" fn nr_open_queue(
     taker: &mut NrTaker,
 ) -> u32
     requires empty { taker.old.live ≡ [] }
-    ensures bad_size { (result ≡ NR_BAD_SIZE) ↔ (IsBadSize MAX_CAPACITY capacity ⊎ IsBadSize MAX_POSTERS posters) }
+    ensures bad_size { (result ≡ answer_bad_size) ↔ (IsBadSize MAX_CAPACITY capacity ⊎ IsBadSize MAX_POSTERS posters) }
     ensures opens { OpensQueue capacity posters keys result taker.new.live }
 {
     match opened_queue(alloc, keys, capacity, posters) {

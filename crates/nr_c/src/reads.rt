@@ -1,8 +1,8 @@
 //! What a reader that holds nothing calls.
-ghost use Rattle.std.specs.Prelude.{◌≡◌, ◌<◌};
+ghost use Rattle.std.specs.Prelude.{◌≡◌, ◌<◌, ◌+◌, None};
 ghost use Rattle.nr_board.specs.Callers.{Caller};
 ghost use Rattle.nr_c.specs.declared.hand.Hand.TheVariants as hands;
-ghost use Rattle.nr_map.specs.Answers.{AsksKey, FindsIn};
+ghost use Rattle.nr_map.specs.Answers.{AsksKey, FindsIn, acts_of};
 ghost use Rattle.nr_c.specs.Hands.{table_of};
 ghost use Rattle.nr_c.specs.Live.{AsksByCode, FindsByCode, MayRead, ReaderCalls};
 ghost use Rattle.nr_c.specs.RowCells.{ShowsSet};
@@ -30,7 +30,7 @@ fn find_idle(map: &ReaderMap, hand: &mut Hand, key: u32, rows: &mut NrRows) -> F
     requires own { table_of hand.old map.now ≡ map.now }
     requires key { key < map.now.shape.keys }
     ensures own { table_of hand.new map.now ≡ map.now }
-    ensures finds { (old new : Caller) × (hand.old ≡ hands.Idle old) × (hand.new ≡ hands.Idle new) × FindsIn ShowsSet key old rows.old new rows.new result }
+    ensures finds { (old new : Caller) × (hand.old ≡ hands.Idle old) × (hand.new ≡ hands.Idle new) × FindsIn ShowsSet key old rows.old new rows.new result × (new.holds ≡ None) × (new.marks.acts ≡ old.marks.acts + acts_of result) }
 {
     match hand {
         Hand::Idle(reader) => map.find_into(reader, key, rows),
@@ -63,7 +63,7 @@ fn ask_idle(map: &ReaderMap, hand: &mut Hand, key: u32) -> Asked
     requires own { table_of hand.old map.now ≡ map.now }
     requires key { key < map.now.shape.keys }
     ensures own { table_of hand.new map.now ≡ map.now }
-    ensures asks { (old new : Caller) × (hand.old ≡ hands.Idle old) × (hand.new ≡ hands.Idle new) × AsksKey key old new result }
+    ensures asks { (old new : Caller) × (hand.old ≡ hands.Idle old) × (hand.new ≡ hands.Idle new) × AsksKey key old new result × (new.holds ≡ None) × (new.marks ≡ old.marks) }
 {
     match hand {
         Hand::Idle(reader) => map.ask(reader, key),

@@ -1,11 +1,11 @@
 use Rattle.std.proofs.Common.{Bool, ap, cond, refl, sym, ℕ, ◌∙◌}
-use Rattle.nr_c.specs.declared.codes.TheConstants.{NR_OTHER, NR_ROWS}
+use Rattle.nr_c.specs.Numbers.{answer_other, answer_rows}
 use Rattle.nr_c.proofs.pins.nr_again.Goals as goal
 
 pub returns-then-found : goal.returns-then-found
 returns-then-found c = (
   c.again-found.result,
-  ap (λ (b : Bool). cond {A = ℕ} b NR_ROWS NR_OTHER) (sym c.if-found.true),
+  ap (λ (b : Bool). cond {A = ℕ} b answer_rows answer_other) (sym c.if-found.true),
   c.take_pin-pin.result,
   c.again-found.new.self,
   record { old = c.side-side.result.now; new = _; led = c.side-side.ensures.value; leads = refl; map = c.put.ensures.map ∙ c.take_pin-pin.ensures.map; old_hand = c.take_pin-pin.ensures.pin; new_hand = c.put.ensures.hand },
@@ -17,7 +17,7 @@ returns-then-found c = (
 pub returns-else-found : goal.returns-else-found
 returns-else-found c = (
   c.again-found.result,
-  ap (λ (b : Bool). cond {A = ℕ} b NR_ROWS NR_OTHER) (sym c.if-found.false),
+  ap (λ (b : Bool). cond {A = ℕ} b answer_rows answer_other) (sym c.if-found.false),
   c.take_pin-pin.result,
   c.again-found.new.self,
   record { old = c.side-side.result.now; new = _; led = c.side-side.ensures.value; leads = refl; map = c.put.ensures.map ∙ c.take_pin-pin.ensures.map; old_hand = c.take_pin-pin.ensures.pin; new_hand = c.put.ensures.hand },

@@ -7,4 +7,6 @@ returns c = (
   c.release-idle.result,
   record { old = c.side-side.result.now; new = _; led = c.side-side.ensures.value; leads = refl; map = c.put.ensures.map ∙ c.take_pin-pin.ensures.map; old_hand = c.take_pin-pin.ensures.pin; new_hand = c.put.ensures.hand },
   c.release-idle.ensures.rests,
+  c.release-idle.ensures.idle,
+  c.release-idle.ensures.marks,
 )

@@ -19,4 +19,6 @@ returns c = inl (
   c.row.ensures.row,
   c.row.ensures.rows,
   c.row.ensures.rests,
+  c.row.ensures.holds,
+  c.row.ensures.marks,
 )

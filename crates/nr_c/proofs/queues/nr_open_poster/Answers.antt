@@ -8,21 +8,21 @@ returns-in_default c =
     let side = c.side-side.result.now in
     let none : side.spare.items ≡ [] = grind (arith, common_steps, c.in_default.ensures.items, c.in_default.ensures.variant) in
     let left : c.pop.new.self.items ≡ [] = sym (append-nil c.pop.new.self.items) ∙ sym c.in_default.ensures.items ∙ none in
-    inr (inl (refl, record { old = side; new = _; was = c.side-side.ensures.value; is = refl; queue = refl; taker = refl; had_spare = none; has_spare = left }, c.requires.empty))
+    inl (refl, record { old = side; new = _; was = c.side-side.ensures.value; is = refl; queue = refl; taker = refl; had_spare = none; has_spare = left }, c.requires.empty)
 
 pub returns-in-Ok : goal.returns-in-Ok
 returns-in-Ok c =
     let side = c.side-side.result.now in let (queue, poster) = c.in-Ok.ensures.ok in
-    inl (
+    inr (inl (
       refl,
       c.pop.new.self.items,
       c.in-Some.next,
       record { old = side; new = _; was = c.side-side.ensures.value; is = refl; queue = refl; taker = refl; had_spare = c.in-Some.ensures.items; has_spare = refl },
       record { held = side; side = c.in-Ok.made.value; was = c.side-side.ensures.value; is = c.new.ensures; queue = queue; poster_is = poster },
-    )
+    ))
 
 pub returns-in-Err : goal.returns-in-Err
 returns-in-Err c =
     let side = c.side-side.result.now in
-    let back : c.push_reserved.new.self.items ≡ side.spare.items = c.push_reserved.ensures.items ∙ ap (λ (p : PosterSeen). c.pop.new.self.items ++ p ∷ []) c.in-Err.ensures.back ∙ sym c.in-Some.ensures.items in
-    inr (inr (refl, side.spare.items, record { old = side; new = _; was = c.side-side.ensures.value; is = refl; queue = refl; taker = refl; had_spare = refl; has_spare = back }, c.requires.empty))
+    let back : c.push_reserved.new.self.items ≡ c.pop.new.self.items ++ c.in-Some.next ∷ [] = c.push_reserved.ensures.items ∙ ap (λ (p : PosterSeen). c.pop.new.self.items ++ p ∷ []) c.in-Err.ensures.back in
+    inr (inr (refl, c.pop.new.self.items, c.in-Some.next, record { old = side; new = _; was = c.side-side.ensures.value; is = refl; queue = refl; taker = refl; had_spare = c.in-Some.ensures.items; has_spare = back }, c.requires.empty))

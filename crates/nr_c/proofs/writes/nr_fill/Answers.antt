@@ -1,20 +1,27 @@
-use Rattle.std.proofs.Common.{◌≡◌, ◌<◌, ◌∙◌, false, length, inl, inr, refl, sym, ap, arith}
+use Rattle.std.proofs.Common.{◌≡◌, ◌<◌, ◌≤◌, ◌∙◌, ℕ, false, length, inl, inr, refl, sym, ap, arith}
 use Rattle.nr_model.specs.Rows.{is_ascending}
 use Rattle.nr_board.specs.Callers.{Table}
 use Rattle.nr_c.proofs.writes.nr_fill.Goals as goal
 
+abbrev rows_of : Table → ℕ
+rows_of table = table.shape.rows
+
 pub returns-then-rows : goal.returns-then-rows
 returns-then-rows c =
     let side = c.side-side.result.now in
-    let more : side.writer.table.shape.rows < length c.args.rows.now = omega (arith, c.if-rows.true, c.rows.ensures.value, ap (λ (t : Table). t.shape.rows) c.deref.ensures, ap (λ (t : Table). t.shape.rows) side.own) in
+    let more : side.writer.table.shape.rows < length c.args.rows.now = omega (arith, c.if-rows.true, c.rows.ensures.value, ap rows_of c.deref.ensures, ap rows_of side.own) in
     record { old = side; new = _; was = c.side-side.ensures.value; is = refl; map = refl; spare = refl; made = inl (inl (refl, more), refl) }
 
 pub returns-then-not-ascends : goal.returns-then-not-ascends
 returns-then-not-ascends c =
+    let side = c.side-side.result.now in
+    let few : length c.args.rows.now ≤ side.writer.table.shape.rows = omega (arith, c.if-rows.false, c.rows.ensures.value, ap rows_of c.deref.ensures, ap rows_of side.own) in
     let falls : is_ascending c.args.rows.now ≡ false = sym c.ascends.ensures ∙ c.if-not-ascends.true in
-    record { old = c.side-side.result.now; new = _; was = c.side-side.ensures.value; is = refl; map = refl; spare = refl; made = inl (inr (refl, falls), refl) }
+    record { old = side; new = _; was = c.side-side.ensures.value; is = refl; map = refl; spare = refl; made = inl (inr (refl, few, falls), refl) }
 
 pub returns : goal.returns
 returns c =
     let side = c.side-side.result.now in
-    record { old = side; new = _; was = c.side-side.ensures.value; is = refl; map = refl; spare = refl; made = inr (c.fill_rows.result, c.of_fill.ensures, c.fill_rows.ensures) }
+    let few : length c.args.rows.now ≤ side.writer.table.shape.rows = omega (arith, c.if-rows.false, c.rows.ensures.value, ap rows_of c.deref.ensures, ap rows_of side.own) in
+    let rises = sym c.ascends.ensures ∙ c.if-not-ascends.false in
+    record { old = side; new = _; was = c.side-side.ensures.value; is = refl; map = refl; spare = refl; made = inr ((rises, few), c.fill_rows.result, c.of_fill.ensures, c.fill_rows.ensures) }

@@ -12,4 +12,4 @@ returns c =
     let side = c.side-side.result.now in
     let bound = ap (λ (t : Table). t.shape.rows) (c.deref.ensures ∙ sym side.own) in
     let updates = subst (λ (n : ℕ). UpdatesKey n c.args.key c.args.deltas.now side.writer c.update_rows.new.writer c.update_rows.result) bound c.update_rows.ensures in
-    record { old = side; new = _; was = c.side-side.ensures.value; is = refl; map = refl; spare = refl; made = inr (c.update_rows.result, c.of_update.ensures, updates) }
+    record { old = side; new = _; was = c.side-side.ensures.value; is = refl; map = refl; spare = refl; made = inr (c.if-not-are_batch.ensures.batch, c.update_rows.result, c.of_update.ensures, updates) }

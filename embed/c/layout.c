@@ -1,0 +1,162 @@
+/* The values of nr.h as they lie in memory: what a C compiler makes of them, and then, by calls that tell each
+   field from the others, that the library reads and writes the same. The numbers of the answers come from the
+   definitions that the library was proved with (embed/test makes answers.h of them). */
+#include "../../include/nr.h"
+#include "answers.h"
+#include <stdio.h>
+#include <stdlib.h>
+#include <string.h>
+
+#define LIES(type, field, at) _Static_assert(offsetof(type, field) == (at), #type "." #field)
+#define TAKES(type, bytes) _Static_assert(sizeof(type) == (bytes), #type)
+
+TAKES(nr_row, 16);
+LIES(nr_row, a, 0);
+LIES(nr_row, b, 8);
+TAKES(nr_rows, 8 + 255 * 16);
+LIES(nr_rows, count, 0);
+LIES(nr_rows, row, 8);
+TAKES(nr_delta, 24);
+LIES(nr_delta, row, 0);
+LIES(nr_delta, plus, 16);
+TAKES(nr_shape, 32);
+LIES(nr_shape, keys, 0);
+LIES(nr_shape, slots, 4);
+LIES(nr_shape, readers, 8);
+LIES(nr_shape, rows, 12);
+LIES(nr_shape, first_count, 16);
+LIES(nr_shape, first_number, 24);
+TAKES(nr_size, 16);
+LIES(nr_size, keys, 0);
+LIES(nr_size, slots, 4);
+LIES(nr_size, readers, 8);
+LIES(nr_size, rows, 12);
+TAKES(nr_writer, 8);
+TAKES(nr_reader, 8);
+TAKES(nr_taker, 8);
+TAKES(nr_poster, 8);
+
+static void wants(const char *what, uint64_t wanted, uint64_t got) {
+  if (wanted == got) return;
+  fprintf(stderr, "layout: %s: wanted %llu, got %llu\n", what, (unsigned long long)wanted, (unsigned long long)got);
+  exit(1);
+}
+
+static uint32_t opens(nr_shape shape) {
+  nr_writer writer = {0};
+  uint32_t answer = nr_open(&shape, &writer);
+  if (answer == NR_DONE) nr_close_writer(writer);
+  return answer;
+}
+
+/* Each field of a shape at its own limit, which no other field may have. */
+static void test_shape(void) {
+  const nr_shape least = {1, 1, 1, 1, 0, 0};
+  wants("the least sizes", NR_DONE, opens(least));
+  nr_shape shape = least;
+  shape.keys = 65536;
+  wants("the most keys", NR_DONE, opens(shape));
+  shape.keys = 65537;
+  wants("a key too many", NR_BAD_SIZE, opens(shape));
+  shape = least;
+  shape.slots = 131072;
+  wants("the most slots", NR_DONE, opens(shape));
+  shape.slots = 131073;
+  wants("a slot too many", NR_BAD_SIZE, opens(shape));
+  shape = least;
+  shape.readers = 1024;
+  wants("the most readers", NR_DONE, opens(shape));
+  shape.readers = 1025;
+  wants("a reader too many", NR_BAD_SIZE, opens(shape));
+  shape = least;
+  shape.rows = 255;
+  wants("the most rows", NR_DONE, opens(shape));
+  shape.rows = 256;
+  wants("a row too many", NR_BAD_SIZE, opens(shape));
+  shape = least;
+  shape.first_count = UINT64_MAX;
+  wants("the last count", NR_DONE, opens(shape));
+  shape.first_number = 4194304;
+  wants("a number too high", NR_BAD_SIZE, opens(shape));
+}
+
+/* Four sizes of which none is another, told back each in its place. */
+static void test_sizes(nr_reader *reader) {
+  nr_size sizes;
+  memset(&sizes, 0xff, sizeof sizes);
+  nr_sizes(reader, &sizes);
+  wants("keys", 3, sizes.keys);
+  wants("slots", 5, sizes.slots);
+  wants("readers", 2, sizes.readers);
+  wants("rows", 4, sizes.rows);
+}
+
+/* Rows and signed rows come and go with their fields where they were. */
+static void test_rows(nr_writer *writer, nr_reader *reader) {
+  uint64_t number = 0;
+  uint32_t count = 0;
+  nr_row rows[5] = {{1, 9}, {2, 7}, {2, 8}, {3, 6}, {4, 5}}, row;
+  nr_delta batch[2] = {{{2, 8}, false}, {{5, 4}, true}};
+  nr_rows found;
+  memset(&found, 0xff, sizeof found);
+  wants("a request", NR_SEND, nr_ask(reader, 2, &number));
+  wants("its number", 7, number);
+  wants("a fill of a row too many", NR_TOO_MANY, nr_fill(writer, 2, 7, rows, 5));
+  wants("a fill", NR_DONE, nr_fill(writer, 2, 7, rows, 4));
+  wants("an update", NR_DONE, nr_update(writer, 2, batch, 2));
+  const nr_row left[4] = {{1, 9}, {2, 7}, {3, 6}, {5, 4}};
+  wants("a find", NR_ROWS, nr_find(reader, 2, &found));
+  wants("how many it found", 4, found.count);
+  wants("the rows that it found", 0, (uint64_t)memcmp(found.row, left, sizeof left));
+  for (size_t byte = sizeof left; byte < sizeof found.row; byte++)
+    wants("a cell that is not in use", 0xff, ((const unsigned char *)found.row)[byte]);
+  wants("a pin", NR_ROWS, nr_pin(reader, 2, &count));
+  wants("how many it holds", 4, count);
+  wants("a held row", NR_ROWS, nr_row_at(reader, 3, &row));
+  wants("its first number", 5, row.a);
+  wants("its second number", 4, row.b);
+  nr_release(reader);
+}
+
+/* The one slot of a map is held by a reader until that is closed. */
+static void test_closing(void) {
+  const nr_shape shape = {1, 1, 2, 1, 0, 0};
+  nr_writer writer = {0};
+  nr_reader holder = {0}, other = {0};
+  nr_row row = {1, 1};
+  uint64_t number = 0;
+  uint32_t count = 0;
+  wants("a map of one slot", NR_DONE, nr_open(&shape, &writer));
+  wants("who holds", NR_DONE, nr_open_reader(&writer, &holder));
+  wants("who asks", NR_DONE, nr_open_reader(&writer, &other));
+  wants("a request", NR_SEND, nr_ask(&other, 0, &number));
+  wants("a fill", NR_DONE, nr_fill(&writer, 0, number, &row, 1));
+  wants("a pin", NR_ROWS, nr_pin(&holder, 0, &count));
+  wants("an eviction", NR_EVICTED, nr_evict(&writer, 0));
+  wants("a second request", NR_SEND, nr_ask(&other, 0, &number));
+  wants("a fill while the slot is held", NR_NO_SLOT, nr_fill(&writer, 0, number, &row, 1));
+  nr_close_reader(holder);
+  wants("a fill once its holder is closed", NR_DONE, nr_fill(&writer, 0, number, &row, 1));
+  nr_close_reader(other);
+  nr_close_writer(writer);
+}
+
+int main(void) {
+  test_shape();
+  test_closing();
+  nr_shape shape = {3, 5, 2, 4, 11, 7};
+  nr_writer writer = {0};
+  nr_reader reader = {0}, second = {0}, third = {0};
+  wants("an opening", NR_DONE, nr_open(&shape, &writer));
+  wants("a reader", NR_DONE, nr_open_reader(&writer, &reader));
+  wants("a second reader", NR_DONE, nr_open_reader(&writer, &second));
+  wants("a third reader", NR_NO_READER, nr_open_reader(&writer, &third));
+  wants("the first number", 7, nr_number(&writer, 2));
+  test_sizes(&reader);
+  test_rows(&writer, &reader);
+  nr_close_reader(reader);
+  nr_close_reader(second);
+  nr_close_writer(writer);
+  puts("each field lies where the library has it");
+  return 0;
+}
