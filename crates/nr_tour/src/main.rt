@@ -12,6 +12,7 @@ mod gates;
 mod lobbies;
 mod lookups;
 mod meetings;
+mod notes;
 mod opening;
 mod pins;
 mod queue;
@@ -42,6 +43,7 @@ fn show_map<R: AllocGlobal + Print + Threads + Sync>(rt: &R) -> anyhow::Result<(
     sizes::show(rt, &sizes::kept_small(alloc, &change, &more)?)?;
     cancels::show(rt, &cancels::taken_back(alloc)?)?;
     meetings::show(rt, &meetings::learnt(alloc)?)?;
+    notes::show(rt, &notes::written_and_read(rt, alloc)?)?;
     Ok(())
 }
 

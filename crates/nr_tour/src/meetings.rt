@@ -1,6 +1,7 @@
 //! What one token can know of another's calls.
 ghost use Rattle.std.specs.Prelude.{◌≡◌, ◌<◌};
 ghost use Rattle.nr_model.specs.Histories.{entries_of};
+ghost use Rattle.nr_board.specs.Meetings.{with_step};
 ghost use Rattle.nr_board.specs.Rule.{StartsWith};
 
 use crate::calls::{ask, fill};

@@ -1,0 +1,112 @@
+//! A write that another thread reads once it was acknowledged: a note goes with the message.
+ghost use Rattle.std.specs.Prelude.{◌≡◌, ◌<◌};
+ghost use Rattle.nr_board.specs.Rule.{StartsWith};
+
+use crate::calls::{ask, fill};
+use crate::opening::opened;
+use nr_map::{FillFault, Found, Note, Reader, ReaderMap, Writer};
+use nr_model::{OpenFault, RowSet};
+use std::alloc::Global;
+use std::io::{self, Print};
+use std::thread::{Threads, join};
+
+#[derive(Drop)]
+pub struct Acknowledged {
+    filled: Result<(), FillFault>,
+    found: Found,
+    held: Option<RowSet>,
+}
+
+// Once the writer has written, its note goes with the acknowledgement: it tells all that the writer
+// had seen by then.
+fn acknowledge(map: &ReaderMap, writer: &mut Writer) -> Note
+    requires own { writer.old.table ≡ map.now }
+    ensures own { (writer.new.table ≡ map.now) × (result.table ≡ map.now) }
+    ensures seen { result.seen ≡ writer.old.seen }
+{
+    map.note_writer(writer)
+}
+
+// Who hears the note has seen the write, in whatever thread that is.
+fn hear(map: &ReaderMap, reader: &mut Reader, note: Note)
+    requires own { (reader.old.table ≡ map.now) × (note.table ≡ map.now) }
+    ensures own { reader.new.table ≡ map.now }
+    ensures seen { StartsWith reader.new.seen note.seen }
+{
+    map.hear(reader, note);
+}
+
+// What the other thread does: it hears the note, and finds the key.
+fn hear_and_find(map: &ReaderMap, mut reader: Reader, note: Note) -> Found
+    requires own { (reader.table ≡ map.now) × (note.table ≡ map.now) }
+    requires key { 0 < map.now.shape.keys }
+{
+    hear(map, &mut reader, note);
+    map.find(&mut reader, 0, &mut RowSet::new())
+}
+
+// The writer goes on in this thread, and the reader hears the note in one of its own.
+fn found_there<R: Threads + Sync>(rt: &R, map: &ReaderMap, reader: Reader, note: Note) -> Found
+    requires own { (reader.table ≡ map.now) × (note.table ≡ map.now) }
+    requires key { 0 < map.now.shape.keys }
+{
+    let (found, ()) = join(
+        rt,
+        move || -> Found
+            requires { (reader.table ≡ map.now) × (note.table ≡ map.now) × (0 < map.now.shape.keys) }
+        { hear_and_find(map, reader, note) },
+        move || {},
+    );
+    found
+}
+
+// Two that hold sets tell the writer, and it tells them: a pin makes a note and hears one as its
+// reader does, and keeps its set. None where the key was a hole.
+fn held_meanwhile(map: &ReaderMap, writer: &mut Writer, mut reader: Reader) -> Option<RowSet>
+    requires own { (reader.table ≡ map.now) × (writer.old.table ≡ map.now) }
+    requires key { 0 < map.now.shape.keys }
+{
+    let before = map.note(&mut reader);
+    map.hear_writer(writer, before);
+    let mut pin = match map.pin(reader, 0) {
+        Ok(pin) => pin,
+        Err(_) => return None,
+    };
+    let held = map.note_pin(&mut pin);
+    map.hear_writer(writer, held);
+    let back = acknowledge(map, writer);
+    map.hear_pin(&mut pin, back);
+    let mut rows = RowSet::new();
+    pin.copy_to(map, &mut rows);
+    pin.release(map);
+    Some(rows)
+}
+
+/// The writer fills key 0, and a note of that goes to a thread which finds the key.
+pub fn written_and_read<R: Threads + Sync>(
+    rt: &R,
+    alloc: Global,
+) -> Result<Acknowledged, OpenFault> {
+    let (map, mut writer, mut one, two) = opened(alloc, 2, 5)?;
+    ask(&map, &mut one, 0);
+    let filled = fill(&map, &mut writer, 0);
+    let note = acknowledge(&map, &mut writer);
+    let found = found_there(rt, &map, two, note);
+    let held = held_meanwhile(&map, &mut writer, one);
+    Ok(Acknowledged {
+        filled,
+        found,
+        held,
+    })
+}
+
+pub fn show<R: Print>(rt: &R, told: &Acknowledged) -> io::Result<()> {
+    println!(rt;
+        "An acknowledged write\n  the fill: {:?}\n  the thread that heard of it finds {:?}",
+        told.filled, told.found
+    )?;
+    if let Some(rows) = &told.held {
+        println!(rt; "  a pin that told and heard has {:?}", rows.as_slice())?;
+    }
+    Ok(())
+}
