@@ -1,5 +1,7 @@
 -- A script from its first line on: closed until it is opened; its reply to each line, and its text.
-use Rattle.std.specs.Prelude.{ℕ, if◌then◌else◌, List, Option, None, Some, Result, Ok, Err}
+use Rattle.std.specs.Prelude.{ℕ, if◌then◌else◌, Bool, false, List, Option, None, Some, Result, Ok, Err}
+use Rattle.nr_lines.specs.declared.fault.RunFault.{RunFault}
+use Rattle.nr_lines.specs.declared.fault.RunFault.TheVariants as faults
 use Rattle.nr_lines.specs.Dialogue.{answer_command, in_words}
 use Rattle.nr_lines.specs.Plain.{or_bad}
 use Rattle.nr_lines.specs.Text.{text}
@@ -13,7 +15,7 @@ use Rattle.nr_script.specs.declared.command.Command.{Command}
 use Rattle.nr_script.specs.declared.command.Command.TheVariants.{Open}
 use Rattle.nr_script.specs.declared.machine.ScriptMachine.{ScriptMachine}
 use Rattle.nr_script.specs.Commands.{script_command}
-use Rattle.nr_script.specs.Opened.{Opened, opened_script, answer_opened_script}
+use Rattle.nr_script.specs.Opened.{Opened, opened_script, answer_opened_script, adds_by}
 use Rattle.nr_script.specs.Spelling.{spelled_by_script}
 
 -- a script, which begins closed
@@ -35,6 +37,13 @@ answer_script_command = answer_command (Err refusals.Bad) answer_closed_script a
 abbrev pub answer_script_line : ScriptState → List ℕ → Result Answer Refusal × ScriptState
 answer_script_line state line = answer_script_command state (script_command (words line))
 
+-- what a line asks for takes memory: the map that it opens, or the name that it adds
+abbrev pub takes_memory : ScriptState → Option Command → Bool
+takes_memory state None = false
+takes_memory None (Some (Open named sizes)) = is_in_limits sizes
+takes_memory None (Some other) = false
+takes_memory (Some script) (Some command) = adds_by script command
+
 -- the reply to a plain line, and the state after it
 abbrev pub script_reply : ScriptState → List ℕ → List ℕ × ScriptState
 script_reply state line = in_words spelled_by_script (answer_script_line state line)
@@ -42,6 +51,12 @@ script_reply state line = in_words spelled_by_script (answer_script_line state l
 -- what a script writes for its lines
 abbrev pub script_text : List (List ℕ) → List ℕ
 script_text lines = text (or_bad script_reply) closed_script lines
+
+-- what a run over bytes in memory comes to, by how it ended and what it wrote: these are read without a fault
+abbrev pub replies_of : {X : Type 0} → Result (Unit {0}) RunFault → X → Result X RunFault
+replies_of (Ok _) text = Ok text
+replies_of (Err faults.TooMuch) text = Err faults.TooMuch
+replies_of (Err other) text = Err faults.Memory
 
 -- what the program keeps of a script
 abbrev pub script_state : ScriptMachine → ScriptState

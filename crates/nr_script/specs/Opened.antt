@@ -12,7 +12,7 @@ use Rattle.nr_alone.specs.MapState.{MapState, MapOutcome, answer_call, answer_of
 use Rattle.nr_names.specs.declared.faults.NameFault.{NameFault}
 use Rattle.nr_names.specs.declared.faults.NameFault.TheVariants as names
 use Rattle.nr_names.specs.declared.table.TheConstants.{LONGEST_NAME}
-use Rattle.nr_names.specs.Naming.{no_names, intern_reply, next_naming}
+use Rattle.nr_names.specs.Naming.{no_names, intern_reply, next_naming, adds}
 use Rattle.nr_script.specs.declared.keys.Keys.{Keys}
 use Rattle.nr_script.specs.declared.keys.Keys.TheVariants as kinds
 use Rattle.nr_script.specs.declared.command.Command.{Command}
@@ -78,6 +78,11 @@ abbrev pub key_of_word : Keys → ℕ → List ℕ → Result ℕ Refusal × Key
 key_of_word kinds.Numbered count word = (numbered_key count (number word), kinds.Numbered)
 key_of_word (kinds.Named naming) count word = (named_key (intern_reply LONGEST_NAME naming word), kinds.Named (next_naming LONGEST_NAME naming word))
 
+-- the word is a new name that gets a number, which takes memory
+abbrev pub adds_key : Keys → List ℕ → Bool
+adds_key kinds.Numbered word = false
+adds_key (kinds.Named naming) word = adds LONGEST_NAME naming word
+
 abbrev pub with_keys : Opened → Result ℕ Refusal × Keys → Result ℕ Refusal × Opened
 with_keys script (found, keys) = (found, record script { keys = keys })
 
@@ -128,6 +133,19 @@ answer_opened_script script (PinKey reader word) =
     with_found (found_by_reader script reader word) (λ key after. by_map after (answer_pinning after.state (reader - 1) key (state_of after.state.map key)))
 answer_opened_script script (Show reader) = with_found (found_reader script reader, script) (λ _ of_reader. by_map of_reader (answer_show of_reader.state (reader - 1)))
 answer_opened_script script (Unpin reader) = with_found (found_reader script reader, script) (λ _ of_reader. by_map of_reader (answer_unpin of_reader.state (reader - 1)))
+
+-- the command has such a word for its key; nothing else that it does takes memory
+abbrev pub adds_by : Opened → Command → Bool
+adds_by script (Find reader word) = adds_key script.keys word
+adds_by script (Ask reader word) = adds_key script.keys word
+adds_by script (Fill word set) = adds_key script.keys word
+adds_by script (FillAs word number set) = adds_key script.keys word
+adds_by script (Update word batch) = adds_key script.keys word
+adds_by script (Evict word) = adds_key script.keys word
+adds_by script (Cancel word) = adds_key script.keys word
+adds_by script (Look word) = adds_key script.keys word
+adds_by script (PinKey reader word) = adds_key script.keys word
+adds_by script other = false
 
 -- what stands for the keys when a script is opened
 abbrev pub keys_opened : Bool → ℕ → Keys

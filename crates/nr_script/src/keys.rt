@@ -1,6 +1,6 @@
 //! What stands for a key on the lines of a script.
-ghost use Rattle.std.specs.Prelude.{◌≡◌, ◌<◌, ◌≤◌, IfOk, IfErr};
-ghost use Rattle.nr_script.specs.Opened.{NamesFit, keys_opened, key_of_word, numbered_key, is_no_key};
+ghost use Rattle.std.specs.Prelude.{◌≡◌, ◌<◌, ◌≤◌, IsTrue, IfOk, IfErr, OnErr};
+ghost use Rattle.nr_script.specs.Opened.{NamesFit, adds_key, keys_opened, key_of_word, numbered_key, is_no_key};
 
 use crate::answer::{Refusal, Tried};
 use crate::command::KeyWord;
@@ -32,13 +32,15 @@ impl Keys {
         }
     }
 
-    /// The key that a word stands for, of `count` keys. A name that is new gets the next number.
+    /// The key that a word stands for, of `count` keys. A name that is new gets the next number, and
+    /// nothing else takes memory.
     pub(crate) fn key(&mut self, count: u32, word: &KeyWord<'_>) -> Tried<u32>
         requires { NamesFit self.old count }
         ensures found { IfOk result (λ found. key_of_word self.old count word.now ≡ (found, self.new)) }
         ensures within { IfOk result (λ found. IfOk found (λ key. key < count)) }
         ensures fits { NamesFit self.new count }
         ensures fault { IfErr result (λ fault. fault ≡ RunFault.Memory) }
+        ensures memory { OnErr result (IsTrue (adds_key self.old word.now)) }
     {
         match self {
             Keys::Numbered => Ok(numbered_key(count, word.number())),

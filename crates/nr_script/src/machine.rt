@@ -1,6 +1,8 @@
 //! A script over a running map: closed until it is opened, and then a map.
-ghost use Rattle.std.specs.Prelude.{◌≡◌, ℕ, List, None, IfOk, IfErr};
-ghost use Rattle.nr_script.specs.Machine.{answer_script_line, answer_closed_script};
+ghost use Rattle.std.specs.Prelude.{◌≡◌, ℕ, List, None, Some, IsTrue, IfOk, IfErr, OnErr};
+ghost use Rattle.nr_script.specs.Commands.{script_command};
+ghost use Rattle.nr_script.specs.Machine.{answer_script_line, answer_closed_script, takes_memory};
+ghost use Rattle.nr_text.specs.Grammar.{words};
 
 use crate::answer::{AnswerWord, Refusal, Tried};
 use crate::command::{Command, parse};
@@ -91,6 +93,7 @@ fn answer_plain<'a>(
 ) -> Tried<Answer<'a>>
     ensures answer { IfOk result (λ said. answer_script_line opened.old line.now ≡ (said, opened.new)) }
     ensures fault { IfErr result (λ fault. fault ≡ RunFault.Memory) }
+    ensures memory { OnErr result (IsTrue (takes_memory opened.old (script_command (words line.now)))) }
 {
     let Some(command) = parse(line, given) else {
         return Ok(Err(Refusal::Bad));
@@ -106,6 +109,7 @@ fn open(opened: &mut Option<Opened>, alloc: Global, command: &Command<'_>) -> Tr
     requires { opened.old ≡ None }
     ensures answer { IfOk result (λ said. answer_closed_script command.now ≡ (said, opened.new)) }
     ensures fault { IfErr result (λ fault. fault ≡ RunFault.Memory) }
+    ensures memory { OnErr result (IsTrue (takes_memory opened.old (Some command.now))) }
 {
     let Command::Open { named, sizes } = command else {
         return Ok(Err(Refusal::Closed));

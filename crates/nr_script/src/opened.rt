@@ -1,11 +1,11 @@
 //! A script that was opened: a map, and what stands for its keys on the script's lines.
-ghost use Rattle.std.specs.Prelude.{◌≡◌, ◌<◌, ◌≤◌, ◌-◌, length, IfOk, IfErr, OnOk, Ok, Err};
+ghost use Rattle.std.specs.Prelude.{◌≡◌, ◌<◌, ◌≤◌, ◌-◌, length, IfOk, IfErr, OnOk, OnErr, IsTrue, Ok, Err};
 ghost use Rattle.nr_model.specs.Maps.{FillFits, key_count, last_number, state_of};
 ghost use Rattle.nr_model.specs.declared.calls.Call.TheVariants as model;
 ghost use Rattle.nr_alone.specs.MapState.{answer_pinning, answer_show, answer_unpin};
 ghost use Rattle.nr_alone.specs.WriterCalls.{model_call, writer_key};
 ghost use Rattle.nr_script.specs.declared.command.Command.TheVariants as command;
-ghost use Rattle.nr_script.specs.Opened.{answer_opened_script, by_map, called, called_by, found_by_reader, found_key, found_reader, found_set, script_has_reader, with_found};
+ghost use Rattle.nr_script.specs.Opened.{adds_by, adds_key, answer_opened_script, by_map, called, called_by, found_by_reader, found_key, found_reader, found_set, script_has_reader, with_found};
 
 use crate::answer::{Refusal, Tried};
 use crate::command::{Command, KeyWord};
@@ -81,6 +81,7 @@ impl Opened {
     ) -> Tried<Answer<'a>>
         ensures answer { IfOk result (λ said. answer_opened_script self.old command.now ≡ (said, self.new)) }
         ensures fault { IfErr result (λ fault. fault ≡ RunFault.Memory) }
+        ensures memory { OnErr result (IsTrue (adds_by self.old command.now)) }
     {
         match command {
             Command::Open { .. } => Ok(Err(Refusal::Bad)),
@@ -128,6 +129,7 @@ impl Opened {
     ) -> Tried<Answer<'a>>
         ensures answer { IfOk result (λ said. answer_opened_script self.old (command.Fill word.now rows.now) ≡ (said, self.new)) }
         ensures fault { IfErr result (λ fault. fault ≡ RunFault.Memory) }
+        ensures memory { OnErr result (IsTrue (adds_key self.old.keys word.now)) }
     {
         let key = match self.key(word)? {
             Ok(key) => key,
@@ -147,6 +149,7 @@ impl Opened {
     ) -> Tried<Answer<'a>>
         ensures answer { IfOk result (λ said. answer_opened_script self.old (command.FillAs word.now number rows.now) ≡ (said, self.new)) }
         ensures fault { IfErr result (λ fault. fault ≡ RunFault.Memory) }
+        ensures memory { OnErr result (IsTrue (adds_key self.old.keys word.now)) }
     {
         match self.key(word)? {
             Ok(key) => Ok(self.fill(key, number, rows, found)),
@@ -229,6 +232,7 @@ impl Opened {
         ensures within { IfOk result (λ found. IfOk found (λ key. key < key_count self.new.state.map)) }
         ensures kept { self.new ≡ record self.old { keys = self.new.keys } }
         ensures fault { IfErr result (λ fault. fault ≡ RunFault.Memory) }
+        ensures memory { OnErr result (IsTrue (adds_key self.old.keys word.now)) }
     {
         let count = self.map.keys();
         self.keys.key(count, word)
@@ -241,6 +245,7 @@ impl Opened {
         ensures reader { IfOk result (λ found. OnOk found ((0 < reader) × (reader ≤ length self.new.state.pins))) }
         ensures kept { self.new ≡ record self.old { keys = self.new.keys } }
         ensures fault { IfErr result (λ fault. fault ≡ RunFault.Memory) }
+        ensures memory { OnErr result (IsTrue (adds_key self.old.keys word.now)) }
     {
         if self.keys.refuses(word) {
             return Ok(Err(Refusal::Bad));

@@ -3,7 +3,7 @@ ghost use Rattle.std.specs.Prelude.{◌≡◌, ◌<◌, ◌≤◌, ◌⊎◌, le
 ghost use Rattle.nr_lines.specs.Limits.{longest_input};
 ghost use Rattle.nr_lines.specs.Lines.{lines};
 ghost use Rattle.nr_lines.specs.Run.{Runs};
-ghost use Rattle.nr_script.specs.Machine.{script_text};
+ghost use Rattle.nr_script.specs.Machine.{replies_of, script_text};
 
 use crate::machine::ScriptMachine;
 use nr_lines::{INPUT_LIMIT, RunFault, serve};
@@ -46,10 +46,18 @@ pub fn replies(alloc: Global, script: &[u8]) -> Result<Vec<u8>, RunFault>
 {
     let mut text = Vec::new(alloc);
     let mut reader = script;
-    match run(alloc, &mut reader, &mut text) {
+    let ran = run(alloc, &mut reader, &mut text);
+    replies_of(ran, text)
+}
+
+/// What a run over bytes in memory comes to. These are read without a fault, and a vector takes all
+/// bytes unless memory is refused.
+fn replies_of(ran: Result<(), RunFault>, text: Vec<u8>) -> Result<Vec<u8>, RunFault>
+    ensures { result ≡ replies_of ran text }
+{
+    match ran {
         Ok(()) => Ok(text),
         Err(RunFault::TooMuch) => Err(RunFault::TooMuch),
-        // Bytes in memory are read without a fault, and a vector takes all bytes unless memory is refused.
         Err(_) => Err(RunFault::Memory),
     }
 }
