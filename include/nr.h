@@ -193,8 +193,14 @@ uint32_t nr_state(nr_writer *writer, uint32_t key);
    step. */
 uint64_t nr_number(nr_writer *writer, uint32_t key);
 
-/* WHAT TOKENS LEARN OF EACH OTHER, in 3 steps for each that learns. It changes no key and no answer: it says
-   whose calls the one history has, in the contracts. Owed: both handles are live and of one map; the
+/* WHICH READS SEE WHICH WRITES. A call of the writer that returned is seen by each find that begins after a
+   message about it came: by a thread's start or join, a lock, or a sequentially consistent or a release and
+   acquire atomic. Such a find gives the rows of that write or of a later one, and a hole only where the key was
+   evicted since; and a thread that read a set reads nothing older of the key later. Nobody has to call nr_meet
+   for that: in the contracts such a message carries a note, which at run time is nothing. */
+
+/* WHAT TOKENS LEARN OF EACH OTHER, in 2 steps of the one that learns and 1 of the other. It changes no key and
+   no answer: it says whose calls the one history has, in the contracts. Owed: both handles are live and of one map; the
    readers hold no set, but that of nr_gather_pin holds one. */
 
 /* The reader learns all that the writer, or the other reader, has seen. */

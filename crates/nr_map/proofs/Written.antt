@@ -113,14 +113,14 @@ is_key k key is = ⊎_elim (λ (same : k ≡ key). same) (λ (other : k ≢ key)
 step_stays : (map : PartialMap) (key : ℕ) (e : Entry) (n : ℕ) (rows : List Row) → key < length map.states → e.reply ≡ reply_to map e.call → puts_at key e ≡ false → state_of (next map e.call) key ≡ Rows n rows → state_of map key ≡ Rows n rows
 step_stays map key e n rows near legal none is = ⊎_elim
     (λ (same : call_key e.call ≡ key). subst (λ (k : ℕ). state_of map k ≡ Rows n rows) same (stays map.bound e.call (state_of map (call_key e.call)) n rows (ap is_done (sym legal) ∙ sym (of_key (is_done e.reply) (call_key e.call) key same) ∙ none)
-      (sym (state_of-next_same map e.call (omega (arith, same))) ∙ ap (state_of (next map e.call)) same ∙ is)))
+    (sym (state_of-next_same map e.call (omega (arith, same))) ∙ ap (state_of (next map e.call)) same ∙ is)))
     (λ (elsewhere : call_key e.call ≢ key). sym (state_of-next_other map key e.call elsewhere) ∙ is)
     (cases_eq (call_key e.call) key)
 
 step_filled : (map : PartialMap) (key : ℕ) (e : Entry) → key < length map.states → e.reply ≡ reply_to map e.call → evicts_at key e ≡ false → is_filled_key (state_of map key) ≡ true → is_filled_key (state_of (next map e.call) key) ≡ true
 step_filled map key e near legal none filled = ⊎_elim
     (λ (same : call_key e.call ≡ key). subst (λ (k : ℕ). is_filled_key (state_of (next map e.call) k) ≡ true) same (ap is_filled_key (state_of-next_same map e.call (omega (arith, same)))
-      ∙ stays_filled map.bound e.call (state_of map (call_key e.call)) (ap is_evicted (sym legal) ∙ sym (of_key (is_evicted e.reply) (call_key e.call) key same) ∙ none) (ap (λ (k : ℕ). is_filled_key (state_of map k)) same ∙ filled)))
+    ∙ stays_filled map.bound e.call (state_of map (call_key e.call)) (ap is_evicted (sym legal) ∙ sym (of_key (is_evicted e.reply) (call_key e.call) key same) ∙ none) (ap (λ (k : ℕ). is_filled_key (state_of map k)) same ∙ filled)))
     (λ (elsewhere : call_key e.call ≢ key). ap is_filled_key (state_of-next_other map key e.call elsewhere) ∙ filled)
     (cases_eq (call_key e.call) key)
 
@@ -136,9 +136,9 @@ last_put : (log : List Entry) (map : PartialMap) (key n : ℕ) (rows : List Row)
 last_put [] map key n rows near legal is = inl (record { none = refl; number = n; rows_had = is })
 last_put (e ∷ log) map key n rows near legal is = ⊎_elim
     (λ (no : NonePut (next map e.call) key log rows). ⊎_elim
-      (λ (put : puts_at key e ≡ true). inr (record { before = []; put = e; tail = log; is = refl; puts = put; none = no.none; number = no.number; rows_put = no.rows_had }))
-      (λ (isnt : puts_at key e ≡ false). inl (record { none = omega (arith, count_by-cons (puts_at key) e log, ap one isnt, no.none); number = no.number; rows_had = step_stays map key e no.number rows near legal.0 isnt no.rows_had }))
-      (cases_Bool (puts_at key e)))
+    (λ (put : puts_at key e ≡ true). inr (record { before = []; put = e; tail = log; is = refl; puts = put; none = no.none; number = no.number; rows_put = no.rows_had }))
+    (λ (isnt : puts_at key e ≡ false). inl (record { none = omega (arith, count_by-cons (puts_at key) e log, ap one isnt, no.none); number = no.number; rows_had = step_stays map key e no.number rows near legal.0 isnt no.rows_had }))
+    (cases_Bool (puts_at key e)))
     (λ (last : LastPut (next map e.call) key log rows). inr (record { before = e ∷ last.before; put = last.put; tail = last.tail; is = ap (λ (l : List Entry). e ∷ l) last.is; puts = last.puts; none = last.none; number = last.number; rows_put = last.rows_put }))
     (last_put log (next map e.call) key n rows (near_next map key e.call near) legal.1 is)
 
@@ -180,9 +180,9 @@ finds_written_lem map before later put key caller found near puts_it legal =
     let near_last : key < length last.states = omega (arith, length-after written map) in
     let filled : is_filled_key (state_of last key) ≡ true = ap (λ (m : PartialMap). is_filled_key (state_of m key)) wrote.0 ∙ step_puts (after map before) key put near_put legal_put.1 puts_it in record {
       hole = λ is. ⊎_elim
-        (λ (some : 0 < count_by (evicts_at key) later). some)
-        (λ none. no_hole (state_of (after last later) key) (count_by (evicts_at key) later) (filled_on later last key near_last goes_on (omega (arith, none)) filled) (answered ∙ is))
-        (cases_lt 0 (count_by (evicts_at key) later));
+          (λ (some : 0 < count_by (evicts_at key) later). some)
+          (λ none. no_hole (state_of (after last later) key) (count_by (evicts_at key) later) (filled_on later last key near_last goes_on (omega (arith, none)) filled) (answered ∙ is))
+          (cases_lt 0 (count_by (evicts_at key) later));
       rows = λ rows is. let shows = rows_of (state_of (after last later) key) rows (answered ∙ is) in last_put later last key shows.0 rows near_last goes_on shows.1;
     }
 

@@ -31,9 +31,9 @@ mod writer;
 mod writer_calls;
 
 pub use answers::Asked;
+pub use notes::Note;
 pub use nr_board::{Cancel, Evict, FillFault, Found, KeyKind, UpdateFault};
 pub use nr_core::{MAX_READERS, MAX_SLOTS, NoSlot, Shape};
-pub use notes::Note;
 pub use pin::Pin;
 pub use reader::Reader;
 pub use reader_map::ReaderMap;

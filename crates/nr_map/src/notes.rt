@@ -7,7 +7,6 @@ use crate::pin::Pin;
 use crate::reader::Reader;
 use crate::reader_map::ReaderMap;
 use crate::writer::Writer;
-use nr_board::Note as Told;
 use std::marker::Model;
 
 /// What its maker had seen when the note was made. It goes to any thread, by whatever the program
@@ -15,7 +14,7 @@ use std::marker::Model;
 /// one for each hearer. Its step is the maker's, so nothing is lost where a note is dropped.
 #[derive(Drop)]
 pub struct Note {
-    told: Told,
+    told: nr_board::Note,
 }
 
 impl Model for Note {
