@@ -44,24 +44,24 @@ module _ (shape : Shape) (state : State (Unit {0}) View) (id : ℕ) (view next :
 
   pub replaced : Fits shape kept.log next → (is_writer next.role ≡ 1 → next.made ≡ kept.made) → AllSince role_of marks_of state.views next.pasts → AllSince role_of marks_of state.views next.told_pasts → Kept shape (record { words = state.words; homes = state.homes; views = later })
   replaced fits made pasts told =
-    let evolves = evolves_alike role_of marks_of shape state.words state.views kept.log id view next at same alike in record {
-      log = kept.log;
-      core = subst (λ (rs : List Role). Core shape state.words rs kept.log) (sym same_roles) kept.core;
-      fits = at_any (Fits shape kept.log) fits kept.fits;
-      callers = kept.callers;
-      once = λ caller. omega (arith, kept.once caller, ap (total (counts caller)) same_roles);
-      made = kept.made;
-      readers = ap (total is_reader) same_roles ∙ kept.readers;
-      fresh = λ caller later. ap (total (counts caller)) same_roles ∙ kept.fresh caller later;
-      silent = kept.silent;
-      marked = alike_marked role_of marks_of shape state.words state.views kept.log id view next at same alike kept.marked;
-      pasts = knowing_set role_of marks_of pasts_of state.views id view next at evolves pasts kept.pasts;
-      told_pasts = knowing_set role_of marks_of told_pasts_of state.views id view next at evolves told kept.told_pasts;
-      maker = at_any (λ (u : View). is_writer u.role ≡ 1 → u.made ≡ kept.made) made kept.maker;
-    }
-      where
-        at_any : (P : View → Type 0) → P next → ((j : ℕ) (u : View) → get_elem? state.views j ≡ some u → P u) → (j : ℕ) (u : View) → get_elem? later j ≡ some u → P u
-        at_any P of_next of_other j u there = ⊎_elim (λ (t : (j ≡ id) × (next ≡ u)). subst P t.1 of_next) (λ (t : (j ≢ id) × (get_elem? state.views j ≡ some u)). of_other j u t.1) (at_set state.views id j next u there)
+      let evolves = evolves_alike role_of marks_of shape state.words state.views kept.log id view next at same alike in record {
+        log = kept.log;
+        core = subst (λ (rs : List Role). Core shape state.words rs kept.log) (sym same_roles) kept.core;
+        fits = at_any (Fits shape kept.log) fits kept.fits;
+        callers = kept.callers;
+        once = λ caller. omega (arith, kept.once caller, ap (total (counts caller)) same_roles);
+        made = kept.made;
+        readers = ap (total is_reader) same_roles ∙ kept.readers;
+        fresh = λ caller later. ap (total (counts caller)) same_roles ∙ kept.fresh caller later;
+        silent = kept.silent;
+        marked = alike_marked role_of marks_of shape state.words state.views kept.log id view next at same alike kept.marked;
+        pasts = knowing_set role_of marks_of pasts_of state.views id view next at evolves pasts kept.pasts;
+        told_pasts = knowing_set role_of marks_of told_pasts_of state.views id view next at evolves told kept.told_pasts;
+        maker = at_any (λ (u : View). is_writer u.role ≡ 1 → u.made ≡ kept.made) made kept.maker;
+      }
+    where
+      at_any : (P : View → Type 0) → P next → ((j : ℕ) (u : View) → get_elem? state.views j ≡ some u → P u) → (j : ℕ) (u : View) → get_elem? later j ≡ some u → P u
+      at_any P of_next of_other j u there = ⊎_elim (λ (t : (j ≡ id) × (next ≡ u)). subst P t.1 of_next) (λ (t : (j ≢ id) × (get_elem? state.views j ≡ some u)). of_other j u t.1) (at_set state.views id j next u there)
 
 -- a note stands beside the tokens that there are
 adds_note : (shape : Shape) (id : ℕ) (view : View) (state : State (Unit {0}) View) → Kept shape state → get_elem? state.views id ≡ some view → Kept shape (record { words = state.words; homes = state.homes; views = state.views ++ note_of view ∷ [] })
@@ -92,7 +92,7 @@ splits_so shape id view state kept at =
     let maker = has_noted view in let fits = kept.fits id view at in
     let own : Fits shape kept.log maker = record { begins = fits.begins; told = fits.told; own = fits.own; knows_own = fits.knows_own; acts = fits.acts; sized = fits.sized } in
     adds_note shape id maker (record { words = state.words; homes = state.homes; views = set state.views id maker })
-      (replaced shape state id view maker kept at refl (inl refl) own (kept.maker id view at) (kept.pasts id view at) (kept.told_pasts id view at)) (here_after state.views id view maker at)
+    (replaced shape state id view maker kept at refl (inl refl) own (kept.maker id view at) (kept.pasts id view at) (kept.told_pasts id view at)) (here_after state.views id view maker at)
 
 -- the hearer takes the note in, and then what is left of it tells nothing
 pub joins_so : (shape : Shape) (id : ℕ) (view : View) (other : ℕ) (note : View) → note.role ≡ Note → Joins (Kept shape) id view other note (with_note view note) spent
