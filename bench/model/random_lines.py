@@ -86,6 +86,7 @@ class Maker:
             (6, "read %s %s" % (self.reader(), self.random.randrange(6))),
             (6, "depart %s" % self.reader()),
             (6, "ask %s %s" % (self.reader(), self.key())),
+            (4, "again %s %s" % (self.reader(), self.key())),
             (self.goes, "go"),
             (1, "writer find %s" % self.key()),
             (6, "writer fill %s%s" % (self.key(), self.rows())),

@@ -13,6 +13,7 @@ SHAPES = {
     b"arrive": ("reader", "key"),
     b"read": ("reader", "index"),
     b"depart": ("reader",),
+    b"again": ("reader", "key"),
     b"ask": ("reader", "key"),
     b"go": (),
 }
@@ -122,6 +123,11 @@ class Machine:
         self.departures[slot] = (self.departed(slot) + 1) % WORDS
         del self.holds[reader]
         return "ok"
+
+    def again(self, reader, key):
+        slot, _ = self.hold(reader)
+        word = self.word(key)
+        return "same" if word & FILLED and slot_of(word) == slot else "other"
 
     def ask(self, reader, key):
         self.refuse_holder(reader)
