@@ -1,7 +1,7 @@
 -- What a client has in its hands, and how its calls move it.
 use Rattle.std.specs.Prelude.{◌≡◌, ◌<◌, ◌≤◌, ◌+◌, ℕ, min, List, length, None, IfSome}
 use Rattle.nr_model.specs.Histories.{Entry}
-use Rattle.nr_board.specs.Callers.{Table}
+use Rattle.nr_board.specs.Callers.{Caller, Table}
 use Rattle.nr_trigger.specs.Tokens.{Queue}
 use Rattle.nr_serve.specs.declared.hands.Hands.{Hands}
 use Rattle.nr_serve.specs.Callers.{Makes}
@@ -13,6 +13,10 @@ last_count = 18446744073709551615
 
 abbrev pub capped : ℕ → ℕ
 capped count = min count last_count
+
+-- the same with another reader
+abbrev pub with_reader : Hands → Caller → Hands
+with_reader hands reader = record hands { reader = reader }
 
 -- the reader is the map's and the poster the queue's, which takes every key of the map
 pub record IsReady (map : Table) (queue : Queue) (hands : Hands) : Type 0 where

@@ -1,8 +1,10 @@
 //! A client, which gets rows, and asks and waits for those that are missing.
 ghost use Rattle.std.specs.Prelude.{◌≡◌, ◌<◌, ◌≤◌, ◌+◌, length, None};
+ghost use Rattle.nr_board.specs.Callers.{KnowsOwn};
+ghost use Rattle.nr_board.specs.Meetings.{HearsNote, known_to, with_step};
 ghost use Rattle.nr_serve.specs.Clients.{since};
 ghost use Rattle.nr_serve.specs.Gets.{Gets};
-ghost use Rattle.nr_serve.specs.Hands.{capped};
+ghost use Rattle.nr_serve.specs.Hands.{capped, with_reader};
 ghost use Rattle.nr_serve.specs.Tickets.{sent};
 
 use crate::answers::Got;
@@ -11,7 +13,7 @@ use crate::hands::Hands;
 use crate::lobby::Lobby;
 use crate::places::Places;
 use crate::tries::get_by_tries;
-use nr_map::{Reader, ReaderMap, Ticket};
+use nr_map::{Note, Reader, ReaderMap, Ticket};
 use nr_model::RowSet;
 use nr_trigger::{Poster, Triggers};
 use std::marker::Model;
@@ -99,6 +101,30 @@ impl<'a, G: Gate> Client<'a, G> {
         match self.hands.replace(hands) {
             None => got,
             Some(_) => unreachable!(),
+        }
+    }
+
+    /// A note of what the client has seen, in 1 step of its reader. Else the client stays as it is.
+    pub fn note(&mut self) -> Note
+        ensures note { result ≡ known_to self.old.hands.reader }
+        ensures knows { KnowsOwn self.old.hands.reader }
+        ensures rest { self.new ≡ record self.old { hands = with_reader self.old.hands (with_step self.old.hands.reader) } }
+    {
+        match &mut self.hands {
+            Some(hands) => self.places.map.note(&mut hands.reader),
+            None => unreachable!(),
+        }
+    }
+
+    /// The client learns, in 2 steps of its reader, all that the note's maker had seen.
+    pub fn hear(&mut self, note: Note)
+        requires { note.table ≡ self.old.map }
+        ensures hears { HearsNote 2 self.old.hands.reader note self.new.hands.reader }
+        ensures rest { self.new ≡ record self.old { hands = with_reader self.old.hands self.new.hands.reader } }
+    {
+        match &mut self.hands {
+            Some(hands) => self.places.map.hear(&mut hands.reader, note),
+            None => unreachable!(),
         }
     }
 

@@ -1,11 +1,13 @@
 //! The dataflow's side: it fills the keys whose tickets were posted, and keeps the map's rows right.
 ghost use Rattle.std.specs.Prelude.{◌≡◌, ◌≢◌, ◌<◌, ◌≤◌, None, Some, Err};
 ghost use Rattle.std.specs.Borrow.{sem};
+ghost use Rattle.nr_board.specs.Callers.{KnowsOwn};
+ghost use Rattle.nr_board.specs.Meetings.{HearsNote, known_to, with_step};
 ghost use Rattle.nr_board.specs.WriterAnswers.{CancelsKey, EvictsKey, UpdatesKey};
 
 use crate::lobby::Lobby;
 use crate::source::Source;
-use nr_map::{Cancel, Evict, FillFault, NoSlot, ReaderMap, UpdateFault, Writer, laws};
+use nr_map::{Cancel, Evict, FillFault, NoSlot, Note, ReaderMap, UpdateFault, Writer, laws};
 use nr_model::Batch;
 use nr_trigger::{Taker, Trigger, Triggers};
 use std::marker::Model;
@@ -177,6 +179,25 @@ impl<'a, S: Source> Dataflow<'a, S> {
             self.lobby.raise(rt);
         }
         answer
+    }
+
+    /// A note of what the dataflow has seen, in 1 step of its writer. Else the dataflow stays as it
+    /// is.
+    pub fn note(&mut self) -> Note
+        ensures note { result ≡ known_to self.old.writer }
+        ensures knows { KnowsOwn self.old.writer }
+        ensures rest { self.new ≡ record self.old { writer = with_step self.old.writer } }
+    {
+        self.map.note_writer(&mut self.writer)
+    }
+
+    /// The dataflow learns, in 2 steps of its writer, all that the note's maker had seen.
+    pub fn hear(&mut self, note: Note)
+        requires { note.table ≡ self.old.map }
+        ensures hears { HearsNote 2 self.old.writer note self.new.writer }
+        ensures rest { self.new ≡ record self.old { writer = self.new.writer } }
+    {
+        self.map.hear_writer(&mut self.writer, note);
     }
 
     /// Where the rows come from.
