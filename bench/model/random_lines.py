@@ -73,6 +73,7 @@ class Maker:
             (2, "look %s" % key),
             (5, "pin %s %s" % (self.reader(), key)),
             (2, "show %s" % self.reader()),
+            (5, "again %s %s" % (self.reader(), key)),
             (3, "unpin %s" % self.reader()),
             (0.2, self.opening("open")),
         ]

@@ -13,6 +13,7 @@ SHAPES = {
     b"look": ("key",),
     b"pin": ("reader", "key"),
     b"show": ("reader",),
+    b"again": ("reader", "key"),
     b"unpin": ("reader",),
 }
 
@@ -68,7 +69,7 @@ class Script:
             raise Refused("too-many")
         if command in (b"find", b"ask", b"pin") and told["reader"] in self.pins:
             raise Refused("holding")
-        if command in (b"show", b"unpin") and told["reader"] not in self.pins:
+        if command in (b"show", b"again", b"unpin") and told["reader"] not in self.pins:
             raise Refused("not-holding")
         return getattr(self, command.decode().replace("-", "_"))(**told)
 
@@ -150,6 +151,10 @@ class Script:
 
     def show(self, reader):
         return spelled(self.pins[reader][0])
+
+    def again(self, reader, key):
+        rows, put = self.pins[reader]
+        return spelled(rows) if key in self.filled and self.filled[key][1] == put else "other"
 
     def unpin(self, reader):
         del self.pins[reader]

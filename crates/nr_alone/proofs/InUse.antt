@@ -17,7 +17,7 @@ use Rattle.nr_alone.specs.declared.seat.Seat.{Seat}
 use Rattle.nr_alone.specs.declared.seat.Seat.TheVariants.{Idle, Pinned}
 use Rattle.nr_alone.specs.MapState.{is_full, pinned_puts, put_of}
 use Rattle.nr_alone.specs.Seats.{SeatHoldsItsPin, caller_in, how_of, pin_of}
-use Rattle.nr_alone.specs.Alone.{IsAlone, IsKnown, shown_after}
+use Rattle.nr_alone.specs.Alone.{IsAlone, IsKnown, log_of, shown_after}
 
 some_put : (slot : Option ℕ) (put : ℕ) → IsSome slot → Some put ≡ option_map (λ (s : ℕ). put) slot
 some_put None put there = absurd (cc)
@@ -53,10 +53,10 @@ module _ (table : Table) (w : Caller) (seats : List Seat) (alone : IsAlone table
         ap (λ (s : Seat). (caller_in s).number) (sym (or_is seats at there.0 there.0 there.1)) ∙ (alone.places at there.0 (inside seats at there.0 there.1)).number,
       )
 
-  known_at : (at : ℕ) (one : Past) → get_elem? readers at ≡ some one → (s : Seat) × IsKnown w s × (how_of s ≡ one)
+  known_at : (at : ℕ) (one : Past) → get_elem? readers at ≡ some one → (s : Seat) × IsKnown (log_of w seats) w s × (how_of s ≡ one)
   known_at at one is =
       let here = at_unmap how_of seats at one is in
-      (here.0, subst (λ (s : Seat). IsKnown w s) (or_is seats at here.0 here.0 here.1) (alone.known at here.0 (inside seats at here.0 here.1)), here.2)
+      (here.0, subst (λ (s : Seat). IsKnown (log_of w seats) w s) (or_is seats at here.0 here.0 here.1) (alone.known at here.0 (inside seats at here.0 here.1)), here.2)
 
   pub all_known : AllKnown w.pasts readers
   all_known at one is = let k = known_at at one is in (k.1.place, k.1.known ∙ ap some k.2)

@@ -46,7 +46,7 @@ none_of caller = record { few = omega arith; his = refl; others = λ other apart
 pub one_of : (caller : ℕ) (call : Call) (r : Reply) → AreOf caller (entry caller call r ∷ [])
 one_of caller call r = record { few = omega arith; his = entries_own (entry caller call r) [] caller refl; others = λ other apart. entries_other (entry caller call r) [] other (λ e. apart (sym e)) }
 
-seen_more : (steps : ℕ) (old : Caller) (es : List Entry) (new : Caller) → Grows steps old es new → StartsWith new.seen old.seen
+pub seen_more : (steps : ℕ) (old : Caller) (es : List Entry) (new : Caller) → Grows steps old es new → StartsWith new.seen old.seen
 seen_more steps old es new g = record { rest = g.between ++ es; is = g.seen ∙ append_assoc old.seen g.between es }
 
 module _ (table : Table) (w0 : Caller) (seats0 : List Seat) (alone : IsAlone table w0 seats0) (es : List Entry) where
@@ -226,6 +226,7 @@ module _ (laws : Laws) (table : Table) (w0 : Caller) (seats0 : List Seat) (call 
 
   pub says : (answer : Answer) → WriterMakes call w0 w answer → Says answer
   says answers.Ok made = absurd made
+  says answers.Other made = absurd made
   says answers.NoSlot made = says_no_slot made
   says (answers.Reply reply.Done) made = says_done made
   says (answers.Reply (reply.Rows rows)) made = says_reply (reply.Rows rows) made

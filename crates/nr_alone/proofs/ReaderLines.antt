@@ -1,5 +1,5 @@
 -- Lines of a reader, and what they are answered.
-use Rattle.std.proofs.Common.{◌≡◌, ◌<◌, ◌⊎◌, inl, inr, ⊎_elim, ℕ, suc, List, [], ◌∷◌, ◌++◌, ◌==◌, length, map, get_or, set, refl, sym, ap, ◌∙◌, subst, arith, length-append, Ok, Err, Option, None, Some, IsSome}
+use Rattle.std.proofs.Common.{◌≡◌, ◌≢◌, ◌<◌, ◌⊎◌, inl, inr, ⊎_elim, ℕ, suc, List, [], ◌∷◌, ◌++◌, cond, ◌==◌, length, map, get_or, set, refl, sym, ap, ◌∙◌, subst, arith, eq-eqb, ne_eqb, length-append, Ok, Err, Option, None, Some, IsSome}
 use Rattle.std.proofs.lemmas.List.{append-nil, nil_from_length, append_cancel_left, get_or_default, get_or-map, get_or-set_same, map-set, set-get_or}
 use Rattle.std.proofs.lemmas.List.Elements.{filter-append}
 use Rattle.std.proofs.lemmas.List.FromFn.{get_or-map-range_with_len}
@@ -15,20 +15,22 @@ use Rattle.nr_model.specs.Histories.{Entry, entries_of}
 use Rattle.nr_model.specs.Maps.{PartialMap, find_reply, next, state_of}
 use Rattle.nr_machine.specs.Story.{entry, map_after}
 use Rattle.nr_marks.specs.Puts.{put_number}
-use Rattle.nr_board.specs.Callers.{Caller, Rests, Table, map_at_opening}
+use Rattle.nr_board.specs.Callers.{Caller, Table, map_at_opening}
+use Rattle.nr_board.specs.Kinds.{kind_of}
 use Rattle.nr_board.specs.Rule.{StartsWith}
 use Rattle.nr_alone.specs.Answers.{Answer}
 use Rattle.nr_alone.specs.Answers as answers
 use Rattle.nr_alone.specs.declared.answer.Refusal.TheVariants as refusals
 use Rattle.nr_alone.specs.declared.seat.Seat.{Seat}
-use Rattle.nr_alone.specs.MapState.{MapOutcome, Pin, MapState, answer_call, answer_pin, pin_at, pins_after, with_pin, without_pin}
-use Rattle.nr_alone.specs.Seats.{Calls, SeatHoldsItsPin, HoldsItsPin, MakesCall, MakesPin, ShowsPin, Unpins, caller_in, mine_of, pin_of}
+use Rattle.nr_alone.specs.MapState.{MapOutcome, Pin, MapState, answer_again, answer_call, answer_pin, find_again, pin_at, pins_after, with_pin, without_pin}
+use Rattle.nr_alone.specs.Seats.{Calls, FindsAgain, KeepsPin, SeatHoldsItsPin, HoldsItsPin, MakesCall, MakesPin, ShowsPin, Unpins, caller_in, mine_of, pin_of}
 use Rattle.nr_alone.specs.Rounds.{Gathered}
 use Rattle.nr_alone.specs.Alone.{IsAlone, Laws, log_of, shown_by, shown_after}
 use Rattle.nr_alone.specs.Lines.{SettlesLine}
+use Rattle.nr_alone.proofs.Rounds.{starts_both, starts_then}
 use Rattle.nr_alone.proofs.Settling.{settled}
 use Rattle.nr_alone.proofs.Shown.{puts_quiet, quiet_count, quiet_number}
-use Rattle.nr_alone.proofs.Lines.{AreOf, answers_quiet, none_of, one_of, reader_line, reply_is, shown_with}
+use Rattle.nr_alone.proofs.Lines.{AreOf, answers_quiet, none_of, one_of, reader_line, reply_is, seen_more, shown_with}
 
 pub without_some : (pin : Option Pin) (stood : MapState) (outcome : MapOutcome) → IsSome pin → without_pin pin stood outcome ≡ (Err refusals.Holding, stood)
 without_some None stood outcome there = absurd (cc)
@@ -65,6 +67,15 @@ found_hole (states.Hole n) stood at key is = refl
 found_hole (states.Asked n) stood at key is = refl
 found_hole (states.Rows n rows) stood at key is = absurd (cc)
 
+-- what a find by a pin is answered
+found_rows : (n : ℕ) (rows : List Row) (put : ℕ) (pin : Pin) → put ≡ pin.put → find_again (states.Rows n rows) put pin ≡ answers.Reply (reply.Rows rows)
+found_rows n rows put pin same = ap (λ b. cond b (answers.Reply (reply.Rows rows)) answers.Other) (eq-eqb put pin.put same)
+
+found_other : (state : KeyState) (put : ℕ) (pin : Pin) → ((n : ℕ) (rows : List Row) → state ≡ states.Rows n rows → put ≢ pin.put) → find_again state put pin ≡ answers.Other
+found_other (states.Hole n) put pin no_put = refl
+found_other (states.Asked n) put pin no_put = refl
+found_other (states.Rows n rows) put pin no_put = ap (λ b. cond b (answers.Reply (reply.Rows rows)) answers.Other) (ne_eqb put pin.put (no_put n rows refl))
+
 map_same : (m : PartialMap) (key : ℕ) → next m (model.Find key) ≡ m
 map_same m key = λ j. record { bound = m.bound; states = set-get_or m.states key (states.Hole 0) j }
 
@@ -89,6 +100,9 @@ module _ (laws : Laws) (table : Table) (w0 : Caller) (seats0 : List Seat) (alone
 
   pin_here : pin_at stood at ≡ pin_of old
   pin_here = get_or-map pin_of seats0 at old None low ∙ ap pin_of (here old)
+
+  again_by : (key : ℕ) {pin : Pin} → pin_at stood at ≡ Some pin → answer_again stood at key ≡ (Ok (find_again (state_of stood.map key) (get_or stood.puts key 0) pin), stood)
+  again_by key is = ap (λ (p : Option Pin). with_pin p stood (λ (q : Pin). (Ok (find_again (state_of stood.map key) (get_or stood.puts key 0) q), stood))) is
 
   pins_set : map pin_of (set seats0 at x) ≡ set (map pin_of seats0) at (pin_of x)
   pins_set = map-set pin_of seats0 at x
@@ -148,12 +162,19 @@ module _ (laws : Laws) (table : Table) (w0 : Caller) (seats0 : List Seat) (alone
       absurd (omega (arith, length-append (entries_of more.0 n) (e ∷ []))))
       (last_split (caller_in x).seen heard.rest log e whole)
 
+  -- the put number of a key in the state, and as a reader sees it that has just found the key
+  put_in : (key : ℕ) → key < table.shape.keys → get_or stood.puts key 0 ≡ put_number log key
+  put_in key inside = get_or-map-range_with_len (put_number log) 0 table.shape.keys key key 0 inside (omega arith)
+
+  put_found : (heard : List Entry) (key : ℕ) (rows : List Row) → key < table.shape.keys → Calls heard (model.Find key) (reply.Rows rows) (caller_in old) (caller_in x) → SeatHoldsItsPin x
+      → put_number (caller_in x).seen key ≡ get_or stood.puts key 0
+  put_found heard key rows inside made fits =
+      ap (λ (l : List Entry). put_number l key) (seen_just heard (model.Find key) (reply.Rows rows) made fits)
+      ∙ quiet_number laws.puts log (entry (suc at) (model.Find key) (reply.Rows rows)) key refl ∙ sym (put_in key inside)
+
   pub says_pin : (heard : List Entry) (key : ℕ) (answer : Answer) → key < table.shape.keys → MakesPin heard key old x (Ok answer) → Says (without_pin (pin_at stood at) stood (answer_pin stood at key (state_of stood.map key))) answer
   says_pin heard key answers.Ok inside (rows, made, before, after, fits) =
-      let e : Entry = entry (suc at) (model.Find key) (reply.Rows rows) in
-      let put_is : put_number (caller_in x).seen key ≡ get_or stood.puts key 0 =
-      ap (λ (l : List Entry). put_number l key) (seen_just heard (model.Find key) (reply.Rows rows) made fits) ∙ quiet_number laws.puts log e key refl
-      ∙ sym (get_or-map-range_with_len (put_number log) 0 table.shape.keys key key 0 inside (omega arith)) in
+      let put_is = put_found heard key rows inside made fits in
       let pinned : pin_of x ≡ Some (record { key = key; rows = rows; put = get_or stood.puts key 0 }) = after ∙ (λ j. Some (record { key = key; rows = rows; put = put_is j })) in
       let now = found heard key (reply.Rows rows) (set (map pin_of seats0) at (Some (record { key = key; rows = rows; put = get_or stood.puts key 0 }))) made fits (pins_set ∙ ap (set (map pin_of seats0) at) pinned) in
       let is = state_is (state_of stood.map key) rows (reply_at heard key (reply.Rows rows) made fits) in (
@@ -170,34 +191,81 @@ module _ (laws : Laws) (table : Table) (w0 : Caller) (seats0 : List Seat) (alone
             ∙ ap (λ (k : MapState). (Ok (answers.Reply reply.Hole), k)) (sym now)
             ∙ ap (λ (k : Reply). (Ok (answers.Reply k), shown_by table w' seats')) (sym is),
       )
+  says_pin heard key answers.Other inside made = absurd made
   says_pin heard key answers.NoSlot inside made = absurd made
 
   -- steps that are no call
-  rested : (steps : ℕ) → Rests steps (caller_in old) (caller_in x) → SeatHoldsItsPin x → SettlesLine table w0 seats0 (set seats0 at x) [] g.mid.seen w' seats'
-  rested steps rests fits = settled_at [] (none_of (suc at)) rests.table rests.number (rests.mine ∙ sym (append-nil (mine_of old))) fits
+  rested : (caller_in x).table ≡ (caller_in old).table → (caller_in x).number ≡ (caller_in old).number → mine_of x ≡ mine_of old → SeatHoldsItsPin x → SettlesLine table w0 seats0 (set seats0 at x) [] g.mid.seen w' seats'
+  rested t n m fits = settled_at [] (none_of (suc at)) t n (m ∙ sym (append-nil (mine_of old))) fits
 
-  rested_state : (steps : ℕ) (pins' : List (Option Pin)) → Rests steps (caller_in old) (caller_in x) → SeatHoldsItsPin x → map pin_of (set seats0 at x) ≡ pins' → shown_by table w' seats' ≡ record stood { pins = pins' }
-  rested_state steps pins' rests fits kept =
-      shown_with laws table w0 seats0 (set seats0 at x) [] g.mid.seen w' seats' (rested steps rests fits) pins' kept
+  rested_state : (pins' : List (Option Pin)) → SettlesLine table w0 seats0 (set seats0 at x) [] g.mid.seen w' seats' → map pin_of (set seats0 at x) ≡ pins' → shown_by table w' seats' ≡ record stood { pins = pins' }
+  rested_state pins' s kept =
+      shown_with laws table w0 seats0 (set seats0 at x) [] g.mid.seen w' seats' s pins' kept
       ∙ ap (λ (l : List Entry). record (shown_after table l seats0) { pins = pins' }) (append-nil log)
 
   pub says_unpin : (answer : Answer) → Unpins old x (Ok answer) → Says (with_pin (pin_at stood at) stood (λ pin. (Ok answers.Ok, pins_after stood at None))) answer
   says_unpin answer (is, rests, before, after, fits) =
-      let now = rested_state 1 (set (map pin_of seats0) at None) rests fits (pins_set ∙ ap (set (map pin_of seats0) at) after) in (
-        (rested 1 rests fits).alone,
+      let s = rested rests.table rests.number rests.mine fits in
+      let now = rested_state (set (map pin_of seats0) at None) s (pins_set ∙ ap (set (map pin_of seats0) at) after) in (
+        s.alone,
         with_some (pin_at stood at) stood (Ok answers.Ok, pins_after stood at None) (subst IsSome (sym pin_here) before)
             ∙ ap (λ (k : MapState). (Ok answers.Ok, k)) (sym now) ∙ ap (λ (a : Answer). (Ok a, shown_by table w' seats')) (sym is),
       )
 
-  pub says_show : (answer : Answer) → ShowsPin old x (Ok answer) → Says (with_pin (pin_at stood at) stood (λ pin. (Ok (answers.Reply (reply.Rows pin.rows)), stood))) answer
-  says_show answer (pin, before, is, steps, rests, after, holds) =
+  -- a reader that keeps its pin
+  still_fits : KeepsPin old x → SeatHoldsItsPin x
+  still_fits (same, holds) =
       let had : SeatHoldsItsPin old = subst SeatHoldsItsPin (here old) (alone.places at old low).fits in
-      let fits : SeatHoldsItsPin x = subst (λ (p : Option Pin). HoldsItsPin p (caller_in x).holds) (sym after) (subst (HoldsItsPin (pin_of old)) (sym holds) had) in
-      let now = rested_state steps (map pin_of seats0) rests fits (pins_kept after) in (
-        (rested steps rests fits).alone,
+      subst (λ (p : Option Pin). HoldsItsPin p (caller_in x).holds) (sym same) (subst (HoldsItsPin (pin_of old)) (sym holds) had)
+
+  pub says_show : (answer : Answer) → ShowsPin old x (Ok answer) → Says (with_pin (pin_at stood at) stood (λ pin. (Ok (answers.Reply (reply.Rows pin.rows)), stood))) answer
+  says_show answer (pin, before, is, steps, rests, keeps) =
+      let s = rested rests.table rests.number rests.mine (still_fits keeps) in
+      let now = rested_state (map pin_of seats0) s (pins_kept keeps.0) in (
+        s.alone,
         ap (λ (p : Option Pin). with_pin p stood (λ (q : Pin). (Ok (answers.Reply (reply.Rows q.rows)), stood))) (pin_here ∙ before)
             ∙ ap (λ (k : MapState). (Ok (answers.Reply (reply.Rows pin.rows)), k)) (sym now) ∙ ap (λ (a : Answer). (Ok a, shown_by table w' seats')) (sym is),
       )
+
+  -- it has heard the history, so where its line is no call it has seen just that
+  heard_just : (later : StartsWith (caller_in x).seen (caller_in old).seen) → SettlesLine table w0 seats0 (set seats0 at x) [] g.mid.seen w' seats' → (caller_in x).seen ≡ log
+  heard_just later s =
+      let least : StartsWith (caller_in old).seen log = subst (λ (k : Seat). StartsWith (caller_in k).seen log) (here old) (alone.known at old low).heard in
+      let first : get_or (set seats0 at x) at x ≡ x = get_or-set_same seats0 at x x low in
+      let mid : StartsWith g.mid.seen (caller_in x).seen = subst (λ (k : Seat). StartsWith g.mid.seen (caller_in k).seen) first (g.heard x) in
+      let most : StartsWith log (caller_in x).seen = subst (λ (l : List Entry). StartsWith l (caller_in x).seen) (s.mid_log ∙ append-nil log) mid in
+      starts_both (caller_in x).seen log (starts_then log (caller_in old).seen (caller_in x).seen least later) most
+
+  pub says_again : (key : ℕ) (answer : Answer) → key < table.shape.keys → FindsAgain key old x (Ok answer) → Says (answer_again stood at key) answer
+  says_again key (answers.Reply r) inside (pin, before, is, called, has, keeps) =
+      let fits = still_fits keeps in let heard = (caller_in old).seen in
+      let made : Calls heard (model.Find key) (reply.Rows pin.rows) (caller_in old) (caller_in x) = subst (λ (k : Reply). Calls heard (model.Find key) k (caller_in old) (caller_in x)) is called in
+      let now = found heard key (reply.Rows pin.rows) (map pin_of seats0) made fits (pins_kept keeps.0) in
+      let filled = state_is (state_of stood.map key) pin.rows (reply_at heard key (reply.Rows pin.rows) made fits) in
+      let put : get_or stood.puts key 0 ≡ pin.put = sym (put_found heard key pin.rows inside made fits) ∙ has.1 in (
+        (settled_call heard (model.Find key) (reply.Rows pin.rows) made fits).alone,
+        again_by key (pin_here ∙ before)
+            ∙ ap (λ (a : Answer). (Ok a, stood)) (ap (λ (k : KeyState). find_again k (get_or stood.puts key 0) pin) filled.1 ∙ found_rows filled.0 pin.rows (get_or stood.puts key 0) pin put)
+            ∙ ap (λ (k : MapState). (Ok (answers.Reply (reply.Rows pin.rows)), k)) (sym now)
+            ∙ ap (λ (k : Reply). (Ok (answers.Reply k), shown_by table w' seats')) (sym is),
+      )
+  says_again key answers.Other inside (pin, before, grows, hasnt, keeps) =
+      let fits = still_fits keeps in
+      let s = rested grows.table grows.number (grows.mine ∙ append-nil (mine_of old)) fits in
+      let now = rested_state (map pin_of seats0) s (pins_kept keeps.0) in
+      let seen = heard_just (seen_more 1 (caller_in old) [] (caller_in x) grows) s in
+      let tables : (caller_in x).table ≡ table = grows.table ∙ ap (λ (k : Seat). (caller_in k).table) (sym (here old)) ∙ (alone.places at old low).table in
+      let no_put : (n : ℕ) (rows : List Row) → state_of stood.map key ≡ states.Rows n rows → get_or stood.puts key 0 ≢ pin.put = λ n rows filled put. hasnt (
+        (λ j. kind_of (state_of (map_after (tables j).shape (seen j)) key)) ∙ ap kind_of filled,
+        ap (λ (l : List Entry). put_number l key) seen ∙ sym (put_in key inside) ∙ put,
+      ) in (
+        s.alone,
+        again_by key (pin_here ∙ before)
+            ∙ ap (λ (a : Answer). (Ok a, stood)) (found_other (state_of stood.map key) (get_or stood.puts key 0) pin no_put)
+            ∙ ap (λ (k : MapState). (Ok answers.Other, k)) (sym now),
+      )
+  says_again key answers.Ok inside made = absurd made
+  says_again key answers.NoSlot inside made = absurd made
 
 pub many_pins : (xs : List Seat) → length (map pin_of xs) ≡ length xs
 many_pins [] = refl

@@ -79,6 +79,7 @@ shown_on log w r w' r' x g s =
       place = on.0;
       known = ap (λ (l : List Past). get_elem? l on.0) g.of_reader.learns.pasts ∙ on.1;
       current = current_on w w' (how_of x) g.of_reader.learns.retired g.of_reader.learns.marks s.current;
+      heard = s.heard;
     }
 
 pub shown_now : (log : List Entry) (w : Caller) (s : Seat) (w' : Caller) (s' : Seat) → GathersSeat w s w' s' → StartsWith w'.seen log → IsShown log w' s'
@@ -90,6 +91,7 @@ shown_now log w s w' s' g later =
       place = g.gathers.place;
       known = g.gathers.known ∙ ap some (sym how);
       current = subst (λ (p : Past). Current w'.retired w'.marks p) (sym how) g.gathers.current;
+      heard = starts_then log w'.seen (caller_in s').seen later g.gathers.of_writer.seen;
     }
 
 -- the seat at the next place was gathered

@@ -120,7 +120,12 @@ module _ (laws : Laws) (table : Table) (w0 : Caller) (seats0 : List Seat) (w : C
       stands = record { own = own; number = number; count = count; some_one = omega (arith, size, some_one); just = subst (λ (l : List Entry). HasJust l w' seats') (sym log_now) just };
       places = places;
       sound = g.round.sound;
-      known = λ at other low. let shown = g.round.each at other (omega (arith, size, low)) in record { place = shown.place; known = shown.known; current = shown.current };
+      known = λ at other low. let shown = g.round.each at other (omega (arith, size, low)) in record {
+        place = shown.place;
+        known = shown.known;
+        current = shown.current;
+        heard = subst (λ (l : List Entry). StartsWith (caller_in (get_or seats' at other)).seen l) (mid_is ∙ sym log_now) shown.heard;
+      };
     };
     log = log_now;
     mid_log = mid_is;

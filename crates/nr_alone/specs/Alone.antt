@@ -12,6 +12,7 @@ use Rattle.nr_marks.specs.MarkLaws.{PutGoesOn}
 use Rattle.nr_marks.specs.Pasts.{Current}
 use Rattle.nr_marks.specs.Puts.{put_count}
 use Rattle.nr_board.specs.Callers.{Caller, Table}
+use Rattle.nr_board.specs.Rule.{StartsWith}
 use Rattle.nr_map.specs.ExactPlaces.{DoneMeansFewerInUse, NoSlotMeansAllInUse}
 use Rattle.nr_map.specs.Rounds.{EntriesAreCallers}
 use Rattle.nr_alone.specs.declared.seat.Seat.{Seat}
@@ -39,11 +40,12 @@ made writer seats = count_by one_each writer.mine + total (λ (reader : Caller).
 abbrev pub log_of : Caller → List Seat → List Entry
 log_of writer seats = take (made writer seats) writer.seen
 
--- the writer knows how the reader is, and has compared it with its lists
-pub record IsKnown (writer : Caller) (seat : Seat) : Type 0 where
+-- the writer knows how the reader is, and has compared it with its lists; the reader has seen the history
+pub record IsKnown (log : List Entry) (writer : Caller) (seat : Seat) : Type 0 where
   pub place : ℕ
   pub known : get_elem? writer.pasts place ≡ some (how_of seat)
   pub current : Current writer.retired writer.marks (how_of seat)
+  pub heard : StartsWith (caller_in seat).seen log
 
 -- the seat at a place is of the map, and its reader's number is the next one
 pub record IsSeat (map : Table) (at : ℕ) (seat : Seat) : Type 0 where
@@ -59,12 +61,12 @@ pub record ReadyForRound (table : Table) (writer : Caller) (seats : List Seat) :
   pub some_one : 0 < length seats
   pub just : HasJust (log_of writer seats) writer seats
 
--- between two lines the writer knows too how each reader is
+-- between two lines the writer knows too how each reader is, and each reader what was called
 pub record IsAlone (table : Table) (writer : Caller) (seats : List Seat) : Type 0 where
   pub stands : ReadyForRound table writer seats
   pub places : (at : ℕ) (other : Seat) → at < length seats → IsSeat table at (slice_index_or seats at other)
   pub sound : IsSoundWriter writer
-  pub known : (at : ℕ) (other : Seat) → at < length seats → IsKnown writer (slice_index_or seats at other)
+  pub known : (at : ℕ) (other : Seat) → at < length seats → IsKnown (log_of writer seats) writer (slice_index_or seats at other)
 
 -- the state after a history, with what is pinned
 abbrev pub shown_after : Table → List Entry → List Seat → MapState

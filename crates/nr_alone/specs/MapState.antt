@@ -7,7 +7,7 @@ use Rattle.nr_model.specs.declared.states.KeyState.TheVariants as states
 use Rattle.nr_model.specs.declared.calls.Call.{Call}
 use Rattle.nr_model.specs.declared.calls.Reply.{Reply}
 use Rattle.nr_model.specs.declared.calls.Reply.TheVariants as reply
-use Rattle.nr_model.specs.Maps.{PartialMap, opening, call_key, reply_to, next, filled_count}
+use Rattle.nr_model.specs.Maps.{PartialMap, opening, call_key, reply_to, next, state_of, filled_count}
 use Rattle.nr_model.specs.Histories.{is_done}
 use Rattle.nr_model.specs.Strays.{keyed, strays}
 use Rattle.nr_machine.specs.declared.shape.Shape.{Shape}
@@ -99,6 +99,15 @@ answer_pinning state at key found = without_pin (pin_at state at) state (answer_
 
 abbrev pub answer_show : MapState → ℕ → MapOutcome
 answer_show state at = with_pin (pin_at state at) state (λ pin. (Ok (answers.Reply (reply.Rows pin.rows)), state))
+
+-- a reader finds a key again by its pin: where the key's set is the one that it pinned, by their put numbers, that is a find of the key
+abbrev pub find_again : KeyState → ℕ → Pin → Answer
+find_again (states.Hole n) put pin = answers.Other
+find_again (states.Asked n) put pin = answers.Other
+find_again (states.Rows n rows) put pin = if put == pin.put then answers.Reply (reply.Rows rows) else answers.Other
+
+abbrev pub answer_again : MapState → ℕ → ℕ → MapOutcome
+answer_again state at key = with_pin (pin_at state at) state (λ pin. (Ok (find_again (state_of state.map key) (slice_index state.puts key) pin), state))
 
 abbrev pub answer_unpin : MapState → ℕ → MapOutcome
 answer_unpin state at = with_pin (pin_at state at) state (λ pin. (Ok answers.Ok, pins_after state at None))

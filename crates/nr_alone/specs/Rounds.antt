@@ -24,12 +24,13 @@ pub record IsSoundWriter (writer : Caller) : Type 0 where
   pub callers : AreCallers writer.table.shape writer.seen
   pub lists : Lists (desk_seen writer) writer.marks writer.table.shape writer.seen
 
--- what the writer learnt of a reader; `log` is what it knew first: it has no more calls of the reader than the reader made
+-- what the writer learnt of a reader, and the reader of the writer; `log` is what the writer knew first: it has no more calls of the reader than the reader made
 pub record IsShown (log : List Entry) (writer : Caller) (seat : Seat) : Type 0 where
   pub few : StartsWith (mine_of seat) (entries_of log (caller_in seat).number)
   pub place : ℕ
   pub known : get_elem? writer.pasts place ≡ some (how_of seat)
   pub current : Current writer.retired writer.marks (how_of seat)
+  pub heard : StartsWith (caller_in seat).seen log
 
 -- the writer made no call, and forgot nothing
 pub record WriterStays (old new : Caller) : Type 0 where

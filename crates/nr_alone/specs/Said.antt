@@ -23,4 +23,5 @@ answer_said said.Evicted = answers.Reply reply.Evicted
 answer_said said.Nothing = answers.Reply reply.Nothing
 answer_said said.Cancelled = answers.Reply reply.Cancelled
 answer_said said.Worn = answers.Reply reply.Worn
+answer_said said.Other = answers.Other
 answer_said said.NoSlot = answers.NoSlot

@@ -9,8 +9,8 @@ use Rattle.nr_model.specs.Histories.{Entry, is_done}
 use Rattle.nr_machine.specs.Story.{entry}
 use Rattle.nr_marks.specs.Marks.{Past}
 use Rattle.nr_marks.specs.Puts.{put_number}
-use Rattle.nr_board.specs.Callers.{Caller, Gains, KnowsOwn, Rests, Table}
-use Rattle.nr_board.specs.Meetings.{how_is, with_step}
+use Rattle.nr_board.specs.Callers.{Caller, Gains, Grows, KnowsOwn, Rests, Table}
+use Rattle.nr_board.specs.Meetings.{HasPut, how_is, with_step}
 use Rattle.nr_board.specs.Rule.{StartsWith}
 use Rattle.nr_alone.specs.MapState.{Pin}
 use Rattle.nr_alone.specs.Answers.{Answer}
@@ -53,7 +53,7 @@ HoldsItsPin (Some pin) slot = IsSome slot
 abbrev pub SeatHoldsItsPin : Seat → Type 0
 SeatHoldsItsPin seat = HoldsItsPin (pin_of seat) (caller_in seat).holds
 
--- a reader's call with its reply; the history that it knew before had all that the writer had seen
+-- a reader's call with its reply; the history that it knew before had all that was heard
 pub record Calls (heard : List Entry) (call : Call) (reply' : Reply) (old new : Caller) : Type 0 where
   pub quiet : is_done reply' ≡ false
   pub table : new.table ≡ old.table
@@ -79,6 +79,7 @@ abbrev pub PinsBy : (Reply → Caller → Caller → Type 0) → ℕ → Seat �
 PinsBy Made key old new (Ok answers.Ok) =
     (rows : List Row) × Made (reply.Rows rows) (caller_in old) (caller_in new) × (pin_of old ≡ None) × (pin_of new ≡ Some (record { key = key; rows = rows; put = put_number (caller_in new).seen key })) × SeatHoldsItsPin new
 PinsBy Made key old new (Ok (answers.Reply reply')) = (reply' ≡ reply.Hole) × Made reply.Hole (caller_in old) (caller_in new) × (pin_of old ≡ None) × (pin_of new ≡ None) × SeatHoldsItsPin new
+PinsBy Made key old new (Ok answers.Other) = ⊥
 PinsBy Made key old new (Ok answers.NoSlot) = ⊥
 PinsBy Made key old new (Err refusals.Holding) = (new ≡ old) × IsSome (pin_of old)
 PinsBy Made key old new (Err refusals.NotHolding) = ⊥
@@ -95,9 +96,23 @@ Unpins old new (Ok answer) = (answer ≡ answers.Ok) × Rests 1 (caller_in old) 
 Unpins old new (Err refusals.Holding) = ⊥
 Unpins old new (Err refusals.NotHolding) = (new ≡ old) × (pin_of old ≡ None)
 
+-- what stays of a reader that reads by its pin
+abbrev pub KeepsPin : Seat → Seat → Type 0
+KeepsPin old new = (pin_of new ≡ pin_of old) × ((caller_in new).holds ≡ (caller_in old).holds)
+
 -- steps that read the pinned rows
 abbrev pub ShowsPin : Seat → Seat → Result Answer Refusal → Type 0
 ShowsPin old new (Ok answer) = (pin : Pin) × (pin_of old ≡ Some pin) × (answer ≡ answers.Reply (reply.Rows pin.rows)) × (steps : ℕ) × Rests steps (caller_in old) (caller_in new)
-    × (pin_of new ≡ pin_of old) × ((caller_in new).holds ≡ (caller_in old).holds)
+    × KeepsPin old new
 ShowsPin old new (Err refusals.Holding) = ⊥
 ShowsPin old new (Err refusals.NotHolding) = (new ≡ old) × (pin_of old ≡ None)
+
+-- a find by the pin: where the key has the set of its put it is the reader's call, answered with the pinned rows; else the reader learns the history so far
+abbrev pub FindsAgain : ℕ → Seat → Seat → Result Answer Refusal → Type 0
+FindsAgain key old new (Ok (answers.Reply reply')) = (pin : Pin) × (pin_of old ≡ Some pin) × (reply' ≡ reply.Rows pin.rows)
+    × Calls (caller_in old).seen (model.Find key) reply' (caller_in old) (caller_in new) × HasPut key pin.put (caller_in new) × KeepsPin old new
+FindsAgain key old new (Ok answers.Other) = (pin : Pin) × (pin_of old ≡ Some pin) × Grows 1 (caller_in old) [] (caller_in new) × (HasPut key pin.put (caller_in new) → ⊥) × KeepsPin old new
+FindsAgain key old new (Ok answers.Ok) = ⊥
+FindsAgain key old new (Ok answers.NoSlot) = ⊥
+FindsAgain key old new (Err refusals.Holding) = ⊥
+FindsAgain key old new (Err refusals.NotHolding) = (new ≡ old) × (pin_of old ≡ None)

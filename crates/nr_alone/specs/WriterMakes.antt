@@ -29,6 +29,7 @@ pub record FindsNoSlot (call : Call) (old new : Caller) : Type 0 where
 
 abbrev pub WriterMakes : Call → Caller → Caller → Answer → Type 0
 WriterMakes call old new answers.Ok = ⊥
+WriterMakes call old new answers.Other = ⊥
 WriterMakes call old new answers.NoSlot = FindsNoSlot call old new
 WriterMakes call old new (answers.Reply reply.Done) = PutsSet call old new
 WriterMakes call old new (answers.Reply other) = Replies call other old new

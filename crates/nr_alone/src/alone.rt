@@ -7,7 +7,7 @@ ghost use Rattle.nr_alone.specs.WriterCalls.{model_call, writer_key};
 ghost use Rattle.nr_alone.specs.declared.seat.Seat.TheVariants.{Idle};
 
 use crate::answer::{Answer, Refusal};
-use crate::calls::{ask_at, find_at, pin_at, show_at, unpin_at};
+use crate::calls::{again_at, ask_at, find_at, pin_at, show_at, unpin_at};
 use crate::premises::laws;
 use crate::round::gather_round;
 use crate::seat::Seat;
@@ -40,7 +40,7 @@ impl Model for Alone {
 impl Alone {
     ghost use Rattle.nr_model.specs.Maps.{FillFits, key_count, number_of, state_of};
     ghost use Rattle.nr_model.specs.declared.calls.Call.TheVariants as model;
-    ghost use Rattle.nr_alone.specs.MapState.{answer_call, answer_of_reader, answer_pinning, answer_show, answer_unpin, opened_map};
+    ghost use Rattle.nr_alone.specs.MapState.{answer_again, answer_call, answer_of_reader, answer_pinning, answer_show, answer_unpin, opened_map};
 
     /// A map of that shape, each key a hole. Refused where the shape is out of its limits, and then
     /// where there is no memory.
@@ -151,6 +151,24 @@ impl Alone {
     {
         laws();
         let answer = show_at(&self.map, &mut self.seats[at], rows)?;
+        gather_round(&self.map, &mut self.writer, self.seats.as_mut_slice(), at);
+        Ok(answer)
+    }
+
+    /// Finds a key again by a reader's pin: where the key has the set that the reader pinned, its
+    /// rows are written into the set.
+    pub fn again<'a>(
+        &mut self,
+        at: usize,
+        key: u32,
+        rows: &'a mut RowSet,
+    ) -> Result<Answer<'a>, Refusal>
+        requires reader { at < length self.old.pins }
+        requires key { key < key_count self.old.map }
+        ensures { answer_again self.old at key ≡ (result, self.new) }
+    {
+        laws();
+        let answer = again_at(&self.map, &mut self.seats[at], key, rows)?;
         gather_round(&self.map, &mut self.writer, self.seats.as_mut_slice(), at);
         Ok(answer)
     }

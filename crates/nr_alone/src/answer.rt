@@ -25,6 +25,8 @@ pub enum Said<'a> {
     Nothing,
     Cancelled,
     Worn,
+    /// The key doesn't have the set that the reader has pinned.
+    Other,
     /// A set would be put, and each slot has the set of a key or one that is still pinned.
     NoSlot,
 }

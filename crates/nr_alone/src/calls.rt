@@ -1,7 +1,7 @@
 //! The calls of one reader.
 ghost use Rattle.std.specs.Prelude.{◌≡◌, ◌<◌};
 ghost use Rattle.nr_model.specs.declared.calls.Call.TheVariants as model;
-ghost use Rattle.nr_alone.specs.Seats.{caller_in, GainsFind, MakesCall, MakesPin, NotesFor, PinsBy, ShowsPin, Unpins};
+ghost use Rattle.nr_alone.specs.Seats.{caller_in, FindsAgain, GainsFind, MakesCall, MakesPin, NotesFor, PinsBy, ShowsPin, Unpins};
 
 use crate::answer::{Answer, Refusal, Said};
 use crate::seat::Seat;
@@ -112,6 +112,30 @@ pub(crate) fn show_at<'a>(
             })
         }
     }
+}
+
+/// Whether a key still has the set that a reader has pinned: its rows where that is so. A reader
+/// with a pin meets nobody before: the round after each line has told it what the writer had seen.
+pub(crate) fn again_at<'a>(
+    map: &ReaderMap,
+    seat: &mut Seat,
+    key: u32,
+    rows: &'a mut RowSet,
+) -> Result<Answer<'a>, Refusal>
+    requires own { (caller_in seat.old).table ≡ map.now }
+    requires key { key < map.now.shape.keys }
+    ensures { FindsAgain key seat.old seat.new result }
+{
+    let Seat::Pinned(pin, _) = seat else {
+        return Err(Refusal::NotHolding);
+    };
+    if !pin.again(map, key) {
+        return Ok(Answer { said: Said::Other });
+    }
+    pin.copy_to(map, rows);
+    Ok(Answer {
+        said: Said::Rows(rows),
+    })
 }
 
 pub(crate) fn unpin_at(map: &ReaderMap, seat: &mut Seat) -> Result<Answer<'static>, Refusal>

@@ -12,6 +12,7 @@ enum Line {
     Ask(usize),
     Pin(usize),
     Show(usize),
+    Again(usize),
     Unpin(usize),
     Fill(u64),
     FillAs(u64, u64),
@@ -39,6 +40,7 @@ enum Said {
     Worn,
     Holding,
     NotHolding,
+    OtherSet,
     Other,
 }
 
@@ -68,6 +70,7 @@ fn told(answer: Result<Answer<'_>, Refusal>) -> Said {
             Told::Cancelled => Said::Cancelled,
             Told::Worn => Said::Worn,
             Told::NoSlot => Said::NoSlot,
+            Told::Other => Said::OtherSet,
             _ => Said::Other,
         },
         Err(Refusal::Holding) => Said::Holding,
@@ -116,6 +119,7 @@ fn by_reader(map: &mut Alone, key: u32, at: usize, line: Line) -> Said {
         Line::Ask(_) => told(map.ask(at, key)),
         Line::Pin(_) => told(map.pin(at, key)),
         Line::Show(_) => told(map.show(at, &mut rows)),
+        Line::Again(_) => told(map.again(at, key, &mut rows)),
         _ => told(map.unpin(at)),
     }
 }
@@ -126,9 +130,12 @@ fn answer(map: &mut Alone, key: u32, line: Line) -> Said {
     }
     let mut found = RowSet::new();
     match line {
-        Line::Find(at) | Line::Ask(at) | Line::Pin(at) | Line::Show(at) | Line::Unpin(at) => {
-            by_reader(map, key, at, line)
-        }
+        Line::Find(at)
+        | Line::Ask(at)
+        | Line::Pin(at)
+        | Line::Show(at)
+        | Line::Again(at)
+        | Line::Unpin(at) => by_reader(map, key, at, line),
         Line::Fill(a) => {
             let number = map.number(key);
             filled(map, key, number, a)
@@ -234,6 +241,36 @@ const APART: Lines = &[
 #[test]
 fn sets_of_equal_rows_count_apart(rt: HostRuntime) -> Result<(), Fail> {
     runs(&rt, &shape(1, 3, 2), APART)
+}
+
+// A pin finds its key again by the put that it holds, and by no other, whatever the rows are.
+const AGAIN: Lines = &[
+    (0, Line::Ask(0), Said::Send(0)),
+    (0, Line::Again(0), Said::NotHolding),
+    (0, Line::Fill(1), Said::Done),
+    (0, Line::Pin(0), Said::Ok),
+    (0, Line::Again(0), Said::Row(1)),
+    (0, Line::Again(1), Said::NotHolding),
+    (1, Line::Again(0), Said::OtherSet),
+    (1, Line::Ask(1), Said::Send(0)),
+    (1, Line::Again(0), Said::OtherSet),
+    (1, Line::Fill(1), Said::Done),
+    (1, Line::Again(0), Said::OtherSet),
+    (0, Line::Again(0), Said::Row(1)),
+    (0, Line::Update(1, 1), Said::Done),
+    (0, Line::Again(0), Said::OtherSet),
+    (0, Line::Show(0), Said::Row(1)),
+    (0, Line::Pin(1), Said::Ok),
+    (0, Line::Again(1), Said::Row(1)),
+    (0, Line::Evict, Said::Evicted),
+    (0, Line::Again(1), Said::OtherSet),
+    (0, Line::Unpin(0), Said::Ok),
+    (0, Line::Again(0), Said::NotHolding),
+];
+
+#[test]
+fn a_pin_finds_its_key_again_until_it_is_put_anew(rt: HostRuntime) -> Result<(), Fail> {
+    runs(&rt, &shape(2, 4, 2), AGAIN)
 }
 
 const NUMBERS: Lines = &[

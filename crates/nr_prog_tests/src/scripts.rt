@@ -147,6 +147,35 @@ update 0 +3:3|done
 show 2|rows 1:1
 ";
 
+// The pin's own put alone is found again: neither equal rows that were put anew nor those of another key are.
+const A_PIN_FINDS_ITS_KEY_AGAIN: Lines = "open 2 4 2|ok
+again 1 0|not-holding
+ask 1 0|send
+fill 0 2:2 1:1|done
+pin 1 0|ok
+again 1 0|rows 1:1 2:2
+again 1 1|other
+ask 2 1|send
+again 1 1|other
+fill 1 1:1 2:2|done
+again 1 1|other
+again 1 2|no-key
+again 3 0|no-reader
+again 2 0|not-holding
+again 1|bad
+again 1 0 0|bad
+update 0 +3:3 -3:3|done
+again 1 0|other
+pin 2 0|ok
+again 2 0|rows 1:1 2:2
+evict 0|evicted
+again 2 0|other
+ask 1 0|holding
+show 1|rows 1:1 2:2
+unpin 1|ok
+again 1 0|not-holding
+";
+
 const NO_SLOT_COMES_LAST: Lines = "open 2 1 1|ok
 ask 1 0|send
 fill 0 4:4|done
@@ -306,7 +335,7 @@ update 0 +3:3 -1:1|done
 find 1 0|rows 2:2 3:3
 ";
 
-const SCRIPTS: [Lines; 23] = [
+const SCRIPTS: [Lines; 24] = [
     EMPTY_INPUT,
     FIRST_PATH,
     UNASKED_KEYS_TAKE_NOTHING,
@@ -321,6 +350,7 @@ const SCRIPTS: [Lines; 23] = [
     AN_EVICTION_GIVES_ITS_SLOT_BACK,
     TWO_PINS_OF_ONE_SET_COUNT_ONCE,
     EQUAL_SETS_PUT_TWICE_COUNT_APART,
+    A_PIN_FINDS_ITS_KEY_AGAIN,
     NO_SLOT_COMES_LAST,
     REFUSALS_IN_THEIR_ORDER,
     WORDS_OF_LINES,

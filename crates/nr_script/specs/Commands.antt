@@ -3,7 +3,7 @@ use Rattle.std.specs.Prelude.{ℕ, ◌&&◌, nat_lt, nat_le, if◌then◌else◌
 use Rattle.std.specs.List.{list_all}
 use Rattle.std.specs.Str.{bytes_eq}
 use Rattle.nr_script.specs.declared.command.Command.{Command}
-use Rattle.nr_script.specs.declared.command.Command.TheVariants.{Open, Find, Ask, Fill, FillAs, Update, Evict, Cancel, Look, Pin, Show, Unpin}
+use Rattle.nr_script.specs.declared.command.Command.TheVariants.{Open, Find, Ask, Fill, FillAs, Update, Evict, Cancel, Look, Pin, Show, Again, Unpin}
 use Rattle.nr_text.specs.Grammar.{number, filling, filling_as, updating}
 use Rattle.nr_text.specs.Opening.{opening_of_words}
 
@@ -44,5 +44,6 @@ script_command (name ∷ more) =
     else if bytes_eq name (codes "look") then key_alone Look more
     else if bytes_eq name (codes "pin") then reader_and_key Pin more
     else if bytes_eq name (codes "show") then reader_alone Show more
+    else if bytes_eq name (codes "again") then reader_and_key Again more
     else if bytes_eq name (codes "unpin") then reader_alone Unpin more
     else None

@@ -8,7 +8,7 @@ use Rattle.nr_model.specs.Maps.{key_count, state_of, number_of}
 use Rattle.nr_alone.specs.Answers.{Answer}
 use Rattle.nr_alone.specs.declared.answer.Refusal.{Refusal as MapRefusal}
 use Rattle.nr_alone.specs.declared.answer.Refusal.TheVariants as map_refusals
-use Rattle.nr_alone.specs.MapState.{MapState, MapOutcome, answer_call, answer_of_reader, answer_pinning, answer_show, answer_unpin, opened_map}
+use Rattle.nr_alone.specs.MapState.{MapState, MapOutcome, answer_again, answer_call, answer_of_reader, answer_pinning, answer_show, answer_unpin, opened_map}
 use Rattle.nr_names.specs.declared.faults.NameFault.{NameFault}
 use Rattle.nr_names.specs.declared.faults.NameFault.TheVariants as names
 use Rattle.nr_names.specs.declared.table.TheConstants.{LONGEST_NAME}
@@ -16,7 +16,7 @@ use Rattle.nr_names.specs.Naming.{no_names, intern_reply, next_naming, adds}
 use Rattle.nr_script.specs.declared.keys.Keys.{Keys}
 use Rattle.nr_script.specs.declared.keys.Keys.TheVariants as kinds
 use Rattle.nr_script.specs.declared.command.Command.{Command}
-use Rattle.nr_script.specs.declared.command.Command.TheVariants.{Open, Find, Ask, Fill, FillAs, Update, Evict, Cancel, Look, Pin as PinKey, Show, Unpin}
+use Rattle.nr_script.specs.declared.command.Command.TheVariants.{Open, Find, Ask, Fill, FillAs, Update, Evict, Cancel, Look, Pin as PinKey, Show, Again, Unpin}
 use Rattle.nr_script.specs.declared.answer.Refusal.{Refusal}
 use Rattle.nr_script.specs.declared.answer.Refusal.TheVariants as refusals
 use Rattle.nr_text.specs.Opening.{shape_of_opening}
@@ -132,6 +132,7 @@ answer_opened_script script (Look word) = with_found (found_key script word) (λ
 answer_opened_script script (PinKey reader word) =
     with_found (found_by_reader script reader word) (λ key after. by_map after (answer_pinning after.state (reader - 1) key (state_of after.state.map key)))
 answer_opened_script script (Show reader) = with_found (found_reader script reader, script) (λ _ of_reader. by_map of_reader (answer_show of_reader.state (reader - 1)))
+answer_opened_script script (Again reader word) = with_found (found_by_reader script reader word) (λ key after. by_map after (answer_again after.state (reader - 1) key))
 answer_opened_script script (Unpin reader) = with_found (found_reader script reader, script) (λ _ of_reader. by_map of_reader (answer_unpin of_reader.state (reader - 1)))
 
 -- the command has such a word for its key; nothing else that it does takes memory
@@ -145,6 +146,7 @@ adds_by script (Evict word) = adds_key script.keys word
 adds_by script (Cancel word) = adds_key script.keys word
 adds_by script (Look word) = adds_key script.keys word
 adds_by script (PinKey reader word) = adds_key script.keys word
+adds_by script (Again reader word) = adds_key script.keys word
 adds_by script other = false
 
 -- what stands for the keys when a script is opened

@@ -9,6 +9,7 @@ use Rattle.nr_script.specs.declared.answer.Refusal.TheVariants as refusal
 abbrev pub spelled_script_answer : Answer → List ℕ
 spelled_script_answer answer.Ok = codes "ok"
 spelled_script_answer (answer.Reply reply) = spelled_reply reply
+spelled_script_answer answer.Other = codes "other"
 spelled_script_answer answer.NoSlot = codes "no-slot"
 
 abbrev pub spelled_script_refusal : Refusal → List ℕ

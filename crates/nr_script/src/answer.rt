@@ -69,6 +69,7 @@ impl fmt::Display for AnswerWord<'_> {
             Said::Nothing => f.write_str("nothing"),
             Said::Cancelled => f.write_str("cancelled"),
             Said::Worn => f.write_str("worn"),
+            Said::Other => f.write_str("other"),
             Said::NoSlot => f.write_str("no-slot"),
         }
     }

@@ -93,6 +93,10 @@ pub(crate) enum Command<'a> {
     Show {
         reader: u64,
     },
+    Again {
+        reader: u64,
+        key: KeyWord<'a>,
+    },
     Unpin {
         reader: u64,
     },
@@ -152,6 +156,10 @@ pub(crate) fn parse<'a>(line: &'a [u8], given: &'a mut Given) -> Option<Command<
     if name == b"show".as_slice() {
         let reader = reader_alone(words)?;
         return Some(Command::Show { reader });
+    }
+    if name == b"again".as_slice() {
+        let (reader, key) = reader_and_key(words)?;
+        return Some(Command::Again { reader, key });
     }
     if name == b"unpin".as_slice() {
         let reader = reader_alone(words)?;

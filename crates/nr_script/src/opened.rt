@@ -2,7 +2,7 @@
 ghost use Rattle.std.specs.Prelude.{◌≡◌, ◌<◌, ◌≤◌, ◌-◌, length, IfOk, IfErr, OnOk, OnErr, IsTrue, Ok, Err};
 ghost use Rattle.nr_model.specs.Maps.{FillFits, key_count, last_number, state_of};
 ghost use Rattle.nr_model.specs.declared.calls.Call.TheVariants as model;
-ghost use Rattle.nr_alone.specs.MapState.{answer_pinning, answer_show, answer_unpin};
+ghost use Rattle.nr_alone.specs.MapState.{answer_again, answer_pinning, answer_show, answer_unpin};
 ghost use Rattle.nr_alone.specs.WriterCalls.{model_call, writer_key};
 ghost use Rattle.nr_script.specs.declared.command.Command.TheVariants as command;
 ghost use Rattle.nr_script.specs.Opened.{adds_by, adds_key, answer_opened_script, by_map, called, called_by, found_by_reader, found_key, found_reader, found_set, script_has_reader, with_found};
@@ -116,6 +116,10 @@ impl Opened {
                 Err(refusal) => Ok(Err(refusal)),
             },
             Command::Show { reader } => Ok(self.show(*reader, found)),
+            Command::Again { reader, key } => match self.key_by_reader(*reader, key)? {
+                Ok(key) => Ok(self.again(*reader, key, found)),
+                Err(refusal) => Ok(Err(refusal)),
+            },
             Command::Unpin { reader } => Ok(self.unpin(*reader)),
         }
     }
@@ -217,6 +221,19 @@ impl Opened {
     {
         self.check_reader(reader)?;
         Ok(self.map.show(place(reader), found)?)
+    }
+
+    fn again<'a>(
+        &mut self,
+        reader: u64,
+        key: u32,
+        found: &'a mut RowSet,
+    ) -> Result<Answer<'a>, Refusal>
+        requires reader { (0 < reader) × (reader ≤ length self.old.state.pins) }
+        requires key { key < key_count self.old.state.map }
+        ensures { by_map self.old (answer_again self.old.state (reader - 1) key) ≡ (result, self.new) }
+    {
+        Ok(self.map.again(place(reader), key, found)?)
     }
 
     fn unpin(&mut self, reader: u64) -> Result<Answer<'static>, Refusal>
