@@ -106,6 +106,7 @@ impl<'a, G: Gate> Client<'a, G> {
 
     /// A note of what the client has seen, in 1 step of its reader. Else the client stays as it is.
     pub fn note(&mut self) -> Note
+        ensures own { result.table ≡ self.old.map }
         ensures note { result ≡ known_to self.old.hands.reader }
         ensures knows { KnowsOwn self.old.hands.reader }
         ensures rest { self.new ≡ record self.old { hands = with_reader self.old.hands (with_step self.old.hands.reader) } }

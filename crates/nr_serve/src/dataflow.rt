@@ -184,6 +184,7 @@ impl<'a, S: Source> Dataflow<'a, S> {
     /// A note of what the dataflow has seen, in 1 step of its writer. Else the dataflow stays as it
     /// is.
     pub fn note(&mut self) -> Note
+        ensures own { result.table ≡ self.old.map }
         ensures note { result ≡ known_to self.old.writer }
         ensures knows { KnowsOwn self.old.writer }
         ensures rest { self.new ≡ record self.old { writer = with_step self.old.writer } }

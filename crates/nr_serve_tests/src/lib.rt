@@ -7,6 +7,8 @@ mod clients;
 #[cfg(test)]
 mod flows;
 #[cfg(test)]
+mod notes;
+#[cfg(test)]
 mod opened;
 #[cfg(test)]
 mod threads;
