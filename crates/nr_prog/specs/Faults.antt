@@ -1,8 +1,10 @@
 -- The lines that the program writes of faults, and of words that it can do nothing with.
-use Rattle.std.specs.Prelude.{ℕ, List, [], ◌∷◌, ◌++◌, codes}
+use Rattle.std.specs.Prelude.{ℕ, ◌⊎◌, List, [], ◌∷◌, ◌++◌, Option, codes}
+use Rattle.std.specs.Io.KnownBytes.{Appends}
 use Rattle.nr_lines.specs.declared.fault.RunFault.{RunFault}
 use Rattle.nr_lines.specs.declared.fault.RunFault.TheVariants as faults
 use Rattle.nr_lines.specs.Lines.{line_feed}
+use Rattle.nr_lines.specs.Output.{AppendsSome}
 use Rattle.nr_prog.specs.declared.task.Misuse.{Misuse}
 use Rattle.nr_prog.specs.declared.task.Misuse.TheVariants as misuse
 
@@ -23,3 +25,7 @@ line_of_misuse misuse.Seed = line (codes "nr: seed must be 0 to 1844674407370955
 line_of_misuse misuse.Readers = line (codes "nr: readers must be 1 to 1024")
 line_of_misuse misuse.Keys = line (codes "nr: keys must be 1 to 65536")
 line_of_misuse misuse.Gets = line (codes "nr: gets must be 0 to 1000000")
+
+-- a line is written, all of it, or some where a write may fail
+abbrev pub Tells : Type 0 → Option (List ℕ) → Option (List ℕ) → List ℕ → Type 0
+Tells may_fail held holds line = Appends held holds line ⊎ (may_fail × AppendsSome held holds line)

@@ -2,15 +2,14 @@
 use Rattle.std.specs.Prelude.{ℕ, ◌≡◌, ◌+◌, ◌==◌, ◌⊎◌, Bool, if◌then◌else◌, List, ◌++◌, codes, Option, Result, Ok, Err}
 use Rattle.std.specs.Fmt.{decimal}
 use Rattle.std.specs.Io.KnownBytes.{Appends}
-use Rattle.nr_lines.specs.declared.fault.RunFault.{RunFault}
 use Rattle.nr_lines.specs.declared.fault.RunFault.TheVariants as faults
-use Rattle.nr_lines.specs.Output.{AppendsSome, Sends}
+use Rattle.nr_lines.specs.Output.{AppendsSome}
 use Rattle.nr_load.specs.declared.fault.LoadFault.{LoadFault}
 use Rattle.nr_load.specs.declared.fault.LoadFault.TheVariants as load_faults
 use Rattle.nr_load.specs.declared.load.LoadReport.{LoadReport}
 use Rattle.nr_load.specs.declared.load.Plan.{Plan}
 use Rattle.nr_load.specs.Reports.{ComesTo}
-use Rattle.nr_prog.specs.Faults.{line, line_of}
+use Rattle.nr_prog.specs.Faults.{Tells, line, line_of}
 
 -- each request that was sent was filled or is still pending
 abbrev pub is_balanced : LoadReport → Bool
@@ -39,13 +38,13 @@ abbrev pub MayComeTo : Plan → Result LoadReport LoadFault → Type 0
 MayComeTo plan (Ok report) = ComesTo plan report
 MayComeTo plan (Err fault) = Unit {0}
 
--- The report is written, or some of it by a fault of the writer, whose line follows; a load's fault has its line alone.
-abbrev pub TellsLoad : Result LoadReport LoadFault → ℕ → Result (Unit {0}) RunFault → Option (List ℕ) → Option (List ℕ) → Type 0
-TellsLoad (Ok report) status told held holds =
+-- The report is written, or some of it where a write may fail, and the line of that fault; a load's fault has its line alone.
+abbrev pub TellsLoad : Type 0 → Result LoadReport LoadFault → ℕ → Option (List ℕ) → Option (List ℕ) → Type 0
+TellsLoad may_fail (Ok report) status held holds =
     ((status ≡ report_status report) × Appends held holds (report_text report))
-    ⊎ ((status ≡ 1) × (wrote : Option (List ℕ)) × AppendsSome held wrote (report_text report) × Sends wrote holds (line_of faults.Write) told)
-TellsLoad (Err fault) status told held holds = (status ≡ 1) × Sends held holds (line_of_load fault) told
+    ⊎ (may_fail × (status ≡ 1) × (wrote : Option (List ℕ)) × AppendsSome held wrote (report_text report) × Tells may_fail wrote holds (line_of faults.Write))
+TellsLoad may_fail (Err fault) status held holds = (status ≡ 1) × Tells may_fail held holds (line_of_load fault)
 
 -- a load of this plan is run, and what it came to is told
-abbrev pub EndsLoad : Plan → ℕ → Result (Unit {0}) RunFault → Option (List ℕ) → Option (List ℕ) → Type 0
-EndsLoad plan status told held holds = (ended : Result LoadReport LoadFault) × MayComeTo plan ended × TellsLoad ended status told held holds
+abbrev pub EndsLoad : Type 0 → Plan → ℕ → Option (List ℕ) → Option (List ℕ) → Type 0
+EndsLoad may_fail plan status held holds = (ended : Result LoadReport LoadFault) × MayComeTo plan ended × TellsLoad may_fail ended status held holds

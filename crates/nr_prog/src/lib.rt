@@ -2,6 +2,7 @@
 //! schedules nr_schedule's; both are served by nr_lines. A load is nr_load's.
 #![tactic(auto)]
 
+mod output;
 mod program;
 mod report;
 mod task;

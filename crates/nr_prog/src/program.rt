@@ -1,15 +1,14 @@
 //! The program: what its arguments ask for, and what it tells of a fault.
-ghost use Rattle.std.specs.Prelude.{◌≡◌, map, string_bytes, Result, Ok, MatchResult};
-ghost use Rattle.nr_lines.specs.declared.fault.RunFault as faults;
-ghost use Rattle.nr_lines.specs.Output.{Sends};
-ghost use Rattle.nr_prog.specs.Faults.{line_of, line_of_misuse};
+ghost use Rattle.std.specs.Prelude.{◌≡◌, map, string_bytes, Ok, MatchResult};
+ghost use Rattle.nr_prog.specs.Faults.{Tells, line_of, line_of_misuse};
 ghost use Rattle.nr_prog.specs.Loads.{line_of_load, report_text, TellsLoad};
 ghost use Rattle.nr_prog.specs.Program.{EndsTask, ReadsNothing};
 ghost use Rattle.nr_prog.specs.Tasks.{task};
 
+use crate::output::Output;
 use crate::report::{report_of, report_status};
 use crate::task::{Misuse, Task, task_of};
-use nr_lines::{RunFault, write_all};
+use nr_lines::RunFault;
 use nr_load::{LoadFault, LoadReport};
 use nr_schedule::run_steps;
 use nr_script::run;
@@ -55,71 +54,68 @@ pub fn main_with<T: Threads + Wait + Sync, R: Read, W: Write>(
     reader: &mut R,
     writer: &mut W,
 ) -> u8
-    ensures ends { (told : Result (Unit {0}) faults.RunFault) ×
-        EndsTask (task (map string_bytes args.now)) result told (R.remaining reader.old) (R.remaining reader.new) (W.contents writer.old) (W.contents writer.new) }
+    ensures ends { EndsTask (Unit {0}) (task (map string_bytes args.now)) result (R.remaining reader.old) (R.remaining reader.new) (W.contents writer.old) (W.contents writer.new) }
     ensures unread { ReadsNothing (task (map string_bytes args.now)) → reader.new ≡ reader.old }
 {
-    let end = match task_of(args) {
+    main_to(rt, alloc, args, reader, writer)
+}
+
+/// The same, to a writer of which it is told whether a write may fail.
+fn main_to<T: Threads + Wait + Sync, R: Read, O: Output>(
+    rt: &T,
+    alloc: Global,
+    args: &[String],
+    reader: &mut R,
+    output: &mut O,
+) -> u8
+    ensures ends { EndsTask O.may_fail (task (map string_bytes args.now)) result (R.remaining reader.old) (R.remaining reader.new) (O.contents output.old) (O.contents output.new) }
+    ensures unread { ReadsNothing (task (map string_bytes args.now)) → reader.new ≡ reader.old }
+{
+    match task_of(args) {
         Task::Script => {
-            let ran = run(alloc, reader, writer);
-            End::of_run(ran, writer)
+            let ran = run(alloc, reader, output);
+            end_of_run(ran, output)
         }
         Task::Schedule => {
-            let ran = run_steps(alloc, reader, writer);
-            End::of_run(ran, writer)
+            let ran = run_steps(alloc, reader, output);
+            end_of_run(ran, output)
         }
         Task::Load(plan) => match report_of(rt, alloc, &plan) {
-            Ok(reported) => End::of_report(&reported.report, reported.text.as_str(), writer),
-            Err(fault) => End::with_line(1, line_of_load(fault), writer),
+            Ok(reported) => end_of_report(&reported.report, reported.text.as_str(), output),
+            Err(fault) => end_with_line(1, line_of_load(fault), output),
         },
-        Task::Explain(misuse) => End::with_line(2, line_of_misuse(misuse), writer),
-    };
-    end.status
+        Task::Explain(misuse) => end_with_line(2, line_of_misuse(misuse), output),
+    }
 }
 
-/// How the program ended: its exit status, and whether its last line could be written, if it has one.
-#[derive(Drop)]
-struct End {
-    status: u8,
-    told: Result<(), RunFault>,
+/// The end with this status, whose line is written as far as it can be.
+fn end_with_line<O: Output>(status: u8, line: &[u8], output: &mut O) -> u8
+    ensures { (result ≡ status) × Tells O.may_fail (O.contents output.old) (O.contents output.new) line.now }
+{
+    let _ = output.tell(line);
+    status
 }
 
-impl End {
-    /// The end with this status, whose line is written.
-    fn with_line<W: Write>(status: u8, line: &[u8], writer: &mut W) -> End
-        ensures { (result.status ≡ status) × Sends (W.contents writer.old) (W.contents writer.new) line.now result.told }
-    {
-        let told = write_all(writer, line);
-        End { status, told }
+/// The end after a run. The line of a fault is written.
+fn end_of_run<O: Output>(ran: Result<(), RunFault>, output: &mut O) -> u8
+    ensures { MatchResult ran
+        (λ _. (result ≡ 0) × (O.contents output.new ≡ O.contents output.old))
+        (λ fault. (result ≡ 1) × Tells O.may_fail (O.contents output.old) (O.contents output.new) (line_of fault)) }
+{
+    match ran {
+        Ok(()) => 0,
+        Err(fault) => end_with_line(1, line_of(fault), output),
     }
+}
 
-    /// The end after a run. The line of a fault is written.
-    fn of_run<W: Write>(ran: Result<(), RunFault>, writer: &mut W) -> End
-        ensures { MatchResult ran
-            (λ _. (result.status ≡ 0) × (W.contents writer.new ≡ W.contents writer.old))
-            (λ fault. (result.status ≡ 1) × Sends (W.contents writer.old) (W.contents writer.new) (line_of fault) result.told) }
-    {
-        match ran {
-            Ok(()) => End {
-                status: 0,
-                told: ran,
-            },
-            Err(fault) => End::with_line(1, line_of(fault), writer),
-        }
-    }
-
-    /// The end after a load with this report. A report that can't be written is a fault.
-    fn of_report<W: Write>(report: &LoadReport, text: &str, writer: &mut W) -> End
-        requires { text.now ≡ report_text report.now }
-        ensures { TellsLoad (Ok report.now) result.status result.told (W.contents writer.old) (W.contents writer.new) }
-    {
-        match write_all(writer, text.as_bytes()) {
-            Ok(()) => End {
-                status: report_status(report),
-                told: Ok(()),
-            },
-            Err(fault) => End::of_run(Err(fault), writer),
-        }
+/// The end after a load with this report. A report that can't be written is a fault.
+fn end_of_report<O: Output>(report: &LoadReport, text: &str, output: &mut O) -> u8
+    requires { text.now ≡ report_text report.now }
+    ensures { TellsLoad O.may_fail (Ok report.now) result (O.contents output.old) (O.contents output.new) }
+{
+    match output.tell(text.as_bytes()) {
+        Ok(()) => report_status(report),
+        Err(_) => end_with_line(1, line_of(RunFault::Write), output),
     }
 }
 
