@@ -52,7 +52,8 @@ impl Hand {
     /// Lets go what is held, in 1 step, and gives the reader back; no step where nothing is held.
     pub fn into_reader(self, map: &ReaderMap) -> Reader
         requires own { self.reader.table ≡ map.now }
-        ensures { LetsGo self (idle result) }
+        ensures own { result.table ≡ map.now }
+        ensures lets_go { LetsGo self (idle result) }
     {
         let mut hand = self;
         hand.release(map);
@@ -95,6 +96,7 @@ impl Hand {
     pub fn copy_to<R: RowRoom>(&mut self, map: &ReaderMap, rows: &mut R)
         requires own { self.old.reader.table ≡ map.now }
         requires holds { IsSome self.old.key }
+        ensures own { self.new.reader.table ≡ map.now }
         ensures copied { R.shows rows.new self.old.rows }
         ensures reads { Reads (2 * length self.old.rows) self.old self.new }
     {
@@ -107,7 +109,8 @@ impl Hand {
     /// Lets go what is held, in 1 step; no step where nothing is.
     pub fn release(&mut self, map: &ReaderMap)
         requires own { self.old.reader.table ≡ map.now }
-        ensures { LetsGo self.old self.new }
+        ensures own { self.new.reader.table ≡ map.now }
+        ensures lets_go { LetsGo self.old self.new }
     {
         if let Some(held) = self.held {
             map.board.depart(&mut self.seat, held.begin);
@@ -120,7 +123,8 @@ impl Hand {
     pub fn pin(&mut self, map: &ReaderMap, key: u32) -> bool
         requires own { self.old.reader.table ≡ map.now }
         requires key { key < map.now.shape.keys }
-        ensures { PinsByHand key self.old self.new result }
+        ensures own { self.new.reader.table ≡ map.now }
+        ensures pins { PinsByHand key self.old self.new result }
     {
         self.release(map);
         let found = parts(map.board.arrive(&mut self.seat, key));
@@ -139,7 +143,8 @@ impl Hand {
     pub fn again(&mut self, map: &ReaderMap, key: u32) -> bool
         requires own { self.old.reader.table ≡ map.now }
         requires key { key < map.now.shape.keys }
-        ensures { AgainByHand key self.old self.new result }
+        ensures own { self.new.reader.table ≡ map.now }
+        ensures again { AgainByHand key self.old self.new result }
     {
         match self.held {
             Some(held) if held.key == key => map.board.find_again(&mut self.seat, held.begin, key),

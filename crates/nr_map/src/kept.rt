@@ -12,7 +12,8 @@ impl Hand {
     pub fn find<R: RowRoom>(&mut self, map: &ReaderMap, key: u32, rows: &mut R) -> Found
         requires own { self.old.reader.table ≡ map.now }
         requires key { key < map.now.shape.keys }
-        ensures { FindsAndLetsGo R.shows key self.old rows.old self.new rows.new result }
+        ensures own { self.new.reader.table ≡ map.now }
+        ensures finds { FindsAndLetsGo R.shows key self.old rows.old self.new rows.new result }
     {
         let found = self.find_anew(map, key, rows);
         self.release(map);
@@ -26,7 +27,8 @@ impl Hand {
     pub fn find_kept<R: RowRoom>(&mut self, map: &ReaderMap, key: u32, rows: &mut R) -> Found
         requires own { self.old.reader.table ≡ map.now }
         requires key { key < map.now.shape.keys }
-        ensures { FindsKept R.shows key self.old rows.old self.new rows.new result }
+        ensures own { self.new.reader.table ≡ map.now }
+        ensures finds { FindsKept R.shows key self.old rows.old self.new rows.new result }
     {
         if self.again(map, key) {
             self.copy_to(map, rows);
@@ -39,7 +41,8 @@ impl Hand {
     fn find_anew<R: RowRoom>(&mut self, map: &ReaderMap, key: u32, rows: &mut R) -> Found
         requires own { self.old.reader.table ≡ map.now }
         requires key { key < map.now.shape.keys }
-        ensures { FindsAnew R.shows (departures self.old.key) key self.old rows.old self.new rows.new result }
+        ensures own { self.new.reader.table ≡ map.now }
+        ensures finds { FindsAnew R.shows (departures self.old.key) key self.old rows.old self.new rows.new result }
     {
         if !self.pin(map, key) {
             return Found::Hole;
