@@ -1,5 +1,6 @@
 pub mod Rounds
 pub mod Pins
+pub mod Hands
 pub mod Written
 pub mod Opened
 pub mod Tickets

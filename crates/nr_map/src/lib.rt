@@ -20,6 +20,8 @@
 
 mod answers;
 mod cancels;
+mod hand;
+mod kept;
 pub mod laws;
 mod meetings;
 mod notes;
@@ -31,6 +33,7 @@ mod writer;
 mod writer_calls;
 
 pub use answers::Asked;
+pub use hand::Hand;
 pub use notes::Note;
 pub use nr_board::{Cancel, Evict, FillFault, Found, KeyKind, UpdateFault};
 pub use nr_core::{MAX_READERS, MAX_SLOTS, NoSlot, Shape};

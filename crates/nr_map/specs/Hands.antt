@@ -1,0 +1,132 @@
+-- A reader that is idle or holds the set of a key.
+use Rattle.std.specs.Prelude.{◌≡◌, ◌≢◌, ℕ, ◌+◌, ◌*◌, ◌==◌, ◌⊎◌, Bool, true, false, if◌then◌else◌, List, [], length, Option, Some, None, IsSome}
+use Rattle.atomic_table.specs.declared.shared.Seat.{Seat}
+use Rattle.nr_model.specs.declared.rows.Row.{Row}
+use Rattle.nr_model.specs.Rows.{IsRowSet}
+use Rattle.nr_model.specs.declared.calls.Call.TheVariants as model
+use Rattle.nr_model.specs.declared.calls.Reply.TheVariants as reply
+use Rattle.nr_machine.specs.declared.roles.Grip.TheVariants.{Nothing}
+use Rattle.nr_machine.specs.declared.roles.Role.TheVariants.{Reader}
+use Rattle.nr_marks.specs.Marks.{Marks, acted}
+use Rattle.nr_marks.specs.MarkSteps.{found_again}
+use Rattle.nr_marks.specs.Puts.{put_number}
+use Rattle.nr_board.specs.declared.answers.Found.{Found}
+use Rattle.nr_board.specs.declared.answers.Found.TheVariants as found
+use Rattle.nr_board.specs.Callers.{Caller, Gains, Grows, KnowsOwn, Rests, token}
+use Rattle.nr_board.specs.Meetings.{HasPut}
+use Rattle.nr_board.specs.Rule.{StartsWith}
+use Rattle.nr_board.specs.Views.{View, rows_held}
+use Rattle.nr_map.specs.declared.hand.Held.{Held}
+use Rattle.nr_map.specs.Pins.{Pins}
+
+-- the reader, the key whose set it holds, and the rows of that set; none where it holds nothing
+pub record Handed : Type 0 where
+  pub reader : Caller
+  pub key : Option ℕ
+  pub rows : List Row
+
+-- of a reader that holds nothing
+abbrev pub idle : Caller → Handed
+idle reader = record { reader = reader; key = None; rows = [] }
+
+abbrev pub key_held : Option Held → Option ℕ
+key_held None = None
+key_held (Some held) = Some held.key
+
+abbrev pub handed : Seat (Unit {0}) View → Option Held → Handed
+handed seat held = record { reader = token seat; key = key_held held; rows = rows_held seat.me.0.role }
+
+-- the seat is that of a reader, which holds nothing or what stands there
+abbrev pub IsHand : Seat (Unit {0}) View → ℕ → Option Held → Type 0
+IsHand seat number None = (seat.me.0.role ≡ Reader number Nothing) × KnowsOwn (token seat)
+IsHand seat number (Some held) = Pins seat number held.begin held.count
+
+-- whoever holds a set lets it go by one step, an act; who holds nothing makes none
+abbrev pub departures : Option ℕ → ℕ
+departures None = 0
+departures (Some key) = 1
+
+abbrev pub departed : Option ℕ → Marks → Marks
+departed None marks = marks
+departed (Some key) marks = acted marks marks.put
+
+pub record LetsGo (old new : Handed) : Type 0 where
+  pub key_is : new.key ≡ None
+  pub rows : new.rows ≡ []
+  pub holds : new.reader.holds ≡ None
+  pub rests : Rests (departures old.key) old.reader new.reader
+  pub marks : new.reader.marks ≡ departed old.key old.reader.marks
+
+-- in so many steps the hand read of what it holds, and nothing else changed
+pub record Reads (steps : ℕ) (old new : Handed) : Type 0 where
+  pub key_is : new.key ≡ old.key
+  pub rows : new.rows ≡ old.rows
+  pub rests : Rests steps old.reader new.reader
+  pub holds : new.reader.holds ≡ old.reader.holds
+  pub marks : new.reader.marks ≡ old.reader.marks
+
+-- after a find it holds the key's set, or it holds nothing at a hole; what it held before is let go
+pub record HoldsKey (key : ℕ) (old new : Handed) : Type 0 where
+  pub key_is : new.key ≡ Some key
+  pub row_set : IsRowSet old.reader.table.shape.rows new.rows
+  pub holds : IsSome new.reader.holds
+  pub marks : new.reader.marks ≡ acted (departed old.key old.reader.marks) (put_number new.reader.seen key)
+
+pub record HoldsNothing (key : ℕ) (old new : Handed) : Type 0 where
+  pub key_is : new.key ≡ None
+  pub rows : new.rows ≡ []
+  pub holds : new.reader.holds ≡ None
+  pub marks : new.reader.marks ≡ acted (departed old.key old.reader.marks) (put_number new.reader.seen key)
+
+-- a pin by a hand is a find, before which it lets go what it held
+abbrev pub PinsByHand : ℕ → Handed → Handed → Bool → Type 0
+PinsByHand key old new true = Gains (departures old.key + 2) old.reader (model.Find key) (reply.Rows new.rows) new.reader × HoldsKey key old new
+PinsByHand key old new false = Gains (departures old.key + 1) old.reader (model.Find key) reply.Hole new.reader × HoldsNothing key old new
+
+-- whether the hand asks whether the key has its set still: where it holds a set of that key
+abbrev pub asks : ℕ → Option ℕ → ℕ
+asks key None = 0
+asks key (Some held) = (if held == key then 1 else 0)
+
+-- the key has the set still that the hand holds, and the find is answered with its rows in so many steps; nothing is let go
+pub record FindsHeld (steps key : ℕ) (old new : Handed) : Type 0 where
+  pub held : old.key ≡ Some key
+  pub gains : Gains steps old.reader (model.Find key) (reply.Rows old.rows) new.reader
+  pub put : HasPut key old.reader.marks.put new.reader
+  pub key_is : new.key ≡ old.key
+  pub rows : new.rows ≡ old.rows
+  pub holds : new.reader.holds ≡ old.reader.holds
+  pub marks : new.reader.marks ≡ found_again true old.reader.marks
+
+-- the hand asked, in 1 step that is no entry, and the key had another set or none
+pub record AsksInVain (key : ℕ) (old new : Handed) : Type 0 where
+  pub grows : Grows 1 old.reader [] new.reader
+  pub other : HasPut key old.reader.marks.put new.reader → ⊥
+  pub key_is : new.key ≡ old.key
+  pub rows : new.rows ≡ old.rows
+  pub holds : new.reader.holds ≡ old.reader.holds
+  pub marks : new.reader.marks ≡ old.reader.marks
+
+-- a hand finds a key again, or asked in vain, or holds no set of the key and makes no step
+abbrev pub AgainByHand : ℕ → Handed → Handed → Bool → Type 0
+AgainByHand key old new true = FindsHeld 1 key old new
+AgainByHand key old new false = (old.key ≡ Some key → AsksInVain key old new) × (old.key ≢ Some key → new ≡ old)
+
+-- a find into any room that arrives after so many steps and keeps what it holds; a hole leaves the room as it was
+abbrev pub FindsAnew : {Room : Type 0} → (Room → List Row → Type 0) → ℕ → ℕ → Handed → Room → Handed → Room → Found → Type 0
+FindsAnew shows begun key old before new room found.Rows = Gains (begun + 2 * length new.rows + 2) old.reader (model.Find key) (reply.Rows new.rows) new.reader × HoldsKey key old new × shows room new.rows
+FindsAnew shows begun key old before new room found.Hole = Gains (begun + 1) old.reader (model.Find key) reply.Hole new.reader × HoldsNothing key old new × (room ≡ before)
+
+-- such a find, after which nothing is held
+abbrev pub FindsAndLetsGo : {Room : Type 0} → (Room → List Row → Type 0) → ℕ → Handed → Room → Handed → Room → Found → Type 0
+FindsAndLetsGo shows key old before new room answer = (kept : Handed) × FindsAnew shows (departures old.key) key old before kept room answer × LetsGo kept new
+
+-- the hand asked in vain before it came to where it is
+abbrev pub AskedBefore : ℕ → Handed → Handed → Type 0
+AskedBefore key old new = (asked : Handed) × AsksInVain key old asked × StartsWith new.reader.seen asked.reader.seen
+
+-- a find by a hand that keeps its hold: it reads the rows that it holds where the key has them still, and else finds anew, but asks first whether it need
+abbrev pub FindsKept : {Room : Type 0} → (Room → List Row → Type 0) → ℕ → Handed → Room → Handed → Room → Found → Type 0
+FindsKept shows key old before new room answer =
+    (FindsHeld (2 * length old.rows + 1) key old new × shows room old.rows × (answer ≡ found.Rows))
+    ⊎ ((old.key ≡ Some key → AskedBefore key old new) × FindsAnew shows (asks key old.key + departures old.key) key old before new room answer)

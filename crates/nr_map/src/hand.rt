@@ -1,0 +1,154 @@
+//! A reader that is idle or holds the set of a key, from call to call.
+ghost use Rattle.std.specs.Prelude.{◌≡◌, ◌<◌, ◌*◌, length, IsSome};
+ghost use Rattle.nr_map.specs.Hands.{AgainByHand, LetsGo, PinsByHand, Reads, idle};
+
+use crate::reader::Reader;
+use crate::reader_map::ReaderMap;
+use nr_board::Seat;
+use nr_model::RowRoom;
+use nr_words::parts;
+use std::marker::Model;
+
+/// A reader between two calls, whether it holds nothing or the set that it found of a key. What it
+/// holds stays as it is until a call lets it go. A hand can't be dropped: its reader is taken out of
+/// it.
+pub struct Hand {
+    seat: Seat,
+    number: u32,
+    held: Option<Held>,
+}
+
+// The key whose set is held, where the slot's first content word stands, and how many rows it has.
+#[derive(Clone, Copy)]
+pub(crate) struct Held {
+    key: u32,
+    begin: u64,
+    count: u32,
+}
+
+impl Model for Hand {
+    ghost use Rattle.nr_map.specs.Hands.{Handed, IsHand, handed};
+
+    ghost Value = { Handed };
+
+    ghost view = { λ hand. handed hand.seat hand.held };
+
+    ghost invariant = { λ hand. IsHand hand.seat hand.number hand.held };
+}
+
+impl Hand {
+    /// A hand of a reader, which holds nothing.
+    pub fn of(reader: Reader) -> Hand
+        ensures { result ≡ idle reader }
+    {
+        let (seat, number) = reader.into_seat();
+        Hand {
+            seat,
+            number,
+            held: None,
+        }
+    }
+
+    /// Lets go what is held, in 1 step, and gives the reader back; no step where nothing is held.
+    pub fn into_reader(self, map: &ReaderMap) -> Reader
+        requires own { self.reader.table ≡ map.now }
+        ensures own { result.table ≡ map.now }
+        ensures lets_go { LetsGo self (idle result) }
+    {
+        let mut hand = self;
+        hand.release(map);
+        let Hand {
+            seat,
+            number,
+            held: _,
+        } = hand;
+        Reader::of_seat(seat, number)
+    }
+
+    /// The number of its reader.
+    pub fn number(&self) -> u32
+        ensures { result ≡ self.now.reader.number }
+    {
+        self.number
+    }
+
+    /// The key whose set is held.
+    pub fn key(&self) -> Option<u32>
+        ensures { result ≡ self.now.key }
+    {
+        match self.held {
+            Some(held) => Some(held.key),
+            None => None,
+        }
+    }
+
+    /// How many rows are held.
+    pub fn len(&self) -> u32
+        ensures { result ≡ length self.now.rows }
+    {
+        match self.held {
+            Some(held) => held.count,
+            None => 0,
+        }
+    }
+
+    /// Writes the rows that are held over those of the caller's, in 2 steps a row.
+    pub fn copy_to<R: RowRoom>(&mut self, map: &ReaderMap, rows: &mut R)
+        requires own { self.old.reader.table ≡ map.now }
+        requires holds { IsSome self.old.key }
+        ensures own { self.new.reader.table ≡ map.now }
+        ensures copied { R.shows rows.new self.old.rows }
+        ensures reads { Reads (2 * length self.old.rows) self.old self.new }
+    {
+        if let Some(held) = self.held {
+            map.board
+                .copy_rows(&mut self.seat, held.begin, held.count, rows);
+        }
+    }
+
+    /// Lets go what is held, in 1 step; no step where nothing is.
+    pub fn release(&mut self, map: &ReaderMap)
+        requires own { self.old.reader.table ≡ map.now }
+        ensures own { self.new.reader.table ≡ map.now }
+        ensures lets_go { LetsGo self.old self.new }
+    {
+        if let Some(held) = self.held {
+            map.board.depart(&mut self.seat, held.begin);
+            self.held = None;
+        }
+    }
+
+    /// Lets go what is held, and finds a key and holds its set: whether the key is filled. Takes 2
+    /// steps, 1 for a hole, and 1 more where something was held.
+    pub fn pin(&mut self, map: &ReaderMap, key: u32) -> bool
+        requires own { self.old.reader.table ≡ map.now }
+        requires key { key < map.now.shape.keys }
+        ensures own { self.new.reader.table ≡ map.now }
+        ensures pins { PinsByHand key self.old self.new result }
+    {
+        self.release(map);
+        let found = parts(map.board.arrive(&mut self.seat, key));
+        if !found.filled {
+            return false;
+        }
+        let begin = map.board.content(found.slot);
+        let count = map.board.read(&mut self.seat, begin, 0) as u32;
+        self.held = Some(Held { key, begin, count });
+        true
+    }
+
+    /// Finds a key again: whether it still has the set that is held, put by the same fill or update.
+    /// Then this is a find of the key, which is answered with the rows that are held. Takes 1 step,
+    /// which loads one word and writes none, and no step where no set of that key is held.
+    pub fn again(&mut self, map: &ReaderMap, key: u32) -> bool
+        requires own { self.old.reader.table ≡ map.now }
+        requires key { key < map.now.shape.keys }
+        ensures own { self.new.reader.table ≡ map.now }
+        ensures again { AgainByHand key self.old self.new result }
+    {
+        match self.held {
+            Some(held) if held.key == key => map.board.find_again(&mut self.seat, held.begin, key),
+            _ => false,
+        }
+    }
+}

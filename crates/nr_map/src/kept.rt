@@ -1,0 +1,53 @@
+//! Finds by a hand, which may keep what it found for the next one.
+ghost use Rattle.std.specs.Prelude.{◌≡◌, ◌<◌};
+ghost use Rattle.nr_map.specs.Hands.{FindsAndLetsGo, FindsAnew, FindsKept, departures};
+
+use crate::hand::Hand;
+use crate::reader_map::ReaderMap;
+use nr_board::Found;
+use nr_model::RowRoom;
+
+impl Hand {
+    /// Lets go what is held, and looks a key up as `find_into` of the map does: nothing is held then.
+    pub fn find<R: RowRoom>(&mut self, map: &ReaderMap, key: u32, rows: &mut R) -> Found
+        requires own { self.old.reader.table ≡ map.now }
+        requires key { key < map.now.shape.keys }
+        ensures own { self.new.reader.table ≡ map.now }
+        ensures finds { FindsAndLetsGo R.shows key self.old rows.old self.new rows.new result }
+    {
+        let found = self.find_anew(map, key, rows);
+        self.release(map);
+        found
+    }
+
+    /// Looks a key up and holds its set for the next call. Where it holds the key's set already and
+    /// finds it again, it takes 2n + 1 steps for n rows, which write no word. Else it lets go what it
+    /// held, arrives, reads and holds: 2n + 2 steps, 1 for a hole, and 1 more where something was
+    /// held, and yet 1 where that was another set of the key.
+    pub fn find_kept<R: RowRoom>(&mut self, map: &ReaderMap, key: u32, rows: &mut R) -> Found
+        requires own { self.old.reader.table ≡ map.now }
+        requires key { key < map.now.shape.keys }
+        ensures own { self.new.reader.table ≡ map.now }
+        ensures finds { FindsKept R.shows key self.old rows.old self.new rows.new result }
+    {
+        if self.again(map, key) {
+            self.copy_to(map, rows);
+            return Found::Rows;
+        }
+        self.find_anew(map, key, rows)
+    }
+
+    // Lets go what is held, arrives, reads and holds.
+    fn find_anew<R: RowRoom>(&mut self, map: &ReaderMap, key: u32, rows: &mut R) -> Found
+        requires own { self.old.reader.table ≡ map.now }
+        requires key { key < map.now.shape.keys }
+        ensures own { self.new.reader.table ≡ map.now }
+        ensures finds { FindsAnew R.shows (departures self.old.key) key self.old rows.old self.new rows.new result }
+    {
+        if !self.pin(map, key) {
+            return Found::Hole;
+        }
+        self.copy_to(map, rows);
+        Found::Rows
+    }
+}
