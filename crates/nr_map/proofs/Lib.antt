@@ -5,3 +5,4 @@ pub mod Seating
 pub mod SetRooms
 pub mod NoSlots
 pub mod SlotBounds
+pub mod RowBounds
