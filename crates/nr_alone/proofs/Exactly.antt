@@ -1,5 +1,5 @@
 -- The history is exactly that of the calls that were made.
-use Rattle.std.proofs.Common.{◌≡◌, ◌≢◌, ◌<◌, ◌≤◌, ℕ, suc, ◌+◌, List, [], ◌∷◌, ◌++◌, Bool, true, cond, ◌==◌, length, map, take, drop, ⊎_elim, get_or, refl, sym, ap, ◌∙◌, subst, arith, eq-eqb, ne_eqb}
+use Rattle.std.proofs.Common.{◌≡◌, ◌≢◌, ◌<◌, ◌≤◌, ℕ, suc, ◌+◌, List, [], ◌∷◌, ◌++◌, Bool, cond, ◌==◌, length, map, take, drop, get_or, refl, sym, ap, ◌∙◌, subst, arith, eq-eqb, ne_eqb}
 use Rattle.std.proofs.lemmas.List.{append-nil, append_cancel_left, get_or-map, take-append-drop}
 use Rattle.std.proofs.lemmas.List.Elements.{filter-append}
 use Rattle.std.proofs.lemmas.List.Sums.{sum_by-cons}
@@ -9,9 +9,9 @@ use mathlib.Core.Logic.{dite}
 use native.Mathlib.Decide.{ℕ_discrete}
 use Rattle.nr_model.specs.Histories.{Entry, IsLegal, entries_of}
 use Rattle.nr_model.specs.Laws.{LegalBegins}
-use Rattle.nr_machine.specs.declared.shape.Shape.{Shape}
 use Rattle.nr_board.specs.Callers.{Caller, Table, map_at_opening}
-use Rattle.nr_board.specs.Entries.{AreCallers, is_reading}
+use Rattle.nr_board.proofs.Entries.{callers_before}
+use Rattle.nr_board.specs.Entries.{AreCallers}
 use Rattle.nr_map.specs.Rounds.{EntriesAreCallers}
 use Rattle.nr_board.specs.Rule.{StartsWith}
 use Rattle.nr_alone.specs.declared.seat.Seat.{Seat}
@@ -25,21 +25,6 @@ entries_own entry log caller is = ap (λ (b : Bool). cond b (entry ∷ entries_o
 
 pub entries_other : (entry : Entry) (log : List Entry) (caller : ℕ) → entry.caller ≢ caller → entries_of (entry ∷ log) caller ≡ entries_of log caller
 entries_other entry log caller isnt = ap (λ (b : Bool). cond b (entry ∷ entries_of log caller) (entries_of log caller)) (ne_eqb entry.caller caller isnt)
-
--- a beginning of a history of callers' entries is one, and has no entries of others
-pub callers_begin : (shape : Shape) (log rest : List Entry) → AreCallers shape (log ++ rest) → AreCallers shape log
-callers_begin shape [] rest are = tt
-callers_begin shape (e ∷ log) rest are = (are.0, callers_begin shape log rest are.1)
-
-pub callers_end : (shape : Shape) (log rest : List Entry) → AreCallers shape (log ++ rest) → AreCallers shape rest
-callers_end shape [] rest are = are
-callers_end shape (e ∷ log) rest are = callers_end shape log rest are.1
-
-pub nobody_else : (shape : Shape) (log : List Entry) (caller : ℕ) → AreCallers shape log → shape.readers < caller → entries_of log caller ≡ []
-nobody_else shape [] caller are beyond = refl
-nobody_else shape (e ∷ log) caller are beyond =
-    let isnt : e.caller ≢ caller = λ is. ⊎_elim (λ (none : e.caller ≡ 0). omega arith) (λ (some : (e.caller ≤ shape.readers) × (is_reading e.call ≡ true)). let low = some.0 in omega arith) are.0.1 in
-    entries_other e log caller isnt ∙ nobody_else shape log caller are.1 beyond
 
 abbrev head_or : Entry → List Entry → Entry
 head_or d [] = d
@@ -105,7 +90,7 @@ as_many entries begins table w seats log own zero_is count places sound goes jus
       number = zero_is;
       own = ap (entries_of log) zero_is ∙ just 0;
       legal = begins (map_at_opening w.table) log goes.rest (subst (λ (l : List Entry). IsLegal (map_at_opening w.table) l) goes.is sound.legal);
-      callers = callers_begin w.table.shape log goes.rest (subst (λ (l : List Entry). AreCallers w.table.shape l) goes.is sound.callers);
+      callers = callers_before w.table.shape log goes.rest (subst (λ (l : List Entry). AreCallers w.table.shape l) goes.is sound.callers);
       count = size ∙ count ∙ ap (λ (t : Table). t.shape.readers) (sym own);
       numbers = λ at other low.
           ap (λ (r : Caller). r.number) (get_or-map caller_in seats at (Idle other) other (inside at low)) ∙ (places at (Idle other) (inside at low)).number ∙ next at;

@@ -16,7 +16,8 @@ use Rattle.nr_board.specs.Callers.{Caller, Table, map_seen, map_at_opening}
 use Rattle.nr_board.specs.Entries.{AreCallers, is_reading}
 use Rattle.nr_alone.specs.declared.seat.Seat.{Seat}
 use Rattle.nr_alone.specs.Alone.{IsAlone, log_of}
-use Rattle.nr_alone.proofs.Exactly.{callers_end, entries_own, log_begins}
+use Rattle.nr_alone.proofs.Exactly.{entries_own, log_begins}
+use Rattle.nr_board.proofs.Entries.{callers_of_more}
 
 abbrev cancels_it : ℕ → Entry → Bool
 cancels_it key e = cancels_key key e.call && is_cancelled e.reply
@@ -43,7 +44,7 @@ left_of false e log none = none
 none_cancelled : (shape : Shape) (key : ℕ) (rest : List Entry) → AreCallers shape rest → entries_of rest 0 ≡ [] → cancels rest key ≡ 0
 none_cancelled shape key [] are none = refl
 none_cancelled shape key (e ∷ rest) are none = ⊎_elim
-    (λ (own : e.caller ≡ 0). let some_there : e ∷ entries_of rest 0 ≡ [] = sym (entries_own e rest 0 own) ∙ none in absurd (cc))
+    (λ own. let some_there : e ∷ entries_of rest 0 ≡ [] = sym (entries_own e rest 0 own.0) ∙ none in absurd (cc))
     (λ (other : (e.caller ≤ shape.readers) × (is_reading e.call ≡ true)). omega
     (arith, one_more key e rest, reading_cancels_none key e.call e.reply other.1, none_cancelled shape key rest are.1 (left_of (e.caller == 0) e (entries_of rest 0) none)))
     are.0.1
@@ -54,7 +55,7 @@ number_is counts begins table w seats alone key low =
     let shape = table.shape in let log : List Entry = log_of w seats in let goes = log_begins w seats in
     let legal : IsLegal (map_at_opening table) w.seen = subst (λ (t : Table). IsLegal (map_at_opening t) w.seen) alone.stands.own alone.sound.legal in
     let legal' : IsLegal (map_at_opening table) log = begins (map_at_opening table) log goes.rest (subst (λ (l : List Entry). IsLegal (map_at_opening table) l) goes.is legal) in
-    let callers : AreCallers shape goes.rest = callers_end shape log goes.rest (subst (λ (l : List Entry). AreCallers shape l) goes.is (subst (λ (t : Table). AreCallers t.shape w.seen) alone.stands.own alone.sound.callers)) in
+    let callers : AreCallers shape goes.rest = callers_of_more shape log goes.rest (subst (λ (l : List Entry). AreCallers shape l) goes.is (subst (λ (t : Table). AreCallers t.shape w.seen) alone.stands.own alone.sound.callers)) in
     let his : entries_of w.seen 0 ≡ w.mine = ap (entries_of w.seen) (sym alone.stands.number) ∙ alone.sound.own in
     let none : entries_of goes.rest 0 ≡ [] = append_cancel_left w.mine (entries_of goes.rest 0) []
     (ap (λ (l : List Entry). l ++ entries_of goes.rest 0) (sym (alone.stands.just 0)) ∙ sym (filter-append (λ (k : Entry). k.caller == 0) log goes.rest) ∙ ap (λ (l : List Entry). entries_of l 0) (sym goes.is) ∙ his ∙ sym (append-nil w.mine)) in

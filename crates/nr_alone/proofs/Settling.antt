@@ -14,7 +14,8 @@ use Rattle.nr_alone.specs.Rounds.{Gathered}
 use Rattle.nr_alone.specs.Alone.{HasJust, IsSeat, Laws, ReadyForRound, calls_of, log_of}
 use Rattle.nr_alone.specs.Lines.{IsLine, SettlesLine}
 use Rattle.nr_alone.proofs.Rounds.{same_at, same_length, starts_both, starts_each, starts_then}
-use Rattle.nr_alone.proofs.Exactly.{calls_at, nobody_else, exact_step, log_begins, log_is, many_mines}
+use Rattle.nr_board.proofs.Entries.{nobody_else}
+use Rattle.nr_alone.proofs.Exactly.{calls_at, exact_step, log_begins, log_is, many_mines}
 
 pub map_still : {B : Type 0} (f : Still → B) (xs : List Seat) → map f (map still xs) ≡ map (λ (x : Seat). f (still x)) xs
 map_still f [] = refl

@@ -20,5 +20,5 @@ callers_of_more shape (e ∷ log) entries all = callers_of_more shape log entrie
 pub nobody_else : (shape : Shape) (log : List Entry) (caller : ℕ) → AreCallers shape log → shape.readers < caller → entries_of log caller ≡ []
 nobody_else shape [] caller all beyond = refl
 nobody_else shape (e ∷ log) caller all beyond =
-    let other : e.caller ≢ caller = λ is. ⊎_elim (λ writes. absurd (omega arith)) (λ reads. absurd (let low = reads.0 in omega arith)) all.0.1 in
+    let other : e.caller ≢ caller = λ is. ⊎_elim (λ writes. absurd (let writer = writes.0 in omega arith)) (λ reads. absurd (let low = reads.0 in omega arith)) all.0.1 in
     ap (λ (b : Bool). cond b (e ∷ entries_of log caller) (entries_of log caller)) (ne_eqb e.caller caller other) ∙ nobody_else shape log caller all.1 beyond

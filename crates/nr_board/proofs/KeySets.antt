@@ -29,7 +29,7 @@ reading_leaves bound (model.Cancel key) number rows reads = absurd (cc)
 -- an entry of a reader, where none is the writer's
 reads_first : (shape : Shape) (e : Entry) (log : List Entry) → IsCallers shape e → entries_of (e ∷ log) 0 ≡ [] → (is_reading e.call ≡ true) × (entries_of log 0 ≡ [])
 reads_first shape e log is none = ⊎_elim
-    (λ (writes : e.caller ≡ 0). let here : e ∷ entries_of log 0 ≡ [] = sym (ap (λ (b : Bool). cond b (e ∷ entries_of log 0) (entries_of log 0)) (eq-eqb e.caller 0 writes)) ∙ none in absurd (cc))
+    (λ writes. let here : e ∷ entries_of log 0 ≡ [] = sym (ap (λ (b : Bool). cond b (e ∷ entries_of log 0) (entries_of log 0)) (eq-eqb e.caller 0 writes.0)) ∙ none in absurd (cc))
     (λ reads. (
       reads.1,
       dite (ℕ_discrete e.caller 0)

@@ -13,6 +13,7 @@ pub mod BoardPlaces
 pub mod ReaderSeats
 pub mod Room
 pub mod Shortage
+pub mod Brings
 pub mod WriterSteps
 pub mod PollNotes
 pub mod Polled

@@ -1,5 +1,5 @@
 -- The writer's steps on the table: the look of each call, and every later step.
-use Rattle.std.proofs.Common.{eq-eqb, inl, inr, ⊎_elim, nat_le, ◌≡◌, ℕ, suc, ◌+◌, ◌-◌, ◌*◌, ◌<◌, ◌≤◌, List, [], ◌++◌, Bool, true, false, cond, map, set, get_or, le-leb, length, take, refl, sym, ap, ◌∙◌, subst, arith, append-nil}
+use Rattle.std.proofs.Common.{eq-eqb, inl, inr, ⊎_elim, nat_le, ◌≡◌, ℕ, suc, ◌+◌, ◌-◌, ◌*◌, ◌<◌, ◌≤◌, List, [], ◌∷◌, ◌++◌, Bool, true, false, cond, map, set, get_or, le-leb, length, take, refl, sym, ap, ◌∙◌, subst, arith, append-nil}
 use Rattle.std.specs.Prelude.{None, Some}
 use mathlib.Core.Option.{some}
 use lib.ListN.{get_elem?}
@@ -18,7 +18,7 @@ use Rattle.nr_core.proofs.ReadThrough.{read_next, read_set}
 use Rattle.nr_core.proofs.Guards.{no_some}
 use Rattle.nr_core.proofs.Settle.{key_same}
 use Rattle.nr_core.proofs.Sums.{here_after}
-use Rattle.nr_core.specs.Core.{AreNumbers, AtPlace, Core}
+use Rattle.nr_core.specs.Core.{AreNumbers, AtPlace, Core, Wants}
 use Rattle.nr_machine.specs.Given.{IsGivenCall}
 use Rattle.nr_machine.specs.Operations.{becomes, going, target_of}
 use Rattle.nr_machine.specs.declared.operation.Operation.{Operation}
@@ -48,6 +48,7 @@ use Rattle.nr_marks.proofs.LookMarks.{looks_marked}
 use Rattle.nr_marks.specs.MarkSteps.{GoesMarks, LooksMarks, PutsMarks, went_marks}
 use Rattle.nr_marks.specs.Marked.{IsPresent, KnowsMarks, MarkTelling, NotesPresent, Remarked}
 use Rattle.nr_core.proofs.Choices.{by_cases}
+use Rattle.nr_board.proofs.Brings.{given_brings, reads_no_fill, wants_brings, writer_entries}
 use Rattle.nr_board.proofs.Learning.{shows_kind}
 use Rattle.nr_board.proofs.Polled.{PolledAll, go_polled, look_polled}
 use Rattle.nr_marks.specs.Marks.{Marks, Past, gripped}
@@ -68,20 +69,14 @@ writer_is role desk is = ap (λ r. is_by (caller_number r) r) is
 writer_shape : (shape : Shape) (log : List Entry) (view : View) (desk : Desk) → view.role ≡ Writer desk → Fits shape log view → view.shape ≡ shape
 writer_shape shape log view desk is fits = fits.sized (let one : is_writer view.role ≡ 1 = ap is_writer is in omega arith)
 
--- a call that ends is an entry of the writer's
-writer_entries : (shape : Shape) (call : Call) (step : Step) → call_key call < shape.keys → AreCallers shape (ending call step)
-writer_entries shape call Going near = tt
-writer_entries shape call (Ended (writer.Reply answer)) near = ((near, inl refl), tt)
-writer_entries shape call (Ended (writer.NoSlot counts)) near = tt
-
 -- one writer has one desk
 same_desk : (role : Role) (desk other : Desk) → role ≡ Writer desk → role ≡ Writer other → desk ≡ other
 same_desk role desk other is also = sym (ap desk_of is) ∙ ap desk_of also
 
 module _ (shape : Shape) (id : ℕ) (view : View) (desk : Desk) (is : view.role ≡ Writer desk) (operation : Operation) (tells : Telling) (notes : MarkTelling) (state : State (Unit {0}) View) (kept : Kept shape state) (at : get_elem? state.views id ≡ some view)
-    (step : Stepped shape state.words (map role_of state.views) kept.log id view.role operation tells) (marked : Remarked role_of marks_of shape state.words state.views kept.log id view operation step.after step.entries notes) (no_news : marked.news ≡ []) (call : Call) (outcome : Desk × Step) (role_told : step.after ≡ Writer outcome.0) (entries_told : step.entries ≡ ending call outcome.1) (near : call_key call < shape.keys) where
+    (step : Stepped shape state.words (map role_of state.views) kept.log id view.role operation tells) (marked : Remarked role_of marks_of shape state.words state.views kept.log id view operation step.after step.entries notes) (no_news : marked.news ≡ []) (call : Call) (outcome : Desk × Step) (role_told : step.after ≡ Writer outcome.0) (entries_told : step.entries ≡ ending call outcome.1) (callers : AreCallers shape (ending call outcome.1)) where
   callers_told : AreCallers shape step.entries
-  callers_told = subst (AreCallers shape) (sym entries_told) (writer_entries shape call outcome.1 near)
+  callers_told = subst (AreCallers shape) (sym entries_told) callers
 
   acts_told_so : ActsGo view step.after step.entries marked.now
   acts_told_so reads = absurd (let none : is_reader step.after ≡ 0 = ap is_reader role_told in omega arith)
@@ -128,11 +123,11 @@ looks_so shape slots id me desk call is idle given near = let view = me.0 in let
     let there : get_elem? (map role_of state.views) id ≡ some (Writer desk) = at_map role_of state.views id view at ∙ ap some is in
     let short : (counts : NoSlot) → outcome.1 ≡ Ended (writer.NoSlot counts) → Shortage shape kept.log desk c outcome counts × PolledAll shape desk.retired marked.now.polls = λ counts without. (look_short shape state.words (map role_of state.views) kept.log kept.core id desk there counts call near without, look_polled shape view.marks desk call found step.after (kept.log ++ step.entries) marked.now marked.news marked.told (counts, without)) in
     let size = writer_shape shape kept.log view desk is (kept.fits id view at) in
-    let near_call : call_key c < shape.keys = subst (λ (k : ℕ). k < shape.keys) (sym (key_same call)) near in
-    writes shape id view desk is operation tells notes state kept at step marked marked.told.1 c outcome step.told.0 step.told.1 near_call (λ next. (other : Desk) → view.role ≡ Writer other → Looked other call found view next)
+    let callers = writer_entries shape c outcome.1 (subst (λ (k : ℕ). k < shape.keys) (sym (key_same call)) near) (given_brings (bound_of shape) call given) in
+    writes shape id view desk is operation tells notes state kept at step marked marked.told.1 c outcome step.told.0 step.told.1 callers (λ next. (other : Desk) → view.role ≡ Writer other → Looked other call found view next)
     (λ advances other also. let next = learned view step.after (kept.log ++ step.entries) step.entries marked.now marked.news in
     subst (λ (d : Desk). Looked d call found view next) (same_desk view.role desk other is also) (record {
-      leads = subst (λ (s : Shape). Leads c (looked s desk call found) view next) (sym size) (leads_so shape id view desk is operation tells notes state kept at step marked marked.told.1 c outcome step.told.0 step.told.1 near_call short advances);
+      leads = subst (λ (s : Shape). Leads c (looked s desk call found) view next) (sym size) (leads_so shape id view desk is operation tells notes state kept at step marked marked.told.1 c outcome step.told.0 step.told.1 callers short advances);
       marks = subst (λ (p : Shape × List Past). LooksMarks p.0 view.marks desk call found step.after (kept.log ++ step.entries) marked.now p.1) (λ j. (sym size j, marked.told.1 j)) marked.told;
     })))
 
@@ -158,20 +153,23 @@ ending_there (Withdrawing key) step busy = refl
 ending_there (Searching call rows poll) step busy = refl
 ending_there (Putting call rows slot departed index) step busy = refl
 
--- the key of a call that goes on is one of the map's
-near_there : (shape : Shape) (words : List ℕ) (roles : List Role) (log : List Entry) → Core shape words roles log → (id : ℕ) (desk : Desk) → get_elem? roles id ≡ some (Writer desk) → (place : Place) → desk.place ≡ place → if_not_busy place ≡ None → call_key (call_at place) < shape.keys
-near_there shape words roles log core id desk there place is busy = go place busy (subst (AtPlace shape words (map_after shape log) (held roles) desk.fresh desk.retired) is (core.knows id (Writer desk) there).place)
+-- a call that goes on ends with an entry of the writer's
+entries_there : (shape : Shape) (words : List ℕ) (roles : List Role) (log : List Entry) → Core shape words roles log → (id : ℕ) (desk : Desk) → get_elem? roles id ≡ some (Writer desk) → (place : Place) → desk.place ≡ place → if_not_busy place ≡ None → (found : ℕ) → AreCallers shape (ending (call_at place) (went shape desk place found).1)
+entries_there shape words roles log core id desk there place is busy found = go place busy (subst (AtPlace shape words (map_after shape log) (held roles) desk.fresh desk.retired) is (core.knows id (Writer desk) there).place)
   where
-    of_call : (call : WriterCall) → key_of call < shape.keys → call_key (call_of call) < shape.keys
-    of_call call near = subst (λ (k : ℕ). k < shape.keys) (sym (key_same call)) near
+    near_call : (call : WriterCall) → key_of call < shape.keys → call_key (call_of call) < shape.keys
+    near_call call near = subst (λ (k : ℕ). k < shape.keys) (sym (key_same call)) near
 
-    go : (at : Place) → if_not_busy at ≡ None → AtPlace shape words (map_after shape log) (held roles) desk.fresh desk.retired at → call_key (call_at at) < shape.keys
+    of_set : (call : WriterCall) (rows : List Row) (step : Step) → Wants shape words (map_after shape log) (held roles) call rows → AreCallers shape (ending (call_of call) step)
+    of_set call rows step wants = writer_entries shape (call_of call) step (near_call call wants.near) (wants_brings shape words (map_after shape log) (held roles) call rows wants)
+
+    go : (at : Place) → if_not_busy at ≡ None → AtPlace shape words (map_after shape log) (held roles) desk.fresh desk.retired at → AreCallers shape (ending (call_at at) (went shape desk at found).1)
     go Idle idle stands = absurd (no_some (Some refuse.NotBusy) refuse.NotBusy refl idle)
-    go (Reading call slot got) busy reads = of_call call reads.near
-    go (Leaving key) busy stands = stands.1.near
-    go (Withdrawing key) busy stands = stands.near
-    go (Searching call rows poll) busy stands = of_call call stands.0.near
-    go (Putting call rows slot departed index) busy stands = of_call call stands.wants.near
+    go (Reading call slot got) busy reads = reads_no_fill shape desk call slot (got ++ found ∷ []) (near_call call reads.near)
+    go (Leaving key) busy stands = ((stands.1.near, inl (refl, tt)), tt)
+    go (Withdrawing key) busy stands = ((stands.near, inl (refl, tt)), tt)
+    go (Searching call rows poll) busy stands = of_set call rows (went shape desk (Searching call rows poll) found).1 stands.0
+    go (Putting call rows slot departed index) busy stands = of_set call rows (went shape desk (Putting call rows slot departed index) found).1 stands.wants
 
 -- the words of the key's set are read on, and a swap finds the key's word
 finds_so : (shape : Shape) (words : List ℕ) (roles : List Role) (log : List Entry) → Core shape words roles log → (id : ℕ) (desk : Desk) → get_elem? roles id ≡ some (Writer desk) → (marks : Marks) → ((key : ℕ) → key < shape.keys → get_or marks.names key 0 ≡ name_number (get_or words key 0))
@@ -212,12 +210,12 @@ goes_so shape slots id me desk is busy = let view = me.0 in let tells = Goes sha
     let short : (counts : NoSlot) → outcome.1 ≡ Ended (writer.NoSlot counts) → Shortage shape kept.log desk c outcome counts × PolledAll shape desk.retired marked.now.polls = λ counts without. (go_short shape state.words (map role_of state.views) kept.log kept.core id desk there counts without, go_polled shape view.marks view.pasts desk found step.after (kept.log ++ step.entries) marked.now marked.news state.views desk.place sweep marked.told (counts, without)) in
     let size = writer_shape shape kept.log view desk is (kept.fits id view at) in
     let entries : step.entries ≡ ending c outcome.1 = step.told.1 ∙ ending_there desk.place outcome.1 busy in
-    let near = near_there shape state.words (map role_of state.views) kept.log kept.core id desk there desk.place refl busy in
+    let callers = entries_there shape state.words (map role_of state.views) kept.log kept.core id desk there desk.place refl busy found in
     let no_news = went_quiet shape view.marks view.pasts desk desk.place found step.after (kept.log ++ step.entries) marked.now marked.news marked.told in
-    writes shape id view desk is operation tells notes state kept at step marked no_news c outcome step.told.0 entries near (λ next. (other : Desk) → view.role ≡ Writer other → Went other found view next)
+    writes shape id view desk is operation tells notes state kept at step marked no_news c outcome step.told.0 entries callers (λ next. (other : Desk) → view.role ≡ Writer other → Went other found view next)
     (λ advances other also. let next = learned view step.after (kept.log ++ step.entries) step.entries marked.now marked.news in
     subst (λ (d : Desk). Went d found view next) (same_desk view.role desk other is also) (record {
-      leads = subst (λ (s : Shape). Leads c (went s desk desk.place found) view next) (sym size) (leads_so shape id view desk is operation tells notes state kept at step marked no_news c outcome step.told.0 entries near short advances);
+      leads = subst (λ (s : Shape). Leads c (went s desk desk.place found) view next) (sym size) (leads_so shape id view desk is operation tells notes state kept at step marked no_news c outcome step.told.0 entries callers short advances);
       log = kept.log;
       seen = ap (λ (l : List Entry). kept.log ++ l) (entries ∙ ap (λ (s : Shape). ending c (went s desk desk.place found).1) (sym size));
       finds = subst (λ (s : Shape). Finds s desk.place found kept.log view.marks) (sym size) (finds_so shape state.words (map role_of state.views) kept.log kept.core id desk there view.marks own.names desk.place refl);

@@ -5,6 +5,7 @@ use Rattle.nr_model.specs.declared.calls.Call.TheVariants.{Find, Ask, Fill, Upda
 use Rattle.nr_model.specs.declared.calls.Reply.{Reply}
 use Rattle.nr_model.specs.declared.calls.Reply.TheVariants as reply
 use Rattle.nr_model.specs.Histories.{Entry}
+use Rattle.nr_model.specs.Laws.{BringsRowSet}
 use Rattle.nr_model.specs.Maps.{call_key}
 use Rattle.nr_machine.specs.declared.shape.Shape.{Shape}
 use Rattle.nr_machine.specs.Sums.{total}
@@ -18,9 +19,9 @@ is_reading (Update key batch) = false
 is_reading (Evict key) = false
 is_reading (Cancel key) = false
 
--- the entry is of a key of the map, and the writer's, or a find or a request of one of the readers
+-- the entry is of a key of the map, and the writer's, whose fill brings a row set of the map, or a find or a request of one of the readers
 abbrev pub IsCallers : Shape → Entry → Type 0
-IsCallers shape entry = (call_key entry.call < shape.keys) × ((entry.caller ≡ 0) ⊎ ((entry.caller ≤ shape.readers) × (is_reading entry.call ≡ true)))
+IsCallers shape entry = (call_key entry.call < shape.keys) × (((entry.caller ≡ 0) × BringsRowSet shape.rows entry.call) ⊎ ((entry.caller ≤ shape.readers) × (is_reading entry.call ≡ true)))
 
 -- so is each entry
 abbrev pub AreCallers : Shape → List Entry → Type 0

@@ -6,3 +6,4 @@ pub mod SetRooms
 pub mod NoSlots
 pub mod SlotBounds
 pub mod HandSteps
+pub mod RowBounds

@@ -7,3 +7,4 @@ pub mod Tickets
 pub mod Answers
 pub mod ExactPlaces
 pub mod SlotBounds
+pub mod RowBounds

@@ -2,6 +2,7 @@
 ghost use Rattle.nr_map.specs.ExactPlaces.{DoneMeansFewerInUse, NoSlotMeansAllInUse};
 ghost use Rattle.nr_map.specs.Written.{FindsWhatItHeard, FindsWritten, HearsAllCalls, ReadsNoOlder};
 ghost use Rattle.nr_map.specs.SlotBounds.{NoSlotIsRare, PollsAreFew, RoomForFills, RoomForUpdates};
+ghost use Rattle.nr_map.specs.RowBounds.{RowsFitTheMap};
 ghost use Rattle.nr_map.specs.Rounds.{BeginningsMeet, CallsStay, EntriesAreCallers, RoundsTellAll, SendsOfAll, SendsOfAllKeys};
 
 /// A caller's calls stay in a history that goes on.
@@ -98,3 +99,11 @@ pub fn reads_no_older()
 pub fn hears_all_calls()
     ensures { HearsAllCalls }
 {}
+
+/// In the history that a token has seen, each filled key has at most as many rows as a key of its
+/// map may have, in ascending order: no fill brings more, and no update leaves more.
+pub fn rows_fit_the_map()
+    ensures { RowsFitTheMap }
+{
+    nr_model::laws::rows_stay_within_bound();
+}

@@ -1,9 +1,14 @@
 //! A map of chosen sizes: few rows a key, and slots enough whatever its readers hold.
-ghost use Rattle.std.specs.Prelude.{◌≡◌, ◌≢◌, ◌+◌, ◌<◌, ◌≤◌, IfOk, Err};
+ghost use Rattle.std.specs.Prelude.{◌≡◌, ◌≢◌, ◌+◌, ◌<◌, ◌≤◌, ℕ, List, IfOk, Err};
+ghost use Rattle.nr_model.specs.declared.rows.Row.{Row};
+ghost use Rattle.nr_model.specs.declared.states.KeyState.TheVariants as states;
+ghost use Rattle.nr_model.specs.Maps.{state_of};
+ghost use Rattle.nr_model.specs.Rows.{IsRowSet};
+ghost use Rattle.nr_board.specs.Callers.{map_seen};
 ghost use Rattle.nr_map.specs.SlotBounds.{HasRoomForAll};
 
 use crate::calls::{ROWS, ask, set_of};
-use nr_map::{FillFault, NoSlot, Reader, ReaderMap, Shape, UpdateFault, Writer, laws};
+use nr_map::{FillFault, KeyKind, NoSlot, Reader, ReaderMap, Shape, UpdateFault, Writer, laws};
 use nr_model::{Batch, OpenFault};
 use std::alloc::Global;
 use std::io::{self, Print};
@@ -14,6 +19,7 @@ pub struct Small {
     filled: Result<(), FillFault>,
     changed: Result<(), UpdateFault>,
     refused: Result<(), UpdateFault>,
+    state: KeyKind,
 }
 
 // A slot for each filled key, one for each reader, which may hold an old set, and one for the set
@@ -59,6 +65,18 @@ fn update(map: &ReaderMap, writer: &mut Writer, key: u32, change: &Batch) -> Res
     map.update(writer, key, change)
 }
 
+// What a key is by now, whatever was called before. A law says of the history that the writer has
+// seen then: where the key is filled, it has at most the rows that a key may have, in order.
+fn state_now(map: &ReaderMap, writer: &mut Writer, key: u32) -> KeyKind
+    requires own { writer.old.table ≡ map.now }
+    requires key { key < map.now.shape.keys }
+    ensures own { writer.new.table ≡ map.now }
+    ensures few { (number : ℕ) (rows : List Row) → state_of (map_seen writer.new) key ≡ states.Rows number rows → IsRowSet map.now.shape.rows rows }
+{
+    laws::rows_fit_the_map();
+    map.state(writer, key)
+}
+
 /// Key 0 is filled with two rows, changed to two others, and refuses a third.
 pub fn kept_small(alloc: Global, change: &Batch, more: &Batch) -> Result<Small, OpenFault> {
     let (map, mut writer, mut reader) = opened_small(alloc)?;
@@ -66,18 +84,20 @@ pub fn kept_small(alloc: Global, change: &Batch, more: &Batch) -> Result<Small, 
     let filled = map.fill(&mut writer, 0, 0, &set_of(&map, &ROWS));
     let changed = update(&map, &mut writer, 0, change);
     let refused = update(&map, &mut writer, 0, more);
+    let state = state_now(&map, &mut writer, 0);
     Ok(Small {
         sizes: [map.keys(), map.slots(), map.readers(), map.rows()],
         filled,
         changed,
         refused,
+        state,
     })
 }
 
 pub fn show<R: Print>(rt: &R, told: &Small) -> io::Result<()> {
     let [keys, slots, readers, rows] = told.sizes;
     println!(rt;
-        "Other sizes\n  keys {keys}, slots {slots}, readers {readers}, rows a key {rows}\n  a fill: {:?}\n  an update: {:?}\n  a third row: {:?}",
-        told.filled, told.changed, told.refused
+        "Other sizes\n  keys {keys}, slots {slots}, readers {readers}, rows a key {rows}\n  a fill: {:?}\n  an update: {:?}\n  a third row: {:?}\n  the key: {:?}",
+        told.filled, told.changed, told.refused, told.state
     )
 }

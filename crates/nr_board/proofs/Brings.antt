@@ -1,0 +1,75 @@
+-- The fill that ends brings a row set of the map: each was given one, and so the set that a call wants at its key is the one that its fill brings.
+use Rattle.std.proofs.Common.{◌≡◌, ℕ, ◌+◌, ◌*◌, ◌<◌, ◌==◌, Bool, true, false, if◌then◌else◌, List, length, inl, refl, sym, ap, subst}
+use Rattle.std.specs.Prelude.{None, Some, Option, slice_index}
+use Rattle.nr_model.specs.declared.rows.Row.{Row}
+use Rattle.nr_model.specs.declared.calls.Call.{Call}
+use Rattle.nr_model.specs.declared.calls.Call.TheVariants as model
+use Rattle.nr_model.specs.declared.calls.Reply.TheVariants as reply
+use Rattle.nr_model.specs.declared.states.KeyState.{KeyState}
+use Rattle.nr_model.specs.declared.states.KeyState.TheVariants as states
+use Rattle.nr_model.specs.Laws.{BringsRowSet}
+use Rattle.nr_model.specs.Maps.{PartialMap, call_key, number_of, reply_at, state_after, state_of}
+use Rattle.nr_model.specs.Rows.{IsRowSet}
+use Rattle.nr_words.specs.SetWords.{decode}
+use Rattle.nr_machine.specs.declared.calls.Step.{Step}
+use Rattle.nr_machine.specs.declared.calls.Step.TheVariants.{Ended, Going}
+use Rattle.nr_machine.specs.declared.calls.WReply.TheVariants as writer
+use Rattle.nr_machine.specs.declared.calls.WriterCall.{WriterCall}
+use Rattle.nr_machine.specs.declared.calls.WriterCall.TheVariants.{Find, Fill, Update, Evict, Cancel}
+use Rattle.nr_machine.specs.declared.places.Place.TheVariants.{Reading}
+use Rattle.nr_machine.specs.declared.roles.Desk.{Desk}
+use Rattle.nr_machine.specs.declared.shape.Shape.{Shape}
+use Rattle.nr_machine.specs.Given.{IsGivenCall}
+use Rattle.nr_machine.specs.Slots.{bound_of}
+use Rattle.nr_machine.specs.Story.{call_of, ending}
+use Rattle.nr_machine.specs.Writer.{decoded, moved_to, read_on}
+use Rattle.nr_core.specs.Core.{Wants}
+use Rattle.nr_board.specs.Entries.{AreCallers}
+use Rattle.nr_board.specs.NamedRows.{rows_of_state}
+
+-- a call that ends is an entry of the writer's
+pub writer_entries : (shape : Shape) (call : Call) (step : Step) → call_key call < shape.keys → BringsRowSet shape.rows call → AreCallers shape (ending call step)
+writer_entries shape call Going near brings = tt
+writer_entries shape call (Ended (writer.Reply answer)) near brings = ((near, inl (refl, brings)), tt)
+writer_entries shape call (Ended (writer.NoSlot counts)) near brings = tt
+
+pub given_brings : (bound : ℕ) (call : WriterCall) → IsGivenCall bound call → BringsRowSet bound (call_of call)
+given_brings bound (Find key) given = tt
+given_brings bound (Fill key number rows) given = given
+given_brings bound (Update key batch) given = tt
+given_brings bound (Evict key) given = tt
+given_brings bound (Cancel key) given = tt
+
+-- what a done fill leaves at its key is the set that it brings
+fill_leaves : (bound key number : ℕ) (new rows : List Row) (state : KeyState) → reply_at bound (model.Fill key number new) state ≡ reply.Done → state_after bound (model.Fill key number new) state ≡ states.Rows (number_of state) rows → new ≡ rows
+fill_leaves bound key number new rows (states.Hole n) done leaves = absurd (cc)
+fill_leaves bound key number new rows (states.Asked n) done leaves = of_test (n == number) leaves
+  where
+    of_test : (same : Bool) → (if same then states.Rows n new else states.Asked n) ≡ states.Rows n rows → new ≡ rows
+    of_test true is = ap rows_of_state is
+    of_test false is = absurd (cc)
+fill_leaves bound key number new rows (states.Rows n had) done leaves = absurd (cc)
+
+pub wants_brings : (shape : Shape) (words : List ℕ) (map : PartialMap) (hold : ℕ → ℕ) (call : WriterCall) (rows : List Row) → Wants shape words map hold call rows → BringsRowSet shape.rows (call_of call)
+wants_brings shape words map hold (Find key) rows wants = tt
+wants_brings shape words map hold (Fill key number new) rows wants =
+    subst (IsRowSet shape.rows) (sym (fill_leaves (bound_of shape) key number new rows (state_of map key) wants.done wants.leaves)) wants.row_set
+wants_brings shape words map hold (Update key batch) rows wants = tt
+wants_brings shape words map hold (Evict key) rows wants = tt
+wants_brings shape words map hold (Cancel key) rows wants = tt
+
+-- only finds and updates read, and what a read of a fill would end is no entry
+pub reads_no_fill : (shape : Shape) (desk : Desk) (call : WriterCall) (slot : ℕ) (got : List ℕ) → call_key (call_of call) < shape.keys → AreCallers shape (ending (call_of call) (read_on shape desk call slot got).1)
+reads_no_fill shape desk (Find key) slot got near = writer_entries shape (model.Find key) (read_on shape desk (Find key) slot got).1 near tt
+reads_no_fill shape desk (Fill key number rows) slot got near = by_length (length got == 2 * slice_index got 0 + 1)
+  where
+    by_set : (set : Option (List Row)) → AreCallers shape (ending (model.Fill key number rows) (decoded shape desk (Fill key number rows) set).1)
+    by_set None = tt
+    by_set (Some found) = tt
+
+    by_length : (whole : Bool) → AreCallers shape (ending (model.Fill key number rows) (if whole then decoded shape desk (Fill key number rows) (decode got) else (moved_to desk (Reading (Fill key number rows) slot got), Going)).1)
+    by_length true = by_set (decode got)
+    by_length false = tt
+reads_no_fill shape desk (Update key batch) slot got near = writer_entries shape (model.Update key batch) (read_on shape desk (Update key batch) slot got).1 near tt
+reads_no_fill shape desk (Evict key) slot got near = writer_entries shape (model.Evict key) (read_on shape desk (Evict key) slot got).1 near tt
+reads_no_fill shape desk (Cancel key) slot got near = writer_entries shape (model.Cancel key) (read_on shape desk (Cancel key) slot got).1 near tt

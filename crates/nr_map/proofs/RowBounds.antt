@@ -1,0 +1,30 @@
+-- The callers' calls bring row sets of the map, so no key has more rows than it may have.
+use Rattle.std.proofs.Common.{◌≡◌, ℕ, true, List, [], ◌∷◌, ⊎_elim}
+use Rattle.std.specs.List.{All}
+use Rattle.std.proofs.lemmas.List.Elements.{All-cons, All-nil}
+use Rattle.nr_model.specs.declared.calls.Call.{Call}
+use Rattle.nr_model.specs.declared.calls.Call.TheVariants as model
+use Rattle.nr_model.specs.Histories.{Entry}
+use Rattle.nr_model.specs.Laws.{BringsRowSet, RowsStayWithinBound}
+use Rattle.nr_machine.specs.declared.shape.Shape.{Shape}
+use Rattle.nr_board.specs.Entries.{AreCallers, is_reading}
+use Rattle.nr_map.specs.RowBounds.{RowsFitTheMap}
+
+-- a find and a request bring none
+reading_brings : (bound : ℕ) (call : Call) → is_reading call ≡ true → BringsRowSet bound call
+reading_brings bound (model.Find key) reads = tt
+reading_brings bound (model.Ask key) reads = tt
+reading_brings bound (model.Fill key number rows) reads = absurd (cc)
+reading_brings bound (model.Update key batch) reads = tt
+reading_brings bound (model.Evict key) reads = tt
+reading_brings bound (model.Cancel key) reads = tt
+
+callers_bring : (shape : Shape) (log : List Entry) → AreCallers shape log → All (λ entry. BringsRowSet shape.rows entry.call) log
+callers_bring shape [] callers = All-nil (λ (e : Entry). BringsRowSet shape.rows e.call)
+callers_bring shape (e ∷ log) callers = All-cons (λ (x : Entry). BringsRowSet shape.rows x.call) e log
+    (⊎_elim (λ writes. writes.1) (λ reads. reading_brings shape.rows e.call reads.1) callers.0.1)
+    (callers_bring shape log callers.1)
+
+pub rows_fit_lem : RowsStayWithinBound → RowsFitTheMap
+rows_fit_lem within map log key number rows callers near filled =
+    let shape = map.shape in within shape.keys shape.rows shape.first_number key number rows log (callers_bring shape log callers) near filled
