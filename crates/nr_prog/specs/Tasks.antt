@@ -29,6 +29,11 @@ task (word ∷ seed ∷ readers ∷ keys ∷ gets ∷ []) =
     else Explain misuse.Words
 task others = Explain misuse.Words
 
+-- the program's words, or one empty word where they could not be read
+abbrev pub words_read : Option (List (List ℕ)) → List (List ℕ)
+words_read (Some words) = words
+words_read None = [] ∷ []
+
 -- a load has as many readers and keys as it may have
 abbrev pub IsRunnable : Task → Type 0
 IsRunnable Script = Unit {0}

@@ -1,9 +1,11 @@
 //! The program: what its arguments ask for, and what it tells of a fault.
-ghost use Rattle.std.specs.Prelude.{◌≡◌, map, string_bytes, Ok, MatchResult};
+ghost use Rattle.std.specs.Prelude.{◌≡◌, ◌≤◌, map, drop, string_bytes, option_map, IfSome, Ok, MatchResult};
+ghost use Rattle.std.specs.Process.{exit_status};
+ghost use Rattle.std.specs.Vec.Iter.{into_iter_items};
 ghost use Rattle.nr_prog.specs.Faults.{Tells, line_of, line_of_misuse};
 ghost use Rattle.nr_prog.specs.Loads.{line_of_load, report_text, TellsLoad};
 ghost use Rattle.nr_prog.specs.Program.{EndsTask, ReadsNothing};
-ghost use Rattle.nr_prog.specs.Tasks.{task};
+ghost use Rattle.nr_prog.specs.Tasks.{task, words_read};
 
 use crate::output::Output;
 use crate::report::{report_of, report_status};
@@ -13,7 +15,7 @@ use nr_load::{LoadFault, LoadReport};
 use nr_schedule::run_steps;
 use nr_script::run;
 use std::alloc::Global;
-use std::env::Env;
+use std::env::{Args, Env};
 use std::io::{Input, Print, Read, Write};
 use std::process::ExitCode;
 use std::sync::Wait;
@@ -23,21 +25,48 @@ use std::{env, io};
 /// Runs the program on the process's own arguments, from standard input to standard output.
 ///
 /// Arguments that are no text, or for which there is no memory, count as one wrong argument.
-pub fn main_of<T: Threads + Wait + Sync + AllocGlobal + Env + Input + Print>(rt: &T) -> ExitCode {
-    let mut args = Vec::new(rt.alloc());
-    let is_read = match env::args(rt) {
-        Ok(words) => args.extend(words.skip(1)).is_ok(),
-        Err(_) => false,
+pub fn main_of<T: Threads + Wait + Sync + AllocGlobal + Env + Input + Print>(rt: &T) -> ExitCode
+    ensures { exit_status result ≤ 2 }
+{
+    let words = match env::args(rt) {
+        Ok(args) => words_of(rt.alloc(), args),
+        Err(_) => None,
     };
-    let wrong = [String::new(rt.alloc())];
-    let args = if is_read {
-        args.as_slice()
-    } else {
-        wrong.as_slice()
+    exit_of(rt, rt.alloc(), words, &mut rt.reader(), &mut io::writer(rt))
+}
+
+/// The words after the program's name, where there is memory for them.
+fn words_of(alloc: Global, args: Args) -> Option<Vec<String>>
+    ensures { IfSome result (λ words. words.items ≡ drop 1 (into_iter_items args)) }
+{
+    let mut words = Vec::new(alloc);
+    let mut args = args;
+    let _ = args.next();
+    while let Some(word) = args.next() {
+        if words.push(word).is_err() {
+            return None;
+        }
+    }
+    Some(words)
+}
+
+/// The exit code of what these words ask for, or of one empty word where there are none to read.
+fn exit_of<T: Threads + Wait + Sync, R: Read, W: Write>(
+    rt: &T,
+    alloc: Global,
+    words: Option<Vec<String>>,
+    reader: &mut R,
+    writer: &mut W,
+) -> ExitCode
+    ensures ends { EndsTask (Unit {0}) (task (words_read (option_map (λ all. map string_bytes all.items) words))) (exit_status result) (R.remaining reader.old) (R.remaining reader.new) (W.contents writer.old) (W.contents writer.new) }
+    ensures few { exit_status result ≤ 2 }
+{
+    let wrong = [String::new(alloc)];
+    let args = match &words {
+        Some(all) => all.as_slice(),
+        None => wrong.as_slice(),
     };
-    let mut input = rt.reader();
-    let mut output = io::writer(rt);
-    ExitCode::from(main_with(rt, rt.alloc(), args, &mut input, &mut output))
+    ExitCode::from(main_with(rt, alloc, args, reader, writer))
 }
 
 /// Runs what the words after the program's name ask for, and answers the exit status.

@@ -90,6 +90,19 @@ fn a_failed_write_is_told(rt: HostRuntime) {
     assert_ends(&rt, &[], &mut whole, 1, (1, text));
 }
 
+// The line of a fault, and that on the usage, are written in one go, which isn't tried again where it fails.
+#[test]
+fn a_line_that_can_not_be_written_is_left_out(rt: HostRuntime) {
+    let mut failing = Dripping {
+        bytes: TWO_LINES,
+        calls: 0,
+        fails_at: 12,
+    };
+    assert_ends(&rt, &[], &mut failing, 1, (1, b"closed\n"));
+    let mut unread = Failing { bytes: b"" };
+    assert_ends(&rt, &["x"], &mut unread, 0, (2, b""));
+}
+
 const USAGE: &[u8] = b"nr: usage: nr, nr steps, nr load SEED READERS KEYS GETS\n";
 
 #[test]
