@@ -7,6 +7,8 @@ mod calls;
 #[cfg(test)]
 mod cancels;
 #[cfg(test)]
+mod hands;
+#[cfg(test)]
 mod notes;
 #[cfg(test)]
 mod pins;

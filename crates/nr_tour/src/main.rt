@@ -9,6 +9,7 @@ mod cancels;
 mod clients;
 mod flow;
 mod gates;
+mod hands;
 mod lobbies;
 mod lookups;
 mod meetings;
@@ -37,6 +38,7 @@ fn show_map<R: AllocGlobal + Print + Threads + Sync>(rt: &R) -> anyhow::Result<(
     threads::show(rt, &threads::asked_at_once(rt, alloc)?)?;
     upkeep::show(rt, &upkeep::kept_up(alloc, &change)?)?;
     pins::show(rt, &pins::kept_over_update(alloc, &change)?)?;
+    hands::show(rt, &hands::kept_in_hand(alloc, &change)?)?;
     rooms::show(rt, &rooms::passed_over(alloc)?)?;
     slots::show(rt, &slots::short_of_slots(alloc, &change)?)?;
     let more = Batch::of(&MORE)?;

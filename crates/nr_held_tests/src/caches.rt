@@ -1,0 +1,102 @@
+//! A cache of two readers and three keys, of which the first and the last have one place.
+ghost use Rattle.std.specs.Prelude.{◌≡◌, ◌<◌, length, All, IfOk};
+ghost use Rattle.nr_held.specs.Caches.{AreOf};
+
+use nr_held::Cache;
+use nr_map::{Asked, Found, Reader, ReaderMap, Writer};
+use nr_model::{OpenFault, Row, RowSet};
+use std::alloc::Global;
+use std::test::Fail;
+
+const KEYS: u32 = 3;
+
+// Requests a key, and fills it with one row, which tells the key.
+fn fill(map: &ReaderMap, writer: &mut Writer, asking: &mut Reader, key: u32)
+    requires own { (asking.old.table ≡ map.now) × (writer.old.table ≡ map.now) }
+    requires key { key < map.now.shape.keys }
+    ensures { (asking.new.table ≡ map.now) × (writer.new.table ≡ map.now) }
+{
+    match map.ask(asking, key) {
+        Asked::Send(ticket) => {
+            ticket.into_key();
+        }
+        Asked::Waiting | Asked::Filled => {}
+    }
+    let number = map.number(writer, key);
+    let row = Row {
+        a: u64::from(key),
+        b: 0,
+    };
+    map.fill_rows(writer, key, number, &[row]).ok();
+}
+
+// The row that a find of the key finds, where it finds one row.
+fn find(map: &ReaderMap, cache: &mut Cache, key: u32) -> Option<u64>
+    requires own { AreOf map.now cache.old }
+    requires key { key < map.now.shape.keys }
+    ensures { AreOf map.now cache.new }
+{
+    let mut rows = RowSet::new();
+    match cache.find(map, key, &mut rows) {
+        Found::Rows => rows.get(0).map(|row| row.a),
+        Found::Hole => None,
+    }
+}
+
+// What finds of the keys find, in order, and again once all was let go.
+fn find_all(map: &ReaderMap, cache: &mut Cache) -> [Option<u64>; 6]
+    requires own { AreOf map.now cache.old }
+    requires keys { map.now.shape.keys ≡ KEYS }
+    ensures { AreOf map.now cache.new }
+{
+    let first = find(map, cache, 0);
+    let held = find(map, cache, 0);
+    let next = find(map, cache, 1);
+    let third = find(map, cache, 2);
+    cache.let_go(map);
+    [
+        first,
+        held,
+        next,
+        third,
+        find(map, cache, 0),
+        find(map, cache, 2),
+    ]
+}
+
+// A map of three keys with three readers. It is opened anew where memory was refused once.
+fn opened(alloc: Global) -> Result<(ReaderMap, Writer, Vec<Reader>), OpenFault>
+    ensures { IfOk result (λ opened. (opened.0.shape.keys ≡ KEYS) × (opened.1.table ≡ opened.0) × (length opened.2.items ≡ 3) × All (λ reader. reader.table ≡ opened.0) opened.2.items) }
+{
+    match ReaderMap::open(alloc, KEYS, 7, 3, 0) {
+        Err(OpenFault::Memory) => ReaderMap::open(alloc, KEYS, 7, 3, 0),
+        opened => opened,
+    }
+}
+
+// Fills all keys by one of the readers, and finds them by a cache of the two others.
+fn cached(alloc: Global) -> Result<(usize, [Option<u64>; 6]), OpenFault> {
+    let (map, mut writer, mut readers) = opened(alloc)?;
+    let Some(mut asking) = readers.pop() else {
+        unreachable!()
+    };
+    for key in 0..KEYS {
+        fill(&map, &mut writer, &mut asking, key);
+    }
+    let Ok(mut cache) = Cache::of(alloc, readers) else {
+        return Err(OpenFault::Memory);
+    };
+    let many = cache.len();
+    let told = find_all(&map, &mut cache);
+    cache.close(&map);
+    Ok((many, told))
+}
+
+#[test]
+fn each_key_is_found_at_its_place(rt: HostRuntime) -> Result<(), Fail> {
+    let (many, told) = cached(rt.alloc())?;
+    let found = [Some(0), Some(0), Some(1), Some(2), Some(0), Some(2)];
+    assert_eq!(rt; many, 2);
+    assert_eq!(rt; told, found);
+    Ok(())
+}

@@ -1,0 +1,85 @@
+//! A reader that keeps the set that it found, from one find to the next.
+ghost use Rattle.std.specs.Prelude.{◌≡◌, ◌<◌};
+
+use crate::calls::{ask, fill};
+use crate::opening::opened;
+use nr_map::{Found, Hand, Reader, ReaderMap, Writer};
+use nr_model::{Batch, OpenFault, RowSet};
+use std::alloc::Global;
+use std::io::{self, Print};
+
+#[derive(Drop)]
+pub struct Kept {
+    found: [Found; 3],
+    before: RowSet,
+    after: RowSet,
+    held: Option<u32>,
+    pinned: (bool, u32),
+    again: bool,
+    once: Found,
+    left: Option<u32>,
+    reader: u32,
+}
+
+fn keep_over_update(map: &ReaderMap, writer: &mut Writer, reader: Reader, change: &Batch) -> Kept
+    requires reader { reader.table ≡ map.now }
+    requires writer { writer.old.table ≡ map.now }
+    requires key { 0 < map.now.shape.keys }
+{
+    let mut hand = Hand::of(reader);
+    let mut before = RowSet::new();
+    let mut after = RowSet::new();
+    let first = hand.find_kept(map, 0, &mut before);
+    // The key has the set that the hand holds: one load finds it, and nothing is written.
+    let second = hand.find_kept(map, 0, &mut before);
+    map.update(writer, 0, change).ok();
+    // Now it has another: the hand lets the old one go, and holds the new one.
+    let third = hand.find_kept(map, 0, &mut after);
+    let held = hand.key();
+    // A hand that is to hold nothing for a while is released, so that no slot waits for it.
+    hand.release(map);
+    let pinned = hand.pin(map, 0);
+    let again = hand.again(map, 0);
+    if again {
+        hand.copy_to(map, &mut after);
+    }
+    let count = hand.len();
+    let once = hand.find(map, 0, &mut after);
+    let left = hand.key();
+    let number = hand.number();
+    let reader = hand.into_reader(map);
+    Kept {
+        found: [first, second, third],
+        before,
+        after,
+        held,
+        pinned: (pinned, count),
+        again,
+        once,
+        left,
+        reader: if reader.number() == number { number } else { 0 },
+    }
+}
+
+/// One reader finds key 0 three times, with an update before the last.
+pub fn kept_in_hand(alloc: Global, change: &Batch) -> Result<Kept, OpenFault> {
+    let (map, mut writer, mut one, _two) = opened(alloc, 2, 5)?;
+    ask(&map, &mut one, 0);
+    let _filled = fill(&map, &mut writer, 0);
+    Ok(keep_over_update(&map, &mut writer, one, change))
+}
+
+pub fn show<R: Print>(rt: &R, told: &Kept) -> io::Result<()> {
+    println!(rt;
+        "A hand\n  it finds {:?}: {:?}\n  and after an update {:?}\n  it holds the set of {:?}\n  it pins the key anew, and its rows: {:?}\n  the key has this set still: {}\n  a find that keeps nothing: {:?}, {:?}\n  its reader: {}",
+        told.found,
+        told.before.as_slice(),
+        told.after.as_slice(),
+        told.held,
+        told.pinned,
+        told.again,
+        told.once,
+        told.left,
+        told.reader
+    )
+}
