@@ -78,7 +78,7 @@ typedef struct nr_delta {
 /* What a map is opened with: 1 to 65,536 keys, 1 to 131,072 slots, 1 to 1,024 readers, 1 to 255 rows a
    key; any count at which the slots' departures begin, and a first number of requests up to 4,194,303.
    With a slot for each key, each reader and one more no fill or update answers NR_NO_SLOT. The map
-   takes 8 bytes a key and 16 * rows + 16 a slot. */
+   takes 8 bytes a key and 16 * rows + 16 a slot, and as much again while it is opened. */
 typedef struct nr_shape {
   uint32_t keys;
   uint32_t slots;

@@ -1,5 +1,8 @@
--- A reader between two calls: whose it is.
-use Rattle.nr_board.specs.Callers.{Table}
+-- A reader between two calls: whose it is, and how it ends.
+use Rattle.std.specs.Prelude.{◌≡◌, Option, None, Some}
+use Rattle.nr_marks.specs.Marks.{acted}
+use Rattle.nr_board.specs.Callers.{Caller, Rests, Table}
+use Rattle.nr_map.specs.Pins.{Pinned}
 use Rattle.nr_c.specs.declared.hand.Hand.{Hand}
 use Rattle.nr_c.specs.declared.hand.Hand.TheVariants.{Idle, Holds, Taken}
 
@@ -8,3 +11,15 @@ abbrev pub table_of : Hand → Table → Table
 table_of (Idle reader) table = reader.table
 table_of (Holds pin) table = pin.reader.table
 table_of Taken table = table
+
+-- the reader lets its set go, in one step and by one act more, and then holds nothing
+pub record LetsGo (pin : Pinned) (reader : Caller) : Type 0 where
+  pub rests : Rests 1 pin.reader reader
+  pub holds : reader.holds ≡ None
+  pub marks : reader.marks ≡ acted pin.reader.marks pin.reader.marks.put
+
+-- the reader that is left holds nothing: it is the one that held nothing, or it let its set go
+abbrev pub EndsHand : Hand → Option Caller → Type 0
+EndsHand (Idle reader) left = left ≡ Some reader
+EndsHand (Holds pin) left = (reader : Caller) × (left ≡ Some reader) × LetsGo pin reader
+EndsHand Taken left = left ≡ None

@@ -31,7 +31,7 @@ pub extern "C" fn nr_open(alloc: Global, shape: &NrShape, writer: &mut NrWriter)
 {
     match opened(alloc, shape) {
         Ok(side) => {
-            *writer = NrWriter::new(side);
+            writer.lead_to(side);
             NR_DONE
         }
         Err(OpenFault::BadSize) => NR_BAD_SIZE,
@@ -65,7 +65,7 @@ pub extern "C" fn nr_open_reader(alloc: Global, writer: &mut NrWriter, reader: &
     };
     match seated(alloc, &side.map, next) {
         Ok(made) => {
-            *reader = NrReader::new(made);
+            reader.lead_to(made);
             NR_DONE
         }
         Err(next) => {
@@ -97,12 +97,12 @@ fn seated(
     }
 }
 
-/// Ends a reader, which no handle gets again.
+/// Ends a reader, which no handle gets again. What it holds is released.
 #[unsafe(no_mangle)]
 pub extern "C" fn nr_close_reader(reader: NrReader)
     requires live { (held : ReaderHeld) × (reader.live ≡ held ∷ []) }
 {
-    drop(reader.into_box());
+    drop(reader.close());
 }
 
 /// Ends the writer. The memory of the map goes with the last handle.
@@ -110,7 +110,7 @@ pub extern "C" fn nr_close_reader(reader: NrReader)
 pub extern "C" fn nr_close_writer(writer: NrWriter)
     requires live { (held : WriterHeld) × (writer.live ≡ held ∷ []) }
 {
-    drop(writer.into_box());
+    drop(writer.close());
 }
 
 /// The map's sizes.

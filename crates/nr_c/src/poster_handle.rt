@@ -7,12 +7,14 @@ ghost use Rattle.nr_c.specs.PosterHandles.{poster_side_coded, poster_handle_owns
 
 use crate::parts::Parts;
 use crate::poster_side::PosterSide;
+use nr_trigger::Poster;
 use std::alloc::Global;
 use std::marker::Model;
+use std::mem::{self, ManuallyDrop};
 
-/// C starts one as zeros, which leads nowhere, and never copies one that leads somewhere.
+/// C starts one as zeros, which leads nowhere, and never copies one that leads somewhere. It can't be
+/// dropped: whoever is given one ends what it leads to.
 #[repr(C)]
-#[derive(Drop)]
 pub struct NrPoster {
     pub(crate) ptr: *mut u8,
     alloc: Global,
@@ -27,13 +29,26 @@ impl Model for NrPoster {
 unsafe impl Send for NrPoster {}
 
 impl NrPoster {
-    pub fn new(b: Box<PosterSide, Global>) -> NrPoster
-        ensures { result.live ≡ b.value ∷ [] }
+    /// Makes an empty handle lead to a side.
+    pub fn lead_to(&mut self, b: Box<PosterSide, Global>)
+        requires empty { self.old.live ≡ [] }
+        ensures { self.new.live ≡ b.value ∷ [] }
     {
-        NrPoster::of_parts(Parts::of(b))
+        let empty = mem::replace(self, NrPoster::of_parts(Parts::of(b)));
+        // It owns nothing, so nothing is lost with it.
+        let _ = unsafe { ManuallyDrop::new_unchecked(empty) };
     }
 
-    pub fn into_box(self) -> Box<PosterSide, Global>
+    /// Ends the poster, and its share of the queue.
+    pub fn close(self) -> Poster
+        requires { (side : PosterSide) × (self.live ≡ side ∷ []) }
+        ensures { (side : PosterSide) → self.live ≡ side ∷ [] → result ≡ side.poster }
+    {
+        let side = Box::into_inner(self.into_box());
+        side.poster
+    }
+
+    fn into_box(self) -> Box<PosterSide, Global>
         requires { (side : PosterSide) × (self.live ≡ side ∷ []) }
         ensures { self.live ≡ result.value ∷ [] }
     {

@@ -34,7 +34,7 @@ pub extern "C" fn nr_open_queue(
 {
     match opened_queue(alloc, keys, capacity, posters) {
         Ok(side) => {
-            *taker = NrTaker::new(side);
+            taker.lead_to(side);
             NR_DONE
         }
         Err(OpenFault::BadSize) => NR_BAD_SIZE,
@@ -79,7 +79,7 @@ pub extern "C" fn nr_open_poster(alloc: Global, taker: &mut NrTaker, poster: &mu
     };
     match posting(alloc, &side.queue, next) {
         Ok(made) => {
-            *poster = NrPoster::new(made);
+            poster.lead_to(made);
             NR_DONE
         }
         Err(next) => {
@@ -117,7 +117,7 @@ fn posting(
 pub extern "C" fn nr_close_poster(poster: NrPoster)
     requires live { (held : PosterHeld) × (poster.live ≡ held ∷ []) }
 {
-    drop(poster.into_box());
+    drop(poster.close());
 }
 
 /// Ends the taker. The memory of the queue goes with the last handle.
@@ -125,5 +125,5 @@ pub extern "C" fn nr_close_poster(poster: NrPoster)
 pub extern "C" fn nr_close_taker(taker: NrTaker)
     requires live { (held : TakerHeld) × (taker.live ≡ held ∷ []) }
 {
-    drop(taker.into_box());
+    drop(taker.close());
 }

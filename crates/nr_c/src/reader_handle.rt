@@ -3,16 +3,19 @@
 ghost use Rattle.std.specs.Prelude.{◌≡◌, List, [], ◌∷◌};
 ghost use base.Stored.{coded_list};
 ghost use Rattle.nr_c.specs.declared.reader_side.ReaderSide.{ReaderSide};
+ghost use Rattle.nr_c.specs.Hands.{EndsHand};
 ghost use Rattle.nr_c.specs.ReaderHandles.{reader_side_coded, reader_handle_owns};
 
 use crate::parts::Parts;
 use crate::reader_side::ReaderSide;
+use nr_map::Reader;
 use std::alloc::Global;
 use std::marker::Model;
+use std::mem::{self, ManuallyDrop};
 
-/// C starts one as zeros, which leads nowhere, and never copies one that leads somewhere.
+/// C starts one as zeros, which leads nowhere, and never copies one that leads somewhere. It can't be
+/// dropped: whoever is given one ends what it leads to.
 #[repr(C)]
-#[derive(Drop)]
 pub struct NrReader {
     pub(crate) ptr: *mut u8,
     alloc: Global,
@@ -27,13 +30,25 @@ impl Model for NrReader {
 unsafe impl Send for NrReader {}
 
 impl NrReader {
-    pub fn new(b: Box<ReaderSide, Global>) -> NrReader
-        ensures { result.live ≡ b.value ∷ [] }
+    /// Makes an empty handle lead to a side.
+    pub fn lead_to(&mut self, b: Box<ReaderSide, Global>)
+        requires empty { self.old.live ≡ [] }
+        ensures { self.new.live ≡ b.value ∷ [] }
     {
-        NrReader::of_parts(Parts::of(b))
+        let empty = mem::replace(self, NrReader::of_parts(Parts::of(b)));
+        // It owns nothing, so nothing is lost with it.
+        let _ = unsafe { ManuallyDrop::new_unchecked(empty) };
     }
 
-    pub fn into_box(self) -> Box<ReaderSide, Global>
+    /// Ends the reader: what it holds is released, and its share of the map ends.
+    pub fn close(self) -> Option<Reader>
+        requires { (side : ReaderSide) × (self.live ≡ side ∷ []) }
+        ensures { (side : ReaderSide) → self.live ≡ side ∷ [] → EndsHand side.hand result }
+    {
+        Box::into_inner(self.into_box()).end()
+    }
+
+    fn into_box(self) -> Box<ReaderSide, Global>
         requires { (side : ReaderSide) × (self.live ≡ side ∷ []) }
         ensures { self.live ≡ result.value ∷ [] }
     {

@@ -1,6 +1,6 @@
 //! What a reader's handle leads to.
 ghost use Rattle.std.specs.Prelude.{◌≡◌};
-ghost use Rattle.nr_c.specs.Hands.{table_of};
+ghost use Rattle.nr_c.specs.Hands.{EndsHand, table_of};
 ghost use Rattle.nr_board.specs.Callers.{Caller};
 ghost use Rattle.nr_map.specs.Pins.{Pinned};
 ghost use Rattle.nr_c.specs.declared.hand.Hand.TheVariants as hands;
@@ -31,11 +31,19 @@ impl Drop for ReaderSide {
             hand,
             apart: _,
         } = self;
-        match hand {
-            Hand::Idle(reader) => drop(reader),
-            Hand::Holds(pin) => drop(pin.release(&map)),
-            Hand::Taken => {}
-        }
+        drop(idle_again(&map, hand));
+    }
+}
+
+// The reader that is left, which holds nothing.
+fn idle_again(map: &ReaderMap, hand: Hand) -> Option<Reader>
+    requires own { table_of hand map.now ≡ map.now }
+    ensures { EndsHand hand result }
+{
+    match hand {
+        Hand::Idle(reader) => Some(reader),
+        Hand::Holds(pin) => Some(pin.release(map)),
+        Hand::Taken => None,
     }
 }
 
@@ -96,5 +104,13 @@ impl ReaderSide {
             Hand::Taken => {}
             _ => unreachable!(),
         }
+    }
+
+    /// The reader, which holds nothing any more. Its share of the map ends.
+    pub fn end(mut self) -> Option<Reader>
+        ensures { EndsHand self.hand result }
+    {
+        let hand = mem::replace(&mut self.hand, Hand::Taken);
+        idle_again(&self.map, hand)
     }
 }

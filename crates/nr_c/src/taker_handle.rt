@@ -7,12 +7,14 @@ ghost use Rattle.nr_c.specs.TakerHandles.{taker_side_coded, taker_handle_owns};
 
 use crate::parts::Parts;
 use crate::taker_side::TakerSide;
+use nr_trigger::Taker;
 use std::alloc::Global;
 use std::marker::Model;
+use std::mem::{self, ManuallyDrop};
 
-/// C starts one as zeros, which leads nowhere, and never copies one that leads somewhere.
+/// C starts one as zeros, which leads nowhere, and never copies one that leads somewhere. It can't be
+/// dropped: whoever is given one ends what it leads to.
 #[repr(C)]
-#[derive(Drop)]
 pub struct NrTaker {
     pub(crate) ptr: *mut u8,
     alloc: Global,
@@ -27,13 +29,26 @@ impl Model for NrTaker {
 unsafe impl Send for NrTaker {}
 
 impl NrTaker {
-    pub fn new(b: Box<TakerSide, Global>) -> NrTaker
-        ensures { result.live ≡ b.value ∷ [] }
+    /// Makes an empty handle lead to a side.
+    pub fn lead_to(&mut self, b: Box<TakerSide, Global>)
+        requires empty { self.old.live ≡ [] }
+        ensures { self.new.live ≡ b.value ∷ [] }
     {
-        NrTaker::of_parts(Parts::of(b))
+        let empty = mem::replace(self, NrTaker::of_parts(Parts::of(b)));
+        // It owns nothing, so nothing is lost with it.
+        let _ = unsafe { ManuallyDrop::new_unchecked(empty) };
     }
 
-    pub fn into_box(self) -> Box<TakerSide, Global>
+    /// Ends the taker, and its share of the queue.
+    pub fn close(self) -> Taker
+        requires { (side : TakerSide) × (self.live ≡ side ∷ []) }
+        ensures { (side : TakerSide) → self.live ≡ side ∷ [] → result ≡ side.taker }
+    {
+        let side = Box::into_inner(self.into_box());
+        side.taker
+    }
+
+    fn into_box(self) -> Box<TakerSide, Global>
         requires { (side : TakerSide) × (self.live ≡ side ∷ []) }
         ensures { self.live ≡ result.value ∷ [] }
     {

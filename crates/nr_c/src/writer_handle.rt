@@ -7,12 +7,14 @@ ghost use Rattle.nr_c.specs.WriterHandles.{writer_side_coded, writer_handle_owns
 
 use crate::parts::Parts;
 use crate::writer_side::WriterSide;
+use nr_map::Writer;
 use std::alloc::Global;
 use std::marker::Model;
+use std::mem::{self, ManuallyDrop};
 
-/// C starts one as zeros, which leads nowhere, and never copies one that leads somewhere.
+/// C starts one as zeros, which leads nowhere, and never copies one that leads somewhere. It can't be
+/// dropped: whoever is given one ends what it leads to.
 #[repr(C)]
-#[derive(Drop)]
 pub struct NrWriter {
     pub(crate) ptr: *mut u8,
     alloc: Global,
@@ -27,13 +29,26 @@ impl Model for NrWriter {
 unsafe impl Send for NrWriter {}
 
 impl NrWriter {
-    pub fn new(b: Box<WriterSide, Global>) -> NrWriter
-        ensures { result.live ≡ b.value ∷ [] }
+    /// Makes an empty handle lead to a side.
+    pub fn lead_to(&mut self, b: Box<WriterSide, Global>)
+        requires empty { self.old.live ≡ [] }
+        ensures { self.new.live ≡ b.value ∷ [] }
     {
-        NrWriter::of_parts(Parts::of(b))
+        let empty = mem::replace(self, NrWriter::of_parts(Parts::of(b)));
+        // It owns nothing, so nothing is lost with it.
+        let _ = unsafe { ManuallyDrop::new_unchecked(empty) };
     }
 
-    pub fn into_box(self) -> Box<WriterSide, Global>
+    /// Ends the writer, and its share of the map.
+    pub fn close(self) -> Writer
+        requires { (side : WriterSide) × (self.live ≡ side ∷ []) }
+        ensures { (side : WriterSide) → self.live ≡ side ∷ [] → result ≡ side.writer }
+    {
+        let side = Box::into_inner(self.into_box());
+        side.writer
+    }
+
+    fn into_box(self) -> Box<WriterSide, Global>
         requires { (side : WriterSide) × (self.live ≡ side ∷ []) }
         ensures { self.live ≡ result.value ∷ [] }
     {

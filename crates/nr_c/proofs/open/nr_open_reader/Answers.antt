@@ -18,7 +18,7 @@ returns-in-Ok c =
       c.pop.new.self.items,
       c.in-Some.next,
       record { old = side; new = _; was = c.side-side.ensures.value; is = refl; map = refl; writer = refl; had_spare = c.in-Some.ensures.items; has_spare = refl },
-      record { held = side; side = c.in-Ok.made.value; was = c.side-side.ensures.value; is = c.new.ensures; map = map; idle = reader },
+      record { held = side; side = c.in-Ok.made.value; was = c.side-side.ensures.value; is = c.lead_to.ensures; map = map; idle = reader },
     ))
 
 pub returns-in-Err : goal.returns-in-Err

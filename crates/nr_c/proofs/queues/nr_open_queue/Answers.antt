@@ -2,4 +2,4 @@ use Rattle.std.proofs.Common.{inl, refl}
 use Rattle.nr_c.proofs.queues.nr_open_queue.Goals as goal
 
 pub returns-in-Ok-clause-opens : goal.returns-in-Ok-clause-opens
-returns-in-Ok-clause-opens c = inl (refl, c.in-Ok.side.value, c.new.ensures, c.in-Ok.ensures.ok)
+returns-in-Ok-clause-opens c = inl (refl, c.in-Ok.side.value, c.lead_to.ensures, c.in-Ok.ensures.ok)
