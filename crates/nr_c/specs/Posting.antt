@@ -1,8 +1,8 @@
 -- What a post and a take say of their tokens, by their codes.
-use Rattle.std.specs.Prelude.{ℕ, ◌≡◌, ◌<◌, ◌⊎◌, List, [], ◌∷◌, ◌++◌}
+use Rattle.std.specs.Prelude.{ℕ, ◌≡◌, ◌<◌, ◌+◌, ◌⊎◌, List, [], ◌∷◌, ◌++◌}
 use Rattle.nr_trigger.specs.declared.post.Post.{Post}
 use Rattle.nr_trigger.specs.declared.post.Upquery.{Upquery}
-use Rattle.nr_trigger.specs.Tokens.{IsSamePoster, IsSameTaker, PosterSeen, TakerSeen}
+use Rattle.nr_trigger.specs.Tokens.{IsSamePoster, IsSameTaker, PosterSeen, TakerSeen, poster_tried, taker_tried}
 use Rattle.nr_c.specs.Numbers.{answer_done, answer_not_posted, answer_not_taken}
 use Rattle.nr_c.specs.declared.poster_side.PosterSide.{PosterSide}
 use Rattle.nr_c.specs.declared.taker_side.TakerSide.{TakerSide}
@@ -32,10 +32,10 @@ request_of key number = record { key = key; number = number }
 -- a post by its code: the poster has posted the request, or nothing
 abbrev pub PostsByCode : ℕ → ℕ → ℕ → PosterSeen → PosterSeen → Type 0
 PostsByCode key number code old new =
-    IsSamePoster old new × (((code ≡ answer_done) × (new.posted ≡ old.posted ++ request_of key number ∷ [])) ⊎ ((code ≡ answer_not_posted) × (new ≡ old)))
+    IsSamePoster old new × (new.tries ≡ old.tries + 1) × (((code ≡ answer_done) × (new.posted ≡ old.posted ++ request_of key number ∷ [])) ⊎ ((code ≡ answer_not_posted) × (new ≡ poster_tried old)))
 
 -- a take by its code: the taker has taken a request of a key below the number, which is told, or nothing, and what stood there stays
 abbrev pub TakesByCode : ℕ → ℕ → ℕ → ℕ → ℕ → TakerSeen → TakerSeen → Type 0
 TakesByCode key number key' number' code old new =
-    IsSameTaker old new
-    × (((code ≡ answer_done) × (post : Post) × (new.taken ≡ old.taken ++ post ∷ []) × (post.upquery ≡ request_of key' number') × (key' < old.keys)) ⊎ ((code ≡ answer_not_taken) × (new ≡ old) × (key' ≡ key) × (number' ≡ number)))
+    IsSameTaker old new × (new.tries ≡ old.tries + 1)
+    × (((code ≡ answer_done) × (post : Post) × (new.taken ≡ old.taken ++ post ∷ []) × (post.upquery ≡ request_of key' number') × (key' < old.keys)) ⊎ ((code ≡ answer_not_taken) × (new ≡ taker_tried old) × (key' ≡ key) × (number' ≡ number)))

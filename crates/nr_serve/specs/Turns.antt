@@ -5,7 +5,7 @@ use Rattle.nr_board.specs.declared.answers.FillFault.{FillFault}
 use Rattle.nr_board.specs.declared.answers.FillFault.TheVariants as fill
 use Rattle.nr_board.specs.WriterAnswers.{FillsKey}
 use Rattle.nr_trigger.specs.declared.post.Post.{Post}
-use Rattle.nr_trigger.specs.Tokens.{IsSameTaker, TakerSeen, WasEmpty}
+use Rattle.nr_trigger.specs.Tokens.{IsSameTaker, TakerSeen, WasEmpty, taker_tried}
 use Rattle.nr_serve.specs.declared.dataflow.Turn.{Turn}
 use Rattle.nr_serve.specs.declared.dataflow.Turn.TheVariants as turn
 use Rattle.nr_serve.specs.Flows.{FlowSeen}
@@ -35,8 +35,12 @@ pub record Takes {S : Type 0} (old : FlowSeen S) (post : Post) (new : FlowSeen S
   pub spends : Spends old.kept old.taker [] (Some post) new.taker
   pub rest : new ≡ record old { taker = new.taker; kept = None }
 
+-- none is kept, and one attempt to take finds none
+abbrev pub FindsNone : {S : Type 0} → FlowSeen S → FlowSeen S → Type 0
+FindsNone old new = (old.kept ≡ None) × WasEmpty old.taker × (new ≡ record old { taker = taker_tried old.taker })
+
 abbrev pub Nexts : {S : Type 0} → FlowSeen S → Option Post → FlowSeen S → Type 0
-Nexts old None new = (old.kept ≡ None) × WasEmpty old.taker × (new ≡ old)
+Nexts old None new = FindsNone old new
 Nexts old (Some post) new = Takes old post new
 
 module _ {S : Type 0} (gives : S → ℕ → List Row → S → Type 0) where
@@ -64,7 +68,7 @@ module _ {S : Type 0} (gives : S → ℕ → List Row → S → Type 0) where
     pub kept : new.kept ≡ Some post
 
   abbrev pub Turns : FlowSeen S → Turn → FlowSeen S → Type 0
-  Turns old turn.Idle new = (old.kept ≡ None) × WasEmpty old.taker × (new ≡ old)
+  Turns old turn.Idle new = FindsNone old new
   Turns old (turn.Filled key) new = SpendsOne old key (Ok tt) new
   Turns old (turn.Passed key) new = (fault : FillFault) × IsPast fault × SpendsOne old key (Err fault) new
   Turns old (turn.Kept counts) new = KeepsOne old (Err (fill.NoSlot counts)) new

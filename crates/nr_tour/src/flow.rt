@@ -38,7 +38,8 @@ struct GivenUp {
 }
 
 // The client misses key 1 and the dataflow fills it. Then the rows change: the dataflow changes its
-// source, from which later turns have them, and applies the same change to the filled key.
+// source, from which later turns have them, and applies the same change to the filled key. The
+// client hears the dataflow's note of that, so its next get comes after the change.
 fn change<R: Wait>(
     rt: &R,
     client: &mut Client<'_, OpenGate>,
@@ -47,6 +48,7 @@ fn change<R: Wait>(
 ) -> Changed
     requires client { client.old.map.shape.keys ≡ 2 }
     requires flow { flow.old.map.shape.keys ≡ 2 }
+    requires map { flow.old.map ≡ client.old.map }
     ensures client { client.new.map ≡ client.old.map }
     ensures flow { flow.new.map ≡ flow.old.map }
 {
@@ -55,6 +57,7 @@ fn change<R: Wait>(
     let filled = flow.turn(rt);
     flow.source().b = 200;
     let applied = flow.apply(1, change);
+    client.hear(flow.note());
     client.get(rt, 1, 1, &mut rows);
     let evicted = flow.evict(1);
     Changed {

@@ -6,3 +6,4 @@ mod Posting
 mod Taking
 mod Moments
 mod Once
+mod Walks

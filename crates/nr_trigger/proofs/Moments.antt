@@ -10,22 +10,22 @@ use Rattle.nr_trigger.specs.Tokens.{WasEmpty, WasFull, poster_seen, taker_seen}
 pub pass-learns-moment : (place : ℕ) (view : PassView) → Learns Delivers place view (Moment view)
 pass-learns-moment place view held views delivers there = record { views = views; place = place; there = there; delivers = delivers }
 
-empty-moment : (queue : TableId) (taking : Taking) → Held 0 (Moment (Taker taking)) → WasEmpty (taker_seen queue taking)
-empty-moment queue taking ([], none, moment) =
+empty-moment : (queue : TableId) (taking : Taking) (tries : ℕ) → Held 0 (Moment (Taker taking)) → WasEmpty (taker_seen queue taking tries)
+empty-moment queue taking tries ([], none, moment) =
     record { moment = moment; all = (moment.delivers.fits moment.place (Taker taking) moment.there).2 ∙ sym (append-nil moment.delivers.taken) ∙ moment.delivers.whole }
-empty-moment queue taking (x ∷ held, none, moment) = absurd (omega (arith, none))
+empty-moment queue taking tries (x ∷ held, none, moment) = absurd (omega (arith, none))
 
-pub pop-tells : (queue : TableId) (taking : Taking) (result : Option Post) (new : PassView)
+pub pop-tells : (queue : TableId) (taking : Taking) (tries : ℕ) (result : Option Post) (new : PassView)
     → MatchOption result ((new ≡ Taker taking) × Held 0 (Moment (Taker taking))) (λ post. has_taken (Taker taking) post new)
-    → MatchOption result (WasEmpty (taker_seen queue taking)) (λ post. post.upquery.key < taking.keys)
-pop-tells queue taking None new tells = empty-moment queue taking tells.1
-pop-tells queue taking (Some post) new tells = tells.1
+    → MatchOption result (WasEmpty (taker_seen queue taking tries)) (λ post. post.upquery.key < taking.keys)
+pop-tells queue taking tries None new tells = empty-moment queue taking tries tells.1
+pop-tells queue taking tries (Some post) new tells = tells.1
 
-pub push-tells : (queue : TableId) (room : ℕ) (posting : Posting) (post : Post) (result : Result (Unit {0}) Post) (new : PassView)
+pub push-tells : (queue : TableId) (room : ℕ) (posting : Posting) (tries : ℕ) (post : Post) (result : Result (Unit {0}) Post) (new : PassView)
     → MatchResult result (λ _. has_posted (Poster posting) post new) (λ back. (back ≡ post) × (new ≡ Poster posting) × Held room (Moment (Poster posting)))
-    → IfErr result (λ _. WasFull room (poster_seen queue posting))
-push-tells queue room posting post (Ok done) new tells = tt
-push-tells queue room posting post (Err back) new tells =
+    → IfErr result (λ _. WasFull room (poster_seen queue posting tries))
+push-tells queue room posting tries post (Ok done) new tells = tt
+push-tells queue room posting tries post (Err back) new tells =
     let held = tells.2 in
     let moment = held.2 in
     record { held = held.0; full = held.1; moment = moment; own = (moment.delivers.fits moment.place (Poster posting) moment.there).1 }

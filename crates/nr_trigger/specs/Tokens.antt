@@ -1,5 +1,5 @@
 -- What contracts see of the queue, of its posters and of its taker.
-use Rattle.std.specs.Prelude.{◌≡◌, ◌<◌, ℕ, List, [], length, slice_get, Some}
+use Rattle.std.specs.Prelude.{◌≡◌, ◌<◌, ◌+◌, ℕ, List, [], length, slice_get, Some}
 use Rattle.atomic_table.specs.Seated.{TableId}
 use Rattle.nr_trigger.specs.declared.post.Post.{Post}
 use Rattle.nr_trigger.specs.declared.post.Upquery.{Upquery}
@@ -20,6 +20,8 @@ pub record PosterSeen : Type 0 where
   pub number : ℕ
   -- what it has posted, oldest first
   pub posted : List Upquery
+  -- its attempts to post
+  pub tries : ℕ
 
 pub record TakerSeen : Type 0 where
   pub queue : TableId
@@ -29,12 +31,14 @@ pub record TakerSeen : Type 0 where
   pub made : ℕ
   -- what it has taken, oldest first
   pub taken : List Post
+  -- its attempts to take
+  pub tries : ℕ
 
-abbrev pub poster_seen : TableId → Posting → PosterSeen
-poster_seen queue posting = record { queue = queue; keys = posting.keys; number = posting.number; posted = posting.posted }
+abbrev pub poster_seen : TableId → Posting → ℕ → PosterSeen
+poster_seen queue posting tries = record { queue = queue; keys = posting.keys; number = posting.number; posted = posting.posted; tries = tries }
 
-abbrev pub taker_seen : TableId → Taking → TakerSeen
-taker_seen queue taking = record { queue = queue; keys = taking.keys; made = taking.made; taken = taking.taken }
+abbrev pub taker_seen : TableId → Taking → ℕ → TakerSeen
+taker_seen queue taking tries = record { queue = queue; keys = taking.keys; made = taking.made; taken = taking.taken; tries = tries }
 
 abbrev pub posting : PosterSeen → Posting
 posting poster = record { keys = poster.keys; number = poster.number; posted = poster.posted }
@@ -44,10 +48,10 @@ taking taker = record { keys = taker.keys; made = taker.made; taken = taker.take
 
 -- a poster that has posted nothing, and a taker that has taken nothing and made so many posters
 abbrev pub new_poster : TableId → ℕ → ℕ → PosterSeen
-new_poster queue keys number = record { queue = queue; keys = keys; number = number; posted = [] }
+new_poster queue keys number = record { queue = queue; keys = keys; number = number; posted = []; tries = 0 }
 
 abbrev pub new_taker : TableId → ℕ → ℕ → TakerSeen
-new_taker queue keys made = record { queue = queue; keys = keys; made = made; taken = [] }
+new_taker queue keys made = record { queue = queue; keys = keys; made = made; taken = []; tries = 0 }
 
 -- the taker has made so many posters, which stand in the order of their numbers, and nothing was posted
 pub record IsSeated (queue : TableId) (keys : ℕ) (taker : TakerSeen) (posters : List PosterSeen) (made : ℕ) : Type 0 where
@@ -70,6 +74,13 @@ pub record IsSameTaker (old new : TakerSeen) : Type 0 where
   pub queue : new.queue ≡ old.queue
   pub keys : new.keys ≡ old.keys
   pub made : new.made ≡ old.made
+
+-- the same after an attempt more
+abbrev pub poster_tried : PosterSeen → PosterSeen
+poster_tried poster = record poster { tries = poster.tries + 1 }
+
+abbrev pub taker_tried : TakerSeen → TakerSeen
+taker_tried taker = record taker { tries = taker.tries + 1 }
 
 -- at one moment the queue held as many as it may, and the poster's part of what had been posted was its own list
 pub record WasFull (capacity : ℕ) (poster : PosterSeen) : Type 0 where

@@ -7,6 +7,7 @@
 //! that poster's own list.
 #![tactic(auto)]
 
+mod attempts;
 pub mod laws;
 mod post;
 mod rule;

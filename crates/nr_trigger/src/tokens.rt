@@ -1,4 +1,5 @@
 //! What the threads post and take with.
+use crate::attempts::Attempts;
 use crate::post::Post;
 use crate::view::View;
 use crossbeam_queue::Pass;
@@ -11,6 +12,7 @@ pub(crate) type Seat = Pass<Post, View>;
 pub struct Poster {
     pub(crate) seat: Seat,
     pub(crate) number: u32,
+    pub(crate) tries: Attempts,
 }
 
 impl Model for Poster {
@@ -21,7 +23,7 @@ impl Model for Poster {
 
     ghost Value = { PosterSeen };
 
-    ghost view = { λ poster. poster_seen poster.seat.table_id (posting_of (known poster.seat)) };
+    ghost view = { λ poster. poster_seen poster.seat.table_id (posting_of (known poster.seat)) poster.tries.made };
 
     ghost invariant = { λ poster. (poster.seat.me.1 ≡ []) × (known poster.seat ≡ PosterKnows (posting_of (known poster.seat))) × (poster.number ≡ (posting_of (known poster.seat)).number) };
 }
@@ -30,6 +32,7 @@ impl Model for Poster {
 #[derive(Drop)]
 pub struct Taker {
     pub(crate) seat: Seat,
+    pub(crate) tries: Attempts,
 }
 
 impl Model for Taker {
@@ -40,7 +43,7 @@ impl Model for Taker {
 
     ghost Value = { TakerSeen };
 
-    ghost view = { λ taker. taker_seen taker.seat.table_id (taking_of (known taker.seat)) };
+    ghost view = { λ taker. taker_seen taker.seat.table_id (taking_of (known taker.seat)) taker.tries.made };
 
     ghost invariant = { λ taker. (taker.seat.me.1 ≡ []) × (known taker.seat ≡ TakerKnows (taking_of (known taker.seat))) };
 }

@@ -2,11 +2,12 @@
 ghost use Rattle.std.specs.Prelude.{◌≡◌, ◌<◌, ◌+◌, ◌⊎◌, ◌↔◌, ℕ, length, [], ◌++◌, ◌∷◌, Err, IfOk, IfErr, IsTrue, MatchOption, MatchResult};
 ghost use Rattle.nr_model.specs.Sizes.{IsBadSize};
 ghost use Rattle.nr_trigger.specs.Posts.{upquery_of};
-ghost use Rattle.nr_trigger.specs.Tokens.{IsOpenedQueue, IsSeated, IsSamePoster, IsSameTaker, WasEmpty, WasFull, new_poster, new_taker};
+ghost use Rattle.nr_trigger.specs.Tokens.{IsOpenedQueue, IsSeated, IsSamePoster, IsSameTaker, WasEmpty, WasFull, new_poster, new_taker, poster_tried, taker_tried};
 ghost use Rattle.nr_trigger.specs.Views.{Opener};
 
+use crate::attempts::Attempts;
 use crate::post::{Post, Upquery};
-use crate::rule::{Begins, Law, Limit, Pops, Pushes, Seats};
+use crate::rule::{Begins, Law, Limit, Seats};
 use crate::tokens::{Poster, Seat, Taker};
 use crate::trigger::Trigger;
 use crate::view::View;
@@ -24,7 +25,7 @@ pub const MAX_POSTERS: u32 = 1024;
 /// Tickets on their way, shared by the posters and the taker.
 #[derive(Drop)]
 pub struct Triggers {
-    queue: RuledArrayQueue<Post, View, Law>,
+    pub(crate) queue: RuledArrayQueue<Post, View, Law>,
 }
 
 impl Model for Triggers {
@@ -46,7 +47,7 @@ impl Triggers {
         posters: u32,
     ) -> Result<(Triggers, Vec<Poster>, Taker), OpenFault>
         ghost keys: { ℕ }
-        ensures bad_size { (result ≡ Err OpenFault.BadSize) ↔ (IsBadSize MAX_CAPACITY capacity ⊎ IsBadSize MAX_POSTERS posters) }
+        ensures bad_size { (result ≡ Err OpenFault.BadSize) ↔ (IsBadSize 65536 capacity ⊎ IsBadSize 1024 posters) }
         ensures ok { IfOk result (λ opened. IsOpenedQueue capacity posters keys opened.0 opened.1.items opened.2) }
     {
         if is_bad_size(MAX_CAPACITY, capacity) || is_bad_size(MAX_POSTERS, posters) {
@@ -56,12 +57,14 @@ impl Triggers {
     }
 
     /// Puts what the ticket names at the back, and spends the ticket. It comes back where the queue
-    /// was full at one moment of the call. May wait for a thread that is within a call of its own.
+    /// was full at one moment of the call. May wait for a thread that is within a call of its own,
+    /// and waits for ever once the queue has carried 2^62 tickets.
     pub fn post<R: Wait>(&self, rt: &R, poster: &mut Poster, ticket: Ticket) -> Result<(), Ticket>
         requires own { poster.old.queue ≡ self.now.id }
         requires key { ticket.key < poster.old.keys }
         ensures own { IsSamePoster poster.old poster.new }
-        ensures posted { MatchResult result (λ _. poster.new.posted ≡ poster.old.posted ++ upquery_of ticket ∷ []) (λ back. (back ≡ ticket) × (poster.new ≡ poster.old)) }
+        ensures tries { poster.new.tries ≡ poster.old.tries + 1 }
+        ensures posted { MatchResult result (λ _. poster.new.posted ≡ poster.old.posted ++ upquery_of ticket ∷ []) (λ back. (back ≡ ticket) × (poster.new ≡ poster_tried poster.old)) }
         ensures full { IfErr result (λ _. WasFull self.now.capacity poster.old) }
     {
         match self.push(rt, poster, Upquery::of(&ticket)) {
@@ -74,11 +77,13 @@ impl Triggers {
     }
 
     /// Takes what is at the front. None where the queue was empty at one moment of the call. May
-    /// wait for a thread that is within a call of its own.
+    /// wait for a thread that is within a call of its own, and waits for ever once the queue has
+    /// carried 2^62 tickets.
     pub fn take<R: Wait>(&self, rt: &R, taker: &mut Taker) -> Option<Trigger>
         requires own { taker.old.queue ≡ self.now.id }
         ensures own { IsSameTaker taker.old taker.new }
-        ensures taken { MatchOption result (taker.new ≡ taker.old) (λ trigger. taker.new.taken ≡ taker.old.taken ++ trigger ∷ []) }
+        ensures tries { taker.new.tries ≡ taker.old.tries + 1 }
+        ensures taken { MatchOption result (taker.new ≡ taker_tried taker.old) (λ trigger. taker.new.taken ≡ taker.old.taken ++ trigger ∷ []) }
         ensures key { MatchOption result (WasEmpty taker.old) (λ trigger. trigger.upquery.key < taker.old.keys) }
     {
         Some(Trigger::of(self.pop(rt, taker)?))
@@ -91,13 +96,10 @@ impl Triggers {
         requires own { poster.old.queue ≡ self.now.id }
         requires key { upquery.key < poster.old.keys }
         ensures own { IsSamePoster poster.old poster.new }
-        ensures posted { MatchResult result (λ _. poster.new.posted ≡ poster.old.posted ++ upquery ∷ []) (λ back. (back ≡ upquery) × (poster.new ≡ poster.old)) }
+        ensures tries { poster.new.tries ≡ poster.old.tries + 1 }
+        ensures posted { MatchResult result (λ _. poster.new.posted ≡ poster.old.posted ++ upquery ∷ []) (λ back. (back ≡ upquery) × (poster.new ≡ poster_tried poster.old)) }
     {
-        let post = Post {
-            poster: poster.number,
-            upquery,
-        };
-        match self.queue.try_push_as::<Pushes>(&mut poster.seat, post) {
+        match self.try_push(poster, upquery) {
             Ok(()) => Ok(()),
             Err(back) => Err(back.upquery),
         }
@@ -108,35 +110,10 @@ impl Triggers {
     pub fn try_take(&self, taker: &mut Taker) -> Option<Trigger>
         requires own { taker.old.queue ≡ self.now.id }
         ensures own { IsSameTaker taker.old taker.new }
-        ensures taken { MatchOption result (taker.new ≡ taker.old) (λ trigger. (taker.new.taken ≡ taker.old.taken ++ trigger ∷ []) × (trigger.upquery.key < taker.old.keys)) }
+        ensures tries { taker.new.tries ≡ taker.old.tries + 1 }
+        ensures taken { MatchOption result (taker.new ≡ taker_tried taker.old) (λ trigger. (taker.new.taken ≡ taker.old.taken ++ trigger ∷ []) × (trigger.upquery.key < taker.old.keys)) }
     {
-        let post = self.queue.try_pop_as::<Pops>(&mut taker.seat)?;
-        Some(Trigger::of(post))
-    }
-
-    // Puts it at the back, as this poster's.
-    fn push<R: Wait>(&self, rt: &R, poster: &mut Poster, upquery: Upquery) -> Result<(), Post>
-        requires own { poster.old.queue ≡ self.now.id }
-        requires key { upquery.key < poster.old.keys }
-        ensures own { IsSamePoster poster.old poster.new }
-        ensures posted { MatchResult result (λ _. poster.new.posted ≡ poster.old.posted ++ upquery ∷ []) (λ _. poster.new ≡ poster.old) }
-        ensures full { IfErr result (λ _. WasFull self.now.capacity poster.old) }
-    {
-        let post = Post {
-            poster: poster.number,
-            upquery,
-        };
-        self.queue.push_as::<Pushes, R>(rt, &mut poster.seat, post)
-    }
-
-    // Takes what is at the front.
-    fn pop<R: Wait>(&self, rt: &R, taker: &mut Taker) -> Option<Post>
-        requires own { taker.old.queue ≡ self.now.id }
-        ensures own { IsSameTaker taker.old taker.new }
-        ensures taken { MatchOption result (taker.new ≡ taker.old) (λ post. taker.new.taken ≡ taker.old.taken ++ post ∷ []) }
-        ensures key { MatchOption result (WasEmpty taker.old) (λ post. post.upquery.key < taker.old.keys) }
-    {
-        self.queue.pop_as::<Pops, R>(rt, &mut taker.seat)
+        Some(Trigger::of(self.try_pop(taker)?))
     }
 
     // The taker, whose pass is the queue's first.
@@ -156,7 +133,10 @@ impl Triggers {
     {
         let mut seat = seat;
         let _spare = self.queue.another::<Begins<L>>(&mut seat);
-        Taker { seat }
+        Taker {
+            seat,
+            tries: Attempts::none(),
+        }
     }
 
     // The next poster.
@@ -167,7 +147,11 @@ impl Triggers {
         ensures poster { result ≡ new_poster self.now.id keys number }
     {
         let seat = self.queue.another::<Seats>(&mut taker.seat);
-        Poster { seat, number }
+        Poster {
+            seat,
+            number,
+            tries: Attempts::none(),
+        }
     }
 }
 

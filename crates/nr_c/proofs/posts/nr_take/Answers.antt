@@ -10,7 +10,7 @@ returns-in_default c =
       is = refl;
       queue = refl;
       spare = refl;
-      made = (c.in_default.ensures.own, inr (refl, c.in_default.ensures.taken, refl, refl));
+      made = (c.in_default.ensures.own, c.in_default.ensures.tries, inr (refl, c.in_default.ensures.taken, refl, refl));
     }
 
 pub returns : goal.returns
@@ -23,5 +23,5 @@ returns c =
       is = refl;
       queue = refl;
       spare = refl;
-      made = (c.in-Some.ensures.own, inl (refl, c.in-Some.trigger, taken, λ i. record { key = sym c.into_key.ensures i; number = sym c.number.ensures i }, subst (λ k. k < c.side-side.result.now.taker.keys) (sym c.into_key.ensures) below));
+      made = (c.in-Some.ensures.own, c.in-Some.ensures.tries, inl (refl, c.in-Some.trigger, taken, λ i. record { key = sym c.into_key.ensures i; number = sym c.number.ensures i }, subst (λ k. k < c.side-side.result.now.taker.keys) (sym c.into_key.ensures) below));
     }

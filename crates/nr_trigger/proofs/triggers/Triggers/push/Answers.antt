@@ -20,5 +20,5 @@ returns-clause-full g c =
     let post : Post = record { poster = c.poster.inside.number; upquery = c.args.upquery } in
     let room = ap (λ queue. queue.capacity) c.self.view_is in
     let tells = subst (λ old. MatchResult c.push_as.result (λ _. has_posted old post new) (λ back. (back ≡ post) × (new ≡ old) × Held (ruled_capacity c.self.inside.queue) (Moment old))) c.poster.invariant.1 c.push_as.ensures.rule in
-    let full = push-tells _ _ _ _ _ new tells in
+    let full = push-tells _ _ _ _ _ _ new tells in
     subst (λ (at : ℕ × PosterSeen). IfErr c.push_as.result (λ _. WasFull at.0 at.1)) (λ i. (room i, c.poster.view_is i)) full

@@ -1,6 +1,6 @@
 use Rattle.std.proofs.Common.{◌<◌, ap, subst, sym}
 use Rattle.nr_trigger.proofs.Posting.{poster-posts}
-use Rattle.nr_trigger.proofs.triggers.Triggers.try_post.Goals as goal
+use Rattle.nr_trigger.proofs.triggers.Triggers.try_push.Goals as goal
 
 pub try_push_as-requires-clause-rule : goal.try_push_as-requires-clause-rule
 try_push_as-requires-clause-rule c =

@@ -1,0 +1,101 @@
+//! The attempts on the queue, each of which its token counts.
+ghost use Rattle.std.specs.Prelude.{◌≡◌, ◌<◌, ◌+◌, ◌++◌, ◌∷◌, ℕ, [], IfErr, MatchOption, MatchResult};
+ghost use Rattle.nr_trigger.specs.Tokens.{IsSamePoster, IsSameTaker, WasEmpty, WasFull, poster_tried, taker_tried};
+
+use crate::post::{Post, Upquery};
+use crate::rule::{Pops, Pushes};
+use crate::tokens::{Poster, Taker};
+use crate::triggers::Triggers;
+use std::marker::Model;
+use std::sync::Wait;
+
+/// How many attempts a token has made, for contracts alone: nothing of it runs.
+#[derive(Drop)]
+pub(crate) struct Attempts {
+    pub(crate) ghost made: { ℕ },
+}
+
+impl Model for Attempts {
+    ghost use Rattle.std.specs.Borrow.{ftrue};
+
+    ghost also_owns = { λ _. ftrue };
+}
+
+impl Attempts {
+    pub(crate) fn none() -> Attempts
+        ensures { result.made ≡ 0 }
+    {
+        Attempts {}
+    }
+
+    // One more, which is made next.
+    #[inline(always)]
+    fn then(&self) -> Attempts
+        ensures { result.made ≡ self.now.made + 1 }
+    {
+        Attempts {}
+    }
+}
+
+impl Triggers {
+    /// Puts it at the back, as this poster's.
+    pub(crate) fn push<R: Wait>(
+        &self,
+        rt: &R,
+        poster: &mut Poster,
+        upquery: Upquery,
+    ) -> Result<(), Post>
+        requires own { poster.old.queue ≡ self.now.id }
+        requires key { upquery.key < poster.old.keys }
+        ensures own { IsSamePoster poster.old poster.new }
+        ensures tries { poster.new.tries ≡ poster.old.tries + 1 }
+        ensures posted { MatchResult result (λ _. poster.new.posted ≡ poster.old.posted ++ upquery ∷ []) (λ _. poster.new ≡ poster_tried poster.old) }
+        ensures full { IfErr result (λ _. WasFull self.now.capacity poster.old) }
+    {
+        let post = Post {
+            poster: poster.number,
+            upquery,
+        };
+        poster.tries = poster.tries.then();
+        self.queue.push_as::<Pushes, R>(rt, &mut poster.seat, post)
+    }
+
+    /// Takes what is at the front.
+    pub(crate) fn pop<R: Wait>(&self, rt: &R, taker: &mut Taker) -> Option<Post>
+        requires own { taker.old.queue ≡ self.now.id }
+        ensures own { IsSameTaker taker.old taker.new }
+        ensures tries { taker.new.tries ≡ taker.old.tries + 1 }
+        ensures taken { MatchOption result (taker.new ≡ taker_tried taker.old) (λ post. taker.new.taken ≡ taker.old.taken ++ post ∷ []) }
+        ensures key { MatchOption result (WasEmpty taker.old) (λ post. post.upquery.key < taker.old.keys) }
+    {
+        taker.tries = taker.tries.then();
+        self.queue.pop_as::<Pops, R>(rt, &mut taker.seat)
+    }
+
+    /// Puts it at the back as this poster's, if one attempt does.
+    pub(crate) fn try_push(&self, poster: &mut Poster, upquery: Upquery) -> Result<(), Post>
+        requires own { poster.old.queue ≡ self.now.id }
+        requires key { upquery.key < poster.old.keys }
+        ensures own { IsSamePoster poster.old poster.new }
+        ensures tries { poster.new.tries ≡ poster.old.tries + 1 }
+        ensures posted { MatchResult result (λ _. poster.new.posted ≡ poster.old.posted ++ upquery ∷ []) (λ back. (back.upquery ≡ upquery) × (poster.new ≡ poster_tried poster.old)) }
+    {
+        let post = Post {
+            poster: poster.number,
+            upquery,
+        };
+        poster.tries = poster.tries.then();
+        self.queue.try_push_as::<Pushes>(&mut poster.seat, post)
+    }
+
+    /// Takes what is at the front, if one attempt does.
+    pub(crate) fn try_pop(&self, taker: &mut Taker) -> Option<Post>
+        requires own { taker.old.queue ≡ self.now.id }
+        ensures own { IsSameTaker taker.old taker.new }
+        ensures tries { taker.new.tries ≡ taker.old.tries + 1 }
+        ensures taken { MatchOption result (taker.new ≡ taker_tried taker.old) (λ post. (taker.new.taken ≡ taker.old.taken ++ post ∷ []) × (post.upquery.key < taker.old.keys)) }
+    {
+        taker.tries = taker.tries.then();
+        self.queue.try_pop_as::<Pops>(&mut taker.seat)
+    }
+}
