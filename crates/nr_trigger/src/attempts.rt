@@ -21,6 +21,9 @@ impl Model for Attempts {
     ghost also_owns = { λ _. ftrue };
 }
 
+// A count owns nothing, so it goes where its token goes.
+unsafe impl Send for Attempts {}
+
 impl Attempts {
     pub(crate) fn none() -> Attempts
         ensures { result.made ≡ 0 }
