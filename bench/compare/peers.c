@@ -5,6 +5,7 @@
 #define _GNU_SOURCE
 #include "library.h"
 #include <malloc.h>
+#include <math.h>
 #include <sched.h>
 #include <stdatomic.h>
 
@@ -12,18 +13,28 @@ enum { KEYS = 8192, MOST_ROUNDS = 2000, SAMPLES = 4000, PART = 1024, BESIDE = 3,
 
 static const double WINDOW = 2e6;
 
-typedef enum { READ_1, READ_3, HOT_3, BESIDE_WRITER, UPDATE, HALF, LAST, HOT_WRITTEN, HOT_UPDATE, FILL, EVICT, COLUMNS } column;
+typedef enum {
+  READ_1, READ_3, HOT_3, BESIDE_WRITER, UPDATE, HALF, LAST, HOT_WRITTEN, HOT_UPDATE, HOT_EACH_1, HOT_EACH_10, SKEWED_1,
+  SKEWED_3, STEEP_1, STEEP_3, FILL, EVICT, COLUMNS
+} column;
 
 static const char *const names[COLUMNS] = {"read by 1", "read by 3", "hot key by 3", "read by 3 beside writer",
     "update beside 3 readers", "p50 of a read beside writer", "p99.9 of a read beside writer",
-    "hot key by 3 beside its writer", "update of the hot key", "fill", "eviction"};
+    "hot key by 3 beside its writer", "update of the hot key", "hot key by 3, written each 1 us",
+    "hot key by 3, written each 10 us", "skew 0.99 by 1", "skew 0.99 by 3", "skew 1.2 by 1", "skew 1.2 by 3", "fill",
+    "eviction"};
+
+/* Which keys are read: each as often as another, one alone, or few of them often, by Zipf's law. */
+typedef enum { EVEN, SKEWED, STEEP, ORDERS, HOT = ORDERS } keys_read;
+
+static const double NEVER = -1, ALWAYS = 0;
 
 static library maps[MOST];
 static double each[COLUMNS][MOST][MOST_ROUNDS], over[COLUMNS][MOST][MOST_ROUNDS];
 static double bytes[MOST];
 static int count, deltas;
 static uint32_t rows, bound;
-static uint32_t order[READERS][ORDER];
+static uint32_t order[ORDERS][READERS][ORDER];
 static nr_row set[255];
 static nr_delta there[2], back[2];
 static char is_there[MOST][KEYS];
@@ -31,7 +42,8 @@ static int from[MOST];
 
 typedef struct {
   library *map;
-  int id, hot;
+  int id;
+  keys_read keys;
   double each;
 } job;
 
@@ -45,7 +57,7 @@ static void wait_for_all(void) {
 }
 
 static void find(const job *j, int i, nr_rows *found) {
-  uint32_t key = j->hot ? HOT_KEY : order[j->id][i % ORDER];
+  uint32_t key = j->keys == HOT ? HOT_KEY : order[j->keys][j->id][i % ORDER];
   if (j->map->find(&j->map->reader[j->id].handle, key, found) != NR_ROWS) stop("a find");
   if (found->count != rows && (rows || found->count > 1)) stop("a number of rows");
 }
@@ -87,23 +99,24 @@ static void update(library *l, uint32_t key) {
   *is = !*is;
 }
 
-/* Runs readers, and beside them a writer, if there is one; what one update took. */
-static double run(library *l, int threads, void *(*body)(void *), int hot, int writes, double *read) {
+/* Runs readers, and beside them a writer that begins an update each so many nanoseconds, or none; what one update took. */
+static double run(library *l, int threads, void *(*body)(void *), keys_read keys, double each_so, double *read) {
   pthread_t t[READERS];
   job jobs[READERS];
   atomic_store(&ready, 0);
   atomic_store(&running, threads);
   atomic_store(&go, 0);
   for (int i = 0; i < threads; i++) {
-    jobs[i] = (job){l, i, hot, 0};
+    jobs[i] = (job){l, i, keys, 0};
     if (pthread_create(&t[i], NULL, body, &jobs[i])) stop("a thread");
   }
   while (atomic_load(&ready) < threads) sched_yield();
   double began = now();
   int made = 0, *place = &from[l - maps];
   atomic_store(&go, 1);
-  while (writes && atomic_load(&running)) {
-    update(l, hot ? HOT_KEY : order[READERS - 1][(*place)++ % ORDER]);
+  while (each_so != NEVER && atomic_load(&running)) {
+    if (now() - began < made * each_so) continue;
+    update(l, keys == HOT ? HOT_KEY : order[keys][READERS - 1][(*place)++ % ORDER]);
     made++;
   }
   double took = now() - began;
@@ -135,15 +148,46 @@ static void fill_again(library *l, int round, double *fill, double *evict) {
 static void measure(int m, int r) {
   library *l = &maps[m];
   double none;
-  run(l, 1, reads, 0, 0, &each[READ_1][m][r]);
-  run(l, 3, reads, 0, 0, &each[READ_3][m][r]);
-  run(l, 3, reads, 1, 0, &each[HOT_3][m][r]);
-  each[UPDATE][m][r] = run(l, BESIDE, reads, 0, 1, &each[BESIDE_WRITER][m][r]);
-  run(l, 1, reads_apart, 0, 1, &none);
+  run(l, 1, reads, EVEN, NEVER, &each[READ_1][m][r]);
+  run(l, 3, reads, EVEN, NEVER, &each[READ_3][m][r]);
+  run(l, 3, reads, HOT, NEVER, &each[HOT_3][m][r]);
+  each[UPDATE][m][r] = run(l, BESIDE, reads, EVEN, ALWAYS, &each[BESIDE_WRITER][m][r]);
+  run(l, 1, reads_apart, EVEN, ALWAYS, &none);
   each[HALF][m][r] = at_part(samples, SAMPLES, 0.5);
   each[LAST][m][r] = at_part(samples, SAMPLES, 0.999);
-  each[HOT_UPDATE][m][r] = run(l, BESIDE, reads, 1, 1, &each[HOT_WRITTEN][m][r]);
+  each[HOT_UPDATE][m][r] = run(l, BESIDE, reads, HOT, ALWAYS, &each[HOT_WRITTEN][m][r]);
+  run(l, 3, reads, HOT, 1e3, &each[HOT_EACH_1][m][r]);
+  run(l, 3, reads, HOT, 1e4, &each[HOT_EACH_10][m][r]);
+  run(l, 1, reads, SKEWED, NEVER, &each[SKEWED_1][m][r]);
+  run(l, 3, reads, SKEWED, NEVER, &each[SKEWED_3][m][r]);
+  run(l, 1, reads, STEEP, NEVER, &each[STEEP_1][m][r]);
+  run(l, 3, reads, STEEP, NEVER, &each[STEEP_3][m][r]);
   fill_again(l, r, &each[FILL][m][r], &each[EVICT][m][r]);
+}
+
+/* Keys by Zipf's law, the hottest ones anywhere among the numbers, and the same ones for all readers. */
+static void skew(uint32_t of[READERS][ORDER], const uint32_t any_order[ORDER], double by) {
+  static double below[KEYS];
+  static uint32_t key_at[KEYS];
+  double all = 0;
+  for (uint32_t i = 0; i < KEYS; i++) key_at[i] = i, below[i] = all += pow(i + 1, -by);
+  for (uint32_t i = 0; i < KEYS; i++) {
+    uint32_t other = any_order[i % ORDER], key = key_at[i];
+    key_at[i] = key_at[other], key_at[other] = key;
+  }
+  uint64_t s = 88172645463325252u;
+  for (int t = 0; t < READERS; t++)
+    for (int i = 0; i < ORDER; i++) {
+      s ^= s << 13, s ^= s >> 7, s ^= s << 17;
+      double drawn = (double)(s >> 11) / 9007199254740992.0 * all;
+      uint32_t low = 0, high = KEYS - 1;
+      while (low < high) {
+        uint32_t middle = (low + high) / 2;
+        if (below[middle] < drawn) low = middle + 1;
+        else high = middle;
+      }
+      of[t][i] = key_at[low];
+    }
 }
 
 static double in_use(void) {
@@ -182,7 +226,9 @@ int main(int arguments, char **argument) {
   deltas = rows ? 2 : 1;
   there[0] = (nr_delta){other, true}, there[1] = (nr_delta){old, false};
   back[0] = (nr_delta){other, false}, back[1] = (nr_delta){old, true};
-  shuffle(order, KEYS);
+  shuffle(order[EVEN], KEYS);
+  skew(order[SKEWED], order[EVEN][0], 0.99);
+  skew(order[STEEP], order[EVEN][0], 1.2);
   for (int i = 3; i < arguments; i++) begin(argument[i]);
   int rounds = 0;
   for (; rounds < MOST_ROUNDS && (rounds < 5 || now() < until); rounds++) {
