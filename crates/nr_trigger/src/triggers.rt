@@ -56,7 +56,8 @@ impl Triggers {
     }
 
     /// Puts what the ticket names at the back, and spends the ticket. It comes back where the queue
-    /// was full at one moment of the call. May wait for a thread that is within a call of its own.
+    /// was full at one moment of the call. May wait for a thread that is within a call of its own,
+    /// and waits for ever once the queue has carried 2^62 of them.
     pub fn post<R: Wait>(&self, rt: &R, poster: &mut Poster, ticket: Ticket) -> Result<(), Ticket>
         requires own { poster.old.queue ≡ self.now.id }
         requires key { ticket.key < poster.old.keys }
@@ -74,7 +75,8 @@ impl Triggers {
     }
 
     /// Takes what is at the front. None where the queue was empty at one moment of the call. May
-    /// wait for a thread that is within a call of its own.
+    /// wait for a thread that is within a call of its own, and waits for ever once the queue has
+    /// carried 2^62 of them.
     pub fn take<R: Wait>(&self, rt: &R, taker: &mut Taker) -> Option<Trigger>
         requires own { taker.old.queue ≡ self.now.id }
         ensures own { IsSameTaker taker.old taker.new }
