@@ -1,13 +1,13 @@
 -- A reader that holds a set, as C calls it.
-use Rattle.std.specs.Prelude.{ℕ, ◌≡◌, ◌↔◌, ◌<◌, ◌≤◌, ◌⊎◌, Bool, true, if◌then◌else◌, List, [], ◌∷◌, length, slice_get, Some, None, Ok, Err}
+use Rattle.std.specs.Prelude.{ℕ, ◌≡◌, ◌↔◌, ◌<◌, ◌≤◌, ◌⊎◌, Bool, true, if◌then◌else◌, List, [], ◌∷◌, length, slice_get, Some, Ok, Err}
 use Rattle.nr_model.specs.declared.rows.Row.{Row}
-use Rattle.nr_marks.specs.Marks.{acted}
 use Rattle.nr_board.specs.Callers.{Caller, Rests}
 use Rattle.nr_board.specs.Meetings.{HasPut}
 use Rattle.nr_map.specs.Pins.{FindsByPin, Pinned, PinsKey}
 use Rattle.nr_c.specs.Numbers.{answer_hole, answer_no_row, answer_other, answer_rows}
 use Rattle.nr_c.specs.declared.hand.Hand.TheVariants.{Holds, Idle}
 use Rattle.nr_c.specs.declared.reader_side.ReaderSide.{ReaderSide}
+use Rattle.nr_c.specs.Hands.{LetsGo}
 use Rattle.nr_c.specs.Live.{TurnsHand}
 
 -- a pin by its code: the reader holds the set of the key, and how many rows it has is told; or the key was a hole
@@ -31,6 +31,6 @@ abbrev pub FindsByHold : ℕ → ℕ → List ReaderSide → List ReaderSide →
 FindsByHold key code before after = (found : Bool) × (code ≡ (if found then answer_rows else answer_other)) × (old new : Pinned) × TurnsHand before after (Holds old) (Holds new)
     × FindsByPin key old.reader old.rows new.reader found × ((found ≡ true) ↔ HasPut key old.reader.marks.put new.reader) × (new.rows ≡ old.rows)
 
--- the hold ends, by one act more
+-- the hold ends
 abbrev pub Releases : List ReaderSide → List ReaderSide → Type 0
-Releases before after = (old : Pinned) × (new : Caller) × TurnsHand before after (Holds old) (Idle new) × Rests 1 old.reader new × (new.holds ≡ None) × (new.marks ≡ acted old.reader.marks old.reader.marks.put)
+Releases before after = (old : Pinned) × (new : Caller) × TurnsHand before after (Holds old) (Idle new) × LetsGo old new

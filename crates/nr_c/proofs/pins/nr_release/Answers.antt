@@ -6,7 +6,5 @@ returns c = (
   c.take_pin-pin.result,
   c.release-idle.result,
   record { old = c.side-side.result.now; new = _; led = c.side-side.ensures.value; leads = refl; map = c.put.ensures.map ∙ c.take_pin-pin.ensures.map; old_hand = c.take_pin-pin.ensures.pin; new_hand = c.put.ensures.hand },
-  c.release-idle.ensures.rests,
-  c.release-idle.ensures.idle,
-  c.release-idle.ensures.marks,
+  record { rests = c.release-idle.ensures.rests; holds = c.release-idle.ensures.idle; marks = c.release-idle.ensures.marks },
 )
