@@ -1,5 +1,5 @@
 //! A load's report, as it is written.
-ghost use Rattle.std.specs.Prelude.{◌≡◌, ◌<◌, ◌≤◌, IfOk, Ok, string_bytes};
+ghost use Rattle.std.specs.Prelude.{◌≡◌, ◌<◌, ◌≤◌, IfOk, IfErr, OnOk, Ok, Err, string_bytes};
 ghost use Rattle.nr_prog.specs.Loads.{MayComeTo, balance_word, report_status, report_text};
 
 use nr_lines::set_text;
@@ -64,7 +64,17 @@ pub(crate) fn report_of<T: Threads + Wait + Sync>(
     ensures report { IfOk result (λ reported. MayComeTo plan.now (Ok reported.report)) }
     ensures text { IfOk result (λ reported. string_bytes reported.text ≡ report_text reported.report) }
 {
-    let report = run_load(rt, alloc, plan, &OpenGate)?;
+    with_text(alloc, run_load(rt, alloc, plan, &OpenGate))
+}
+
+/// The report of a load that came to this, and its text; a fault stays as it is.
+fn with_text(alloc: Global, ran: Result<LoadReport, LoadFault>) -> Result<Reported, LoadFault>
+    ensures report { IfOk result (λ reported. ran ≡ Ok reported.report) }
+    ensures text { IfOk result (λ reported. string_bytes reported.text ≡ report_text reported.report) }
+    ensures fault { IfErr ran (λ fault. result ≡ Err fault) }
+    ensures memory { OnOk ran (IfErr result (λ fault. fault ≡ LoadFault.Memory)) }
+{
+    let report = ran?;
     let mut text = String::new(alloc);
     match set_text(&mut text, &ReportLines(&report)) {
         Ok(()) => Ok(Reported { report, text }),
