@@ -97,6 +97,7 @@ answer_of_reader state at call = without_pin (pin_at state at) state (answer_cal
 abbrev pub answer_pinning : MapState → ℕ → ℕ → KeyState → MapOutcome
 answer_pinning state at key found = without_pin (pin_at state at) state (answer_pin state at key found)
 
+-- the rows of a reader's pin
 abbrev pub answer_show : MapState → ℕ → MapOutcome
 answer_show state at = with_pin (pin_at state at) state (λ pin. (Ok (answers.Reply (reply.Rows pin.rows)), state))
 
@@ -109,6 +110,7 @@ find_again (states.Rows n rows) put pin = if put == pin.put then answers.Reply (
 abbrev pub answer_again : MapState → ℕ → ℕ → MapOutcome
 answer_again state at key = with_pin (pin_at state at) state (λ pin. (Ok (find_again (state_of state.map key) (slice_index state.puts key) pin), state))
 
+-- a reader lets its pin go
 abbrev pub answer_unpin : MapState → ℕ → MapOutcome
 answer_unpin state at = with_pin (pin_at state at) state (λ pin. (Ok answers.Ok, pins_after state at None))
 

@@ -138,7 +138,7 @@ pub record Follows (story : Story) (event : Event) : Type 0 where
       ≡ entries_of story.history caller ++ (if caller_of_event event == caller then unless (refusal story.state event) [] (told story.state event) else [])
   pub justified : (counts : NoSlot) → EndsWithout story.state event counts → IsJustified story event counts
 
--- the theorem on every schedule
+-- what stands after every list of events from the opening, and what follows of one event more
 abbrev pub EverySchedule : Type 0
 EverySchedule = (shape : Shape) (events : List Event) → IsShape shape → AllGiven (bound_of shape) events
     → Stands (story_of shape events) × ((event : Event) → IsGiven (bound_of shape) event → Follows (story_of shape events) event)

@@ -39,6 +39,7 @@ ReadLaw = (shape : Shape) (id reader slot : ℕ) (rows : List Row) (sized : Bool
 abbrev pub FindAgainLaw : Type 0
 FindAgainLaw = (shape : Shape) (id reader slot : ℕ) (rows : List Row) (sized : Bool) (at : ℕ) → at < shape.keys → CanStep shape id (Reader reader (On slot rows sized)) (Load at) (FindsAgain shape reader slot rows sized at)
 
+-- a reader that holds a slot departs from it
 abbrev pub DepartLaw : Type 0
 DepartLaw = (shape : Shape) (id reader slot : ℕ) (rows : List Row) (sized : Bool) → CanStep shape id (Reader reader (On slot rows sized)) (Add (departures shape slot) 1) (Departs reader)
 

@@ -40,6 +40,7 @@ pub record Stepped (shape : Shape) (words : List ℕ) (roles : List Role) (log :
   pub own : (caller : ℕ) → entries_of entries caller ≡ cond (is_by caller role) entries []
   pub told : tells (slice_index words (target_of operation)) after entries
 
+-- whatever the core state is, a caller of that role can make the operation, and this is what it tells
 abbrev pub CanStep : Shape → ℕ → Role → Operation → Telling → Type 0
 CanStep shape id role operation tells =
     (words : List ℕ) (roles : List Role) (log : List Entry) → Core shape words roles log → get_elem? roles id ≡ some role → Stepped shape words roles log id role operation tells

@@ -102,11 +102,14 @@ abbrev pub names_held : Hold → ℕ → Bool
 names_held Nothing found = false
 names_held (On slot size) found = names_slot slot found
 
+-- whether the key has the set that the reader holds, or the refusal
 abbrev pub find_again_answer : State → ℕ → ℕ → Result Bool Refusal
 find_again_answer state reader key = or_refusal (refusal state (FindAgain reader key)) (names_held (hold_of state reader) (found_by state (FindAgain reader key)))
 
+-- what the first step of a call of the writer comes to, or the refusal
 abbrev pub start_answer : State → WriterCall → Result Step Refusal
 start_answer state call = or_refusal (refusal state (Start call)) (looked state.shape state.desk call (found_by state (Start call))).1
 
+-- what the next step of the call comes to, or the refusal
 abbrev pub go_answer : State → Result Step Refusal
 go_answer state = or_refusal (refusal state Go) (went state.shape state.desk state.desk.place (found_by state Go)).1

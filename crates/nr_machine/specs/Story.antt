@@ -40,6 +40,7 @@ shown state at =
     then option_map (λ rows. key.Rows (number_at state.desk at) rows) (decode (slot_content state.shape state.words (slot_of (word state at))))
     else Some (if has_ask (word state at) then key.Asked (slot_of (word state at)) else key.Hole (slot_of (word state at))))
 
+-- a call of the writer as the model's call
 abbrev pub call_of : WriterCall → Call
 call_of (Find at) = model.Find at
 call_of (Fill at number rows) = model.Fill at number rows

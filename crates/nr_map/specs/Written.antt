@@ -44,7 +44,7 @@ pub record FindsPut (map : PartialMap) (key : ℕ) (written later : List Entry) 
   pub hole : found ≡ reply.Hole → 0 < count_by (evicts_at key) later
   pub rows : (rows : List Row) → found ≡ reply.Rows rows → NonePut (after map written) key later rows ⊎ LastPut (after map written) key later rows
 
--- so it is in every legal history
+-- in every legal history a find that comes after a put of its key is answered with that put or what came after it
 abbrev pub FindsWritten : Type 0
 FindsWritten =
     (map : PartialMap) (before later : List Entry) (put : Entry) (key caller : ℕ) (found : Reply) →

@@ -20,6 +20,7 @@ load_of (Some seed) (Some readers) None gets = Explain misuse.Keys
 load_of (Some seed) (Some readers) (Some keys) None = Explain misuse.Gets
 load_of (Some seed) (Some readers) (Some keys) (Some gets) = Load (record { seed = seed; readers = readers; keys = keys; gets = gets })
 
+-- what the words after the program's name ask for
 abbrev pub task : List (List ℕ) → Task
 task [] = Script
 task (word ∷ []) = if bytes_eq word (codes "steps") then Schedule else Explain misuse.Words

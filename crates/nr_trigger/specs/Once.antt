@@ -19,6 +19,6 @@ pub record HasComeOnce (taken held : List Post) (views : List PassView) : Type 0
   -- each post that was taken or is held is one of the posters'
   pub posters : (before after : List Post) (post : Post) → taken ++ held ≡ before ++ post ∷ after → (posting : Posting) × IsAmong views (Poster posting) × (posting.number ≡ post.poster)
 
--- so it is at every moment
+-- at every moment a beginning of each poster's list was taken, in order, the queue holds the rest, and nothing else came out
 abbrev pub ComesOutOnce : Type 0
 ComesOutOnce = (held : List Post) (views : List PassView) (now : Delivers held views) → HasComeOnce now.taken held views
