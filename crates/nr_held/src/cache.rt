@@ -1,5 +1,6 @@
 //! The cache, and its calls.
-ghost use Rattle.std.specs.Prelude.{◌≡◌, ◌<◌, length, IfOk, map as each_of};
+ghost use Rattle.std.specs.Prelude.{◌≡◌, ◌<◌, length, All, IfOk, map as each_of};
+ghost use Rattle.nr_board.specs.Callers.{Table};
 ghost use Rattle.nr_map.specs.Hands.{idle};
 ghost use Rattle.nr_held.specs.Caches.{AreOf, FindsAtPlace, LetAllGo};
 
@@ -29,7 +30,8 @@ impl Cache {
     /// A cache of those readers, which hold nothing.
     pub fn of(alloc: Global, readers: Vec<Reader>) -> Result<Cache, AllocError>
         requires some { 0 < length readers.items }
-        ensures { IfOk result (λ cache. cache ≡ each_of idle readers.items) }
+        ensures hands { IfOk result (λ cache. cache ≡ each_of idle readers.items) }
+        ensures own { IfOk result (λ cache. (table : Table) → All (λ reader. reader.table ≡ table) readers.items → AreOf table cache) }
     {
         let mut hands = Vec::with_capacity(alloc, readers.len())?;
         for reader in readers {
@@ -69,14 +71,16 @@ impl Cache {
         }
     }
 
-    /// The cache ends with its readers: what they hold is let go.
-    pub fn close(self, map: &ReaderMap)
+    /// The cache ends: what is held is let go, in 1 step for each set, and the hands come back, each
+    /// with its reader and in its place.
+    pub fn close(self, map: &ReaderMap) -> Vec<Hand>
         requires own { AreOf map.now self }
+        ensures own { AreOf map.now result.items }
+        ensures all { LetAllGo self result.items }
     {
-        let Cache { mut hands } = self;
-        while let Some(hand) = hands.pop() {
-            hand.into_reader(map);
-        }
-        hands.destroy_empty();
+        let mut cache = self;
+        cache.let_go(map);
+        let Cache { hands } = cache;
+        hands
     }
 }

@@ -1,9 +1,9 @@
 //! A cache of two readers and three keys, of which the first and the last have one place.
-ghost use Rattle.std.specs.Prelude.{◌≡◌, ◌<◌, length, All, IfOk};
+ghost use Rattle.std.specs.Prelude.{◌≡◌, ◌<◌, ◌≤◌, length, All, IfOk};
 ghost use Rattle.nr_held.specs.Caches.{AreOf};
 
 use nr_held::Cache;
-use nr_map::{Asked, Found, Reader, ReaderMap, Writer};
+use nr_map::{Asked, Found, Hand, Reader, ReaderMap, Writer};
 use nr_model::{OpenFault, Row, RowSet};
 use std::alloc::Global;
 use std::test::Fail;
@@ -14,6 +14,7 @@ const KEYS: u32 = 3;
 fn fill(map: &ReaderMap, writer: &mut Writer, asking: &mut Reader, key: u32)
     requires own { (asking.old.table ≡ map.now) × (writer.old.table ≡ map.now) }
     requires key { key < map.now.shape.keys }
+    requires room { 1 ≤ map.now.shape.rows }
     ensures { (asking.new.table ≡ map.now) × (writer.new.table ≡ map.now) }
 {
     match map.ask(asking, key) {
@@ -66,12 +67,22 @@ fn find_all(map: &ReaderMap, cache: &mut Cache) -> [Option<u64>; 6]
 
 // A map of three keys with three readers. It is opened anew where memory was refused once.
 fn opened(alloc: Global) -> Result<(ReaderMap, Writer, Vec<Reader>), OpenFault>
-    ensures { IfOk result (λ opened. (opened.0.shape.keys ≡ KEYS) × (opened.1.table ≡ opened.0) × (length opened.2.items ≡ 3) × All (λ reader. reader.table ≡ opened.0) opened.2.items) }
+    ensures { IfOk result (λ opened. (opened.0.shape.keys ≡ KEYS) × (1 ≤ opened.0.shape.rows) × (opened.1.table ≡ opened.0) × (length opened.2.items ≡ 3) × All (λ reader. reader.table ≡ opened.0) opened.2.items) }
 {
     match ReaderMap::open(alloc, KEYS, 7, 3, 0) {
         Err(OpenFault::Memory) => ReaderMap::open(alloc, KEYS, 7, 3, 0),
         opened => opened,
     }
+}
+
+// Ends the hands of a cache.
+fn end(map: &ReaderMap, mut hands: Vec<Hand>)
+    requires own { AreOf map.now hands.items }
+{
+    while let Some(hand) = hands.pop() {
+        hand.into_reader(map);
+    }
+    hands.destroy_empty();
 }
 
 // Fills all keys by one of the readers, and finds them by a cache of the two others.
@@ -88,7 +99,7 @@ fn cached(alloc: Global) -> Result<(usize, [Option<u64>; 6]), OpenFault> {
     };
     let many = cache.len();
     let told = find_all(&map, &mut cache);
-    cache.close(&map);
+    end(&map, cache.close(&map));
     Ok((many, told))
 }
 

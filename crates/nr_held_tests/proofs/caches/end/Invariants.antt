@@ -1,5 +1,5 @@
 use Rattle.nr_held.specs.Caches.{AreOf}
-use Rattle.nr_held.proofs.cache.Cache.close.Given as goal
+use Rattle.nr_held_tests.proofs.caches.end.Given as goal
 
 abbrev pub invariant-loop-hand : goal.invariant-loop-hand
 invariant-loop-hand l = AreOf l.fn.map l.hands.items
