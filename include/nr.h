@@ -3,8 +3,9 @@
    to the history that all callers share is its contract in crates/nr_c.
 
    What the caller owes, in each function that takes them, and nothing tests:
-   - a handle starts as zeros, is live once its opening answered NR_DONE, and until it is closed. While
-     it is live nobody copies it or writes to it.
+   - a handle starts as zeros, is live once its opening answered NR_DONE, and until it is closed. A live
+     handle may be moved to another place, where alone it is then live. Nobody else copies it or writes
+     to it.
    - a live handle is used by one call at a time. It goes to another thread by that thread's start or
      join, by a lock, or by a sequentially consistent atomic.
    - a key is below the keys that the map, or the queue, was opened with.
@@ -13,7 +14,8 @@
    - no call is made from a signal handler, or in the forked child of a process with threads.
 
    A step is one atomic operation on one 64-bit word. No call takes a lock or waits, and none but those
-   that open takes memory. Link: libnr.a (or libnr.so), and nothing else but the C library. */
+   that open takes memory. Link: libnr.a (or libnr.so), and nothing else but the C library. For x86-64
+   and Linux; C11 or C++11. */
 #ifndef NR_H
 #define NR_H
 
@@ -113,6 +115,22 @@ typedef struct nr_poster {
   void *at;
 } nr_poster;
 
+/* WORKING WITH IT
+
+   Waiting for a key: note how often you were woken, look, request, sleep, in this order; whoever fills
+   the key wakes after the fill. embed/c/wait.c does so by a condition variable and by eventfds, and
+   has the dataflow sleep while nothing is posted.
+   No slot: nothing has changed. Evict a key or have readers release what they hold, and call again.
+   Keys that are hot together: give them numbers at least eight apart, since eight neighbours share a
+   line of the cache and each find writes its key's word. A reader that holds a hot key's set finds it
+   again by nr_again, which writes nothing.
+   To fill keys before anybody reads: request each by a reader (nr_ask), and fill it by the number told.
+   Rows that refer to data of your own: who finds a set sees all that the writer's thread had written to
+   memory before it put the set. When no reader holds a replaced set any more, the map doesn't tell.
+   Several maps behind one queue: open it for the sum of their keys, and post each key with the number
+   of keys of the maps before its own added.
+   first_count and first_number are 0 but in tests, which begin near the end of a count or of a number. */
+
 /* OPENING AND CLOSING */
 
 /* Opens a map, and makes the writer's handle live. NR_DONE; NR_BAD_SIZE or NR_NO_MEMORY, and then the
@@ -175,7 +193,8 @@ uint32_t nr_look(nr_writer *writer, uint32_t key, nr_rows *rows);
 uint32_t nr_fill(nr_writer *writer, uint32_t key, uint64_t number, const nr_row *rows, size_t n);
 
 /* Applies 1 to 64 signed rows to the rows of a filled key, whole or not at all; all rows to be added
-   come before any is taken away. NR_BAD_BATCH without a step; NR_DROPPED after 1; with o rows before and
+   come before any is taken away, and how many rows there are is looked at in the result alone.
+   NR_BAD_BATCH without a step; NR_DROPPED after 1; with o rows before and
    n after, NR_NO_ROW or NR_TOO_MANY after 2o + 2, NR_DONE after 2o + 2n + 4 and the polls; NR_NO_SLOT. */
 uint32_t nr_update(nr_writer *writer, uint32_t key, const nr_delta *deltas, size_t n);
 
