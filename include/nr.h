@@ -37,7 +37,7 @@ extern "C" {
 #define NR_DONE 5u       /* done; of an opening: the handle is live */
 #define NR_NOT_ASKED 6u  /* nobody asked for the key */
 #define NR_ALREADY 7u    /* the key is filled */
-#define NR_STALE 8u      /* the request that the fill answers was taken back */
+#define NR_STALE 8u      /* the fill names another request than the key's, as one that was taken back */
 #define NR_DROPPED 9u    /* the key is not filled, so the update is dropped */
 #define NR_NO_ROW 10u    /* a row to be taken away is not there */
 #define NR_TOO_MANY 11u  /* more rows than a key may have */
@@ -79,8 +79,9 @@ typedef struct nr_delta {
 
 /* What a map is opened with: 1 to 65,536 keys, 1 to 131,072 slots, 1 to 1,024 readers, 1 to 255 rows a
    key; any count at which the slots' departures begin, and a first number of requests up to 4,194,303.
-   With a slot for each key, each reader and one more no fill or update answers NR_NO_SLOT. The map
-   takes 8 bytes a key and 16 * rows + 16 a slot, and as much again while it is opened. */
+   With a slot for each key, each reader and one more no fill or update answers NR_NO_SLOT. The map's
+   words take 8 bytes a key and 16 * rows + 16 a slot, and as much again while it is opened; the writer's
+   lists take 8 bytes a key and 16 a slot beside them. */
 typedef struct nr_shape {
   uint32_t keys;
   uint32_t slots;
@@ -216,7 +217,8 @@ uint64_t nr_number(nr_writer *writer, uint32_t key);
    message about it came: by a thread's start or join, a lock, or a sequentially consistent or a release and
    acquire atomic. Such a find gives the rows of that write or of a later one, and a hole only where the key was
    evicted since; and a thread that read a set reads nothing older of the key later. Nobody has to call nr_meet
-   for that: in the contracts such a message carries a note, which at run time is nothing. */
+   for that: in the map's contracts such a message carries a note, whose steps only load. These functions have
+   no notes, so no clause of theirs says it. */
 
 /* WHAT TOKENS LEARN OF EACH OTHER, in 2 steps of the one that learns and 1 of the other. It changes no key and
    no answer: it says whose calls the one history has, in the contracts. Owed: both handles are live and of one map; the
