@@ -4,7 +4,7 @@
 #[path = "by_hand.rs"]
 mod map;
 
-use map::{nr_ask, nr_fill, nr_find, nr_find_kept, nr_open, nr_open_reader, Handle, Reader, Row, Rows, Shape, Writer};
+use map::{nr_ask, nr_fill, nr_open, nr_open_reader, Handle, Reader, Row, Rows, Shape, Writer};
 use std::hint::black_box;
 use std::time::Instant;
 
@@ -27,26 +27,18 @@ enum Cache {
 
 /// One thread's readers: one that holds nothing, and the hands with the keys that they hold.
 struct Thread {
-    idle: Handle<Reader>,
-    hands: Vec<Handle<Reader>>,
+    idle: Reader,
+    hands: Vec<Reader>,
     keys: Vec<u32>,
     /// The key that missed last at a hand, or which of two hands was used last.
     last: Vec<u32>,
 }
 
-// SAFETY: each thread is moved to one thread of the system, which alone uses its handles.
-unsafe impl Send for Thread {}
-
 impl Thread {
     fn of(writer: &Handle<Writer>, hands: usize) -> Thread {
-        let reader = || unsafe {
-            let mut handle = Handle::empty();
-            nr_open_reader(writer, &mut handle);
-            handle
-        };
         Thread {
-            idle: reader(),
-            hands: (0..hands).map(|_| reader()).collect(),
+            idle: Reader::of(writer),
+            hands: (0..hands).map(|_| Reader::of(writer)).collect(),
             keys: vec![NO_KEY; hands],
             last: vec![NO_KEY; hands],
         }
@@ -54,7 +46,7 @@ impl Thread {
 
     fn kept(&mut self, place: usize, key: u32, rows: &mut Rows) {
         self.keys[place] = key;
-        unsafe { nr_find_kept(&mut self.hands[place], key, rows) };
+        self.hands[place].find_kept(key, rows);
     }
 
     fn find(&mut self, cache: Cache, key: u32, rows: &mut Rows) {
@@ -75,7 +67,7 @@ impl Thread {
                 if cache == Cache::SecondMiss {
                     self.last[key as usize % hands] = key;
                 }
-                unsafe { nr_find(&mut self.idle, key, rows) };
+                self.idle.find(key, rows);
             }
         }
     }
