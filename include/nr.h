@@ -123,8 +123,8 @@ typedef struct nr_poster {
    has the dataflow sleep while nothing is posted.
    No slot: nothing has changed. Evict a key or have readers release what they hold, and call again.
    Keys that are hot together: give them numbers at least eight apart, since eight neighbours share a
-   line of the cache and each find writes its key's word. A reader that holds a hot key's set finds it
-   again by nr_again, which writes nothing.
+   line of the cache and each find writes its key's word. A reader of its own for a hot key finds it by
+   nr_find_kept, which writes nothing while the key keeps its set.
    To fill keys before anybody reads: request each by a reader (nr_ask), and fill it by the number told.
    Rows that refer to data of your own: who finds a set sees all that the writer's thread had written to
    memory before it put the set. When no reader holds a replaced set any more, the map doesn't tell.
@@ -173,6 +173,14 @@ uint32_t nr_row_at(nr_reader *reader, uint32_t place, nr_row *row);
    rows are those of the held set. NR_OTHER where it hasn't. The reader holds the same set in either
    case. Owed: the handle is live and its reader holds a set; `key` is below the map's keys. */
 uint32_t nr_again(nr_reader *reader, uint32_t key);
+
+/* As nr_find, but the reader holds the set for the next call. Where the key still has the set that the
+   reader holds, NR_ROWS after 2n + 1 steps, which write no word. Else what was held is let go: NR_ROWS
+   after 2n + 2 steps; NR_HOLE after 1, and then the reader holds nothing and `rows` stays; 2 steps more
+   where something was held. A set that is held keeps its slot from being used anew, so a reader that
+   finds nothing for a while is to be released. Owed: `reader` is live, holding a set or not; `key` is
+   below the map's keys. */
+uint32_t nr_find_kept(nr_reader *reader, uint32_t key, nr_rows *rows);
 
 /* Ends the hold, in 1 step. Owed: `reader` is live and holds a set. A reader that is closed while it
    holds a set is released. */

@@ -63,6 +63,24 @@ static void test_queue(nr_taker *taker, nr_poster *poster) {
   if (nr_open_queue(KEYS, 1, 1025, &small) != NR_BAD_SIZE) stop("1,025 posters");
 }
 
+/* A reader that holds nothing keeps what it finds: it finds the same set again, another one after an update, another key's,
+   and then a hole, at which it holds nothing. */
+static void test_kept(nr_writer *writer, nr_reader *reader) {
+  const nr_delta more = {{20, 20}, true};
+  nr_rows rows;
+  for (int turn = 0; turn < 2; turn++)
+    if (nr_find_kept(reader, 20, &rows) != NR_ROWS || rows.count != 2 || rows.row[0].b != 400) stop("a find that is kept");
+  if (nr_again(reader, 20) != NR_ROWS) stop("a set that was kept");
+  if (nr_update(writer, 20, &more, 1) != NR_DONE) stop("an update of a set that is kept");
+  if (nr_find_kept(reader, 20, &rows) != NR_ROWS || rows.count != 3 || rows.row[0].b != 20) stop("a kept find anew");
+  if (nr_find_kept(reader, 21, &rows) != NR_ROWS || rows.count != 2 || rows.row[0].a != 21) stop("another key's kept find");
+  nr_release(reader);
+  if (nr_find_kept(reader, 21, &rows) != NR_ROWS || nr_evict(writer, 21) != NR_EVICTED) stop("an eviction of a kept set");
+  rows.count = 99;
+  if (nr_find_kept(reader, 21, &rows) != NR_HOLE || rows.count != 99) stop("a kept find of a hole");
+  if (nr_find(reader, 20, &rows) != NR_ROWS || rows.count != 3) stop("a find after kept ones");
+}
+
 /* The calls of one thread, at the end. */
 static void test_calls(nr_writer *writer, nr_reader *one, nr_reader *two) {
   nr_delta batch[2] = {{{7, 49}, false}, {{9, 9}, true}};
@@ -136,6 +154,7 @@ int main(void) {
   if (fills(&writer, &taker) != KEYS) stop("not each key was filled once");
   for (int i = 0; i < READERS; i++) pthread_join(threads[i], NULL);
   test_queue(&taker, &clients[0].poster);
+  test_kept(&writer, &clients[1].reader);
   test_calls(&writer, &clients[0].reader, &clients[1].reader);
   for (int i = 0; i < READERS; i++) {
     nr_close_reader(clients[i].reader);

@@ -1,7 +1,7 @@
-/* Readers beside a writer that fills, updates, evicts and cancels, with fewer slots than keys, so that now and then there is
-   none. Each set is of one version: its rows name it, and its note, which the writer keeps in memory of its own, names
-   the key. A reader finds whole sets alone, none older than it found before or than was acknowledged, with their notes.
-   With UNORDERED the thread sanitizer isn't told of the library's order, and has to miss it. */
+/* Readers beside a writer that fills, updates, evicts and cancels, with fewer slots than keys, so that now and then
+   there is none. Each set is of one version: its rows name it, and its note, which the writer keeps in memory of its
+   own, names the key. A reader finds whole sets alone, none older than it found before or than was acknowledged, with
+   their notes. With UNORDERED the thread sanitizer isn't told of the library's order, and has to miss it. */
 #include "../../include/nr.h"
 #include "order.h"
 #include <pthread.h>
@@ -30,10 +30,12 @@ static char order[KEYS];
 static atomic_bool done;
 
 /* What was seen, by each thread for itself. */
-typedef enum { FOUND, HOLE, SEND, WAITING, FILLED, HELD, AGAIN, OTHER, FILL, UPDATE, DROP, EVICT, CANCEL, LATE, NO_SLOT, KINDS } kind;
-static const char *const names[KINDS] = {"a find", "a hole", "a request to send", "a request under way", "a request of a filled key",
-  "a pin", "a find again", "a find again of another set", "a fill", "an update", "a dropped update", "an eviction", "a cancel",
-  "a late fill", "no slot"};
+typedef enum {
+  FOUND, HOLE, SEND, WAITING, FILLED, HELD, KEPT, AGAIN, OTHER, FILL, UPDATE, DROP, EVICT, CANCEL, LATE, NO_SLOT, KINDS
+} kind;
+static const char *const names[KINDS] = {"a find", "a hole", "a request to send", "a request under way",
+  "a request of a filled key", "a pin", "a kept find", "a find again", "a find again of another set", "a fill",
+  "an update", "a dropped update", "an eviction", "a cancel", "a late fill", "no slot"};
 
 typedef struct client {
   nr_reader reader;
@@ -75,7 +77,8 @@ static uint32_t rows_of(uint32_t key, uint64_t version, nr_row *rows) {
 static void is_set(uint32_t key, const nr_row *rows, uint64_t count) {
   nr_row wanted[4];
   want(count >= 1 && count == rows_of(key, rows[0].a, wanted), "as many rows as the version has");
-  for (uint64_t i = 0; i < count; i++) want(rows[i].a == wanted[i].a && rows[i].b == wanted[i].b, "rows of one version");
+  for (uint64_t i = 0; i < count; i++)
+    want(rows[i].a == wanted[i].a && rows[i].b == wanted[i].b, "rows of one version");
 }
 
 static uint64_t floor_of(const client *client, uint32_t key) {
@@ -129,14 +132,30 @@ static void hold(client *client, uint32_t key) {
   nr_release(&client->reader);
 }
 
+/* Finds a key some times, and keeps its set between. */
+static void keep(client *client, uint32_t key) {
+  static _Thread_local nr_rows rows;
+  uint32_t answer;
+  do {
+    uint64_t at_least = floor_of(client, key);
+    answer = nr_find_kept(&client->reader, key, &rows);
+    if (answer != NR_ROWS) break;
+    client->seen[KEPT]++;
+    is_found(client, key, at_least, rows.row, rows.count);
+    if (below(&client->state, 4) == 0) sched_yield();
+  } while (below(&client->state, 8));
+  if (answer == NR_ROWS) nr_release(&client->reader);
+}
+
 static void *reads(void *given) {
   client *client = given;
   static _Thread_local nr_rows rows;
   while (!atomic_load(&done)) {
     uint32_t key = below(&client->state, KEYS);
-    if (below(&client->state, 4) == 0) {
-      hold(client, key);
-      continue;
+    switch (below(&client->state, 8)) {
+      case 0: case 1: hold(client, key); continue;
+      case 2: keep(client, key); continue;
+      default: break;
     }
     uint64_t at_least = floor_of(client, key);
     if (nr_find(&client->reader, key, &rows) == NR_ROWS) {

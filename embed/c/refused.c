@@ -1,5 +1,6 @@
-/* Each request for memory is refused in turn: the opening that made it answers NR_NO_MEMORY, leaves its handle empty, and does
-   its work when it is called again. No other call asks for memory. Linked with --wrap for malloc and realloc. */
+/* Each request for memory is refused in turn: the opening that made it answers NR_NO_MEMORY, leaves its handle empty,
+   and does its work when it is called again. No other call asks for memory. Linked with --wrap for malloc and
+   realloc. */
 #include "../../include/nr.h"
 #include <stdio.h>
 #include <stdlib.h>
@@ -64,6 +65,8 @@ static void call_all(nr_writer *writer, nr_reader *reader, nr_reader *other, nr_
   want(nr_pin(reader, key, &count) == NR_ROWS && nr_row_at(reader, 2, &row) == NR_ROWS, "a pin");
   want(nr_again(reader, key) == NR_ROWS, "a find again");
   nr_gather_pin(writer, reader);
+  nr_release(reader);
+  want(nr_find_kept(reader, key, &found) == NR_ROWS, "a find that is kept");
   nr_release(reader);
   want(nr_evict(writer, key) == NR_EVICTED, "an eviction");
   want(nr_ask(reader, key, &number) == NR_SEND && nr_cancel(writer, key) == NR_CANCELLED, "a cancel");

@@ -12,6 +12,7 @@
 
 mod codes;
 mod hand;
+mod kept;
 mod layout;
 mod meets;
 mod open;

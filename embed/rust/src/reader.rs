@@ -30,6 +30,15 @@ impl Reader {
         found.then(|| rows.as_slice())
     }
 
+    /// As `find`, and the reader holds the set until its next call. While the key keeps that set, a `find_kept` of it
+    /// writes no word. A set that is held keeps its slot from being used anew.
+    pub fn find_kept<'a>(&mut self, key: u32, rows: &'a mut Rows) -> Option<&'a [Row]> {
+        let key = self.map.checked(key);
+        // SAFETY: the handle is live, the key was checked, and the rows are laid out as the header's.
+        self.holds = unsafe { ffi::nr_find_kept(&mut self.handle, key, rows) } == ffi::NR_ROWS;
+        self.holds.then(|| rows.as_slice())
+    }
+
     /// Requests a key. The first request since it became a hole is the one to be sent.
     pub fn ask(&mut self, key: u32) -> Asked {
         self.release();
