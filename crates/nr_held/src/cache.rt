@@ -36,7 +36,7 @@ impl Cache {
         ensures once { IfOk result (λ cache. cache.once ≡ once) }
         ensures hands { IfOk result (λ cache. cache.hands ≡ each_of idle readers.items) }
         ensures missed { IfOk result (λ cache. cache.missed ≡ each_of none_missed readers.items) }
-        ensures own { IfOk result (λ cache. (table : Table) → All (λ reader. reader.table ≡ table) readers.items → AreOf table cache.hands) }
+        ensures own { IfOk result (λ cache. (table : Table) → once.table ≡ table → All (λ reader. reader.table ≡ table) readers.items → IsOf table cache) }
     {
         let mut missed = Vec::with_capacity(alloc, readers.len())?;
         let mut hands = Vec::with_capacity(alloc, readers.len())?;

@@ -80,6 +80,24 @@ fn opened(alloc: Global) -> Result<(ReaderMap, Writer, Vec<Reader>), OpenFault>
     }
 }
 
+// A cache of those readers, the first of which holds nothing.
+fn caching(
+    alloc: Global,
+    map: &ReaderMap,
+    once: Reader,
+    readers: Vec<Reader>,
+) -> Result<Cache, OpenFault>
+    requires once { once.table ≡ map.now }
+    requires own { All (λ reader. reader.table ≡ map.now) readers.items }
+    requires some { 0 < length readers.items }
+    ensures { IfOk result (λ cache. IsOf map.now cache) }
+{
+    match Cache::of(alloc, once, readers) {
+        Ok(cache) => Ok(cache),
+        Err(_) => Err(OpenFault::Memory),
+    }
+}
+
 // Ends the hands of a cache.
 fn end(map: &ReaderMap, mut hands: Vec<Hand>)
     requires own { AreOf map.now hands.items }
@@ -99,9 +117,7 @@ fn cached(alloc: Global) -> Result<(usize, [Option<u64>; 8]), OpenFault> {
     for key in 0..KEYS {
         fill(&map, &mut writer, &mut asking, key);
     }
-    let Ok(mut cache) = Cache::of(alloc, once, readers) else {
-        return Err(OpenFault::Memory);
-    };
+    let mut cache = caching(alloc, &map, once, readers)?;
     let many = cache.len();
     let told = find_all(&map, &mut cache);
     let (_once, hands) = cache.close(&map);
