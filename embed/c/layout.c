@@ -151,7 +151,9 @@ int main(void) {
   wants("a reader", NR_DONE, nr_open_reader(&writer, &reader));
   wants("a second reader", NR_DONE, nr_open_reader(&writer, &second));
   wants("a third reader", NR_NO_READER, nr_open_reader(&writer, &third));
-  wants("the first number", 7, nr_number(&writer, 2));
+  uint64_t number = 0;
+  wants("a number", NR_DONE, nr_number(&writer, 2, &number));
+  wants("the first number", 7, number);
   test_sizes(&reader);
   test_rows(&writer, &reader);
   nr_close_reader(reader);

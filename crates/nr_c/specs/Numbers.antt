@@ -81,3 +81,6 @@ answer_not_taken = 25
 
 abbrev pub answer_other : ℕ
 answer_other = 26
+
+abbrev pub answer_no_key : ℕ
+answer_no_key = 27

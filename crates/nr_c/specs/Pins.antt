@@ -1,5 +1,5 @@
 -- A reader that holds a set, as C calls it.
-use Rattle.std.specs.Prelude.{ℕ, ◌≡◌, ◌↔◌, ◌<◌, ◌≤◌, ◌⊎◌, Bool, true, if◌then◌else◌, List, [], ◌∷◌, length, slice_get, Some, Ok, Err}
+use Rattle.std.specs.Prelude.{ℕ, ◌≡◌, ◌↔◌, ◌≤◌, ◌⊎◌, Bool, true, if◌then◌else◌, List, length, slice_get, Some, Ok, Err}
 use Rattle.nr_model.specs.declared.rows.Row.{Row}
 use Rattle.nr_board.specs.Callers.{Caller, Rests}
 use Rattle.nr_board.specs.Meetings.{HasPut}
@@ -21,10 +21,6 @@ abbrev pub ReadsRow : ℕ → Row → Row → ℕ → List ReaderSide → List R
 ReadsRow place stood stands code before after =
     ((code ≡ answer_rows) × (old new : Pinned) × TurnsHand before after (Holds old) (Holds new) × (slice_get old.rows place ≡ Some stands) × (new.rows ≡ old.rows) × Rests 2 old.reader new.reader × (new.reader.holds ≡ old.reader.holds) × (new.reader.marks ≡ old.reader.marks))
     ⊎ ((code ≡ answer_no_row) × (pin : Pinned) × TurnsHand before after (Holds pin) (Holds pin) × (length pin.rows ≤ place) × (stands ≡ stood))
-
--- the handle is live, its reader holds a set, and its map has that key
-abbrev pub HasPinOf : ℕ → List ReaderSide → Type 0
-HasPinOf key live = (held : ReaderSide) × (pin : Pinned) × (live ≡ held ∷ []) × (held.hand ≡ Holds pin) × (key < held.map.value.shape.keys)
 
 -- a find again by its code; the reader holds the same set
 abbrev pub FindsByHold : ℕ → ℕ → List ReaderSide → List ReaderSide → Type 0

@@ -222,7 +222,9 @@ impl Writer {
 
     /// The number of a key's request, or of its next one.
     pub fn number(&mut self, key: u32) -> u64 {
-        unsafe { ffi::nr_number(&mut self.handle, self.map.checked(key)) }
+        let mut number = 0;
+        unsafe { ffi::nr_number(&mut self.handle, self.map.checked(key), &mut number) };
+        number
     }
 
     /// Learns all that a reader of its map has seen, and then the reader all that the writer has. No key and no answer
