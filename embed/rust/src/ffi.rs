@@ -2,8 +2,10 @@
 use crate::{Delta, Row, Rows, Shape, Sizes};
 use std::ffi::c_void;
 
-/// Where a handle leads.
-#[repr(C)]
+/// A handle of any kind. Each token of this crate opens one as it is made, so that it is live, and closes it as it is
+/// dropped.
+#[repr(transparent)]
+#[derive(Debug)]
 pub struct Handle(*mut c_void);
 
 impl Handle {
