@@ -60,6 +60,46 @@ extern "C" {
 #define NR_OTHER 26u     /* the key hasn't, or no more, the set that the reader holds */
 #define NR_NO_KEY 27u    /* the map, or the queue, has no such key */
 
+/* An answer in words. */
+static inline const char *nr_strerror(uint32_t answer) {
+  switch (answer) {
+  case NR_ROWS: return "the key has rows";
+  case NR_HOLE: return "the key is not filled";
+  case NR_SEND: return "the request is to be sent";
+  case NR_WAITING: return "a request is under way";
+  case NR_FILLED: return "the key is filled";
+  case NR_DONE: return "done";
+  case NR_NOT_ASKED: return "nobody asked for the key";
+  case NR_ALREADY: return "the key is filled already";
+  case NR_STALE: return "the fill names another request than the key's";
+  case NR_DROPPED: return "the key is not filled, so the update is dropped";
+  case NR_NO_ROW: return "no such row";
+  case NR_TOO_MANY: return "more rows than a key may have";
+  case NR_NO_SLOT: return "each slot is a filled key's or held by a reader";
+  case NR_EVICTED: return "the key is a hole now";
+  case NR_CANCELLED: return "the request is taken back";
+  case NR_NOTHING: return "there was nothing to evict or to cancel";
+  case NR_WORN: return "the request has the last number";
+  case NR_ASKED: return "the key is asked for";
+  case NR_BAD_BATCH: return "no signed rows, or more than 64";
+  case NR_NOT_SORTED: return "the rows are not in order";
+  case NR_BAD_SIZE: return "a size is out of its limits";
+  case NR_NO_MEMORY: return "there is no memory";
+  case NR_NO_READER: return "each reader has a handle";
+  case NR_NO_POSTER: return "each poster has a handle";
+  case NR_NOT_POSTED: return "the queue is full, or another thread is in the way";
+  case NR_NOT_TAKEN: return "the queue is empty, or another thread is in the way";
+  case NR_OTHER: return "the key hasn't the set that is held";
+  case NR_NO_KEY: return "there is no such key";
+  default: return "no answer of this library";
+  }
+}
+
+/* The version of this header, 0.1.0, whose three numbers have 8 bits each; and that for which the library was
+   made. Both are to be the same. */
+#define NR_VERSION 0x000100
+uint32_t nr_version(void);
+
 /* VALUES */
 
 /* A row: two numbers, ordered by the first and then by the second. */
@@ -170,6 +210,9 @@ uint32_t nr_pin(nr_reader *reader, uint32_t key, uint32_t *count);
 /* A row of the held set, from 0, in 2 steps: NR_ROWS. NR_NO_ROW where it has no such row, without a step,
    and `row` stays. Owed: `reader` is live and holds a set. */
 uint32_t nr_row_at(nr_reader *reader, uint32_t place, nr_row *row);
+
+/* Writes the rows of the held set into `rows`, in 2 steps a row: NR_ROWS. Owed: `reader` is live and holds a set. */
+uint32_t nr_copy(nr_reader *reader, nr_rows *rows);
 
 /* Finds a key again, in 1 step, which loads one word and writes none. NR_ROWS where the key still has
    the set that the reader holds, put by the same fill or update: this is a find of the key, and its

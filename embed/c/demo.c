@@ -74,6 +74,8 @@ static void test_kept(nr_writer *writer, nr_reader *reader) {
   if (nr_update(writer, 20, &more, 1) != NR_DONE) stop("an update of a set that is kept");
   if (nr_find_kept(reader, 20, &rows) != NR_ROWS || rows.count != 3 || rows.row[0].b != 20) stop("a kept find anew");
   if (nr_find_kept(reader, 21, &rows) != NR_ROWS || rows.count != 2 || rows.row[0].a != 21) stop("another key's kept find");
+  rows.count = 0;
+  if (nr_copy(reader, &rows) != NR_ROWS || rows.count != 2 || rows.row[1].b != 9261) stop("a copy of a kept set");
   nr_release(reader);
   if (nr_find_kept(reader, 21, &rows) != NR_ROWS || nr_evict(writer, 21) != NR_EVICTED) stop("an eviction of a kept set");
   rows.count = 99;

@@ -141,7 +141,18 @@ static void test_closing(void) {
   nr_close_writer(writer);
 }
 
+/* Each answer has words of its own, and the library is of this header's version. */
+static void test_words(void) {
+  const uint32_t answers = NR_NO_KEY + 1;
+  for (uint32_t one = 0; one < answers; one++)
+    for (uint32_t other = one + 1; other <= answers; other++)
+      wants("two answers in the same words", 1, strcmp(nr_strerror(one), nr_strerror(other)) != 0);
+  wants("words of no answer", 0, (uint64_t)strcmp(nr_strerror(answers), nr_strerror(UINT32_MAX)));
+  wants("the version", NR_VERSION, nr_version());
+}
+
 int main(void) {
+  test_words();
   test_shape();
   test_closing();
   nr_shape shape = {3, 5, 2, 4, 11, 7};

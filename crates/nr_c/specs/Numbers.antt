@@ -84,3 +84,7 @@ answer_other = 26
 
 abbrev pub answer_no_key : ℕ
 answer_no_key = 27
+
+-- the version 0.1.0, whose numbers have 8 bits each
+abbrev pub version : ℕ
+version = 256

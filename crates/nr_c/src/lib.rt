@@ -33,6 +33,7 @@ mod sizes;
 mod taker_handle;
 mod taker_lend;
 mod taker_side;
+mod version;
 mod writer_handle;
 mod writer_lend;
 mod writer_side;

@@ -1,11 +1,12 @@
 //! A reader that holds a set.
 ghost use Rattle.std.specs.Prelude.{◌≡◌, ⊤};
 ghost use Rattle.nr_c.specs.Live.{HasPin, IsIdle, WithKey, reader_keys};
-ghost use Rattle.nr_c.specs.Pins.{FindsByHold, PinsCells, Releases, ReadsRow};
+ghost use Rattle.nr_c.specs.Pins.{CopiesSet, FindsByHold, PinsCells, Releases, ReadsRow};
 
 use crate::codes::{NR_HOLE, NR_NO_KEY, NR_NO_ROW, NR_OTHER, NR_ROWS};
 use crate::hand::Hand;
 use crate::reader_handle::NrReader;
+use crate::rows::NrRows;
 use nr_model::Row;
 
 /// Finds a key, and holds its set, which stays as it is until the reader is released, whatever is
@@ -50,6 +51,20 @@ pub extern "C" fn nr_row_at(reader: &mut NrReader, place: u32, row: &mut Row) ->
     }
     *row = pin.row(&side.map, place);
     side.put(Hand::Holds(pin));
+    NR_ROWS
+}
+
+/// Writes the rows of the held set over those of the caller's, in 2 steps a row: `NR_ROWS`.
+#[unsafe(no_mangle)]
+pub extern "C" fn nr_copy(reader: &mut NrReader, rows: &mut NrRows) -> u32
+    requires live { HasPin reader.old.live }
+    ensures { CopiesSet rows.new result reader.old.live reader.new.live }
+{
+    let side = reader.side();
+    // No key is asked for, so it is all the same which one the set is taken for.
+    let mut hand = side.take_hand(0);
+    hand.copy_to(&side.map, rows);
+    side.put_hand(hand);
     NR_ROWS
 }
 
