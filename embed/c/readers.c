@@ -210,9 +210,10 @@ static void fill(dataflow *dataflow, uint32_t key, uint64_t number) {
 /* Answers a request, or takes it back: then it fills nothing any more. */
 static void answer(dataflow *dataflow) {
   uint32_t key;
-  uint64_t number;
+  uint64_t number, current;
   if (nr_take(&dataflow->taker, &key, &number) != NR_DONE) return;
-  want(dataflow->version[key] == 0 && nr_number(&dataflow->writer, key) == number, "a request of a hole");
+  want(nr_number(&dataflow->writer, key, &current) == NR_DONE && current == number, "the number of a request");
+  want(dataflow->version[key] == 0, "a request of a hole");
   if (below(&dataflow->state, 4)) {
     fill(dataflow, key, number);
     return;

@@ -63,6 +63,7 @@ static void call_all(nr_writer *writer, nr_reader *reader, nr_reader *other, nr_
   nr_meet_readers(reader, other);
   nr_gather(writer, reader);
   want(nr_pin(reader, key, &count) == NR_ROWS && nr_row_at(reader, 2, &row) == NR_ROWS, "a pin");
+  want(nr_copy(reader, &found) == NR_ROWS && found.count == 3, "a copy of a held set");
   want(nr_again(reader, key) == NR_ROWS, "a find again");
   nr_gather_pin(writer, reader);
   nr_release(reader);
@@ -70,7 +71,8 @@ static void call_all(nr_writer *writer, nr_reader *reader, nr_reader *other, nr_
   nr_release(reader);
   want(nr_evict(writer, key) == NR_EVICTED, "an eviction");
   want(nr_ask(reader, key, &number) == NR_SEND && nr_cancel(writer, key) == NR_CANCELLED, "a cancel");
-  want(nr_number(writer, key) == number + 1, "the number of the next request");
+  uint64_t next;
+  want(nr_number(writer, key, &next) == NR_DONE && next == number + 1, "the number of the next request");
   nr_sizes(reader, &sizes);
 }
 

@@ -1,5 +1,6 @@
 //! What a reader's handle leads to.
-ghost use Rattle.std.specs.Prelude.{◌≡◌, IsSome, Some};
+ghost use Rattle.std.specs.Prelude.{◌≡◌, ◌<◌, ◌≤◌, IsSome, Some};
+ghost use Rattle.std.specs.Bool.{OnFalse, OnTrue};
 ghost use Rattle.nr_c.specs.Hands.{EndsHand, InHand, table_of};
 ghost use Rattle.nr_board.specs.Callers.{Caller};
 ghost use Rattle.nr_map.specs.Hands.{Handed};
@@ -60,6 +61,14 @@ impl ReaderSide {
             hand: Hand::Idle(reader),
             apart: [0; APART],
         }
+    }
+
+    /// Whether its map has that key.
+    pub fn has_key(&self, key: u32) -> bool
+        ensures has { OnTrue result (key < self.now.map.value.shape.keys) }
+        ensures hasnt { OnFalse result (self.now.map.value.shape.keys ≤ key) }
+    {
+        key < self.map.keys()
     }
 
     /// The reader, which holds nothing, for a call.

@@ -58,7 +58,7 @@ extern "C" {
     pub fn nr_evict(writer: *mut Handle, key: u32) -> u32;
     pub fn nr_cancel(writer: *mut Handle, key: u32) -> u32;
     pub fn nr_state(writer: *mut Handle, key: u32) -> u32;
-    pub fn nr_number(writer: *mut Handle, key: u32) -> u64;
+    pub fn nr_number(writer: *mut Handle, key: u32, number: *mut u64) -> u32;
     pub fn nr_sizes(reader: *mut Handle, sizes: *mut Sizes);
     pub fn nr_meet(reader: *mut Handle, writer: *mut Handle);
     pub fn nr_meet_readers(reader: *mut Handle, other: *mut Handle);

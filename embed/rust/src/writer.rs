@@ -83,8 +83,10 @@ impl Writer {
     /// The number of a key's request, or of its next one.
     pub fn number(&mut self, key: u32) -> u64 {
         let key = self.map.checked(key);
+        let mut number = 0;
         // SAFETY: the handle is live, and the key was checked.
-        unsafe { ffi::nr_number(&mut self.handle, key) }
+        unsafe { ffi::nr_number(&mut self.handle, key, &mut number) };
+        number
     }
 
     /// Learns all that a reader of its map has seen, and then the reader all that the writer has. No key and no answer
