@@ -24,7 +24,6 @@ const READ_WRITE_BY_ONE_THREAD: c_int = 0x2 | 0x8000;
 const COPY_TEXT: isize = -1;
 
 /// Each is a transaction of its own. Those that write give the row that they wrote.
-#[derive(Clone, Copy)]
 pub enum Query {
     Settings,
     Rows,

@@ -1,8 +1,7 @@
 //! Those who wait for a key. Only a GET that missed comes here, and is told the rows by whoever fills the key.
 use nr::{Asked, Reader, Row};
-use std::collections::HashMap;
 use std::sync::mpsc::{channel, Receiver, Sender};
-use std::sync::{Arc, Mutex};
+use std::{collections::HashMap, sync::Arc, sync::Mutex};
 
 pub type Answer = Result<Arc<[Row]>, String>;
 

@@ -6,25 +6,24 @@ mod lobby;
 mod names;
 mod session;
 mod stats;
-mod view;
 mod wire;
 
 use nr::{Queue, ReaderMap, Rows, Shape};
-use std::collections::{HashMap, VecDeque};
-use std::sync::{atomic::AtomicBool, mpsc::channel, Mutex};
-use std::{error::Error, net::TcpListener, thread};
+use std::sync::{atomic::AtomicBool, mpsc::channel};
+use std::{collections::VecDeque, error::Error, net::TcpListener, thread};
 
 /// What the threads share beside the map.
 struct Shared {
     names: names::Names,
     lobby: lobby::Lobby,
-    /// Those of the sessions, and then those of the dataflow.
+    /// Those of the sessions, and those of the dataflow.
     counts: Vec<stats::Counts>,
+    work: stats::Counts,
     /// Of each key whether it was read since the clock's hand passed it.
     was_read: Vec<AtomicBool>,
 }
 
-/// Each is followed by its number, or has the one that stands here.
+/// Each is followed by a number, or has that of DEFAULTS; with 0 slots there are as many as are needed.
 const OPTIONS: [&str; 7] = ["--port", "--readers", "--keys", "--rows", "--limit", "--slots", "--sqlite"];
 const DEFAULTS: [u32; 7] = [0, 64, 65536, 63, 6554, 0, 0];
 
@@ -46,34 +45,30 @@ fn main() -> Result<(), Box<dyn Error>> {
     let map = ReaderMap::open(&Shape { rows, ..Shape::new(keys, slots, readers) })?;
     // A key has one ticket at a time, so there is always room for it.
     let queue = Queue::open(&map.writer, keys, readers)?;
-    let shared = Shared {
+    let shared = &Shared {
         names: names::Names::new(keys),
         lobby: lobby::Lobby::default(),
-        counts: (0..=readers).map(|_| stats::Counts::default()).collect(),
+        counts: (0..readers).map(|_| stats::Counts::default()).collect(),
+        work: stats::Counts::default(),
         was_read: (0..keys).map(|_| AtomicBool::new(false)).collect(),
     };
     let (send, votes) = channel();
-    let session = |(number, (reader, poster))| {
+    let session = move |(number, (reader, poster))| {
         let base = if sqlite == 0 { None } else { Some(base::Base::open(path)?) };
         let (votes, dataflow) = (send.clone(), thread::current());
-        Ok(session::Session { number, reader, rows: Rows::new(), poster, votes, dataflow, shared: &shared, base })
+        Ok(session::Session { number, reader, rows: Rows::new(), poster, votes, dataflow, shared, base })
     };
-    let sessions =
-        map.readers.into_iter().zip(queue.posters).enumerate().map(session).collect::<Result<_, String>>()?;
-    drop(send);
-    let view = view::View { writer: map.writer, shared: &shared, clock: VecDeque::new(), limit: limit as usize };
-    let dataflow = dataflow::Dataflow { base: base::Base::open(path)?, view, tickets: queue.taker, votes, rows };
+    let sessions: Result<_, String> = map.readers.into_iter().zip(queue.posters).enumerate().map(session).collect();
+    let sessions = sessions?;
+    let (base, clock, limit) = (base::Base::open(path)?, VecDeque::new(), limit as usize);
+    let (writer, tickets) = (map.writer, queue.taker);
+    let dataflow = dataflow::Dataflow { base, writer, tickets, votes, shared, rows, clock, limit };
     let listener = TcpListener::bind(("127.0.0.1", u16::try_from(port)?))?;
     println!("listening on {}", listener.local_addr()?);
-    let door = door::Door { listener, free: Mutex::new(sessions), clients: Mutex::new(HashMap::new()) };
     let this = thread::current();
     thread::scope(|scope| {
-        scope.spawn(move || {
-            door.serve();
-            // With the sessions those go who might vote.
-            drop(door);
-            this.unpark();
-        });
+        // When it ends, all who might vote have gone with their sessions.
+        scope.spawn(move || (door::serve(listener, sessions), this.unpark()));
         dataflow.run();
     });
     Ok(())

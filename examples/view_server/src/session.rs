@@ -25,7 +25,8 @@ impl Session<'_> {
         loop {
             match wire.command() {
                 Ok(words) => wire.reply(self.answer(&words)),
-                Err(fault) => return wire.end(fault),
+                Err(fault) if fault.kind() == io::ErrorKind::InvalidData => return wire.end(fault),
+                Err(fault) => return Err(fault),
             }
         }
     }
@@ -38,7 +39,7 @@ impl Session<'_> {
             ("GET", [article]) => self.get(name(article)?),
             ("VOTE", [article, user, weight]) => self.vote(article, user, weight, true),
             ("UNVOTE", [article, user, weight]) => self.vote(article, user, weight, false),
-            ("STATS", []) => Ok(bulk(&stats::sums(&self.shared.counts))),
+            ("STATS", []) => Ok(bulk(&stats::sums(&self.shared.counts, &self.shared.work))),
             ("PING", []) => Ok("+PONG\r\n".into()),
             ("PING", [text]) => Ok(bulk(text)),
             ("COMMAND", _) => Ok("*0\r\n".into()),

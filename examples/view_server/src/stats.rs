@@ -1,7 +1,6 @@
 //! What STATS tells. Each thread counts in a cache line of its own, so that no read writes where another does.
 use std::sync::atomic::{AtomicU64, Ordering::Relaxed};
 
-#[derive(Clone, Copy)]
 pub enum Count {
     Hits,
     Misses,
@@ -25,8 +24,8 @@ impl Counts {
 }
 
 /// The sums over all threads, and how many keys are filled.
-pub fn sums(of: &[Counts]) -> String {
-    let sum = |place: usize| of.iter().map(|counts| counts.0[place].load(Relaxed)).sum::<u64>();
+pub fn sums(counts: &[Counts], work: &Counts) -> String {
+    let sum = |place: usize| counts.iter().chain([work]).map(|counts| counts.0[place].load(Relaxed)).sum::<u64>();
     let filled = sum(Count::Fills as usize).saturating_sub(sum(Count::Evictions as usize));
     let lines = NAMES.iter().enumerate().map(|(place, name)| format!("{name}:{}\n", sum(place)));
     lines.chain([format!("filled:{filled}")]).collect()

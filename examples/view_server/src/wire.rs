@@ -1,11 +1,9 @@
-//! The Redis protocol: a command comes as an array of words (RESP2) or as a line of them, and replies are sent before
-//! a read that may wait.
+//! The Redis protocol: a command is an array of words (RESP2) or a line of them; replies go before a read that may wait.
 use std::io::{self, BufRead, BufReader, ErrorKind, Read, Write};
 use std::net::{Shutdown, TcpStream};
 
 /// The most bytes of a line or of a word, and the most words of a command.
 const LONGEST: usize = 4096;
-const MOST: usize = 64;
 
 struct Client {
     stream: TcpStream,
@@ -32,7 +30,7 @@ impl Wire {
     pub fn command(&mut self) -> io::Result<Vec<Vec<u8>>> {
         let line = self.line()?;
         match line.strip_prefix(b"*") {
-            Some(count) => (0..number(count, MOST)?).map(|_| self.word()).collect(),
+            Some(count) => (0..number(count)?).map(|_| self.word()).collect(),
             None => Ok(line.split(u8::is_ascii_whitespace).filter(|it| !it.is_empty()).map(Vec::from).collect()),
         }
     }
@@ -44,9 +42,6 @@ impl Wire {
 
     /// Replies to what is no command, and reads on for as long as the client sends, or else it might not see it.
     pub fn end(mut self, fault: io::Error) -> io::Result<()> {
-        if fault.kind() != ErrorKind::InvalidData {
-            return Err(fault);
-        }
         self.reply(Err(format!("Protocol error: {fault}")));
         let Client { stream, replies } = self.0.get_mut();
         stream.write_all(replies)?;
@@ -57,36 +52,31 @@ impl Wire {
     fn line(&mut self) -> io::Result<Vec<u8>> {
         let mut line = Vec::new();
         let length = (&mut self.0).take(LONGEST as u64).read_until(b'\n', &mut line)?;
-        if line.pop_if(|end| *end == b'\n').is_none() {
-            return if length == LONGEST { broken("a line is too long") } else { Err(ErrorKind::UnexpectedEof.into()) };
+        match line.last() {
+            Some(b'\n') => Ok(line.trim_ascii_end().to_vec()),
+            _ if length == LONGEST => broken("a line is too long"),
+            _ => Err(ErrorKind::UnexpectedEof.into()),
         }
-        line.pop_if(|end| *end == b'\r');
-        Ok(line)
     }
 
     fn word(&mut self) -> io::Result<Vec<u8>> {
         let line = self.line()?;
         let Some(length) = line.strip_prefix(b"$") else { return broken("a word has its length before it") };
-        let mut word = vec![0; number(length, LONGEST)? + 2];
+        let mut word = vec![0; number(length)? + 2];
         self.0.read_exact(&mut word)?;
-        if word.split_off(word.len() - 2) == b"\r\n" {
-            Ok(word)
-        } else {
-            broken("a word is not as long as told")
-        }
+        word.strip_suffix(b"\r\n").map_or_else(|| broken("a word is not as long as told"), |word| Ok(word.to_vec()))
     }
 }
 
-fn number(digits: &[u8], most: usize) -> io::Result<usize> {
+fn number(digits: &[u8]) -> io::Result<usize> {
     let number = std::str::from_utf8(digits).ok().and_then(|digits| digits.parse().ok());
-    number.filter(|number| *number <= most).map_or_else(|| broken("a length is out of its limits"), Ok)
+    number.filter(|number| *number <= LONGEST).map_or_else(|| broken("a length is out of its limits"), Ok)
 }
 
 fn broken<T>(what: &str) -> io::Result<T> {
     Err(io::Error::new(ErrorKind::InvalidData, what))
 }
 
-/// A text as the protocol has it.
 pub fn bulk(text: &str) -> String {
     format!("${}\r\n{text}\r\n", text.len())
 }
