@@ -59,6 +59,8 @@ extern "C" {
 #define NR_NOT_TAKEN 25u /* the queue is empty, or another thread is in the way */
 #define NR_OTHER 26u     /* the key hasn't, or no more, the set that the reader holds */
 #define NR_NO_KEY 27u    /* the map, or the queue, has no such key */
+#define NR_HOLDING 28u   /* the reader holds a set, which is to be released before */
+#define NR_NOT_HOLDING 29u /* the reader holds nothing */
 
 /* An answer in words. */
 static inline const char *nr_strerror(uint32_t answer) {
@@ -91,6 +93,8 @@ static inline const char *nr_strerror(uint32_t answer) {
   case NR_NOT_TAKEN: return "the queue is empty, or another thread is in the way";
   case NR_OTHER: return "the key hasn't the set that is held";
   case NR_NO_KEY: return "there is no such key";
+  case NR_HOLDING: return "the reader holds a set";
+  case NR_NOT_HOLDING: return "the reader holds nothing";
   default: return "no answer of this library";
   }
 }
@@ -191,7 +195,9 @@ uint32_t nr_open_reader(nr_writer *writer, nr_reader *reader);
 void nr_close_reader(nr_reader reader);
 void nr_close_writer(nr_writer writer);
 
-/* WHAT A READER CALLS. Owed: `reader` is live and holds no set. */
+/* WHAT A READER CALLS. Owed: `reader` is live. nr_find, nr_ask and nr_pin answer NR_HOLDING where it holds a set;
+   nr_row_at, nr_copy, nr_again and nr_release NR_NOT_HOLDING where it holds nothing. Then there was no step, and
+   nothing has changed. */
 
 /* Looks a key up. NR_ROWS, and `rows` has its rows, after 2n + 3 steps for n of them; NR_HOLE after 1
    step, and `rows` stays as it was. */
@@ -208,30 +214,29 @@ uint32_t nr_ask(nr_reader *reader, uint32_t key, uint64_t *number);
 uint32_t nr_pin(nr_reader *reader, uint32_t key, uint32_t *count);
 
 /* A row of the held set, from 0, in 2 steps: NR_ROWS. NR_NO_ROW where it has no such row, without a step,
-   and `row` stays. Owed: `reader` is live and holds a set. */
+   and `row` stays. */
 uint32_t nr_row_at(nr_reader *reader, uint32_t place, nr_row *row);
 
-/* Writes the rows of the held set into `rows`, in 2 steps a row: NR_ROWS. Owed: `reader` is live and holds a set. */
+/* Writes the rows of the held set into `rows`, in 2 steps a row: NR_ROWS. */
 uint32_t nr_copy(nr_reader *reader, nr_rows *rows);
 
 /* Finds a key again, in 1 step, which loads one word and writes none. NR_ROWS where the key still has
    the set that the reader holds, put by the same fill or update: this is a find of the key, and its
    rows are those of the held set. NR_OTHER where it hasn't. The reader holds the same set in either
-   case. Owed: `reader` is live and holds a set. */
+   case. */
 uint32_t nr_again(nr_reader *reader, uint32_t key);
 
 /* As nr_find, but the reader holds the set for the next call. Where the key still has the set that the
    reader holds, NR_ROWS after 2n + 1 steps, which write no word. Else what was held is let go: NR_ROWS
    after 2n + 2 steps; NR_HOLE after 1, and then the reader holds nothing and `rows` stays; 2 steps more
    where something was held. A set that is held keeps its slot from being used anew, so a reader that
-   finds nothing for a while is to be released. Owed: `reader` is live, holding a set or not. */
+   finds nothing for a while is to be released. */
 uint32_t nr_find_kept(nr_reader *reader, uint32_t key, nr_rows *rows);
 
-/* Ends the hold, in 1 step. Owed: `reader` is live and holds a set. A reader that is closed while it
-   holds a set is released. */
-void nr_release(nr_reader *reader);
+/* Ends the hold, in 1 step: NR_DONE. A reader that is closed while it holds a set is released. */
+uint32_t nr_release(nr_reader *reader);
 
-/* The map's sizes. No step. Owed: `reader` is live. */
+/* The map's sizes. No step. */
 void nr_sizes(nr_reader *reader, nr_size *sizes);
 
 /* WHAT THE WRITER CALLS. Owed: `writer` is live. */

@@ -89,6 +89,12 @@ pub const NR_OTHER: u32 = 26;
 /// To a call that takes a key: the map, or the queue, has no such key.
 pub const NR_NO_KEY: u32 = 27;
 
+/// To a call of a reader that holds nothing: it holds a set.
+pub const NR_HOLDING: u32 = 28;
+
+/// To a call of a reader that holds a set: it holds nothing.
+pub const NR_NOT_HOLDING: u32 = 29;
+
 pub fn of_found(found: Found) -> u32
     ensures { result ≡ found_code found }
 {

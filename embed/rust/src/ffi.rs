@@ -51,7 +51,7 @@ extern "C" {
     pub fn nr_row_at(reader: *mut Handle, place: u32, row: *mut Row) -> u32;
     pub fn nr_again(reader: *mut Handle, key: u32) -> u32;
     pub fn nr_find_kept(reader: *mut Handle, key: u32, rows: *mut Rows) -> u32;
-    pub fn nr_release(reader: *mut Handle);
+    pub fn nr_release(reader: *mut Handle) -> u32;
     pub fn nr_look(writer: *mut Handle, key: u32, rows: *mut Rows) -> u32;
     pub fn nr_fill(writer: *mut Handle, key: u32, number: u64, rows: *const Row, n: usize) -> u32;
     pub fn nr_update(writer: *mut Handle, key: u32, deltas: *const Delta, n: usize) -> u32;

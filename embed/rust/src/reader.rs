@@ -105,7 +105,7 @@ impl Reader {
         if self.holds {
             self.holds = false;
             // SAFETY: the handle is live and holds a set.
-            unsafe { ffi::nr_release(&mut self.handle) }
+            unsafe { ffi::nr_release(&mut self.handle) };
         }
     }
 }
