@@ -278,17 +278,18 @@ uint32_t nr_number(nr_writer *writer, uint32_t key, uint64_t *number);
    for that: in the map's contracts such a message carries a note, whose steps only load. These functions have
    no notes, so no clause of theirs says it. */
 
-/* WHAT TOKENS LEARN OF EACH OTHER, in 2 steps of the one that learns and 1 of the other. It changes no key and
-   no answer: it says whose calls the one history has, in the contracts. Owed: both handles are live and of one map; the
-   readers hold no set, but that of nr_gather_pin holds one. */
+/* WHAT TOKENS LEARN OF EACH OTHER, in 2 steps of the one that learns and 1 of the other: NR_DONE. It changes no
+   key and no answer: it says whose calls the one history has, in the contracts. NR_HOLDING where a reader holds
+   a set, but of nr_gather_pin NR_NOT_HOLDING where it holds nothing; then nothing has changed. Owed: both handles
+   are live and of one map. */
 
 /* The reader learns all that the writer, or the other reader, has seen. */
-void nr_meet(nr_reader *reader, nr_writer *writer);
-void nr_meet_readers(nr_reader *reader, nr_reader *other);
+uint32_t nr_meet(nr_reader *reader, nr_writer *writer);
+uint32_t nr_meet_readers(nr_reader *reader, nr_reader *other);
 
 /* The writer learns all that the reader has seen, and then the reader all that the writer has. */
-void nr_gather(nr_writer *writer, nr_reader *reader);
-void nr_gather_pin(nr_writer *writer, nr_reader *reader);
+uint32_t nr_gather(nr_writer *writer, nr_reader *reader);
+uint32_t nr_gather_pin(nr_writer *writer, nr_reader *reader);
 
 /* REQUESTS ON THEIR WAY TO WHOEVER FILLS THEM: a queue without a lock, for many threads that post and one
    that takes, first in first out. It knows nothing of a map but how many keys it has. What was taken, and
