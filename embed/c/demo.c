@@ -103,24 +103,6 @@ static void test_no_key(nr_writer *writer, nr_reader *reader, nr_poster *poster,
   if (rows.count != 99 || number != 88) stop("what no key told");
 }
 
-/* A reader that holds a set is refused what one calls that holds nothing, and the other way round, and nothing is told. */
-static void test_holding(nr_reader *reader) {
-  static nr_rows rows;
-  uint64_t number = 88;
-  uint32_t count = 77;
-  nr_row row = {66, 55};
-  rows.count = 99;
-  if (nr_release(reader) != NR_NOT_HOLDING || nr_again(reader, 4) != NR_NOT_HOLDING) stop("a release of nothing");
-  if (nr_row_at(reader, 0, &row) != NR_NOT_HOLDING || nr_copy(reader, &rows) != NR_NOT_HOLDING) stop("rows of nothing");
-  if (row.a != 66 || row.b != 55 || rows.count != 99) stop("what was told where nothing is held");
-  if (nr_pin(reader, 4, &count) != NR_ROWS || count != 2) stop("a pin of four");
-  count = 77;
-  if (nr_pin(reader, 5, &count) != NR_HOLDING || nr_ask(reader, 5, &number) != NR_HOLDING) stop("a second pin");
-  if (nr_find(reader, 5, &rows) != NR_HOLDING || rows.count != 99 || number != 88 || count != 77) stop("a find while holding");
-  if (nr_row_at(reader, 1, &row) != NR_ROWS || row.b != 64 || nr_again(reader, 4) != NR_ROWS) stop("the set that was held");
-  if (nr_release(reader) != NR_DONE || nr_release(reader) != NR_NOT_HOLDING) stop("a second release");
-}
-
 /* The calls of one thread, at the end. */
 static void test_calls(nr_writer *writer, nr_reader *one, nr_reader *two) {
   nr_delta batch[2] = {{{7, 49}, false}, {{9, 9}, true}};
@@ -196,7 +178,6 @@ int main(void) {
   for (int i = 0; i < READERS; i++) pthread_join(threads[i], NULL);
   test_queue(&taker, &clients[0].poster);
   test_kept(&writer, &clients[1].reader);
-  test_holding(&clients[1].reader);
   test_no_key(&writer, &clients[1].reader, &clients[0].poster, KEYS);
   test_no_key(&writer, &clients[1].reader, &clients[0].poster, UINT32_MAX);
   uint32_t key = 0;

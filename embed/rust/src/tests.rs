@@ -46,6 +46,27 @@ fn a_pin_finds_its_key_until_it_is_put_anew() {
 }
 
 #[test]
+fn a_kept_find_holds_its_set_until_the_next_call() {
+    let ReaderMap { mut writer, mut readers } = ReaderMap::open(&Shape::new(2, 1, 1)).unwrap();
+    let [one, two] = [0, 1].map(|key| asked(&mut readers[0], key));
+    writer.fill(one, &[ONE]).unwrap();
+    let mut rows = Rows::new();
+    for _ in 0..2 {
+        assert_eq!(readers[0].find_kept(0, &mut rows), Some(&[ONE][..]));
+    }
+    assert!(writer.evict(0));
+    let (fault, two) = refused(writer.fill(two, &[]));
+    assert_eq!(fault, Fault::NoSlot);
+    assert_eq!(readers[0].find_kept(0, &mut rows), None);
+    assert_eq!(writer.fill(two, &[]), Ok(()));
+    assert_eq!(readers[0].find_kept(1, &mut rows), Some(&[][..]));
+    assert!(writer.evict(1));
+    assert_eq!(readers[0].find(1, &mut rows), None);
+    let ticket = asked(&mut readers[0], 0);
+    assert_eq!(writer.fill(ticket, &[ONE]), Ok(()));
+}
+
+#[test]
 #[should_panic(expected = "the map has 1 keys, and the key is 1")]
 fn a_pin_finds_no_key_that_is_not_there() {
     let ReaderMap { mut writer, mut readers } = ReaderMap::open(&Shape::new(1, 3, 1)).unwrap();

@@ -30,10 +30,10 @@ impl Writer {
         found.then(|| rows.as_slice())
     }
 
-    /// Answers a request with the key's rows, in ascending order. Where it is refused the ticket comes back, and nothing
-    /// has changed: with [`Fault::NoSlot`] it fills the key once a key was evicted or a reader released its set; with
-    /// [`Fault::TooMany`] or [`Fault::NotSorted`] by other rows; with [`Fault::NotAsked`], [`Fault::Stale`] or
-    /// [`Fault::Already`] never, since the request was taken back. Panics where the ticket is of another map.
+    /// Answers a request with the key's rows, in ascending order. Where it is refused the ticket comes back, and
+    /// nothing has changed: with [`Fault::NoSlot`] it fills the key once a key was evicted or a reader released its
+    /// set; with [`Fault::TooMany`] or [`Fault::NotSorted`] by other rows; with [`Fault::NotAsked`], [`Fault::Stale`]
+    /// or [`Fault::Already`] never, since the request was taken back. Panics where the ticket is of another map.
     pub fn fill(&mut self, ticket: Ticket, rows: &[Row]) -> Result<(), Unfilled> {
         assert!(ticket.map() == self.map.id, "the ticket is another map's");
         let (key, number) = (ticket.key(), ticket.number());
@@ -42,9 +42,9 @@ impl Writer {
         done(code).map_err(|fault| Unfilled { fault, ticket })
     }
 
-    /// Applies 1 to 64 signed rows to the rows of a key, whole or not at all. Refused with [`Fault::Dropped`] where the key
-    /// is not filled, and with [`Fault::BadBatch`], [`Fault::NoRow`], [`Fault::TooMany`] or [`Fault::NoSlot`]; then nothing
-    /// has changed.
+    /// Applies 1 to 64 signed rows to the rows of a key, whole or not at all. Refused with [`Fault::Dropped`] where
+    /// the key is not filled, and with [`Fault::BadBatch`], [`Fault::NoRow`], [`Fault::TooMany`] or [`Fault::NoSlot`];
+    /// then nothing has changed.
     pub fn update(&mut self, key: u32, deltas: &[Delta]) -> Result<(), Fault> {
         let key = self.map.checked(key);
         // SAFETY: the handle is live, the key was checked, and there are as many signed rows as it is told.
