@@ -43,7 +43,7 @@ extern "C" {
 #define NR_DROPPED 9u    /* the key is not filled, so the update is dropped */
 #define NR_NO_ROW 10u    /* a row to be taken away is not there */
 #define NR_TOO_MANY 11u  /* more rows than a key may have */
-#define NR_NO_SLOT 12u   /* each slot is a filled key's or held by a reader */
+#define NR_NO_SLOT 12u   /* each slot is a filled key's or held by a reader, and readers hold some */
 #define NR_EVICTED 13u   /* the key was filled and is a hole now */
 #define NR_CANCELLED 14u /* the request is taken back; the key's next one gets the next number */
 #define NR_NOTHING 15u   /* there was nothing to evict or to cancel */
@@ -61,6 +61,7 @@ extern "C" {
 #define NR_NO_KEY 27u    /* the map, or the queue, has no such key */
 #define NR_HOLDING 28u   /* the reader holds a set, which is to be released before */
 #define NR_NOT_HOLDING 29u /* the reader holds nothing */
+#define NR_ALL_FILLED 30u /* each slot is a filled key's, and no reader holds another */
 
 /* An answer in words. */
 static inline const char *nr_strerror(uint32_t answer) {
@@ -77,7 +78,7 @@ static inline const char *nr_strerror(uint32_t answer) {
   case NR_DROPPED: return "the key is not filled, so the update is dropped";
   case NR_NO_ROW: return "no such row";
   case NR_TOO_MANY: return "more rows than a key may have";
-  case NR_NO_SLOT: return "each slot is a filled key's or held by a reader";
+  case NR_NO_SLOT: return "readers hold the slots that are no filled key's";
   case NR_EVICTED: return "the key is a hole now";
   case NR_CANCELLED: return "the request is taken back";
   case NR_NOTHING: return "there was nothing to evict or to cancel";
@@ -95,6 +96,7 @@ static inline const char *nr_strerror(uint32_t answer) {
   case NR_NO_KEY: return "there is no such key";
   case NR_HOLDING: return "the reader holds a set";
   case NR_NOT_HOLDING: return "the reader holds nothing";
+  case NR_ALL_FILLED: return "each slot is a filled key's";
   default: return "no answer of this library";
   }
 }
@@ -126,7 +128,7 @@ typedef struct nr_delta {
 
 /* What a map is opened with: 1 to 65,536 keys, 1 to 131,072 slots, 1 to 1,024 readers, 1 to 255 rows a
    key; any count at which the slots' departures begin, and a first number of requests up to 4,194,303.
-   With a slot for each key, each reader and one more no fill or update answers NR_NO_SLOT. The map's
+   With a slot for each key, each reader and one more no fill or update answers NR_NO_SLOT or NR_ALL_FILLED. The map's
    words take 8 bytes a key and 16 * rows + 16 a slot, and as much again while it is opened; the writer's
    lists take 8 bytes a key and 16 a slot beside them. */
 typedef struct nr_shape {
@@ -168,7 +170,8 @@ typedef struct nr_poster {
    Waiting for a key: note how often you were woken, look, request, sleep, in this order; whoever fills
    the key wakes after the fill. embed/c/wait.c does so by a condition variable and by eventfds, and
    has the dataflow sleep while nothing is posted.
-   No slot: nothing has changed. Evict a key or have readers release what they hold, and call again.
+   No slot: nothing has changed. After NR_NO_SLOT have readers release what they hold, or evict a key; after
+   NR_ALL_FILLED evict a key. Then call again.
    Keys that are hot together: give them numbers at least eight apart, since eight neighbours share a
    line of the cache and each find writes its key's word. A reader of its own for a hot key finds it by
    nr_find_kept, which writes nothing while the key keeps its set.
@@ -248,13 +251,14 @@ uint32_t nr_look(nr_writer *writer, uint32_t key, nr_rows *rows);
 /* Fills a key that was asked for, by the number of its request, with n rows in ascending order, doubles
    kept. NR_TOO_MANY and NR_NOT_SORTED without a step; NR_NOT_ASKED, NR_ALREADY or NR_STALE after 1;
    NR_DONE after 2n + 3 and a step for each slot that it polled, at most one more than there are
-   readers; NR_NO_SLOT. */
+   readers; NR_NO_SLOT or NR_ALL_FILLED. */
 uint32_t nr_fill(nr_writer *writer, uint32_t key, uint64_t number, const nr_row *rows, size_t n);
 
 /* Applies 1 to 64 signed rows to the rows of a filled key, whole or not at all; all rows to be added
    come before any is taken away, and how many rows there are is looked at in the result alone.
    NR_BAD_BATCH without a step; NR_DROPPED after 1; with o rows before and
-   n after, NR_NO_ROW or NR_TOO_MANY after 2o + 2, NR_DONE after 2o + 2n + 4 and the polls; NR_NO_SLOT. */
+   n after, NR_NO_ROW or NR_TOO_MANY after 2o + 2, NR_DONE after 2o + 2n + 4 and the polls; NR_NO_SLOT or
+   NR_ALL_FILLED. */
 uint32_t nr_update(nr_writer *writer, uint32_t key, const nr_delta *deltas, size_t n);
 
 /* Makes a filled key a hole. NR_EVICTED after 2 steps, NR_NOTHING after 1. */

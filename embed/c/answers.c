@@ -42,13 +42,17 @@ static void test_writer(nr_writer *writer, nr_reader *reader) {
   WANTS(NR_BAD_BATCH, nr_update(writer, 0, &more, 0));
   WANTS(NR_BAD_BATCH, nr_update(writer, 0, many, 65));
   WANTS(NR_NO_ROW, nr_update(writer, 0, &less, 1));
-  WANTS(NR_NO_SLOT, nr_update(writer, 0, &more, 1));
+  WANTS(NR_ALL_FILLED, nr_update(writer, 0, &more, 1));
   WANTS(NR_TOO_MANY, nr_update(writer, 0, many, 2));
   WANTS(NR_SEND, nr_ask(reader, 1, &number));
+  WANTS(NR_ALL_FILLED, nr_fill(writer, 1, number, &one, 1));
+  uint32_t count = 0;
+  WANTS(NR_ROWS, nr_pin(reader, 0, &count));
+  WANTS(NR_EVICTED, nr_evict(writer, 0));
   WANTS(NR_NO_SLOT, nr_fill(writer, 1, number, &one, 1));
+  WANTS(NR_DONE, nr_release(reader));
   WANTS(NR_CANCELLED, nr_cancel(writer, 1));
   WANTS(NR_DONE, nr_number(writer, 1, &number));
-  WANTS(NR_EVICTED, nr_evict(writer, 0));
 }
 
 /* A map with a slot to spare, whose requests have the last number. */

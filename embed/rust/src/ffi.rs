@@ -39,6 +39,7 @@ pub const NR_BAD_BATCH: u32 = 18;
 pub const NR_NOT_SORTED: u32 = 19;
 pub const NR_BAD_SIZE: u32 = 20;
 pub const NR_NO_MEMORY: u32 = 21;
+pub const NR_ALL_FILLED: u32 = 30;
 
 extern "C" {
     pub fn nr_open(shape: *const Shape, writer: *mut Handle) -> u32;
