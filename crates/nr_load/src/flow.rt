@@ -13,7 +13,6 @@ use nr_map::{NoSlot, UpdateFault, Writer};
 use nr_serve::{Dataflow, Turn};
 use nr_trigger::Taker;
 use std::sync::Wait;
-use std::thread;
 
 /// What the dataflow's thread gives back.
 #[derive(Drop)]
@@ -55,7 +54,7 @@ fn turn_once<R: Wait>(rt: &R, flow: &mut Dataflow<'_, Base>, fills: &mut u64) ->
     ensures places { (flow.new.map ≡ flow.old.map) × (flow.new.queue ≡ flow.old.queue) }
 {
     let before = *fills;
-    match flow.turn(rt) {
+    match flow.turn_or_sleep(rt) {
         Turn::Idle => Turned::Idle,
         Turn::Passed(_) => Turned::Went,
         Turn::Kept(_) => Turned::Went,
@@ -101,24 +100,22 @@ pub(crate) fn flow_on<R: Wait>(
 {
     let lobby = &shared.lobby;
     let mut flow = Dataflow::open(&shared.map, writer, &shared.triggers, taker, base, lobby);
+    let mut guest = lobby.guest();
     let mut fills = 0;
     let mut fault = None;
     for _ in rt.forever() {
-        let is_closed = lobby.is_closed(rt);
+        let is_closed = lobby.is_closed(&mut guest);
         let turned = turn_once(rt, &mut flow, &mut fills);
         fault = fault_of(turned);
         if is_last(turned, is_closed) {
             break;
-        }
-        if turned == Turned::Idle {
-            thread::yield_now();
         }
     }
     let (writer, _, kept, _) = flow.end();
     if let Some(trigger) = kept {
         trigger.into_key();
     }
-    shared.end(rt);
+    shared.end();
     Flowed {
         writer,
         fills,

@@ -136,8 +136,9 @@ pub fn load_gets<R: Wait, G: Gate>(
     };
     let mut rows = RowSet::new();
     let mut answered: u32 = 0;
+    let mut guest = lobby.guest();
     for made in 0..gets {
-        if lobby.is_closed(rt) {
+        if lobby.is_closed(&mut guest) {
             return Worked::stopped(made, answered);
         }
         let (got, is_wrong) = get_drawn(rt, client, draws, &mut rows, known.as_mut_slice());

@@ -250,6 +250,9 @@ pub fn run_load<R: Threads + Wait + Sync, G: Gate + Sync>(
     let Ok((triggers, posters, taker)) = Triggers::open(alloc, plan.keys, plan.readers) else {
         return Err(LoadFault::Memory);
     };
+    let Ok(lobby) = Lobby::open(alloc) else {
+        return Err(LoadFault::Memory);
+    };
     let tokens = Tokens {
         writer,
         taker,
@@ -261,7 +264,7 @@ pub fn run_load<R: Threads + Wait + Sync, G: Gate + Sync>(
         plan: *plan,
         map,
         triggers,
-        lobby: Lobby::open(),
+        lobby,
     };
     let joined = serve_all(rt, gate, &shared, tokens, room.base, room.lists)?;
     settle(&shared.map, plan, joined, room.readers)

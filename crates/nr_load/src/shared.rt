@@ -7,7 +7,6 @@ use nr_map::ReaderMap;
 use nr_serve::Lobby;
 use nr_trigger::Triggers;
 use std::alloc::Global;
-use std::sync::Wait;
 
 /// A map with its queue and its lobby, and what the load is to do.
 #[derive(Drop)]
@@ -25,7 +24,7 @@ pub(crate) struct Shared {
 impl Shared {
     /// Ends the load: no worker begins another get, and the dataflow ends once nothing is left to
     /// fill.
-    pub(crate) fn end<R: Wait>(&self, rt: &R) {
-        self.lobby.close(rt);
+    pub(crate) fn end(&self) {
+        self.lobby.close(&mut self.lobby.guest());
     }
 }

@@ -116,7 +116,7 @@ fn serve_within<'s, E, R: Threads + Wait + Sync, G: Gate + Sync>(
         lists.handles,
     );
     let outcomes = join_all(rt, started.handles, lists.outcomes);
-    shared.end(rt);
+    shared.end();
     let flowed = flow.join(rt);
     Ok(Joined {
         outcomes,

@@ -79,7 +79,7 @@ fn work<R: Wait, G: Gate>(
     let mut client = Client::open(map, reader, triggers, poster, lobby, gate);
     let worked = load_gets(rt, *alloc, &mut client, &mut draws, plan.gets, lobby);
     if worked.fault.is_some() {
-        shared.end(rt);
+        shared.end();
     }
     let sends = client.sends();
     let (reader, _, kept) = client.end();
@@ -148,7 +148,7 @@ pub(crate) fn start_workers<'s, E, R: Wait + Sync, G: Gate + Sync>(
         match start_worker(scope, rt, gate, shared, reader, poster) {
             Ok(handle) => handles.push_reserved(handle),
             Err(_) => {
-                shared.end(rt);
+                shared.end();
                 is_whole = false;
                 break;
             }

@@ -1,3 +1,6 @@
+pub mod Totals
+pub mod Counting
+pub mod Later
 pub mod Making
 pub mod Moving
 pub mod Trying

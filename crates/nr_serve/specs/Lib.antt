@@ -1,3 +1,4 @@
+pub mod Counts
 pub mod Flows
 pub mod Turns
 pub mod Lending

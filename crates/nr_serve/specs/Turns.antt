@@ -1,6 +1,8 @@
 -- What a turn of the dataflow does.
 use Rattle.std.specs.Prelude.{◌≡◌, ◌<◌, ◌≤◌, ℕ, List, [], ◌∷◌, ◌++◌, length, Option, None, Some, Result, Ok, Err}
 use Rattle.nr_model.specs.declared.rows.Row.{Row}
+use Rattle.nr_board.specs.declared.answers.Cancel.{Cancel}
+use Rattle.nr_board.specs.declared.answers.Cancel.TheVariants as cancel
 use Rattle.nr_board.specs.declared.answers.FillFault.{FillFault}
 use Rattle.nr_board.specs.declared.answers.FillFault.TheVariants as fill
 use Rattle.nr_board.specs.WriterAnswers.{FillsKey}
@@ -8,6 +10,7 @@ use Rattle.nr_trigger.specs.declared.post.Post.{Post}
 use Rattle.nr_trigger.specs.Tokens.{IsSameTaker, TakerSeen, WasEmpty, taker_tried}
 use Rattle.nr_serve.specs.declared.dataflow.Turn.{Turn}
 use Rattle.nr_serve.specs.declared.dataflow.Turn.TheVariants as turn
+use Rattle.nr_serve.specs.Counts.{raises_for}
 use Rattle.nr_serve.specs.Flows.{FlowSeen}
 
 -- the triggers that are kept, one at most
@@ -51,7 +54,7 @@ module _ {S : Type 0} (gives : S → ℕ → List Row → S → Type 0) where
     pub few : length rows ≤ old.map.shape.rows
     pub fills : FillsKey post.upquery.key post.upquery.number rows old.writer new.writer answer
 
-  -- the trigger of that key, which is one of the map's, is spent, and none is kept
+  -- the trigger of that key, which is one of the map's, is spent, none is kept, and the lobby is raised for the key
   pub record SpendsOne (old : FlowSeen S) (key : ℕ) (answer : Result (Unit {0}) FillFault) (new : FlowSeen S) : Type 0 where
     pub near : key < old.map.shape.keys
     pub post : Post
@@ -59,16 +62,23 @@ module _ {S : Type 0} (gives : S → ℕ → List Row → S → Type 0) where
     pub answers : FillsPost old post answer new
     pub spends : Spends old.kept old.taker (post ∷ []) None new.taker
     pub none : new.kept ≡ None
+    pub raised : new.raised ≡ old.raised ++ raises_for key
 
-  -- the trigger is kept
+  -- the trigger is kept, and the lobby is left alone
   pub record KeepsOne (old : FlowSeen S) (answer : Result (Unit {0}) FillFault) (new : FlowSeen S) : Type 0 where
     pub post : Post
     pub answers : FillsPost old post answer new
     pub spends : Spends old.kept old.taker [] (Some post) new.taker
     pub kept : new.kept ≡ Some post
+    pub raised : new.raised ≡ old.raised
 
   abbrev pub Turns : FlowSeen S → Turn → FlowSeen S → Type 0
   Turns old turn.Idle new = FindsNone old new
   Turns old (turn.Filled key) new = SpendsOne old key (Ok tt) new
   Turns old (turn.Passed key) new = (fault : FillFault) × IsPast fault × SpendsOne old key (Err fault) new
   Turns old (turn.Kept counts) new = KeepsOne old (Err (fill.NoSlot counts)) new
+
+-- a cancel raises the lobby for the key where it took a request back, and else leaves it alone
+abbrev pub CancelRaises : Cancel → ℕ → List ℕ → List ℕ → Type 0
+CancelRaises cancel.Cancelled key old new = new ≡ old ++ raises_for key
+CancelRaises _ key old new = new ≡ old

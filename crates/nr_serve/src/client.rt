@@ -13,6 +13,7 @@ use crate::hands::Hands;
 use crate::lobby::Lobby;
 use crate::places::Places;
 use crate::tries::get_by_tries;
+use crate::watched::Watched;
 use nr_map::{Note, Reader, ReaderMap, Ticket};
 use nr_model::RowSet;
 use nr_trigger::{Poster, Triggers};
@@ -66,7 +67,7 @@ impl<'a, G: Gate> Client<'a, G> {
             places: Places {
                 map,
                 triggers,
-                lobby,
+                lobby: Watched::of(lobby),
                 gate,
                 worker,
             },

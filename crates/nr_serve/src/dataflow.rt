@@ -1,11 +1,12 @@
 //! The dataflow's side: it fills the keys whose tickets were posted, and keeps the map's rows right.
-ghost use Rattle.std.specs.Prelude.{◌≡◌, ◌≢◌, ◌<◌, ◌≤◌, None, Some, Err};
+ghost use Rattle.std.specs.Prelude.{◌≡◌, ◌≢◌, ◌<◌, ◌≤◌, [], None, Some, Err};
 ghost use Rattle.std.specs.Borrow.{sem};
 ghost use Rattle.nr_board.specs.Callers.{KnowsOwn};
 ghost use Rattle.nr_board.specs.Meetings.{HearsNote, known_to, with_step};
 ghost use Rattle.nr_board.specs.WriterAnswers.{CancelsKey, EvictsKey, UpdatesKey};
 
 use crate::lobby::Lobby;
+use crate::raiser::Raiser;
 use crate::source::Source;
 use nr_map::{Cancel, Evict, FillFault, NoSlot, Note, ReaderMap, UpdateFault, Writer, laws};
 use nr_model::Batch;
@@ -32,7 +33,7 @@ pub enum Turn {
 pub struct Dataflow<'a, S> {
     map: &'a ReaderMap,
     triggers: &'a Triggers,
-    lobby: &'a Lobby,
+    raiser: Raiser<'a>,
     writer: Writer,
     taker: Taker,
     kept: Option<Trigger>,
@@ -44,14 +45,14 @@ impl<'a, S> Model for Dataflow<'a, S> {
 
     ghost Value = { FlowSeen S };
 
-    ghost view = { λ flow. record { map = flow.map.now; queue = flow.triggers.now; writer = flow.writer; taker = flow.taker; kept = flow.kept; source = flow.source } };
+    ghost view = { λ flow. record { map = flow.map.now; queue = flow.triggers.now; writer = flow.writer; taker = flow.taker; kept = flow.kept; source = flow.source; raised = flow.raiser } };
 
     ghost invariant = { λ flow. IsPlaced flow.map.now flow.triggers.now flow.writer flow.taker flow.kept };
 }
 
 impl<'a, S: Source> Dataflow<'a, S> {
     ghost use Rattle.nr_map.specs.SlotBounds.{HasRoomForAll};
-    ghost use Rattle.nr_serve.specs.Turns.{FillsPost, Nexts, Turns};
+    ghost use Rattle.nr_serve.specs.Turns.{CancelRaises, FillsPost, Nexts, Turns};
     ghost use Rattle.nr_serve.specs.Lending.{LendsSource};
 
     /// The dataflow of a map and a queue, whose tickets are all of keys of the map.
@@ -66,12 +67,12 @@ impl<'a, S: Source> Dataflow<'a, S> {
         requires map { writer.table ≡ map.now }
         requires queue { taker.queue ≡ triggers.now.id }
         requires keys { taker.keys ≤ map.now.shape.keys }
-        ensures { result ≡ record { map = map.now; queue = triggers.now; writer = writer; taker = taker; kept = None; source = source } }
+        ensures { result ≡ record { map = map.now; queue = triggers.now; writer = writer; taker = taker; kept = None; source = source; raised = [] } }
     {
         Dataflow {
             map,
             triggers,
-            lobby,
+            raiser: Raiser::of(lobby),
             writer,
             taker,
             kept: None,
@@ -80,8 +81,8 @@ impl<'a, S: Source> Dataflow<'a, S> {
     }
 
     /// Takes the trigger that is kept, or else the next one of the queue, asks the source for its
-    /// key's rows, and fills the key by the trigger's number. Raises the lobby where that spends
-    /// the trigger. A trigger that is kept is tried again in the next turn, with rows that the
+    /// key's rows, and fills the key by the trigger's number. Raises the lobby for the key where
+    /// that spends the trigger. A trigger that is kept is tried again in the next turn, with rows that the
     /// source is asked for anew; on a map with a slot for each key, each reader and one more, none
     /// is ever kept. May wait for a thread that is within a call of its own.
     pub fn turn<R: Wait>(&mut self, rt: &R) -> Turn
@@ -96,12 +97,12 @@ impl<'a, S: Source> Dataflow<'a, S> {
         match self.fill(&trigger) {
             Ok(()) => {
                 trigger.into_key();
-                self.lobby.raise(rt);
+                self.raiser.raise_for(rt, key);
                 Turn::Filled(key)
             }
             Err(FillFault::NotAsked | FillFault::Already | FillFault::Stale) => {
                 trigger.into_key();
-                self.lobby.raise(rt);
+                self.raiser.raise_for(rt, key);
                 Turn::Passed(key)
             }
             Err(FillFault::NoSlot(counts)) => {
@@ -109,6 +110,30 @@ impl<'a, S: Source> Dataflow<'a, S> {
                 Turn::Kept(counts)
             }
         }
+    }
+
+    /// As `turn`, and where that finds nothing it sleeps until a client has posted a ticket or the
+    /// lobby is closed, and then tells that it was idle. Call it again after that. It never sleeps
+    /// while a trigger is kept.
+    pub fn turn_or_sleep<R: Wait>(&mut self, rt: &R) -> Turn
+        ensures turns { Turns S.gives self.old result self.new }
+        ensures places { (self.new.map ≡ self.old.map) × (self.new.queue ≡ self.old.queue) }
+        ensures room { HasRoomForAll self.old.map → (counts : NoSlot) → result ≢ Turn.Kept counts }
+    {
+        let rings = self.raiser.rings();
+        let turned = self.turn(rt);
+        if let Turn::Idle = turned {
+            self.sleep(rt, rings);
+        }
+        turned
+    }
+
+    // Sleeps until the bell was rung since it had been rung so often, or the lobby is closed.
+    fn sleep<R: Wait>(&mut self, rt: &R, rings: u64)
+        requires { self.old.kept ≡ None }
+        ensures { self.new ≡ self.old }
+    {
+        self.raiser.wait_for_ring(rt, rings);
     }
 
     // The trigger that is kept, or else the next one of the queue.
@@ -167,16 +192,17 @@ impl<'a, S: Source> Dataflow<'a, S> {
         self.map.evict(&mut self.writer, key)
     }
 
-    /// Takes the request of a key back, as the map's `cancel` does. Raises the lobby where it did,
-    /// so that clients that wait for the key ask for it anew.
+    /// Takes the request of a key back, as the map's `cancel` does. Raises the lobby for the key
+    /// where it did, so that clients that wait for the key ask for it anew.
     pub fn cancel<R: Wait>(&mut self, rt: &R, key: u32) -> Cancel
         requires key { key < self.old.map.shape.keys }
         ensures cancels { CancelsKey key self.old.writer self.new.writer result }
-        ensures rest { self.new ≡ record self.old { writer = self.new.writer } }
+        ensures raised { CancelRaises result key self.old.raised self.new.raised }
+        ensures rest { self.new ≡ record self.old { writer = self.new.writer; raised = self.new.raised } }
     {
         let answer = self.map.cancel(&mut self.writer, key);
         if answer == Cancel::Cancelled {
-            self.lobby.raise(rt);
+            self.raiser.raise_for(rt, key);
         }
         answer
     }
@@ -219,7 +245,7 @@ impl<'a, S: Source> Dataflow<'a, S> {
         let Dataflow {
             map: _,
             triggers: _,
-            lobby: _,
+            raiser: _,
             writer,
             taker,
             kept,

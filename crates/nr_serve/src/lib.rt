@@ -4,17 +4,21 @@
 
 mod answers;
 mod client;
+mod counts;
 mod dataflow;
 mod gate;
 mod hands;
 pub mod laws;
 mod lobby;
 mod places;
+mod raiser;
 mod source;
 mod tries;
+mod watched;
 
 pub use answers::Got;
 pub use client::Client;
+pub use counts::Guest;
 pub use dataflow::{Dataflow, Turn};
 pub use gate::{Gate, OpenGate};
 pub use lobby::Lobby;

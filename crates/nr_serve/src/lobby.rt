@@ -1,91 +1,262 @@
-//! Where clients sleep until the dataflow has done something.
-ghost use Rattle.std.specs.Prelude.{◌≡◌, ◌+◌, ◌<◌, ◌≤◌, ◌⊎◌, ◌↔◌, min, IsTrue};
-ghost use Rattle.std.specs.Sync.Mutex.{mutex_guard_value};
+//! Where clients sleep until the dataflow has done something, and the dataflow until something was
+//! posted.
+ghost use Rattle.std.specs.Prelude.{◌≡◌, ◌≢◌, ◌<◌, ◌≤◌, ◌⊎◌, ◌++◌, ◌∷◌, ◌↔◌, [], IfErr, IsTrue, slice_index};
+ghost use Rattle.nr_serve.specs.Counts.{IsLaterOf, closed_at, group_at, groups_below, raises_for, whole_at};
 
-use std::sync::{Condvar, Mutex, MutexGuard, Wait};
+use crate::counts::{CLOSED_AT, Counts, Guest};
+use crossbeam_utils::CachePadded;
+use crossbeam_utils::sync::EventCount;
+use nr_model::OpenFault;
+use std::alloc::Global;
+use std::marker::Model;
+use std::sync::Wait;
+use std::sync::atomic::{AtomicU64, Ordering};
 
-/// How often the lobby was raised, up to 2^64 - 1, and whether it is closed.
-#[derive(Drop)]
-struct LobbyState {
-    count: u64,
-    is_closed: bool,
-    ghost closed_at_last: { 18446744073709551615 ≤ count → IsTrue is_closed },
-}
+/// How many groups of keys have a count and sleepers of their own.
+const GROUPS: u32 = 64;
 
-impl LobbyState {
-    /// Raises the count by one. The raise that reaches the last number closes the lobby, and there
-    /// it stays.
-    fn raise(&mut self)
-        ensures count { self.new.count ≡ min (self.old.count + 1) u64.MAX }
-        ensures closed { IsTrue self.new.is_closed ↔ (IsTrue self.old.is_closed ⊎ (u64.MAX ≤ self.old.count + 1)) }
-    {
-        let count = self.count.saturating_add(1);
-        *self = LobbyState {
-            count,
-            is_closed: self.is_closed || count == u64::MAX,
-        };
-    }
+/// The place of the count of the whole lobby.
+const WHOLE_AT: usize = 512;
 
-    fn close(&mut self)
-        ensures count { self.new.count ≡ self.old.count }
-        ensures closed { IsTrue self.new.is_closed }
-    {
-        self.is_closed = true;
-    }
-}
-
-/// A count that only rises, under a lock, with those who sleep until it has risen.
+/// Counts that only rise, one for each group of keys and one for all, with those who sleep until
+/// they have risen. A key's group is its number modulo 64. Beside them a bell, which a post rings.
 #[derive(Drop)]
 pub struct Lobby {
-    state: Mutex<LobbyState>,
-    changed: Condvar,
+    counts: Counts,
+    groups: [CachePadded<EventCount>; 64],
+    whole: CachePadded<EventCount>,
+    rings: CachePadded<AtomicU64>,
+    rung: CachePadded<EventCount>,
+}
+
+impl Model for Lobby {
+    ghost use Rattle.atomic_table.specs.Seated.{TableId};
+
+    ghost Value = { TableId };
+
+    ghost view = { λ lobby. lobby.counts };
+}
+
+// The place of the count of a key's group. Each lies on a line of the cache of its own.
+#[inline(always)]
+fn group_at(key: u32) -> usize
+    ensures { result ≡ group_at key }
+{
+    8 * (key % GROUPS) as usize
 }
 
 impl Lobby {
-    /// A lobby that was never raised and isn't closed.
-    pub fn open() -> Lobby {
-        Lobby {
-            state: Mutex::new(LobbyState {
-                count: 0,
-                is_closed: false,
-            }),
-            changed: Condvar::new(),
-        }
-    }
-
-    /// How often it was raised, up to 2^64 - 1.
-    pub fn count<R: Wait>(&self, rt: &R) -> u64 {
-        self.state.lock(rt).count
-    }
-
-    /// Raises the count by one and wakes all sleepers. The raise that reaches 2^64 - 1 closes the
-    /// lobby, and later ones change nothing.
-    pub fn raise<R: Wait>(&self, rt: &R) {
-        self.state.lock(rt).raise();
-        self.changed.notify_all();
-    }
-
-    /// Sleeps while the count is at most `n` and the lobby isn't closed, and tells the count.
-    pub fn wait_past<R: Wait>(&self, rt: &R, n: u64) -> u64 {
-        self.past(rt, n).count
-    }
-
-    /// Wakes all sleepers; from now on nobody sleeps here.
-    pub fn close<R: Wait>(&self, rt: &R) {
-        self.state.lock(rt).close();
-        self.changed.notify_all();
-    }
-
-    pub fn is_closed<R: Wait>(&self, rt: &R) -> bool {
-        self.state.lock(rt).is_closed
-    }
-
-    // The state under its lock, once the count is past `n` or the lobby is closed.
-    fn past<'a, R: Wait>(&'a self, rt: &R, n: u64) -> MutexGuard<'a, LobbyState>
-        ensures { (n < (mutex_guard_value result).count) ⊎ IsTrue (mutex_guard_value result).is_closed }
+    /// A lobby that was never raised and isn't closed. Refused where there is no memory.
+    pub fn open(alloc: Global) -> Result<Lobby, OpenFault>
+        ensures { IfErr result (λ fault. fault ≡ OpenFault.Memory) }
     {
-        self.changed.wait_while(rt, self.state.lock(rt), |state| {
-            state.count <= n && !state.is_closed
+        let Ok(counts) = Counts::open(alloc) else {
+            return Err(OpenFault::Memory);
+        };
+        Ok(Lobby {
+            counts,
+            groups: std::array::from_fn(|_| CachePadded::new(EventCount::new())),
+            whole: CachePadded::new(EventCount::new()),
+            rings: CachePadded::new(AtomicU64::new(0)),
+            rung: CachePadded::new(EventCount::new()),
         })
+    }
+
+    /// A guest, which has raised nothing.
+    pub fn guest(&self) -> Guest
+        ensures lobby { result.lobby ≡ self.now }
+        ensures raised { result.raised ≡ [] }
+    {
+        self.counts.enter(CLOSED_AT).1
+    }
+
+    // The count of this key's group, found by a new guest.
+    #[inline(always)]
+    pub(crate) fn enter(&self, key: u32) -> (u64, Guest)
+        ensures lobby { result.1.lobby ≡ self.now }
+        ensures raised { result.1.raised ≡ [] }
+        ensures found { slice_index result.1.seen (group_at key) ≡ result.0 }
+    {
+        self.counts.enter(group_at(key))
+    }
+
+    /// How often the whole lobby was raised, up to 2^64 - 1.
+    pub fn count(&self, guest: &mut Guest) -> u64
+        requires { guest.old.lobby ≡ self.now }
+        ensures later { IsLaterOf guest.old guest.new }
+        ensures found { slice_index guest.new.seen whole_at ≡ result }
+        ensures raised { guest.new.raised ≡ guest.old.raised }
+    {
+        self.counts.at(guest, WHOLE_AT)
+    }
+
+    /// How often it was raised for the keys of this one's group, up to 2^64 - 1.
+    pub fn count_for(&self, guest: &mut Guest, key: u32) -> u64
+        requires { guest.old.lobby ≡ self.now }
+        ensures later { IsLaterOf guest.old guest.new }
+        ensures found { slice_index guest.new.seen (group_at key) ≡ result }
+        ensures raised { guest.new.raised ≡ guest.old.raised }
+    {
+        self.counts.at(guest, group_at(key))
+    }
+
+    /// Raises each count by one and wakes all sleepers. A raise of a count to 2^64 - 1 closes the
+    /// lobby, and later ones change nothing.
+    #[tactic(auto, using(crate::proofs::Later::later_none, crate::proofs::Later::later_both, crate::proofs::Later::raised_more))]
+    pub fn raise<R: Wait>(&self, rt: &R, guest: &mut Guest)
+        requires { guest.old.lobby ≡ self.now }
+        ensures later { IsLaterOf guest.old guest.new }
+        ensures raised { guest.new.raised ≡ (guest.old.raised ++ groups_below 64) ++ whole_at ∷ [] }
+    {
+        for group in 0..GROUPS {
+            self.raise_at(rt, guest, 8 * group as usize);
+        }
+        self.raise_at(rt, guest, WHOLE_AT);
+        self.wake_all();
+    }
+
+    /// Raises the count of this key's group and that of the whole lobby by one, and wakes those who
+    /// sleep there. A raise of a count to 2^64 - 1 closes the lobby, and later ones change nothing.
+    #[tactic(auto, using(crate::proofs::Later::later_none, crate::proofs::Later::later_both))]
+    pub fn raise_for<R: Wait>(&self, rt: &R, guest: &mut Guest, key: u32)
+        requires { guest.old.lobby ≡ self.now }
+        ensures later { IsLaterOf guest.old guest.new }
+        ensures raised { guest.new.raised ≡ guest.old.raised ++ raises_for key }
+    {
+        self.raise_at(rt, guest, group_at(key));
+        self.raise_at(rt, guest, WHOLE_AT);
+        self.groups[(key % GROUPS) as usize].notify_all();
+        self.whole.notify_all();
+    }
+
+    /// Sleeps while the count of the whole lobby is at most `n` and it isn't closed, and tells the
+    /// count.
+    pub fn wait_past<R: Wait>(&self, rt: &R, guest: &mut Guest, n: u64) -> u64
+        requires { guest.old.lobby ≡ self.now }
+        ensures later { IsLaterOf guest.old guest.new }
+        ensures past { (n < result) ⊎ (0 < slice_index guest.new.seen closed_at) }
+        ensures between { (slice_index guest.old.seen whole_at ≤ result) × (result ≤ slice_index guest.new.seen whole_at) }
+        ensures raised { guest.new.raised ≡ guest.old.raised }
+    {
+        self.wait_at(rt, guest, WHOLE_AT, &self.whole, n)
+    }
+
+    /// Sleeps while the count of this key's group is at most `n` and the lobby isn't closed, and
+    /// tells the count.
+    pub fn wait_past_for<R: Wait>(&self, rt: &R, guest: &mut Guest, key: u32, n: u64) -> u64
+        requires { guest.old.lobby ≡ self.now }
+        ensures later { IsLaterOf guest.old guest.new }
+        ensures past { (n < result) ⊎ (0 < slice_index guest.new.seen closed_at) }
+        ensures between { (slice_index guest.old.seen (group_at key) ≤ result) × (result ≤ slice_index guest.new.seen (group_at key)) }
+        ensures raised { guest.new.raised ≡ guest.old.raised }
+    {
+        let changed = &self.groups[(key % GROUPS) as usize];
+        self.wait_at(rt, guest, group_at(key), changed, n)
+    }
+
+    /// Closes it for good and wakes all sleepers; from now on nobody sleeps here.
+    pub fn close(&self, guest: &mut Guest)
+        requires { guest.old.lobby ≡ self.now }
+        ensures later { IsLaterOf guest.old guest.new }
+        ensures closed { 0 < slice_index guest.new.seen closed_at }
+        ensures raised { guest.new.raised ≡ guest.old.raised }
+    {
+        self.counts.close(guest);
+        self.wake_all();
+    }
+
+    pub fn is_closed(&self, guest: &mut Guest) -> bool
+        requires { guest.old.lobby ≡ self.now }
+        ensures later { IsLaterOf guest.old guest.new }
+        ensures closed { IsTrue result ↔ (0 < slice_index guest.new.seen closed_at) }
+        ensures raised { guest.new.raised ≡ guest.old.raised }
+    {
+        self.counts.at(guest, CLOSED_AT) > 0
+    }
+
+    /// Rings the bell, which wakes a dataflow that sleeps until something is posted. A client does
+    /// so after each post; whoever posts in a way of its own must do it too.
+    pub fn ring(&self) {
+        self.rings.fetch_add(1, Ordering::SeqCst);
+        self.rung.notify_all();
+    }
+
+    // How often the bell was rung, modulo 2^64.
+    pub(crate) fn rings(&self) -> u64 {
+        self.rings.load(Ordering::SeqCst)
+    }
+
+    // Sleeps until the bell was rung since it had been rung so often, or the lobby is closed.
+    #[tactic(auto, using(crate::proofs::Later::later_none, crate::proofs::Later::later_both))]
+    pub(crate) fn wait_for_ring<R: Wait>(&self, rt: &R, guest: &mut Guest, rings: u64)
+        requires { guest.old.lobby ≡ self.now }
+        ensures later { IsLaterOf guest.old guest.new }
+        ensures raised { guest.new.raised ≡ guest.old.raised }
+    {
+        for _ in rt.forever() {
+            let wait = self.rung.prepare_wait();
+            if self.rings() != rings || self.is_closed(guest) {
+                return;
+            }
+            wait.wait(rt);
+        }
+        unreachable!()
+    }
+
+    // The last raise closes the lobby before it is made.
+    #[tactic(auto, using(crate::proofs::Later::later_none, crate::proofs::Later::later_both))]
+    fn raise_at<R: Wait>(&self, rt: &R, guest: &mut Guest, place: usize)
+        requires lobby { guest.old.lobby ≡ self.now }
+        requires place { (place < 528) × (place ≢ closed_at) }
+        ensures later { IsLaterOf guest.old guest.new }
+        ensures raised { guest.new.raised ≡ guest.old.raised ++ place ∷ [] }
+    {
+        for _ in rt.forever() {
+            let count = self.counts.at(guest, place);
+            let next = count.saturating_add(1);
+            if next == u64::MAX {
+                self.close(guest);
+            }
+            if self.counts.raise(guest, place, count, next) {
+                return;
+            }
+        }
+        unreachable!()
+    }
+
+    // The wait is announced before the count is read, so no raise is missed.
+    #[tactic(auto, using(crate::proofs::Later::later_none, crate::proofs::Later::later_both))]
+    fn wait_at<R: Wait>(
+        &self,
+        rt: &R,
+        guest: &mut Guest,
+        place: usize,
+        changed: &EventCount,
+        n: u64,
+    ) -> u64
+        requires lobby { guest.old.lobby ≡ self.now }
+        requires place { place < 528 }
+        ensures later { IsLaterOf guest.old guest.new }
+        ensures past { (n < result) ⊎ (0 < slice_index guest.new.seen closed_at) }
+        ensures between { (slice_index guest.old.seen place ≤ result) × (result ≤ slice_index guest.new.seen place) }
+        ensures raised { guest.new.raised ≡ guest.old.raised }
+    {
+        for _ in rt.forever() {
+            let wait = changed.prepare_wait();
+            let count = self.counts.at(guest, place);
+            if count > n || self.is_closed(guest) {
+                return count;
+            }
+            wait.wait(rt);
+        }
+        unreachable!()
+    }
+
+    fn wake_all(&self) {
+        for group in self.groups.iter() {
+            group.notify_all();
+        }
+        self.whole.notify_all();
+        self.rung.notify_all();
     }
 }

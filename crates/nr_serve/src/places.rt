@@ -1,5 +1,5 @@
 //! What a client stands on.
-use crate::lobby::Lobby;
+use crate::watched::Watched;
 use nr_map::ReaderMap;
 use nr_trigger::Triggers;
 
@@ -7,7 +7,7 @@ use nr_trigger::Triggers;
 pub(crate) struct Places<'a, G> {
     pub(crate) map: &'a ReaderMap,
     pub(crate) triggers: &'a Triggers,
-    pub(crate) lobby: &'a Lobby,
+    pub(crate) lobby: Watched<'a>,
     pub(crate) gate: &'a G,
     pub(crate) worker: u32,
 }

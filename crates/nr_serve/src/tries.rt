@@ -8,17 +8,25 @@ use crate::answers::{Got, Requested, Tried};
 use crate::gate::Gate;
 use crate::hands::Hands;
 use crate::places::Places;
+use crate::watched::Watched;
 use nr_map::{Asked, Pin, Reader, ReaderMap};
 use nr_model::RowSet;
 use nr_trigger::Triggers;
 use std::sync::Wait;
+use std::thread;
 
 /// How often a gate is asked before a get is barred.
 const MAX_PASSES: u32 = 1_000_000;
 
 // Posts the ticket that is kept, which stays where the queue is full.
 #[inline(always)]
-fn post_kept<R: Wait>(rt: &R, map: &ReaderMap, triggers: &Triggers, hands: Hands) -> Hands
+fn post_kept<R: Wait>(
+    rt: &R,
+    map: &ReaderMap,
+    triggers: &Triggers,
+    lobby: &Watched<'_>,
+    hands: Hands,
+) -> Hands
     requires { IsReady map.now triggers.now hands }
     ensures ready { IsReady map.now triggers.now result }
     ensures moves { Moves 0 hands [] result }
@@ -32,7 +40,13 @@ fn post_kept<R: Wait>(rt: &R, map: &ReaderMap, triggers: &Triggers, hands: Hands
     } = hands;
     let kept = match kept {
         None => None,
-        Some(ticket) => triggers.post(rt, &mut poster, ticket).err(),
+        Some(ticket) => match triggers.post(rt, &mut poster, ticket) {
+            Ok(()) => {
+                lobby.ring();
+                None
+            }
+            Err(ticket) => Some(ticket),
+        },
     };
     Hands::of(reader, poster, kept, sends)
 }
@@ -43,6 +57,7 @@ fn request<R: Wait>(
     rt: &R,
     map: &ReaderMap,
     triggers: &Triggers,
+    lobby: &Watched<'_>,
     key: u32,
     hands: Hands,
 ) -> (Requested, Hands)
@@ -68,7 +83,10 @@ fn request<R: Wait>(
         Asked::Send(ticket) => {
             let number = ticket.number();
             let hands = Hands::of(reader, poster, Some(ticket), sends.saturating_add(1));
-            (Requested::Sent(number), post_kept(rt, map, triggers, hands))
+            (
+                Requested::Sent(number),
+                post_kept(rt, map, triggers, lobby, hands),
+            )
         }
         Asked::Waiting => (Requested::Waiting, Hands::of(reader, poster, None, sends)),
         Asked::Filled => (Requested::Filled, Hands::of(reader, poster, None, sends)),
@@ -76,31 +94,25 @@ fn request<R: Wait>(
 }
 
 // Asks the gate until it lets pass, but not for ever.
-fn lets_pass<G: Gate, R: Wait>(rt: &R, places: &Places<'_, G>, turn: u64) -> bool {
+fn lets_pass<G: Gate>(places: &Places<'_, G>, turn: u64) -> bool {
     for _ in 0..MAX_PASSES {
         if places.gate.pass(places.worker, turn) {
             return true;
         }
-        places.lobby.count(rt);
+        thread::yield_now();
     }
     false
 }
 
 // With the pin of a filled key: copies its rows for the caller, if the gate lets pass.
 #[inline(always)]
-fn answer<G: Gate, R: Wait>(
-    rt: &R,
-    places: &Places<'_, G>,
-    turn: u64,
-    pin: Pin,
-    rows: &mut RowSet,
-) -> (Got, Reader)
+fn answer<G: Gate>(places: &Places<'_, G>, turn: u64, pin: Pin, rows: &mut RowSet) -> (Got, Reader)
     requires own { pin.reader.table ≡ places.now.map.now }
     ensures answers { AnswersPin pin rows.old result.0 result.1 rows.new }
     ensures idle { result.1.holds ≡ None }
 {
     let mut pin = pin;
-    if !lets_pass(rt, places, turn) {
+    if !lets_pass(places, turn) {
         return (Got::Barred, pin.release(places.map));
     }
     pin.copy_to(places.map, rows);
@@ -129,22 +141,29 @@ fn try_once<G: Gate, R: Wait>(
         poster,
         kept,
         sends,
-    } = post_kept(rt, places.map, places.triggers, hands);
+    } = post_kept(rt, places.map, places.triggers, &places.lobby, hands);
     match places.map.pin(reader, key) {
         Ok(pin) => {
-            let (got, reader) = answer(rt, places, turn, pin, rows);
+            let (got, reader) = answer(places, turn, pin, rows);
             (Tried::Ended(got), Hands::of(reader, poster, kept, sends))
         }
         Err(reader) => {
             let hands = Hands::of(reader, poster, kept, sends);
-            let (requested, hands) = request(rt, places.map, places.triggers, key, hands);
+            let (requested, hands) = request(
+                rt,
+                places.map,
+                places.triggers,
+                &places.lobby,
+                key,
+                hands,
+            );
             (Tried::Missed(requested), hands)
         }
     }
 }
 
 /// Tries to get the rows of a key, and sleeps in the lobby between two tries where an upquery is
-/// under way.
+/// under way, until the count of the key's group has gone past what it was before the try.
 pub(crate) fn get_by_tries<G: Gate, R: Wait>(
     rt: &R,
     places: &Places<'_, G>,
@@ -162,7 +181,7 @@ pub(crate) fn get_by_tries<G: Gate, R: Wait>(
 {
     let mut hands = hands;
     for i in 0..tries {
-        let count = places.lobby.count(rt);
+        let (count, mut guest) = places.lobby.enter(key);
         let (tried, left) = try_once(rt, places, turn, key, hands, rows);
         hands = left;
         let requested = match tried {
@@ -170,7 +189,7 @@ pub(crate) fn get_by_tries<G: Gate, R: Wait>(
             Tried::Missed(requested) => requested,
         };
         if i + 1 < tries && requested.is_pending() && hands.kept.is_none() {
-            places.lobby.wait_past(rt, count);
+            places.lobby.wait_past_for(rt, &mut guest, key, count);
         }
     }
     (Got::GaveUp, hands)

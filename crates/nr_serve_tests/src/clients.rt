@@ -34,10 +34,10 @@ fn nobody_sleeps<R: Abort + Wait>(rt: &R, opened: Opened)
         mut taker,
         reader,
         poster,
+        lobby,
     } = opened;
-    let lobby = Lobby::open();
     let gate = OpenGate;
-    lobby.close(rt);
+    lobby.close(&mut lobby.guest());
     let mut client = Client::open(&map, reader, &triggers, poster, &lobby, &gate);
     gives_up(rt, &mut client);
     client_ends(rt, client, None);
@@ -141,8 +141,8 @@ fn a_get_is_barred<R: Abort + Wait>(rt: &R, opened: Opened)
         taker,
         reader,
         poster,
+        lobby,
     } = opened;
-    let lobby = Lobby::open();
     let gate = Noting::new();
     let source = Plain { b: 5, asked: 0 };
     let mut client = Client::open(&map, reader, &triggers, poster, &lobby, &gate);
@@ -164,14 +164,38 @@ fn a_gate_that_never_lets_pass_bars_a_get(rt: HostRuntime) -> Result<(), Fail> {
 }
 
 #[test]
-fn a_lobby_counts_and_closes(rt: HostRuntime) {
-    let lobby = Lobby::open();
-    assert_eq!(rt; (lobby.count(&rt), lobby.is_closed(&rt)), (0, false));
-    lobby.raise(&rt);
-    lobby.raise(&rt);
-    assert_eq!(rt; lobby.wait_past(&rt, 1), 2);
-    lobby.close(&rt);
-    assert_eq!(rt; lobby.wait_past(&rt, 7), 2);
-    lobby.raise(&rt);
-    assert_eq!(rt; (lobby.count(&rt), lobby.is_closed(&rt)), (3, true));
+fn a_lobby_counts_and_closes(rt: HostRuntime) -> Result<(), Fail> {
+    let lobby = Lobby::open(rt.alloc())?;
+    let mut guest = lobby.guest();
+    assert_eq!(rt;
+        (lobby.count(&mut guest), lobby.is_closed(&mut guest)),
+        (0, false)
+    );
+    lobby.raise(&rt, &mut guest);
+    lobby.raise(&rt, &mut guest);
+    assert_eq!(rt; lobby.wait_past(&rt, &mut guest, 1), 2);
+    lobby.close(&mut guest);
+    assert_eq!(rt; lobby.wait_past(&rt, &mut guest, 7), 2);
+    lobby.raise(&rt, &mut guest);
+    assert_eq!(rt;
+        (lobby.count(&mut guest), lobby.is_closed(&mut guest)),
+        (3, true)
+    );
+    Ok(())
+}
+
+// A raise for key 3 is one of its group, which has key 67 too, and one of the whole lobby.
+#[test]
+fn a_raise_for_a_key_counts_for_its_group_and_the_whole(rt: HostRuntime) -> Result<(), Fail> {
+    let lobby = Lobby::open(rt.alloc())?;
+    let mut guest = lobby.guest();
+    lobby.raise_for(&rt, &mut guest, 3);
+    assert_eq!(rt; lobby.count_for(&mut guest, 3), 1);
+    assert_eq!(rt; lobby.count_for(&mut guest, 67), 1);
+    assert_eq!(rt; lobby.count_for(&mut guest, 4), 0);
+    lobby.raise(&rt, &mut guest);
+    assert_eq!(rt; lobby.wait_past_for(&rt, &mut guest, 67, 1), 2);
+    assert_eq!(rt; lobby.wait_past_for(&rt, &mut guest, 4, 0), 1);
+    assert_eq!(rt; lobby.count(&mut guest), 2);
+    Ok(())
 }

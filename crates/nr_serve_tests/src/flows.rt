@@ -52,8 +52,8 @@ fn two_clients_take_turns<R: Abort + Wait>(rt: &R, opened: Opened, other: Reader
         taker,
         reader,
         poster,
+        lobby,
     } = opened;
-    let lobby = Lobby::open();
     let gate = OpenGate;
     let source = Plain { b: 0, asked: 0 };
     let mut one = Client::open(&map, reader, &triggers, poster, &lobby, &gate);
@@ -133,8 +133,8 @@ fn a_slot_is_held<R: Abort + Wait>(rt: &R, opened: Opened, other: Reader)
         taker,
         reader,
         poster,
+        lobby,
     } = opened;
-    let lobby = Lobby::open();
     let gate = OpenGate;
     let source = Plain { b: 0, asked: 0 };
     let mut client = Client::open(&map, reader, &triggers, poster, &lobby, &gate);
@@ -202,8 +202,8 @@ fn a_request_is_cancelled<R: Abort + Wait>(rt: &R, opened: Opened)
         taker,
         reader,
         poster,
+        lobby,
     } = opened;
-    let lobby = Lobby::open();
     let gate = OpenGate;
     let source = Plain { b: 0, asked: 0 };
     let mut client = Client::open(&map, reader, &triggers, poster, &lobby, &gate);
@@ -300,8 +300,8 @@ fn all_rows_are_got<R: Abort + Wait>(rt: &R, opened: Opened)
         taker,
         reader,
         poster,
+        lobby,
     } = opened;
-    let lobby = Lobby::open();
     let gate = OpenGate;
     let source = Full { told: 0 };
     let mut client = Client::open(&map, reader, &triggers, poster, &lobby, &gate);

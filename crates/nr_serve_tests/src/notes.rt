@@ -206,7 +206,7 @@ fn flow_side<C: Carries, R: Wait>(
     let source = Plain { b: 5, asked: 0 };
     let mut flow = Dataflow::open(map, writer, triggers, taker, source, lobby);
     let is_done = fill_and_apply(rt, &mut flow, &talk);
-    lobby.close(rt);
+    lobby.close(&mut lobby.guest());
     end_flow(flow);
     is_done
 }
@@ -216,6 +216,7 @@ fn both_sides<C: Carries + Send, R: Threads + Wait + Sync>(
     rt: &R,
     map: &ReaderMap,
     triggers: &Triggers,
+    lobby: &Lobby,
     sides: ((Reader, Poster, Talk<C>), (Writer, Taker, Talk<C>)),
 ) -> Option<((bool, bool), bool)>
     requires map { (sides.0.0.table ≡ map.now) × (sides.1.0.table ≡ map.now) × (map.now.shape.keys ≡ 1) }
@@ -224,8 +225,6 @@ fn both_sides<C: Carries + Send, R: Threads + Wait + Sync>(
     requires carries { (note : Known) → note.table ≡ map.now → C.takes note }
     requires carried { (note : Known) → C.takes note → note.table ≡ map.now }
 {
-    let lobby = Lobby::open();
-    let lobby = &lobby;
     let ((reader, poster, here), (writer, taker, there)) = sides;
     thread::scope(
         thread::scope_env(),
@@ -269,10 +268,11 @@ fn talks<C: Carries + Send, R: Threads + Wait + Sync>(
         taker,
         reader,
         poster,
+        lobby,
     } = opened;
     let (here, there): (Talk<C>, Talk<C>) = ends(alloc)?;
     let sides = ((reader, poster, here), (writer, taker, there));
-    Ok(both_sides(rt, &map, &triggers, sides).ok_or("no thread")?)
+    Ok(both_sides(rt, &map, &triggers, &lobby, sides).ok_or("no thread")?)
 }
 
 fn talks_of_map<R: Threads + Wait + Sync>(

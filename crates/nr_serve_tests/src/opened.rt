@@ -88,6 +88,7 @@ pub(crate) struct Opened {
     pub(crate) taker: Taker,
     pub(crate) reader: Reader,
     pub(crate) poster: Poster,
+    pub(crate) lobby: Lobby,
 }
 
 impl Model for Opened {
@@ -182,6 +183,7 @@ impl Opened {
             taker,
             reader,
             poster,
+            lobby: Lobby::open(alloc)?,
         })
     }
 
@@ -220,6 +222,7 @@ impl Opened {
             taker,
             reader,
             poster,
+            lobby: Lobby::open(alloc)?,
         };
         Ok((opened, other, second))
     }
@@ -255,8 +258,8 @@ pub(crate) fn flow_ends<S: Source + Drop, R: Abort>(
     assert_eq!(rt; end_flow(flow), kept);
 }
 
-pub(crate) fn was_raised<R: Abort + Wait>(rt: &R, lobby: &Lobby, count: u64) {
-    assert_eq!(rt; lobby.count(rt), count);
+pub(crate) fn was_raised<R: Abort>(rt: &R, lobby: &Lobby, count: u64) {
+    assert_eq!(rt; lobby.count(&mut lobby.guest()), count);
 }
 
 // A get of one try.

@@ -81,6 +81,7 @@ fn both_get<R: Threads + Wait + Sync>(
     rt: &R,
     map: &ReaderMap,
     triggers: &Triggers,
+    lobby: &Lobby,
     gate: &Meeting,
     readers: (Reader, Reader),
     posters: (Poster, Poster),
@@ -89,8 +90,6 @@ fn both_get<R: Threads + Wait + Sync>(
     requires queue { (posters.0.queue ≡ triggers.now.id) × (posters.1.queue ≡ triggers.now.id) }
     requires keys { (posters.0.keys ≡ 1) × (posters.1.keys ≡ 1) }
 {
-    let lobby = Lobby::open();
-    let lobby = &lobby;
     let (one, two) = readers;
     let (first, second) = posters;
     join(
@@ -139,10 +138,19 @@ fn two_clients_meet_at_a_gate(rt: HostRuntime) -> Result<(), Fail> {
         taker: _,
         reader: mut one,
         poster: first,
+        lobby,
     } = opened;
     ask_and_fill(&rt, &map, &mut one, &mut writer);
     let gate = Meeting::new();
-    let both = both_get(&rt, &map, &triggers, &gate, (one, two), (first, second));
+    let both = both_get(
+        &rt,
+        &map,
+        &triggers,
+        &lobby,
+        &gate,
+        (one, two),
+        (first, second),
+    );
     assert_eq!(rt; both, (true, true));
     Ok(())
 }
@@ -188,7 +196,7 @@ fn loses_and_cancels<R: Wait>(
     let mut flow = Dataflow::open(map, writer, triggers, taker, source, lobby);
     let answer = flow.cancel(rt, 0);
     let (passed, is_filled) = turns_until_filled(rt, &mut flow);
-    lobby.close(rt);
+    lobby.close(&mut lobby.guest());
     end_flow(flow);
     (is_lost, answer, passed, is_filled)
 }
@@ -268,12 +276,12 @@ fn a_cancel_wakes_who_waits(rt: HostRuntime) -> Result<(), Fail> {
         taker,
         reader,
         poster,
+        lobby,
     } = opened;
-    let lobby = Lobby::open();
     let sides = both_sides(&rt, &map, &triggers, &lobby, reader, poster, writer, taker);
     let (waited, cancelled) = sides.ok_or("no thread")?;
     assert_eq!(rt; cancelled, (true, Cancel::Cancelled, 0, true));
     assert_eq!(rt; waited, (Got::Rows, 2));
-    assert_eq!(rt; lobby.count(&rt), 2);
+    assert_eq!(rt; lobby.count(&mut lobby.guest()), 2);
     Ok(())
 }

@@ -45,8 +45,8 @@ fn get_rows<R: Wait>(
     Served { got, rows, sends }
 }
 
-// The dataflow's thread: a turn takes a ticket, asks the source and fills. This one ends with the
-// first key that it filled.
+// The dataflow's thread: a turn takes a ticket, asks the source and fills, and one that finds nothing
+// sleeps until a client posts. This one ends with the first key that it filled.
 fn fill_one<R: Wait>(
     rt: &R,
     map: &ReaderMap,
@@ -61,13 +61,13 @@ fn fill_one<R: Wait>(
     let source = Shelf { b: 100 };
     let mut flow = Dataflow::open(map, writer, triggers, taker, source, lobby);
     for _ in rt.forever() {
-        match flow.turn(rt) {
+        match flow.turn_or_sleep(rt) {
             Turn::Filled(_) => break,
-            Turn::Idle | Turn::Passed(_) | Turn::Kept(_) => thread::yield_now(),
+            Turn::Idle | Turn::Passed(_) | Turn::Kept(_) => {}
         }
     }
     // Nobody fills a key from now on, so nobody may sleep for one.
-    lobby.close(rt);
+    lobby.close(&mut lobby.guest());
     let (_writer, _taker, kept, _source) = flow.end();
     if let Some(trigger) = kept {
         trigger.into_key();
@@ -85,13 +85,12 @@ fn serve_beside<R: Threads + Wait + Sync>(
     poster: Poster,
     writer: Writer,
     taker: Taker,
+    lobby: &Lobby,
 ) -> Option<Served>
     requires map { (reader.table ≡ map.now) × (writer.table ≡ map.now) × (map.now.shape.keys ≡ 2) }
     requires poster { (poster.queue ≡ triggers.now.id) × (poster.keys ≡ 2) }
     requires taker { (taker.queue ≡ triggers.now.id) × (taker.keys ≡ 2) }
 {
-    let lobby = Lobby::open();
-    let lobby = &lobby;
     thread::scope(
         thread::scope_env(),
         rt,
@@ -126,7 +125,8 @@ pub fn waited_for<R: Threads + Wait + Sync>(
         poster,
         taker,
     } = opened_server(alloc, 4)?;
-    Ok(serve_beside(rt, &map, &triggers, reader, poster, writer, taker))
+    let lobby = Lobby::open(alloc)?;
+    Ok(serve_beside(rt, &map, &triggers, reader, poster, writer, taker, &lobby))
 }
 
 pub fn show<R: Print>(rt: &R, told: &Option<Served>) -> io::Result<()> {

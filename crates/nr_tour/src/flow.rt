@@ -107,7 +107,7 @@ pub fn in_one_hand<R: Wait>(rt: &R, alloc: Global, by: &Batch) -> Result<Flowed,
         poster,
         taker,
     } = opened_server(alloc, 4)?;
-    let lobby = Lobby::open();
+    let lobby = Lobby::open(alloc)?;
     let source = Shelf { b: 100 };
     let mut client = Client::open(&map, reader, &triggers, poster, &lobby, &OpenGate);
     let mut flow = Dataflow::open(&map, writer, &triggers, taker, source, &lobby);

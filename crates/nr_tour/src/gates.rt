@@ -48,7 +48,7 @@ pub fn held_back<R: Wait>(rt: &R, alloc: Global) -> Result<Gated, OpenFault> {
     } = opened_server(alloc, 1)?;
     ask(&map, &mut reader, 0);
     let _filled = fill(&map, &mut writer, 0);
-    let lobby = Lobby::open();
+    let lobby = Lobby::open(alloc)?;
     let gate = Second {
         asked: AtomicU64::new(0),
         answered: AtomicU64::new(0),

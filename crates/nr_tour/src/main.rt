@@ -60,7 +60,7 @@ fn show_server<R: AllocGlobal + Print + Threads + Wait + Sync>(rt: &R) -> anyhow
     let rise = Batch::of(&RISE)?;
     flow::show(rt, &flow::in_one_hand(rt, alloc, &rise)?)?;
     gates::show(rt, &gates::held_back(rt, alloc)?)?;
-    lobbies::show(rt, &lobbies::raised_once(rt))?;
+    lobbies::show(rt, &lobbies::raised_once(rt, alloc)?)?;
     Ok(())
 }
 

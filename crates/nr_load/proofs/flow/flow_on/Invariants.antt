@@ -11,4 +11,5 @@ invariant-loop g l = record {
   count : ℕ;
   gained : Gained l.fn.writer.table.shape.keys l.fn.writer l.flow.writer 0 count;
   fills : l.fills ≡ capped count;
+  lobby : l.guest.lobby ≡ l.fn.shared.lobby;
 }

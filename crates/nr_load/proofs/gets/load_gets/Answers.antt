@@ -1,10 +1,8 @@
 use Rattle.std.proofs.Common.{◌≡◌, ◌+◌, ℕ, sym, ap, ◌∙◌, subst, arith}
-use Rattle.std.specs.Prelude.{MatchOption}
 use Rattle.rand_pcg.specs.Lcg.{Lcg}
-use Rattle.nr_serve.specs.declared.hands.Hands.{Hands}
 use Rattle.nr_load.specs.Drawn.{drawn, drawn_on}
 use Rattle.nr_load.specs.Works.{answers, MayGoOn, GetsKey, Works}
-use Rattle.nr_load.proofs.Working.{Begins, begins, ends, ends_with, goes_on, answers_one, faultless}
+use Rattle.nr_load.proofs.Working.{Begins, ends, goes_on, answers_one, faultless}
 use Rattle.nr_load.proofs.gets.load_gets.Goals as goal
 
 pub returns-then-is_closed-clause-works : goal.returns-then-is_closed-clause-works
@@ -35,6 +33,7 @@ loop-made-preserved g c =
       queue = got.ensures.places.1 ∙ i.queue;
       opened = got.ensures.places.2 ∙ i.opened;
       keys = got.ensures.draws.0 ∙ i.keys;
+      lobby = c.is_closed.ensures.later.lobby ∙ i.lobby;
       few = omega (arith, i.few, c.answers_of-answered.ensures, answers_one got.result.0);
       begun = subst (λ (x : ℕ). Begins 1000000 c.args.draws.now.keys (c.loop-made.made + 1) c.args.draws.now.generator
           (c.loop-made.answered + x) c.args.client.now.hands got.new.client.hands got.new.draws.generator) (sym c.answers_of-answered.ensures)

@@ -8,6 +8,7 @@ invariant-loop-made g l = record {
   queue : l.client.queue ≡ l.fn.client.queue;
   opened : l.client.opened ≡ l.fn.client.opened;
   keys : l.draws.keys ≡ l.fn.draws.keys;
+  lobby : l.guest.lobby ≡ l.fn.lobby;
   few : l.answered ≤ l.made;
   begun : Begins 1000000 l.fn.draws.keys l.made l.fn.draws.generator l.answered l.fn.client.hands l.client.hands l.draws.generator;
 }

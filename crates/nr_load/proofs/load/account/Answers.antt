@@ -1,4 +1,4 @@
-use Rattle.std.proofs.Common.{◌≡◌, List, ◌∙◌, subst, arith}
+use Rattle.std.proofs.Common.{List, subst, arith}
 use Rattle.nr_board.specs.Callers.{Caller}
 use Rattle.nr_tally.specs.Balance.{StaysEach}
 use Rattle.nr_load.proofs.Balancing.{accounts, balanced, exact}

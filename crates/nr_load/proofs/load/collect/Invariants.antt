@@ -1,4 +1,4 @@
-use Rattle.std.proofs.Common.{◌≡◌, ◌+◌, ◌≤◌, ◌++◌, List, length, map, None, vec_len, vec_items, vec_capacity}
+use Rattle.std.proofs.Common.{◌≡◌, ◌+◌, ◌≤◌, ◌++◌, length, map, None, vec_len, vec_items, vec_capacity}
 use Rattle.std.specs.Vec.Iter.{into_iter_items, into_iter_len}
 use Rattle.nr_load.specs.Outcomes.{answered_in, earliest, made_in, reader_of, sends_in}
 use Rattle.nr_load.proofs.load.collect.Given as goal

@@ -1,0 +1,150 @@
+-- Each step on the counts of a lobby keeps their rule.
+use Rattle.std.proofs.Common.{◌≡◌, ◌≢◌, ℕ, ◌+◌, ◌<◌, ◌≤◌, max, eqb, cond, zero, suc, List, [], ◌∷◌, ◌++◌, MatchBool, set, slice_index, refl, sym, ap, ◌∙◌, subst, arith, ⊎_elim, append-nil, length-set, replicate, eq-eqb, ne_eqb, le_refl, le_trans, zero-le}
+use Rattle.std.proofs.lemmas.List.{length-replicate, get_or-set_same, get_or-set_other}
+use mathlib.Core.Logic.{dite}
+use mathlib.Core.Option.{none, some, some-injective, some-ne-none}
+use lib.ListN.{get_elem?}
+use native.Mathlib.Decide.{ℕ_discrete}
+use prog.Atomic.{either}
+use Rattle.atomic_table.specs.Table.{Allows, Enters, Me, State, keeps, step, stepped, opening}
+use Rattle.atomic_table.proofs.Lists.{at_set, at_snoc}
+use Rattle.nr_machine.specs.Sums.{total}
+use Rattle.nr_serve.specs.Hands.{capped, last_count}
+use Rattle.nr_serve.specs.Counts.{AreCounts, IsLater, Visit, closed_at, has_closed, has_looked, has_raised, how_often, newcomer}
+use Rattle.nr_serve.proofs.Totals.{how_often-append, total-set, total-snoc}
+
+abbrev pub S : Type 0
+S = State (Unit {0}) Visit
+
+abbrev pub raised_at : ℕ → Visit → ℕ
+raised_at place visit = how_often place visit.raised
+
+-- a guest that saw all numbers now, and raised these counts
+abbrev pub after : List ℕ → Visit → List ℕ → Visit
+after words visit more = record { seen = words; raised = visit.raised ++ more }
+
+-- the number at a place goes up, and the guest raises these counts
+module _ (state : S) (are : AreCounts state) (i n id : ℕ) (me : Me (Unit {0}) Visit) (more : List ℕ) (there : get_elem? state.views id ≡ some me.0) (inside : i < 528) (up : slice_index state.words i ≤ n) where
+  abbrev pub words : List ℕ
+  words = set state.words i n
+
+  abbrev pub visit : Visit
+  visit = after words me.0 more
+
+  here : slice_index words i ≡ n
+  here = get_or-set_same state.words i n 0 (omega (arith, are.size))
+
+  elsewhere : (place : ℕ) → place ≢ i → slice_index words place ≡ slice_index state.words place
+  elsewhere place other = get_or-set_other state.words i place n 0 other
+
+  later : IsLater state.words words
+  later place = dite (ℕ_discrete place i) (λ same. subst (λ (at : ℕ). slice_index state.words at ≤ slice_index words at) (sym same) (omega (arith, here, up))) (λ other. omega (arith, elsewhere place other))
+
+  more_raised : (place : ℕ) → total (raised_at place) (set state.views id visit) ≡ total (raised_at place) state.views + how_often place more
+  more_raised place = omega (arith, total-set (raised_at place) state.views id me.0 visit there, how_often-append place me.0.raised more)
+
+  pub still_counts : (i ≢ closed_at → n ≡ capped (total (raised_at i) state.views + how_often i more))
+      → ((place : ℕ) → place ≢ i → place ≢ closed_at → how_often place more ≡ 0)
+      → (i ≢ closed_at → n ≡ last_count → 0 < slice_index state.words closed_at)
+      → AreCounts (stepped state i n id me.1 visit keeps)
+  still_counts counts none_else closes = record {
+    size = length-set state.words i n ∙ are.size;
+    counted = λ place count. dite (ℕ_discrete place i)
+        (λ same. subst (λ (at : ℕ). slice_index words at ≡ capped (total (raised_at at) (set state.views id visit))) (sym same)
+        (here ∙ counts (λ closed. count (same ∙ closed)) ∙ ap capped (sym (more_raised i))))
+        (λ other. let none = none_else place other count in let sum = more_raised place in let same : total (raised_at place) (set state.views id visit) ≡ total (raised_at place) state.views = omega (arith, none, sum) in
+        elsewhere place other ∙ are.counted place count ∙ ap capped (sym same));
+    last = λ place count at_last. let closed : 0 < slice_index state.words closed_at = dite (ℕ_discrete place i)
+        (λ same. closes (λ closed. count (same ∙ closed)) (sym here ∙ ap (λ (at : ℕ). slice_index words at) (sym same) ∙ at_last))
+        (λ other. are.last place count (sym (elsewhere place other) ∙ at_last)) in
+        let kept = later closed_at in omega (arith, closed, kept);
+    seen = λ other known at. ⊎_elim
+        (λ mine. subst (λ (v : Visit). IsLater v.seen words) mine.1 (λ place. le_refl (slice_index words place)))
+        (λ was. λ place. le_trans (are.seen other known was.1 place) (later place))
+        (at_set state.views id other visit known at);
+  }
+
+  pub sees_more : IsLater me.0.seen words
+  sees_more place = le_trans (are.seen id me.0 there place) (later place)
+
+module _ (id : ℕ) (me : Me (Unit {0}) Visit) where
+  -- a load
+  pub looks : (slots place : ℕ) → place < 528 → Allows AreCounts slots id me place (λ n. n) (has_looked (step slots place 0 0 none) me)
+  looks slots place inside state are _ there _ = let n : ℕ = slice_index state.words place in (
+    after (set state.words place n) me.0 [],
+    keeps,
+    tt,
+    still_counts state are place n id me [] there inside (le_refl n) (λ count. let is = are.counted place count in omega (arith, is)) (λ other _ _. refl) (λ count. are.last place count),
+    (sees_more state are place n id me [] there inside (le_refl n), append-nil me.0.raised, here state are place n id me [] there inside (le_refl n)),
+  )
+
+  -- the lobby is closed
+  pub closes : (slots : ℕ) → Allows AreCounts slots id me closed_at (λ n. max n 1) (has_closed (step slots closed_at 1 0 none) me)
+  closes slots state are _ there _ =
+      let n : ℕ = max (slice_index state.words closed_at) 1 in
+      let up : slice_index state.words closed_at ≤ n = omega arith in
+      let inside : closed_at < 528 = omega arith in (
+        after (set state.words closed_at n) me.0 [],
+        keeps,
+        tt,
+        still_counts state are closed_at n id me [] there inside up (λ count. absurd (count refl)) (λ other _ _. refl) (λ count. absurd (count refl)),
+        (sees_more state are closed_at n id me [] there inside up, append-nil me.0.raised, let is = here state are closed_at n id me [] there inside up in omega (arith, is)),
+      )
+
+  -- a compare-exchange, which raises a count if it finds the number that was expected
+  pub raises : (slots place count next : ℕ) → place < 528 → place ≢ closed_at → next ≡ capped (count + 1) → (next ≡ last_count → 0 < slice_index me.0.seen closed_at)
+      → Allows AreCounts slots id me place (λ n. either (eqb n count) next n) (has_raised (step slots place count next none) me)
+  raises slots place count next inside is_count next_is closed state are _ there small =
+      let n : ℕ = slice_index state.words place in
+      dite (ℕ_discrete n count)
+      (λ hit. let up : n ≤ next = omega (arith, hit, next_is, small) in
+      let one : how_often place (place ∷ []) ≡ 1 = ap (λ (b : _). cond b 1 0 + 0) (eq-eqb place place refl) in
+      let sum = are.counted place is_count in
+      let known = are.seen id me.0 there closed_at in (
+        after (set state.words place next) me.0 (place ∷ []),
+        keeps,
+        tt,
+        subst (λ (b : _). AreCounts (stepped state place (either b next n) id me.1 (after (set state.words place next) me.0 (place ∷ [])) keeps)) (sym (eq-eqb n count hit))
+            (still_counts state are place next id me (place ∷ []) there inside up (λ _. omega (arith, hit, next_is, one, sum)) (λ other not _. ap (λ (b : _). cond b 1 0 + 0) (ne_eqb place other (λ same. not (sym same)))) (λ _ at_last. let seen = closed at_last in omega (arith, seen, known))),
+        (sees_more state are place next id me (place ∷ []) there inside up, subst (λ (b : _). MatchBool b (me.0.raised ++ place ∷ [] ≡ me.0.raised ++ place ∷ []) (me.0.raised ++ place ∷ [] ≡ me.0.raised)) (sym (eq-eqb n count hit)) refl),
+      ))
+      (λ miss. (
+        after (set state.words place n) me.0 [],
+        keeps,
+        tt,
+        subst (λ (b : _). AreCounts (stepped state place (either b next n) id me.1 (after (set state.words place n) me.0 []) keeps)) (sym (ne_eqb n count miss))
+            (still_counts state are place n id me [] there inside (le_refl n) (λ is. let sum = are.counted place is in omega (arith, sum)) (λ other _ _. refl) (λ is. are.last place is)),
+        (sees_more state are place n id me [] there inside (le_refl n), subst (λ (b : _). MatchBool b (me.0.raised ++ [] ≡ me.0.raised ++ place ∷ []) (me.0.raised ++ [] ≡ me.0.raised)) (sym (ne_eqb n count miss)) (append-nil me.0.raised)),
+      ))
+
+-- a new guest
+pub enters : (slots place : ℕ) → Enters AreCounts slots place (λ n visit. has_looked (step slots place 0 0 none) (newcomer, []) n (visit, []))
+enters slots place state are _ _ =
+    let visit : Visit = record { seen = state.words; raised = [] } in (
+      visit,
+      record {
+        size = are.size;
+        counted = λ at count. let is = are.counted at count in let sum = total-snoc (raised_at at) state.views visit in omega (arith, is, sum);
+        last = are.last;
+        seen = λ id known at. ⊎_elim (λ was. are.seen id known was) (λ mine. subst (λ (v : Visit). IsLater v.seen state.words) mine (λ other. le_refl (slice_index state.words other))) (at_snoc state.views visit known id at);
+      },
+      ((λ other. zero-le), refl, refl),
+    )
+
+zeros : (n place : ℕ) → slice_index (replicate n 0) place ≡ 0
+zeros zero place = refl
+zeros (suc n) zero = refl
+zeros (suc n) (suc place) = zeros n place
+
+-- all counts are 0 in a new lobby
+pub opens : AreCounts (opening (replicate 528 0) [] newcomer)
+opens = record {
+  size = length-replicate {A = ℕ} 528 0;
+  counted = λ place _. zeros 528 place;
+  last = λ place _ at_last. let is = zeros 528 place in absurd (omega (arith, is, at_last));
+  seen = λ id known at. subst (λ (v : Visit). IsLater v.seen (replicate 528 0)) (only_first id known at) (λ place. zero-le);
+}
+  where
+    only_first : (id : ℕ) (known : Visit) → get_elem? (newcomer ∷ []) id ≡ some known → newcomer ≡ known
+    only_first zero known at = some-injective newcomer known at
+    only_first (suc id) known at = absurd (some-ne-none known (sym at))

@@ -1,0 +1,75 @@
+-- The counts of a lobby: what holds of them, and what those who raise them know.
+use Rattle.std.specs.Prelude.{◌≡◌, ◌≢◌, ◌<◌, ◌≤◌, ◌==◌, ◌+◌, ◌*◌, ◌%◌, ℕ, zero, suc, List, [], ◌∷◌, ◌++◌, MatchBool, length, slice_index}
+use mathlib.Core.Option.{some}
+use lib.ListN.{get_elem?}
+use Rattle.atomic_table.specs.Seated.{TableId}
+use Rattle.atomic_table.specs.Table.{Me, State, Step}
+use Rattle.nr_machine.specs.Sums.{only, total}
+use Rattle.nr_serve.specs.Hands.{capped, last_count}
+
+-- what a guest knows: each number as it last saw them all, and the places of the counts that it raised, oldest first
+pub record Visit : Type 0 where
+  pub seen : List ℕ
+  pub raised : List ℕ
+
+pub record GuestSeen : Type 0 where
+  -- its lobby
+  pub lobby : TableId
+  pub seen : List ℕ
+  pub raised : List ℕ
+
+abbrev pub newcomer : Visit
+newcomer = record { seen = []; raised = [] }
+
+-- the place of the number that is above 0 once the lobby is closed; at each other place is a count
+abbrev pub closed_at : ℕ
+closed_at = 520
+
+abbrev pub how_often : ℕ → List ℕ → ℕ
+how_often place [] = 0
+how_often place (other ∷ others) = only place other + how_often place others
+
+-- no number went down
+abbrev pub IsLater : List ℕ → List ℕ → Type 0
+IsLater old new = (place : ℕ) → slice_index old place ≤ slice_index new place
+
+-- the same guest, later
+pub record IsLaterOf (old new : GuestSeen) : Type 0 where
+  pub lobby : new.lobby ≡ old.lobby
+  pub seen : IsLater old.seen new.seen
+
+-- the place of the count of a key's group, and of the count of the whole lobby
+abbrev pub group_at : ℕ → ℕ
+group_at key = 8 * (key % 64)
+
+abbrev pub whole_at : ℕ
+whole_at = 512
+
+-- the counts that are raised for a key
+abbrev pub raises_for : ℕ → List ℕ
+raises_for key = group_at key ∷ whole_at ∷ []
+
+-- the places of the counts of so many groups
+abbrev pub groups_below : ℕ → List ℕ
+groups_below zero = []
+groups_below (suc n) = groups_below n ++ (8 * n) ∷ []
+
+pub record AreCounts (state : State (Unit {0}) Visit) : Type 0 where
+  pub size : length state.words ≡ 528
+  -- a count is how often the guests raised it, all together, up to the last number
+  pub counted : (place : ℕ) → place ≢ closed_at → slice_index state.words place ≡ capped (total (λ visit. how_often place visit.raised) state.views)
+  -- a count that has reached the last number closed the lobby
+  pub last : (place : ℕ) → place ≢ closed_at → slice_index state.words place ≡ last_count → 0 < slice_index state.words closed_at
+  pub seen : (id : ℕ) (visit : Visit) → get_elem? state.views id ≡ some visit → IsLater visit.seen state.words
+
+-- a step that raises nothing, and finds this number
+abbrev pub has_looked : Step (Unit {0}) → Me (Unit {0}) Visit → ℕ → Me (Unit {0}) Visit → Type 0
+has_looked step old found new = IsLater old.0.seen new.0.seen × (new.0.raised ≡ old.0.raised) × (slice_index new.0.seen step.word ≡ found)
+
+-- a step that closes the lobby
+abbrev pub has_closed : Step (Unit {0}) → Me (Unit {0}) Visit → ℕ → Me (Unit {0}) Visit → Type 0
+has_closed step old found new = IsLater old.0.seen new.0.seen × (new.0.raised ≡ old.0.raised) × (0 < slice_index new.0.seen step.word)
+
+-- a step that raises the count if it finds the number that it expects
+abbrev pub has_raised : Step (Unit {0}) → Me (Unit {0}) Visit → ℕ → Me (Unit {0}) Visit → Type 0
+has_raised step old found new = IsLater old.0.seen new.0.seen × MatchBool (found == step.first) (new.0.raised ≡ old.0.raised ++ step.word ∷ []) (new.0.raised ≡ old.0.raised)
