@@ -8,10 +8,12 @@
      to it.
    - a live handle is used by one call at a time. It goes to another thread by that thread's start or
      join, by a lock, or by a sequentially consistent atomic.
-   - a key is below the keys that the map, or the queue, was opened with.
    - a pointer leads to one value of its type that nobody else uses during the call; `rows` and `deltas`
      lead to as many as the number after them says, which nobody writes during the call.
    - no call is made from a signal handler, or in the forked child of a process with threads.
+
+   Each call that takes a key answers NR_NO_KEY, without a step, where the map, or the queue, wasn't opened
+   with so many keys; nothing has changed then, and what the call would have told stays as it was.
 
    A step is one atomic operation on one 64-bit word. No call takes a lock or waits, and none but those
    that open takes memory. Link: libnr.a (or libnr.so), and nothing else but the C library. For x86-64
@@ -56,6 +58,47 @@ extern "C" {
 #define NR_NOT_POSTED 24u /* the queue is full, or another thread is in the way */
 #define NR_NOT_TAKEN 25u /* the queue is empty, or another thread is in the way */
 #define NR_OTHER 26u     /* the key hasn't, or no more, the set that the reader holds */
+#define NR_NO_KEY 27u    /* the map, or the queue, has no such key */
+
+/* An answer in words. */
+static inline const char *nr_strerror(uint32_t answer) {
+  switch (answer) {
+  case NR_ROWS: return "the key has rows";
+  case NR_HOLE: return "the key is not filled";
+  case NR_SEND: return "the request is to be sent";
+  case NR_WAITING: return "a request is under way";
+  case NR_FILLED: return "the key is filled";
+  case NR_DONE: return "done";
+  case NR_NOT_ASKED: return "nobody asked for the key";
+  case NR_ALREADY: return "the key is filled already";
+  case NR_STALE: return "the fill names another request than the key's";
+  case NR_DROPPED: return "the key is not filled, so the update is dropped";
+  case NR_NO_ROW: return "no such row";
+  case NR_TOO_MANY: return "more rows than a key may have";
+  case NR_NO_SLOT: return "each slot is a filled key's or held by a reader";
+  case NR_EVICTED: return "the key is a hole now";
+  case NR_CANCELLED: return "the request is taken back";
+  case NR_NOTHING: return "there was nothing to evict or to cancel";
+  case NR_WORN: return "the request has the last number";
+  case NR_ASKED: return "the key is asked for";
+  case NR_BAD_BATCH: return "no signed rows, or more than 64";
+  case NR_NOT_SORTED: return "the rows are not in order";
+  case NR_BAD_SIZE: return "a size is out of its limits";
+  case NR_NO_MEMORY: return "there is no memory";
+  case NR_NO_READER: return "each reader has a handle";
+  case NR_NO_POSTER: return "each poster has a handle";
+  case NR_NOT_POSTED: return "the queue is full, or another thread is in the way";
+  case NR_NOT_TAKEN: return "the queue is empty, or another thread is in the way";
+  case NR_OTHER: return "the key hasn't the set that is held";
+  case NR_NO_KEY: return "there is no such key";
+  default: return "no answer of this library";
+  }
+}
+
+/* The version of this header, 0.1.0, whose three numbers have 8 bits each; and that for which the library was
+   made. Both are to be the same. */
+#define NR_VERSION 0x000100
+uint32_t nr_version(void);
 
 /* VALUES */
 
@@ -123,8 +166,8 @@ typedef struct nr_poster {
    has the dataflow sleep while nothing is posted.
    No slot: nothing has changed. Evict a key or have readers release what they hold, and call again.
    Keys that are hot together: give them numbers at least eight apart, since eight neighbours share a
-   line of the cache and each find writes its key's word. A reader that holds a hot key's set finds it
-   again by nr_again, which writes nothing.
+   line of the cache and each find writes its key's word. A reader of its own for a hot key finds it by
+   nr_find_kept, which writes nothing while the key keeps its set.
    To fill keys before anybody reads: request each by a reader (nr_ask), and fill it by the number told.
    Rows that refer to data of your own: who finds a set sees all that the writer's thread had written to
    memory before it put the set. When no reader holds a replaced set any more, the map doesn't tell.
@@ -148,7 +191,7 @@ uint32_t nr_open_reader(nr_writer *writer, nr_reader *reader);
 void nr_close_reader(nr_reader reader);
 void nr_close_writer(nr_writer writer);
 
-/* WHAT A READER CALLS. Owed: `reader` is live and holds no set, `key` is below the map's keys. */
+/* WHAT A READER CALLS. Owed: `reader` is live and holds no set. */
 
 /* Looks a key up. NR_ROWS, and `rows` has its rows, after 2n + 3 steps for n of them; NR_HOLE after 1
    step, and `rows` stays as it was. */
@@ -168,11 +211,21 @@ uint32_t nr_pin(nr_reader *reader, uint32_t key, uint32_t *count);
    and `row` stays. Owed: `reader` is live and holds a set. */
 uint32_t nr_row_at(nr_reader *reader, uint32_t place, nr_row *row);
 
+/* Writes the rows of the held set into `rows`, in 2 steps a row: NR_ROWS. Owed: `reader` is live and holds a set. */
+uint32_t nr_copy(nr_reader *reader, nr_rows *rows);
+
 /* Finds a key again, in 1 step, which loads one word and writes none. NR_ROWS where the key still has
    the set that the reader holds, put by the same fill or update: this is a find of the key, and its
    rows are those of the held set. NR_OTHER where it hasn't. The reader holds the same set in either
-   case. Owed: the handle is live and its reader holds a set; `key` is below the map's keys. */
+   case. Owed: `reader` is live and holds a set. */
 uint32_t nr_again(nr_reader *reader, uint32_t key);
+
+/* As nr_find, but the reader holds the set for the next call. Where the key still has the set that the
+   reader holds, NR_ROWS after 2n + 1 steps, which write no word. Else what was held is let go: NR_ROWS
+   after 2n + 2 steps; NR_HOLE after 1, and then the reader holds nothing and `rows` stays; 2 steps more
+   where something was held. A set that is held keeps its slot from being used anew, so a reader that
+   finds nothing for a while is to be released. Owed: `reader` is live, holding a set or not. */
+uint32_t nr_find_kept(nr_reader *reader, uint32_t key, nr_rows *rows);
 
 /* Ends the hold, in 1 step. Owed: `reader` is live and holds a set. A reader that is closed while it
    holds a set is released. */
@@ -181,7 +234,7 @@ void nr_release(nr_reader *reader);
 /* The map's sizes. No step. Owed: `reader` is live. */
 void nr_sizes(nr_reader *reader, nr_size *sizes);
 
-/* WHAT THE WRITER CALLS. Owed: `writer` is live, `key` is below the map's keys. */
+/* WHAT THE WRITER CALLS. Owed: `writer` is live. */
 
 /* The writer's own find. NR_ROWS after 2n + 2 steps for n rows; NR_HOLE after 1, and `rows` stays as it
    was. */
@@ -209,9 +262,9 @@ uint32_t nr_cancel(nr_writer *writer, uint32_t key);
 /* What a key is, in 1 step: NR_HOLE, NR_ASKED or NR_ROWS. */
 uint32_t nr_state(nr_writer *writer, uint32_t key);
 
-/* The number of a key's request, or of its next one where nobody asks: its fill has to name that number. No
-   step. */
-uint64_t nr_number(nr_writer *writer, uint32_t key);
+/* NR_DONE, and `number` is the number of the key's request, or of its next one where nobody asks: its fill
+   has to name that number. No step. */
+uint32_t nr_number(nr_writer *writer, uint32_t key, uint64_t *number);
 
 /* WHICH READS SEE WHICH WRITES. A call of the writer that returned is seen by each find that begins after a
    message about it came: by a thread's start or join, a lock, or a sequentially consistent or a release and
@@ -253,7 +306,7 @@ void nr_close_poster(nr_poster poster);
 void nr_close_taker(nr_taker taker);
 
 /* Puts a request at the back. NR_DONE; NR_NOT_POSTED, also once the queue has carried 2^62 of them. Owed:
-   `poster` is live, `key` is below the queue's keys. */
+   `poster` is live. */
 uint32_t nr_post(nr_poster *poster, uint32_t key, uint64_t number);
 
 /* Takes the request at the front. NR_DONE, and `key` and `number` are its own; NR_NOT_TAKEN, and they stay

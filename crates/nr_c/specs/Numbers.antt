@@ -81,3 +81,10 @@ answer_not_taken = 25
 
 abbrev pub answer_other : ℕ
 answer_other = 26
+
+abbrev pub answer_no_key : ℕ
+answer_no_key = 27
+
+-- the version 0.1.0, whose numbers have 8 bits each
+abbrev pub version : ℕ
+version = 256

@@ -86,6 +86,9 @@ pub const NR_NOT_TAKEN: u32 = 25;
 /// To a find again: the key has not, or no more, the set that the reader holds.
 pub const NR_OTHER: u32 = 26;
 
+/// To a call that takes a key: the map, or the queue, has no such key.
+pub const NR_NO_KEY: u32 = 27;
+
 pub fn of_found(found: Found) -> u32
     ensures { result ≡ found_code found }
 {

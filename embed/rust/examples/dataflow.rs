@@ -1,6 +1,7 @@
 //! Two readers and a dataflow over one map. A reader that finds a key missing requests it; the first to do so posts its
 //! ticket, and the dataflow takes it and fills the key.
 use nr::{Asked, Poster, Queue, Reader, ReaderMap, Row, Rows, Shape, Taker, Ticket, Writer};
+use std::error::Error;
 use std::thread;
 
 const KEYS: u32 = 1000;
@@ -31,23 +32,23 @@ fn read(mut reader: Reader, mut poster: Poster) {
 }
 
 /// Fills each key once, as it is requested.
-fn fill(writer: &mut Writer, taker: &mut Taker) -> Result<(), nr::Fault> {
+fn fill(writer: &mut Writer, taker: &mut Taker) -> Result<(), Box<dyn Error>> {
     let mut filled = 0;
     while filled < KEYS {
         let Some(ticket) = taker.take() else {
             thread::yield_now();
             continue;
         };
-        let rows = rows_of(ticket.key);
+        let rows = rows_of(ticket.key());
         writer.fill(ticket, &rows)?;
         filled += 1;
     }
     Ok(())
 }
 
-fn main() -> Result<(), nr::Fault> {
+fn main() -> Result<(), Box<dyn Error>> {
     let ReaderMap { mut writer, readers } = ReaderMap::open(&Shape::new(KEYS, KEYS + 3, 2))?;
-    let Queue { mut taker, posters } = Queue::open(KEYS, KEYS, 2)?;
+    let Queue { mut taker, posters } = Queue::open(&writer, KEYS, 2)?;
     thread::scope(|scope| {
         for (reader, poster) in readers.into_iter().zip(posters) {
             scope.spawn(move || read(reader, poster));

@@ -1,20 +1,31 @@
 //! What calls answer.
-use crate::ffi;
+use crate::{ffi, Ticket};
 use std::fmt;
 
 /// Why a call is refused.
 #[derive(Clone, Copy, Debug, PartialEq, Eq)]
 pub enum Fault {
+    /// Nobody asked for the key, or the request was taken back.
     NotAsked,
+    /// The key is filled.
     Already,
+    /// The request that it answers was taken back, and there is another.
     Stale,
+    /// The key is not filled, so the update is dropped.
     Dropped,
+    /// A row to be taken away is not there.
     NoRow,
+    /// More rows than a key of the map may have.
     TooMany,
+    /// Each slot is a filled key's or held by a reader.
     NoSlot,
+    /// No signed rows, or more than 64.
     BadBatch,
+    /// A row is below the one before it.
     NotSorted,
+    /// A size is out of its limits.
     BadSize,
+    /// There is no memory.
     NoMemory,
 }
 
@@ -56,34 +67,36 @@ pub(crate) fn done(code: u32) -> Result<(), Fault> {
     })
 }
 
-/// A request that is to be sent, with the number by which it is filled.
-#[derive(Debug, PartialEq, Eq)]
-#[must_use]
-pub struct Ticket {
-    pub key: u32,
-    pub number: u64,
-}
-
 /// The answer to a request.
-#[derive(Debug)]
+#[derive(Debug, PartialEq, Eq)]
+#[must_use = "where it is `Send`, its ticket is to be sent"]
 pub enum Asked {
+    /// Nobody asked since the key became a hole: this ticket is to be sent to whoever fills it.
     Send(Ticket),
+    /// A request is under way.
     Waiting,
+    /// The key is filled.
     Filled,
 }
 
 /// What a key is.
 #[derive(Clone, Copy, Debug, PartialEq, Eq)]
 pub enum KeyKind {
+    /// It has no rows, and nobody asks for them.
     Hole,
+    /// A request is under way.
     Asked,
+    /// It is filled.
     Rows,
 }
 
 /// The answer to a cancel.
 #[derive(Clone, Copy, Debug, PartialEq, Eq)]
 pub enum Cancel {
+    /// The request is taken back: the next one is sent anew, and the old ticket fills nothing.
     Cancelled,
+    /// Nobody asks for the key.
     Nothing,
+    /// The request has the last number, 4,194,303: its own fill alone ends it.
     Worn,
 }

@@ -2,8 +2,10 @@
 use crate::{Delta, Row, Rows, Shape, Sizes};
 use std::ffi::c_void;
 
-/// Where a handle leads.
-#[repr(C)]
+/// A handle of any kind. Each token of this crate opens one as it is made, so that it is live, and closes it as it is
+/// dropped.
+#[repr(transparent)]
+#[derive(Debug)]
 pub struct Handle(*mut c_void);
 
 impl Handle {
@@ -48,6 +50,7 @@ extern "C" {
     pub fn nr_pin(reader: *mut Handle, key: u32, count: *mut u32) -> u32;
     pub fn nr_row_at(reader: *mut Handle, place: u32, row: *mut Row) -> u32;
     pub fn nr_again(reader: *mut Handle, key: u32) -> u32;
+    pub fn nr_find_kept(reader: *mut Handle, key: u32, rows: *mut Rows) -> u32;
     pub fn nr_release(reader: *mut Handle);
     pub fn nr_look(writer: *mut Handle, key: u32, rows: *mut Rows) -> u32;
     pub fn nr_fill(writer: *mut Handle, key: u32, number: u64, rows: *const Row, n: usize) -> u32;
@@ -55,7 +58,7 @@ extern "C" {
     pub fn nr_evict(writer: *mut Handle, key: u32) -> u32;
     pub fn nr_cancel(writer: *mut Handle, key: u32) -> u32;
     pub fn nr_state(writer: *mut Handle, key: u32) -> u32;
-    pub fn nr_number(writer: *mut Handle, key: u32) -> u64;
+    pub fn nr_number(writer: *mut Handle, key: u32, number: *mut u64) -> u32;
     pub fn nr_sizes(reader: *mut Handle, sizes: *mut Sizes);
     pub fn nr_meet(reader: *mut Handle, writer: *mut Handle);
     pub fn nr_meet_readers(reader: *mut Handle, other: *mut Handle);

@@ -7,7 +7,7 @@
 //! use nr::{Asked, Queue, ReaderMap, Row, Rows, Shape};
 //!
 //! let ReaderMap { mut writer, mut readers } = ReaderMap::open(&Shape::new(2, 4, 1))?;
-//! let Queue { mut taker, mut posters } = Queue::open(2, 2, 1)?;
+//! let Queue { mut taker, mut posters } = Queue::open(&writer, 2, 1)?;
 //! let mut rows = Rows::new();
 //! assert!(readers[0].find(0, &mut rows).is_none());
 //! let Asked::Send(ticket) = readers[0].ask(0) else { panic!() };
@@ -16,15 +16,33 @@
 //! writer.fill(ticket, &[Row { a: 3, b: 9 }, Row { a: 7, b: 1 }])?;
 //! assert_eq!(readers[0].find(0, &mut rows), Some(&[Row { a: 3, b: 9 }, Row { a: 7, b: 1 }][..]));
 //!
-//! let mut pin = readers[0].pin(0).unwrap();
+//! let mut pin = readers[0].pin(0).expect("the key is filled");
 //! writer.evict(0);
 //! assert_eq!(pin.row(1), Some(Row { a: 7, b: 1 }));
-//! # Ok::<(), nr::Fault>(())
+//! # Ok::<(), Box<dyn std::error::Error>>(())
+//! ```
+//!
+//! Where no slot is to be had a fill gives its ticket back, and one that was lost is taken back by a cancel:
+//!
+//! ```
+//! # use nr::{Asked, Cancel, Fault, ReaderMap, Row, Shape, Unfilled};
+//! let ReaderMap { mut writer, mut readers } = ReaderMap::open(&Shape::new(2, 1, 1))?;
+//! let [Asked::Send(one), Asked::Send(two)] = [0, 1].map(|key| readers[0].ask(key)) else { panic!() };
+//! writer.fill(one, &[])?;
+//! let Err(Unfilled { fault: Fault::NoSlot, ticket: two }) = writer.fill(two, &[]) else { panic!() };
+//! writer.evict(0);
+//! writer.fill(two, &[])?;
+//!
+//! drop(readers[0].ask(0));
+//! assert_eq!(readers[0].ask(0), Asked::Waiting);
+//! assert_eq!(writer.cancel(0), Cancel::Cancelled);
+//! assert!(matches!(readers[0].ask(0), Asked::Send(_)));
+//! # Ok::<(), Box<dyn std::error::Error>>(())
 //! ```
 //!
 //! Tokens go from thread to thread, but two threads never use one at a time:
 //!
-//! ```compile_fail
+//! ```compile_fail,E0277
 //! let readers = nr::ReaderMap::open(&nr::Shape::new(1, 3, 1)).unwrap().readers;
 //! std::thread::scope(|scope| {
 //!     scope.spawn(|| readers.len());
@@ -33,22 +51,51 @@
 //!
 //! and a reader has one pin at a time, which borrows it:
 //!
-//! ```compile_fail
+//! ```compile_fail,E0499
 //! let mut readers = nr::ReaderMap::open(&nr::Shape::new(1, 3, 1)).unwrap().readers;
 //! let pin = readers[0].pin(0);
-//! readers[0].ask(0);
+//! let _ = readers[0].ask(0);
 //! drop(pin);
+//! ```
+//!
+//! A ticket is made by a request alone, and there is one of it:
+//!
+//! ```compile_fail,E0451
+//! fn forged(ticket: nr::Ticket) -> nr::Ticket {
+//!     nr::Ticket { key: 1, ..ticket }
+//! }
+//! ```
+//!
+//! ```compile_fail,E0599
+//! fn twice(ticket: nr::Ticket) -> [nr::Ticket; 2] {
+//!     [ticket.clone(), ticket]
+//! }
+//! ```
+//!
+//! ```compile_fail,E0382
+//! fn twice(writer: &mut nr::Writer, ticket: nr::Ticket) {
+//!     let _ = (writer.fill(ticket, &[]), writer.fill(ticket, &[]));
+//! }
 //! ```
 
 mod answers;
+mod ends;
 mod ffi;
 mod map;
 mod queue;
+mod reader;
 mod rows;
+mod shared_queue;
 #[cfg(test)]
 mod tests;
+mod ticket;
+mod writer;
 
-pub use answers::{Asked, Cancel, Fault, KeyKind, Ticket};
-pub use map::{Pin, Reader, ReaderMap, Writer};
+pub use answers::{Asked, Cancel, Fault, KeyKind};
+pub use map::ReaderMap;
 pub use queue::{Poster, Queue, Taker};
+pub use reader::{Pin, Reader};
 pub use rows::{Delta, Row, Rows, Shape, Sizes};
+pub use shared_queue::{SharedPoster, SharedQueue, SharedTaker};
+pub use ticket::{Ticket, Unfilled};
+pub use writer::Writer;

@@ -1,77 +1,60 @@
-//! Requests on their way to whoever fills them.
-use crate::answers::{done, Fault, Ticket};
-use crate::ffi::{self, Handle};
+//! Requests of one map on their way to whoever fills them.
+use crate::ends::{self, In, Out};
+use crate::map::Map;
+use crate::{Fault, Ticket, Writer};
 
 /// A queue's tokens as they come: its taker, and its posters, which share its memory. It goes with the last of
 /// them, and so do the tickets that it holds.
+#[derive(Debug)]
 pub struct Queue {
+    /// The one that takes.
     pub taker: Taker,
+    /// Those that post, each for a thread of its own.
     pub posters: Vec<Poster>,
 }
 
 impl Queue {
-    /// Opens a queue for 1 to 65,536 tickets of keys below `keys`, with 1 to 1,024 posters. Refused with `BadSize` or
-    /// `NoMemory`.
-    pub fn open(keys: u32, capacity: u32, posters: u32) -> Result<Queue, Fault> {
-        let mut handle = Handle::empty();
-        done(unsafe { ffi::nr_open_queue(keys, capacity, posters, &mut handle) })?;
-        let mut taker = Taker { handle };
-        let posters = (0..posters).map(|_| taker.open_poster(keys)).collect::<Result<_, _>>()?;
-        Ok(Queue { taker, posters })
+    /// Opens a queue for 1 to 65,536 tickets of the writer's map, with 1 to 1,024 posters. A map's tickets fit into as
+    /// many places as it has keys, where none is taken back. Refused with [`Fault::BadSize`] or [`Fault::NoMemory`].
+    pub fn open(writer: &Writer, capacity: u32, posters: u32) -> Result<Queue, Fault> {
+        let map = writer.map;
+        let (out, ins) = ends::open(map.keys, capacity, posters)?;
+        let posters = ins.into_iter().map(|end| Poster { end, map }).collect();
+        Ok(Queue { taker: Taker { end: out, map }, posters })
     }
 }
 
 /// What one thread posts with.
+#[derive(Debug)]
 pub struct Poster {
-    handle: Handle,
-    keys: u32,
+    end: In,
+    map: Map,
 }
-
-/// What one thread takes with.
-pub struct Taker {
-    handle: Handle,
-}
-
-// A handle may go to another thread; it is used through `&mut` alone.
-unsafe impl Send for Poster {}
-unsafe impl Send for Taker {}
 
 impl Poster {
     /// Puts a ticket at the back. It comes back where the queue is full, or another thread is in the way. Panics where
-    /// its key is not below the queue's keys.
+    /// it is another map's.
     pub fn post(&mut self, ticket: Ticket) -> Result<(), Ticket> {
-        let Ticket { key, number } = ticket;
-        assert!(key < self.keys, "the queue is for {} keys, and the key is {key}", self.keys);
-        match unsafe { ffi::nr_post(&mut self.handle, key, number) } {
-            ffi::NR_DONE => Ok(()),
-            _ => Err(ticket),
+        assert!(ticket.map() == self.map.id, "the ticket is another map's");
+        if self.end.post(ticket.key(), ticket.number()) {
+            Ok(())
+        } else {
+            Err(ticket)
         }
     }
 }
 
-impl Drop for Poster {
-    fn drop(&mut self) {
-        unsafe { ffi::nr_close_poster(self.handle.last()) }
-    }
+/// What one thread takes with.
+#[derive(Debug)]
+pub struct Taker {
+    end: Out,
+    map: Map,
 }
 
 impl Taker {
     /// Takes the ticket at the front. None where the queue is empty, or another thread is in the way.
     pub fn take(&mut self) -> Option<Ticket> {
-        let (mut key, mut number) = (0, 0);
-        let taken = unsafe { ffi::nr_take(&mut self.handle, &mut key, &mut number) } == ffi::NR_DONE;
-        taken.then_some(Ticket { key, number })
-    }
-
-    fn open_poster(&mut self, keys: u32) -> Result<Poster, Fault> {
-        let mut handle = Handle::empty();
-        done(unsafe { ffi::nr_open_poster(&mut self.handle, &mut handle) })?;
-        Ok(Poster { handle, keys })
-    }
-}
-
-impl Drop for Taker {
-    fn drop(&mut self) {
-        unsafe { ffi::nr_close_taker(self.handle.last()) }
+        let (key, number) = self.end.take()?;
+        Some(Ticket::of(self.map.id, key, number))
     }
 }

@@ -1,25 +1,31 @@
 //! Rows, and what a map is opened with.
+use std::fmt;
 
 /// Two numbers, ordered by the first and then by the second.
 #[repr(C)]
-#[derive(Clone, Copy, Debug, Default, PartialEq, Eq, PartialOrd, Ord)]
+#[derive(Clone, Copy, Debug, Default, PartialEq, Eq, PartialOrd, Ord, Hash)]
 pub struct Row {
+    /// The first.
     pub a: u64,
+    /// The second.
     pub b: u64,
 }
 
 /// Room for the rows of a key.
 #[repr(C)]
+#[derive(Clone)]
 pub struct Rows {
     count: u64,
     row: [Row; 255],
 }
 
 impl Rows {
+    /// Room with no rows in it.
     pub fn new() -> Rows {
         Rows { count: 0, row: [Row::default(); 255] }
     }
 
+    /// The rows that the last find or look wrote.
     pub fn as_slice(&self) -> &[Row] {
         &self.row[..self.count as usize]
     }
@@ -31,34 +37,47 @@ impl Default for Rows {
     }
 }
 
+impl fmt::Debug for Rows {
+    fn fmt(&self, f: &mut fmt::Formatter<'_>) -> fmt::Result {
+        f.debug_tuple("Rows").field(&self.as_slice()).finish()
+    }
+}
+
 /// A row that is added or taken away.
 #[repr(C)]
-#[derive(Clone, Copy, Debug)]
+#[derive(Clone, Copy, Debug, PartialEq, Eq)]
 pub struct Delta {
     row: Row,
     plus: bool,
 }
 
 impl Delta {
+    /// One that is added.
     pub fn plus(row: Row) -> Delta {
         Delta { row, plus: true }
     }
 
+    /// One that is taken away.
     pub fn minus(row: Row) -> Delta {
         Delta { row, plus: false }
     }
 }
 
-/// What a map is opened with: 1 to 65,536 keys, 1 to 131,072 slots, 1 to 1,024 readers, 1 to 255 rows a key, a first
-/// number up to 4,194,303.
+/// What a map is opened with.
 #[repr(C)]
-#[derive(Clone, Copy, Debug)]
+#[derive(Clone, Copy, Debug, PartialEq, Eq)]
 pub struct Shape {
+    /// 1 to 65,536.
     pub keys: u32,
+    /// 1 to 131,072. With one for each key, each reader and one more no fill or update finds no slot.
     pub slots: u32,
+    /// 1 to 1,024.
     pub readers: u32,
+    /// How many a key may have: 1 to 255.
     pub rows: u32,
+    /// Where the slots' departures begin. 0 but in tests.
     pub first_count: u64,
+    /// The first number of requests, up to 4,194,303. 0 but in tests.
     pub first_number: u64,
 }
 
@@ -73,8 +92,12 @@ impl Shape {
 #[repr(C)]
 #[derive(Clone, Copy, Debug, Default, PartialEq, Eq)]
 pub struct Sizes {
+    /// How many keys it has.
     pub keys: u32,
+    /// How many slots.
     pub slots: u32,
+    /// How many readers.
     pub readers: u32,
+    /// How many rows a key may have.
     pub rows: u32,
 }

@@ -1,0 +1,167 @@
+//! What threads look keys up with.
+use crate::ffi::{self, Handle};
+use crate::map::Map;
+use crate::{Asked, Row, Rows, Sizes, Ticket, Writer};
+
+/// A reader of a map. Each call that takes a key panics where the map has no such key.
+#[derive(Debug)]
+pub struct Reader {
+    handle: Handle,
+    map: Map,
+    /// It holds a set, which outlives its pin where that was forgotten.
+    holds: bool,
+}
+
+// SAFETY: a handle may go to another thread, and calls take it by `&mut`, so that two threads never use it at a time.
+unsafe impl Send for Reader {}
+
+impl Reader {
+    /// A reader of a handle that was just opened.
+    pub(crate) fn of(handle: Handle, map: Map) -> Reader {
+        Reader { handle, map, holds: false }
+    }
+
+    /// The rows of a key, written into `rows`, or none where it is a hole.
+    pub fn find<'a>(&mut self, key: u32, rows: &'a mut Rows) -> Option<&'a [Row]> {
+        self.release();
+        let key = self.map.checked(key);
+        // SAFETY: the handle is live and holds nothing, the key was checked, and the rows are laid out as the header's.
+        let found = unsafe { ffi::nr_find(&mut self.handle, key, rows) } == ffi::NR_ROWS;
+        found.then(|| rows.as_slice())
+    }
+
+    /// As [`Reader::find`], and the reader holds the set until it finds another or makes another call. While the key keeps
+    /// that set, the next `find_kept` of it writes no word. A set that is held keeps its slot from being used anew, so a
+    /// reader that finds nothing for a while is told to [`Reader::let_go`].
+    pub fn find_kept<'a>(&mut self, key: u32, rows: &'a mut Rows) -> Option<&'a [Row]> {
+        let key = self.map.checked(key);
+        // SAFETY: the handle is live, the key was checked, and the rows are laid out as the header's.
+        self.holds = unsafe { ffi::nr_find_kept(&mut self.handle, key, rows) } == ffi::NR_ROWS;
+        self.holds.then(|| rows.as_slice())
+    }
+
+    /// Ends the hold of the last [`Reader::find_kept`], where there is one.
+    pub fn let_go(&mut self) {
+        self.release();
+    }
+
+    /// Requests a key. The first request since it became a hole is the one to be sent.
+    pub fn ask(&mut self, key: u32) -> Asked {
+        self.release();
+        let key = self.map.checked(key);
+        let mut number = 0;
+        // SAFETY: the handle is live and holds nothing, and the key was checked.
+        match unsafe { ffi::nr_ask(&mut self.handle, key, &mut number) } {
+            ffi::NR_SEND => Asked::Send(Ticket::of(self.map.id, key, number)),
+            ffi::NR_WAITING => Asked::Waiting,
+            _ => Asked::Filled,
+        }
+    }
+
+    /// Holds the set of a key, or none where it is a hole.
+    pub fn pin(&mut self, key: u32) -> Option<Pin<'_>> {
+        self.release();
+        let key = self.map.checked(key);
+        let mut count = 0;
+        // SAFETY: the handle is live and holds nothing, and the key was checked.
+        self.holds = unsafe { ffi::nr_pin(&mut self.handle, key, &mut count) } == ffi::NR_ROWS;
+        self.holds.then(|| Pin { reader: self, count })
+    }
+
+    /// Learns all that the writer of its map has seen. No key and no answer changes by it. Panics where the two are of
+    /// different maps.
+    pub fn meet(&mut self, writer: &mut Writer) {
+        self.release();
+        self.map.is_of(&writer.map);
+        // SAFETY: both handles are live and of one map, and the reader holds nothing.
+        unsafe { ffi::nr_meet(&mut self.handle, &mut writer.handle) }
+    }
+
+    /// Learns all that another reader of its map has seen, as from the writer.
+    pub fn meet_reader(&mut self, other: &mut Reader) {
+        self.release();
+        other.release();
+        self.map.is_of(&other.map);
+        // SAFETY: both handles are live and of one map, and neither reader holds a set.
+        unsafe { ffi::nr_meet_readers(&mut self.handle, &mut other.handle) }
+    }
+
+    /// The sizes of its map.
+    pub fn sizes(&mut self) -> Sizes {
+        let mut sizes = Sizes::default();
+        // SAFETY: the handle is live, and the sizes are laid out as the header's.
+        unsafe { ffi::nr_sizes(&mut self.handle, &mut sizes) };
+        sizes
+    }
+
+    /// The handle, of a reader that holds nothing, for a call of the writer of its map. Panics where it is of another.
+    pub(crate) fn for_writer(&mut self, writer: &Map) -> &mut Handle {
+        self.release();
+        writer.is_of(&self.map);
+        &mut self.handle
+    }
+
+    fn release(&mut self) {
+        if self.holds {
+            self.holds = false;
+            // SAFETY: the handle is live and holds a set.
+            unsafe { ffi::nr_release(&mut self.handle) }
+        }
+    }
+}
+
+impl Drop for Reader {
+    fn drop(&mut self) {
+        // SAFETY: the handle is live, and is not used again. What it holds is released by this.
+        unsafe { ffi::nr_close_reader(self.handle.last()) }
+    }
+}
+
+/// A held set, which stays as it is whatever happens to its key. Dropping it releases it; where it is forgotten, the
+/// reader's next call does.
+#[derive(Debug)]
+pub struct Pin<'a> {
+    reader: &'a mut Reader,
+    count: u32,
+}
+
+impl Pin<'_> {
+    /// How many rows the set has.
+    pub fn len(&self) -> usize {
+        self.count as usize
+    }
+
+    /// Whether it has none.
+    pub fn is_empty(&self) -> bool {
+        self.count == 0
+    }
+
+    /// A row of the set, or none behind the last.
+    pub fn row(&mut self, place: usize) -> Option<Row> {
+        let mut row = Row::default();
+        let place = u32::try_from(place).ok()?;
+        // SAFETY: the handle is live and holds a set, since its pin is there, and the row is laid out as the header's.
+        let found = unsafe { ffi::nr_row_at(&mut self.reader.handle, place, &mut row) } == ffi::NR_ROWS;
+        found.then_some(row)
+    }
+
+    /// Finds a key again, by one load that writes nothing: whether the key still has the set that the pin holds, put
+    /// by the same fill or update. Panics where the map has no such key.
+    pub fn again(&mut self, key: u32) -> bool {
+        let key = self.reader.map.checked(key);
+        // SAFETY: the handle is live and holds a set, since its pin is there, and the key was checked.
+        unsafe { ffi::nr_again(&mut self.reader.handle, key) == ffi::NR_ROWS }
+    }
+
+    /// The handle, of a reader that holds a set, for a call of the writer of its map. Panics where it is of another.
+    pub(crate) fn for_writer(&mut self, writer: &Map) -> &mut Handle {
+        writer.is_of(&self.reader.map);
+        &mut self.reader.handle
+    }
+}
+
+impl Drop for Pin<'_> {
+    fn drop(&mut self) {
+        self.reader.release();
+    }
+}

@@ -1,0 +1,113 @@
+//! What one thread fills, updates and evicts keys with.
+use crate::answers::done;
+use crate::ffi::{self, Handle};
+use crate::map::Map;
+use crate::{Cancel, Delta, Fault, KeyKind, Pin, Reader, Row, Rows, Ticket, Unfilled};
+
+/// A map's writer. Each call that takes a key panics where the map has no such key.
+#[derive(Debug)]
+pub struct Writer {
+    pub(crate) handle: Handle,
+    pub(crate) map: Map,
+}
+
+// SAFETY: a handle may go to another thread, and calls take it by `&mut`, so that two threads never use it at a time.
+unsafe impl Send for Writer {}
+
+impl Writer {
+    pub(crate) fn open_reader(&mut self) -> Result<Reader, Fault> {
+        let mut handle = Handle::empty();
+        // SAFETY: the writer's handle is live, and the other is not.
+        done(unsafe { ffi::nr_open_reader(&mut self.handle, &mut handle) })?;
+        Ok(Reader::of(handle, self.map))
+    }
+
+    /// The writer's own find.
+    pub fn look<'a>(&mut self, key: u32, rows: &'a mut Rows) -> Option<&'a [Row]> {
+        let key = self.map.checked(key);
+        // SAFETY: the handle is live, the key was checked, and the rows are laid out as the header's.
+        let found = unsafe { ffi::nr_look(&mut self.handle, key, rows) } == ffi::NR_ROWS;
+        found.then(|| rows.as_slice())
+    }
+
+    /// Answers a request with the key's rows, in ascending order. Where it is refused the ticket comes back, and
+    /// nothing has changed: with [`Fault::NoSlot`] it fills the key once a key was evicted or a reader released its
+    /// set; with [`Fault::TooMany`] or [`Fault::NotSorted`] by other rows; with [`Fault::NotAsked`], [`Fault::Stale`]
+    /// or [`Fault::Already`] never, since the request was taken back. Panics where the ticket is of another map.
+    pub fn fill(&mut self, ticket: Ticket, rows: &[Row]) -> Result<(), Unfilled> {
+        assert!(ticket.map() == self.map.id, "the ticket is another map's");
+        let (key, number) = (ticket.key(), ticket.number());
+        // SAFETY: the handle is live, the key is one of its map's, and there are as many rows as it is told.
+        let code = unsafe { ffi::nr_fill(&mut self.handle, key, number, rows.as_ptr(), rows.len()) };
+        done(code).map_err(|fault| Unfilled { fault, ticket })
+    }
+
+    /// Applies 1 to 64 signed rows to the rows of a key, whole or not at all. Refused with [`Fault::Dropped`] where
+    /// the key is not filled, and with [`Fault::BadBatch`], [`Fault::NoRow`], [`Fault::TooMany`] or [`Fault::NoSlot`];
+    /// then nothing has changed.
+    pub fn update(&mut self, key: u32, deltas: &[Delta]) -> Result<(), Fault> {
+        let key = self.map.checked(key);
+        // SAFETY: the handle is live, the key was checked, and there are as many signed rows as it is told.
+        done(unsafe { ffi::nr_update(&mut self.handle, key, deltas.as_ptr(), deltas.len()) })
+    }
+
+    /// Makes a filled key a hole; whether it was filled.
+    pub fn evict(&mut self, key: u32) -> bool {
+        let key = self.map.checked(key);
+        // SAFETY: the handle is live, and the key was checked.
+        unsafe { ffi::nr_evict(&mut self.handle, key) == ffi::NR_EVICTED }
+    }
+
+    /// Takes the request of a key back, as where its ticket was lost: the next one is sent anew.
+    pub fn cancel(&mut self, key: u32) -> Cancel {
+        let key = self.map.checked(key);
+        // SAFETY: the handle is live, and the key was checked.
+        match unsafe { ffi::nr_cancel(&mut self.handle, key) } {
+            ffi::NR_CANCELLED => Cancel::Cancelled,
+            ffi::NR_NOTHING => Cancel::Nothing,
+            _ => Cancel::Worn,
+        }
+    }
+
+    /// What a key is.
+    pub fn state(&mut self, key: u32) -> KeyKind {
+        let key = self.map.checked(key);
+        // SAFETY: the handle is live, and the key was checked.
+        match unsafe { ffi::nr_state(&mut self.handle, key) } {
+            ffi::NR_ROWS => KeyKind::Rows,
+            ffi::NR_HOLE => KeyKind::Hole,
+            _ => KeyKind::Asked,
+        }
+    }
+
+    /// The number of a key's request, or of its next one.
+    pub fn number(&mut self, key: u32) -> u64 {
+        let key = self.map.checked(key);
+        let mut number = 0;
+        // SAFETY: the handle is live, and the key was checked.
+        unsafe { ffi::nr_number(&mut self.handle, key, &mut number) };
+        number
+    }
+
+    /// Learns all that a reader of its map has seen, and then the reader all that the writer has. No key and no answer
+    /// changes by it. Panics where the two are of different maps.
+    pub fn gather(&mut self, reader: &mut Reader) {
+        let reader = reader.for_writer(&self.map);
+        // SAFETY: both handles are live and of one map, and the reader holds nothing.
+        unsafe { ffi::nr_gather(&mut self.handle, reader) }
+    }
+
+    /// The same with a reader that holds a set, which it keeps.
+    pub fn gather_pin(&mut self, pin: &mut Pin<'_>) {
+        let reader = pin.for_writer(&self.map);
+        // SAFETY: both handles are live and of one map, and the reader holds a set.
+        unsafe { ffi::nr_gather_pin(&mut self.handle, reader) }
+    }
+}
+
+impl Drop for Writer {
+    fn drop(&mut self) {
+        // SAFETY: the handle is live, and is not used again.
+        unsafe { ffi::nr_close_writer(self.handle.last()) }
+    }
+}
