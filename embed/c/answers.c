@@ -42,13 +42,17 @@ static void test_writer(nr_writer *writer, nr_reader *reader) {
   WANTS(NR_BAD_BATCH, nr_update(writer, 0, &more, 0));
   WANTS(NR_BAD_BATCH, nr_update(writer, 0, many, 65));
   WANTS(NR_NO_ROW, nr_update(writer, 0, &less, 1));
-  WANTS(NR_NO_SLOT, nr_update(writer, 0, &more, 1));
+  WANTS(NR_ALL_FILLED, nr_update(writer, 0, &more, 1));
   WANTS(NR_TOO_MANY, nr_update(writer, 0, many, 2));
   WANTS(NR_SEND, nr_ask(reader, 1, &number));
+  WANTS(NR_ALL_FILLED, nr_fill(writer, 1, number, &one, 1));
+  uint32_t count = 0;
+  WANTS(NR_ROWS, nr_pin(reader, 0, &count));
+  WANTS(NR_EVICTED, nr_evict(writer, 0));
   WANTS(NR_NO_SLOT, nr_fill(writer, 1, number, &one, 1));
+  WANTS(NR_DONE, nr_release(reader));
   WANTS(NR_CANCELLED, nr_cancel(writer, 1));
   WANTS(NR_DONE, nr_number(writer, 1, &number));
-  WANTS(NR_EVICTED, nr_evict(writer, 0));
 }
 
 /* A map with a slot to spare, whose requests have the last number. */
@@ -113,6 +117,37 @@ static void test_no_key(nr_writer *writer, nr_reader *reader, nr_poster *poster)
   nr_release(reader);
 }
 
+/* A reader that holds a set where it is to hold none, and the other way round, of a map whose key 0 has two rows. */
+static void test_holding(nr_writer *writer, nr_reader *reader) {
+  uint64_t number = 88;
+  uint32_t count = 77;
+  nr_row row = {5, 5};
+  static nr_rows rows;
+  rows.count = 99;
+  WANTS(NR_NOT_HOLDING, nr_release(reader));
+  WANTS(NR_NOT_HOLDING, nr_again(reader, 0));
+  WANTS(NR_NOT_HOLDING, nr_row_at(reader, 0, &row));
+  WANTS(NR_NOT_HOLDING, nr_copy(reader, &rows));
+  WANTS(NR_NOT_HOLDING, nr_gather_pin(writer, reader));
+  WANTS(NR_DONE, nr_meet(reader, writer));
+  WANTS(NR_DONE, nr_gather(writer, reader));
+  wants("a row that stays", 5, (uint32_t)row.a);
+  WANTS(NR_ROWS, nr_pin(reader, 0, &count));
+  count = 77;
+  WANTS(NR_HOLDING, nr_pin(reader, 0, &count));
+  WANTS(NR_HOLDING, nr_find(reader, 0, &rows));
+  WANTS(NR_HOLDING, nr_ask(reader, 1, &number));
+  WANTS(NR_HOLDING, nr_meet(reader, writer));
+  WANTS(NR_HOLDING, nr_gather(writer, reader));
+  WANTS(NR_DONE, nr_gather_pin(writer, reader));
+  wants("rows that stay", 99, (uint32_t)rows.count);
+  wants("a count that stays", 77, count);
+  wants("a number that stays", 88, (uint32_t)number);
+  WANTS(NR_ROWS, nr_row_at(reader, 1, &row));
+  wants("a row of the set that stayed held", 2, (uint32_t)row.a);
+  WANTS(NR_DONE, nr_release(reader));
+}
+
 static void test_queue(nr_taker *taker, nr_poster *poster) {
   uint32_t key = 77;
   uint64_t number = 88;
@@ -147,6 +182,7 @@ int main(void) {
   test_writer(&writer, &reader);
   test_reader(&worn, &other);
   test_no_key(&worn, &other, &poster);
+  test_holding(&worn, &other);
   test_queue(&taker, &poster);
   nr_close_reader(reader);
   nr_close_reader(other);

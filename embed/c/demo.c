@@ -99,7 +99,7 @@ static void test_no_key(nr_writer *writer, nr_reader *reader, nr_poster *poster,
   if (nr_state(writer, key) != NR_NO_KEY || nr_post(poster, key, 0) != NR_NO_KEY) stop("a post of no key");
   if (nr_pin(reader, 3, &count) != NR_ROWS || count != 2 || nr_again(reader, key) != NR_NO_KEY) stop("again at no key");
   if (nr_again(reader, 3) != NR_ROWS) stop("a pin after keys that the map hasn't");
-  nr_release(reader);
+  if (nr_release(reader) != NR_DONE) stop("a release");
   if (rows.count != 99 || number != 88) stop("what no key told");
 }
 
@@ -118,12 +118,13 @@ static void test_calls(nr_writer *writer, nr_reader *one, nr_reader *two) {
   if (nr_ask(one, 7, &number) != NR_SEND || number != 1) stop("a request after a cancel");
   nr_row apart[2] = {{2, 0}, {1, 0}};
   if (nr_fill(writer, 7, 0, apart, 1) != NR_STALE || nr_fill(writer, 7, 1, apart, 2) != NR_NOT_SORTED) stop("a late fill");
-  nr_meet(one, writer);
-  nr_meet_readers(one, two);
-  nr_gather(writer, two);
+  if (nr_meet(one, writer) != NR_DONE || nr_meet_readers(one, two) != NR_DONE) stop("a meeting");
+  if (nr_gather(writer, two) != NR_DONE || nr_gather_pin(writer, one) != NR_NOT_HOLDING) stop("a gather");
   uint32_t held;
   if (nr_pin(one, 8, &held) != NR_ROWS || held != 2) stop("a pin at the end");
-  nr_gather_pin(writer, one);
+  if (nr_gather_pin(writer, one) != NR_DONE || nr_gather(writer, one) != NR_HOLDING) stop("a gather of a pin");
+  if (nr_meet(one, writer) != NR_HOLDING || nr_meet_readers(one, two) != NR_HOLDING) stop("a meeting of a holder");
+  if (nr_meet_readers(two, one) != NR_HOLDING) stop("a meeting with a holder");
   if (nr_again(one, 8) != NR_ROWS || nr_again(one, 9) != NR_OTHER) stop("a find again");
   if (nr_update(writer, 8, batch + 1, 1) != NR_DONE || nr_again(one, 8) != NR_OTHER) stop("a find again after an update");
   nr_size sizes;

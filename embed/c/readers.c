@@ -191,12 +191,15 @@ static void evict(dataflow *dataflow, uint32_t key) {
   dataflow->version[key] = 0;
 }
 
+/* Whether there was no slot, of which readers hold some or none. */
+static bool lacks_slot(uint32_t answer) { return answer == NR_NO_SLOT || answer == NR_ALL_FILLED; }
+
 /* Fills a key, and evicts others while there is no slot: readers hold as many sets as they are. */
 static void fill(dataflow *dataflow, uint32_t key, uint64_t number) {
   nr_row rows[4];
   uint64_t version = new_version(dataflow, key);
   uint32_t count = rows_of(key, version, rows), answer;
-  while ((answer = nr_fill(&dataflow->writer, key, number, rows, count)) == NR_NO_SLOT) {
+  while (lacks_slot(answer = nr_fill(&dataflow->writer, key, number, rows, count))) {
     dataflow->seen[NO_SLOT]++;
     want(nr_state(&dataflow->writer, key) == NR_ASKED, "a key that is asked for while there is no slot");
     evict(dataflow, below(&dataflow->state, KEYS));
@@ -243,7 +246,7 @@ static void update(dataflow *dataflow, uint32_t key) {
     dataflow->seen[UPDATE]++;
     acknowledge(dataflow, key, version);
   } else {
-    want(answer == NR_NO_SLOT, "an update");
+    want(lacks_slot(answer), "an update");
     dataflow->seen[NO_SLOT]++;
   }
 }

@@ -25,6 +25,13 @@ EndsHand (Idle reader) left = left ≡ Some reader
 EndsHand (Holds pin) left = (reader : Caller) × (left ≡ Some reader) × LetsGo pin reader
 EndsHand Taken left = left ≡ None
 
+-- the reader holds nothing, and it holds a set
+abbrev pub HoldsNone : Hand → Type 0
+HoldsNone hand = (reader : Caller) × (hand ≡ Idle reader)
+
+abbrev pub HoldsSome : Hand → Type 0
+HoldsSome hand = (pin : Pinned) × (hand ≡ Holds pin)
+
 -- the reader as one of the map's hands, which takes a held set for that of some key
 abbrev pub InHand : Hand → Handed → Type 0
 InHand (Idle reader) hand = hand ≡ idle reader

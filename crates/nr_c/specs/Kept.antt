@@ -1,5 +1,5 @@
 -- A reader that keeps what it finds, as C calls it.
-use Rattle.std.specs.Prelude.{ℕ, ◌≡◌, List, [], ◌∷◌, IsSome, Some}
+use Rattle.std.specs.Prelude.{ℕ, ◌≡◌, List, IsSome, Some}
 use Rattle.nr_board.specs.declared.answers.Found.{Found}
 use Rattle.nr_map.specs.Hands.{FindsKept, Handed}
 use Rattle.nr_c.specs.declared.hand.Hand.{Hand}
@@ -9,10 +9,6 @@ use Rattle.nr_c.specs.Codes.{found_code}
 use Rattle.nr_c.specs.Hands.{InHand}
 use Rattle.nr_c.specs.Live.{TurnsHand}
 use Rattle.nr_c.specs.RowCells.{ShowsSet}
-
--- the handle is live, and its reader holds nothing or a set
-abbrev pub MayKeep : List ReaderSide → Type 0
-MayKeep live = (held : ReaderSide) × (hand : Handed) × (live ≡ held ∷ []) × InHand held.hand hand
 
 -- a find that keeps its hold, by its code, of a hand that takes what it held for a set of the key
 abbrev pub KeepsByCode : ℕ → NrRows → NrRows → ℕ → List ReaderSide → List ReaderSide → Type 0

@@ -5,7 +5,7 @@ use Rattle.nr_board.specs.Callers.{Caller, Rests}
 use Rattle.nr_board.specs.Meetings.{HasPut}
 use Rattle.nr_map.specs.Hands.{Handed, Reads}
 use Rattle.nr_map.specs.Pins.{FindsByPin, Pinned, PinsKey}
-use Rattle.nr_c.specs.Numbers.{answer_hole, answer_no_row, answer_other, answer_rows}
+use Rattle.nr_c.specs.Numbers.{answer_done, answer_hole, answer_no_row, answer_other, answer_rows}
 use Rattle.nr_c.specs.declared.hand.Hand.{Hand}
 use Rattle.nr_c.specs.declared.hand.Hand.TheVariants.{Holds, Idle}
 use Rattle.nr_c.specs.declared.reader_side.ReaderSide.{ReaderSide}
@@ -37,5 +37,5 @@ FindsByHold key code before after = (found : Bool) × (code ≡ (if found then a
     × FindsByPin key old.reader old.rows new.reader found × ((found ≡ true) ↔ HasPut key old.reader.marks.put new.reader) × (new.rows ≡ old.rows)
 
 -- the hold ends
-abbrev pub Releases : List ReaderSide → List ReaderSide → Type 0
-Releases before after = (old : Pinned) × (new : Caller) × TurnsHand before after (Holds old) (Idle new) × LetsGo old new
+abbrev pub Releases : ℕ → List ReaderSide → List ReaderSide → Type 0
+Releases code before after = (code ≡ answer_done) × (old : Pinned) × (new : Caller) × TurnsHand before after (Holds old) (Idle new) × LetsGo old new

@@ -1,7 +1,7 @@
 //! Finds by a reader that keeps what it found.
 ghost use Rattle.std.specs.Prelude.{◌≡◌};
-ghost use Rattle.nr_c.specs.Live.{WithKey, reader_keys};
-ghost use Rattle.nr_c.specs.Kept.{KeepsByCode, MayKeep};
+ghost use Rattle.nr_c.specs.Live.{MayRead, WithKey, reader_keys};
+ghost use Rattle.nr_c.specs.Kept.{KeepsByCode};
 
 use crate::codes::{NR_NO_KEY, of_found};
 use crate::reader_handle::NrReader;
@@ -14,7 +14,7 @@ use crate::rows::NrRows;
 /// with no step.
 #[unsafe(no_mangle)]
 pub extern "C" fn nr_find_kept(reader: &mut NrReader, key: u32, rows: &mut NrRows) -> u32
-    requires live { MayKeep reader.old.live }
+    requires live { MayRead reader.old.live }
     ensures { WithKey reader_keys key result (rows.new ≡ rows.old) (KeepsByCode key rows.old rows.new result) reader.old.live reader.new.live }
 {
     let side = reader.side();

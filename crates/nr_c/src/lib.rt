@@ -7,8 +7,7 @@
 //! poster and one for the taker. A handle is one word, the place of a
 //! token on the heap or none, and contracts see the token. What C owes is each function's
 //! `requires`, and stands beside it in the header too: the handle is live and in the hands of one
-//! call at a time, and its reader holds a set or none. What costs next to nothing to test is tested, as
-//! whether a key is one of the map's.
+//! call at a time. What costs next to nothing to test is tested, as whether a key is one of the map's.
 #![tactic(auto)]
 
 mod codes;

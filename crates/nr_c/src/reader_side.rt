@@ -1,7 +1,7 @@
 //! What a reader's handle leads to.
 ghost use Rattle.std.specs.Prelude.{◌≡◌, ◌<◌, ◌≤◌, IsSome, Some};
 ghost use Rattle.std.specs.Bool.{OnFalse, OnTrue};
-ghost use Rattle.nr_c.specs.Hands.{EndsHand, InHand, table_of};
+ghost use Rattle.nr_c.specs.Hands.{EndsHand, HoldsNone, HoldsSome, InHand, table_of};
 ghost use Rattle.nr_board.specs.Callers.{Caller};
 ghost use Rattle.nr_map.specs.Hands.{Handed};
 ghost use Rattle.nr_map.specs.Pins.{Pinned};
@@ -69,6 +69,19 @@ impl ReaderSide {
         ensures hasnt { OnFalse result (self.now.map.value.shape.keys ≤ key) }
     {
         key < self.map.keys()
+    }
+
+    /// Whether its reader holds a set.
+    pub fn holds(&self) -> bool
+        requires rests { (hand : Handed) × InHand self.now.hand hand }
+        ensures some { OnTrue result (HoldsSome self.now.hand) }
+        ensures none { OnFalse result (HoldsNone self.now.hand) }
+    {
+        match &self.hand {
+            Hand::Idle(_) => false,
+            Hand::Holds(_) => true,
+            Hand::Taken => unreachable!(),
+        }
     }
 
     /// The reader, which holds nothing, for a call.

@@ -29,7 +29,8 @@ pub extern "C" fn nr_look(writer: &mut NrWriter, key: u32, rows: &mut NrRows) ->
 /// Fills a key that was asked for, by the number of its request, with rows in ascending order.
 /// Answers `NR_NO_KEY`, `NR_TOO_MANY` where they are more than a key may have, and `NR_NOT_SORTED` where one is
 /// below the one before it, with no step; and else as the map's fill does: `NR_DONE`,
-/// `NR_NOT_ASKED`, `NR_ALREADY`, `NR_STALE` or `NR_NO_SLOT`.
+/// `NR_NOT_ASKED`, `NR_ALREADY`, `NR_STALE`; or `NR_NO_SLOT` where readers hold slots, and else
+/// `NR_ALL_FILLED`.
 #[unsafe(no_mangle)]
 pub extern "C" fn nr_fill(writer: &mut NrWriter, key: u32, number: u64, rows: &[Row]) -> u32
     requires live { MayWrite writer.old.live }
@@ -50,7 +51,8 @@ pub extern "C" fn nr_fill(writer: &mut NrWriter, key: u32, number: u64, rows: &[
 
 /// Applies a batch of 1 to 64 signed rows to the rows of a filled key, whole or not at all. Answers
 /// `NR_NO_KEY`, or `NR_BAD_BATCH` where they are none or more, with no step; and else as the map's update does:
-/// `NR_DONE`, `NR_DROPPED`, `NR_NO_ROW`, `NR_TOO_MANY` or `NR_NO_SLOT`.
+/// `NR_DONE`, `NR_DROPPED`, `NR_NO_ROW`, `NR_TOO_MANY`; or `NR_NO_SLOT` where readers hold slots, and
+/// else `NR_ALL_FILLED`.
 #[unsafe(no_mangle)]
 pub extern "C" fn nr_update(writer: &mut NrWriter, key: u32, deltas: &[Delta]) -> u32
     requires live { MayWrite writer.old.live }

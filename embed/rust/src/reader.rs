@@ -74,7 +74,7 @@ impl Reader {
         self.release();
         self.map.is_of(&writer.map);
         // SAFETY: both handles are live and of one map, and the reader holds nothing.
-        unsafe { ffi::nr_meet(&mut self.handle, &mut writer.handle) }
+        unsafe { ffi::nr_meet(&mut self.handle, &mut writer.handle) };
     }
 
     /// Learns all that another reader of its map has seen, as from the writer.
@@ -83,7 +83,7 @@ impl Reader {
         other.release();
         self.map.is_of(&other.map);
         // SAFETY: both handles are live and of one map, and neither reader holds a set.
-        unsafe { ffi::nr_meet_readers(&mut self.handle, &mut other.handle) }
+        unsafe { ffi::nr_meet_readers(&mut self.handle, &mut other.handle) };
     }
 
     /// The sizes of its map.
@@ -105,7 +105,7 @@ impl Reader {
         if self.holds {
             self.holds = false;
             // SAFETY: the handle is live and holds a set.
-            unsafe { ffi::nr_release(&mut self.handle) }
+            unsafe { ffi::nr_release(&mut self.handle) };
         }
     }
 }

@@ -94,14 +94,14 @@ impl Writer {
     pub fn gather(&mut self, reader: &mut Reader) {
         let reader = reader.for_writer(&self.map);
         // SAFETY: both handles are live and of one map, and the reader holds nothing.
-        unsafe { ffi::nr_gather(&mut self.handle, reader) }
+        unsafe { ffi::nr_gather(&mut self.handle, reader) };
     }
 
     /// The same with a reader that holds a set, which it keeps.
     pub fn gather_pin(&mut self, pin: &mut Pin<'_>) {
         let reader = pin.for_writer(&self.map);
         // SAFETY: both handles are live and of one map, and the reader holds a set.
-        unsafe { ffi::nr_gather_pin(&mut self.handle, reader) }
+        unsafe { ffi::nr_gather_pin(&mut self.handle, reader) };
     }
 }
 

@@ -4,23 +4,26 @@ use Rattle.nr_c.proofs.pins.nr_pin.Goals as goal
 pub returns-then-not-has_key : goal.returns-then-not-has_key
 returns-then-not-has_key c = inl (record { code_is = refl; stay = refl; held = c.side-side.result.now; was = c.side-side.ensures.value; is = refl; above = c.if-not-has_key.ensures.hasnt })
 
+pub returns-then-holds : goal.returns-then-holds
+returns-then-holds c = inr (record { held = c.side-side.result.now; was = c.side-side.ensures.value; below = c.if-not-has_key.ensures.has }, inl (record { code_is = refl; stay = refl; held = c.side-side.result.now; was = c.side-side.ensures.value; is = refl; hand = c.if-holds.ensures.some }))
+
 pub returns-in-Ok : goal.returns-in-Ok
 returns-in-Ok c = inr (
   record { held = c.side-side.result.now; was = c.side-side.ensures.value; below = c.if-not-has_key.ensures.has },
-  inl (
+  inr (inl (
     refl,
     c.take_reader-idle.result,
     c.in-Ok.pin,
     record { old = c.side-side.result.now; new = _; led = c.side-side.ensures.value; leads = refl; map = c.put.ensures.map ∙ c.take_reader-idle.ensures.map; old_hand = c.take_reader-idle.ensures.reader; new_hand = c.put.ensures.hand },
     c.in-Ok.ensures,
     c.len.ensures.len,
-  ),
+  )),
 )
 
 pub returns-in-Err : goal.returns-in-Err
 returns-in-Err c = inr (
   record { held = c.side-side.result.now; was = c.side-side.ensures.value; below = c.if-not-has_key.ensures.has },
-  inr (
+  inr (inr (
     refl,
     c.take_reader-idle.result,
     c.in-Err.idle,
@@ -35,5 +38,5 @@ returns-in-Err c = inr (
     },
     c.in-Err.ensures,
     refl,
-  ),
+  )),
 )

@@ -1,0 +1,93 @@
+//! The base: the table `votes(article, user, weight)` of a SQLite database, through SQLite's C functions.
+use nr::Row;
+use std::ffi::{c_char, c_int, c_void, CStr, CString};
+use std::ptr::{null, null_mut};
+
+type Handle = *mut c_void;
+
+#[link(name = "sqlite3")]
+extern "C" {
+    fn sqlite3_open_v2(path: *const c_char, to: *mut Handle, flags: c_int, system: *const c_char) -> c_int;
+    fn sqlite3_close_v2(base: Handle) -> c_int;
+    fn sqlite3_errmsg(base: Handle) -> *const c_char;
+    fn sqlite3_prepare_v2(base: Handle, sql: *const c_char, length: c_int, to: *mut Handle, rest: Handle) -> c_int;
+    fn sqlite3_bind_text(query: Handle, place: c_int, text: *const u8, length: c_int, free: isize) -> c_int;
+    fn sqlite3_bind_int64(query: Handle, place: c_int, number: i64) -> c_int;
+    fn sqlite3_step(query: Handle) -> c_int;
+    fn sqlite3_column_int64(query: Handle, column: c_int) -> i64;
+    fn sqlite3_reset(query: Handle) -> c_int;
+    fn sqlite3_finalize(query: Handle) -> c_int;
+}
+
+const FOUND_ROW: c_int = 100;
+const READ_WRITE_BY_ONE_THREAD: c_int = 0x2 | 0x8000;
+const COPY_TEXT: isize = -1;
+
+/// Each is a transaction of its own. Those that write give the row that they wrote.
+pub enum Query {
+    Settings,
+    Rows,
+    Add,
+    Remove,
+}
+
+const QUERIES: [&CStr; 4] = [
+    c"PRAGMA synchronous = NORMAL",
+    c"SELECT user, weight FROM votes WHERE article = ? ORDER BY user, weight",
+    c"INSERT INTO votes SELECT ?1, ?2, ?3 WHERE (SELECT count(*) FROM votes WHERE article = ?1) < ?4
+        RETURNING user, weight",
+    c"DELETE FROM votes WHERE rowid = (SELECT rowid FROM votes WHERE (article, user, weight) = (?1, ?2, ?3) LIMIT 1)
+        RETURNING user, weight",
+];
+
+pub struct Base {
+    at: Handle,
+    queries: [Handle; QUERIES.len()],
+}
+
+// SAFETY: another thread may have it next, and calls take it by `&mut`, so that two threads never use it at a time.
+unsafe impl Send for Base {}
+
+impl Base {
+    pub fn open(path: &str) -> Result<Base, String> {
+        let path = CString::new(path).map_err(|fault| fault.to_string())?;
+        let mut base = Base { at: null_mut(), queries: [null_mut(); QUERIES.len()] };
+        let opened = unsafe { sqlite3_open_v2(path.as_ptr(), &mut base.at, READ_WRITE_BY_ONE_THREAD, null()) };
+        base.done(opened)?;
+        for (sql, place) in QUERIES.iter().zip(0..) {
+            let to: *mut Handle = &mut base.queries[place];
+            base.done(unsafe { sqlite3_prepare_v2(base.at, sql.as_ptr(), -1, to, null_mut()) })?;
+        }
+        base.run(Query::Settings, "", &[])?;
+        Ok(base)
+    }
+
+    /// The rows of a query for an article, and for numbers, of which it leaves those that it doesn't need.
+    pub fn run(&mut self, query: Query, article: &str, numbers: &[u64]) -> Result<Vec<Row>, String> {
+        let query = self.queries[query as usize];
+        let mut rows = Vec::new();
+        unsafe {
+            sqlite3_bind_text(query, 1, article.as_ptr(), article.len() as c_int, COPY_TEXT);
+            for (place, number) in (2..).zip(numbers) {
+                sqlite3_bind_int64(query, place, *number as i64);
+            }
+            while sqlite3_step(query) == FOUND_ROW {
+                rows.push(Row { a: sqlite3_column_int64(query, 0) as u64, b: sqlite3_column_int64(query, 1) as u64 });
+            }
+        }
+        // Tells again how the last step went.
+        self.done(unsafe { sqlite3_reset(query) }).map(|()| rows)
+    }
+
+    fn done(&self, code: c_int) -> Result<(), String> {
+        let fault = || unsafe { CStr::from_ptr(sqlite3_errmsg(self.at)) }.to_string_lossy().into_owned();
+        (code == 0).then_some(()).ok_or_else(fault)
+    }
+}
+
+impl Drop for Base {
+    fn drop(&mut self) {
+        self.queries.iter().for_each(|query| _ = unsafe { sqlite3_finalize(*query) });
+        unsafe { sqlite3_close_v2(self.at) };
+    }
+}

@@ -1,0 +1,38 @@
+"""Makes results.md and results.svg of what ./measure has found: lines of a server, the keys, the clients and numbers."""
+import sys
+
+lines = [line.rstrip("\n").split("\t") for line in open(sys.argv[1])]
+servers = list(dict.fromkeys(line[0] for line in lines))
+loads = [(keys, clients) for keys in ("uniform", "skewed") for clients in ("1", "8", "64")]
+found = {(name, keys, clients): numbers for name, keys, clients, *numbers in lines}
+
+with open("results.md", "w") as page:
+    page.write(f"GETs a second, and p50 / p99 / p99.9 in microseconds. {sys.argv[2]}; clients and server share them.\n\n")
+    page.write("| | " + " | ".join(f"{keys}, {clients}" for keys, clients in loads) + " | memory, MB |\n")
+    page.write("|---" * (len(loads) + 2) + "|\n")
+    for name in servers:
+        cells = [found[name, *load] for load in loads]
+        memory = int(found[name, "memory", "0"][0]) / 1024
+        texts = [f"{int(gets):,}, {p50} / {p99} / {p999}" for gets, p50, p99, p999 in cells]
+        page.write(f"| {name} | " + " | ".join(texts) + f" | {memory:.0f} |\n")
+
+COLOURS = ["#1f6f8b", "#7fb7be", "#d9a441", "#999999"]
+most = max(int(found[name, *load][0]) for name in servers for load in loads)
+parts = []
+for place, load in enumerate(loads):
+    left = 60 + place * 110
+    for column, name in enumerate(servers):
+        gets = int(found[name, *load][0])
+        height = 200 * gets / most
+        x = left + column * 22
+        parts.append(f'<rect x="{x}" y="{240 - height:.1f}" width="20" height="{height:.1f}" fill="{COLOURS[column]}"/>')
+        parts.append(f'<text x="{x + 10}" y="{236 - height:.1f}" text-anchor="middle">{gets / 1000:.0f}</text>')
+    parts.append(f'<text x="{left + 44}" y="256" text-anchor="middle">{load[0]}, {load[1]}</text>')
+for column, name in enumerate(servers):
+    parts.append(f'<rect x="{60 + column * 165}" y="272" width="10" height="10" fill="{COLOURS[column]}"/>')
+    parts.append(f'<text x="{75 + column * 165}" y="281">{name}</text>')
+with open("results.svg", "w") as picture:
+    picture.write('<svg xmlns="http://www.w3.org/2000/svg" viewBox="0 0 730 290" font-family="sans-serif" font-size="11">\n')
+    picture.write('<rect width="730" height="290" fill="white"/>\n')
+    picture.write('<text x="60" y="20">Thousand GETs a second, by the choice of keys and the number of clients</text>\n')
+    picture.write("\n".join(parts) + "\n</svg>\n")
