@@ -3,6 +3,7 @@ pub mod Pins
 pub mod Hands
 pub mod Written
 pub mod Opened
+pub mod LargeShapes
 pub mod Tickets
 pub mod Answers
 pub mod FindsEach

@@ -22,6 +22,7 @@ mod answers;
 mod cancels;
 mod hand;
 mod kept;
+mod large;
 pub mod laws;
 mod meetings;
 mod notes;
@@ -35,6 +36,7 @@ mod writer_calls;
 
 pub use answers::Asked;
 pub use hand::Hand;
+pub use large::{MOST_READERS, MOST_SLOTS};
 pub use notes::Note;
 pub use nr_board::{Cancel, Evict, FillFault, Found, KeyKind, UpdateFault};
 pub use nr_core::{MAX_READERS, MAX_SLOTS, NoSlot, Shape};

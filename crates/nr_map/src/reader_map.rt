@@ -106,7 +106,10 @@ impl ReaderMap {
 }
 
 // A map of those sizes, with its tokens.
-fn seated(alloc: Global, shape: Shape) -> Result<(ReaderMap, Writer, Vec<Reader>), AllocError>
+pub(crate) fn seated(
+    alloc: Global,
+    shape: Shape,
+) -> Result<(ReaderMap, Writer, Vec<Reader>), AllocError>
     requires sizes { IsShape shape }
     requires keys { 0 < shape.keys }
     ensures { IfOk result (λ opened. IsOpened shape opened.0 opened.1 opened.2.items) }

@@ -55,6 +55,12 @@ impl Worked {
         Worked::of(map, writer, readers.pop())
     }
 
+    /// A new map of that shape, which may be large, with its last reader.
+    pub(crate) fn open_large(alloc: Global, shape: &Shape) -> Result<Worked, Fail> {
+        let (map, writer, mut readers) = ReaderMap::open_large(alloc, shape)?;
+        Worked::of(map, writer, readers.pop())
+    }
+
     /// A new map of those sizes and two readers, with its first reader, and the second beside it.
     pub(crate) fn open_two(
         alloc: Global,

@@ -10,6 +10,7 @@ mod clients;
 mod flow;
 mod gates;
 mod hands;
+mod large;
 mod lobbies;
 mod lookups;
 mod many;
@@ -45,6 +46,7 @@ fn show_map<R: AllocGlobal + Print + Threads + Sync>(rt: &R) -> anyhow::Result<(
     slots::show(rt, &slots::short_of_slots(alloc, &change)?)?;
     let more = Batch::of(&MORE)?;
     sizes::show(rt, &sizes::kept_small(alloc, &change, &more)?)?;
+    large::show(rt, &large::opened_large(alloc)?)?;
     cancels::show(rt, &cancels::taken_back(alloc)?)?;
     meetings::show(rt, &meetings::learnt(alloc)?)?;
     notes::show(rt, &notes::written_and_read(rt, alloc)?)?;
