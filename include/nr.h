@@ -8,10 +8,12 @@
      to it.
    - a live handle is used by one call at a time. It goes to another thread by that thread's start or
      join, by a lock, or by a sequentially consistent atomic.
-   - a key is below the keys that the map, or the queue, was opened with.
    - a pointer leads to one value of its type that nobody else uses during the call; `rows` and `deltas`
      lead to as many as the number after them says, which nobody writes during the call.
    - no call is made from a signal handler, or in the forked child of a process with threads.
+
+   Each call that takes a key answers NR_NO_KEY, without a step, where the map, or the queue, wasn't opened
+   with so many keys; nothing has changed then, and what the call would have told stays as it was.
 
    A step is one atomic operation on one 64-bit word. No call takes a lock or waits, and none but those
    that open takes memory. Link: libnr.a (or libnr.so), and nothing else but the C library. For x86-64
@@ -41,7 +43,7 @@ extern "C" {
 #define NR_DROPPED 9u    /* the key is not filled, so the update is dropped */
 #define NR_NO_ROW 10u    /* a row to be taken away is not there */
 #define NR_TOO_MANY 11u  /* more rows than a key may have */
-#define NR_NO_SLOT 12u   /* each slot is a filled key's or held by a reader */
+#define NR_NO_SLOT 12u   /* each slot is a filled key's or held by a reader, and readers hold some */
 #define NR_EVICTED 13u   /* the key was filled and is a hole now */
 #define NR_CANCELLED 14u /* the request is taken back; the key's next one gets the next number */
 #define NR_NOTHING 15u   /* there was nothing to evict or to cancel */
@@ -56,6 +58,53 @@ extern "C" {
 #define NR_NOT_POSTED 24u /* the queue is full, or another thread is in the way */
 #define NR_NOT_TAKEN 25u /* the queue is empty, or another thread is in the way */
 #define NR_OTHER 26u     /* the key hasn't, or no more, the set that the reader holds */
+#define NR_NO_KEY 27u    /* the map, or the queue, has no such key */
+#define NR_HOLDING 28u   /* the reader holds a set, which is to be released before */
+#define NR_NOT_HOLDING 29u /* the reader holds nothing */
+#define NR_ALL_FILLED 30u /* each slot is a filled key's, and no reader holds another */
+
+/* An answer in words. */
+static inline const char *nr_strerror(uint32_t answer) {
+  switch (answer) {
+  case NR_ROWS: return "the key has rows";
+  case NR_HOLE: return "the key is not filled";
+  case NR_SEND: return "the request is to be sent";
+  case NR_WAITING: return "a request is under way";
+  case NR_FILLED: return "the key is filled";
+  case NR_DONE: return "done";
+  case NR_NOT_ASKED: return "nobody asked for the key";
+  case NR_ALREADY: return "the key is filled already";
+  case NR_STALE: return "the fill names another request than the key's";
+  case NR_DROPPED: return "the key is not filled, so the update is dropped";
+  case NR_NO_ROW: return "no such row";
+  case NR_TOO_MANY: return "more rows than a key may have";
+  case NR_NO_SLOT: return "readers hold the slots that are no filled key's";
+  case NR_EVICTED: return "the key is a hole now";
+  case NR_CANCELLED: return "the request is taken back";
+  case NR_NOTHING: return "there was nothing to evict or to cancel";
+  case NR_WORN: return "the request has the last number";
+  case NR_ASKED: return "the key is asked for";
+  case NR_BAD_BATCH: return "no signed rows, or more than 64";
+  case NR_NOT_SORTED: return "the rows are not in order";
+  case NR_BAD_SIZE: return "a size is out of its limits";
+  case NR_NO_MEMORY: return "there is no memory";
+  case NR_NO_READER: return "each reader has a handle";
+  case NR_NO_POSTER: return "each poster has a handle";
+  case NR_NOT_POSTED: return "the queue is full, or another thread is in the way";
+  case NR_NOT_TAKEN: return "the queue is empty, or another thread is in the way";
+  case NR_OTHER: return "the key hasn't the set that is held";
+  case NR_NO_KEY: return "there is no such key";
+  case NR_HOLDING: return "the reader holds a set";
+  case NR_NOT_HOLDING: return "the reader holds nothing";
+  case NR_ALL_FILLED: return "each slot is a filled key's";
+  default: return "no answer of this library";
+  }
+}
+
+/* The version of this header, 0.1.0, whose three numbers have 8 bits each; and that for which the library was
+   made. Both are to be the same. */
+#define NR_VERSION 0x000100
+uint32_t nr_version(void);
 
 /* VALUES */
 
@@ -79,7 +128,7 @@ typedef struct nr_delta {
 
 /* What a map is opened with: 1 to 65,536 keys, 1 to 131,072 slots, 1 to 1,024 readers, 1 to 255 rows a
    key; any count at which the slots' departures begin, and a first number of requests up to 4,194,303.
-   With a slot for each key, each reader and one more no fill or update answers NR_NO_SLOT. The map's
+   With a slot for each key, each reader and one more no fill or update answers NR_NO_SLOT or NR_ALL_FILLED. The map's
    words take 8 bytes a key and 16 * rows + 16 a slot, and as much again while it is opened; the writer's
    lists take 8 bytes a key and 16 a slot beside them. */
 typedef struct nr_shape {
@@ -121,10 +170,11 @@ typedef struct nr_poster {
    Waiting for a key: note how often you were woken, look, request, sleep, in this order; whoever fills
    the key wakes after the fill. embed/c/wait.c does so by a condition variable and by eventfds, and
    has the dataflow sleep while nothing is posted.
-   No slot: nothing has changed. Evict a key or have readers release what they hold, and call again.
+   No slot: nothing has changed. After NR_NO_SLOT have readers release what they hold, or evict a key; after
+   NR_ALL_FILLED evict a key. Then call again.
    Keys that are hot together: give them numbers at least eight apart, since eight neighbours share a
-   line of the cache and each find writes its key's word. A reader that holds a hot key's set finds it
-   again by nr_again, which writes nothing.
+   line of the cache and each find writes its key's word. A reader of its own for a hot key finds it by
+   nr_find_kept, which writes nothing while the key keeps its set.
    To fill keys before anybody reads: request each by a reader (nr_ask), and fill it by the number told.
    Rows that refer to data of your own: who finds a set sees all that the writer's thread had written to
    memory before it put the set. When no reader holds a replaced set any more, the map doesn't tell.
@@ -148,7 +198,9 @@ uint32_t nr_open_reader(nr_writer *writer, nr_reader *reader);
 void nr_close_reader(nr_reader reader);
 void nr_close_writer(nr_writer writer);
 
-/* WHAT A READER CALLS. Owed: `reader` is live and holds no set, `key` is below the map's keys. */
+/* WHAT A READER CALLS. Owed: `reader` is live. nr_find, nr_ask and nr_pin answer NR_HOLDING where it holds a set;
+   nr_row_at, nr_copy, nr_again and nr_release NR_NOT_HOLDING where it holds nothing. Then there was no step, and
+   nothing has changed. */
 
 /* Looks a key up. NR_ROWS, and `rows` has its rows, after 2n + 3 steps for n of them; NR_HOLE after 1
    step, and `rows` stays as it was. */
@@ -165,23 +217,32 @@ uint32_t nr_ask(nr_reader *reader, uint32_t key, uint64_t *number);
 uint32_t nr_pin(nr_reader *reader, uint32_t key, uint32_t *count);
 
 /* A row of the held set, from 0, in 2 steps: NR_ROWS. NR_NO_ROW where it has no such row, without a step,
-   and `row` stays. Owed: `reader` is live and holds a set. */
+   and `row` stays. */
 uint32_t nr_row_at(nr_reader *reader, uint32_t place, nr_row *row);
+
+/* Writes the rows of the held set into `rows`, in 2 steps a row: NR_ROWS. */
+uint32_t nr_copy(nr_reader *reader, nr_rows *rows);
 
 /* Finds a key again, in 1 step, which loads one word and writes none. NR_ROWS where the key still has
    the set that the reader holds, put by the same fill or update: this is a find of the key, and its
    rows are those of the held set. NR_OTHER where it hasn't. The reader holds the same set in either
-   case. Owed: the handle is live and its reader holds a set; `key` is below the map's keys. */
+   case. */
 uint32_t nr_again(nr_reader *reader, uint32_t key);
 
-/* Ends the hold, in 1 step. Owed: `reader` is live and holds a set. A reader that is closed while it
-   holds a set is released. */
-void nr_release(nr_reader *reader);
+/* As nr_find, but the reader holds the set for the next call. Where the key still has the set that the
+   reader holds, NR_ROWS after 2n + 1 steps, which write no word. Else what was held is let go: NR_ROWS
+   after 2n + 2 steps; NR_HOLE after 1, and then the reader holds nothing and `rows` stays; 2 steps more
+   where something was held. A set that is held keeps its slot from being used anew, so a reader that
+   finds nothing for a while is to be released. */
+uint32_t nr_find_kept(nr_reader *reader, uint32_t key, nr_rows *rows);
 
-/* The map's sizes. No step. Owed: `reader` is live. */
+/* Ends the hold, in 1 step: NR_DONE. A reader that is closed while it holds a set is released. */
+uint32_t nr_release(nr_reader *reader);
+
+/* The map's sizes. No step. */
 void nr_sizes(nr_reader *reader, nr_size *sizes);
 
-/* WHAT THE WRITER CALLS. Owed: `writer` is live, `key` is below the map's keys. */
+/* WHAT THE WRITER CALLS. Owed: `writer` is live. */
 
 /* The writer's own find. NR_ROWS after 2n + 2 steps for n rows; NR_HOLE after 1, and `rows` stays as it
    was. */
@@ -190,13 +251,14 @@ uint32_t nr_look(nr_writer *writer, uint32_t key, nr_rows *rows);
 /* Fills a key that was asked for, by the number of its request, with n rows in ascending order, doubles
    kept. NR_TOO_MANY and NR_NOT_SORTED without a step; NR_NOT_ASKED, NR_ALREADY or NR_STALE after 1;
    NR_DONE after 2n + 3 and a step for each slot that it polled, at most one more than there are
-   readers; NR_NO_SLOT. */
+   readers; NR_NO_SLOT or NR_ALL_FILLED. */
 uint32_t nr_fill(nr_writer *writer, uint32_t key, uint64_t number, const nr_row *rows, size_t n);
 
 /* Applies 1 to 64 signed rows to the rows of a filled key, whole or not at all; all rows to be added
    come before any is taken away, and how many rows there are is looked at in the result alone.
    NR_BAD_BATCH without a step; NR_DROPPED after 1; with o rows before and
-   n after, NR_NO_ROW or NR_TOO_MANY after 2o + 2, NR_DONE after 2o + 2n + 4 and the polls; NR_NO_SLOT. */
+   n after, NR_NO_ROW or NR_TOO_MANY after 2o + 2, NR_DONE after 2o + 2n + 4 and the polls; NR_NO_SLOT or
+   NR_ALL_FILLED. */
 uint32_t nr_update(nr_writer *writer, uint32_t key, const nr_delta *deltas, size_t n);
 
 /* Makes a filled key a hole. NR_EVICTED after 2 steps, NR_NOTHING after 1. */
@@ -209,9 +271,9 @@ uint32_t nr_cancel(nr_writer *writer, uint32_t key);
 /* What a key is, in 1 step: NR_HOLE, NR_ASKED or NR_ROWS. */
 uint32_t nr_state(nr_writer *writer, uint32_t key);
 
-/* The number of a key's request, or of its next one where nobody asks: its fill has to name that number. No
-   step. */
-uint64_t nr_number(nr_writer *writer, uint32_t key);
+/* NR_DONE, and `number` is the number of the key's request, or of its next one where nobody asks: its fill
+   has to name that number. No step. */
+uint32_t nr_number(nr_writer *writer, uint32_t key, uint64_t *number);
 
 /* WHICH READS SEE WHICH WRITES. A call of the writer that returned is seen by each find that begins after a
    message about it came: by a thread's start or join, a lock, or a sequentially consistent or a release and
@@ -220,17 +282,18 @@ uint64_t nr_number(nr_writer *writer, uint32_t key);
    for that: in the map's contracts such a message carries a note, whose steps only load. These functions have
    no notes, so no clause of theirs says it. */
 
-/* WHAT TOKENS LEARN OF EACH OTHER, in 2 steps of the one that learns and 1 of the other. It changes no key and
-   no answer: it says whose calls the one history has, in the contracts. Owed: both handles are live and of one map; the
-   readers hold no set, but that of nr_gather_pin holds one. */
+/* WHAT TOKENS LEARN OF EACH OTHER, in 2 steps of the one that learns and 1 of the other: NR_DONE. It changes no
+   key and no answer: it says whose calls the one history has, in the contracts. NR_HOLDING where a reader holds
+   a set, but of nr_gather_pin NR_NOT_HOLDING where it holds nothing; then nothing has changed. Owed: both handles
+   are live and of one map. */
 
 /* The reader learns all that the writer, or the other reader, has seen. */
-void nr_meet(nr_reader *reader, nr_writer *writer);
-void nr_meet_readers(nr_reader *reader, nr_reader *other);
+uint32_t nr_meet(nr_reader *reader, nr_writer *writer);
+uint32_t nr_meet_readers(nr_reader *reader, nr_reader *other);
 
 /* The writer learns all that the reader has seen, and then the reader all that the writer has. */
-void nr_gather(nr_writer *writer, nr_reader *reader);
-void nr_gather_pin(nr_writer *writer, nr_reader *reader);
+uint32_t nr_gather(nr_writer *writer, nr_reader *reader);
+uint32_t nr_gather_pin(nr_writer *writer, nr_reader *reader);
 
 /* REQUESTS ON THEIR WAY TO WHOEVER FILLS THEM: a queue without a lock, for many threads that post and one
    that takes, first in first out. It knows nothing of a map but how many keys it has. What was taken, and
@@ -253,7 +316,7 @@ void nr_close_poster(nr_poster poster);
 void nr_close_taker(nr_taker taker);
 
 /* Puts a request at the back. NR_DONE; NR_NOT_POSTED, also once the queue has carried 2^62 of them. Owed:
-   `poster` is live, `key` is below the queue's keys. */
+   `poster` is live. */
 uint32_t nr_post(nr_poster *poster, uint32_t key, uint64_t number);
 
 /* Takes the request at the front. NR_DONE, and `key` and `number` are its own; NR_NOT_TAKEN, and they stay

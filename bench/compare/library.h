@@ -11,7 +11,7 @@
 #include <string.h>
 #include <time.h>
 
-enum { ORDER = 8192, READERS = 4, MOST = 8 };
+enum { ORDER = 8192, READERS = 4, MOST = 8, MOST_HANDS = 960 };
 
 typedef struct {
   const char *name;
@@ -22,12 +22,18 @@ typedef struct {
   uint32_t (*fill)(nr_writer *, uint32_t, uint64_t, const nr_row *, size_t);
   uint32_t (*update)(nr_writer *, uint32_t, const nr_delta *, size_t);
   uint32_t (*evict)(nr_writer *, uint32_t);
+  /* Where the library has them, and else none. */
+  uint32_t (*pin)(nr_reader *, uint32_t, uint32_t *);
+  uint32_t (*again)(nr_reader *, uint32_t);
+  void (*release)(nr_reader *);
+  uint32_t (*find_kept)(nr_reader *, uint32_t, nr_rows *);
   void *from;
   nr_writer writer;
   struct {
     nr_reader handle;
     char apart[120];
   } reader[READERS];
+  nr_reader hand[MOST_HANDS];
 } library;
 
 static void stop(const char *why) {
@@ -60,6 +66,10 @@ static void load(library *l, const char *name, const char *path, nr_shape shape)
   *(void **)&l->fill = function(l->from, "nr_fill");
   *(void **)&l->update = function(l->from, "nr_update");
   *(void **)&l->evict = function(l->from, "nr_evict");
+  *(void **)&l->pin = dlsym(l->from, "nr_pin");
+  *(void **)&l->again = dlsym(l->from, "nr_again");
+  *(void **)&l->release = dlsym(l->from, "nr_release");
+  *(void **)&l->find_kept = dlsym(l->from, "nr_find_kept");
   if (l->open(&shape, &l->writer) != NR_DONE) stop("an opening");
   for (int i = 0; i < READERS; i++)
     if (l->open_reader(&l->writer, &l->reader[i].handle) != NR_DONE) stop("a reader");

@@ -15,21 +15,31 @@ static const double WINDOW = 2e6;
 
 typedef enum {
   READ_1, READ_3, HOT_3, BESIDE_WRITER, UPDATE, HALF, LAST, HOT_WRITTEN, HOT_UPDATE, HOT_EACH_1, HOT_EACH_10, SKEWED_1,
-  SKEWED_3, STEEP_1, STEEP_3, FILL, EVICT, COLUMNS
+  SKEWED_3, STEEP_1, STEEP_3, FILL, EVICT, AGAIN, KEPT_3, KEPT_WRITTEN, KEPT_EACH_1, KEPT_EACH_10, HELD,
+  COLUMNS = HELD + 4 * 3
 } column;
+
+/* How many held sets a thread's cache has, in the columns from HELD on: of each skew by 1 and by 3 threads. */
+static const int hands[3] = {32, 128, MOST_HANDS / 3};
 
 static const char *const names[COLUMNS] = {"read by 1", "read by 3", "hot key by 3", "read by 3 beside writer",
     "update beside 3 readers", "p50 of a read beside writer", "p99.9 of a read beside writer",
     "hot key by 3 beside its writer", "update of the hot key", "hot key by 3, written each 1 us",
     "hot key by 3, written each 10 us", "skew 0.99 by 1", "skew 0.99 by 3", "skew 1.2 by 1", "skew 1.2 by 3", "fill",
-    "eviction"};
+    "eviction", "again by 1", "kept: hot key by 3", "kept: hot key by 3 beside its writer",
+    "kept: hot key by 3, written each 1 us", "kept: hot key by 3, written each 10 us", "skew 0.99 by 1, 32 hands",
+    "skew 0.99 by 1, 128 hands", "skew 0.99 by 1, 320 hands", "skew 0.99 by 3, 32 hands", "skew 0.99 by 3, 128 hands",
+    "skew 0.99 by 3, 320 hands", "skew 1.2 by 1, 32 hands", "skew 1.2 by 1, 128 hands", "skew 1.2 by 1, 320 hands",
+    "skew 1.2 by 3, 32 hands", "skew 1.2 by 3, 128 hands", "skew 1.2 by 3, 320 hands"};
 
 /* Which keys are read: each as often as another, one alone, or few of them often, by Zipf's law. */
 typedef enum { EVEN, SKEWED, STEEP, ORDERS, HOT = ORDERS } keys_read;
 
 static const double NEVER = -1, ALWAYS = 0;
 
-static library maps[MOST];
+/* The maps, and behind them those that are read by held sets, with a reader for each hand and slots for all that they
+   hold. */
+static library maps[2 * MOST];
 static double each[COLUMNS][MOST][MOST_ROUNDS], over[COLUMNS][MOST][MOST_ROUNDS];
 static double bytes[MOST];
 static int count, deltas;
@@ -37,13 +47,15 @@ static uint32_t rows, bound;
 static uint32_t order[ORDERS][READERS][ORDER];
 static nr_row set[255];
 static nr_delta there[2], back[2];
-static char is_there[MOST][KEYS];
-static int from[MOST];
+static char is_there[2 * MOST][KEYS];
+static int from[2 * MOST];
 
 typedef struct {
   library *map;
   int id;
   keys_read keys;
+  /* Of the thread's cache of held sets; 0: none. */
+  int hands;
   double each;
 } job;
 
@@ -56,9 +68,20 @@ static void wait_for_all(void) {
   while (!atomic_load(&go)) sched_yield();
 }
 
+/* The hand of a thread's cache at the key's place. */
+static nr_reader *hand_of(const job *j, uint32_t key) {
+  return &j->map->hand[j->id * (MOST_HANDS / 3) + (int)(key % (uint32_t)j->hands)];
+}
+
+static uint32_t key_at(const job *j, int i) {
+  return j->keys == HOT ? HOT_KEY : order[j->keys][j->id][i % ORDER];
+}
+
 static void find(const job *j, int i, nr_rows *found) {
-  uint32_t key = j->keys == HOT ? HOT_KEY : order[j->keys][j->id][i % ORDER];
-  if (j->map->find(&j->map->reader[j->id].handle, key, found) != NR_ROWS) stop("a find");
+  uint32_t key = key_at(j, i);
+  uint32_t told = j->hands ? j->map->find_kept(hand_of(j, key), key, found)
+                           : j->map->find(&j->map->reader[j->id].handle, key, found);
+  if (told != NR_ROWS) stop("a find");
   if (found->count != rows && (rows || found->count > 1)) stop("a number of rows");
 }
 
@@ -75,6 +98,36 @@ static void *reads(void *given) {
   j->each = (ended - began) / made;
   atomic_fetch_sub(&running, 1);
   return NULL;
+}
+
+/* Looks at one held set again and again. */
+static void *looks_again(void *given) {
+  job *j = given;
+  uint32_t held;
+  if (j->map->pin(&j->map->hand[0], HOT_KEY, &held) != NR_ROWS) stop("a pin");
+  wait_for_all();
+  double began = now(), ended;
+  int made = 0;
+  do {
+    for (int i = 0; i < 64; i++, made++)
+      if (j->map->again(&j->map->hand[0], HOT_KEY) != NR_ROWS) stop("a second look");
+    ended = now();
+  } while (ended - began < WINDOW);
+  j->each = (ended - began) / made;
+  j->map->release(&j->map->hand[0]);
+  atomic_fetch_sub(&running, 1);
+  return NULL;
+}
+
+/* Ends what the threads' caches hold, so that no slot is kept from the writer: each hand finds a key first, since a
+   release is owed a held set. */
+static void let_go(const job *j) {
+  static nr_rows found;
+  for (int i = 0; i < j->hands; i++) {
+    nr_reader *hand = &j->map->hand[j->id * (MOST_HANDS / 3) + i];
+    if (j->map->find_kept(hand, HOT_KEY, &found) != NR_ROWS) stop("a find");
+    j->map->release(hand);
+  }
 }
 
 /* The time of each read by itself, with what the clock costs. */
@@ -100,14 +153,14 @@ static void update(library *l, uint32_t key) {
 }
 
 /* Runs readers, and beside them a writer that begins an update each so many nanoseconds, or none; what one update took. */
-static double run(library *l, int threads, void *(*body)(void *), keys_read keys, double each_so, double *read) {
+static double run_with(library *l, int hands, int threads, void *(*body)(void *), keys_read keys, double each_so, double *read) {
   pthread_t t[READERS];
   job jobs[READERS];
   atomic_store(&ready, 0);
   atomic_store(&running, threads);
   atomic_store(&go, 0);
   for (int i = 0; i < threads; i++) {
-    jobs[i] = (job){l, i, keys, 0};
+    jobs[i] = (job){l, i, keys, hands, 0};
     if (pthread_create(&t[i], NULL, body, &jobs[i])) stop("a thread");
   }
   while (atomic_load(&ready) < threads) sched_yield();
@@ -124,8 +177,13 @@ static double run(library *l, int threads, void *(*body)(void *), keys_read keys
   for (int i = 0; i < threads; i++) {
     pthread_join(t[i], NULL);
     *read += jobs[i].each / threads;
+    if (hands) let_go(&jobs[i]);
   }
   return made ? took / made : took;
+}
+
+static double run(library *l, int threads, void *(*body)(void *), keys_read keys, double each_so, double *read) {
+  return run_with(l, 0, threads, body, keys, each_so, read);
 }
 
 /* Evicts keys, requests them, and fills them. */
@@ -143,6 +201,25 @@ static void fill_again(library *l, int round, double *fill, double *evict) {
     if (l->fill(&l->writer, key, 0, set, rows) != NR_DONE) stop("a fill");
   *fill = (now() - began) / PART;
   memset(&is_there[l - maps][first], 0, PART);
+}
+
+/* Reads by held sets. A map that has none is told again by the column of its plain reads. */
+static void measure_kept(int m, int r) {
+  library *l = &maps[MOST + m];
+  static const column plain[] = {READ_1, HOT_3, HOT_WRITTEN, HOT_EACH_1, HOT_EACH_10};
+  static const column skewed[] = {SKEWED_1, SKEWED_3, STEEP_1, STEEP_3};
+  if (!maps[m].find_kept) {
+    for (int i = 0; i < 5; i++) each[AGAIN + i][m][r] = each[plain[i]][m][r];
+    for (int i = 0; i < 12; i++) each[HELD + i][m][r] = each[skewed[i / 3]][m][r];
+    return;
+  }
+  run(l, 1, looks_again, HOT, NEVER, &each[AGAIN][m][r]);
+  run_with(l, 1, 3, reads, HOT, NEVER, &each[KEPT_3][m][r]);
+  run_with(l, 1, 3, reads, HOT, ALWAYS, &each[KEPT_WRITTEN][m][r]);
+  run_with(l, 1, 3, reads, HOT, 1e3, &each[KEPT_EACH_1][m][r]);
+  run_with(l, 1, 3, reads, HOT, 1e4, &each[KEPT_EACH_10][m][r]);
+  for (int i = 0; i < 12; i++)
+    run_with(l, hands[i % 3], i / 3 % 2 ? 3 : 1, reads, i / 6 ? STEEP : SKEWED, NEVER, &each[HELD + i][m][r]);
 }
 
 static void measure(int m, int r) {
@@ -163,6 +240,7 @@ static void measure(int m, int r) {
   run(l, 1, reads, STEEP, NEVER, &each[STEEP_1][m][r]);
   run(l, 3, reads, STEEP, NEVER, &each[STEEP_3][m][r]);
   fill_again(l, r, &each[FILL][m][r], &each[EVICT][m][r]);
+  measure_kept(m, r);
 }
 
 /* Keys by Zipf's law, the hottest ones anywhere among the numbers, and the same ones for all readers. */
@@ -195,19 +273,29 @@ static double in_use(void) {
   return (double)info.uordblks + (double)info.hblkhd;
 }
 
-static void begin(char *argument) {
-  char *split = strchr(argument, '=');
-  if (!split || count == MOST) stop("NAME=LIBRARY.so");
-  *split = 0;
-  library *l = &maps[count];
-  double before = in_use();
-  load(l, argument, split + 1, (nr_shape){KEYS, KEYS + READERS + 1, READERS, bound, 0, 0});
+static void open_filled(library *l, const char *name, const char *path, uint32_t readers) {
+  load(l, name, path, (nr_shape){KEYS, KEYS + readers + 1, readers, bound, 0, 0});
   for (uint32_t key = 0; key < KEYS; key++) {
     uint64_t number;
     if (l->ask(&l->reader[0].handle, key, &number) != NR_SEND) stop("a request");
     if (l->fill(&l->writer, key, number, set, rows) != NR_DONE) stop("a fill");
   }
-  bytes[count++] = (in_use() - before) / KEYS;
+}
+
+static void begin(char *argument) {
+  char *split = strchr(argument, '=');
+  if (!split || count == MOST) stop("NAME=LIBRARY.so");
+  *split = 0;
+  double before = in_use();
+  open_filled(&maps[count], argument, split + 1, READERS);
+  bytes[count] = (in_use() - before) / KEYS;
+  if (maps[count].find_kept) {
+    library *l = &maps[MOST + count];
+    open_filled(l, argument, split + 1, READERS + MOST_HANDS);
+    for (int i = 0; i < MOST_HANDS; i++)
+      if (l->open_reader(&l->writer, &l->hand[i]) != NR_DONE) stop("a hand");
+  }
+  count++;
 }
 
 static void tell(const char *column, int m, double value, double ratio) {

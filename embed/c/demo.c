@@ -63,6 +63,46 @@ static void test_queue(nr_taker *taker, nr_poster *poster) {
   if (nr_open_queue(KEYS, 1, 1025, &small) != NR_BAD_SIZE) stop("1,025 posters");
 }
 
+/* A reader that holds nothing keeps what it finds: it finds the same set again, another one after an update, another key's,
+   and then a hole, at which it holds nothing. */
+static void test_kept(nr_writer *writer, nr_reader *reader) {
+  const nr_delta more = {{20, 20}, true};
+  nr_rows rows;
+  for (int turn = 0; turn < 2; turn++)
+    if (nr_find_kept(reader, 20, &rows) != NR_ROWS || rows.count != 2 || rows.row[0].b != 400) stop("a find that is kept");
+  if (nr_again(reader, 20) != NR_ROWS) stop("a set that was kept");
+  if (nr_update(writer, 20, &more, 1) != NR_DONE) stop("an update of a set that is kept");
+  if (nr_find_kept(reader, 20, &rows) != NR_ROWS || rows.count != 3 || rows.row[0].b != 20) stop("a kept find anew");
+  if (nr_find_kept(reader, 21, &rows) != NR_ROWS || rows.count != 2 || rows.row[0].a != 21) stop("another key's kept find");
+  rows.count = 0;
+  if (nr_copy(reader, &rows) != NR_ROWS || rows.count != 2 || rows.row[1].b != 9261) stop("a copy of a kept set");
+  nr_release(reader);
+  if (nr_find_kept(reader, 21, &rows) != NR_ROWS || nr_evict(writer, 21) != NR_EVICTED) stop("an eviction of a kept set");
+  rows.count = 99;
+  if (nr_find_kept(reader, 21, &rows) != NR_HOLE || rows.count != 99) stop("a kept find of a hole");
+  if (nr_find(reader, 20, &rows) != NR_ROWS || rows.count != 3) stop("a find after kept ones");
+}
+
+/* A key that the map hasn't is refused by each call of a reader, the writer and a poster, and nothing is told. */
+static void test_no_key(nr_writer *writer, nr_reader *reader, nr_poster *poster, uint32_t key) {
+  const nr_row row = {1, 1};
+  const nr_delta more = {{1, 1}, true};
+  static nr_rows rows;
+  uint64_t number = 88;
+  uint32_t count = 77;
+  rows.count = 99;
+  if (nr_find(reader, key, &rows) != NR_NO_KEY || nr_find_kept(reader, key, &rows) != NR_NO_KEY) stop("a find of no key");
+  if (nr_ask(reader, key, &number) != NR_NO_KEY || nr_pin(reader, key, &count) != NR_NO_KEY) stop("a pin of no key");
+  if (nr_look(writer, key, &rows) != NR_NO_KEY || nr_number(writer, key, &number) != NR_NO_KEY) stop("a look at no key");
+  if (nr_fill(writer, key, 0, &row, 1) != NR_NO_KEY || nr_update(writer, key, &more, 1) != NR_NO_KEY) stop("rows of no key");
+  if (nr_evict(writer, key) != NR_NO_KEY || nr_cancel(writer, key) != NR_NO_KEY) stop("an eviction of no key");
+  if (nr_state(writer, key) != NR_NO_KEY || nr_post(poster, key, 0) != NR_NO_KEY) stop("a post of no key");
+  if (nr_pin(reader, 3, &count) != NR_ROWS || count != 2 || nr_again(reader, key) != NR_NO_KEY) stop("again at no key");
+  if (nr_again(reader, 3) != NR_ROWS) stop("a pin after keys that the map hasn't");
+  if (nr_release(reader) != NR_DONE) stop("a release");
+  if (rows.count != 99 || number != 88) stop("what no key told");
+}
+
 /* The calls of one thread, at the end. */
 static void test_calls(nr_writer *writer, nr_reader *one, nr_reader *two) {
   nr_delta batch[2] = {{{7, 49}, false}, {{9, 9}, true}};
@@ -74,16 +114,17 @@ static void test_calls(nr_writer *writer, nr_reader *one, nr_reader *two) {
   uint64_t number;
   if (nr_ask(one, 7, &number) != NR_SEND || number != 0) stop("a request");
   if (nr_cancel(writer, 7) != NR_CANCELLED || nr_state(writer, 7) != NR_HOLE) stop("a cancel");
-  if (nr_number(writer, 7) != 1) stop("a number");
+  if (nr_number(writer, 7, &number) != NR_DONE || number != 1) stop("a number");
   if (nr_ask(one, 7, &number) != NR_SEND || number != 1) stop("a request after a cancel");
   nr_row apart[2] = {{2, 0}, {1, 0}};
   if (nr_fill(writer, 7, 0, apart, 1) != NR_STALE || nr_fill(writer, 7, 1, apart, 2) != NR_NOT_SORTED) stop("a late fill");
-  nr_meet(one, writer);
-  nr_meet_readers(one, two);
-  nr_gather(writer, two);
+  if (nr_meet(one, writer) != NR_DONE || nr_meet_readers(one, two) != NR_DONE) stop("a meeting");
+  if (nr_gather(writer, two) != NR_DONE || nr_gather_pin(writer, one) != NR_NOT_HOLDING) stop("a gather");
   uint32_t held;
   if (nr_pin(one, 8, &held) != NR_ROWS || held != 2) stop("a pin at the end");
-  nr_gather_pin(writer, one);
+  if (nr_gather_pin(writer, one) != NR_DONE || nr_gather(writer, one) != NR_HOLDING) stop("a gather of a pin");
+  if (nr_meet(one, writer) != NR_HOLDING || nr_meet_readers(one, two) != NR_HOLDING) stop("a meeting of a holder");
+  if (nr_meet_readers(two, one) != NR_HOLDING) stop("a meeting with a holder");
   if (nr_again(one, 8) != NR_ROWS || nr_again(one, 9) != NR_OTHER) stop("a find again");
   if (nr_update(writer, 8, batch + 1, 1) != NR_DONE || nr_again(one, 8) != NR_OTHER) stop("a find again after an update");
   nr_size sizes;
@@ -136,6 +177,12 @@ int main(void) {
   if (fills(&writer, &taker) != KEYS) stop("not each key was filled once");
   for (int i = 0; i < READERS; i++) pthread_join(threads[i], NULL);
   test_queue(&taker, &clients[0].poster);
+  test_kept(&writer, &clients[1].reader);
+  test_no_key(&writer, &clients[1].reader, &clients[0].poster, KEYS);
+  test_no_key(&writer, &clients[1].reader, &clients[0].poster, UINT32_MAX);
+  uint32_t key = 0;
+  uint64_t number = 0;
+  if (nr_take(&taker, &key, &number) != NR_NOT_TAKEN) stop("a take of no key");
   test_calls(&writer, &clients[0].reader, &clients[1].reader);
   for (int i = 0; i < READERS; i++) {
     nr_close_reader(clients[i].reader);

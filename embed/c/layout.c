@@ -141,7 +141,18 @@ static void test_closing(void) {
   nr_close_writer(writer);
 }
 
+/* Each answer has words of its own, and the library is of this header's version. */
+static void test_words(void) {
+  const uint32_t answers = NR_ALL_FILLED + 1;
+  for (uint32_t one = 0; one < answers; one++)
+    for (uint32_t other = one + 1; other <= answers; other++)
+      wants("two answers in the same words", 1, strcmp(nr_strerror(one), nr_strerror(other)) != 0);
+  wants("words of no answer", 0, (uint64_t)strcmp(nr_strerror(answers), nr_strerror(UINT32_MAX)));
+  wants("the version", NR_VERSION, nr_version());
+}
+
 int main(void) {
+  test_words();
   test_shape();
   test_closing();
   nr_shape shape = {3, 5, 2, 4, 11, 7};
@@ -151,7 +162,9 @@ int main(void) {
   wants("a reader", NR_DONE, nr_open_reader(&writer, &reader));
   wants("a second reader", NR_DONE, nr_open_reader(&writer, &second));
   wants("a third reader", NR_NO_READER, nr_open_reader(&writer, &third));
-  wants("the first number", 7, nr_number(&writer, 2));
+  uint64_t number = 0;
+  wants("a number", NR_DONE, nr_number(&writer, 2, &number));
+  wants("the first number", 7, number);
   test_sizes(&reader);
   test_rows(&writer, &reader);
   nr_close_reader(reader);

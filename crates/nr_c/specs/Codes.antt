@@ -1,6 +1,7 @@
 -- The number that stands for each answer.
-use Rattle.std.specs.Prelude.{ℕ, Result, Ok, Err}
-use Rattle.nr_c.specs.Numbers.{answer_already, answer_asked, answer_cancelled, answer_done, answer_dropped, answer_evicted, answer_filled, answer_hole, answer_no_row, answer_no_slot, answer_not_asked, answer_nothing, answer_rows, answer_send, answer_stale, answer_too_many, answer_waiting, answer_worn}
+use Rattle.std.specs.Prelude.{ℕ, ◌==◌, if◌then◌else◌, Result, Ok, Err}
+use Rattle.nr_c.specs.Numbers.{answer_already, answer_asked, answer_cancelled, answer_done, answer_dropped, answer_evicted, answer_filled, answer_hole, answer_no_row, answer_all_filled, answer_no_slot, answer_not_asked, answer_nothing, answer_rows, answer_send, answer_stale, answer_too_many, answer_waiting, answer_worn}
+use Rattle.nr_machine.specs.declared.calls.NoSlot.{NoSlot}
 use Rattle.nr_map.specs.declared.answers.Asked.{Asked}
 use Rattle.nr_map.specs.declared.answers.Asked.TheVariants as asked
 use Rattle.nr_board.specs.declared.answers.Cancel.{Cancel}
@@ -25,19 +26,23 @@ ask_code (asked.Send ticket) = answer_send
 ask_code asked.Waiting = answer_waiting
 ask_code asked.Filled = answer_filled
 
+-- readers hold some of the slots, or each is a filled key's
+abbrev pub no_slot_code : NoSlot → ℕ
+no_slot_code counts = if counts.held == 0 then answer_all_filled else answer_no_slot
+
 abbrev pub fill_code : Result (Unit {0}) FillFault → ℕ
 fill_code (Ok done) = answer_done
 fill_code (Err fill.NotAsked) = answer_not_asked
 fill_code (Err fill.Already) = answer_already
 fill_code (Err fill.Stale) = answer_stale
-fill_code (Err (fill.NoSlot counts)) = answer_no_slot
+fill_code (Err (fill.NoSlot counts)) = no_slot_code counts
 
 abbrev pub update_code : Result (Unit {0}) UpdateFault → ℕ
 update_code (Ok done) = answer_done
 update_code (Err update.Dropped) = answer_dropped
 update_code (Err update.NoRow) = answer_no_row
 update_code (Err update.TooMany) = answer_too_many
-update_code (Err (update.NoSlot counts)) = answer_no_slot
+update_code (Err (update.NoSlot counts)) = no_slot_code counts
 
 abbrev pub evict_code : Evict → ℕ
 evict_code evict.Evicted = answer_evicted

@@ -1,7 +1,8 @@
 -- A reader between two calls: whose it is, and how it ends.
-use Rattle.std.specs.Prelude.{◌≡◌, Option, None, Some}
+use Rattle.std.specs.Prelude.{◌≡◌, ℕ, Option, None, Some}
 use Rattle.nr_marks.specs.Marks.{acted}
 use Rattle.nr_board.specs.Callers.{Caller, Rests, Table}
+use Rattle.nr_map.specs.Hands.{Handed, holding, idle}
 use Rattle.nr_map.specs.Pins.{Pinned}
 use Rattle.nr_c.specs.declared.hand.Hand.{Hand}
 use Rattle.nr_c.specs.declared.hand.Hand.TheVariants.{Idle, Holds, Taken}
@@ -23,3 +24,16 @@ abbrev pub EndsHand : Hand → Option Caller → Type 0
 EndsHand (Idle reader) left = left ≡ Some reader
 EndsHand (Holds pin) left = (reader : Caller) × (left ≡ Some reader) × LetsGo pin reader
 EndsHand Taken left = left ≡ None
+
+-- the reader holds nothing, and it holds a set
+abbrev pub HoldsNone : Hand → Type 0
+HoldsNone hand = (reader : Caller) × (hand ≡ Idle reader)
+
+abbrev pub HoldsSome : Hand → Type 0
+HoldsSome hand = (pin : Pinned) × (hand ≡ Holds pin)
+
+-- the reader as one of the map's hands, which takes a held set for that of some key
+abbrev pub InHand : Hand → Handed → Type 0
+InHand (Idle reader) hand = hand ≡ idle reader
+InHand (Holds pin) hand = (key : ℕ) × (hand ≡ holding key pin)
+InHand Taken hand = ⊥

@@ -11,6 +11,7 @@ pub mod Openings
 pub mod Live
 pub mod Meets
 pub mod Pins
+pub mod Kept
 pub mod Writes
 pub mod PosterHandles
 pub mod PosterFollows

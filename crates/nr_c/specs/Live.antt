@@ -1,30 +1,70 @@
 -- What a call from C keeps of a handle, and what its token gains.
-use Rattle.std.specs.Prelude.{ℕ, ◌+◌, ◌≡◌, ◌<◌, List, [], ◌∷◌, None}
+use Rattle.std.specs.Prelude.{ℕ, ◌+◌, ◌≡◌, ◌<◌, ◌≤◌, ◌⊎◌, List, [], ◌∷◌, None}
 use Rattle.nr_map.specs.declared.answers.Asked.{Asked}
 use Rattle.nr_map.specs.declared.answers.Asked.TheVariants as asked
 use Rattle.nr_board.specs.declared.answers.Found.{Found}
 use Rattle.nr_map.specs.Answers.{AsksKey, FindsIn, acts_of}
-use Rattle.nr_map.specs.Pins.{Pinned}
+use Rattle.nr_map.specs.Hands.{Handed}
 use Rattle.nr_board.specs.Callers.{Caller}
 use Rattle.nr_c.specs.declared.hand.Hand.{Hand}
-use Rattle.nr_c.specs.declared.hand.Hand.TheVariants.{Holds, Idle}
+use Rattle.nr_c.specs.declared.hand.Hand.TheVariants.{Idle}
 use Rattle.nr_c.specs.declared.reader_side.ReaderSide.{ReaderSide}
 use Rattle.nr_c.specs.declared.writer_side.WriterSide.{WriterSide}
 use Rattle.nr_c.specs.declared.rows.NrRows.{NrRows}
 use Rattle.nr_c.specs.Codes.{ask_code, found_code}
+use Rattle.nr_c.specs.Hands.{HoldsNone, HoldsSome, InHand}
+use Rattle.nr_c.specs.Numbers.{answer_holding, answer_no_key, answer_not_holding}
 use Rattle.nr_c.specs.RowCells.{ShowsSet}
 
--- the handle is live, its reader holds nothing, and its map has that key
-abbrev pub MayRead : ℕ → List ReaderSide → Type 0
-MayRead key live = (held : ReaderSide) × (idle : Caller) × (live ≡ held ∷ []) × (held.hand ≡ Idle idle) × (key < held.map.value.shape.keys)
+-- the handle is live, and no other call has its reader
+abbrev pub MayRead : List ReaderSide → Type 0
+MayRead live = (held : ReaderSide) × (hand : Handed) × (live ≡ held ∷ []) × InHand held.hand hand
 
--- the handle is live, and its reader holds a set
-abbrev pub HasPin : List ReaderSide → Type 0
-HasPin live = (held : ReaderSide) × (pin : Pinned) × (live ≡ held ∷ []) × (held.hand ≡ Holds pin)
+-- the writer's handle is live
+abbrev pub MayWrite : List WriterSide → Type 0
+MayWrite live = (held : WriterSide) × (live ≡ held ∷ [])
 
--- the writer's handle is live, and its map has that key
-abbrev pub MayWrite : ℕ → List WriterSide → Type 0
-MayWrite key live = (held : WriterSide) × (live ≡ held ∷ []) × (key < held.map.value.shape.keys)
+-- how many keys the map of a handle has
+abbrev pub reader_keys : ReaderSide → ℕ
+reader_keys side = side.map.value.shape.keys
+
+abbrev pub writer_keys : WriterSide → ℕ
+writer_keys side = side.map.value.shape.keys
+
+-- there is no such key, which the code says; the handle leads to what it led to, and what it would tell stays
+pub record RefusesKey {Side : Type 0} (keys : Side → ℕ) (key code : ℕ) (stays : Type 0) (before after : List Side) : Type 0 where
+  pub code_is : code ≡ answer_no_key
+  pub stay : stays
+  pub held : Side
+  pub was : before ≡ held ∷ []
+  pub is : after ≡ held ∷ []
+  pub above : keys held ≤ key
+
+pub record HasKey {Side : Type 0} (keys : Side → ℕ) (key : ℕ) (before : List Side) : Type 0 where
+  pub held : Side
+  pub was : before ≡ held ∷ []
+  pub below : key < keys held
+
+-- a call with a key: it is refused where there is no such key, and else does what it does
+abbrev pub WithKey : {Side : Type 0} → (Side → ℕ) → ℕ → ℕ → Type 0 → (List Side → List Side → Type 0) → List Side → List Side → Type 0
+WithKey keys key code stays does before after = RefusesKey keys key code stays before after ⊎ (HasKey keys key before × does before after)
+
+-- the reader isn't as the call wants it, which the code says; nothing has changed
+pub record RefusesHand (kind : Hand → Type 0) (answer code : ℕ) (stays : Type 0) (before after : List ReaderSide) : Type 0 where
+  pub code_is : code ≡ answer
+  pub stay : stays
+  pub held : ReaderSide
+  pub was : before ≡ held ∷ []
+  pub is : after ≡ held ∷ []
+  pub hand : kind held.hand
+
+-- a call of a reader that holds nothing: it is refused where the reader holds a set
+abbrev pub WhenIdle : ℕ → Type 0 → (List ReaderSide → List ReaderSide → Type 0) → List ReaderSide → List ReaderSide → Type 0
+WhenIdle code stays does before after = RefusesHand HoldsSome answer_holding code stays before after ⊎ does before after
+
+-- a call of a reader that holds a set: it is refused where the reader holds nothing
+abbrev pub WhenHolding : ℕ → Type 0 → (List ReaderSide → List ReaderSide → Type 0) → List ReaderSide → List ReaderSide → Type 0
+WhenHolding code stays does before after = RefusesHand HoldsNone answer_not_holding code stays before after ⊎ does before after
 
 -- the handle leads to one side, of the same map before and after, whose reader was in the one hand and is in the other
 pub record TurnsHand (before after : List ReaderSide) (was is : Hand) : Type 0 where

@@ -81,3 +81,19 @@ answer_not_taken = 25
 
 abbrev pub answer_other : ℕ
 answer_other = 26
+
+abbrev pub answer_no_key : ℕ
+answer_no_key = 27
+
+abbrev pub answer_holding : ℕ
+answer_holding = 28
+
+abbrev pub answer_not_holding : ℕ
+answer_not_holding = 29
+
+abbrev pub answer_all_filled : ℕ
+answer_all_filled = 30
+
+-- the version 0.1.0, whose numbers have 8 bits each
+abbrev pub version : ℕ
+version = 256

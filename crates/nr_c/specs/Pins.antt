@@ -1,14 +1,18 @@
 -- A reader that holds a set, as C calls it.
-use Rattle.std.specs.Prelude.{ℕ, ◌≡◌, ◌↔◌, ◌<◌, ◌≤◌, ◌⊎◌, Bool, true, if◌then◌else◌, List, [], ◌∷◌, length, slice_get, Some, Ok, Err}
+use Rattle.std.specs.Prelude.{ℕ, ◌*◌, ◌≡◌, ◌↔◌, ◌≤◌, ◌⊎◌, Bool, true, if◌then◌else◌, List, length, slice_get, Some, Ok, Err}
 use Rattle.nr_model.specs.declared.rows.Row.{Row}
 use Rattle.nr_board.specs.Callers.{Caller, Rests}
 use Rattle.nr_board.specs.Meetings.{HasPut}
+use Rattle.nr_map.specs.Hands.{Handed, Reads}
 use Rattle.nr_map.specs.Pins.{FindsByPin, Pinned, PinsKey}
-use Rattle.nr_c.specs.Numbers.{answer_hole, answer_no_row, answer_other, answer_rows}
+use Rattle.nr_c.specs.Numbers.{answer_done, answer_hole, answer_no_row, answer_other, answer_rows}
+use Rattle.nr_c.specs.declared.hand.Hand.{Hand}
 use Rattle.nr_c.specs.declared.hand.Hand.TheVariants.{Holds, Idle}
 use Rattle.nr_c.specs.declared.reader_side.ReaderSide.{ReaderSide}
-use Rattle.nr_c.specs.Hands.{LetsGo}
+use Rattle.nr_c.specs.declared.rows.NrRows.{NrRows}
+use Rattle.nr_c.specs.Hands.{InHand, LetsGo}
 use Rattle.nr_c.specs.Live.{TurnsHand}
+use Rattle.nr_c.specs.RowCells.{ShowsSet}
 
 -- a pin by its code: the reader holds the set of the key, and how many rows it has is told; or the key was a hole
 abbrev pub PinsCells : ℕ → ℕ → ℕ → ℕ → List ReaderSide → List ReaderSide → Type 0
@@ -22,9 +26,10 @@ ReadsRow place stood stands code before after =
     ((code ≡ answer_rows) × (old new : Pinned) × TurnsHand before after (Holds old) (Holds new) × (slice_get old.rows place ≡ Some stands) × (new.rows ≡ old.rows) × Rests 2 old.reader new.reader × (new.reader.holds ≡ old.reader.holds) × (new.reader.marks ≡ old.reader.marks))
     ⊎ ((code ≡ answer_no_row) × (pin : Pinned) × TurnsHand before after (Holds pin) (Holds pin) × (length pin.rows ≤ place) × (stands ≡ stood))
 
--- the handle is live, its reader holds a set, and its map has that key
-abbrev pub HasPinOf : ℕ → List ReaderSide → Type 0
-HasPinOf key live = (held : ReaderSide) × (pin : Pinned) × (live ≡ held ∷ []) × (held.hand ≡ Holds pin) × (key < held.map.value.shape.keys)
+-- a copy of the held set by its code: the caller's cells show its rows, and the reader holds it still
+abbrev pub CopiesSet : NrRows → ℕ → List ReaderSide → List ReaderSide → Type 0
+CopiesSet rows code before after =
+    (code ≡ answer_rows) × (was is : Hand) × TurnsHand before after was is × (old new : Handed) × InHand was old × InHand is new × ShowsSet rows old.rows × Reads (2 * length old.rows) old new
 
 -- a find again by its code; the reader holds the same set
 abbrev pub FindsByHold : ℕ → ℕ → List ReaderSide → List ReaderSide → Type 0
@@ -32,5 +37,5 @@ FindsByHold key code before after = (found : Bool) × (code ≡ (if found then a
     × FindsByPin key old.reader old.rows new.reader found × ((found ≡ true) ↔ HasPut key old.reader.marks.put new.reader) × (new.rows ≡ old.rows)
 
 -- the hold ends
-abbrev pub Releases : List ReaderSide → List ReaderSide → Type 0
-Releases before after = (old : Pinned) × (new : Caller) × TurnsHand before after (Holds old) (Idle new) × LetsGo old new
+abbrev pub Releases : ℕ → List ReaderSide → List ReaderSide → Type 0
+Releases code before after = (code ≡ answer_done) × (old : Pinned) × (new : Caller) × TurnsHand before after (Holds old) (Idle new) × LetsGo old new

@@ -26,6 +26,10 @@ pub record TakerCalls (became : TakerSeen → TakerSeen → Type 0) (before afte
   pub spare : new.spare ≡ old.spare
   pub made : became old.taker new.taker
 
+-- how many keys the queue of a poster has
+abbrev pub poster_keys : PosterSide → ℕ
+poster_keys side = side.poster.keys
+
 abbrev pub request_of : ℕ → ℕ → Upquery
 request_of key number = record { key = key; number = number }
 

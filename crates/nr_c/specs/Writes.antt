@@ -15,7 +15,7 @@ use Rattle.nr_board.specs.declared.answers.UpdateFault.{UpdateFault}
 use Rattle.nr_board.specs.WriterAnswers.{CancelsKey, EvictsKey, FillsKey, LooksIn, UpdatesKey}
 use Rattle.nr_board.specs.Callers.{Caller, map_seen}
 use Rattle.nr_board.specs.Meetings.{StatesKey}
-use Rattle.nr_c.specs.Numbers.{answer_bad_batch, answer_not_sorted, answer_too_many}
+use Rattle.nr_c.specs.Numbers.{answer_bad_batch, answer_done, answer_not_sorted, answer_too_many}
 use Rattle.nr_c.specs.declared.rows.NrRows.{NrRows}
 use Rattle.nr_c.specs.Codes.{cancel_code, evict_code, fill_code, found_code, kind_code, update_code}
 use Rattle.nr_c.specs.RowCells.{ShowsSet}
@@ -55,6 +55,6 @@ CancelsByCode key code old new = (answer : Cancel) × (code ≡ cancel_code answ
 abbrev pub StatesByCode : ℕ → ℕ → Caller → Caller → Type 0
 StatesByCode key code old new = (kind : KeyKind) × (code ≡ kind_code kind) × StatesKey key old new kind
 
--- the number of a key's request, or of its next one, after all that the writer has seen; the writer stays
-abbrev pub IsNumber : ℕ → ℕ → Caller → Caller → Type 0
-IsNumber key told old new = (told ≡ number_of (state_of (map_seen old) key)) × (new ≡ old)
+-- the number of a key's request, or of its next one, after all that the writer has seen, is told; the writer stays
+abbrev pub IsNumber : ℕ → ℕ → ℕ → Caller → Caller → Type 0
+IsNumber key told code old new = (code ≡ answer_done) × (told ≡ number_of (state_of (map_seen old) key)) × (new ≡ old)

@@ -1,9 +1,9 @@
 //! The numbers that stand for answers. C has them as constants of the same names, and each answer
 //! has one of its own, whichever call it answers.
 ghost use Rattle.std.specs.Prelude.{◌≡◌};
-ghost use Rattle.nr_c.specs.Codes.{cancel_code, evict_code, fill_code, found_code, kind_code, update_code};
+ghost use Rattle.nr_c.specs.Codes.{cancel_code, evict_code, fill_code, found_code, kind_code, no_slot_code, update_code};
 
-use nr_map::{Cancel, Evict, FillFault, Found, KeyKind, UpdateFault};
+use nr_map::{Cancel, Evict, FillFault, Found, KeyKind, NoSlot, UpdateFault};
 
 /// To a find: the rows of a filled key.
 pub const NR_ROWS: u32 = 0;
@@ -41,7 +41,7 @@ pub const NR_NO_ROW: u32 = 10;
 /// To a fill or an update: more rows than a key may have.
 pub const NR_TOO_MANY: u32 = 11;
 
-/// To a fill or an update: no slot is to be had.
+/// To a fill or an update: no slot is to be had, and readers hold some.
 pub const NR_NO_SLOT: u32 = 12;
 
 /// To an eviction: the key was filled and is a hole now.
@@ -86,12 +86,34 @@ pub const NR_NOT_TAKEN: u32 = 25;
 /// To a find again: the key has not, or no more, the set that the reader holds.
 pub const NR_OTHER: u32 = 26;
 
+/// To a call that takes a key: the map, or the queue, has no such key.
+pub const NR_NO_KEY: u32 = 27;
+
+/// To a call of a reader that holds nothing: it holds a set.
+pub const NR_HOLDING: u32 = 28;
+
+/// To a call of a reader that holds a set: it holds nothing.
+pub const NR_NOT_HOLDING: u32 = 29;
+
+/// To a fill or an update: no slot is to be had, since each is a filled key's.
+pub const NR_ALL_FILLED: u32 = 30;
+
 pub fn of_found(found: Found) -> u32
     ensures { result ≡ found_code found }
 {
     match found {
         Found::Rows => NR_ROWS,
         Found::Hole => NR_HOLE,
+    }
+}
+
+fn of_no_slot(counts: NoSlot) -> u32
+    ensures { result ≡ no_slot_code counts }
+{
+    if counts.held == 0 {
+        NR_ALL_FILLED
+    } else {
+        NR_NO_SLOT
     }
 }
 
@@ -103,7 +125,7 @@ pub fn of_fill(answer: Result<(), FillFault>) -> u32
         Err(FillFault::NotAsked) => NR_NOT_ASKED,
         Err(FillFault::Already) => NR_ALREADY,
         Err(FillFault::Stale) => NR_STALE,
-        Err(FillFault::NoSlot(_)) => NR_NO_SLOT,
+        Err(FillFault::NoSlot(counts)) => of_no_slot(counts),
     }
 }
 
@@ -115,7 +137,7 @@ pub fn of_update(answer: Result<(), UpdateFault>) -> u32
         Err(UpdateFault::Dropped) => NR_DROPPED,
         Err(UpdateFault::NoRow) => NR_NO_ROW,
         Err(UpdateFault::TooMany) => NR_TOO_MANY,
-        Err(UpdateFault::NoSlot(_)) => NR_NO_SLOT,
+        Err(UpdateFault::NoSlot(counts)) => of_no_slot(counts),
     }
 }
 

@@ -7,11 +7,12 @@
 //! poster and one for the taker. A handle is one word, the place of a
 //! token on the heap or none, and contracts see the token. What C owes is each function's
 //! `requires`, and stands beside it in the header too: the handle is live and in the hands of one
-//! call at a time, a key is one of the map's. What costs nothing to test is tested.
+//! call at a time. What costs next to nothing to test is tested, as whether a key is one of the map's.
 #![tactic(auto)]
 
 mod codes;
 mod hand;
+mod kept;
 mod layout;
 mod meets;
 mod open;
@@ -31,6 +32,7 @@ mod sizes;
 mod taker_handle;
 mod taker_lend;
 mod taker_side;
+mod version;
 mod writer_handle;
 mod writer_lend;
 mod writer_side;

@@ -1,21 +1,32 @@
 //! A reader that holds a set.
-ghost use Rattle.nr_c.specs.Live.{HasPin, MayRead};
-ghost use Rattle.nr_c.specs.Pins.{FindsByHold, HasPinOf, PinsCells, Releases, ReadsRow};
+ghost use Rattle.std.specs.Prelude.{◌≡◌, ⊤};
+ghost use Rattle.nr_c.specs.Live.{MayRead, WhenHolding, WhenIdle, WithKey, reader_keys};
+ghost use Rattle.nr_c.specs.Pins.{CopiesSet, FindsByHold, PinsCells, Releases, ReadsRow};
 
-use crate::codes::{NR_HOLE, NR_NO_ROW, NR_OTHER, NR_ROWS};
+use crate::codes::{
+    NR_DONE, NR_HOLDING, NR_HOLE, NR_NO_KEY, NR_NO_ROW, NR_NOT_HOLDING, NR_OTHER, NR_ROWS,
+};
 use crate::hand::Hand;
 use crate::reader_handle::NrReader;
+use crate::rows::NrRows;
 use nr_model::Row;
 
 /// Finds a key, and holds its set, which stays as it is until the reader is released, whatever is
 /// filled, updated or evicted meanwhile. Answers `NR_ROWS` after 2 steps, and then `count` is the
-/// number of its rows; or `NR_HOLE` after 1, and then the reader holds nothing and `count` stays.
+/// number of its rows; or `NR_HOLE` after 1, and then the reader holds nothing and `count` stays. `NR_NO_KEY`,
+/// or `NR_HOLDING` where it holds a set, with no step.
 #[unsafe(no_mangle)]
 pub extern "C" fn nr_pin(reader: &mut NrReader, key: u32, count: &mut u32) -> u32
-    requires live { MayRead key reader.old.live }
-    ensures { PinsCells key count.old count.new result reader.old.live reader.new.live }
+    requires live { MayRead reader.old.live }
+    ensures { WithKey reader_keys key result (count.new ≡ count.old) (WhenIdle result (count.new ≡ count.old) (PinsCells key count.old count.new result)) reader.old.live reader.new.live }
 {
     let side = reader.side();
+    if !side.has_key(key) {
+        return NR_NO_KEY;
+    }
+    if side.holds() {
+        return NR_HOLDING;
+    }
     let idle = side.take_reader();
     match side.map.pin(idle, key) {
         Ok(pin) => {
@@ -31,13 +42,16 @@ pub extern "C" fn nr_pin(reader: &mut NrReader, key: u32, count: &mut u32) -> u3
 }
 
 /// A row of the held set, from 0, in 2 steps: `NR_ROWS`. `NR_NO_ROW` where it has no such row, with
-/// no step, and `row` stays.
+/// no step, and `row` stays. `NR_NOT_HOLDING` where nothing is held, with no step.
 #[unsafe(no_mangle)]
 pub extern "C" fn nr_row_at(reader: &mut NrReader, place: u32, row: &mut Row) -> u32
-    requires live { HasPin reader.old.live }
-    ensures { ReadsRow place row.old row.new result reader.old.live reader.new.live }
+    requires live { MayRead reader.old.live }
+    ensures { WhenHolding result (row.new ≡ row.old) (ReadsRow place row.old row.new result) reader.old.live reader.new.live }
 {
     let side = reader.side();
+    if !side.holds() {
+        return NR_NOT_HOLDING;
+    }
     let mut pin = side.take_pin();
     if place >= pin.len() {
         side.put(Hand::Holds(pin));
@@ -48,29 +62,58 @@ pub extern "C" fn nr_row_at(reader: &mut NrReader, place: u32, row: &mut Row) ->
     NR_ROWS
 }
 
+/// Writes the rows of the held set over those of the caller's, in 2 steps a row: `NR_ROWS`;
+/// or `NR_NOT_HOLDING`, and they stay.
+#[unsafe(no_mangle)]
+pub extern "C" fn nr_copy(reader: &mut NrReader, rows: &mut NrRows) -> u32
+    requires live { MayRead reader.old.live }
+    ensures { WhenHolding result (rows.new ≡ rows.old) (CopiesSet rows.new result) reader.old.live reader.new.live }
+{
+    let side = reader.side();
+    if !side.holds() {
+        return NR_NOT_HOLDING;
+    }
+    // No key is asked for, so it is all the same which one the set is taken for.
+    let mut hand = side.take_hand(0);
+    hand.copy_to(&side.map, rows);
+    side.put_hand(hand);
+    NR_ROWS
+}
+
 /// Finds a key again, in 1 step, which loads one word and writes none: `NR_ROWS` where the key still
 /// has the set that the reader holds, put by the same fill or update, and then this is a find of the
 /// key. `NR_OTHER` where it hasn't; the reader holds the same set in either case.
+/// `NR_NO_KEY`, or `NR_NOT_HOLDING` where nothing is held, with no step.
 #[unsafe(no_mangle)]
 pub extern "C" fn nr_again(reader: &mut NrReader, key: u32) -> u32
-    requires live { HasPinOf key reader.old.live }
-    ensures { FindsByHold key result reader.old.live reader.new.live }
+    requires live { MayRead reader.old.live }
+    ensures { WithKey reader_keys key result ⊤ (WhenHolding result ⊤ (FindsByHold key result)) reader.old.live reader.new.live }
 {
     let side = reader.side();
+    if !side.has_key(key) {
+        return NR_NO_KEY;
+    }
+    if !side.holds() {
+        return NR_NOT_HOLDING;
+    }
     let mut pin = side.take_pin();
     let found = pin.again(&side.map, key);
     side.put(Hand::Holds(pin));
     if found { NR_ROWS } else { NR_OTHER }
 }
 
-/// Ends the hold, in 1 step.
+/// Ends the hold, in 1 step: `NR_DONE`; or `NR_NOT_HOLDING` with no step.
 #[unsafe(no_mangle)]
-pub extern "C" fn nr_release(reader: &mut NrReader)
-    requires live { HasPin reader.old.live }
-    ensures { Releases reader.old.live reader.new.live }
+pub extern "C" fn nr_release(reader: &mut NrReader) -> u32
+    requires live { MayRead reader.old.live }
+    ensures { WhenHolding result ⊤ (Releases result) reader.old.live reader.new.live }
 {
     let side = reader.side();
+    if !side.holds() {
+        return NR_NOT_HOLDING;
+    }
     let pin = side.take_pin();
     let idle = pin.release(&side.map);
     side.put(Hand::Idle(idle));
+    NR_DONE
 }

@@ -1,22 +1,27 @@
 //! Requests on their way to the dataflow.
-ghost use Rattle.std.specs.Prelude.{◌≡◌, ◌<◌, [], ◌∷◌};
+ghost use Rattle.std.specs.Prelude.{◌≡◌, ⊤, [], ◌∷◌};
 ghost use Rattle.nr_c.specs.declared.poster_side.PosterSide.{PosterSide as PosterHeld};
 ghost use Rattle.nr_c.specs.declared.taker_side.TakerSide.{TakerSide as TakerHeld};
-ghost use Rattle.nr_c.specs.Posting.{PosterCalls, PostsByCode, TakerCalls, TakesByCode};
+ghost use Rattle.nr_c.specs.Live.{WithKey};
+ghost use Rattle.nr_c.specs.Posting.{PosterCalls, PostsByCode, TakerCalls, TakesByCode, poster_keys};
 
-use crate::codes::{NR_DONE, NR_NOT_POSTED, NR_NOT_TAKEN};
+use crate::codes::{NR_DONE, NR_NO_KEY, NR_NOT_POSTED, NR_NOT_TAKEN};
 use crate::poster_handle::NrPoster;
 use crate::taker_handle::NrTaker;
 use nr_trigger::Upquery;
 
 /// Puts a request at the back of the queue, by one attempt: `NR_DONE`. `NR_NOT_POSTED` where the
 /// queue is full or another thread is within a call in the way, and then nothing has changed.
+/// `NR_NO_KEY`, with no attempt, where the queue has no such key.
 #[unsafe(no_mangle)]
 pub extern "C" fn nr_post(poster: &mut NrPoster, key: u32, number: u64) -> u32
-    requires live { (held : PosterHeld) × (poster.old.live ≡ held ∷ []) × (key < held.poster.keys) }
-    ensures { PosterCalls (PostsByCode key number result) poster.old.live poster.new.live }
+    requires live { (held : PosterHeld) × (poster.old.live ≡ held ∷ []) }
+    ensures { WithKey poster_keys key result ⊤ (PosterCalls (PostsByCode key number result)) poster.old.live poster.new.live }
 {
     let side = poster.side();
+    if key >= side.keys {
+        return NR_NO_KEY;
+    }
     match side
         .queue
         .try_post(&mut side.poster, Upquery { key, number })

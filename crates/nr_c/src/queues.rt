@@ -42,7 +42,7 @@ pub extern "C" fn nr_open_queue(
     }
 }
 
-// A queue's taker's side. Contracts are told the number by whoever calls this.
+// A queue's taker's side. Contracts are told the number of keys by whoever calls this.
 fn opened_queue(
     alloc: Global,
     keys: u32,
@@ -50,16 +50,17 @@ fn opened_queue(
     posters: u32,
 ) -> Result<Box<TakerSide, Global>, OpenFault>
     ghost below: { ℕ }
+    requires told { below ≡ keys }
     ensures bad_size { (result ≡ Err OpenFault.BadSize) ↔ (IsBadSize MAX_CAPACITY capacity ⊎ IsBadSize MAX_POSTERS posters) }
-    ensures ok { IfOk result (λ side. IsNewQueue capacity posters below side.value) }
+    ensures ok { IfOk result (λ side. IsNewQueue capacity posters keys side.value) }
 {
-    let _ = keys;
     let (queue, spare, taker) = Triggers::open(alloc, capacity, posters)?;
     let queue = Arc::new(alloc, queue).map_err(|_| OpenFault::Memory)?;
     let side = TakerSide {
         queue,
         taker,
         spare,
+        keys,
     };
     Ok(Box::new(alloc, side).map_err(|_| OpenFault::Memory)?)
 }
@@ -77,7 +78,7 @@ pub extern "C" fn nr_open_poster(alloc: Global, taker: &mut NrTaker, poster: &mu
     let Some(next) = side.spare.pop() else {
         return NR_NO_POSTER;
     };
-    match posting(alloc, &side.queue, next) {
+    match posting(alloc, &side.queue, side.keys, next) {
         Ok(made) => {
             poster.lead_to(made);
             NR_DONE
@@ -93,19 +94,30 @@ pub extern "C" fn nr_open_poster(alloc: Global, taker: &mut NrTaker, poster: &mu
 fn posting(
     alloc: Global,
     queue: &Arc<Triggers, Global>,
+    keys: u32,
     poster: Poster,
 ) -> Result<Box<PosterSide, Global>, Poster>
     requires own { poster.queue ≡ queue.now.value.id }
+    requires below { poster.keys ≡ keys }
     ensures ok { IfOk result (λ side. (side.value.queue.value ≡ queue.now.value) × (side.value.poster ≡ poster)) }
     ensures back { IfErr result (λ back. back ≡ poster) }
 {
     let Ok(queue) = Arc::try_clone(queue) else {
         return Err(poster);
     };
-    match Box::new(alloc, PosterSide { queue, poster }) {
+    let side = PosterSide {
+        queue,
+        poster,
+        keys,
+    };
+    match Box::new(alloc, side) {
         Ok(side) => Ok(side),
         Err(failed) => {
-            let PosterSide { queue, poster } = failed.value;
+            let PosterSide {
+                queue,
+                poster,
+                keys: _,
+            } = failed.value;
             drop(queue);
             Err(poster)
         }

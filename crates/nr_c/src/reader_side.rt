@@ -1,7 +1,9 @@
 //! What a reader's handle leads to.
-ghost use Rattle.std.specs.Prelude.{◌≡◌};
-ghost use Rattle.nr_c.specs.Hands.{EndsHand, table_of};
+ghost use Rattle.std.specs.Prelude.{◌≡◌, ◌<◌, ◌≤◌, IsSome, Some};
+ghost use Rattle.std.specs.Bool.{OnFalse, OnTrue};
+ghost use Rattle.nr_c.specs.Hands.{EndsHand, HoldsNone, HoldsSome, InHand, table_of};
 ghost use Rattle.nr_board.specs.Callers.{Caller};
+ghost use Rattle.nr_map.specs.Hands.{Handed};
 ghost use Rattle.nr_map.specs.Pins.{Pinned};
 ghost use Rattle.nr_c.specs.declared.hand.Hand.TheVariants as hands;
 
@@ -61,6 +63,27 @@ impl ReaderSide {
         }
     }
 
+    /// Whether its map has that key.
+    pub fn has_key(&self, key: u32) -> bool
+        ensures has { OnTrue result (key < self.now.map.value.shape.keys) }
+        ensures hasnt { OnFalse result (self.now.map.value.shape.keys ≤ key) }
+    {
+        key < self.map.keys()
+    }
+
+    /// Whether its reader holds a set.
+    pub fn holds(&self) -> bool
+        requires rests { (hand : Handed) × InHand self.now.hand hand }
+        ensures some { OnTrue result (HoldsSome self.now.hand) }
+        ensures none { OnFalse result (HoldsNone self.now.hand) }
+    {
+        match &self.hand {
+            Hand::Idle(_) => false,
+            Hand::Holds(_) => true,
+            Hand::Taken => unreachable!(),
+        }
+    }
+
     /// The reader, which holds nothing, for a call.
     pub fn take_reader(&mut self) -> Reader
         requires idle { (reader : Caller) × (self.old.hand ≡ hands.Idle reader) }
@@ -90,6 +113,35 @@ impl ReaderSide {
         match mem::replace(&mut self.hand, Hand::Taken) {
             Hand::Holds(pin) => pin,
             Hand::Idle(_) | Hand::Taken => unreachable!(),
+        }
+    }
+
+    /// The reader as one of the map's hands, for a call. What it holds is taken for a set of that key.
+    pub fn take_hand(&mut self, key: u32) -> nr_map::Hand
+        requires rests { (hand : Handed) × InHand self.old.hand hand }
+        ensures hand { InHand self.old.hand result }
+        ensures key { IsSome result.key → result.key ≡ Some key }
+        ensures own { result.reader.table ≡ self.old.map.value }
+        ensures map { self.new.map ≡ self.old.map }
+        ensures taken { self.new.hand ≡ hands.Taken }
+    {
+        match mem::replace(&mut self.hand, Hand::Taken) {
+            Hand::Idle(reader) => nr_map::Hand::of(reader),
+            Hand::Holds(pin) => nr_map::Hand::of_pin(pin, key),
+            Hand::Taken => unreachable!(),
+        }
+    }
+
+    /// Puts the hand back as a reader that holds nothing, or what the hand holds.
+    pub fn put_hand(&mut self, hand: nr_map::Hand)
+        requires taken { self.old.hand ≡ hands.Taken }
+        requires own { hand.reader.table ≡ self.old.map.value }
+        ensures map { self.new.map ≡ self.old.map }
+        ensures hand { InHand self.new.hand hand }
+    {
+        match hand.into_pin() {
+            Ok(pin) => self.put(Hand::Holds(pin)),
+            Err(reader) => self.put(Hand::Idle(reader)),
         }
     }
 

@@ -4,23 +4,30 @@ ghost use Rattle.nr_board.specs.Callers.{Caller};
 ghost use Rattle.nr_c.specs.declared.hand.Hand.TheVariants as hands;
 ghost use Rattle.nr_map.specs.Answers.{AsksKey, FindsIn, acts_of};
 ghost use Rattle.nr_c.specs.Hands.{table_of};
-ghost use Rattle.nr_c.specs.Live.{AsksByCode, FindsByCode, MayRead, ReaderCalls};
+ghost use Rattle.nr_c.specs.Live.{AsksByCode, FindsByCode, MayRead, ReaderCalls, WhenIdle, WithKey, reader_keys};
 ghost use Rattle.nr_c.specs.RowCells.{ShowsSet};
 
-use crate::codes::{NR_FILLED, NR_SEND, NR_WAITING, of_found};
+use crate::codes::{NR_FILLED, NR_HOLDING, NR_NO_KEY, NR_SEND, NR_WAITING, of_found};
 use crate::hand::Hand;
 use crate::reader_handle::NrReader;
 use crate::rows::NrRows;
 use nr_map::{Asked, Found, ReaderMap};
 
 /// Looks a key up, and puts its rows into the caller's cells, which stay as they are where the key
-/// is a hole. 1 step for a hole, and 2n + 3 for n rows. Answers `NR_ROWS` or `NR_HOLE`.
+/// is a hole. 1 step for a hole, and 2n + 3 for n rows. Answers `NR_ROWS` or
+/// `NR_HOLE`; or `NR_NO_KEY`, or `NR_HOLDING` where the reader holds a set, with no step.
 #[unsafe(no_mangle)]
 pub extern "C" fn nr_find(reader: &mut NrReader, key: u32, rows: &mut NrRows) -> u32
-    requires live { MayRead key reader.old.live }
-    ensures { ReaderCalls (FindsByCode key rows.old rows.new result) reader.old.live reader.new.live }
+    requires live { MayRead reader.old.live }
+    ensures { WithKey reader_keys key result (rows.new ≡ rows.old) (WhenIdle result (rows.new ≡ rows.old) (ReaderCalls (FindsByCode key rows.old rows.new result))) reader.old.live reader.new.live }
 {
     let side = reader.side();
+    if !side.has_key(key) {
+        return NR_NO_KEY;
+    }
+    if side.holds() {
+        return NR_HOLDING;
+    }
     of_found(find_idle(&side.map, &mut side.hand, key, rows))
 }
 
@@ -39,13 +46,20 @@ fn find_idle(map: &ReaderMap, hand: &mut Hand, key: u32, rows: &mut NrRows) -> F
 }
 
 /// Requests a key, in 1 step. Answers `NR_SEND`, and then `number` is the number of the request,
-/// which whoever sends the upquery hands on to the fill; or `NR_WAITING` or `NR_FILLED`.
+/// which whoever sends the upquery hands on to the fill; or `NR_WAITING` or `NR_FILLED`. `NR_NO_KEY`,
+/// or `NR_HOLDING` where the reader holds a set, with no step.
 #[unsafe(no_mangle)]
 pub extern "C" fn nr_ask(reader: &mut NrReader, key: u32, number: &mut u64) -> u32
-    requires live { MayRead key reader.old.live }
-    ensures { ReaderCalls (AsksByCode key number.old number.new result) reader.old.live reader.new.live }
+    requires live { MayRead reader.old.live }
+    ensures { WithKey reader_keys key result (number.new ≡ number.old) (WhenIdle result (number.new ≡ number.old) (ReaderCalls (AsksByCode key number.old number.new result))) reader.old.live reader.new.live }
 {
     let side = reader.side();
+    if !side.has_key(key) {
+        return NR_NO_KEY;
+    }
+    if side.holds() {
+        return NR_HOLDING;
+    }
     match ask_idle(&side.map, &mut side.hand, key) {
         Asked::Send(ticket) => {
             *number = ticket.number();

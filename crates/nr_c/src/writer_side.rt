@@ -1,5 +1,6 @@
 //! What the writer's handle leads to.
-ghost use Rattle.std.specs.Prelude.{◌≡◌, All};
+ghost use Rattle.std.specs.Prelude.{◌≡◌, ◌<◌, ◌≤◌, All};
+ghost use Rattle.std.specs.Bool.{OnFalse, OnTrue};
 
 use nr_map::{Reader, ReaderMap, Writer};
 use std::alloc::Global;
@@ -13,4 +14,14 @@ pub struct WriterSide {
     pub spare: Vec<Reader, Global>,
     ghost own: { writer.table ≡ map.value },
     ghost spares: { All (λ reader. reader.table ≡ map.value) spare.items },
+}
+
+impl WriterSide {
+    /// Whether its map has that key.
+    pub fn has_key(&self, key: u32) -> bool
+        ensures has { OnTrue result (key < self.now.map.value.shape.keys) }
+        ensures hasnt { OnFalse result (self.now.map.value.shape.keys ≤ key) }
+    {
+        key < self.map.keys()
+    }
 }

@@ -1,36 +1,45 @@
 //! What the writer calls.
-ghost use Rattle.nr_c.specs.Live.{MayWrite, WriterCalls};
+ghost use Rattle.std.specs.Prelude.{◌≡◌, ⊤};
+ghost use Rattle.nr_c.specs.Live.{MayWrite, WithKey, WriterCalls, writer_keys};
 ghost use Rattle.nr_c.specs.Writes.{CancelsByCode, EvictsByCode, FillsByCode, IsNumber, LooksByCode, StatesByCode, UpdatesByCode};
 
 use crate::codes::{
-    NR_BAD_BATCH, NR_NOT_SORTED, NR_TOO_MANY, of_cancel, of_evict, of_fill, of_found, of_kind,
-    of_update,
+    NR_BAD_BATCH, NR_DONE, NR_NO_KEY, NR_NOT_SORTED, NR_TOO_MANY, of_cancel, of_evict, of_fill,
+    of_found, of_kind, of_update,
 };
 use crate::rows::{NrRows, are_batch, ascends};
 use crate::writer_handle::NrWriter;
 use nr_model::{Delta, Row};
 
 /// A find of the writer's own. 1 step for a hole, and 2n + 2 for n rows. Answers `NR_ROWS` or
-/// `NR_HOLE`, and the caller's cells stay as they are where the key is a hole.
+/// `NR_HOLE`, and the caller's cells stay as they are where the key is a hole; or `NR_NO_KEY` with no
+/// step.
 #[unsafe(no_mangle)]
 pub extern "C" fn nr_look(writer: &mut NrWriter, key: u32, rows: &mut NrRows) -> u32
-    requires live { MayWrite key writer.old.live }
-    ensures { WriterCalls (LooksByCode key rows.old rows.new result) writer.old.live writer.new.live }
+    requires live { MayWrite writer.old.live }
+    ensures { WithKey writer_keys key result (rows.new ≡ rows.old) (WriterCalls (LooksByCode key rows.old rows.new result)) writer.old.live writer.new.live }
 {
     let side = writer.side();
+    if !side.has_key(key) {
+        return NR_NO_KEY;
+    }
     of_found(side.map.look_into(&mut side.writer, key, rows))
 }
 
 /// Fills a key that was asked for, by the number of its request, with rows in ascending order.
-/// Answers `NR_TOO_MANY` where they are more than a key may have, and `NR_NOT_SORTED` where one is
+/// Answers `NR_NO_KEY`, `NR_TOO_MANY` where they are more than a key may have, and `NR_NOT_SORTED` where one is
 /// below the one before it, with no step; and else as the map's fill does: `NR_DONE`,
-/// `NR_NOT_ASKED`, `NR_ALREADY`, `NR_STALE` or `NR_NO_SLOT`.
+/// `NR_NOT_ASKED`, `NR_ALREADY`, `NR_STALE`; or `NR_NO_SLOT` where readers hold slots, and else
+/// `NR_ALL_FILLED`.
 #[unsafe(no_mangle)]
 pub extern "C" fn nr_fill(writer: &mut NrWriter, key: u32, number: u64, rows: &[Row]) -> u32
-    requires live { MayWrite key writer.old.live }
-    ensures { WriterCalls (FillsByCode key number rows.now result) writer.old.live writer.new.live }
+    requires live { MayWrite writer.old.live }
+    ensures { WithKey writer_keys key result ⊤ (WriterCalls (FillsByCode key number rows.now result)) writer.old.live writer.new.live }
 {
     let side = writer.side();
+    if !side.has_key(key) {
+        return NR_NO_KEY;
+    }
     if rows.len() > side.map.rows() as usize {
         return NR_TOO_MANY;
     }
@@ -41,14 +50,18 @@ pub extern "C" fn nr_fill(writer: &mut NrWriter, key: u32, number: u64, rows: &[
 }
 
 /// Applies a batch of 1 to 64 signed rows to the rows of a filled key, whole or not at all. Answers
-/// `NR_BAD_BATCH` where they are none or more, with no step; and else as the map's update does:
-/// `NR_DONE`, `NR_DROPPED`, `NR_NO_ROW`, `NR_TOO_MANY` or `NR_NO_SLOT`.
+/// `NR_NO_KEY`, or `NR_BAD_BATCH` where they are none or more, with no step; and else as the map's update does:
+/// `NR_DONE`, `NR_DROPPED`, `NR_NO_ROW`, `NR_TOO_MANY`; or `NR_NO_SLOT` where readers hold slots, and
+/// else `NR_ALL_FILLED`.
 #[unsafe(no_mangle)]
 pub extern "C" fn nr_update(writer: &mut NrWriter, key: u32, deltas: &[Delta]) -> u32
-    requires live { MayWrite key writer.old.live }
-    ensures { WriterCalls (UpdatesByCode key deltas.now result) writer.old.live writer.new.live }
+    requires live { MayWrite writer.old.live }
+    ensures { WithKey writer_keys key result ⊤ (WriterCalls (UpdatesByCode key deltas.now result)) writer.old.live writer.new.live }
 {
     let side = writer.side();
+    if !side.has_key(key) {
+        return NR_NO_KEY;
+    }
     if !are_batch(deltas) {
         return NR_BAD_BATCH;
     }
@@ -56,44 +69,57 @@ pub extern "C" fn nr_update(writer: &mut NrWriter, key: u32, deltas: &[Delta]) -
 }
 
 /// Makes a filled key a hole, in 2 steps, and 1 where it is not filled. Answers `NR_EVICTED` or
-/// `NR_NOTHING`.
+/// `NR_NOTHING`; or `NR_NO_KEY` with no step.
 #[unsafe(no_mangle)]
 pub extern "C" fn nr_evict(writer: &mut NrWriter, key: u32) -> u32
-    requires live { MayWrite key writer.old.live }
-    ensures { WriterCalls (EvictsByCode key result) writer.old.live writer.new.live }
+    requires live { MayWrite writer.old.live }
+    ensures { WithKey writer_keys key result ⊤ (WriterCalls (EvictsByCode key result)) writer.old.live writer.new.live }
 {
     let side = writer.side();
+    if !side.has_key(key) {
+        return NR_NO_KEY;
+    }
     of_evict(side.map.evict(&mut side.writer, key))
 }
 
 /// Takes the request of a key back, in 2 steps, and 1 where nothing happens. Answers
-/// `NR_CANCELLED`, `NR_NOTHING` or `NR_WORN`.
+/// `NR_CANCELLED`, `NR_NOTHING` or `NR_WORN`; or `NR_NO_KEY` with no step.
 #[unsafe(no_mangle)]
 pub extern "C" fn nr_cancel(writer: &mut NrWriter, key: u32) -> u32
-    requires live { MayWrite key writer.old.live }
-    ensures { WriterCalls (CancelsByCode key result) writer.old.live writer.new.live }
+    requires live { MayWrite writer.old.live }
+    ensures { WithKey writer_keys key result ⊤ (WriterCalls (CancelsByCode key result)) writer.old.live writer.new.live }
 {
     let side = writer.side();
+    if !side.has_key(key) {
+        return NR_NO_KEY;
+    }
     of_cancel(side.map.cancel(&mut side.writer, key))
 }
 
-/// What a key is, in 1 step: `NR_HOLE`, `NR_ASKED` or `NR_ROWS`.
+/// What a key is, in 1 step: `NR_HOLE`, `NR_ASKED` or `NR_ROWS`; or `NR_NO_KEY` with no step.
 #[unsafe(no_mangle)]
 pub extern "C" fn nr_state(writer: &mut NrWriter, key: u32) -> u32
-    requires live { MayWrite key writer.old.live }
-    ensures { WriterCalls (StatesByCode key result) writer.old.live writer.new.live }
+    requires live { MayWrite writer.old.live }
+    ensures { WithKey writer_keys key result ⊤ (WriterCalls (StatesByCode key result)) writer.old.live writer.new.live }
 {
     let side = writer.side();
+    if !side.has_key(key) {
+        return NR_NO_KEY;
+    }
     of_kind(side.map.state(&mut side.writer, key))
 }
 
 /// The number of a key's request, or of its next one where nobody asks: the answer to it names that
-/// number. No step.
+/// number. Answers `NR_DONE` or `NR_NO_KEY`. No step.
 #[unsafe(no_mangle)]
-pub extern "C" fn nr_number(writer: &mut NrWriter, key: u32) -> u64
-    requires live { MayWrite key writer.old.live }
-    ensures { WriterCalls (IsNumber key result) writer.old.live writer.new.live }
+pub extern "C" fn nr_number(writer: &mut NrWriter, key: u32, number: &mut u64) -> u32
+    requires live { MayWrite writer.old.live }
+    ensures { WithKey writer_keys key result (number.new ≡ number.old) (WriterCalls (IsNumber key number.new result)) writer.old.live writer.new.live }
 {
     let side = writer.side();
-    side.map.number(&side.writer, key)
+    if !side.has_key(key) {
+        return NR_NO_KEY;
+    }
+    *number = side.map.number(&side.writer, key);
+    NR_DONE
 }

@@ -6,4 +6,5 @@ pub mod SetRooms
 pub mod NoSlots
 pub mod SlotBounds
 pub mod HandSteps
+pub mod FindsEach
 pub mod RowBounds

@@ -1,5 +1,5 @@
 -- A reader that is idle or holds the set of a key.
-use Rattle.std.specs.Prelude.{◌≡◌, ◌≢◌, ℕ, ◌+◌, ◌*◌, ◌==◌, ◌⊎◌, Bool, true, false, if◌then◌else◌, List, [], length, Option, Some, None, IsSome}
+use Rattle.std.specs.Prelude.{◌≡◌, ◌≢◌, ℕ, ◌+◌, ◌*◌, ◌==◌, ◌⊎◌, Bool, true, false, if◌then◌else◌, List, [], length, Option, Some, None, IsSome, Result, Ok, Err}
 use Rattle.atomic_table.specs.declared.shared.Seat.{Seat}
 use Rattle.nr_model.specs.declared.rows.Row.{Row}
 use Rattle.nr_model.specs.Rows.{IsRowSet}
@@ -17,7 +17,7 @@ use Rattle.nr_board.specs.Meetings.{HasPut}
 use Rattle.nr_board.specs.Rule.{StartsWith}
 use Rattle.nr_board.specs.Views.{View, rows_held}
 use Rattle.nr_map.specs.declared.hand.Held.{Held}
-use Rattle.nr_map.specs.Pins.{Pins}
+use Rattle.nr_map.specs.Pins.{Pinned, Pins}
 
 -- the reader, the key whose set it holds, and the rows of that set; none where it holds nothing
 pub record Handed : Type 0 where
@@ -28,6 +28,15 @@ pub record Handed : Type 0 where
 -- of a reader that holds nothing
 abbrev pub idle : Caller → Handed
 idle reader = record { reader = reader; key = None; rows = [] }
+
+-- what a pin holds, taken for a set of that key
+abbrev pub holding : ℕ → Pinned → Handed
+holding key pin = record { reader = pin.reader; key = Some key; rows = pin.rows }
+
+-- what a hand holds is a pin, of whichever key; or it is a reader that holds nothing
+abbrev pub BecomesPin : Handed → Result Pinned Caller → Type 0
+BecomesPin hand (Ok pin) = (key : ℕ) × (hand ≡ holding key pin)
+BecomesPin hand (Err reader) = hand ≡ idle reader
 
 abbrev pub key_held : Option Held → Option ℕ
 key_held None = None

@@ -5,6 +5,7 @@ pub mod Written
 pub mod Opened
 pub mod Tickets
 pub mod Answers
+pub mod FindsEach
 pub mod ExactPlaces
 pub mod SlotBounds
 pub mod RowBounds

@@ -1,7 +1,8 @@
 //! A reader that is idle or holds the set of a key, from call to call.
 ghost use Rattle.std.specs.Prelude.{◌≡◌, ◌<◌, ◌*◌, length, IsSome};
-ghost use Rattle.nr_map.specs.Hands.{AgainByHand, LetsGo, PinsByHand, Reads, idle};
+ghost use Rattle.nr_map.specs.Hands.{AgainByHand, BecomesPin, LetsGo, PinsByHand, Reads, holding, idle};
 
+use crate::pin::Pin;
 use crate::reader::Reader;
 use crate::reader_map::ReaderMap;
 use nr_board::Seat;
@@ -63,6 +64,39 @@ impl Hand {
             held: _,
         } = hand;
         Reader::of_seat(seat, number)
+    }
+
+    /// A hand of a pin: it holds what the pin held, and takes it for a set of that key. No step.
+    pub fn of_pin(pin: Pin, key: u32) -> Hand
+        ensures { result ≡ holding key pin }
+    {
+        let Pin {
+            seat,
+            number,
+            begin,
+            count,
+        } = pin;
+        Hand {
+            seat,
+            number,
+            held: Some(Held { key, begin, count }),
+        }
+    }
+
+    /// The pin of the set that is held, or the reader where nothing is. No step.
+    pub fn into_pin(self) -> Result<Pin, Reader>
+        ensures { BecomesPin self result }
+    {
+        let Hand { seat, number, held } = self;
+        let Some(held) = held else {
+            return Err(Reader::of_seat(seat, number));
+        };
+        Ok(Pin {
+            seat,
+            number,
+            begin: held.begin,
+            count: held.count,
+        })
     }
 
     /// The number of its reader.

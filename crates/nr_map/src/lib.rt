@@ -29,6 +29,7 @@ mod pin;
 mod reader;
 mod reader_map;
 mod ticket;
+mod wanted;
 mod writer;
 mod writer_calls;
 
@@ -41,4 +42,5 @@ pub use pin::Pin;
 pub use reader::Reader;
 pub use reader_map::ReaderMap;
 pub use ticket::Ticket;
+pub use wanted::Wanted;
 pub use writer::Writer;

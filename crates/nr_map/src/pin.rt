@@ -18,9 +18,9 @@ use std::marker::Model;
 /// released.
 pub struct Pin {
     pub(crate) seat: Seat,
-    number: u32,
-    begin: u64,
-    count: u32,
+    pub(crate) number: u32,
+    pub(crate) begin: u64,
+    pub(crate) count: u32,
 }
 
 impl Model for Pin {

@@ -9,6 +9,8 @@ mod cancels;
 #[cfg(test)]
 mod hands;
 #[cfg(test)]
+mod many;
+#[cfg(test)]
 mod notes;
 #[cfg(test)]
 mod pins;

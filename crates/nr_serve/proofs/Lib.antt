@@ -3,3 +3,4 @@ pub mod Moving
 pub mod Trying
 pub mod Getting
 pub mod Serving
+pub mod Heard

@@ -6,3 +6,4 @@ pub mod Tickets
 pub mod Hands
 pub mod Gets
 pub mod Clients
+pub mod Heard

@@ -7,6 +7,7 @@ mod client;
 mod dataflow;
 mod gate;
 mod hands;
+pub mod laws;
 mod lobby;
 mod places;
 mod source;

@@ -2,7 +2,7 @@
 ghost use Rattle.std.specs.Prelude.{◌≡◌};
 
 use crate::words::{Words, number};
-use nr_core::{MAX_READERS, MAX_SLOTS};
+use nr_machine::{MAX_READERS, MAX_SLOTS};
 use nr_model::{DEFAULT_ROWS, LAST_NUMBER, MAX_KEYS, MAX_ROWS};
 
 /// How many keys, slots and readers a map is to have, the count at which each slot starts, the

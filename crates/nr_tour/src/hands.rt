@@ -36,6 +36,11 @@ fn keep_over_update(map: &ReaderMap, writer: &mut Writer, reader: Reader, change
     // Now it has another: the hand lets the old one go, and holds the new one.
     let third = hand.find_kept(map, 0, &mut after);
     let held = hand.key();
+    // What it holds can be kept as a pin for a while, and be given back to a hand.
+    let mut hand = match hand.into_pin() {
+        Ok(pin) => Hand::of_pin(pin, 0),
+        Err(reader) => Hand::of(reader),
+    };
     // A hand that is to hold nothing for a while is released, so that no slot waits for it.
     hand.release(map);
     let pinned = hand.pin(map, 0);

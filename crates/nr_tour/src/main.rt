@@ -12,6 +12,7 @@ mod gates;
 mod hands;
 mod lobbies;
 mod lookups;
+mod many;
 mod meetings;
 mod notes;
 mod opening;
@@ -35,6 +36,7 @@ fn show_map<R: AllocGlobal + Print + Threads + Sync>(rt: &R) -> anyhow::Result<(
     let alloc = rt.alloc();
     let change = Batch::of(&CHANGE)?;
     lookups::show(rt, &lookups::first_read(alloc)?)?;
+    many::show(rt, &many::found_together(alloc)?)?;
     threads::show(rt, &threads::asked_at_once(rt, alloc)?)?;
     upkeep::show(rt, &upkeep::kept_up(alloc, &change)?)?;
     pins::show(rt, &pins::kept_over_update(alloc, &change)?)?;

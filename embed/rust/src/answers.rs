@@ -58,7 +58,7 @@ pub(crate) fn done(code: u32) -> Result<(), Fault> {
         ffi::NR_DROPPED => Fault::Dropped,
         ffi::NR_NO_ROW => Fault::NoRow,
         ffi::NR_TOO_MANY => Fault::TooMany,
-        ffi::NR_NO_SLOT => Fault::NoSlot,
+        ffi::NR_NO_SLOT | ffi::NR_ALL_FILLED => Fault::NoSlot,
         ffi::NR_BAD_BATCH => Fault::BadBatch,
         ffi::NR_NOT_SORTED => Fault::NotSorted,
         ffi::NR_BAD_SIZE => Fault::BadSize,

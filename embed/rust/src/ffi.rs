@@ -39,6 +39,7 @@ pub const NR_BAD_BATCH: u32 = 18;
 pub const NR_NOT_SORTED: u32 = 19;
 pub const NR_BAD_SIZE: u32 = 20;
 pub const NR_NO_MEMORY: u32 = 21;
+pub const NR_ALL_FILLED: u32 = 30;
 
 extern "C" {
     pub fn nr_open(shape: *const Shape, writer: *mut Handle) -> u32;
@@ -50,19 +51,20 @@ extern "C" {
     pub fn nr_pin(reader: *mut Handle, key: u32, count: *mut u32) -> u32;
     pub fn nr_row_at(reader: *mut Handle, place: u32, row: *mut Row) -> u32;
     pub fn nr_again(reader: *mut Handle, key: u32) -> u32;
-    pub fn nr_release(reader: *mut Handle);
+    pub fn nr_find_kept(reader: *mut Handle, key: u32, rows: *mut Rows) -> u32;
+    pub fn nr_release(reader: *mut Handle) -> u32;
     pub fn nr_look(writer: *mut Handle, key: u32, rows: *mut Rows) -> u32;
     pub fn nr_fill(writer: *mut Handle, key: u32, number: u64, rows: *const Row, n: usize) -> u32;
     pub fn nr_update(writer: *mut Handle, key: u32, deltas: *const Delta, n: usize) -> u32;
     pub fn nr_evict(writer: *mut Handle, key: u32) -> u32;
     pub fn nr_cancel(writer: *mut Handle, key: u32) -> u32;
     pub fn nr_state(writer: *mut Handle, key: u32) -> u32;
-    pub fn nr_number(writer: *mut Handle, key: u32) -> u64;
+    pub fn nr_number(writer: *mut Handle, key: u32, number: *mut u64) -> u32;
     pub fn nr_sizes(reader: *mut Handle, sizes: *mut Sizes);
-    pub fn nr_meet(reader: *mut Handle, writer: *mut Handle);
-    pub fn nr_meet_readers(reader: *mut Handle, other: *mut Handle);
-    pub fn nr_gather(writer: *mut Handle, reader: *mut Handle);
-    pub fn nr_gather_pin(writer: *mut Handle, reader: *mut Handle);
+    pub fn nr_meet(reader: *mut Handle, writer: *mut Handle) -> u32;
+    pub fn nr_meet_readers(reader: *mut Handle, other: *mut Handle) -> u32;
+    pub fn nr_gather(writer: *mut Handle, reader: *mut Handle) -> u32;
+    pub fn nr_gather_pin(writer: *mut Handle, reader: *mut Handle) -> u32;
     pub fn nr_open_queue(keys: u32, capacity: u32, posters: u32, taker: *mut Handle) -> u32;
     pub fn nr_open_poster(taker: *mut Handle, poster: *mut Handle) -> u32;
     pub fn nr_close_poster(poster: Handle);

@@ -14,8 +14,8 @@ pub struct ReaderMap {
 }
 
 impl ReaderMap {
-    /// Opens a map of that shape: every key is a hole. Refused with [`Fault::BadSize`] where a size is out of its limits,
-    /// or with [`Fault::NoMemory`].
+    /// Opens a map of that shape: every key is a hole. Refused with [`Fault::BadSize`] where a size is out of its
+    /// limits, or with [`Fault::NoMemory`].
     pub fn open(shape: &Shape) -> Result<ReaderMap, Fault> {
         let mut handle = Handle::empty();
         // SAFETY: the handle isn't live, and the shape is laid out as the header's.

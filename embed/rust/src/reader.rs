@@ -30,6 +30,21 @@ impl Reader {
         found.then(|| rows.as_slice())
     }
 
+    /// As [`Reader::find`], and the reader holds the set until it finds another or makes another call. While the key keeps
+    /// that set, the next `find_kept` of it writes no word. A set that is held keeps its slot from being used anew, so a
+    /// reader that finds nothing for a while is told to [`Reader::let_go`].
+    pub fn find_kept<'a>(&mut self, key: u32, rows: &'a mut Rows) -> Option<&'a [Row]> {
+        let key = self.map.checked(key);
+        // SAFETY: the handle is live, the key was checked, and the rows are laid out as the header's.
+        self.holds = unsafe { ffi::nr_find_kept(&mut self.handle, key, rows) } == ffi::NR_ROWS;
+        self.holds.then(|| rows.as_slice())
+    }
+
+    /// Ends the hold of the last [`Reader::find_kept`], where there is one.
+    pub fn let_go(&mut self) {
+        self.release();
+    }
+
     /// Requests a key. The first request since it became a hole is the one to be sent.
     pub fn ask(&mut self, key: u32) -> Asked {
         self.release();
@@ -59,7 +74,7 @@ impl Reader {
         self.release();
         self.map.is_of(&writer.map);
         // SAFETY: both handles are live and of one map, and the reader holds nothing.
-        unsafe { ffi::nr_meet(&mut self.handle, &mut writer.handle) }
+        unsafe { ffi::nr_meet(&mut self.handle, &mut writer.handle) };
     }
 
     /// Learns all that another reader of its map has seen, as from the writer.
@@ -68,7 +83,7 @@ impl Reader {
         other.release();
         self.map.is_of(&other.map);
         // SAFETY: both handles are live and of one map, and neither reader holds a set.
-        unsafe { ffi::nr_meet_readers(&mut self.handle, &mut other.handle) }
+        unsafe { ffi::nr_meet_readers(&mut self.handle, &mut other.handle) };
     }
 
     /// The sizes of its map.
@@ -90,7 +105,7 @@ impl Reader {
         if self.holds {
             self.holds = false;
             // SAFETY: the handle is live and holds a set.
-            unsafe { ffi::nr_release(&mut self.handle) }
+            unsafe { ffi::nr_release(&mut self.handle) };
         }
     }
 }

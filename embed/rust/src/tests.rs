@@ -46,6 +46,27 @@ fn a_pin_finds_its_key_until_it_is_put_anew() {
 }
 
 #[test]
+fn a_kept_find_holds_its_set_until_the_next_call() {
+    let ReaderMap { mut writer, mut readers } = ReaderMap::open(&Shape::new(2, 1, 1)).unwrap();
+    let [one, two] = [0, 1].map(|key| asked(&mut readers[0], key));
+    writer.fill(one, &[ONE]).unwrap();
+    let mut rows = Rows::new();
+    for _ in 0..2 {
+        assert_eq!(readers[0].find_kept(0, &mut rows), Some(&[ONE][..]));
+    }
+    assert!(writer.evict(0));
+    let (fault, two) = refused(writer.fill(two, &[]));
+    assert_eq!(fault, Fault::NoSlot);
+    assert_eq!(readers[0].find_kept(0, &mut rows), None);
+    assert_eq!(writer.fill(two, &[]), Ok(()));
+    assert_eq!(readers[0].find_kept(1, &mut rows), Some(&[][..]));
+    assert!(writer.evict(1));
+    assert_eq!(readers[0].find(1, &mut rows), None);
+    let ticket = asked(&mut readers[0], 0);
+    assert_eq!(writer.fill(ticket, &[ONE]), Ok(()));
+}
+
+#[test]
 #[should_panic(expected = "the map has 1 keys, and the key is 1")]
 fn a_pin_finds_no_key_that_is_not_there() {
     let ReaderMap { mut writer, mut readers } = ReaderMap::open(&Shape::new(1, 3, 1)).unwrap();
@@ -264,4 +285,24 @@ fn tokens_show_themselves() {
     assert_eq!(format!("{rows:?}"), "Rows([Row { a: 1, b: 1 }])");
     let queue = Queue::open(&map.writer, 1, 1).unwrap();
     assert!(format!("{queue:?} {map:?} {:?}", map.readers[0].sizes()).contains("Taker"));
+}
+
+#[test]
+fn a_kept_find_holds_its_set_until_it_is_let_go() {
+    // One key and two slots: an update needs the slot that isn't the key's.
+    let ReaderMap { mut writer, mut readers } = ReaderMap::open(&Shape::new(1, 2, 2)).unwrap();
+    let ticket = asked(&mut readers[0], 0);
+    writer.fill(ticket, &[ONE]).unwrap();
+    let mut rows = Rows::new();
+    assert_eq!(readers[0].find_kept(0, &mut rows), Some(&[ONE][..]));
+    assert_eq!(readers[0].find_kept(0, &mut rows), Some(&[ONE][..]));
+    let two = Row { a: 2, b: 2 };
+    writer.update(0, &[Delta::plus(two)]).unwrap();
+    assert_eq!(writer.update(0, &[Delta::minus(two)]), Err(Fault::NoSlot));
+    assert_eq!(readers[0].find_kept(0, &mut rows), Some(&[ONE, two][..]));
+    writer.update(0, &[Delta::minus(two)]).unwrap();
+    assert_eq!(writer.update(0, &[Delta::plus(two)]), Err(Fault::NoSlot));
+    readers[0].let_go();
+    writer.update(0, &[Delta::plus(two)]).unwrap();
+    assert_eq!(readers[1].find(0, &mut rows), Some(&[ONE, two][..]));
 }

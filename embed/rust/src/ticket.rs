@@ -4,10 +4,14 @@ use crate::Fault;
 use std::fmt;
 
 /// A request that is to be sent to whoever fills its key. It belongs to one map, and there is one of each request:
-/// [`Reader::ask`](crate::Reader::ask) makes it, [`Writer::fill`](crate::Writer::fill) takes it, and a queue carries it.
-/// A key whose ticket is dropped stays asked for until [`Writer::cancel`](crate::Writer::cancel) takes the request back.
+/// [`Reader::ask`] makes it, [`Writer::fill`] takes it, and a queue carries it. A key whose ticket is dropped stays
+/// asked for until [`Writer::cancel`] takes the request back.
+///
+/// [`Reader::ask`]: crate::Reader::ask
+/// [`Writer::fill`]: crate::Writer::fill
+/// [`Writer::cancel`]: crate::Writer::cancel
 #[derive(Debug, PartialEq, Eq)]
-#[must_use = "its key stays asked for until `Writer::fill` takes the ticket, or `Writer::cancel` takes the request back"]
+#[must_use = "its key stays asked for until `Writer::fill` takes it or `Writer::cancel` takes the request back"]
 pub struct Ticket {
     map: MapId,
     key: u32,
@@ -35,8 +39,8 @@ impl Ticket {
     }
 }
 
-/// A fill that was refused. Its ticket is as good as before: where the fault is [`Fault::NoSlot`], [`Fault::TooMany`] or
-/// [`Fault::NotSorted`] it fills the key later, and after any other it fills nothing any more.
+/// A fill that was refused. Its ticket is as good as before: where the fault is [`Fault::NoSlot`], [`Fault::TooMany`]
+/// or [`Fault::NotSorted`] it fills the key later, and after any other it fills nothing any more.
 #[derive(Debug, PartialEq, Eq)]
 #[must_use = "its ticket is to be filled later, or `Writer::cancel` takes the request back"]
 pub struct Unfilled {

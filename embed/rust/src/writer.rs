@@ -30,10 +30,10 @@ impl Writer {
         found.then(|| rows.as_slice())
     }
 
-    /// Answers a request with the key's rows, in ascending order. Where it is refused the ticket comes back, and nothing
-    /// has changed: with [`Fault::NoSlot`] it fills the key once a key was evicted or a reader released its set; with
-    /// [`Fault::TooMany`] or [`Fault::NotSorted`] by other rows; with [`Fault::NotAsked`], [`Fault::Stale`] or
-    /// [`Fault::Already`] never, since the request was taken back. Panics where the ticket is of another map.
+    /// Answers a request with the key's rows, in ascending order. Where it is refused the ticket comes back, and
+    /// nothing has changed: with [`Fault::NoSlot`] it fills the key once a key was evicted or a reader released its
+    /// set; with [`Fault::TooMany`] or [`Fault::NotSorted`] by other rows; with [`Fault::NotAsked`], [`Fault::Stale`]
+    /// or [`Fault::Already`] never, since the request was taken back. Panics where the ticket is of another map.
     pub fn fill(&mut self, ticket: Ticket, rows: &[Row]) -> Result<(), Unfilled> {
         assert!(ticket.map() == self.map.id, "the ticket is another map's");
         let (key, number) = (ticket.key(), ticket.number());
@@ -42,9 +42,9 @@ impl Writer {
         done(code).map_err(|fault| Unfilled { fault, ticket })
     }
 
-    /// Applies 1 to 64 signed rows to the rows of a key, whole or not at all. Refused with [`Fault::Dropped`] where the key
-    /// is not filled, and with [`Fault::BadBatch`], [`Fault::NoRow`], [`Fault::TooMany`] or [`Fault::NoSlot`]; then nothing
-    /// has changed.
+    /// Applies 1 to 64 signed rows to the rows of a key, whole or not at all. Refused with [`Fault::Dropped`] where
+    /// the key is not filled, and with [`Fault::BadBatch`], [`Fault::NoRow`], [`Fault::TooMany`] or [`Fault::NoSlot`];
+    /// then nothing has changed.
     pub fn update(&mut self, key: u32, deltas: &[Delta]) -> Result<(), Fault> {
         let key = self.map.checked(key);
         // SAFETY: the handle is live, the key was checked, and there are as many signed rows as it is told.
@@ -83,8 +83,10 @@ impl Writer {
     /// The number of a key's request, or of its next one.
     pub fn number(&mut self, key: u32) -> u64 {
         let key = self.map.checked(key);
+        let mut number = 0;
         // SAFETY: the handle is live, and the key was checked.
-        unsafe { ffi::nr_number(&mut self.handle, key) }
+        unsafe { ffi::nr_number(&mut self.handle, key, &mut number) };
+        number
     }
 
     /// Learns all that a reader of its map has seen, and then the reader all that the writer has. No key and no answer
@@ -92,14 +94,14 @@ impl Writer {
     pub fn gather(&mut self, reader: &mut Reader) {
         let reader = reader.for_writer(&self.map);
         // SAFETY: both handles are live and of one map, and the reader holds nothing.
-        unsafe { ffi::nr_gather(&mut self.handle, reader) }
+        unsafe { ffi::nr_gather(&mut self.handle, reader) };
     }
 
     /// The same with a reader that holds a set, which it keeps.
     pub fn gather_pin(&mut self, pin: &mut Pin<'_>) {
         let reader = pin.for_writer(&self.map);
         // SAFETY: both handles are live and of one map, and the reader holds a set.
-        unsafe { ffi::nr_gather_pin(&mut self.handle, reader) }
+        unsafe { ffi::nr_gather_pin(&mut self.handle, reader) };
     }
 }
 

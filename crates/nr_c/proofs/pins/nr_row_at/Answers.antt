@@ -1,17 +1,20 @@
 use Rattle.std.proofs.Common.{inl, inr, refl, ◌∙◌, arith}
 use Rattle.nr_c.proofs.pins.nr_row_at.Goals as goal
 
+pub returns-then-not-holds : goal.returns-then-not-holds
+returns-then-not-holds c = inl (record { code_is = refl; stay = refl; held = c.side-side.result.now; was = c.side-side.ensures.value; is = refl; hand = c.if-not-holds.ensures.none })
+
 pub returns-then-place-len : goal.returns-then-place-len
-returns-then-place-len c = inr (
+returns-then-place-len c = inr (inr (
   refl,
   c.take_pin-pin.result,
   record { old = c.side-side.result.now; new = _; led = c.side-side.ensures.value; leads = refl; map = c.put.ensures.map ∙ c.take_pin-pin.ensures.map; old_hand = c.take_pin-pin.ensures.pin; new_hand = c.put.ensures.hand },
   omega (arith, c.len.ensures.len, c.if-place-len.true),
   refl,
-)
+))
 
 pub returns : goal.returns
-returns c = inl (
+returns c = inr (inl (
   refl,
   c.take_pin-pin.result,
   c.row.new.self,
@@ -21,4 +24,4 @@ returns c = inl (
   c.row.ensures.rests,
   c.row.ensures.holds,
   c.row.ensures.marks,
-)
+))

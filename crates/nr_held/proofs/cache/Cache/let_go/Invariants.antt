@@ -5,6 +5,8 @@ use Rattle.nr_held.proofs.cache.Cache.let_go.Given as goal
 abbrev pub invariant-loop-place : goal.invariant-loop-place
 invariant-loop-place l = record {
   own : AreOf l.fn.map l.self-inside.hands.items;
-  all : l.place-end ≡ length l.fn.self;
-  gone : LetGoBelow l.place l.fn.self l.self-inside.hands.items;
+  all : l.place-end ≡ length l.fn.self.hands;
+  gone : LetGoBelow l.place l.fn.self.hands l.self-inside.hands.items;
+  once : l.self-inside.once ≡ l.fn.self.once;
+  missed : l.self-inside.missed.items ≡ l.fn.self.missed;
 }

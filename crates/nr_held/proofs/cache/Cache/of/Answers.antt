@@ -5,6 +5,6 @@ use Rattle.nr_map.specs.Hands.{Handed, idle}
 use Rattle.nr_held.proofs.cache.Cache.of.Goals as goal
 
 pub returns-clause-own : goal.returns-clause-own
-returns-clause-own c = λ table own.
+returns-clause-own c = λ table mine own.
     let all : c.loop-reader.hands.items ≡ map idle c.args.readers.items = grind (arith, common_steps) in
-    subst (λ (hands : List Handed). All (λ hand. hand.reader.table ≡ table) hands) (sym all) (All-map (λ (hand : Handed). hand.reader.table ≡ table) idle c.args.readers.items own)
+    (mine, subst (λ (hands : List Handed). All (λ hand. hand.reader.table ≡ table) hands) (sym all) (All-map (λ (hand : Handed). hand.reader.table ≡ table) idle c.args.readers.items own))

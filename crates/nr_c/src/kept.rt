@@ -1,0 +1,28 @@
+//! Finds by a reader that keeps what it found.
+ghost use Rattle.std.specs.Prelude.{◌≡◌};
+ghost use Rattle.nr_c.specs.Live.{MayRead, WithKey, reader_keys};
+ghost use Rattle.nr_c.specs.Kept.{KeepsByCode};
+
+use crate::codes::{NR_NO_KEY, of_found};
+use crate::reader_handle::NrReader;
+use crate::rows::NrRows;
+
+/// Looks a key up and holds its set for the next call. Where the key still has the set that the
+/// reader holds, it takes 2n + 1 steps for n rows, which write no word. Else it lets go what it held,
+/// arrives, reads and holds: 2n + 2 steps, 1 for a hole, and 2 more where something was held. Answers
+/// `NR_ROWS`, or `NR_HOLE`, and then nothing is held and the caller's cells stay; or `NR_NO_KEY`
+/// with no step.
+#[unsafe(no_mangle)]
+pub extern "C" fn nr_find_kept(reader: &mut NrReader, key: u32, rows: &mut NrRows) -> u32
+    requires live { MayRead reader.old.live }
+    ensures { WithKey reader_keys key result (rows.new ≡ rows.old) (KeepsByCode key rows.old rows.new result) reader.old.live reader.new.live }
+{
+    let side = reader.side();
+    if !side.has_key(key) {
+        return NR_NO_KEY;
+    }
+    let mut hand = side.take_hand(key);
+    let found = hand.find_kept(&side.map, key, rows);
+    side.put_hand(hand);
+    of_found(found)
+}

@@ -1,0 +1,45 @@
+-- Finds of many keys, as a loop makes them one by one.
+use Rattle.std.proofs.Common.{◌≡◌, ℕ, ◌+◌, ◌<◌, ◌≤◌, List, [], ◌∷◌, ◌++◌, length, take, drop, set, get_or, refl, sym, ap, ◌∙◌, subst, arith, append-nil}
+use Rattle.std.proofs.lemmas.List.{drop_all, drop_more, drop-set-lt, length-set, take_all, take_more_set}
+use Rattle.std.proofs.Math.Seq.{append_snoc}
+use Rattle.nr_model.specs.declared.rows.Row.{Row}
+use Rattle.nr_board.specs.Callers.{Caller}
+use Rattle.nr_map.specs.declared.wanted.Wanted.{Wanted}
+use Rattle.nr_map.specs.FindsEach.{FindsEach, FindsWanted}
+
+-- so many finds were made: finds of the other keys, which stand there as before, make finds of all
+pub record Begun {Room : Type 0} (shows : Room → List Row → Type 0) (first : Caller) (wanted : List (Wanted Room)) (made : ℕ) (now : Caller) (keys : List (Wanted Room)) : Type 0 where
+  pub long : length keys ≡ length wanted
+  pub rest : drop made keys ≡ drop made wanted
+  pub on : (last : Caller) (found : List (Wanted Room)) → FindsEach shows now (drop made wanted) last found → FindsEach shows first wanted last (take made keys ++ found)
+
+module _ {Room : Type 0} (shows : Room → List Row → Type 0) (first : Caller) (wanted : List (Wanted Room)) where
+  pub none_made : Begun shows first wanted 0 first wanted
+  none_made = record { long = refl; rest = refl; on = λ last found so. so }
+
+  module _ (made : ℕ) (now : Caller) (keys : List (Wanted Room)) (begun : Begun shows first wanted made now keys) where
+    module _ (one : Wanted Room) (low : made < length keys) (is : one ≡ get_or keys made one) where
+      tails : (one ∷ drop (made + 1) keys ≡ drop made wanted) × (get_or wanted made one ∷ drop (made + 1) wanted ≡ drop made wanted)
+      tails = (ap (λ (w : Wanted Room). w ∷ drop (made + 1) keys) is ∙ sym (drop_more keys made one low) ∙ begun.rest, sym (drop_more wanted made one (omega (arith, begun.long))))
+
+      same_rest : drop (made + 1) keys ≡ drop (made + 1) wanted
+      same_rest = let here = tails.0 in let there = tails.1 in cc
+
+      -- the key to be found next is one of those that were wanted
+      pub as_wanted : one ≡ get_or wanted made one
+      as_wanted = let here = tails.0 in let there = tails.1 in cc
+
+      pub one_more : (next : Caller) (found : Wanted Room) → FindsWanted shows now one next found → Begun shows first wanted (made + 1) next (set keys made found)
+      one_more next found finds = record {
+        long = length-set keys made found ∙ begun.long;
+        rest = drop-set-lt (made + 1) keys made found (omega arith) ∙ same_rest;
+        on = λ last others so. let next_too : FindsEach shows now (one ∷ drop (made + 1) wanted) last (found ∷ others) = (next, finds, so) in
+            subst (λ (l : List (Wanted Room)). FindsEach shows first wanted last l)
+            (sym (append_snoc (take made keys) found others) ∙ ap (λ (l : List (Wanted Room)). l ++ others) (sym (take_more_set keys made found low)))
+            (begun.on last (found ∷ others) (subst (λ (l : List (Wanted Room)). FindsEach shows now l last (found ∷ others)) (ap (λ (l : List (Wanted Room)). one ∷ l) (sym same_rest) ∙ tails.0) next_too));
+      }
+
+    pub all_made : length keys ≤ made → FindsEach shows first wanted now keys
+    all_made end =
+        subst (λ (l : List (Wanted Room)). FindsEach shows first wanted now l) (append-nil (take made keys) ∙ take_all made keys end)
+        (begun.on now [] (subst (λ (l : List (Wanted Room)). FindsEach shows now l now []) (sym (drop_all made wanted (omega (arith, begun.long)))) refl))

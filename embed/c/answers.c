@@ -1,0 +1,195 @@
+/* Each answer of each function but NR_NO_MEMORY, which refused.c has, and what a call leaves as it was where it tells
+   nothing. */
+#include "../../include/nr.h"
+#include <stdio.h>
+#include <stdlib.h>
+
+#define WANTS(answer, call) wants(#call " gives " #answer, (answer), (call))
+
+static void wants(const char *what, uint32_t wanted, uint32_t got) {
+  if (wanted == got) return;
+  fprintf(stderr, "answers: %s, and gave: %s\n", what, nr_strerror(got));
+  exit(1);
+}
+
+static const nr_row one = {1, 1}, two = {2, 2};
+
+/* What a map of two keys, one slot and two rows a key answers its writer. */
+static void test_writer(nr_writer *writer, nr_reader *reader) {
+  const nr_row down[2] = {two, one}, three[3] = {one, one, one};
+  const nr_delta more = {two, true}, less = {two, false}, many[65] = {more, more};
+  uint64_t number = 88;
+  static nr_rows rows;
+  rows.count = 99;
+  WANTS(NR_HOLE, nr_state(writer, 0));
+  WANTS(NR_HOLE, nr_look(writer, 0, &rows));
+  WANTS(NR_NOTHING, nr_evict(writer, 0));
+  WANTS(NR_NOTHING, nr_cancel(writer, 0));
+  WANTS(NR_NOT_ASKED, nr_fill(writer, 0, 0, &one, 1));
+  WANTS(NR_DROPPED, nr_update(writer, 0, &more, 1));
+  wants("rows that stay", 99, (uint32_t)rows.count);
+
+  WANTS(NR_SEND, nr_ask(reader, 0, &number));
+  WANTS(NR_ASKED, nr_state(writer, 0));
+  WANTS(NR_TOO_MANY, nr_fill(writer, 0, number, three, 3));
+  WANTS(NR_NOT_SORTED, nr_fill(writer, 0, number, down, 2));
+  WANTS(NR_STALE, nr_fill(writer, 0, number + 1, &one, 1));
+  WANTS(NR_DONE, nr_fill(writer, 0, number, &one, 1));
+  WANTS(NR_ALREADY, nr_fill(writer, 0, number, &one, 1));
+  WANTS(NR_ROWS, nr_state(writer, 0));
+  WANTS(NR_ROWS, nr_look(writer, 0, &rows));
+
+  WANTS(NR_BAD_BATCH, nr_update(writer, 0, &more, 0));
+  WANTS(NR_BAD_BATCH, nr_update(writer, 0, many, 65));
+  WANTS(NR_NO_ROW, nr_update(writer, 0, &less, 1));
+  WANTS(NR_ALL_FILLED, nr_update(writer, 0, &more, 1));
+  WANTS(NR_TOO_MANY, nr_update(writer, 0, many, 2));
+  WANTS(NR_SEND, nr_ask(reader, 1, &number));
+  WANTS(NR_ALL_FILLED, nr_fill(writer, 1, number, &one, 1));
+  uint32_t count = 0;
+  WANTS(NR_ROWS, nr_pin(reader, 0, &count));
+  WANTS(NR_EVICTED, nr_evict(writer, 0));
+  WANTS(NR_NO_SLOT, nr_fill(writer, 1, number, &one, 1));
+  WANTS(NR_DONE, nr_release(reader));
+  WANTS(NR_CANCELLED, nr_cancel(writer, 1));
+  WANTS(NR_DONE, nr_number(writer, 1, &number));
+}
+
+/* A map with a slot to spare, whose requests have the last number. */
+static void test_reader(nr_writer *writer, nr_reader *reader) {
+  const nr_delta more = {two, true};
+  uint64_t number = 88;
+  uint32_t count = 77;
+  nr_row row = {5, 5};
+  static nr_rows rows;
+  rows.count = 99;
+  WANTS(NR_HOLE, nr_find(reader, 0, &rows));
+  WANTS(NR_HOLE, nr_find_kept(reader, 0, &rows));
+  WANTS(NR_HOLE, nr_pin(reader, 0, &count));
+  wants("rows that stay", 99, (uint32_t)rows.count);
+  wants("a count that stays", 77, count);
+  WANTS(NR_SEND, nr_ask(reader, 0, &number));
+  wants("the last number", 4194303, (uint32_t)number);
+  number = 88;
+  WANTS(NR_WAITING, nr_ask(reader, 0, &number));
+  WANTS(NR_WORN, nr_cancel(writer, 0));
+  WANTS(NR_DONE, nr_fill(writer, 0, 4194303, &one, 1));
+  WANTS(NR_FILLED, nr_ask(reader, 0, &number));
+  wants("a number that stays", 88, (uint32_t)number);
+
+  WANTS(NR_ROWS, nr_find(reader, 0, &rows));
+  WANTS(NR_ROWS, nr_pin(reader, 0, &count));
+  WANTS(NR_NO_ROW, nr_row_at(reader, 1, &row));
+  wants("a row that stays", 5, (uint32_t)row.a);
+  WANTS(NR_ROWS, nr_row_at(reader, 0, &row));
+  wants("a row", 1, (uint32_t)row.a);
+  rows.count = 99;
+  WANTS(NR_ROWS, nr_copy(reader, &rows));
+  wants("a copy", 1, (uint32_t)rows.count);
+  WANTS(NR_ROWS, nr_again(reader, 0));
+  WANTS(NR_DONE, nr_update(writer, 0, &more, 1));
+  WANTS(NR_OTHER, nr_again(reader, 0));
+  WANTS(NR_ROWS, nr_find_kept(reader, 0, &rows));
+  wants("the rows after an update", 2, (uint32_t)rows.count);
+  nr_release(reader);
+}
+
+/* Who gives a key that the map and the queue haven't. */
+static void test_no_key(nr_writer *writer, nr_reader *reader, nr_poster *poster) {
+  const nr_delta more = {two, true};
+  uint64_t number = 88;
+  uint32_t count = 77;
+  static nr_rows rows;
+  WANTS(NR_NO_KEY, nr_find(reader, 2, &rows));
+  WANTS(NR_NO_KEY, nr_find_kept(reader, 2, &rows));
+  WANTS(NR_NO_KEY, nr_ask(reader, 2, &number));
+  WANTS(NR_NO_KEY, nr_pin(reader, 2, &count));
+  WANTS(NR_NO_KEY, nr_look(writer, 2, &rows));
+  WANTS(NR_NO_KEY, nr_fill(writer, 2, 0, &one, 1));
+  WANTS(NR_NO_KEY, nr_update(writer, 2, &more, 1));
+  WANTS(NR_NO_KEY, nr_evict(writer, 2));
+  WANTS(NR_NO_KEY, nr_cancel(writer, 2));
+  WANTS(NR_NO_KEY, nr_state(writer, 2));
+  WANTS(NR_NO_KEY, nr_number(writer, 2, &number));
+  WANTS(NR_NO_KEY, nr_post(poster, 2, 0));
+  WANTS(NR_ROWS, nr_pin(reader, 0, &count));
+  WANTS(NR_NO_KEY, nr_again(reader, 2));
+  nr_release(reader);
+}
+
+/* A reader that holds a set where it is to hold none, and the other way round, of a map whose key 0 has two rows. */
+static void test_holding(nr_writer *writer, nr_reader *reader) {
+  uint64_t number = 88;
+  uint32_t count = 77;
+  nr_row row = {5, 5};
+  static nr_rows rows;
+  rows.count = 99;
+  WANTS(NR_NOT_HOLDING, nr_release(reader));
+  WANTS(NR_NOT_HOLDING, nr_again(reader, 0));
+  WANTS(NR_NOT_HOLDING, nr_row_at(reader, 0, &row));
+  WANTS(NR_NOT_HOLDING, nr_copy(reader, &rows));
+  WANTS(NR_NOT_HOLDING, nr_gather_pin(writer, reader));
+  WANTS(NR_DONE, nr_meet(reader, writer));
+  WANTS(NR_DONE, nr_gather(writer, reader));
+  wants("a row that stays", 5, (uint32_t)row.a);
+  WANTS(NR_ROWS, nr_pin(reader, 0, &count));
+  count = 77;
+  WANTS(NR_HOLDING, nr_pin(reader, 0, &count));
+  WANTS(NR_HOLDING, nr_find(reader, 0, &rows));
+  WANTS(NR_HOLDING, nr_ask(reader, 1, &number));
+  WANTS(NR_HOLDING, nr_meet(reader, writer));
+  WANTS(NR_HOLDING, nr_gather(writer, reader));
+  WANTS(NR_DONE, nr_gather_pin(writer, reader));
+  wants("rows that stay", 99, (uint32_t)rows.count);
+  wants("a count that stays", 77, count);
+  wants("a number that stays", 88, (uint32_t)number);
+  WANTS(NR_ROWS, nr_row_at(reader, 1, &row));
+  wants("a row of the set that stayed held", 2, (uint32_t)row.a);
+  WANTS(NR_DONE, nr_release(reader));
+}
+
+static void test_queue(nr_taker *taker, nr_poster *poster) {
+  uint32_t key = 77;
+  uint64_t number = 88;
+  nr_poster none = {0};
+  nr_taker no_room = {0};
+  WANTS(NR_NO_POSTER, nr_open_poster(taker, &none));
+  WANTS(NR_BAD_SIZE, nr_open_queue(2, 0, 1, &no_room));
+  WANTS(NR_NOT_TAKEN, nr_take(taker, &key, &number));
+  wants("a key that stays", 77, key);
+  wants("a number that stays", 88, (uint32_t)number);
+  WANTS(NR_DONE, nr_post(poster, 1, 3));
+  WANTS(NR_NOT_POSTED, nr_post(poster, 0, 4));
+  WANTS(NR_DONE, nr_take(taker, &key, &number));
+  wants("the key that was posted", 1, key);
+  wants("the number that was posted", 3, (uint32_t)number);
+}
+
+int main(void) {
+  const nr_shape small = {2, 1, 1, 2, 0, 0}, last = {2, 3, 1, 2, 0, 4194303}, bad = {2, 0, 1, 2, 0, 0};
+  nr_writer writer = {0}, worn = {0};
+  nr_reader reader = {0}, other = {0}, none = {0};
+  nr_taker taker = {0};
+  nr_poster poster = {0};
+  WANTS(NR_BAD_SIZE, nr_open(&bad, &writer));
+  WANTS(NR_DONE, nr_open(&small, &writer));
+  WANTS(NR_DONE, nr_open(&last, &worn));
+  WANTS(NR_DONE, nr_open_reader(&writer, &reader));
+  WANTS(NR_NO_READER, nr_open_reader(&writer, &none));
+  WANTS(NR_DONE, nr_open_reader(&worn, &other));
+  WANTS(NR_DONE, nr_open_queue(2, 1, 1, &taker));
+  WANTS(NR_DONE, nr_open_poster(&taker, &poster));
+  test_writer(&writer, &reader);
+  test_reader(&worn, &other);
+  test_no_key(&worn, &other, &poster);
+  test_holding(&worn, &other);
+  test_queue(&taker, &poster);
+  nr_close_reader(reader);
+  nr_close_reader(other);
+  nr_close_writer(writer);
+  nr_close_writer(worn);
+  nr_close_poster(poster);
+  nr_close_taker(taker);
+  puts("each function gave each of its answers");
+  return 0;
+}

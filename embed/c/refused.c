@@ -1,0 +1,114 @@
+/* Each request for memory is refused in turn: the opening that made it answers NR_NO_MEMORY, leaves its handle empty,
+   and does its work when it is called again. No other call asks for memory. Linked with --wrap for malloc and
+   realloc. */
+#include "../../include/nr.h"
+#include <stdio.h>
+#include <stdlib.h>
+
+/* How many requests are granted before one is refused. */
+static long grants = -1;
+static long requests;
+
+void *__real_malloc(size_t size);
+void *__real_realloc(void *old, size_t size);
+void *__wrap_malloc(size_t size);
+void *__wrap_realloc(void *old, size_t size);
+
+static bool is_refused(void) {
+  requests++;
+  return grants >= 0 && grants-- == 0;
+}
+
+void *__wrap_malloc(size_t size) {
+  return is_refused() ? NULL : __real_malloc(size);
+}
+
+void *__wrap_realloc(void *old, size_t size) {
+  return is_refused() ? NULL : __real_realloc(old, size);
+}
+
+static void want(bool is_so, const char *what) {
+  if (is_so) return;
+  fprintf(stderr, "refused: %s\n", what);
+  exit(1);
+}
+
+static int refusals;
+
+/* Whether an opening is to be made again. Its handle leads nowhere then. */
+static bool again(uint32_t answer, void *const *at, const char *what) {
+  want(answer == NR_DONE || answer == NR_NO_MEMORY, what);
+  want((answer == NR_DONE) == (*at != NULL), "a handle that is live where its opening is done and nowhere else");
+  refusals += answer == NR_NO_MEMORY;
+  return answer == NR_NO_MEMORY;
+}
+
+/* Every call that opens nothing. */
+static void call_all(nr_writer *writer, nr_reader *reader, nr_reader *other, nr_taker *taker, nr_poster *poster) {
+  const nr_row rows[2] = {{1, 1}, {2, 2}};
+  const nr_delta batch = {{3, 3}, true};
+  static nr_rows found;
+  nr_row row;
+  nr_size sizes;
+  uint64_t number;
+  uint32_t key, count;
+  want(nr_ask(reader, 1, &number) == NR_SEND, "a request");
+  want(nr_post(poster, 1, number) == NR_DONE, "a post");
+  want(nr_take(taker, &key, &number) == NR_DONE, "a take");
+  want(nr_fill(writer, key, number, rows, 2) == NR_DONE, "a fill");
+  want(nr_update(writer, key, &batch, 1) == NR_DONE, "an update");
+  want(nr_look(writer, key, &found) == NR_ROWS && nr_state(writer, key) == NR_ROWS, "a look");
+  want(nr_find(reader, key, &found) == NR_ROWS && found.count == 3, "a find");
+  nr_meet(reader, writer);
+  nr_meet_readers(reader, other);
+  nr_gather(writer, reader);
+  want(nr_pin(reader, key, &count) == NR_ROWS && nr_row_at(reader, 2, &row) == NR_ROWS, "a pin");
+  want(nr_copy(reader, &found) == NR_ROWS && found.count == 3, "a copy of a held set");
+  want(nr_again(reader, key) == NR_ROWS, "a find again");
+  nr_gather_pin(writer, reader);
+  nr_release(reader);
+  want(nr_find_kept(reader, key, &found) == NR_ROWS, "a find that is kept");
+  nr_release(reader);
+  want(nr_evict(writer, key) == NR_EVICTED, "an eviction");
+  want(nr_ask(reader, key, &number) == NR_SEND && nr_cancel(writer, key) == NR_CANCELLED, "a cancel");
+  uint64_t next;
+  want(nr_number(writer, key, &next) == NR_DONE && next == number + 1, "the number of the next request");
+  nr_sizes(reader, &sizes);
+}
+
+/* All openings with one refusal, after so many grants; whether there was one. */
+static bool refuse(long after) {
+  const nr_shape shape = {3, 6, 2, 4, 0, 0};
+  nr_writer writer = {0};
+  nr_reader readers[2] = {{0}, {0}};
+  nr_taker taker = {0};
+  nr_poster poster = {0};
+  refusals = 0;
+  grants = after;
+  while (again(nr_open(&shape, &writer), &writer.at, "a map")) {
+  }
+  for (int i = 0; i < 2; i++)
+    while (again(nr_open_reader(&writer, &readers[i]), &readers[i].at, "a reader")) {
+    }
+  while (again(nr_open_queue(3, 3, 1, &taker), &taker.at, "a queue")) {
+  }
+  while (again(nr_open_poster(&taker, &poster), &poster.at, "a poster")) {
+  }
+  want(refusals == (grants < 0), "one answer of no memory for one refusal");
+  long before = requests;
+  call_all(&writer, &readers[0], &readers[1], &taker, &poster);
+  want(requests == before, "calls that ask for no memory");
+  for (int i = 0; i < 2; i++) nr_close_reader(readers[i]);
+  nr_close_writer(writer);
+  nr_close_poster(poster);
+  nr_close_taker(taker);
+  return refusals;
+}
+
+int main(void) {
+  long refused = 0;
+  while (refuse(refused)) refused++;
+  want(refused >= 5, "a request for memory by each opening");
+  puts("each refused request for memory was told, and was made again");
+  return 0;
+}
