@@ -26,7 +26,7 @@ loop-init g c =
       count = 0;
       gained = gained_none c.args.writer.table.shape.keys c.args.writer c.open-flow.result.writer (ap (λ f. f.writer) opened);
       fills = refl;
-      lobby = c.guest.ensures.lobby;
+      lobby = c.guest-guest.ensures.lobby;
     }
 
 pub loop-preserved : goal.loop-preserved
@@ -38,7 +38,7 @@ loop-preserved g c =
       count = i.count + t.gained.0;
       gained = goes_on c.args.writer c.loop.flow.writer _ c.loop.flow.map i.count t.gained.0 i.map i.gained t.gained.1;
       fills = omega (arith, i.fills, t.gained.2);
-      lobby = c.is_closed.ensures.later.lobby ∙ i.lobby;
+      lobby = c.is_closed-is_closed.ensures.later.lobby ∙ i.lobby;
     }
 
 pub returns : goal.returns
