@@ -13,7 +13,7 @@
    - no call is made from a signal handler, or in the forked child of a process with threads.
 
    Each call that takes a key answers NR_NO_KEY, without a step, where the map, or the queue, wasn't opened
-   with so many keys; nothing has changed then, and what the call would have told stays as it was.
+   with that many keys; nothing has changed then, and what the call would have told stays as it was.
 
    A step is one atomic operation on one 64-bit word. No call takes a lock or waits, and none but those
    that open takes memory. Link: libnr.a (or libnr.so), and nothing else but the C library. For x86-64
@@ -167,7 +167,7 @@ typedef struct nr_poster {
 
 /* WORKING WITH IT
 
-   Waiting for a key: note how often you were woken, look, request, sleep, in this order; whoever fills
+   Waiting for a key: note how often you were woken, look, request, sleep, in this order; the thread that fills
    the key wakes after the fill. embed/c/wait.c does so by a condition variable and by eventfds, and
    has the dataflow sleep while nothing is posted.
    No slot: nothing has changed. After NR_NO_SLOT have readers release what they hold, or evict a key; after
@@ -295,7 +295,7 @@ uint32_t nr_meet_readers(nr_reader *reader, nr_reader *other);
 uint32_t nr_gather(nr_writer *writer, nr_reader *reader);
 uint32_t nr_gather_pin(nr_writer *writer, nr_reader *reader);
 
-/* REQUESTS ON THEIR WAY TO WHOEVER FILLS THEM: a queue without a lock, for many threads that post and one
+/* REQUESTS ON THEIR WAY TO THE WRITER: a queue without a lock, for many threads that post and one
    that takes, first in first out. It knows nothing of a map but how many keys it has. What was taken, and
    after it what the queue holds, is what was posted: each request once, and each poster's in their order.
    A call makes one attempt and waits for nobody; where it was answered NR_NOT_POSTED or NR_NOT_TAKEN

@@ -133,7 +133,7 @@ static void column(const char *name, int rounds, double (*measure)(library *)) {
   fflush(stdout);
 }
 
-/* So many calls of one kind, for an instruction counter. */
+/* That many calls of one kind, for an instruction counter. */
 static void repeat(const char *what, long times) {
   library *l = &libraries[0];
   static nr_rows found;

@@ -152,7 +152,7 @@ static void update(library *l, uint32_t key) {
   *is = !*is;
 }
 
-/* Runs readers, and beside them a writer that begins an update each so many nanoseconds, or none; what one update took. */
+/* Runs readers, and beside them a writer that begins an update at each such interval, or never; what one update took. */
 static double run_with(library *l, int hands, int threads, void *(*body)(void *), keys_read keys, double each_so, double *read) {
   pthread_t t[READERS];
   job jobs[READERS];

@@ -76,7 +76,7 @@ static void call_all(nr_writer *writer, nr_reader *reader, nr_reader *other, nr_
   nr_sizes(reader, &sizes);
 }
 
-/* All openings with one refusal, after so many grants; whether there was one. */
+/* All openings with one refusal, after that many grants; whether there was one. */
 static bool refuse(long after) {
   const nr_shape shape = {3, 6, 2, 4, 0, 0};
   nr_writer writer = {0};

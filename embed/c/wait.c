@@ -1,5 +1,5 @@
 /* How a client waits for a key's rows, by a condition variable and by an eventfd, and how the dataflow waits
-   for requests. Whoever waits keeps one order: note how often it was woken, look, request, sleep. So a fill
+   for requests. A thread that waits keeps one order: note how often it was woken, look, request, sleep. So a fill
    that comes after the look ends the sleep. */
 #define _GNU_SOURCE
 #include <inttypes.h>

@@ -1,5 +1,5 @@
 //! A word for each key with the place of its set and a count of those who took it. A reader adds one to take
-//! the set and one to the set's own count to leave it; the writer swaps another set in, and whoever leaves last
+//! the set and one to the set's own count to leave it; the writer swaps another set in, and the last to leave
 //! frees the old one.
 use crate::{Kind, Map, Row, Rows};
 use std::ptr::null_mut;
@@ -36,7 +36,7 @@ impl Peer {
             return;
         }
         let out = OUT | (old >> 48) << TAKEN;
-        // SAFETY: whoever finds that all have left is the last to use the set.
+        // SAFETY: the thread that finds that all have left is the last to use the set.
         unsafe {
             if all_left((*set).left.fetch_add(out, SeqCst) + out) {
                 drop(Box::from_raw(set));

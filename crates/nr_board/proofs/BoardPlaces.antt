@@ -8,7 +8,7 @@ use Rattle.nr_machine.specs.Slots.{content, departures, layout, slot_room}
 use Rattle.nr_machine.specs.declared.shape.Shape.{Shape}
 use Rattle.nr_board.specs.Callers.{Table}
 
--- what the board keeps of its table, whose rule goes by that shape and which has so many words
+-- what the board keeps of its table, whose rule goes by that shape and which has that many words
 pub record Stands (board : Table) (key : Shape) (words : ℕ) : Type 0 where
   pub key_is : key ≡ board.shape
   pub size : words ≡ total_of (layout board.shape)

@@ -23,7 +23,7 @@ use Rattle.nr_marks.specs.Marked.{AllSince, Since}
 use Rattle.nr_board.specs.Rule.{Fits, Kept, StartsWith, counts, marks_of, pasts_of, role_of, told_pasts_of}
 use Rattle.nr_board.specs.Views.{View}
 
--- whoever is no caller, has no entries
+-- a number that is no caller's has no entries
 note_fits : (shape : Shape) (log : List Entry) (view note : View) → note.role ≡ Note → StartsWith log note.seen → note.told ≡ [] → Fits shape log note
 note_fits shape log view note is begins none = record {
   begins = begins;

@@ -29,7 +29,7 @@ use Rattle.nr_words.specs.SetWords.{encode}
 pub knows_after : (steps : ℕ) (old : Caller) (entries : List Entry) (new : Caller) → Grows steps old entries new → IsSound new
 knows_after steps old entries new grows = record { legal = subst (λ (t : Table). IsLegal (map_at_opening t) new.seen) (sym grows.table) grows.legal; callers = subst (λ (t : Table). AreCallers t.shape new.seen) (sym grows.table) grows.callers; own = grows.own }
 
--- so many words are put
+-- that many words are put
 pub record PutSoFar (table : Table) (desk : Desk) (call : WriterCall) (rows : List Row) (slot departed : ℕ) (before after : MapSeat) (index : ℕ) : Type 0 where
   pub writes : WritesAt table (moved_to desk (Putting call rows slot departed index)) after
   pub grows : Grows index (token before) [] (token after)

@@ -137,7 +137,7 @@ look_ends {table = table} {spare = spare} {call = call} {before = before} {after
     let ended_so = ends table spare before looks.rests 1 (call_of call) answer spare after refl (subst (λ (o : Desk × Step). LeadsIn 1 table (call_of call) o before after) is looks.leads) in
     (rests_own table spare after ended_so.0, (ended_so.1, (same_slots table spare before looks.rests after ended_so.0, looks.marks)))
 
--- it has its set after so many steps: it looks for a slot
+-- it has its set after that many steps: it looks for a slot
 pub record HasSet (table : Table) (spare : Spare) (steps : ℕ) (call : WriterCall) (rows : List Row) (before mid : MapSeat) : Type 0 where
   pub rests : RestsAt table spare before
   pub settles : Settles table call rows spare mid

@@ -66,7 +66,7 @@ map_at_opening table = opening_map table.shape
 abbrev pub map_seen : Caller → PartialMap
 map_seen caller = after (map_at_opening caller.table) caller.seen
 
--- in so many steps these entries of the caller's became the last ones of one legal history, which begins with all that the caller had seen
+-- in that many steps these entries of the caller's became the last ones of one legal history, which begins with all that the caller had seen
 pub record Grows (steps : ℕ) (old : Caller) (entries : List Entry) (new : Caller) : Type 0 where
   pub table : new.table ≡ old.table
   pub number : new.number ≡ old.number
@@ -86,7 +86,7 @@ pub record Grows (steps : ℕ) (old : Caller) (entries : List Entry) (new : Call
 abbrev pub Gains : ℕ → Caller → Call → Reply → Caller → Type 0
 Gains steps old call reply new = Grows steps old (entry old.number call reply ∷ []) new
 
--- so many steps that add nothing and learn nothing
+-- that many steps that add nothing and learn nothing
 pub record Rests (steps : ℕ) (old new : Caller) : Type 0 where
   pub table : new.table ≡ old.table
   pub number : new.number ≡ old.number

@@ -4,7 +4,7 @@ use Rattle.std.proofs.Common.{◌∙◌, refl, arith}
 use Rattle.nr_board.specs.declared.held_rows.HeldRows.{HeldRows}
 use Rattle.nr_board.specs.Callers.{Rests, token}
 
--- so many rows were read by the same seat
+-- that many rows were read by the same seat
 pub record Gave (first : HeldRows) (count : ℕ) (last : HeldRows) : Type 0 where
   pub name : last.seat.ghost_name ≡ first.seat.ghost_name
   pub board : last.board.now ≡ first.board.now

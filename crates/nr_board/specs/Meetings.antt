@@ -17,7 +17,7 @@ use Rattle.nr_marks.specs.Puts.{put_number}
 use Rattle.nr_board.specs.Entries.{AreCallers}
 use Rattle.nr_board.specs.Rule.{StartsWith}
 
--- in so many steps, none of which adds an entry, the token learnt a legal history that begins with all that it had seen
+-- in that many steps, none of which adds an entry, the token learnt a legal history that begins with all that it had seen
 pub record Learns (steps : ℕ) (old new : Caller) : Type 0 where
   pub table : new.table ≡ old.table
   pub number : new.number ≡ old.number

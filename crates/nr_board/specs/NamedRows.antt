@@ -27,11 +27,11 @@ rows_of_state (Rows number rows) = rows
 abbrev pub rows_named : Table → WriterCall → MapSeat → List Row
 rows_named table call seat = rows_of_state (state_of (map_after table.shape seat.me.0.seen) (key_of call))
 
--- where the first words of the set, so many, take the writer
+-- where the first words of the set, that many, take the writer
 abbrev pub reads_on : Table → Desk → WriterCall → ℕ → List Row → ℕ → Desk × Step
 reads_on table desk call slot rows words = read_on table.shape desk call slot (take words (encode rows))
 
--- since the seat was as it was before, it has read so many words of the set, one at least
+-- since the seat was as it was before, it has read that many words of the set, one at least
 pub record ReadTo (table : Table) (call : WriterCall) (begin : ℕ) (before after : MapSeat) (words : ℕ) : Type 0 where
   pub near : key_of call < table.shape.keys
   pub slot : ℕ

@@ -16,7 +16,7 @@ desk_with spare place = record { place = place; fresh = spare.fresh; retired = s
 abbrev pub spare_of : Caller → Spare
 spare_of caller = record { slots = caller.table.shape.slots; fresh = caller.fresh; retired = caller.retired; numbers = caller.numbers }
 
--- a slot was taken, by so many polls: the next that was never taken, or else the retired one at which the last poll was made
+-- a slot was taken, by that many polls: the next that was never taken, or else the retired one at which the last poll was made
 abbrev pub TookByPolls : ℕ → ℕ → Spare → Spare → Type 0
 TookByPolls slot polls old new =
     ((old.fresh < old.slots) × (slot ≡ old.fresh) × (polls ≡ 0) × (new.fresh ≡ old.fresh + 1) × (new.retired ≡ old.retired))

@@ -66,7 +66,7 @@ abbrev pub LooksIn : {Room : Type 0} → (Room → List Row → Type 0) → ℕ 
 LooksIn shows key old before new room found.Rows = (rows : List Row) × Gains (2 * length rows + 2) old (model.Find key) (reply.Rows rows) new × SlotsStay old new × shows room rows × IsRowSet old.table.shape.rows rows
 LooksIn shows key old before new room found.Hole = Gains 1 old (model.Find key) reply.Hole new × SlotsStay old new × (room ≡ before)
 
--- a call that put a set, besides its other steps: by so many polls it took a slot, it put each word and named the slot at its key, with the next put number, and retired what the key named before
+-- a call that put a set, besides its other steps: by that many polls it took a slot, it put each word and named the slot at its key, with the next put number, and retired what the key named before
 pub record Publishes (steps : ℕ) (old : Caller) (call : Call) (rows : List Row) (new : Caller) : Type 0 where
   pub polls : ℕ
   pub slot : ℕ
@@ -82,13 +82,13 @@ pub record Publishes (steps : ℕ) (old : Caller) (call : Call) (rows : List Row
   pub marks : new.marks ≡ with_name (with_polls old.marks new.marks.polls) (call_key call) slot number
   pub gains : Gains (steps + 2 * length rows + 2 + polls) old call reply.Done new
 
--- A call that found no slot, after so many other steps and a poll of each retired slot. It is no entry: the writer has learnt readers' entries alone.
+-- A call that found no slot, after that many other steps and a poll of each retired slot. It is no entry: the writer has learnt readers' entries alone.
 pub record HasNoSlot (steps : ℕ) (old : Caller) (call : Call) (counts : NoSlot) (new : Caller) : Type 0 where
   pub grows : Grows (steps + length old.retired) old [] new
   pub readers : entries_of grows.between old.number ≡ []
   -- it would be done now, and each slot is a filled key's or was polled
   pub lacks : Lacks call counts new
-  -- at its poll the noted reader held the slot and had made so many acts, no fewer than the writer knew of
+  -- at its poll the noted reader held the slot and had made that many acts, no fewer than the writer knew of
   pub held : AllHeldThen old.seen new.seen new.marks.polls
   pub noted : Noted old.table.shape old.pasts new.marks.polls
   pub slots : spare_of new ≡ spare_of old

@@ -106,7 +106,7 @@ pub record IsWithdrawing (table : Table) (key number : ℕ) (seat : MapSeat) : T
   pub place : desk.place ≡ Withdrawing key
   pub number_is : number ≡ number_at desk key + 1
 
--- so many steps of a call, to the desk of the outcome, with the entry of a call that ends there with a reply
+-- that many steps of a call, to the desk of the outcome, with the entry of a call that ends there with a reply
 pub record LeadsIn (steps : ℕ) (table : Table) (call : Call) (outcome : Desk × Step) (old new : MapSeat) : Type 0 where
   pub writes : WritesAt table outcome.0 new
   pub grows : Grows steps (token old) (ending call outcome.1) (token new)

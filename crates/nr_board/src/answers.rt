@@ -24,7 +24,7 @@ pub enum FillFault {
     Already,
     #[error("the request that it answers was taken back")]
     Stale,
-    #[error("no slot is to be had")]
+    #[error("there is no slot")]
     NoSlot(NoSlot),
 }
 
@@ -37,7 +37,7 @@ pub enum UpdateFault {
     NoRow,
     #[error("more rows would be left than a key may have")]
     TooMany,
-    #[error("no slot is to be had")]
+    #[error("there is no slot")]
     NoSlot(NoSlot),
 }
 

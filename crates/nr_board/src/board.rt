@@ -42,7 +42,7 @@ use std::marker::Model;
 /// What a token makes its steps with.
 pub type Seat = atomic_table::Seat<(), View>;
 
-/// The words of a map of one shape. Whoever has no seat of it makes no step.
+/// The words of a map of one shape. Only a seat of it can make a step.
 #[derive(Drop)]
 pub struct Board {
     table: Table<(), View, Shape, Law, Global>,

@@ -52,7 +52,7 @@ impl Board {
         self.copy_rows(seat, begin, count as u32, rows);
     }
 
-    /// Writes the rows of that set, so many, without the word that counts them.
+    /// Writes the rows of that set, that many, without the word that counts them.
     #[inline(always)]
     pub fn copy_rows<R: RowRoom>(&self, seat: &mut Seat, begin: u64, count: u32, rows: &mut R)
         requires reader { HoldsAt self.now begin seat.old }

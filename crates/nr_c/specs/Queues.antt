@@ -5,7 +5,7 @@ use Rattle.nr_c.specs.Numbers.{answer_bad_size, answer_done, answer_no_memory, a
 use Rattle.nr_c.specs.declared.poster_side.PosterSide.{PosterSide}
 use Rattle.nr_c.specs.declared.taker_side.TakerSide.{TakerSide}
 
--- the taker's side of a new queue of that capacity for keys below the number, with so many posters, none of which has a handle
+-- the taker's side of a new queue of that capacity for keys below the number, with that many posters, none of which has a handle
 abbrev pub IsNewQueue : ℕ → ℕ → ℕ → TakerSide → Type 0
 IsNewQueue capacity posters keys side = IsOpenedQueue capacity posters keys side.queue.value side.spare.items side.taker
 

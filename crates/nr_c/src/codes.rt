@@ -11,7 +11,7 @@ pub const NR_ROWS: u32 = 0;
 /// To a find: the key is not filled.
 pub const NR_HOLE: u32 = 1;
 
-/// To a request: nobody asked before, so whoever asked sends the upquery.
+/// To a request: nobody asked before, so the caller sends the upquery.
 pub const NR_SEND: u32 = 2;
 
 /// To a request: an upquery is under way.
@@ -41,7 +41,7 @@ pub const NR_NO_ROW: u32 = 10;
 /// To a fill or an update: more rows than a key may have.
 pub const NR_TOO_MANY: u32 = 11;
 
-/// To a fill or an update: no slot is to be had, and readers hold some.
+/// To a fill or an update: there is no slot, and readers hold some.
 pub const NR_NO_SLOT: u32 = 12;
 
 /// To an eviction: the key was filled and is a hole now.
@@ -95,7 +95,7 @@ pub const NR_HOLDING: u32 = 28;
 /// To a call of a reader that holds a set: it holds nothing.
 pub const NR_NOT_HOLDING: u32 = 29;
 
-/// To a fill or an update: no slot is to be had, since each is a filled key's.
+/// To a fill or an update: there is no slot, since each is a filled key's.
 pub const NR_ALL_FILLED: u32 = 30;
 
 pub fn of_found(found: Found) -> u32

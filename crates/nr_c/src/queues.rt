@@ -42,7 +42,7 @@ pub extern "C" fn nr_open_queue(
     }
 }
 
-// A queue's taker's side. Contracts are told the number of keys by whoever calls this.
+// A queue's taker's side. Contracts are told the number of keys by the caller.
 fn opened_queue(
     alloc: Global,
     keys: u32,

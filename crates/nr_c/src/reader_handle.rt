@@ -14,7 +14,7 @@ use std::marker::Model;
 use std::mem::{self, ManuallyDrop};
 
 /// C starts one as zeros, which leads nowhere, and never copies one that leads somewhere. It can't be
-/// dropped: whoever is given one ends what it leads to.
+/// dropped: its owner ends what it leads to.
 #[repr(C)]
 pub struct NrReader {
     pub(crate) ptr: *mut u8,

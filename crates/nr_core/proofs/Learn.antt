@@ -1,4 +1,4 @@
--- A load that only learns changes nothing, whoever makes it.
+-- A load that only learns changes nothing, whichever caller makes it.
 use Rattle.std.proofs.Common.{List, [], append-nil, get_or, refl, set, subst, sym, ℕ, ◌++◌, ◌≡◌}
 use lib.ListN.{get_elem?}
 use lib.Seq.{set-get_or}

@@ -75,7 +75,7 @@ first_numbers shape = record {
   agree = λ k near. get_or-replicate shape.keys k shape.first_number 0 near ∙ ap number_of (sym (get_or-replicate shape.keys k (key.Hole shape.first_number) (key.Hole 0) near));
 }
 
--- the writer, and so many readers
+-- the writer, and that many readers
 pub core_opens : (shape : Shape) → IsShape shape → (n : ℕ) → n ≤ shape.readers → Core shape (words_at_opening shape) (Writer (opening_desk shape) ∷ readers_from 0 n) []
 core_opens shape fits n few = let words = words_at_opening shape in let slot = shape.first_count ∷ replicate (slot_room shape) 0 in let roles = Writer (opening_desk shape) ∷ readers_from 0 n in let all = all_readers n 0 in
     let hole : ℕ = hole_word shape.first_number false in let few_numbers = fits.number in let is_hole = hole_is shape.first_number (omega arith) in

@@ -64,7 +64,7 @@ module _ (shape : Shape) (words : List ℕ) (map : PartialMap) (holders : ℕ �
     pub part : got ≡ take (length got) (encode rows)
     pub more : length got ≤ 2 * length rows
 
-  -- the taken slot is nobody's, and so many words of the set stand in it
+  -- the taken slot is nobody's, and that many words of the set stand in it
   pub record Puts (call : WriterCall) (rows : List Row) (slot departed index : ℕ) : Type 0 where
     pub wants : Wants call rows
     pub inside : slot < shape.slots

@@ -58,7 +58,7 @@ keeps slot (Writer desk) = unused slot desk.fresh + retirements slot desk.retire
 keeps slot (Reader reader grip) = 0
 keeps slot Note = 0
 
--- so many readers that hold nothing, from one number on
+-- that many readers that hold nothing, from one number on
 abbrev pub readers_from : ℕ → ℕ → List Role
 readers_from before zero = []
 readers_from before (suc more) = Reader (suc before) Nothing ∷ readers_from (suc before) more

@@ -29,7 +29,7 @@ enum Line {
     Evict,
     Cancel,
     Go,
-    /// So many steps, which must be answered alike.
+    /// That many steps, which must be answered alike.
     Goes(u32),
 }
 
@@ -254,7 +254,7 @@ fn numbered(first_number: u64) -> Shape
     shape
 }
 
-/// A map of one key and 3 slots, whose key may have so many rows.
+/// A map of one key and 3 slots, whose key may have that many rows.
 fn roomy(rows: u32) -> Shape {
     let mut shape = sized(3, 1, 0);
     shape.rows = rows;
@@ -613,7 +613,7 @@ fn is_told(rt: &impl Abort, core: &mut Core, line: Line, told: Told) {
     assert_eq!(rt; answer(core, &line), told);
 }
 
-/// Fills the key with so many rows, as many as it may have. One more is too many.
+/// Fills the key with that many rows, as many as it may have. One more is too many.
 fn fills_to_the_bound(rt: &impl Abort, core: &mut Core, bound: u8) {
     let puts = 2 * u32::from(bound) + 1;
     is_told(rt, core, Ask(1, 0), Sends(0));

@@ -67,7 +67,7 @@ fn trials() -> [Trial<'static>; 2] {
     ]
 }
 
-/// How many bytes of the text answer the lines that end within so many bytes of the input.
+/// How many bytes of the text answer the lines that end within that many bytes of the input.
 fn replied(trial: &Trial, bytes: usize) -> usize {
     let front = trial.input.iter().take(bytes);
     let mut lines = front.filter(|b| **b == b'\n').count();

@@ -5,7 +5,7 @@ use std::alloc::AllocError;
 use std::process::Abort;
 use std::test::Fail;
 
-/// A line: its front, a piece that follows so many times, and its reply.
+/// A line: its front, a piece that follows that many times, and its reply.
 type Line = (&'static str, &'static str, usize, &'static str);
 
 const OF_SCRIPTS: [Line; 22] = [

@@ -19,7 +19,7 @@ use Rattle.nr_load.specs.Works.{GetsKey, Works}
 use Rattle.nr_load.proofs.Counting.{tells_ask, tells_both, tells_find, tells_none}
 use Rattle.nr_load.proofs.Gaining.{gained_none, gained_then}
 
--- at most so many requests that were to be sent, and no fill
+-- at most that many requests that were to be sent, and no fill
 record IsFew (keys : ℕ) (entries : List Entry) (most : ℕ) : Type 0 where
   pub count : ℕ
   pub low : count ≤ most

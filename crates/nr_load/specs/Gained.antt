@@ -11,7 +11,7 @@ abbrev pub AreNear : ℕ → List Entry → Type 0
 AreNear keys [] = Unit {0}
 AreNear keys (entry ∷ entries) = (call_key entry.call < keys) × AreNear keys entries
 
--- so many requests were to be sent, so many fills were done, and no request was cancelled
+-- that many requests were to be sent, that many fills were done, and no request was cancelled
 pub record Tells (keys : ℕ) (entries : List Entry) (sends fills : ℕ) : Type 0 where
   pub near : AreNear keys entries
   pub sent : count_by is_sent entries ≡ sends

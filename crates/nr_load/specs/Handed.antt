@@ -21,7 +21,7 @@ pub record AreTokensOf (map : Table) (queue : Queue) (tokens : Tokens) : Type 0 
   pub posters : All (IsPosterOf map queue) tokens.posters.items
   pub count : vec_len tokens.posters ≡ vec_len tokens.readers
 
--- the lists are empty, and have room for so many
+-- the lists are empty, and have room for that many
 pub record HasRoomFor (count : ℕ) (lists : Lists) : Type 0 where
   pub handles : (vec_len lists.handles ≡ 0) × (count ≤ vec_capacity lists.handles)
   pub outcomes : (vec_len lists.outcomes ≡ 0) × (count ≤ vec_capacity lists.outcomes)

@@ -23,7 +23,7 @@ use Rattle.nr_load.specs.Works.{Works}
 abbrev pub shape_of_plan : Plan → Shape
 shape_of_plan plan = record { keys = plan.keys; slots = plan.keys + plan.readers + 1; readers = plan.readers; first_count = 0; first_number = 0; rows = 15 }
 
--- one legal history of the map has exactly the calls of this writer and of these readers, and leaves so many keys asked
+-- one legal history of the map has exactly the calls of this writer and of these readers, and leaves that many keys asked
 pub record IsAccount (map : Table) (writer : Caller) (readers : List Caller) (asked : ℕ) : Type 0 where
   pub history : List Entry
   pub legal : IsLegal (map_at_opening map) history
@@ -33,7 +33,7 @@ pub record IsAccount (map : Table) (writer : Caller) (readers : List Caller) (as
   pub counts : (test : Entry → Bool) → count_by test history ≡ of_all test writer readers
   pub pends : asked ≡ total pending (after (map_at_opening map) history).states
 
--- a new reader made all its gets, of the keys that its own generator drew; so many were answered, and these are all its calls
+-- a new reader made all its gets, of the keys that its own generator drew; that many were answered, and these are all its calls
 pub record MakesAll (plan : Plan) (map : Table) (number answered : ℕ) (calls : List Entry) : Type 0 where
   pub old : Hands
   pub new : Hands

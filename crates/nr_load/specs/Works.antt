@@ -13,7 +13,7 @@ answers Rows = 1
 answers GaveUp = 0
 answers Barred = 0
 
--- so many gets may follow: one that was barred is the last
+-- that many gets may follow: one that was barred is the last
 abbrev pub MayFollow : Got → ℕ → Type 0
 MayFollow Barred more = more ≡ 0
 MayFollow Rows more = Unit {0}
@@ -30,7 +30,7 @@ pub record GetsKey (tries key : ℕ) (old : Hands) (got : Got) (new : Hands) : T
   pub after : List Row
   pub gets : Gets key tries old before got new after
 
--- a get of each of the next so many drawn keys, in order, and nothing else; so many were answered with rows
+-- a get of each of the next that many drawn keys, in order, and nothing else; that many were answered with rows
 abbrev pub Works : (tries keys made : ℕ) → Lcg → (answered : ℕ) → Hands → Hands → Lcg → Type 0
 Works tries keys zero generator answered old new generator' = (answered ≡ 0) × (new ≡ old) × (generator' ≡ generator)
 Works tries keys (suc more) generator answered old new generator' =

@@ -26,7 +26,7 @@ pub struct Worked {
 }
 
 impl Worked {
-    // The lobby was found closed after so many gets.
+    // The lobby was found closed after that many gets.
     fn stopped(made: u32, answered: u32) -> Worked
         ensures made { (result.made ≡ made) × (result.answered ≡ answered) }
         ensures stopped { result.stopped ≡ true }

@@ -43,7 +43,7 @@ names_slot slot word = name_number word == suc slot
 abbrev pub named : Shape → List ℕ → ℕ → ℕ
 named shape words slot = below (λ key. only (suc slot) (name_number (slice_index words key))) shape.keys
 
--- 1 for a slot that was never taken, where so many were
+-- 1 for a slot that was never taken, where that many were
 abbrev pub unused : ℕ → ℕ → ℕ
 unused slot fresh = cond (nat_le fresh slot) 1 0
 

@@ -3,7 +3,7 @@ use Rattle.std.specs.Prelude.{◌≡◌, ℕ, ◌+◌, ◌-◌, ◌<◌, ◌≤�
 use Rattle.nr_machine.specs.declared.calls.NoSlot.{NoSlot}
 use Rattle.nr_machine.specs.declared.places.Retired.{Retired}
 
--- of so many slots those from `fresh` on were never taken; the retired ones, oldest first
+-- of that many slots those from `fresh` on were never taken; the retired ones, oldest first
 pub record Spare : Type 0 where
   pub slots : ℕ
   pub fresh : ℕ

@@ -49,7 +49,7 @@ pub enum AskReply {
     Filled,
 }
 
-/// No slot was to be had: so many keys are filled, and so many slots are retired.
+/// There was no slot: this many keys are filled, and this many slots are retired.
 #[derive(Clone, Copy, Debug, PartialEq, Eq)]
 pub struct NoSlot {
     pub live: u32,

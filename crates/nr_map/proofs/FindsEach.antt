@@ -7,7 +7,7 @@ use Rattle.nr_board.specs.Callers.{Caller}
 use Rattle.nr_map.specs.declared.wanted.Wanted.{Wanted}
 use Rattle.nr_map.specs.FindsEach.{FindsEach, FindsWanted}
 
--- so many finds were made: finds of the other keys, which stand there as before, make finds of all
+-- that many finds were made: finds of the other keys, which stand there as before, make finds of all
 pub record Begun {Room : Type 0} (shows : Room → List Row → Type 0) (first : Caller) (wanted : List (Wanted Room)) (made : ℕ) (now : Caller) (keys : List (Wanted Room)) : Type 0 where
   pub long : length keys ≡ length wanted
   pub rest : drop made keys ≡ drop made wanted

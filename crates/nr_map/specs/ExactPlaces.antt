@@ -1,4 +1,4 @@
--- The exact place of a no-slot, for whoever has all tokens in one hand and gathers every reader after each call of the writer.
+-- The exact place of a no-slot, for a caller that has all tokens in one hand and gathers every reader after each call of the writer.
 use Rattle.std.specs.Prelude.{◌≡◌, ℕ, ◌<◌, List}
 use Rattle.nr_model.specs.declared.calls.Call.{Call}
 use Rattle.nr_model.specs.declared.rows.Row.{Row}

@@ -50,7 +50,7 @@ abbrev pub IsHand : Seat (Unit {0}) View → ℕ → Option Held → Type 0
 IsHand seat number None = (seat.me.0.role ≡ Reader number Nothing) × KnowsOwn (token seat)
 IsHand seat number (Some held) = Pins seat number held.begin held.count
 
--- whoever holds a set lets it go by one step, an act; who holds nothing makes none
+-- a hand that holds a set lets it go by one step, an act; one that holds nothing makes none
 abbrev pub departures : Option ℕ → ℕ
 departures None = 0
 departures (Some key) = 1
@@ -66,7 +66,7 @@ pub record LetsGo (old new : Handed) : Type 0 where
   pub rests : Rests (departures old.key) old.reader new.reader
   pub marks : new.reader.marks ≡ departed old.key old.reader.marks
 
--- in so many steps the hand read of what it holds, and nothing else changed
+-- in that many steps the hand read of what it holds, and nothing else changed
 pub record Reads (steps : ℕ) (old new : Handed) : Type 0 where
   pub key_is : new.key ≡ old.key
   pub rows : new.rows ≡ old.rows
@@ -97,7 +97,7 @@ abbrev pub asks : ℕ → Option ℕ → ℕ
 asks key None = 0
 asks key (Some held) = (if held == key then 1 else 0)
 
--- the key has the set still that the hand holds, and the find is answered with its rows in so many steps; nothing is let go
+-- the key has the set still that the hand holds, and the find is answered with its rows in that many steps; nothing is let go
 pub record FindsHeld (steps key : ℕ) (old new : Handed) : Type 0 where
   pub held : old.key ≡ Some key
   pub gains : Gains steps old.reader (model.Find key) (reply.Rows old.rows) new.reader
@@ -121,7 +121,7 @@ abbrev pub AgainByHand : ℕ → Handed → Handed → Bool → Type 0
 AgainByHand key old new true = FindsHeld 1 key old new
 AgainByHand key old new false = (old.key ≡ Some key → AsksInVain key old new) × (old.key ≢ Some key → new ≡ old)
 
--- a find into any room that arrives after so many steps and keeps what it holds; a hole leaves the room as it was
+-- a find into any room that arrives after that many steps and keeps what it holds; a hole leaves the room as it was
 abbrev pub FindsAnew : {Room : Type 0} → (Room → List Row → Type 0) → ℕ → ℕ → Handed → Room → Handed → Room → Found → Type 0
 FindsAnew shows begun key old before new room found.Rows = Gains (begun + 2 * length new.rows + 2) old.reader (model.Find key) (reply.Rows new.rows) new.reader × HoldsKey key old new × shows room new.rows
 FindsAnew shows begun key old before new room found.Hole = Gains (begun + 1) old.reader (model.Find key) reply.Hole new.reader × HoldsNothing key old new × (room ≡ before)

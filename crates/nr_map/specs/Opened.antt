@@ -10,11 +10,11 @@ use Rattle.nr_board.specs.Views.{View, opener}
 abbrev pub newcomer : Table → ℕ → Marks → Caller
 newcomer table number marks = record { table = table; number = number; seen = []; mine = []; steps = 0; fresh = 0; retired = []; numbers = []; holds = None; marks = marks; pasts = [] }
 
--- the writer's view after it made so many readers
+-- the writer's view after it made that many readers
 abbrev pub made_so : Shape → ℕ → View
 made_so shape made = record (opener shape) { made = made }
 
--- the writer's seat has made so many readers, each a newcomer with its place's number
+-- the writer's seat has made that many readers, each a newcomer with its place's number
 pub record Seated (shape : Shape) (table : Table) (seat : Seat (Unit {0}) View) (readers : List Caller) (made : ℕ) : Type 0 where
   pub own : seat.table_id ≡ table.id
   pub view : seat.me.0 ≡ made_so shape made

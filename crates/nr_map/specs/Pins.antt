@@ -18,7 +18,7 @@ pub record Pinned : Type 0 where
 abbrev pub pinned : Seat (Unit {0}) View → Pinned
 pinned seat = record { reader = token seat; rows = rows_held seat.me.0.role }
 
--- the seat of a reader that holds so many rows, in the slot whose first content word stands at `begin`
+-- the seat of a reader that holds that many rows, in the slot whose first content word stands at `begin`
 pub record Pins (seat : Seat (Unit {0}) View) (number begin count : ℕ) : Type 0 where
   pub holds : HoldsAt (token seat).table begin seat
   pub number_is : number ≡ caller_number seat.me.0.role

@@ -3,7 +3,7 @@ use crate::ticket::Ticket;
 
 /// The answer to a request.
 pub enum Asked {
-    /// Nobody asked before: whoever has the ticket sends the upquery.
+    /// Nobody asked before: the owner of the ticket sends the upquery.
     Send(Ticket),
     /// An upquery is under way.
     Waiting,

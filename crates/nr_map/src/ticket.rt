@@ -6,7 +6,7 @@ use std::marker::Model;
 use std::snapshot::Snapshot;
 
 /// One request that was answered `Send`, with the number by which it is filled. It can't be
-/// dropped: it must be spent by whoever sends the upquery. Contracts see its map too.
+/// dropped: it must be spent by the sender of the upquery. Contracts see its map too.
 pub struct Ticket {
     key: u32,
     number: u64,

@@ -21,7 +21,7 @@ struct Flags {
     sent: AtomicBool,
 }
 
-// Whether the flag was raised at one of so many looks.
+// Whether the flag was raised at one of that many looks.
 fn is_raised(flag: &AtomicBool) -> bool {
     for _ in 0..TURNS {
         if flag.load(Ordering::SeqCst) {

@@ -30,7 +30,7 @@ fn numbered(count: u32) -> RowSet {
     RowSet::of(&rows[..count.min(MAX_ROWS as u32) as usize]).unwrap_or(RowSet::new())
 }
 
-/// Whether the set has just the rows from `first:0` on, so many.
+/// Whether the set has just the rows from `first:0` on, that many.
 fn is_numbered(rows: &RowSet, first: u64, count: u32) -> bool {
     rows.len() == count as usize
         && (0..rows.len()).all(|i| rows.get(i)
@@ -40,7 +40,7 @@ fn is_numbered(rows: &RowSet, first: u64, count: u32) -> bool {
             }))
 }
 
-/// Whether a map whose keys may have so many rows is refused by its size.
+/// Whether a map whose keys may have that many rows is refused by its size.
 fn is_bad(alloc: Global, rows: u32) -> bool {
     matches!(
         ReaderMap::open_with(alloc, &with_rows(rows)),
@@ -55,7 +55,7 @@ fn a_key_may_have_1_to_255_rows(rt: HostRuntime) {
     assert!(rt; is_bad(rt.alloc(), u32::MAX));
 }
 
-/// A find of a key writes just the rows from `first:0` on, so many, over the set's old ones.
+/// A find of a key writes just the rows from `first:0` on, that many, over the set's old ones.
 fn finds_numbered<R: Abort>(
     rt: &R,
     worked: &mut Worked,

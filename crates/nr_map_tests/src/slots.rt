@@ -96,7 +96,7 @@ fn update_between_pins<R: Abort>(
     second.release(map);
 }
 
-// The same on a new map of one key, so many slots and two readers.
+// The same on a new map of one key, that many slots and two readers.
 fn with_slots<R: Abort>(
     rt: &R,
     alloc: Global,

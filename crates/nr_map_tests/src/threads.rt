@@ -92,7 +92,7 @@ fn updates_use_slots_again(rt: HostRuntime) -> Result<(), Fail> {
     Ok(())
 }
 
-/// So many keys, slots and readers.
+/// That many keys, slots and readers.
 fn has_sizes<R: Abort>(rt: &R, map: &ReaderMap, sizes: (u32, u32, u32)) {
     assert_eq!(rt; (map.keys(), map.slots(), map.readers()), sizes);
 }

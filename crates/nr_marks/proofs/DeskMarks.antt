@@ -46,7 +46,7 @@ QuietEnd log entries = ((k : ℕ) → put_number (log ++ entries) k ≡ put_numb
 pub nothing_ends : (log : List Entry) → QuietEnd log []
 nothing_ends log = (nil_number log, nil_count log)
 
--- no slot is to be had where every slot was taken once and none is retired
+-- there is no slot where every slot was taken once and none is retired
 pub no_room_left : (shape : Shape) (words : List ℕ) (roles : List Role) (log : List Entry) (id : ℕ) (desk : Desk) (call : WriterCall) → Core shape words roles log → get_elem? roles id ≡ some (Writer desk) → ((slot : ℕ) → taken slot desk.place ≡ 0) → shape.slots ≤ desk.fresh
     → reply_at (bound_of shape) (call_of call) (state_of (map_after shape log) (key_of call)) ≡ reply.Done → (polls : List Past) → AllHeld desk.retired polls → length polls ≤ shape.readers → NoRoom shape call desk.retired polls log
 no_room_left shape words roles log id desk call core there free full done polls held few = record {

@@ -1,4 +1,4 @@
--- The exact place of a no-slot, for whoever has all tokens in one hand and gathers every reader after each call.
+-- The exact place of a no-slot, for a caller that has all tokens in one hand and gathers every reader after each call.
 use Rattle.std.proofs.Common.{List, [], ap, arith, get_or, subst, sym, ℕ, ⊎_elim, ◌<◌, ◌∙◌, ◌≡◌, ◌≤◌}
 use lib.ListN.{get_elem?}
 use mathlib.Core.Option.{some, some-ne-none}

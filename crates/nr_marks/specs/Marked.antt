@@ -55,7 +55,7 @@ module _ {A : Type 0} (role : A → Role) (marks : A → Marks) where
   abbrev pub IsPresent : List A → Past → Type 0
   IsPresent callers note = (place : ℕ) × (who : A) × (grip : Grip) × (get_elem? callers place ≡ some who) × (role who ≡ Reader note.reader grip) × (note ≡ past note.reader grip (marks who))
 
-  -- each note that is new among the polls tells a reader as it is, so the reader that it says holds a slot holds it, and has made so many acts
+  -- each note that is new among the polls tells a reader as it is, so the reader that it says holds a slot holds it, and has made that many acts
   abbrev pub NotesPresent : List A → List Past → List Past → Type 0
   NotesPresent callers polls now = (at : ℕ) (note : Past) → get_elem? now at ≡ some note → (get_elem? polls at ≡ some note) ⊎ IsPresent callers note
 

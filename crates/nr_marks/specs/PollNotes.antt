@@ -19,7 +19,7 @@ pub record AllHeld (retired : List Retired) (polls : List Past) : Type 0 where
   pub slots : (at : ℕ) (entry : Retired) → get_elem? retired at ≡ some entry → (poll : Past) × (get_elem? polls at ≡ some poll) × (poll.slot ≡ Some entry.slot)
   pub different : (reader : ℕ) → total (λ poll. only reader poll.reader) polls ≤ 1
 
--- no slot is to be had for a call that would be done: each is named, or is retired and was held at its poll
+-- there is no slot for a call that would be done: each is named, or is retired and was held at its poll
 pub record NoRoom (shape : Shape) (call : WriterCall) (retired : List Retired) (polls : List Past) (log : List Entry) : Type 0 where
   pub done : reply_to (map_after shape log) (call_of call) ≡ reply.Done
   pub slots : filled_count (map_after shape log) + length retired ≡ shape.slots

@@ -19,7 +19,7 @@ IsKeptRun (head.Hole n) run = Unit {0}
 IsKeptRun (head.Asked n) run = Unit {0}
 IsKeptRun (head.Rows n len) run = (len ≤ length run) × IsTrue (is_ascending (take len run))
 
--- the states of all keys, whose runs of so many cells follow each other
+-- the states of all keys, whose runs of that many cells follow each other
 abbrev pub states_in : ℕ → List Head → List Row → List KeyState
 states_in bound [] cells = []
 states_in bound (h ∷ heads) cells = state_in h (take bound cells) ∷ states_in bound heads (drop bound cells)

@@ -22,7 +22,7 @@ abbrev pub number_for : Naming → Option ℕ → Result ℕ NameFault
 number_for naming (Some number) = Ok number
 number_for naming None = if nat_lt (length naming.names) naming.keys then Ok (length naming.names) else Err fault.Full
 
--- the reply to a name of at most so many bytes, where no memory is refused
+-- the reply to a name of at most that many bytes, where no memory is refused
 abbrev pub intern_reply : ℕ → Naming → List ℕ → Result ℕ NameFault
 intern_reply longest naming name =
     if length name == 0 then Err fault.Empty

@@ -59,7 +59,7 @@ impl Read for Dripping<'_> {
     }
 }
 
-/// Takes at most some bytes a call, and fails once it holds so many.
+/// Takes at most some bytes a call, and fails once it holds that many.
 #[derive(Drop)]
 pub(crate) struct Narrow {
     pub(crate) held: Vec<u8>,

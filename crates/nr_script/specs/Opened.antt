@@ -73,7 +73,7 @@ abbrev pub NamesFit : Keys → ℕ → Type 0
 NamesFit kinds.Numbered count = Unit {0}
 NamesFit (kinds.Named naming) count = naming.keys ≡ count
 
--- the key that a word stands for, of so many keys, and the names after it: a new name gets the next number
+-- the key that a word stands for, of that many keys, and the names after it: a new name gets the next number
 abbrev pub key_of_word : Keys → ℕ → List ℕ → Result ℕ Refusal × Keys
 key_of_word kinds.Numbered count word = (numbered_key count (number word), kinds.Numbered)
 key_of_word (kinds.Named naming) count word = (named_key (intern_reply LONGEST_NAME naming word), kinds.Named (next_naming LONGEST_NAME naming word))

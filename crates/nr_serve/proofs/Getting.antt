@@ -52,7 +52,7 @@ fits_more before mid after requests request fits once = record {
 fits_still : (before mid after : Option Request) (requests : List Requested) → RequestsFit before requests mid → RequestsFit mid [] after → RequestsFit before requests after
 fits_still before mid after requests fits still = record { due = fits.due; kept = λ some. fits.kept (still.kept some) }
 
--- so many tries found a hole
+-- that many tries found a hole
 pub record Missed (key count : ℕ) (old new : Hands) : Type 0 where
   pub requests : List Requested
   pub count_is : length requests ≡ count

@@ -49,7 +49,7 @@ whole_at = 512
 abbrev pub raises_for : ℕ → List ℕ
 raises_for key = group_at key ∷ whole_at ∷ []
 
--- the places of the counts of so many groups
+-- the places of the counts of that many groups
 abbrev pub groups_below : ℕ → List ℕ
 groups_below zero = []
 groups_below (suc n) = groups_below n ++ (8 * n) ∷ []

@@ -74,13 +74,13 @@ TriesOnce key old before (tried.Ended got.Rows) new rows = Moves (2 * length row
 TriesOnce key old before (tried.Ended got.GaveUp) new rows = ⊥
 TriesOnce key old before (tried.Ended got.Barred) new rows = ((set : List Row) × Moves 3 old (found old.reader.number key (reply.Rows set) ∷ []) new) × RequestsFit old.kept [] new.kept × (rows ≡ before)
 
--- how a get ends after so many tries that found a hole: by one find more, or by none after as many as it may make
+-- how a get ends after that many tries that found a hole: by one find more, or by none after as many as it may make
 abbrev pub Ends : ℕ → ℕ → ℕ → Got → ℕ → List Entry → ℕ → List Row → List Row → Type 0
 Ends by key tries got.Rows missed last steps before rows = (missed < tries) × (last ≡ found by key (reply.Rows rows) ∷ []) × (steps ≡ 2 * length rows + 3)
 Ends by key tries got.GaveUp missed last steps before rows = (missed ≡ tries) × (last ≡ []) × (steps ≡ 0) × (rows ≡ before)
 Ends by key tries got.Barred missed last steps before rows = (missed < tries) × ((set : List Row) × (last ≡ found by key (reply.Rows set) ∷ [])) × (steps ≡ 3) × (rows ≡ before)
 
--- a get of so many tries: those that found a hole, and how it ended
+-- a get of that many tries: those that found a hole, and how it ended
 pub record Gets (key tries : ℕ) (old : Hands) (before : List Row) (got : Got) (new : Hands) (rows : List Row) : Type 0 where
   pub requests : List Requested
   pub fits : RequestsFit old.kept requests new.kept

@@ -28,7 +28,7 @@ pub record IsReady (map : Table) (queue : Queue) (hands : Hands) : Type 0 where
   pub idle : hands.reader.holds ≡ None
   pub few : hands.sends ≤ last_count
 
--- in so many steps the reader made these calls, no ticket was lost, and the requests that were sent are counted
+-- in that many steps the reader made these calls, no ticket was lost, and the requests that were sent are counted
 pub record Moves (steps : ℕ) (old : Hands) (entries : List Entry) (new : Hands) : Type 0 where
   pub makes : Makes steps old.reader entries new.reader
   pub posts : Posts old.kept old.poster (sent entries) new.kept new.poster

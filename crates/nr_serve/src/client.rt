@@ -77,7 +77,7 @@ impl<'a, G: Gate> Client<'a, G> {
         }
     }
 
-    /// Gets the rows of a key, in at most so many tries. A try posts the ticket that is kept, if
+    /// Gets the rows of a key, in at most that many tries. A try posts the ticket that is kept, if
     /// any, and looks the key up. If it is filled, the gate is asked until it lets pass; then the
     /// caller's set has the rows, and the get ends with `Rows`. It ends with `Barred` where the
     /// gate said no a million times. If the key is missing, it is requested, unless a ticket is

@@ -175,7 +175,7 @@ impl Lobby {
     }
 
     /// Rings the bell, which wakes a dataflow that sleeps until something is posted. A client does
-    /// so after each post; whoever posts in a way of its own must do it too.
+    /// so after each post; a program that posts in a way of its own must do it too.
     pub fn ring(&self) {
         self.rings.fetch_add(1, Ordering::SeqCst);
         self.rung.notify_all();

@@ -238,7 +238,7 @@ impl Source for Full {
     }
 }
 
-// So many rows.
+// That many rows.
 fn counted(count: usize) -> Result<RowSet, TooMany>
     requires { count ≤ MAX_ROWS }
 {
@@ -249,7 +249,7 @@ fn counted(count: usize) -> Result<RowSet, TooMany>
     RowSet::of(&rows[..count])
 }
 
-// Whether those are so many rows of that kind.
+// Whether those are that many rows of that kind.
 fn are_counted(rows: &RowSet, count: usize) -> bool {
     rows.len() == count
         && (0..count).all(|i| rows.get(i)

@@ -211,7 +211,7 @@ fn flow_side<C: Carries, R: Wait>(
     is_done
 }
 
-// The dataflow has a thread of its own, and the client this one. None where no thread is to be had.
+// The dataflow has a thread of its own, and the client this one. None where no thread can be started.
 fn both_sides<C: Carries + Send, R: Threads + Wait + Sync>(
     rt: &R,
     map: &ReaderMap,

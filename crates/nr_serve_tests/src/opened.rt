@@ -64,7 +64,7 @@ pub(crate) fn queue_of(
     open_below(alloc, capacity, posters, keys)
 }
 
-// Contracts are told the number by whoever calls this.
+// Contracts are told the number by the caller.
 fn open_below(
     alloc: Global,
     capacity: u32,

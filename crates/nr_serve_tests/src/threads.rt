@@ -229,7 +229,7 @@ fn turns_until_filled<R: Wait>(rt: &R, flow: &mut Dataflow<'_, Plain>) -> (u32, 
 }
 
 // What the client and the dataflow came to: the dataflow has a thread of its own, and the client this
-// one. None where no thread is to be had. With `join` the client would sleep for ever there, as the
+// one. None where no thread can be started. With `join` the client would sleep for ever there, as the
 // dataflow would come after it.
 fn both_sides<R: Threads + Wait + Sync>(
     rt: &R,

@@ -7,7 +7,7 @@ use Rattle.nr_board.specs.Callers.{Caller}
 use Rattle.nr_map.specs.Rounds.{is_cancel, is_fill, is_sent}
 use Rattle.nr_board.specs.Rule.{StartsWith}
 
--- so many calls of the writer and the readers meet the test
+-- that many calls of the writer and the readers meet the test
 abbrev pub of_all : (Entry → Bool) → Caller → List Caller → ℕ
 of_all test writer readers = count_by test writer.mine + total (λ reader. count_by test reader.mine) readers
 

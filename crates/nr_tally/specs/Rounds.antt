@@ -37,7 +37,7 @@ pub record CountsAsked (old new : Caller) (asked : ℕ) : Type 0 where
   pub sound : IsSound old → IsSound new
   pub exact : new.seen ≡ old.seen → asked ≡ total pending (map_seen old).states
 
--- one legal history has exactly the calls of the writer and of the readers, and leaves so many keys asked; it is what the writer knew before its second round
+-- one legal history has exactly the calls of the writer and of the readers, and leaves that many keys asked; it is what the writer knew before its second round
 pub record IsTally (writer : Caller) (readers : List Caller) (asked : ℕ) : Type 0 where
   pub knower : Caller
   pub table : knower.table ≡ writer.table

@@ -59,7 +59,7 @@ impl<'a> Model for GivenRows<'a> {
 }
 
 impl GivenRows<'_> {
-    /// The set, where it has at most so many rows.
+    /// The set, where it has at most that many rows.
     pub fn within(&self, bound: u32) -> Option<&RowSet>
         ensures value { option_map (λ rows. rows.now) result ≡ within bound self.now }
         ensures fits { IfSome result (λ rows. length rows.now ≤ bound) }

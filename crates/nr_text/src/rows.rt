@@ -52,7 +52,7 @@ pub fn set(words: Words<'_>) -> Option<Result<RowSet, TooMany>>
     Some(RowSet::of(&kept[..len]))
 }
 
-/// The set, where it has at most so many rows.
+/// The set, where it has at most that many rows.
 pub fn within(set: &Result<RowSet, TooMany>, bound: u32) -> Option<&RowSet>
     ensures value { option_map (λ rows. rows.now) result ≡ within bound set.now }
     ensures fits { IfSome result (λ rows. length rows.now ≤ bound) }

@@ -17,7 +17,7 @@ pub struct Attempts {
 }
 
 // Requests a key, and gives what the ticket of a request that is to be sent names. The ticket is spent
-// here, so whoever has the request owes its upquery now.
+// here, so the owner of the request owes its upquery now.
 fn request(map: &ReaderMap, reader: &mut Reader, key: u32) -> Option<Upquery>
     requires own { reader.old.table ≡ map.now }
     requires key { key < map.now.shape.keys }

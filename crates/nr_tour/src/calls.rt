@@ -4,7 +4,7 @@ ghost use Rattle.std.specs.Prelude.{◌≡◌, ◌<◌, ◌≤◌, length};
 use nr_map::{Asked, FillFault, Reader, ReaderMap, Writer};
 use nr_model::{Delta, Row, RowSet};
 
-/// A key's rows, as whoever answers an upquery may have them: in any order.
+/// A key's rows, as the source of an answer may have them: in any order.
 pub const ROWS: [Row; 2] = [Row { a: 7, b: 1 }, Row { a: 3, b: 9 }];
 
 /// A change of them: one row goes and another comes.
@@ -56,7 +56,7 @@ pub enum Told {
     Filled,
 }
 
-/// Requests a key. A ticket can't be dropped: whoever gets one sends the upquery, with the ticket's
+/// Requests a key. A ticket can't be dropped: its owner sends the upquery, with the ticket's
 /// number, and spends it.
 pub fn ask(map: &ReaderMap, reader: &mut Reader, key: u32) -> Told
     requires own { reader.old.table ≡ map.now }

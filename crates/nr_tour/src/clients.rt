@@ -74,7 +74,7 @@ fn fill_one<R: Wait>(
     }
 }
 
-// The dataflow has a thread of its own and the client this one. None where no thread is to be had.
+// The dataflow has a thread of its own and the client this one. None where no thread can be started.
 // `join` won't do here: without a second thread it runs one closure after the other, and a client
 // whose dataflow comes later sleeps for ever.
 fn serve_beside<R: Threads + Wait + Sync>(

@@ -15,7 +15,7 @@ pub struct Raised {
     is_closed: bool,
 }
 
-/// Whoever waits counts first, and looks then: what is raised after its look has passed the count, so
+/// A thread that waits counts first, and looks then: what is raised after its look has passed the count, so
 /// no wake-up is missed. Here nobody sleeps, since the lobby was raised, and then is closed.
 pub fn raised_once<R: Wait>(rt: &R, alloc: Global) -> Result<Raised, OpenFault> {
     let lobby = Lobby::open(alloc)?;

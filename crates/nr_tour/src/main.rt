@@ -1,4 +1,4 @@
-//! A tour of the map for whoever wants to use it: a chapter in each file, and what it prints in
+//! A tour of the map for its users: a chapter in each file, and what it prints in
 //! `stdout` beside this folder. Each chapter opens a map of its own, makes its calls in one function
 //! and prints in another, so that no token or pin lives where a line may fail to be written.
 #![tactic(auto)]

@@ -27,7 +27,7 @@ fn acknowledge(map: &ReaderMap, writer: &mut Writer) -> Note
     map.note_writer(writer)
 }
 
-// Who hears the note has seen the write, in whatever thread that is.
+// A reader that hears the note has seen the write, in any thread.
 fn hear(map: &ReaderMap, reader: &mut Reader, note: Note)
     requires own { (reader.old.table ≡ map.now) × (note.table ≡ map.now) }
     ensures own { reader.new.table ≡ map.now }

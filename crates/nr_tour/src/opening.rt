@@ -5,7 +5,7 @@ use nr_map::{Reader, ReaderMap, Writer};
 use nr_model::OpenFault;
 use std::alloc::Global;
 
-/// A map of so many keys and slots with two readers, and its tokens. A token is of this one map, and
+/// A map of that many keys and slots with two readers, and its tokens. A token is of this one map, and
 /// every call asks that of its token: hence the clause. The list has just the readers that were asked
 /// for, so nobody has to look whether one is missing.
 pub fn opened(

@@ -17,7 +17,7 @@ pub struct Queued {
     kept: (bool, bool),
 }
 
-// A queue for so many tickets of keys below 2, with one poster and the taker. A poster and a taker
+// A queue for that many tickets of keys below 2, with one poster and the taker. A poster and a taker
 // are of this one queue. The number of keys is told to contracts alone, in this function's
 // `Invariants.antt`: each posted key is below it, and so each key that is taken.
 fn opened_queue(alloc: Global, capacity: u32) -> Result<(Triggers, Poster, Taker), OpenFault>
@@ -59,7 +59,7 @@ pub fn opened_server(alloc: Global, capacity: u32) -> Result<Server, OpenFault>
     })
 }
 
-// Posts a ticket. Where the queue is full it comes back, and whoever has it still owes its upquery.
+// Posts a ticket. Where the queue is full it comes back, and its owner still owes its upquery.
 fn post<R: Wait>(
     rt: &R,
     triggers: &Triggers,

@@ -27,7 +27,7 @@ place-is-posters posted taken keys passes number Spare fits = absurd (omega (ari
 place-is-posters posted taken keys passes number (Taker taking) fits = absurd (let first = fits.0 in omega (arith, first))
 place-is-posters posted taken keys passes number (Poster posting) fits = (posting, refl, let place = fits.0 in omega (arith, place))
 
--- whoever posted is a poster
+-- every post is a poster's
 poster-is-there : (held : List Post) (views : List PassView) (now : Delivers held views) (number : ℕ) → (part number now.posted ≡ [] → ⊥) → (posting : Posting) × IsAmong views (Poster posting) × (posting.number ≡ number)
 poster-is-there held views now number some-posted =
     ⊎_elim

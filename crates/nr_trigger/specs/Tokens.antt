@@ -46,14 +46,14 @@ posting poster = record { keys = poster.keys; number = poster.number; posted = p
 abbrev pub taking : TakerSeen → Taking
 taking taker = record { keys = taker.keys; made = taker.made; taken = taker.taken }
 
--- a poster that has posted nothing, and a taker that has taken nothing and made so many posters
+-- a poster that has posted nothing, and a taker that has taken nothing and made that many posters
 abbrev pub new_poster : TableId → ℕ → ℕ → PosterSeen
 new_poster queue keys number = record { queue = queue; keys = keys; number = number; posted = []; tries = 0 }
 
 abbrev pub new_taker : TableId → ℕ → ℕ → TakerSeen
 new_taker queue keys made = record { queue = queue; keys = keys; made = made; taken = []; tries = 0 }
 
--- the taker has made so many posters, which stand in the order of their numbers, and nothing was posted
+-- the taker has made that many posters, which stand in the order of their numbers, and nothing was posted
 pub record IsSeated (queue : TableId) (keys : ℕ) (taker : TakerSeen) (posters : List PosterSeen) (made : ℕ) : Type 0 where
   pub takes : taker ≡ new_taker queue keys made
   pub count : length posters ≡ made

@@ -1,4 +1,4 @@
-//! Tickets on their way to the dataflow. Whoever got the ticket of a request posts it, one thread
+//! Tickets on their way to the dataflow. The caller that got the ticket of a request posts it, one thread
 //! takes what was posted, and each comes out once, first in first out.
 //!
 //! The tickets wait in a bounded queue without a lock. A poster and the taker each have a token of

@@ -5,7 +5,7 @@ use crate::post::Post;
 use std::marker::Model;
 
 /// A ticket that was posted, for the dataflow to fill its key. It can't be dropped: it must be
-/// spent by whoever fills the key.
+/// spent by the fill of its key.
 pub struct Trigger {
     post: Post,
 }

@@ -10,7 +10,7 @@ repeated_behind (suc n) xs = ap (λ more. xs ++ more) (repeated_behind n xs) ∙
 pub repeated_once_more : {A : Type 0} (before : List A) (n : ℕ) (xs so_far more : List A) → so_far ≡ before ++ repeated n xs → more ≡ so_far ++ xs → more ≡ before ++ repeated (n + 1) xs
 repeated_once_more before n xs so_far more laid e = rw (e, laid, add-one, append_assoc) (ap (λ rest. before ++ rest) (sym (repeated_behind n xs)))
 
--- a word put behind others, and so many zeros behind it
+-- a word put behind others, and that many zeros behind it
 pub one_and_zeros : (before with_one after : List ℕ) (one room long had : ℕ) → with_one ≡ before ++ one ∷ [] → long ≡ length with_one → long ≡ had
     → after ≡ take (long + room) with_one ++ replicate (long + room - had) 0 → after ≡ before ++ one ∷ replicate room 0
 one_and_zeros before with_one after one room long had put count same grown =

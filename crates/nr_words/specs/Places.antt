@@ -3,7 +3,7 @@ use Rattle.std.specs.Prelude.{ℕ, ◌+◌, ◌*◌, ◌<◌}
 use Rattle.nr_words.specs.declared.layout.Layout.{Layout}
 use Rattle.nr_words.specs.SetWords.{content_words}
 
--- how many words a slot has that holds so many rows: its departures, and its content
+-- how many words a slot has that holds that many rows: its departures, and its content
 abbrev pub slot_words : ℕ → ℕ
 slot_words rows = 1 + content_words rows
 

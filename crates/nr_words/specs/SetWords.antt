@@ -3,7 +3,7 @@ use Rattle.std.specs.Prelude.{ℕ, ◌≡◌, ◌+◌, ◌*◌, Bool, ◌&&◌, 
 use Rattle.nr_model.specs.declared.rows.Row.{Row}
 use Rattle.nr_model.specs.Rows.{is_ascending}
 
--- how many words so many rows take
+-- how many words that many rows take
 abbrev pub content_words : ℕ → ℕ
 content_words rows = 2 * rows + 1
 

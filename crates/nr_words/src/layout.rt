@@ -5,7 +5,7 @@ ghost use Rattle.nr_model.specs.declared.rows.TheConstants.{MAX_ROWS};
 ghost use Rattle.nr_words.specs.SetWords.{content_words};
 ghost use Rattle.nr_words.specs.Places.{KeyWord, Departures, Content, HasWord, place_of, slot_words, total_of};
 
-/// The places of a map with so many keys and slots, each slot with room for so many rows, 1 to 255.
+/// The places of a map with that many keys and slots, each slot with room for that many rows, 1 to 255.
 #[derive(Clone, Copy, Debug, PartialEq, Eq)]
 pub struct Layout {
     pub keys: u32,

@@ -38,7 +38,7 @@ impl fmt::Display for Fault {
             Fault::Dropped => "the key is not filled",
             Fault::NoRow => "a row to be taken away is not there",
             Fault::TooMany => "more rows than a key may have",
-            Fault::NoSlot => "no slot is to be had",
+            Fault::NoSlot => "there is no slot",
             Fault::BadBatch => "no signed rows, or more than 64",
             Fault::NotSorted => "the rows are not in order",
             Fault::BadSize => "a size is out of its limits",
@@ -71,7 +71,7 @@ pub(crate) fn done(code: u32) -> Result<(), Fault> {
 #[derive(Debug, PartialEq, Eq)]
 #[must_use = "where it is `Send`, its ticket is to be sent"]
 pub enum Asked {
-    /// Nobody asked since the key became a hole: this ticket is to be sent to whoever fills it.
+    /// Nobody asked since the key became a hole: this ticket is to be sent to the writer.
     Send(Ticket),
     /// A request is under way.
     Waiting,

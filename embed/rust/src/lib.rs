@@ -22,7 +22,7 @@
 //! # Ok::<(), Box<dyn std::error::Error>>(())
 //! ```
 //!
-//! Where no slot is to be had a fill gives its ticket back, and one that was lost is taken back by a cancel:
+//! Where there is no slot a fill gives its ticket back, and one that was lost is taken back by a cancel:
 //!
 //! ```
 //! # use nr::{Asked, Cancel, Fault, ReaderMap, Row, Shape, Unfilled};

@@ -1,4 +1,4 @@
-//! Requests of one map on their way to whoever fills them.
+//! Requests of one map on their way to the writer.
 use crate::ends::{self, In, Out};
 use crate::map::Map;
 use crate::{Fault, Ticket, Writer};

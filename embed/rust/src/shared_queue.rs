@@ -1,4 +1,4 @@
-//! Requests of several maps on their way to whoever fills them all.
+//! Requests of several maps on their way to their writers.
 use crate::ends::{self, In, Out};
 use crate::map::MapId;
 use crate::{Fault, Ticket, Writer};

@@ -105,7 +105,7 @@ fn a_fill_without_a_slot_is_made_later_by_the_same_ticket() {
     writer.fill(one, &[ONE]).unwrap();
     let pin = readers[0].pin(0).expect("the key is filled");
     let refusal = writer.fill(two, &[ONE]).unwrap_err();
-    assert_eq!(refusal.to_string(), "key 1 is not filled by this: no slot is to be had");
+    assert_eq!(refusal.to_string(), "key 1 is not filled by this: there is no slot");
     assert!(writer.evict(0));
     let (fault, two) = refused(writer.fill(refusal.ticket, &[ONE]));
     assert_eq!((fault, writer.state(1)), (Fault::NoSlot, KeyKind::Asked));

@@ -3,7 +3,7 @@ use crate::map::MapId;
 use crate::Fault;
 use std::fmt;
 
-/// A request that is to be sent to whoever fills its key. It belongs to one map, and there is one of each request:
+/// A request that is to be sent to the writer. It belongs to one map, and there is one of each request:
 /// [`Reader::ask`] makes it, [`Writer::fill`] takes it, and a queue carries it. A key whose ticket is dropped stays
 /// asked for until [`Writer::cancel`] takes the request back.
 ///

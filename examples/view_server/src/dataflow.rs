@@ -26,8 +26,8 @@ pub struct Dataflow<'a> {
 }
 
 impl Dataflow<'_> {
-    /// Takes a ticket and a vote in turn, and sleeps where there is neither, until all who might vote have gone. Whoever
-    /// brings one calls `unpark` after it, which ends the sleep, or keeps the next one from beginning.
+    /// Takes a ticket and a vote in turn, and sleeps where there is neither, until all who might vote have gone. A thread
+    /// that brings one calls `unpark` after it, which ends the sleep, or keeps the next one from beginning.
     pub fn run(mut self) {
         loop {
             let ticket = self.tickets.take();

@@ -1,5 +1,5 @@
 //! Articles to keys: the map's keys are numbers from 0, and an article's is its place in this table. It gets the first
-//! free one from its hash on when it is first named, and keeps it, so whoever comes later finds it by atomic loads alone.
+//! free one from its hash on when it is first named, and keeps it, so a later GET finds it by atomic loads alone.
 use std::hash::{BuildHasher, RandomState};
 use std::sync::OnceLock;
 

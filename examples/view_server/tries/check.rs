@@ -112,7 +112,7 @@ fn break_off(port: &str, readers: usize) {
         assert_eq!(client.ask("PING"), "+PONG");
         client.send(["GET check:1", "*3\r\n$4\r\nVO", "VOTE check:1 1 1\r\nUNV", "*2\r\n$3\r\nGET\r\n$7\r\nche"][number % 4]);
         drop(client);
-        // Whoever comes too early is refused, until the server has seen that the last one went.
+        // A client that comes too early is refused, until the server has seen that the last one went.
         let is_free = |_: &u32| Client::connect(port).ask("PING") == "+PONG";
         assert!((0..1000).inspect(|_| thread::sleep(Duration::from_millis(1))).any(|try_| is_free(&try_)), "no reader comes back");
     }
