@@ -25,7 +25,7 @@ typedef struct {
   /* Where the library has them, and else none. */
   uint32_t (*pin)(nr_reader *, uint32_t, uint32_t *);
   uint32_t (*again)(nr_reader *, uint32_t);
-  void (*release)(nr_reader *);
+  uint32_t (*release)(nr_reader *);
   uint32_t (*find_kept)(nr_reader *, uint32_t, nr_rows *);
   void *from;
   nr_writer writer;

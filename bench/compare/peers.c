@@ -68,9 +68,20 @@ static void wait_for_all(void) {
   while (!atomic_load(&go)) sched_yield();
 }
 
-/* The hand of a thread's cache at the key's place. */
-static nr_reader *hand_of(const job *j, uint32_t key) {
-  return &j->map->hand[j->id * (MOST_HANDS / 3) + (int)(key % (uint32_t)j->hands)];
+/* Of each hand of the thread's cache the key that it finds, and the one that missed there last, each with 1 added. */
+static _Thread_local struct {
+  uint32_t kept, missed;
+} places[MOST_HANDS / 3];
+
+/* A find by the cache: a hand takes a key that misses at its place twice with no other key's miss in between. */
+static uint32_t find_by_hands(const job *j, uint32_t key, nr_rows *found) {
+  uint32_t place = key % (uint32_t)j->hands;
+  if (places[place].kept != key + 1 && places[place].missed != key + 1) {
+    places[place].missed = key + 1;
+    return j->map->find(&j->map->reader[j->id].handle, key, found);
+  }
+  places[place].kept = key + 1;
+  return j->map->find_kept(&j->map->hand[j->id * (MOST_HANDS / 3) + (int)place], key, found);
 }
 
 static uint32_t key_at(const job *j, int i) {
@@ -79,7 +90,7 @@ static uint32_t key_at(const job *j, int i) {
 
 static void find(const job *j, int i, nr_rows *found) {
   uint32_t key = key_at(j, i);
-  uint32_t told = j->hands ? j->map->find_kept(hand_of(j, key), key, found)
+  uint32_t told = j->hands ? find_by_hands(j, key, found)
                            : j->map->find(&j->map->reader[j->id].handle, key, found);
   if (told != NR_ROWS) stop("a find");
   if (found->count != rows && (rows || found->count > 1)) stop("a number of rows");
