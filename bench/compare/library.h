@@ -76,7 +76,7 @@ static void load(library *l, const char *name, const char *path, nr_shape shape)
 }
 
 /* Keys in an order made by chance, another one for each reader. */
-static void shuffle(uint32_t order[READERS][ORDER], uint32_t keys) {
+static inline void shuffle(uint32_t order[READERS][ORDER], uint32_t keys) {
   uint64_t s = 88172645463325252u;
   for (int t = 0; t < READERS; t++)
     for (int i = 0; i < ORDER; i++) {
