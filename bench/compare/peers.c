@@ -14,23 +14,23 @@ enum { KEYS = 8192, MOST_ROUNDS = 2000, SAMPLES = 4000, PART = 1024, BESIDE = 3,
 static const double WINDOW = 2e6;
 
 typedef enum {
-  READ_1, READ_3, HOT_3, BESIDE_WRITER, UPDATE, HALF, LAST, HOT_WRITTEN, HOT_UPDATE, HOT_EACH_1, HOT_EACH_10, SKEWED_1,
-  SKEWED_3, STEEP_1, STEEP_3, FILL, EVICT, AGAIN, KEPT_3, KEPT_WRITTEN, KEPT_EACH_1, KEPT_EACH_10, HELD,
+  READ_1, READ_2, READ_3, READ_4, HOT_1, HOT_2, HOT_3, HOT_4, BESIDE_WRITER, UPDATE, HALF, LAST, HOT_WRITTEN, HOT_UPDATE, HOT_EACH_1, HOT_EACH_10, SKEWED_1,
+  SKEWED_3, STEEP_1, STEEP_3, FILL, EVICT, AGAIN, KEPT_1, KEPT_2, KEPT_3, KEPT_4, KEPT_WRITTEN, KEPT_EACH_1, KEPT_EACH_10, HELD,
   COLUMNS = HELD + 4 * 3
 } column;
 
 /* How many held sets a thread's cache has, in the columns from HELD on: of each skew by 1 and by 3 threads. */
-static const int hands[3] = {32, 128, MOST_HANDS / 3};
+static const int hands[3] = {32, 128, MOST_HANDS / READERS};
 
-static const char *const names[COLUMNS] = {"read by 1", "read by 3", "hot key by 3", "read by 3 beside writer",
-    "update beside 3 readers", "p50 of a read beside writer", "p99.9 of a read beside writer",
+static const char *const names[COLUMNS] = {"read by 1", "read by 2", "read by 3", "read by 4", "hot key by 1",
+    "hot key by 2", "hot key by 3", "hot key by 4", "read by 3 beside writer", "update beside 3 readers", "p50 of a read beside writer", "p99.9 of a read beside writer",
     "hot key by 3 beside its writer", "update of the hot key", "hot key by 3, written each 1 us",
     "hot key by 3, written each 10 us", "skew 0.99 by 1", "skew 0.99 by 3", "skew 1.2 by 1", "skew 1.2 by 3", "fill",
-    "eviction", "again by 1", "kept: hot key by 3", "kept: hot key by 3 beside its writer",
+    "eviction", "again by 1", "kept: hot key by 1", "kept: hot key by 2", "kept: hot key by 3", "kept: hot key by 4", "kept: hot key by 3 beside its writer",
     "kept: hot key by 3, written each 1 us", "kept: hot key by 3, written each 10 us", "skew 0.99 by 1, 32 hands",
-    "skew 0.99 by 1, 128 hands", "skew 0.99 by 1, 320 hands", "skew 0.99 by 3, 32 hands", "skew 0.99 by 3, 128 hands",
-    "skew 0.99 by 3, 320 hands", "skew 1.2 by 1, 32 hands", "skew 1.2 by 1, 128 hands", "skew 1.2 by 1, 320 hands",
-    "skew 1.2 by 3, 32 hands", "skew 1.2 by 3, 128 hands", "skew 1.2 by 3, 320 hands"};
+    "skew 0.99 by 1, 128 hands", "skew 0.99 by 1, 255 hands", "skew 0.99 by 3, 32 hands", "skew 0.99 by 3, 128 hands",
+    "skew 0.99 by 3, 255 hands", "skew 1.2 by 1, 32 hands", "skew 1.2 by 1, 128 hands", "skew 1.2 by 1, 255 hands",
+    "skew 1.2 by 3, 32 hands", "skew 1.2 by 3, 128 hands", "skew 1.2 by 3, 255 hands"};
 
 /* Which keys are read: each as often as another, one alone, or few of them often, by Zipf's law. */
 typedef enum { EVEN, SKEWED, STEEP, ORDERS, HOT = ORDERS } keys_read;
@@ -71,7 +71,7 @@ static void wait_for_all(void) {
 /* Of each hand of the thread's cache the key that it finds, and the one that missed there last, each with 1 added. */
 static _Thread_local struct {
   uint32_t kept, missed;
-} places[MOST_HANDS / 3];
+} places[MOST_HANDS / READERS];
 
 /* A find by the cache: a hand takes a key that misses at its place twice with no other key's miss in between. */
 static uint32_t find_by_hands(const job *j, uint32_t key, nr_rows *found) {
@@ -81,7 +81,7 @@ static uint32_t find_by_hands(const job *j, uint32_t key, nr_rows *found) {
     return j->map->find(&j->map->reader[j->id].handle, key, found);
   }
   places[place].kept = key + 1;
-  return j->map->find_kept(&j->map->hand[j->id * (MOST_HANDS / 3) + (int)place], key, found);
+  return j->map->find_kept(&j->map->hand[j->id * (MOST_HANDS / READERS) + (int)place], key, found);
 }
 
 static uint32_t key_at(const job *j, int i) {
@@ -135,7 +135,7 @@ static void *looks_again(void *given) {
 static void let_go(const job *j) {
   static nr_rows found;
   for (int i = 0; i < j->hands; i++) {
-    nr_reader *hand = &j->map->hand[j->id * (MOST_HANDS / 3) + i];
+    nr_reader *hand = &j->map->hand[j->id * (MOST_HANDS / READERS) + i];
     if (j->map->find_kept(hand, HOT_KEY, &found) != NR_ROWS) stop("a find");
     j->map->release(hand);
   }
@@ -217,15 +217,16 @@ static void fill_again(library *l, int round, double *fill, double *evict) {
 /* Reads by held sets. A map that has none is told again by the column of its plain reads. */
 static void measure_kept(int m, int r) {
   library *l = &maps[MOST + m];
-  static const column plain[] = {READ_1, HOT_3, HOT_WRITTEN, HOT_EACH_1, HOT_EACH_10};
+  static const column plain[] = {READ_1, HOT_1, HOT_2, HOT_3, HOT_4, HOT_WRITTEN, HOT_EACH_1, HOT_EACH_10};
   static const column skewed[] = {SKEWED_1, SKEWED_3, STEEP_1, STEEP_3};
   if (!maps[m].find_kept) {
-    for (int i = 0; i < 5; i++) each[AGAIN + i][m][r] = each[plain[i]][m][r];
+    for (int i = 0; i < 8; i++) each[AGAIN + i][m][r] = each[plain[i]][m][r];
     for (int i = 0; i < 12; i++) each[HELD + i][m][r] = each[skewed[i / 3]][m][r];
     return;
   }
   run(l, 1, looks_again, HOT, NEVER, &each[AGAIN][m][r]);
-  run_with(l, 1, 3, reads, HOT, NEVER, &each[KEPT_3][m][r]);
+  for (int threads = 1; threads <= READERS; threads++)
+    run_with(l, 1, threads, reads, HOT, NEVER, &each[KEPT_1 + threads - 1][m][r]);
   run_with(l, 1, 3, reads, HOT, ALWAYS, &each[KEPT_WRITTEN][m][r]);
   run_with(l, 1, 3, reads, HOT, 1e3, &each[KEPT_EACH_1][m][r]);
   run_with(l, 1, 3, reads, HOT, 1e4, &each[KEPT_EACH_10][m][r]);
@@ -236,9 +237,10 @@ static void measure_kept(int m, int r) {
 static void measure(int m, int r) {
   library *l = &maps[m];
   double none;
-  run(l, 1, reads, EVEN, NEVER, &each[READ_1][m][r]);
-  run(l, 3, reads, EVEN, NEVER, &each[READ_3][m][r]);
-  run(l, 3, reads, HOT, NEVER, &each[HOT_3][m][r]);
+  for (int threads = 1; threads <= READERS; threads++) {
+    run(l, threads, reads, EVEN, NEVER, &each[READ_1 + threads - 1][m][r]);
+    run(l, threads, reads, HOT, NEVER, &each[HOT_1 + threads - 1][m][r]);
+  }
   each[UPDATE][m][r] = run(l, BESIDE, reads, EVEN, ALWAYS, &each[BESIDE_WRITER][m][r]);
   run(l, 1, reads_apart, EVEN, ALWAYS, &none);
   each[HALF][m][r] = at_part(samples, SAMPLES, 0.5);
