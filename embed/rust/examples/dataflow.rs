@@ -1,8 +1,8 @@
-//! Two readers and a dataflow over one map. A reader that finds a key missing requests it; the first to do so posts its
-//! ticket, and the dataflow takes it and fills the key.
-use nr::{Asked, Poster, Queue, Reader, ReaderMap, Row, Rows, Shape, Taker, Ticket, Writer};
+//! Two readers and a dataflow over one map. A reader that finds a key missing requests it and sleeps; the first to do so
+//! posts its ticket, and the dataflow, which sleeps while nothing is posted, fills the key and wakes those who wait.
+use nr::{Asked, Lobby, Poster, Queue, Reader, ReaderMap, Row, Rows, Shape, Taker, Writer};
 use std::error::Error;
-use std::thread;
+use std::thread::{self, Thread};
 
 const KEYS: u32 = 1000;
 
@@ -11,36 +11,35 @@ fn rows_of(key: u32) -> [Row; 2] {
     [Row { a: k, b: k * k }, Row { a: k, b: k * k * k }]
 }
 
-fn post(poster: &mut Poster, mut ticket: Ticket) {
-    while let Err(back) = poster.post(ticket) {
-        ticket = back;
-        thread::yield_now();
-    }
-}
-
-fn read(mut reader: Reader, mut poster: Poster) {
+fn read(mut reader: Reader, mut poster: Poster, lobby: &Lobby<Thread>, dataflow: &Thread) {
     let mut rows = Rows::new();
     for key in 0..KEYS {
         while reader.find(key, &mut rows).is_none() {
-            if let Asked::Send(ticket) = reader.ask(key) {
-                post(&mut poster, ticket);
+            match lobby.ask(&mut reader, key, thread::current()) {
+                Asked::Send(ticket) => {
+                    poster.post_waiting(ticket);
+                    dataflow.unpark();
+                }
+                Asked::Waiting => {}
+                Asked::Filled => continue,
             }
-            thread::yield_now();
+            thread::park();
         }
         assert_eq!(rows.as_slice(), rows_of(key));
     }
 }
 
 /// Fills each key once, as it is requested.
-fn fill(writer: &mut Writer, taker: &mut Taker) -> Result<(), Box<dyn Error>> {
+fn fill(writer: &mut Writer, taker: &mut Taker, lobby: &Lobby<Thread>) -> Result<(), Box<dyn Error>> {
     let mut filled = 0;
     while filled < KEYS {
         let Some(ticket) = taker.take() else {
-            thread::yield_now();
+            thread::park();
             continue;
         };
-        let rows = rows_of(ticket.key());
-        writer.fill(ticket, &rows)?;
+        let key = ticket.key();
+        writer.fill(ticket, &rows_of(key))?;
+        lobby.take(key).iter().for_each(Thread::unpark);
         filled += 1;
     }
     Ok(())
@@ -49,11 +48,12 @@ fn fill(writer: &mut Writer, taker: &mut Taker) -> Result<(), Box<dyn Error>> {
 fn main() -> Result<(), Box<dyn Error>> {
     let ReaderMap { mut writer, readers } = ReaderMap::open(&Shape::new(KEYS, KEYS + 3, 2))?;
     let Queue { mut taker, posters } = Queue::open(&writer, KEYS, 2)?;
+    let (lobby, dataflow) = (&Lobby::of(&writer), &thread::current());
     thread::scope(|scope| {
         for (reader, poster) in readers.into_iter().zip(posters) {
-            scope.spawn(move || read(reader, poster));
+            scope.spawn(move || read(reader, poster, lobby, dataflow));
         }
-        fill(&mut writer, &mut taker)
+        fill(&mut writer, &mut taker, lobby)
     })?;
     assert!(taker.take().is_none());
     println!("each key was sent and filled once");

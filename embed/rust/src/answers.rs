@@ -11,14 +11,14 @@ pub enum Fault {
     Already,
     /// The request that it answers was taken back, and there is another.
     Stale,
-    /// The key is not filled, so the update is dropped.
-    Dropped,
     /// A row to be taken away is not there.
     NoRow,
     /// More rows than a key of the map may have.
     TooMany,
-    /// Each slot is a filled key's or held by a reader.
+    /// Readers hold the slots that are no filled key's: there is one when they let go, or after an eviction.
     NoSlot,
+    /// Each slot is a filled key's: there is one after an eviction.
+    AllFilled,
     /// No signed rows, or more than 64.
     BadBatch,
     /// A row is below the one before it.
@@ -35,10 +35,10 @@ impl fmt::Display for Fault {
             Fault::NotAsked => "nobody asked for the key",
             Fault::Already => "the key is filled",
             Fault::Stale => "the request that it answers was taken back",
-            Fault::Dropped => "the key is not filled",
             Fault::NoRow => "a row to be taken away is not there",
             Fault::TooMany => "more rows than a key may have",
-            Fault::NoSlot => "there is no slot",
+            Fault::NoSlot => "readers hold the slots that are no filled key's",
+            Fault::AllFilled => "each slot is a filled key's",
             Fault::BadBatch => "no signed rows, or more than 64",
             Fault::NotSorted => "the rows are not in order",
             Fault::BadSize => "a size is out of its limits",
@@ -55,16 +55,25 @@ pub(crate) fn done(code: u32) -> Result<(), Fault> {
         ffi::NR_NOT_ASKED => Fault::NotAsked,
         ffi::NR_ALREADY => Fault::Already,
         ffi::NR_STALE => Fault::Stale,
-        ffi::NR_DROPPED => Fault::Dropped,
         ffi::NR_NO_ROW => Fault::NoRow,
         ffi::NR_TOO_MANY => Fault::TooMany,
-        ffi::NR_NO_SLOT | ffi::NR_ALL_FILLED => Fault::NoSlot,
+        ffi::NR_NO_SLOT => Fault::NoSlot,
+        ffi::NR_ALL_FILLED => Fault::AllFilled,
         ffi::NR_BAD_BATCH => Fault::BadBatch,
         ffi::NR_NOT_SORTED => Fault::NotSorted,
         ffi::NR_BAD_SIZE => Fault::BadSize,
         ffi::NR_NO_MEMORY => Fault::NoMemory,
         _ => unreachable!("an answer of another call"),
     })
+}
+
+/// What became of an update.
+#[derive(Clone, Copy, Debug, PartialEq, Eq)]
+pub enum Updated {
+    /// The key has the new rows.
+    Done,
+    /// The key isn't filled, so there was nothing to change: a fill to come brings the rows as they are by then.
+    Dropped,
 }
 
 /// The answer to a request.

@@ -50,6 +50,7 @@ extern "C" {
     pub fn nr_ask(reader: *mut Handle, key: u32, number: *mut u64) -> u32;
     pub fn nr_pin(reader: *mut Handle, key: u32, count: *mut u32) -> u32;
     pub fn nr_row_at(reader: *mut Handle, place: u32, row: *mut Row) -> u32;
+    pub fn nr_copy(reader: *mut Handle, rows: *mut Rows) -> u32;
     pub fn nr_again(reader: *mut Handle, key: u32) -> u32;
     pub fn nr_find_kept(reader: *mut Handle, key: u32, rows: *mut Rows) -> u32;
     pub fn nr_release(reader: *mut Handle) -> u32;

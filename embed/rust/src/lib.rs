@@ -22,17 +22,20 @@
 //! # Ok::<(), Box<dyn std::error::Error>>(())
 //! ```
 //!
-//! Where there is no slot a fill gives its ticket back, and one that was lost is taken back by a cancel:
+//! Where there is no slot a fill gives its ticket back, which fills the key later. A request that nobody fills is taken
+//! back by its ticket, or by its key where the ticket was lost:
 //!
 //! ```
 //! # use nr::{Asked, Cancel, Fault, ReaderMap, Row, Shape, Unfilled};
 //! let ReaderMap { mut writer, mut readers } = ReaderMap::open(&Shape::new(2, 1, 1))?;
 //! let [Asked::Send(one), Asked::Send(two)] = [0, 1].map(|key| readers[0].ask(key)) else { panic!() };
 //! writer.fill(one, &[])?;
-//! let Err(Unfilled { fault: Fault::NoSlot, ticket: two }) = writer.fill(two, &[]) else { panic!() };
+//! let Err(Unfilled { fault: Fault::AllFilled, ticket: two }) = writer.fill(two, &[]) else { panic!() };
 //! writer.evict(0);
 //! writer.fill(two, &[])?;
 //!
+//! let Asked::Send(one) = readers[0].ask(0) else { panic!() };
+//! writer.cancel_ticket(one).expect("it has not the last number");
 //! drop(readers[0].ask(0));
 //! assert_eq!(readers[0].ask(0), Asked::Waiting);
 //! assert_eq!(writer.cancel(0), Cancel::Cancelled);
@@ -40,7 +43,7 @@
 //! # Ok::<(), Box<dyn std::error::Error>>(())
 //! ```
 //!
-//! Tokens go from thread to thread, but two threads never use one at a time:
+//! A [`Lobby`] lists who waits for a missing key. Tokens go from thread to thread, but two threads never use one at a time:
 //!
 //! ```compile_fail,E0277
 //! let readers = nr::ReaderMap::open(&nr::Shape::new(1, 3, 1)).unwrap().readers;
@@ -81,6 +84,7 @@
 mod answers;
 mod ends;
 mod ffi;
+mod lobby;
 mod map;
 mod queue;
 mod reader;
@@ -91,7 +95,8 @@ mod tests;
 mod ticket;
 mod writer;
 
-pub use answers::{Asked, Cancel, Fault, KeyKind};
+pub use answers::{Asked, Cancel, Fault, KeyKind, Updated};
+pub use lobby::Lobby;
 pub use map::ReaderMap;
 pub use queue::{Poster, Queue, Taker};
 pub use reader::{Pin, Reader};

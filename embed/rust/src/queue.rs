@@ -2,6 +2,7 @@
 use crate::ends::{self, In, Out};
 use crate::map::Map;
 use crate::{Fault, Ticket, Writer};
+use std::thread;
 
 /// A queue's tokens as they come: its taker, and its posters, which share its memory. It goes with the last of
 /// them, and so do the tickets that it holds.
@@ -40,6 +41,15 @@ impl Poster {
             Ok(())
         } else {
             Err(ticket)
+        }
+    }
+
+    /// Puts a ticket at the back, and lets other threads go on until it is there: while the queue is full, or another
+    /// thread is in the way. Panics where the ticket is another map's.
+    pub fn post_waiting(&mut self, mut ticket: Ticket) {
+        while let Err(back) = self.post(ticket) {
+            ticket = back;
+            thread::yield_now();
         }
     }
 }

@@ -7,7 +7,7 @@ use crate::{Asked, Row, Rows, Sizes, Ticket, Writer};
 #[derive(Debug)]
 pub struct Reader {
     handle: Handle,
-    map: Map,
+    pub(crate) map: Map,
     /// It holds a set, which outlives its pin where that was forgotten.
     holds: bool,
 }
@@ -143,6 +143,13 @@ impl Pin<'_> {
         // SAFETY: the handle is live and holds a set, since its pin is there, and the row is laid out as the header's.
         let found = unsafe { ffi::nr_row_at(&mut self.reader.handle, place, &mut row) } == ffi::NR_ROWS;
         found.then_some(row)
+    }
+
+    /// The rows of the set, written into `rows` in one call.
+    pub fn copy<'r>(&mut self, rows: &'r mut Rows) -> &'r [Row] {
+        // SAFETY: the handle is live and holds a set, since its pin is there, and the rows are laid out as the header's.
+        unsafe { ffi::nr_copy(&mut self.reader.handle, rows) };
+        rows.as_slice()
     }
 
     /// Finds a key again, by one load that writes nothing: whether the key still has the set that the pin holds, put

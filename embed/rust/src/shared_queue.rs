@@ -3,6 +3,7 @@ use crate::ends::{self, In, Out};
 use crate::map::MapId;
 use crate::{Fault, Ticket, Writer};
 use std::sync::Arc;
+use std::thread;
 
 /// A queue of several maps: its taker, and its posters, as those of a [`Queue`](crate::Queue).
 #[derive(Debug)]
@@ -75,6 +76,14 @@ impl SharedPoster {
             Ok(())
         } else {
             Err(ticket)
+        }
+    }
+
+    /// The same, and lets other threads go on until the ticket is there.
+    pub fn post_waiting(&mut self, mut ticket: Ticket) {
+        while let Err(back) = self.post(ticket) {
+            ticket = back;
+            thread::yield_now();
         }
     }
 }

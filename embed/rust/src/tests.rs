@@ -1,6 +1,8 @@
 //! Each call does what it says, and what can be wrong with its arguments is refused.
 use crate::*;
 
+mod lobby;
+
 const ONE: Row = Row { a: 1, b: 1 };
 
 /// The ticket of a key that nobody asked for.
@@ -24,7 +26,7 @@ fn a_forgotten_pin_is_released_by_the_next_call() {
     assert_eq!(writer.update(0, &batch), Err(Fault::NoSlot));
     let mut rows = Rows::new();
     assert_eq!(readers[0].find(0, &mut rows).map(<[Row]>::len), Some(2));
-    assert_eq!(writer.update(0, &batch), Ok(()));
+    assert_eq!(writer.update(0, &batch), Ok(Updated::Done));
 }
 
 #[test]
@@ -105,7 +107,7 @@ fn a_fill_without_a_slot_is_made_later_by_the_same_ticket() {
     writer.fill(one, &[ONE]).unwrap();
     let pin = readers[0].pin(0).expect("the key is filled");
     let refusal = writer.fill(two, &[ONE]).unwrap_err();
-    assert_eq!(refusal.to_string(), "key 1 is not filled by this: there is no slot");
+    assert_eq!(refusal.to_string(), "key 1 is not filled by this: each slot is a filled key's");
     assert!(writer.evict(0));
     let (fault, two) = refused(writer.fill(refusal.ticket, &[ONE]));
     assert_eq!((fault, writer.state(1)), (Fault::NoSlot, KeyKind::Asked));
@@ -136,20 +138,38 @@ fn a_lost_request_is_taken_back_and_sent_anew() {
 }
 
 #[test]
+fn a_ticket_takes_its_own_request_back_and_no_other() {
+    let ReaderMap { mut writer, mut readers } = ReaderMap::open(&Shape::new(1, 2, 1)).unwrap();
+    let lost = asked(&mut readers[0], 0);
+    assert_eq!(writer.cancel(0), Cancel::Cancelled);
+    let ticket = asked(&mut readers[0], 0);
+    assert_eq!((writer.cancel_ticket(lost), writer.state(0), writer.number(0)), (Ok(()), KeyKind::Asked, 1));
+    assert_eq!((writer.cancel_ticket(ticket), writer.state(0), writer.number(0)), (Ok(()), KeyKind::Hole, 2));
+    let ticket = asked(&mut readers[0], 0);
+    let (_, ticket) = refused(writer.fill(ticket, &[ONE; 16]));
+    assert_eq!((writer.cancel_ticket(ticket), writer.number(0)), (Ok(()), 3));
+    let ticket = asked(&mut readers[0], 0);
+    assert_eq!((ticket.number(), writer.fill(ticket, &[])), (3, Ok(())));
+}
+
+#[test]
 fn the_last_number_is_not_taken_back() {
     let shape = Shape { first_number: 4_194_303, ..Shape::new(1, 1, 1) };
     let ReaderMap { mut writer, mut readers } = ReaderMap::open(&shape).unwrap();
     let ticket = asked(&mut readers[0], 0);
     assert_eq!(writer.cancel(0), Cancel::Worn);
-    assert_eq!(writer.fill(ticket, &[]), Ok(()));
+    let ticket = writer.cancel_ticket(ticket).expect_err("the number is the last");
+    assert_eq!((writer.state(0), writer.fill(ticket, &[])), (KeyKind::Asked, Ok(())));
 }
 
 #[test]
 fn each_refusal_of_an_update_has_its_name() {
     let shape = Shape { rows: 1, ..Shape::new(1, 3, 1) };
     let ReaderMap { mut writer, mut readers } = ReaderMap::open(&shape).unwrap();
-    assert_eq!(writer.update(0, &[Delta::minus(ONE)]), Err(Fault::Dropped));
-    writer.fill(asked(&mut readers[0], 0), &[ONE]).unwrap();
+    assert_eq!(writer.update(0, &[Delta::minus(ONE)]), Ok(Updated::Dropped));
+    let ticket = asked(&mut readers[0], 0);
+    assert_eq!(writer.update(0, &[Delta::plus(ONE)]), Ok(Updated::Dropped));
+    writer.fill(ticket, &[ONE]).unwrap();
     assert_eq!(writer.update(0, &[]), Err(Fault::BadBatch));
     assert_eq!(writer.update(0, &[Delta::plus(ONE); 65]), Err(Fault::BadBatch));
     assert_eq!(writer.update(0, &[Delta::plus(ONE)]), Err(Fault::TooMany));
@@ -186,6 +206,7 @@ fn tokens_of_one_map_meet_and_gather() {
     writer.gather_pin(&mut pin);
     assert_eq!((pin.len(), pin.row(0), pin.row(1)), (1, Some(ONE), None));
     assert!(!pin.is_empty());
+    assert_eq!(pin.copy(&mut Rows::new()), [ONE]);
 }
 
 /// Two maps of the same shape.
@@ -206,6 +227,13 @@ fn a_ticket_fills_no_other_map() {
     let [mut one, mut two] = two_maps();
     let _ = asked(&mut two.readers[0], 0);
     let _ = two.writer.fill(asked(&mut one.readers[0], 0), &[]);
+}
+
+#[test]
+#[should_panic(expected = "the ticket is another map's")]
+fn a_ticket_takes_no_request_of_another_map_back() {
+    let [mut one, mut two] = two_maps();
+    let _ = two.writer.cancel_ticket(asked(&mut one.readers[0], 0));
 }
 
 #[test]

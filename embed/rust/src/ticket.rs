@@ -11,7 +11,7 @@ use std::fmt;
 /// [`Writer::fill`]: crate::Writer::fill
 /// [`Writer::cancel`]: crate::Writer::cancel
 #[derive(Debug, PartialEq, Eq)]
-#[must_use = "its key stays asked for until `Writer::fill` takes it or `Writer::cancel` takes the request back"]
+#[must_use = "its key stays asked for until `Writer::fill` or `Writer::cancel_ticket` takes it"]
 pub struct Ticket {
     map: MapId,
     key: u32,
@@ -39,10 +39,10 @@ impl Ticket {
     }
 }
 
-/// A fill that was refused. Its ticket is as good as before: where the fault is [`Fault::NoSlot`], [`Fault::TooMany`]
-/// or [`Fault::NotSorted`] it fills the key later, and after any other it fills nothing any more.
+/// A fill that was refused. Its ticket is as good as before: where the fault is [`Fault::NoSlot`], [`Fault::AllFilled`],
+/// [`Fault::TooMany`] or [`Fault::NotSorted`] it fills the key later, and after any other it fills nothing any more.
 #[derive(Debug, PartialEq, Eq)]
-#[must_use = "its ticket is to be filled later, or `Writer::cancel` takes the request back"]
+#[must_use = "its ticket is to be filled later, or given to `Writer::cancel_ticket`"]
 pub struct Unfilled {
     /// Why.
     pub fault: Fault,

@@ -2,7 +2,7 @@
 use crate::answers::done;
 use crate::ffi::{self, Handle};
 use crate::map::Map;
-use crate::{Cancel, Delta, Fault, KeyKind, Pin, Reader, Row, Rows, Ticket, Unfilled};
+use crate::{Cancel, Delta, Fault, KeyKind, Pin, Reader, Row, Rows, Ticket, Unfilled, Updated};
 
 /// A map's writer. Each call that takes a key panics where the map has no such key.
 #[derive(Debug)]
@@ -32,8 +32,9 @@ impl Writer {
 
     /// Answers a request with the key's rows, in ascending order. Where it is refused the ticket comes back, and
     /// nothing has changed: with [`Fault::NoSlot`] it fills the key once a key was evicted or a reader released its
-    /// set; with [`Fault::TooMany`] or [`Fault::NotSorted`] by other rows; with [`Fault::NotAsked`], [`Fault::Stale`]
-    /// or [`Fault::Already`] never, since the request was taken back. Panics where the ticket is of another map.
+    /// set; with [`Fault::AllFilled`] once a key was evicted; with [`Fault::TooMany`] or [`Fault::NotSorted`] by other
+    /// rows; with [`Fault::NotAsked`], [`Fault::Stale`] or [`Fault::Already`] never, since the request is no more.
+    /// Panics where the ticket is of another map.
     pub fn fill(&mut self, ticket: Ticket, rows: &[Row]) -> Result<(), Unfilled> {
         assert!(ticket.map() == self.map.id, "the ticket is another map's");
         let (key, number) = (ticket.key(), ticket.number());
@@ -42,13 +43,16 @@ impl Writer {
         done(code).map_err(|fault| Unfilled { fault, ticket })
     }
 
-    /// Applies 1 to 64 signed rows to the rows of a key, whole or not at all. Refused with [`Fault::Dropped`] where
-    /// the key is not filled, and with [`Fault::BadBatch`], [`Fault::NoRow`], [`Fault::TooMany`] or [`Fault::NoSlot`];
-    /// then nothing has changed.
-    pub fn update(&mut self, key: u32, deltas: &[Delta]) -> Result<(), Fault> {
+    /// Applies 1 to 64 signed rows to the rows of a key, whole or not at all; of a key that isn't filled the batch is
+    /// [`Updated::Dropped`]. Refused with [`Fault::BadBatch`], [`Fault::NoRow`], [`Fault::TooMany`],
+    /// [`Fault::NoSlot`] or [`Fault::AllFilled`]; then nothing has changed.
+    pub fn update(&mut self, key: u32, deltas: &[Delta]) -> Result<Updated, Fault> {
         let key = self.map.checked(key);
         // SAFETY: the handle is live, the key was checked, and there are as many signed rows as it is told.
-        done(unsafe { ffi::nr_update(&mut self.handle, key, deltas.as_ptr(), deltas.len()) })
+        match unsafe { ffi::nr_update(&mut self.handle, key, deltas.as_ptr(), deltas.len()) } {
+            ffi::NR_DROPPED => Ok(Updated::Dropped),
+            code => done(code).map(|()| Updated::Done),
+        }
     }
 
     /// Makes a filled key a hole; whether it was filled.
@@ -67,6 +71,18 @@ impl Writer {
             ffi::NR_NOTHING => Cancel::Nothing,
             _ => Cancel::Worn,
         }
+    }
+
+    /// Takes the request of a ticket back, as where its rows can't be told: the key's next one is sent anew. Of a ticket
+    /// whose request is no more this changes nothing. The ticket comes back where it has the last number, 4,194,303:
+    /// then a fill by it alone ends the request. Panics where it is of another map.
+    pub fn cancel_ticket(&mut self, ticket: Ticket) -> Result<(), Ticket> {
+        assert!(ticket.map() == self.map.id, "the ticket is another map's");
+        let key = ticket.key();
+        if self.number(key) == ticket.number() && self.cancel(key) == Cancel::Worn {
+            return Err(ticket);
+        }
+        Ok(())
     }
 
     /// What a key is.

@@ -34,8 +34,7 @@ pub enum Query {
 const QUERIES: [&CStr; 4] = [
     c"PRAGMA synchronous = NORMAL",
     c"SELECT user, weight FROM votes WHERE article = ? ORDER BY user, weight",
-    c"INSERT INTO votes SELECT ?1, ?2, ?3 WHERE (SELECT count(*) FROM votes WHERE article = ?1) < ?4
-        RETURNING user, weight",
+    c"INSERT INTO votes VALUES (?, ?, ?) RETURNING user, weight",
     c"DELETE FROM votes WHERE rowid = (SELECT rowid FROM votes WHERE (article, user, weight) = (?1, ?2, ?3) LIMIT 1)
         RETURNING user, weight",
 ];
@@ -52,21 +51,23 @@ impl Base {
     pub fn open(path: &str) -> Result<Base, String> {
         let path = CString::new(path).map_err(|fault| fault.to_string())?;
         let mut base = Base { at: null_mut(), queries: [null_mut(); QUERIES.len()] };
+        // SAFETY: the path ends with a zero, and there is room for a handle, which is one also where this fails.
         let opened = unsafe { sqlite3_open_v2(path.as_ptr(), &mut base.at, READ_WRITE_BY_ONE_THREAD, null()) };
         base.done(opened)?;
         for (sql, place) in QUERIES.iter().zip(0..) {
-            let to: *mut Handle = &mut base.queries[place];
-            base.done(unsafe { sqlite3_prepare_v2(base.at, sql.as_ptr(), -1, to, null_mut()) })?;
+            // SAFETY: the base is open, the text ends with a zero, and there is room for a handle.
+            let made = unsafe { sqlite3_prepare_v2(base.at, sql.as_ptr(), -1, &mut base.queries[place], null_mut()) };
+            base.done(made)?;
         }
-        base.run(Query::Settings, "", &[])?;
-        Ok(base)
+        base.run(Query::Settings, "", &[]).map(|_| base)
     }
 
-    /// The rows of a query for an article, and for numbers, of which it leaves those that it doesn't need.
+    /// The rows of a query for an article, and for the numbers of a row that is written.
     pub fn run(&mut self, query: Query, article: &str, numbers: &[u64]) -> Result<Vec<Row>, String> {
         let query = self.queries[query as usize];
         let mut rows = Vec::new();
-        unsafe {
+        // SAFETY: the query was prepared and is at its beginning, texts are copied, and what gives rows gives two columns.
+        let end = unsafe {
             sqlite3_bind_text(query, 1, article.as_ptr(), article.len() as c_int, COPY_TEXT);
             for (place, number) in (2..).zip(numbers) {
                 sqlite3_bind_int64(query, place, *number as i64);
@@ -74,12 +75,14 @@ impl Base {
             while sqlite3_step(query) == FOUND_ROW {
                 rows.push(Row { a: sqlite3_column_int64(query, 0) as u64, b: sqlite3_column_int64(query, 1) as u64 });
             }
-        }
-        // Tells again how the last step went.
-        self.done(unsafe { sqlite3_reset(query) }).map(|()| rows)
+            // Tells again how the last step went.
+            sqlite3_reset(query)
+        };
+        self.done(end).map(|()| rows)
     }
 
     fn done(&self, code: c_int) -> Result<(), String> {
+        // SAFETY: the text is there until the next call for this base.
         let fault = || unsafe { CStr::from_ptr(sqlite3_errmsg(self.at)) }.to_string_lossy().into_owned();
         (code == 0).then_some(()).ok_or_else(fault)
     }
@@ -87,7 +90,9 @@ impl Base {
 
 impl Drop for Base {
     fn drop(&mut self) {
+        // SAFETY: each query was prepared, or is null; they and the base are not used again.
         self.queries.iter().for_each(|query| _ = unsafe { sqlite3_finalize(*query) });
+        // SAFETY: as above.
         unsafe { sqlite3_close_v2(self.at) };
     }
 }

@@ -2,20 +2,20 @@
 mod base;
 mod dataflow;
 mod door;
-mod lobby;
 mod names;
 mod session;
 mod stats;
 mod wire;
 
-use nr::{Queue, ReaderMap, Rows, Shape};
-use std::sync::{atomic::AtomicBool, mpsc::channel};
-use std::{collections::VecDeque, error::Error, net::TcpListener, thread};
+use nr::{Lobby, Queue, ReaderMap, Row, Rows, Shape};
+use std::sync::{atomic::AtomicBool, mpsc, Arc};
+use std::{collections::VecDeque, env, error::Error, net::TcpListener, thread};
 
 /// What the threads share beside the map.
 struct Shared {
+    path: String,
     names: names::Names,
-    lobby: lobby::Lobby,
+    lobby: Lobby<mpsc::Sender<Result<Arc<[Row]>, String>>>,
     /// Those of the sessions, and those of the dataflow.
     counts: Vec<stats::Counts>,
     work: stats::Counts,
@@ -24,47 +24,43 @@ struct Shared {
 }
 
 /// Each is followed by a number, or has that of DEFAULTS; with 0 slots there are as many as are needed.
-const OPTIONS: [&str; 7] = ["--port", "--readers", "--keys", "--rows", "--limit", "--slots", "--sqlite"];
-const DEFAULTS: [u32; 7] = [0, 64, 65536, 63, 6554, 0, 0];
+const OPTIONS: [&str; 8] = ["--port", "--readers", "--keys", "--rows", "--limit", "--sqlite", "--slots", "--number"];
+const DEFAULTS: [u32; 8] = [0, 64, 65536, 63, 6554, 0, 0, 0];
 
-fn options(words: &[String]) -> Option<[u32; 7]> {
-    let mut numbers = DEFAULTS;
-    for pair in words.chunks(2) {
-        numbers[OPTIONS.iter().position(|name| *name == pair[0])?] = pair.get(1)?.parse().ok()?;
+fn options(mut words: impl Iterator<Item = String>) -> Option<(String, [u32; 8])> {
+    let (path, mut numbers) = (words.next()?, DEFAULTS);
+    while let Some(name) = words.next() {
+        numbers[OPTIONS.iter().position(|option| *option == name)?] = words.next()?.parse().ok()?;
     }
-    Some(numbers)
+    Some((path, numbers))
 }
 
 fn main() -> Result<(), Box<dyn Error>> {
-    let words: Vec<String> = std::env::args().skip(1).collect();
-    let [path, words @ ..] = &words[..] else { return Err("no DATABASE is named".into()) };
-    let told = options(words).ok_or_else(|| format!("after the database come {OPTIONS:?}, each with a number"))?;
-    let [port, readers, keys, rows, limit, slots, sqlite] = told;
+    let told = options(env::args().skip(1)).ok_or_else(|| format!("DATABASE and {OPTIONS:?}, each with a number"))?;
+    let (path, [port, clients, keys, rows, limit, sqlite, slots, number]) = told;
     // One key more than the limit is filled before one is evicted, and each reader may hold a slot.
-    let slots = if slots == 0 { limit.saturating_add(readers).saturating_add(2) } else { slots };
-    let map = ReaderMap::open(&Shape { rows, ..Shape::new(keys, slots, readers) })?;
+    let slots = if slots == 0 { limit.saturating_add(clients).saturating_add(2) } else { slots };
+    let shape = Shape { rows, first_number: number.into(), ..Shape::new(keys, slots, clients) };
+    let ReaderMap { writer, readers } = ReaderMap::open(&shape)?;
     // A key has one ticket at a time, so there is always room for it.
-    let queue = Queue::open(&map.writer, keys, readers)?;
+    let Queue { taker, posters } = Queue::open(&writer, keys, clients)?;
     let shared = &Shared {
-        names: names::Names::new(keys),
-        lobby: lobby::Lobby::default(),
-        counts: (0..readers).map(|_| stats::Counts::default()).collect(),
+        path,
+        names: names::Names::new(if sqlite == 0 { keys } else { 0 }),
+        lobby: Lobby::of(&writer),
+        counts: (0..clients).map(|_| stats::Counts::default()).collect(),
         work: stats::Counts::default(),
         was_read: (0..keys).map(|_| AtomicBool::new(false)).collect(),
     };
-    let (send, votes) = channel();
+    let (send, votes) = mpsc::channel();
     let session = move |(number, (reader, poster))| {
-        let base = if sqlite == 0 { None } else { Some(base::Base::open(path)?) };
         let (votes, dataflow) = (send.clone(), thread::current());
-        Ok(session::Session { number, reader, rows: Rows::new(), poster, votes, dataflow, shared, base })
+        session::Session { number, reader, rows: Rows::new(), poster, votes, dataflow, shared, base: None }
     };
-    let sessions: Result<_, String> = map.readers.into_iter().zip(queue.posters).enumerate().map(session).collect();
-    let sessions = sessions?;
-    let (base, clock, limit) = (base::Base::open(path)?, VecDeque::new(), limit as usize);
-    let (writer, tickets) = (map.writer, queue.taker);
-    let dataflow = dataflow::Dataflow { base, writer, tickets, votes, shared, rows, clock, limit };
+    let sessions = readers.into_iter().zip(posters).enumerate().map(session).collect();
+    let (base, clock, limit) = (base::Base::open(&shared.path)?, VecDeque::new(), limit as usize);
+    let dataflow = dataflow::Dataflow { base, writer, taker, votes, shared, clock, limit, worn: Vec::new() };
     let listener = TcpListener::bind(("127.0.0.1", u16::try_from(port)?))?;
-    println!("listening on {}", listener.local_addr()?);
     let this = thread::current();
     thread::scope(|scope| {
         // When it ends, all who might vote have gone with their sessions.

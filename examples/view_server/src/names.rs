@@ -1,5 +1,5 @@
 //! Articles to keys: the map's keys are numbers from 0, and an article's is its place in this table. It gets the first
-//! free one from its hash on when it is first named, and keeps it, so a later GET finds it by atomic loads alone.
+//! free one from its hash on when it is first asked for, and keeps it, so a later GET finds it by atomic loads alone.
 use std::hash::{BuildHasher, RandomState};
 use std::sync::OnceLock;
 
@@ -13,11 +13,18 @@ impl Names {
         Names { places: (0..keys).map(|_| OnceLock::new()).collect(), hash: RandomState::new() }
     }
 
-    /// The key of an article; none where each is another's. Only who takes a free place may wait, for one who takes it.
-    pub fn key(&self, article: &str) -> Option<u32> {
-        let first = self.hash.hash_one(article) as usize % self.places.len();
-        let is_its = |place: &usize| **self.places[*place].get_or_init(|| article.into()) == *article;
-        (first..self.places.len()).chain(0..first).find(is_its).map(|place| place as u32)
+    /// The key of an article; one that has none gets it where it is asked for, unless each of the thousand places that it
+    /// may have is another's. Only who takes a free place may wait, for one who takes it.
+    pub fn key(&self, article: &str, is_asked_for: bool) -> Option<u32> {
+        let (hash, places) = (self.hash.hash_one(article) as usize, self.places.len());
+        for place in (0..places.min(1000)).map(|step| hash.wrapping_add(step) % places) {
+            let name = &self.places[place];
+            let named = if is_asked_for { name.get_or_init(|| article.into()) } else { name.get()? };
+            if **named == *article {
+                return Some(place as u32);
+            }
+        }
+        None
     }
 
     pub fn article(&self, key: u32) -> &str {

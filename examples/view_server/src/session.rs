@@ -1,8 +1,8 @@
 //! A session: a thread that answers one client's commands in their order.
 use crate::{base::Base, base::Query, dataflow::Vote, stats, stats::Count, wire, wire::bulk, Shared};
-use nr::{Asked, Poster, Reader, Row, Rows, Ticket};
-use std::sync::{atomic::Ordering::Relaxed, mpsc};
-use std::{io, net::TcpStream, thread};
+use nr::{Asked, Poster, Reader, Row, Rows};
+use std::sync::{atomic::Ordering::Relaxed, mpsc, Arc};
+use std::{fmt::Write, io, net::TcpStream, thread};
 
 /// When its client has gone, the next one has it.
 pub struct Session<'a> {
@@ -13,18 +13,17 @@ pub struct Session<'a> {
     pub votes: mpsc::Sender<Vote>,
     pub dataflow: thread::Thread,
     pub shared: &'a Shared,
-    /// Where each GET asks SQLite: a handle of its own.
+    /// A handle of its own, once a GET needed it.
     pub base: Option<Base>,
 }
 
 impl Session<'_> {
-    /// A command without meaning is answered by an error, and the next is read. After one whose end can't be told, the
-    /// error is the last reply.
-    pub fn serve(&mut self, client: TcpStream) -> io::Result<()> {
+    /// A command without meaning is answered by an error, which is the last reply where its end can't be told.
+    pub fn serve(&mut self, client: Arc<TcpStream>) -> io::Result<()> {
         let mut wire = wire::Wire::new(client)?;
         loop {
             match wire.command() {
-                Ok(words) => wire.reply(self.answer(&words)),
+                Ok(words) => wire.reply(words.and_then(|words| self.answer(&words))),
                 Err(fault) if fault.kind() == io::ErrorKind::InvalidData => return wire.end(fault),
                 Err(fault) => return Err(fault),
             }
@@ -48,38 +47,45 @@ impl Session<'_> {
         }
     }
 
-    /// A hit finds the article's key and its rows by atomic operations alone. A miss waits for the upquery.
     fn get(&mut self, article: &str) -> Result<String, String> {
-        if let Some(base) = &mut self.base {
-            return Ok(text_of(&base.run(Query::Rows, article, &[])?));
-        }
-        let key = self.shared.names.key(article).ok_or("each key is another article's")?;
-        let counts = &self.shared.counts[self.number];
+        let Some(key) = self.shared.names.key(article, true) else { return self.ask_base(article) };
         loop {
-            if let Some(rows) = self.reader.find(key, &mut self.rows) {
-                counts.up(Count::Hits);
-                if !self.shared.was_read[key as usize].load(Relaxed) {
-                    self.shared.was_read[key as usize].store(true, Relaxed);
-                }
-                return Ok(text_of(rows));
+            if let Some(answer) = self.hit(key).map(Ok).or_else(|| self.miss(key)) {
+                return answer;
             }
-            let (asked, told) = self.shared.lobby.ask(&mut self.reader, key);
-            match asked {
-                Asked::Send(ticket) => self.post(ticket),
-                Asked::Waiting => counts.up(Count::Waits),
-                Asked::Filled => continue,
-            }
-            counts.up(Count::Misses);
-            return told.recv().unwrap().map(|rows| text_of(&rows));
         }
     }
 
-    fn post(&mut self, mut ticket: Ticket) {
-        while let Err(back) = self.poster.post(ticket) {
-            ticket = back;
-            thread::yield_now();
+    /// The rows of a key that is filled, found by atomic operations alone.
+    fn hit(&mut self, key: u32) -> Option<String> {
+        let rows = self.reader.find(key, &mut self.rows)?;
+        self.shared.counts[self.number].up(Count::Hits);
+        if !self.shared.was_read[key as usize].load(Relaxed) {
+            self.shared.was_read[key as usize].store(true, Relaxed);
         }
+        Some(text_of(rows))
+    }
+
+    /// What the dataflow answers for a key that was not filled, or none where it is filled by now.
+    fn miss(&mut self, key: u32) -> Option<Result<String, String>> {
+        let (tell, told) = mpsc::channel();
+        match self.shared.lobby.ask(&mut self.reader, key, tell) {
+            Asked::Send(ticket) => self.poster.post_waiting(ticket),
+            Asked::Waiting => self.shared.counts[self.number].up(Count::Waits),
+            Asked::Filled => return None,
+        }
+        self.shared.counts[self.number].up(Count::Misses);
         self.dataflow.unpark();
+        Some(told.recv().unwrap().map(|rows| text_of(&rows)))
+    }
+
+    fn ask_base(&mut self, article: &str) -> Result<String, String> {
+        [Count::Misses, Count::Upqueries].into_iter().for_each(|what| self.shared.counts[self.number].up(what));
+        let base = match &mut self.base {
+            Some(base) => base,
+            none => none.insert(Base::open(&self.shared.path)?),
+        };
+        base.run(Query::Rows, article, &[]).map(|rows| text_of(&rows))
     }
 
     fn vote(&mut self, article: &str, user: &str, weight: &str, is_new: bool) -> Result<String, String> {
@@ -102,6 +108,7 @@ fn number(word: &str) -> Result<u64, String> {
 }
 
 fn text_of(rows: &[Row]) -> String {
-    let votes: Vec<_> = rows.iter().map(|Row { a: user, b: weight }| format!("{user}:{weight}")).collect();
-    bulk(&votes.join(" "))
+    let mut text = String::new();
+    rows.iter().for_each(|Row { a: user, b: weight }| _ = write!(text, "{user}:{weight} "));
+    bulk(text.trim_end())
 }

@@ -110,11 +110,16 @@ fn break_off(port: &str, readers: usize) {
     for number in 0..3 * readers {
         let mut client = Client::connect(port);
         assert_eq!(client.ask("PING"), "+PONG");
-        client.send(["GET check:1", "*3\r\n$4\r\nVO", "VOTE check:1 1 1\r\nUNV", "*2\r\n$3\r\nGET\r\n$7\r\nche"][number % 4]);
+        client.send(
+            ["GET check:1", "*3\r\n$4\r\nVO", "VOTE check:1 1 1\r\nUNV", "*2\r\n$3\r\nGET\r\n$7\r\nche"][number % 4],
+        );
         drop(client);
         // A client that comes too early is refused, until the server has seen that the last one went.
         let is_free = |_: &u32| Client::connect(port).ask("PING") == "+PONG";
-        assert!((0..1000).inspect(|_| thread::sleep(Duration::from_millis(1))).any(|try_| is_free(&try_)), "no reader comes back");
+        assert!(
+            (0..1000).inspect(|_| thread::sleep(Duration::from_millis(1))).any(|try_| is_free(&try_)),
+            "no reader comes back"
+        );
     }
     let mut clients: Vec<_> = Vec::new();
     let until = Instant::now() + Duration::from_secs(10);
@@ -137,7 +142,12 @@ fn balance(port: &str, limit: u64) {
     assert_eq!(stats["fills"], stats["upqueries"], "each upquery fills");
     assert_eq!(stats["filled"], stats["fills"] - stats["evictions"], "what was filled and not evicted is filled");
     assert!(stats["filled"] <= limit && stats["evictions"] > 0 && stats["waits"] > 0, "{text}");
-    println!("check: {} moments, {} gets as they may be, {}", NOW.load(SeqCst), GETS.load(SeqCst), text.replace('\n', " "));
+    println!(
+        "check: {} moments, {} gets as they may be, {}",
+        NOW.load(SeqCst),
+        GETS.load(SeqCst),
+        text.replace('\n', " ")
+    );
 }
 
 fn main() {

@@ -23,7 +23,9 @@ impl Client {
         let mut line = String::new();
         self.0.read_line(&mut line).expect("each command is answered");
         let line = line.trim_end();
-        let Some(length) = line.strip_prefix('$').and_then(|length| length.parse::<usize>().ok()) else { return line.into() };
+        let Some(length) = line.strip_prefix('$').and_then(|length| length.parse::<usize>().ok()) else {
+            return line.into();
+        };
         let mut text = vec![0; length + 2];
         self.0.read_exact(&mut text).expect("a text is as long as told");
         text.truncate(length);

@@ -13,7 +13,12 @@ const ARTICLES: u64 = 50_000;
 fn shares(is_skewed: bool) -> Vec<f64> {
     let weight = |place: u64| if is_skewed { 1.0 / (place + 1) as f64 } else { 1.0 };
     let sum: f64 = (0..ARTICLES).map(weight).sum();
-    (0..ARTICLES).scan(0.0, |share, place| { *share += weight(place) / sum; Some(*share) }).collect()
+    (0..ARTICLES)
+        .scan(0.0, |share, place| {
+            *share += weight(place) / sum;
+            Some(*share)
+        })
+        .collect()
 }
 
 fn get(client: &mut Client, place: u64) {

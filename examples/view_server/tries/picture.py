@@ -1,4 +1,5 @@
-"""Makes results.md and results.svg of what ./measure has found: lines of a server, the keys, the clients and numbers."""
+"""Makes the README's table and results.svg of what ./measure has found: lines of a server, the keys, the clients and
+numbers."""
 import sys
 
 lines = [line.rstrip("\n").split("\t") for line in open(sys.argv[1])]
@@ -6,15 +7,19 @@ servers = list(dict.fromkeys(line[0] for line in lines))
 loads = [(keys, clients) for keys in ("uniform", "skewed") for clients in ("1", "8", "64")]
 found = {(name, keys, clients): numbers for name, keys, clients, *numbers in lines}
 
-with open("results.md", "w") as page:
-    page.write(f"GETs a second, and p50 / p99 / p99.9 in microseconds. {sys.argv[2]}; clients and server share them.\n\n")
-    page.write("| | " + " | ".join(f"{keys}, {clients}" for keys, clients in loads) + " | memory, MB |\n")
-    page.write("|---" * (len(loads) + 2) + "|\n")
-    for name in servers:
-        cells = [found[name, *load] for load in loads]
-        memory = int(found[name, "memory", "0"][0]) / 1024
-        texts = [f"{int(gets):,}, {p50} / {p99} / {p999}" for gets, p50, p99, p999 in cells]
-        page.write(f"| {name} | " + " | ".join(texts) + f" | {memory:.0f} |\n")
+table = [f"GETs a second, and p50 / p99 / p99.9 in microseconds. {sys.argv[2]}; clients and server share them.", ""]
+table.append("| | " + " | ".join(f"{keys}, {clients}" for keys, clients in loads) + " | memory, MB |")
+table.append("|---" * (len(loads) + 2) + "|")
+for name in servers:
+    cells = [found[name, *load] for load in loads]
+    memory = int(found[name, "memory", "0"][0]) / 1024
+    texts = [f"{int(gets):,}, {p50} / {p99} / {p999}" for gets, p50, p99, p999 in cells]
+    table.append(f"| {name} | " + " | ".join(texts) + f" | {memory:.0f} |")
+with open("README.md") as page:
+    before, _, rest = page.read().partition("<!-- measured -->\n")
+    after = rest.partition("<!-- end -->")[2]
+with open("README.md", "w") as page:
+    page.write("\n".join([before + "<!-- measured -->", *table, "<!-- end -->" + after]))
 
 COLOURS = ["#1f6f8b", "#7fb7be", "#d9a441", "#999999"]
 most = max(int(found[name, *load][0]) for name in servers for load in loads)
