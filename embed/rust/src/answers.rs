@@ -2,7 +2,8 @@
 use crate::{ffi, Ticket};
 use std::fmt;
 
-/// Why a call is refused.
+/// Why a call is refused. A later version may have more causes.
+#[non_exhaustive]
 #[derive(Clone, Copy, Debug, PartialEq, Eq)]
 pub enum Fault {
     /// Nobody asked for the key, or the request was taken back.

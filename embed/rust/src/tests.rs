@@ -282,7 +282,7 @@ fn a_shared_queue_tells_whose_each_ticket_is() {
         assert_eq!(maps[map].readers[0].find(key, &mut Rows::new()), Some(&[Row { a: u64::from(key), b: 0 }][..]));
     }
     assert_eq!(taker.take(), None);
-    assert_eq!(posters[0].post(ticket), Ok(()));
+    posters[0].post_waiting(ticket);
     assert_eq!(taker.take().map(|(place, ticket)| (place, ticket.key())), Some((0, 0)));
 }
 
@@ -312,6 +312,7 @@ fn tokens_show_themselves() {
     assert_eq!(map.readers[0].find(0, &mut rows), Some(&[ONE][..]));
     assert_eq!(format!("{rows:?}"), "Rows([Row { a: 1, b: 1 }])");
     let queue = Queue::open(&map.writer, 1, 1).unwrap();
+    assert!(format!("{:?}", Lobby::<()>::of(&map.writer)).starts_with("Lobby { map: Map {"));
     assert!(format!("{queue:?} {map:?} {:?}", map.readers[0].sizes()).contains("Taker"));
 }
 
