@@ -4,11 +4,12 @@ use crate::Fault;
 use std::fmt;
 
 /// A request that is to be sent to the writer. It belongs to one map, and there is one of each request:
-/// [`Reader::ask`] makes it, [`Writer::fill`] takes it, and a queue carries it. A key whose ticket is dropped stays
-/// asked for until [`Writer::cancel`] takes the request back.
+/// [`Reader::ask`] makes it, [`Writer::fill`] or [`Writer::cancel_ticket`] takes it, and a queue carries it. A key whose
+/// ticket is dropped stays asked for until [`Writer::cancel`] takes the request back.
 ///
 /// [`Reader::ask`]: crate::Reader::ask
 /// [`Writer::fill`]: crate::Writer::fill
+/// [`Writer::cancel_ticket`]: crate::Writer::cancel_ticket
 /// [`Writer::cancel`]: crate::Writer::cancel
 #[derive(Debug, PartialEq, Eq)]
 #[must_use = "its key stays asked for until `Writer::fill` or `Writer::cancel_ticket` takes it"]
