@@ -2,13 +2,16 @@
    fills, updates and evicts them. Each function calls the proved map of this repository; what it does
    to the history that all callers share is its contract in crates/nr_c.
 
+   A handle starts as zeros, is live once its opening answered NR_DONE, and until it is closed, which leaves zeros
+   in it. Each call answers NR_CLOSED, without a step, where a handle that it takes isn't live, or where there is
+   NULL in place of one; nothing has changed then, and what the call would have told stays as it was.
+
    What the caller owes, in each function that takes them, and nothing tests:
-   - a handle starts as zeros, is live once its opening answered NR_DONE, and until it is closed. A live
-     handle may be moved to another place, where alone it is then live. Nobody else copies it or writes
+   - a live handle may be moved to another place, where alone it is then live. Nobody else copies it or writes
      to it.
-   - a live handle is used by one call at a time. It goes to another thread by that thread's start or
+   - a handle is used by one call at a time. It goes to another thread by that thread's start or
      join, by a lock, or by a sequentially consistent atomic.
-   - a pointer leads to one value of its type that nobody else uses during the call; `rows` and `deltas`
+   - any other pointer leads to one value of its type that nobody else uses during the call; `rows` and `deltas`
      lead to as many as the number after them says, which nobody writes during the call.
    - no call is made from a signal handler, or in the forked child of a process with threads.
 
@@ -62,6 +65,8 @@ extern "C" {
 #define NR_HOLDING 28u   /* the reader holds a set, which is to be released before */
 #define NR_NOT_HOLDING 29u /* the reader holds nothing */
 #define NR_ALL_FILLED 30u /* each slot is a filled key's, and no reader holds another */
+#define NR_CLOSED 31u    /* a handle isn't live: it was closed or never opened, or there is NULL in its place */
+#define NR_LIVE 32u      /* the handle that is to be opened is live already */
 
 /* An answer in words. */
 static inline const char *nr_strerror(uint32_t answer) {
@@ -97,6 +102,8 @@ static inline const char *nr_strerror(uint32_t answer) {
   case NR_HOLDING: return "the reader holds a set";
   case NR_NOT_HOLDING: return "the reader holds nothing";
   case NR_ALL_FILLED: return "each slot is a filled key's";
+  case NR_CLOSED: return "a handle is not live";
+  case NR_LIVE: return "the handle is live already";
   default: return "no answer of this library";
   }
 }
@@ -126,7 +133,7 @@ typedef struct nr_delta {
   bool plus;
 } nr_delta;
 
-/* What a map is opened with: 1 to 65,536 keys, 1 to 131,072 slots, 1 to 1,024 readers, 1 to 255 rows a
+/* What a map is opened with: 1 to 4,194,303 slots, 1 to as many keys, 1 to 65,535 readers, 1 to 255 rows a
    key; any count at which the slots' departures begin, and a first number of requests up to 4,194,303.
    With a slot for each key, each reader and one more no fill or update answers NR_NO_SLOT or NR_ALL_FILLED. The map's
    words take 8 bytes a key and 16 * rows + 16 a slot, and as much again while it is opened; the writer's
@@ -168,8 +175,25 @@ typedef struct nr_poster {
 /* WORKING WITH IT
 
    Waiting for a key: note how often you were woken, look, request, sleep, in this order; the thread that fills
-   the key wakes after the fill. embed/c/wait.c does so by a condition variable and by eventfds, and
-   has the dataflow sleep while nothing is posted.
+   the key wakes after the fill. By a condition variable, with a count of fills under its lock:
+
+     for (;;) {
+       uint64_t seen = fills_so_far();
+       if (nr_find(&client->reader, key, rows) == NR_ROWS) return;
+       request(client, key);
+       pthread_mutex_lock(&lock);
+       while (fills == seen) pthread_cond_wait(&filled, &lock);
+       pthread_mutex_unlock(&lock);
+     }
+
+   By an eventfd, which counts the wake-ups itself:
+
+     while (nr_find(&client->reader, key, rows) != NR_ROWS) {
+       request(client, key);
+       sleep_on(answer);
+     }
+
+   Both are of embed/c/wait.c, a whole program whose dataflow sleeps too while nothing is posted.
    No slot: nothing has changed. After NR_NO_SLOT have readers release what they hold, or evict a key; after
    NR_ALL_FILLED evict a key. Then call again.
    Keys that are hot together: give them numbers at least eight apart, since eight neighbours share a
@@ -184,21 +208,25 @@ typedef struct nr_poster {
 
 /* OPENING AND CLOSING */
 
-/* Opens a map, and makes the writer's handle live. NR_DONE; NR_BAD_SIZE or NR_NO_MEMORY, and then the
-   handle stays as it was. Owed: `writer` is not live. */
+/* Opens a map, and makes the writer's handle live. NR_DONE; NR_LIVE, NR_BAD_SIZE or NR_NO_MEMORY, and then the
+   handle stays as it was. */
 uint32_t nr_open(const nr_shape *shape, nr_writer *writer);
 
-/* Makes the handle of one of the map's readers live, those of higher numbers first. NR_DONE;
-   NR_NO_READER or NR_NO_MEMORY, and then the handle stays as it was. Owed: `writer` is live, `reader`
-   is not. */
+/* Makes the handle of one of the map's readers live: of that which was returned last, and else those of higher
+   numbers first. NR_DONE; NR_LIVE where `reader` is, NR_NO_READER or NR_NO_MEMORY, and then it stays as it was. */
 uint32_t nr_open_reader(nr_writer *writer, nr_reader *reader);
 
-/* End a handle, which is then not live. The map's memory goes with its last handle. The number of a
-   reader that was closed is not given again. Owed: the handle is live. */
-void nr_close_reader(nr_reader reader);
-void nr_close_writer(nr_writer writer);
+/* Ends a reader's handle, and gives the reader back, so that nr_open_reader opens it again: for threads that come
+   and go. What it holds is released. NR_DONE; or NR_NO_MEMORY, and then nothing has changed. Owed: both handles are
+   of one map. */
+uint32_t nr_return_reader(nr_writer *writer, nr_reader *reader);
 
-/* WHAT A READER CALLS. Owed: `reader` is live. nr_find, nr_ask and nr_pin answer NR_HOLDING where it holds a set;
+/* End a handle, which is then zeros; where it isn't live, nothing happens. The map's memory goes with its last
+   handle. What a reader holds is released, and a reader that was closed is not opened again. */
+void nr_close_reader(nr_reader *reader);
+void nr_close_writer(nr_writer *writer);
+
+/* WHAT A READER CALLS. nr_find, nr_ask and nr_pin answer NR_HOLDING where it holds a set;
    nr_row_at, nr_copy, nr_again and nr_release NR_NOT_HOLDING where it holds nothing. Then there was no step, and
    nothing has changed. */
 
@@ -236,13 +264,13 @@ uint32_t nr_again(nr_reader *reader, uint32_t key);
    finds nothing for a while is to be released. */
 uint32_t nr_find_kept(nr_reader *reader, uint32_t key, nr_rows *rows);
 
-/* Ends the hold, in 1 step: NR_DONE. A reader that is closed while it holds a set is released. */
+/* Ends the hold, in 1 step: NR_DONE. */
 uint32_t nr_release(nr_reader *reader);
 
-/* The map's sizes. No step. */
-void nr_sizes(nr_reader *reader, nr_size *sizes);
+/* The map's sizes: NR_DONE. No step. */
+uint32_t nr_sizes(nr_reader *reader, nr_size *sizes);
 
-/* WHAT THE WRITER CALLS. Owed: `writer` is live. */
+/* WHAT THE WRITER CALLS. */
 
 /* The writer's own find. NR_ROWS after 2n + 2 steps for n rows; NR_HOLE after 1, and `rows` stays as it
    was. */
@@ -285,7 +313,7 @@ uint32_t nr_number(nr_writer *writer, uint32_t key, uint64_t *number);
 /* WHAT TOKENS LEARN OF EACH OTHER, in 2 steps of the one that learns and 1 of the other: NR_DONE. It changes no
    key and no answer: it says whose calls the one history has, in the contracts. NR_HOLDING where a reader holds
    a set, but of nr_gather_pin NR_NOT_HOLDING where it holds nothing; then nothing has changed. Owed: both handles
-   are live and of one map. */
+   are of one map. */
 
 /* The reader learns all that the writer, or the other reader, has seen. */
 uint32_t nr_meet(nr_reader *reader, nr_writer *writer);
@@ -302,25 +330,24 @@ uint32_t nr_gather_pin(nr_writer *writer, nr_reader *reader);
    nothing has changed, and it may be made again. */
 
 /* Opens a queue of 1 to 65,536 requests of keys below `keys`, with 1 to 1,024 posters, and makes the
-   taker's handle live. NR_DONE; NR_BAD_SIZE or NR_NO_MEMORY, and then the handle stays as it was. A map's
-   requests fit into as many places as it has keys, where none is taken back. Owed: `taker` is not live. */
+   taker's handle live. NR_DONE; NR_LIVE, NR_BAD_SIZE or NR_NO_MEMORY, and then the handle stays as it was. A map's
+   requests fit into as many places as it has keys, where none is taken back. */
 uint32_t nr_open_queue(uint32_t keys, uint32_t capacity, uint32_t posters, nr_taker *taker);
 
-/* Makes the handle of one of the queue's posters live. NR_DONE; NR_NO_POSTER or NR_NO_MEMORY, and then the
-   handle stays as it was. Owed: `taker` is live, `poster` is not. */
+/* Makes the handle of one of the queue's posters live. NR_DONE; NR_LIVE where `poster` is, NR_NO_POSTER or
+   NR_NO_MEMORY, and then it stays as it was. */
 uint32_t nr_open_poster(nr_taker *taker, nr_poster *poster);
 
-/* End a handle, which is then not live. The queue's memory goes with its last handle, and so do the
-   requests that it holds. Owed: the handle is live. */
-void nr_close_poster(nr_poster poster);
-void nr_close_taker(nr_taker taker);
+/* End a handle, which is then zeros; where it isn't live, nothing happens. The queue's memory goes with its last
+   handle, and so do the requests that it holds. */
+void nr_close_poster(nr_poster *poster);
+void nr_close_taker(nr_taker *taker);
 
-/* Puts a request at the back. NR_DONE; NR_NOT_POSTED, also once the queue has carried 2^62 of them. Owed:
-   `poster` is live. */
+/* Puts a request at the back. NR_DONE; NR_NOT_POSTED, also once the queue has carried 2^62 of them. */
 uint32_t nr_post(nr_poster *poster, uint32_t key, uint64_t number);
 
 /* Takes the request at the front. NR_DONE, and `key` and `number` are its own; NR_NOT_TAKEN, and they stay
-   as they were. Owed: `taker` is live. */
+   as they were. */
 uint32_t nr_take(nr_taker *taker, uint32_t *key, uint64_t *number);
 
 #ifdef __cplusplus

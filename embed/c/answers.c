@@ -165,31 +165,120 @@ static void test_queue(nr_taker *taker, nr_poster *poster) {
   wants("the number that was posted", 3, (uint32_t)number);
 }
 
+/* Each call by a handle that isn't live: these are zeros, or NULL. */
+static void test_closed(nr_writer *writer, nr_reader *reader, nr_taker *taker, nr_poster *poster) {
+  const nr_delta more = {two, true};
+  uint64_t number = 88;
+  uint32_t count = 77;
+  nr_row row = {5, 5};
+  nr_size sizes = {9, 9, 9, 9};
+  nr_reader opened = {0};
+  nr_poster posts = {0};
+  static nr_rows rows;
+  rows.count = 99;
+  WANTS(NR_CLOSED, nr_open_reader(writer, &opened));
+  WANTS(NR_CLOSED, nr_return_reader(writer, reader));
+  WANTS(NR_CLOSED, nr_find(reader, 0, &rows));
+  WANTS(NR_CLOSED, nr_find_kept(reader, 0, &rows));
+  WANTS(NR_CLOSED, nr_ask(reader, 0, &number));
+  WANTS(NR_CLOSED, nr_pin(reader, 0, &count));
+  WANTS(NR_CLOSED, nr_row_at(reader, 0, &row));
+  WANTS(NR_CLOSED, nr_copy(reader, &rows));
+  WANTS(NR_CLOSED, nr_again(reader, 0));
+  WANTS(NR_CLOSED, nr_release(reader));
+  WANTS(NR_CLOSED, nr_sizes(reader, &sizes));
+  WANTS(NR_CLOSED, nr_look(writer, 0, &rows));
+  WANTS(NR_CLOSED, nr_fill(writer, 0, 0, &one, 1));
+  WANTS(NR_CLOSED, nr_update(writer, 0, &more, 1));
+  WANTS(NR_CLOSED, nr_evict(writer, 0));
+  WANTS(NR_CLOSED, nr_cancel(writer, 0));
+  WANTS(NR_CLOSED, nr_state(writer, 0));
+  WANTS(NR_CLOSED, nr_number(writer, 0, &number));
+  WANTS(NR_CLOSED, nr_meet(reader, writer));
+  WANTS(NR_CLOSED, nr_meet_readers(reader, reader));
+  WANTS(NR_CLOSED, nr_gather(writer, reader));
+  WANTS(NR_CLOSED, nr_gather_pin(writer, reader));
+  WANTS(NR_CLOSED, nr_open_poster(taker, &posts));
+  WANTS(NR_CLOSED, nr_post(poster, 0, 0));
+  WANTS(NR_CLOSED, nr_take(taker, &count, &number));
+  nr_close_reader(reader);
+  nr_close_writer(writer);
+  nr_close_poster(poster);
+  nr_close_taker(taker);
+  wants("rows that stay", 99, (uint32_t)rows.count);
+  wants("a count that stays", 77, count);
+  wants("a number that stays", 88, (uint32_t)number);
+  wants("a row that stays", 5, (uint32_t)row.a);
+  wants("sizes that stay", 9, sizes.rows);
+  wants("handles that stay zeros", 1, !opened.at && !posts.at);
+}
+
+/* A handle that is live where another is not. */
+static void test_other_closed(nr_writer *writer, nr_reader *reader) {
+  nr_writer no_writer = {0};
+  nr_reader no_reader = {0};
+  WANTS(NR_CLOSED, nr_meet(reader, &no_writer));
+  WANTS(NR_CLOSED, nr_meet(&no_reader, writer));
+  WANTS(NR_CLOSED, nr_gather(writer, NULL));
+  WANTS(NR_CLOSED, nr_gather(NULL, reader));
+  WANTS(NR_CLOSED, nr_gather_pin(writer, &no_reader));
+  WANTS(NR_CLOSED, nr_meet_readers(reader, &no_reader));
+  WANTS(NR_CLOSED, nr_meet_readers(NULL, reader));
+  WANTS(NR_CLOSED, nr_return_reader(writer, &no_reader));
+  WANTS(NR_CLOSED, nr_return_reader(&no_writer, reader));
+  WANTS(NR_CLOSED, nr_open_reader(writer, NULL));
+  const nr_shape shape = {1, 1, 1, 1, 0, 0};
+  WANTS(NR_CLOSED, nr_open(&shape, NULL));
+  WANTS(NR_CLOSED, nr_open_queue(1, 1, 1, NULL));
+  WANTS(NR_NOT_HOLDING, nr_release(reader));
+}
+
+/* A reader that is returned while it holds a set is opened again, and holds nothing. */
+static void test_return(nr_writer *writer, nr_reader *reader) {
+  uint32_t count = 0;
+  WANTS(NR_ROWS, nr_pin(reader, 0, &count));
+  WANTS(NR_DONE, nr_return_reader(writer, reader));
+  WANTS(NR_CLOSED, nr_return_reader(writer, reader));
+  WANTS(NR_DONE, nr_open_reader(writer, reader));
+  WANTS(NR_NOT_HOLDING, nr_release(reader));
+  WANTS(NR_ROWS, nr_pin(reader, 0, &count));
+  WANTS(NR_DONE, nr_release(reader));
+}
+
 int main(void) {
   const nr_shape small = {2, 1, 1, 2, 0, 0}, last = {2, 3, 1, 2, 0, 4194303}, bad = {2, 0, 1, 2, 0, 0};
   nr_writer writer = {0}, worn = {0};
   nr_reader reader = {0}, other = {0}, none = {0};
   nr_taker taker = {0};
   nr_poster poster = {0};
+  test_closed(&writer, &reader, &taker, &poster);
+  test_closed(NULL, NULL, NULL, NULL);
   WANTS(NR_BAD_SIZE, nr_open(&bad, &writer));
   WANTS(NR_DONE, nr_open(&small, &writer));
+  WANTS(NR_LIVE, nr_open(&small, &writer));
   WANTS(NR_DONE, nr_open(&last, &worn));
   WANTS(NR_DONE, nr_open_reader(&writer, &reader));
   WANTS(NR_NO_READER, nr_open_reader(&writer, &none));
+  WANTS(NR_LIVE, nr_open_reader(&writer, &reader));
   WANTS(NR_DONE, nr_open_reader(&worn, &other));
   WANTS(NR_DONE, nr_open_queue(2, 1, 1, &taker));
   WANTS(NR_DONE, nr_open_poster(&taker, &poster));
+  WANTS(NR_LIVE, nr_open_queue(2, 1, 1, &taker));
+  WANTS(NR_LIVE, nr_open_poster(&taker, &poster));
   test_writer(&writer, &reader);
   test_reader(&worn, &other);
   test_no_key(&worn, &other, &poster);
   test_holding(&worn, &other);
+  test_other_closed(&worn, &other);
+  test_return(&worn, &other);
   test_queue(&taker, &poster);
-  nr_close_reader(reader);
-  nr_close_reader(other);
-  nr_close_writer(writer);
-  nr_close_writer(worn);
-  nr_close_poster(poster);
-  nr_close_taker(taker);
+  nr_close_reader(&reader);
+  nr_close_reader(&other);
+  nr_close_writer(&writer);
+  nr_close_writer(&worn);
+  nr_close_poster(&poster);
+  nr_close_taker(&taker);
+  test_closed(&writer, &reader, &taker, &poster);
   puts("each function gave each of its answers");
   return 0;
 }

@@ -185,11 +185,11 @@ int main(void) {
   if (nr_take(&taker, &key, &number) != NR_NOT_TAKEN) stop("a take of no key");
   test_calls(&writer, &clients[0].reader, &clients[1].reader);
   for (int i = 0; i < READERS; i++) {
-    nr_close_reader(clients[i].reader);
-    nr_close_poster(clients[i].poster);
+    nr_close_reader(&clients[i].reader);
+    nr_close_poster(&clients[i].poster);
   }
-  nr_close_writer(writer);
-  nr_close_taker(taker);
+  nr_close_writer(&writer);
+  nr_close_taker(&taker);
   puts("each key was sent and filled once");
   return 0;
 }

@@ -45,7 +45,7 @@ static void wants(const char *what, uint64_t wanted, uint64_t got) {
 static uint32_t opens(nr_shape shape) {
   nr_writer writer = {0};
   uint32_t answer = nr_open(&shape, &writer);
-  if (answer == NR_DONE) nr_close_writer(writer);
+  if (answer == NR_DONE) nr_close_writer(&writer);
   return answer;
 }
 
@@ -54,19 +54,21 @@ static void test_shape(void) {
   const nr_shape least = {1, 1, 1, 1, 0, 0};
   wants("the least sizes", NR_DONE, opens(least));
   nr_shape shape = least;
-  shape.keys = 65536;
-  wants("the most keys", NR_DONE, opens(shape));
-  shape.keys = 65537;
-  wants("a key too many", NR_BAD_SIZE, opens(shape));
+  shape.keys = 2;
+  wants("more keys than slots", NR_BAD_SIZE, opens(shape));
+  shape.slots = 2;
+  wants("as many keys as slots", NR_DONE, opens(shape));
   shape = least;
-  shape.slots = 131072;
+  shape.slots = 4194303;
   wants("the most slots", NR_DONE, opens(shape));
-  shape.slots = 131073;
+  shape.keys = 4194303;
+  wants("the most keys", NR_DONE, opens(shape));
+  shape.slots = 4194304;
   wants("a slot too many", NR_BAD_SIZE, opens(shape));
   shape = least;
-  shape.readers = 1024;
+  shape.readers = 65535;
   wants("the most readers", NR_DONE, opens(shape));
-  shape.readers = 1025;
+  shape.readers = 65536;
   wants("a reader too many", NR_BAD_SIZE, opens(shape));
   shape = least;
   shape.rows = 255;
@@ -84,7 +86,7 @@ static void test_shape(void) {
 static void test_sizes(nr_reader *reader) {
   nr_size sizes;
   memset(&sizes, 0xff, sizeof sizes);
-  nr_sizes(reader, &sizes);
+  wants("sizes", NR_DONE, nr_sizes(reader, &sizes));
   wants("keys", 3, sizes.keys);
   wants("slots", 5, sizes.slots);
   wants("readers", 2, sizes.readers);
@@ -135,15 +137,15 @@ static void test_closing(void) {
   wants("an eviction", NR_EVICTED, nr_evict(&writer, 0));
   wants("a second request", NR_SEND, nr_ask(&other, 0, &number));
   wants("a fill while the slot is held", NR_NO_SLOT, nr_fill(&writer, 0, number, &row, 1));
-  nr_close_reader(holder);
+  nr_close_reader(&holder);
   wants("a fill once its holder is closed", NR_DONE, nr_fill(&writer, 0, number, &row, 1));
-  nr_close_reader(other);
-  nr_close_writer(writer);
+  nr_close_reader(&other);
+  nr_close_writer(&writer);
 }
 
 /* Each answer has words of its own, and the library is of this header's version. */
 static void test_words(void) {
-  const uint32_t answers = NR_ALL_FILLED + 1;
+  const uint32_t answers = NR_LIVE + 1;
   for (uint32_t one = 0; one < answers; one++)
     for (uint32_t other = one + 1; other <= answers; other++)
       wants("two answers in the same words", 1, strcmp(nr_strerror(one), nr_strerror(other)) != 0);
@@ -167,9 +169,9 @@ int main(void) {
   wants("the first number", 7, number);
   test_sizes(&reader);
   test_rows(&writer, &reader);
-  nr_close_reader(reader);
-  nr_close_reader(second);
-  nr_close_writer(writer);
+  nr_close_reader(&reader);
+  nr_close_reader(&second);
+  nr_close_writer(&writer);
   puts("each field lies where the library has it");
   return 0;
 }

@@ -296,11 +296,11 @@ int main(void) {
   for (int i = 0; i < READERS; i++) {
     want(pthread_join(threads[i], NULL) == 0, "a thread's end");
     for (kind kind = 0; kind < KINDS; kind++) dataflow.seen[kind] += clients[i].seen[kind];
-    nr_close_reader(clients[i].reader);
-    nr_close_poster(clients[i].poster);
+    nr_close_reader(&clients[i].reader);
+    nr_close_poster(&clients[i].poster);
   }
-  nr_close_writer(dataflow.writer);
-  nr_close_taker(dataflow.taker);
+  nr_close_writer(&dataflow.writer);
+  nr_close_taker(&dataflow.taker);
   for (kind kind = 0; kind < KINDS; kind++) {
     want(dataflow.seen[kind] > 0, names[kind]);
   }

@@ -73,7 +73,7 @@ static void call_all(nr_writer *writer, nr_reader *reader, nr_reader *other, nr_
   want(nr_ask(reader, key, &number) == NR_SEND && nr_cancel(writer, key) == NR_CANCELLED, "a cancel");
   uint64_t next;
   want(nr_number(writer, key, &next) == NR_DONE && next == number + 1, "the number of the next request");
-  nr_sizes(reader, &sizes);
+  want(nr_sizes(reader, &sizes) == NR_DONE, "the sizes");
 }
 
 /* All openings with one refusal, after that many grants; whether there was one. */
@@ -97,11 +97,12 @@ static bool refuse(long after) {
   want(refusals == (grants < 0), "one answer of no memory for one refusal");
   long before = requests;
   call_all(&writer, &readers[0], &readers[1], &taker, &poster);
+  want(nr_return_reader(&writer, &readers[1]) == NR_DONE, "a reader that is returned");
   want(requests == before, "calls that ask for no memory");
-  for (int i = 0; i < 2; i++) nr_close_reader(readers[i]);
-  nr_close_writer(writer);
-  nr_close_poster(poster);
-  nr_close_taker(taker);
+  for (int i = 0; i < 2; i++) nr_close_reader(&readers[i]);
+  nr_close_writer(&writer);
+  nr_close_poster(&poster);
+  nr_close_taker(&taker);
   return refusals;
 }
 

@@ -131,11 +131,11 @@ int main(void) {
   serve(&writer, &taker);
   for (int i = 0; i < 2; i++) {
     want(pthread_join(threads[i], NULL) == 0, "a thread's end");
-    nr_close_reader(clients[i].reader);
-    nr_close_poster(clients[i].poster);
+    nr_close_reader(&clients[i].reader);
+    nr_close_poster(&clients[i].poster);
   }
-  nr_close_writer(writer);
-  nr_close_taker(taker);
+  nr_close_writer(&writer);
+  nr_close_taker(&taker);
   close(answer);
   close(bell);
   printf("wait: each of two clients got %d keys\n", KEYS);

@@ -13,13 +13,13 @@ void want(bool is_so, const char *what) {
   if (!is_so) throw std::runtime_error(what);
 }
 
-template <typename Handle, void (*close)(Handle)>
+template <typename Handle, void (*close)(Handle *)>
 struct owned {
   Handle handle{};
   owned() = default;
   owned(const owned &) = delete;
   owned &operator=(const owned &) = delete;
-  ~owned() { close(handle); }
+  ~owned() { close(&handle); }
 };
 
 using writer = owned<nr_writer, nr_close_writer>;

@@ -118,13 +118,13 @@ pub unsafe extern "C" fn nr_open_reader(writer: &Handle<Writer>, reader: &mut Ha
 }
 
 #[no_mangle]
-pub unsafe extern "C" fn nr_close_reader(reader: Handle<Reader>) {
-    drop(Box::from_raw(reader.0));
+pub unsafe extern "C" fn nr_close_reader(reader: &mut Handle<Reader>) {
+    drop(Box::from_raw(std::mem::replace(&mut reader.0, std::ptr::null_mut())));
 }
 
 #[no_mangle]
-pub unsafe extern "C" fn nr_close_writer(writer: Handle<Writer>) {
-    drop(Box::from_raw(writer.0));
+pub unsafe extern "C" fn nr_close_writer(writer: &mut Handle<Writer>) {
+    drop(Box::from_raw(std::mem::replace(&mut writer.0, std::ptr::null_mut())));
 }
 
 #[no_mangle]

@@ -2,3 +2,4 @@ pub mod AsReaderBox
 pub mod AsWriterBox
 pub mod AsPosterBox
 pub mod AsTakerBox
+pub mod Ending

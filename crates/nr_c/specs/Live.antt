@@ -1,5 +1,5 @@
 -- What a call from C keeps of a handle, and what its token gains.
-use Rattle.std.specs.Prelude.{ℕ, ◌+◌, ◌≡◌, ◌<◌, ◌≤◌, ◌⊎◌, List, [], ◌∷◌, None}
+use Rattle.std.specs.Prelude.{ℕ, ◌+◌, ◌≡◌, ◌<◌, ◌≤◌, ◌⊎◌, List, [], ◌∷◌, None, ⊤}
 use Rattle.nr_map.specs.declared.answers.Asked.{Asked}
 use Rattle.nr_map.specs.declared.answers.Asked.TheVariants as asked
 use Rattle.nr_board.specs.declared.answers.Found.{Found}
@@ -13,16 +13,42 @@ use Rattle.nr_c.specs.declared.writer_side.WriterSide.{WriterSide}
 use Rattle.nr_c.specs.declared.rows.NrRows.{NrRows}
 use Rattle.nr_c.specs.Codes.{ask_code, found_code}
 use Rattle.nr_c.specs.Hands.{HoldsNone, HoldsSome, InHand}
-use Rattle.nr_c.specs.Numbers.{answer_holding, answer_no_key, answer_not_holding}
+use Rattle.nr_c.specs.Numbers.{answer_closed, answer_holding, answer_live, answer_no_key, answer_not_holding}
 use Rattle.nr_c.specs.RowCells.{ShowsSet}
 
--- the handle is live, and no other call has its reader
+-- no call has the reader of the handle, if that is live
 abbrev pub MayRead : List ReaderSide → Type 0
-MayRead live = (held : ReaderSide) × (hand : Handed) × (live ≡ held ∷ []) × InHand held.hand hand
+MayRead [] = ⊤
+MayRead (held ∷ others) = (hand : Handed) × InHand held.hand hand
 
--- the writer's handle is live
-abbrev pub MayWrite : List WriterSide → Type 0
-MayWrite live = (held : WriterSide) × (live ≡ held ∷ [])
+-- the handle leads somewhere
+abbrev pub IsLive : {Side : Type 0} → List Side → Type 0
+IsLive {Side = Side} live = (held : Side) × (live ≡ held ∷ [])
+
+-- the handle isn't live, which the code says; nothing has changed
+pub record RefusesClosed {Side : Type 0} (code : ℕ) (stays : Type 0) (before after : List Side) : Type 0 where
+  pub code_is : code ≡ answer_closed
+  pub stay : stays
+  pub was : before ≡ []
+  pub is : after ≡ []
+
+-- a call by a handle: it is refused where that isn't live, and else does what it does
+abbrev pub WhenLive : {Side : Type 0} → ℕ → Type 0 → (List Side → List Side → Type 0) → List Side → List Side → Type 0
+WhenLive code stays does before after = RefusesClosed code stays before after ⊎ does before after
+
+-- a call by two handles is refused where one of them isn't live
+abbrev pub WhenBothLive : {One Other : Type 0} → ℕ → (List One → List Other → List One → List Other → Type 0) → List One → List Other → List One → List Other → Type 0
+WhenBothLive code does one other one' other' =
+    ((code ≡ answer_closed) × ((one ≡ []) ⊎ (other ≡ [])) × (one' ≡ one) × (other' ≡ other)) ⊎ (IsLive one × IsLive other × does one other one' other')
+
+-- an opening of a handle that isn't live: it is refused else
+abbrev pub WhenEmpty : {Side : Type 0} → ℕ → (List Side → Type 0) → List Side → List Side → Type 0
+WhenEmpty code does before after = ((code ≡ answer_live) × IsLive before × (after ≡ before)) ⊎ ((before ≡ []) × does after)
+
+-- an opening by a handle that is live, of another that isn't: it is refused else
+abbrev pub WhenOther : {One Other : Type 0} → ℕ → (List One → List Other → List One → List Other → Type 0) → List One → List Other → List One → List Other → Type 0
+WhenOther code does one other one' other' =
+    ((code ≡ answer_closed) × (one ≡ []) × (one' ≡ one) × (other' ≡ other)) ⊎ ((code ≡ answer_live) × IsLive one × IsLive other × (one' ≡ one) × (other' ≡ other)) ⊎ (IsLive one × (other ≡ []) × does one other one' other')
 
 -- how many keys the map of a handle has
 abbrev pub reader_keys : ReaderSide → ℕ

@@ -94,6 +94,12 @@ answer_not_holding = 29
 abbrev pub answer_all_filled : ℕ
 answer_all_filled = 30
 
+abbrev pub answer_closed : ℕ
+answer_closed = 31
+
+abbrev pub answer_live : ℕ
+answer_live = 32
+
 -- the version 0.1.0, whose numbers have 8 bits each
 abbrev pub version : ℕ
 version = 256

@@ -1,8 +1,10 @@
 -- What opens a map and its handles.
-use Rattle.std.specs.Prelude.{ℕ, ◌≡◌, ◌⊎◌, List, [], ◌∷◌, ◌++◌}
+use Rattle.std.specs.Prelude.{ℕ, ◌≡◌, ◌↔◌, ◌⊎◌, List, [], ◌∷◌, ◌++◌, Some}
 use Rattle.nr_machine.specs.declared.shape.Shape.{Shape}
 use Rattle.nr_board.specs.Callers.{Caller}
+use Rattle.nr_map.specs.LargeShapes.{IsBadLargeShape}
 use Rattle.nr_map.specs.Opened.{IsOpened}
+use Rattle.nr_c.specs.Hands.{EndsHand}
 use Rattle.nr_c.specs.Numbers.{answer_bad_size, answer_done, answer_no_memory, answer_no_reader}
 use Rattle.nr_c.specs.declared.hand.Hand.TheVariants.{Idle}
 use Rattle.nr_c.specs.declared.reader_side.ReaderSide.{ReaderSide}
@@ -12,9 +14,13 @@ use Rattle.nr_c.specs.declared.writer_side.WriterSide.{WriterSide}
 abbrev pub IsNewWriter : Shape → WriterSide → Type 0
 IsNewWriter shape side = IsOpened shape side.map.value side.writer side.spare.items
 
--- an opening by its code: the handle leads to the side of a new map, or nowhere
+-- the handle leads to the side of a new map, or nowhere
+abbrev pub OpensMap : Shape → ℕ → List WriterSide → Type 0
+OpensMap shape code after = ((code ≡ answer_done) × (side : WriterSide) × (after ≡ side ∷ []) × IsNewWriter shape side) ⊎ (((code ≡ answer_bad_size) ⊎ (code ≡ answer_no_memory)) × (after ≡ []))
+
+-- an opening by its code: sizes out of their limits are refused, and the handle leads to the side of a new map, or nowhere
 abbrev pub Opens : Shape → ℕ → List WriterSide → Type 0
-Opens shape code after = ((code ≡ answer_done) × (side : WriterSide) × (after ≡ side ∷ []) × IsNewWriter shape side) ⊎ (((code ≡ answer_bad_size) ⊎ (code ≡ answer_no_memory)) × (after ≡ []))
+Opens shape code after = ((code ≡ answer_bad_size) ↔ IsBadLargeShape shape) × OpensMap shape code after
 
 -- the writer's handle leads to one side, of the same map and with the same writer, and these readers have no handle
 pub record Keeps (before after : List WriterSide) (had has : List Caller) : Type 0 where
@@ -37,8 +43,14 @@ pub record LeadsToReader (before : List WriterSide) (reader : Caller) (handle : 
   pub idle : side.hand ≡ Idle reader
 
 -- no reader is without a handle; or the last one without gets one, or for want of memory stays without
-abbrev pub TakesReader : ℕ → List WriterSide → List WriterSide → List ReaderSide → Type 0
-TakesReader code before after handle =
-    ((code ≡ answer_no_reader) × Keeps before after [] [] × (handle ≡ []))
+abbrev pub TakesReader : ℕ → List WriterSide → List ReaderSide → List WriterSide → List ReaderSide → Type 0
+TakesReader code before other after handle =
+    ((code ≡ answer_no_reader) × Keeps before after [] [] × (handle ≡ other))
     ⊎ ((code ≡ answer_done) × (rest : List Caller) × (reader : Caller) × Keeps before after (rest ++ reader ∷ []) rest × LeadsToReader before reader handle)
-    ⊎ ((code ≡ answer_no_memory) × (rest : List Caller) × (reader : Caller) × Keeps before after (rest ++ reader ∷ []) (rest ++ reader ∷ []) × (handle ≡ []))
+    ⊎ ((code ≡ answer_no_memory) × (rest : List Caller) × (reader : Caller) × Keeps before after (rest ++ reader ∷ []) (rest ++ reader ∷ []) × (handle ≡ other))
+
+-- the reader's handle leads nowhere any more, and its reader, which holds nothing now, is the last one without a handle; or for want of memory all stay
+abbrev pub ReturnsReader : ℕ → List WriterSide → List ReaderSide → List WriterSide → List ReaderSide → Type 0
+ReturnsReader code before other after handle =
+    ((code ≡ answer_done) × (rest : List Caller) × (reader : Caller) × (held : ReaderSide) × (other ≡ held ∷ []) × EndsHand held.hand (Some reader) × Keeps before after rest (rest ++ reader ∷ []) × (handle ≡ []))
+    ⊎ ((code ≡ answer_no_memory) × (rest : List Caller) × Keeps before after rest rest × (handle ≡ other))

@@ -1,16 +1,17 @@
--- What a handle owns: the same as a box of its token, or nothing.
+-- What a handle owns: the same as a box of its token, or nothing, and then it is null.
 use mathlib.Core.List.{List, [], ◌∷◌}
-use base.Fml.{Fml, ftrue}
+use base.Fml.{Fml, feq, ffalse}
 use base.Stored.{Coded}
-use denote.RawPtr.{Ptr}
+use denote.RawPtr.{Ptr, null_ptr}
 use Rattle.std.specs.Box.Ownership.{box_owns}
 use Rattle.std.specs.Global.{Global}
 use Rattle.std_heap.specs.contracts.GlobalAllocator.TheImpl.{ghosts}
 use Rattle.nr_c.specs.contracts.poster_side.PosterSide.{the_row}
 
 abbrev pub poster_handle_owns : Global → Ptr → List the_row.Denot → Fml
-poster_handle_owns a p [] = ftrue
-poster_handle_owns a p (t ∷ ts) = box_owns (ghosts.dealloc_token a) the_row p t
+poster_handle_owns a p [] = feq Ptr p null_ptr
+poster_handle_owns a p (t ∷ []) = box_owns (ghosts.dealloc_token a) the_row p t
+poster_handle_owns a p (t ∷ u ∷ ts) = ffalse
 
 abbrev pub poster_side_coded : Coded the_row.Denot
 poster_side_coded = the_row.coded

@@ -1,5 +1,7 @@
 -- What opens a queue of requests and its handles.
-use Rattle.std.specs.Prelude.{ℕ, ◌≡◌, ◌⊎◌, List, [], ◌∷◌, ◌++◌}
+use Rattle.std.specs.Prelude.{ℕ, ◌≡◌, ◌↔◌, ◌⊎◌, List, [], ◌∷◌, ◌++◌}
+use Rattle.nr_model.specs.Sizes.{IsBadSize}
+use Rattle.nr_trigger.specs.declared.triggers.TheConstants.{MAX_CAPACITY, MAX_POSTERS}
 use Rattle.nr_trigger.specs.Tokens.{IsOpenedQueue, PosterSeen}
 use Rattle.nr_c.specs.Numbers.{answer_bad_size, answer_done, answer_no_memory, answer_no_poster}
 use Rattle.nr_c.specs.declared.poster_side.PosterSide.{PosterSide}
@@ -9,10 +11,14 @@ use Rattle.nr_c.specs.declared.taker_side.TakerSide.{TakerSide}
 abbrev pub IsNewQueue : ℕ → ℕ → ℕ → TakerSide → Type 0
 IsNewQueue capacity posters keys side = IsOpenedQueue capacity posters keys side.queue.value side.spare.items side.taker
 
--- an opening by its code: the handle leads to the side of a new queue, or nowhere
-abbrev pub OpensQueue : ℕ → ℕ → ℕ → ℕ → List TakerSide → Type 0
-OpensQueue capacity posters keys code after =
+-- the handle leads to the side of a new queue, or nowhere
+abbrev pub OpensNew : ℕ → ℕ → ℕ → ℕ → List TakerSide → Type 0
+OpensNew capacity posters keys code after =
     ((code ≡ answer_done) × (side : TakerSide) × (after ≡ side ∷ []) × IsNewQueue capacity posters keys side) ⊎ (((code ≡ answer_bad_size) ⊎ (code ≡ answer_no_memory)) × (after ≡ []))
+
+-- an opening by its code: sizes out of their limits are refused
+abbrev pub OpensQueue : ℕ → ℕ → ℕ → ℕ → List TakerSide → Type 0
+OpensQueue capacity posters keys code after = ((code ≡ answer_bad_size) ↔ (IsBadSize MAX_CAPACITY capacity ⊎ IsBadSize MAX_POSTERS posters)) × OpensNew capacity posters keys code after
 
 -- the taker's handle leads to one side, of the same queue and with the same taker, and these posters have no handle
 pub record KeepsTaker (before after : List TakerSide) (had has : List PosterSeen) : Type 0 where
@@ -35,8 +41,8 @@ pub record LeadsToPoster (before : List TakerSide) (poster : PosterSeen) (handle
   pub poster_is : side.poster ≡ poster
 
 -- no poster is without a handle; or the last one without gets one, or for want of memory stays without
-abbrev pub TakesPoster : ℕ → List TakerSide → List TakerSide → List PosterSide → Type 0
-TakesPoster code before after handle =
-    ((code ≡ answer_no_poster) × KeepsTaker before after [] [] × (handle ≡ []))
+abbrev pub TakesPoster : ℕ → List TakerSide → List PosterSide → List TakerSide → List PosterSide → Type 0
+TakesPoster code before other after handle =
+    ((code ≡ answer_no_poster) × KeepsTaker before after [] [] × (handle ≡ other))
     ⊎ ((code ≡ answer_done) × (rest : List PosterSeen) × (poster : PosterSeen) × KeepsTaker before after (rest ++ poster ∷ []) rest × LeadsToPoster before poster handle)
-    ⊎ ((code ≡ answer_no_memory) × (rest : List PosterSeen) × (poster : PosterSeen) × KeepsTaker before after (rest ++ poster ∷ []) (rest ++ poster ∷ []) × (handle ≡ []))
+    ⊎ ((code ≡ answer_no_memory) × (rest : List PosterSeen) × (poster : PosterSeen) × KeepsTaker before after (rest ++ poster ∷ []) (rest ++ poster ∷ []) × (handle ≡ other))

@@ -1,5 +1,8 @@
 -- The sizes of a map as C has them.
+use Rattle.std.specs.Prelude.{ℕ, ◌≡◌, List, [], ◌∷◌}
 use Rattle.nr_machine.specs.declared.shape.Shape.{Shape}
+use Rattle.nr_c.specs.Numbers.{answer_done}
+use Rattle.nr_c.specs.declared.reader_side.ReaderSide.{ReaderSide}
 use Rattle.nr_c.specs.declared.sizes.NrShape.{NrShape}
 use Rattle.nr_c.specs.declared.sizes.NrSizes.{NrSizes}
 
@@ -8,3 +11,11 @@ shape_of_sizes sizes = record { keys = sizes.keys; slots = sizes.slots; readers 
 
 abbrev pub sizes_of : Shape → NrSizes
 sizes_of shape = record { keys = shape.keys; slots = shape.slots; readers = shape.readers; rows = shape.rows }
+
+-- the sizes of a reader's map by their code; the handle leads to what it led to
+pub record TellsSizes (told : NrSizes) (code : ℕ) (before after : List ReaderSide) : Type 0 where
+  pub code_is : code ≡ answer_done
+  pub held : ReaderSide
+  pub was : before ≡ held ∷ []
+  pub is : after ≡ held ∷ []
+  pub sizes : told ≡ sizes_of held.map.value.shape

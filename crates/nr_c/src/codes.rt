@@ -98,6 +98,12 @@ pub const NR_NOT_HOLDING: u32 = 29;
 /// To a fill or an update: there is no slot, since each is a filled key's.
 pub const NR_ALL_FILLED: u32 = 30;
 
+/// To a call whose handle leads nowhere: it was closed, or never opened.
+pub const NR_CLOSED: u32 = 31;
+
+/// To an opening: the handle leads somewhere already.
+pub const NR_LIVE: u32 = 32;
+
 pub fn of_found(found: Found) -> u32
     ensures { result ≡ found_code found }
 {

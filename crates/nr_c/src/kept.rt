@@ -1,9 +1,9 @@
 //! Finds by a reader that keeps what it found.
 ghost use Rattle.std.specs.Prelude.{◌≡◌};
-ghost use Rattle.nr_c.specs.Live.{MayRead, WithKey, reader_keys};
+ghost use Rattle.nr_c.specs.Live.{MayRead, WhenLive, WithKey, reader_keys};
 ghost use Rattle.nr_c.specs.Kept.{KeepsByCode};
 
-use crate::codes::{NR_NO_KEY, of_found};
+use crate::codes::{NR_CLOSED, NR_NO_KEY, of_found};
 use crate::reader_handle::NrReader;
 use crate::rows::NrRows;
 
@@ -14,9 +14,12 @@ use crate::rows::NrRows;
 /// with no step.
 #[unsafe(no_mangle)]
 pub extern "C" fn nr_find_kept(reader: &mut NrReader, key: u32, rows: &mut NrRows) -> u32
-    requires live { MayRead reader.old.live }
-    ensures { WithKey reader_keys key result (rows.new ≡ rows.old) (KeepsByCode key rows.old rows.new result) reader.old.live reader.new.live }
+    requires rests { MayRead reader.old.live }
+    ensures { WhenLive result (rows.new ≡ rows.old) (WithKey reader_keys key result (rows.new ≡ rows.old) (KeepsByCode key rows.old rows.new result)) reader.old.live reader.new.live }
 {
+    if !reader.is_live() {
+        return NR_CLOSED;
+    }
     let side = reader.side();
     if !side.has_key(key) {
         return NR_NO_KEY;

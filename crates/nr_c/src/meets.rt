@@ -1,14 +1,8 @@
 //! What one handle's token learns of another's.
-ghost use Rattle.std.specs.Prelude.{◌≡◌, [], ◌∷◌};
-ghost use Rattle.nr_map.specs.Hands.{Handed};
-ghost use Rattle.nr_c.specs.declared.reader_side.ReaderSide.{ReaderSide as ReaderHeld};
-ghost use Rattle.nr_c.specs.declared.writer_side.WriterSide.{WriterSide as WriterHeld};
-ghost use Rattle.nr_c.specs.Hands.{InHand};
-ghost use Rattle.nr_c.specs.Live.{WhenHolding, WhenIdle};
-ghost use Rattle.nr_c.specs.Numbers.{answer_done};
-ghost use Rattle.nr_c.specs.Meets.{GathersOf, GathersPin, MeetsOf, MeetsReader};
+ghost use Rattle.nr_c.specs.Live.{MayRead, WhenBothLive};
+ghost use Rattle.nr_c.specs.Meets.{AreOfOneMap, GathersByCode, GathersPinByCode, MeetsByCode, MeetsReaderByCode, OneMap};
 
-use crate::codes::{NR_DONE, NR_HOLDING, NR_NOT_HOLDING};
+use crate::codes::{NR_CLOSED, NR_DONE, NR_HOLDING, NR_NOT_HOLDING};
 use crate::hand::Hand;
 use crate::reader_handle::NrReader;
 use crate::writer_handle::NrWriter;
@@ -17,9 +11,13 @@ use crate::writer_handle::NrWriter;
 /// `NR_DONE`. `NR_HOLDING`, with no step, where the reader holds a set.
 #[unsafe(no_mangle)]
 pub extern "C" fn nr_meet(reader: &mut NrReader, writer: &mut NrWriter) -> u32
-    requires live { (held : ReaderHeld) × (hand : Handed) × (other : WriterHeld) × (reader.old.live ≡ held ∷ []) × InHand held.hand hand × (writer.old.live ≡ other ∷ []) × (held.map.value ≡ other.map.value) }
-    ensures { WhenIdle result (writer.new.live ≡ writer.old.live) (λ before after. (result ≡ answer_done) × MeetsOf before writer.old.live after writer.new.live) reader.old.live reader.new.live }
+    requires rests { MayRead reader.old.live }
+    requires one_map { OneMap reader.old.live writer.old.live }
+    ensures { WhenBothLive result (MeetsByCode result) reader.old.live writer.old.live reader.new.live writer.new.live }
 {
+    if !reader.is_live() || !writer.is_live() {
+        return NR_CLOSED;
+    }
     let side = reader.side();
     if side.holds() {
         return NR_HOLDING;
@@ -35,9 +33,13 @@ pub extern "C" fn nr_meet(reader: &mut NrReader, writer: &mut NrWriter) -> u32
 /// steps for each, `NR_DONE`. `NR_HOLDING`, with no step, where the reader holds a set.
 #[unsafe(no_mangle)]
 pub extern "C" fn nr_gather(writer: &mut NrWriter, reader: &mut NrReader) -> u32
-    requires live { (held : ReaderHeld) × (hand : Handed) × (other : WriterHeld) × (reader.old.live ≡ held ∷ []) × InHand held.hand hand × (writer.old.live ≡ other ∷ []) × (held.map.value ≡ other.map.value) }
-    ensures { WhenIdle result (writer.new.live ≡ writer.old.live) (λ before after. (result ≡ answer_done) × GathersOf writer.old.live before writer.new.live after) reader.old.live reader.new.live }
+    requires rests { MayRead reader.old.live }
+    requires one_map { OneMap reader.old.live writer.old.live }
+    ensures { WhenBothLive result (GathersByCode result) writer.old.live reader.old.live writer.new.live reader.new.live }
 {
+    if !writer.is_live() || !reader.is_live() {
+        return NR_CLOSED;
+    }
     let side = reader.side();
     if side.holds() {
         return NR_HOLDING;
@@ -53,9 +55,14 @@ pub extern "C" fn nr_gather(writer: &mut NrWriter, reader: &mut NrReader) -> u32
 /// step: `NR_DONE`. `NR_HOLDING`, with no step, where one of them holds a set.
 #[unsafe(no_mangle)]
 pub extern "C" fn nr_meet_readers(reader: &mut NrReader, other: &mut NrReader) -> u32
-    requires live { (held : ReaderHeld) × (hand : Handed) × (theirs : ReaderHeld) × (friend : Handed) × (reader.old.live ≡ held ∷ []) × InHand held.hand hand × (other.old.live ≡ theirs ∷ []) × InHand theirs.hand friend × (held.map.value ≡ theirs.map.value) }
-    ensures { WhenIdle result (other.new.live ≡ other.old.live) (λ before after. WhenIdle result (after ≡ before) (λ theirs theirs'. (result ≡ answer_done) × MeetsReader before theirs after theirs') other.old.live other.new.live) reader.old.live reader.new.live }
+    requires rests { MayRead reader.old.live }
+    requires theirs { MayRead other.old.live }
+    requires one_map { AreOfOneMap reader.old.live other.old.live }
+    ensures { WhenBothLive result (MeetsReaderByCode result) reader.old.live other.old.live reader.new.live other.new.live }
 {
+    if !reader.is_live() || !other.is_live() {
+        return NR_CLOSED;
+    }
     let side = reader.side();
     if side.holds() {
         return NR_HOLDING;
@@ -76,9 +83,13 @@ pub extern "C" fn nr_meet_readers(reader: &mut NrReader, other: &mut NrReader) -
 /// it holds nothing.
 #[unsafe(no_mangle)]
 pub extern "C" fn nr_gather_pin(writer: &mut NrWriter, reader: &mut NrReader) -> u32
-    requires live { (held : ReaderHeld) × (hand : Handed) × (other : WriterHeld) × (reader.old.live ≡ held ∷ []) × InHand held.hand hand × (writer.old.live ≡ other ∷ []) × (held.map.value ≡ other.map.value) }
-    ensures { WhenHolding result (writer.new.live ≡ writer.old.live) (λ before after. (result ≡ answer_done) × GathersPin writer.old.live before writer.new.live after) reader.old.live reader.new.live }
+    requires rests { MayRead reader.old.live }
+    requires one_map { OneMap reader.old.live writer.old.live }
+    ensures { WhenBothLive result (GathersPinByCode result) writer.old.live reader.old.live writer.new.live reader.new.live }
 {
+    if !writer.is_live() || !reader.is_live() {
+        return NR_CLOSED;
+    }
     let side = reader.side();
     if !side.holds() {
         return NR_NOT_HOLDING;

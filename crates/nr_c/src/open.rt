@@ -1,14 +1,13 @@
 //! What opens a map and its handles, and what ends them.
-ghost use Rattle.std.specs.Prelude.{◌≡◌, ◌↔◌, [], ◌∷◌, Err, IfOk, IfErr, Some};
-ghost use Rattle.nr_machine.specs.Sizes.{IsBadShape};
+ghost use Rattle.std.specs.Prelude.{◌≡◌, ◌↔◌, [], Err, IfOk, IfErr};
+ghost use Rattle.nr_map.specs.LargeShapes.{IsBadLargeShape};
 ghost use Rattle.nr_c.specs.declared.hand.Hand.TheVariants as hand;
-ghost use Rattle.nr_c.specs.declared.reader_side.ReaderSide.{ReaderSide as ReaderHeld};
-ghost use Rattle.nr_c.specs.declared.writer_side.WriterSide.{WriterSide as WriterHeld};
-ghost use Rattle.nr_c.specs.Numbers.{answer_bad_size};
-ghost use Rattle.nr_c.specs.Openings.{IsNewWriter, Opens, TakesReader};
-ghost use Rattle.nr_c.specs.Sizes.{shape_of_sizes, sizes_of};
+ghost use Rattle.nr_c.specs.Live.{MayRead, WhenBothLive, WhenEmpty, WhenLive, WhenOther};
+ghost use Rattle.nr_c.specs.Meets.{OneMap};
+ghost use Rattle.nr_c.specs.Openings.{IsNewWriter, Opens, ReturnsReader, TakesReader};
+ghost use Rattle.nr_c.specs.Sizes.{TellsSizes, shape_of_sizes};
 
-use crate::codes::{NR_BAD_SIZE, NR_DONE, NR_NO_MEMORY, NR_NO_READER};
+use crate::codes::{NR_BAD_SIZE, NR_CLOSED, NR_DONE, NR_LIVE, NR_NO_MEMORY, NR_NO_READER};
 use crate::reader_handle::NrReader;
 use crate::reader_side::ReaderSide;
 use crate::sizes::{NrShape, NrSizes};
@@ -19,16 +18,17 @@ use nr_model::OpenFault;
 use std::alloc::Global;
 use std::sync::Arc;
 
-/// Opens a map of that shape, and makes the writer's handle live. Answers `NR_DONE`; `NR_BAD_SIZE`
-/// where a size is out of its limits, 1 to 65,536 keys, 1 to 131,072 slots, 1 to 1,024 readers, a
-/// first number up to 4,194,303 and 1 to 255 rows a key; or `NR_NO_MEMORY`. The handle stays empty
-/// where it isn't done.
+/// Opens a map of that shape, and makes the writer's handle live. Answers `NR_DONE`; `NR_LIVE` where
+/// the handle is live already; `NR_BAD_SIZE` where a size is out of its limits, 1 to 4,194,303 slots,
+/// 1 to as many keys, 1 to 65,535 readers, a first number up to 4,194,303 and 1 to 255 rows a key; or
+/// `NR_NO_MEMORY`. The handle stays as it was where it isn't done.
 #[unsafe(no_mangle)]
 pub extern "C" fn nr_open(alloc: Global, shape: &NrShape, writer: &mut NrWriter) -> u32
-    requires empty { writer.old.live ≡ [] }
-    ensures bad_size { (result ≡ answer_bad_size) ↔ IsBadShape (shape_of_sizes shape.now) }
-    ensures opens { Opens (shape_of_sizes shape.now) result writer.new.live }
+    ensures { WhenEmpty result (Opens (shape_of_sizes shape.now) result) writer.old.live writer.new.live }
 {
+    if writer.is_live() {
+        return NR_LIVE;
+    }
     match opened(alloc, shape) {
         Ok(side) => {
             writer.lead_to(side);
@@ -41,24 +41,28 @@ pub extern "C" fn nr_open(alloc: Global, shape: &NrShape, writer: &mut NrWriter)
 
 // A map's writer's side.
 fn opened(alloc: Global, shape: &NrShape) -> Result<Box<WriterSide, Global>, OpenFault>
-    ensures bad_size { (result ≡ Err OpenFault.BadSize) ↔ IsBadShape (shape_of_sizes shape.now) }
+    ensures bad_size { (result ≡ Err OpenFault.BadSize) ↔ IsBadLargeShape (shape_of_sizes shape.now) }
     ensures ok { IfOk result (λ side. IsNewWriter (shape_of_sizes shape.now) side.value) }
 {
-    let (map, writer, spare) = ReaderMap::open_with(alloc, &shape.shape())?;
+    let (map, writer, spare) = ReaderMap::open_large(alloc, &shape.shape())?;
     let map = Arc::new(alloc, map).map_err(|_| OpenFault::Memory)?;
     let side = WriterSide { map, writer, spare };
     Ok(Box::new(alloc, side).map_err(|_| OpenFault::Memory)?)
 }
 
-/// Makes the handle of one more reader live. Answers `NR_DONE`; `NR_NO_READER` where each reader
-/// has a handle; or `NR_NO_MEMORY`. The handle stays empty where it isn't done, and the writer's
-/// stays as it is.
+/// Makes the handle of one more reader live. Answers `NR_DONE`; `NR_CLOSED` where the writer's isn't
+/// live; `NR_LIVE` where the reader's is already; `NR_NO_READER` where each reader has a handle; or
+/// `NR_NO_MEMORY`. The reader's handle stays as it was where it isn't done.
 #[unsafe(no_mangle)]
 pub extern "C" fn nr_open_reader(alloc: Global, writer: &mut NrWriter, reader: &mut NrReader) -> u32
-    requires live { (held : WriterHeld) × (writer.old.live ≡ held ∷ []) }
-    requires empty { reader.old.live ≡ [] }
-    ensures { TakesReader result writer.old.live writer.new.live reader.new.live }
+    ensures { WhenOther result (TakesReader result) writer.old.live reader.old.live writer.new.live reader.new.live }
 {
+    if !writer.is_live() {
+        return NR_CLOSED;
+    }
+    if reader.is_live() {
+        return NR_LIVE;
+    }
     let side = writer.side();
     let Some(next) = side.spare.pop() else {
         return NR_NO_READER;
@@ -97,29 +101,64 @@ fn seated(
     }
 }
 
-/// Ends a reader, which no handle gets again. What it holds is released.
+/// Ends a reader, which the next opening of a reader hands out again. What it holds is released.
+/// Answers `NR_DONE`; `NR_CLOSED` where one of the handles isn't live; or `NR_NO_MEMORY`, and then
+/// nothing has changed.
 #[unsafe(no_mangle)]
-pub extern "C" fn nr_close_reader(reader: NrReader)
-    requires live { (held : ReaderHeld) × (reader.live ≡ held ∷ []) }
+pub extern "C" fn nr_return_reader(
+    alloc: Global,
+    writer: &mut NrWriter,
+    reader: &mut NrReader,
+) -> u32
+    requires rests { MayRead reader.old.live }
+    requires one_map { OneMap reader.old.live writer.old.live }
+    ensures { WhenBothLive result (ReturnsReader result) writer.old.live reader.old.live writer.new.live reader.new.live }
 {
-    drop(reader.close());
+    if !writer.is_live() || !reader.is_live() {
+        return NR_CLOSED;
+    }
+    let side = writer.side();
+    if side.spare.try_reserve(1).is_err() {
+        return NR_NO_MEMORY;
+    }
+    match reader.close(alloc) {
+        Some(idle) => side.spare.push_reserved(idle),
+        None => unreachable!(),
+    }
+    NR_DONE
 }
 
-/// Ends the writer. The memory of the map goes with the last handle.
+/// Ends a reader, which no handle gets again. What it holds is released. Nothing happens where the
+/// handle isn't live.
 #[unsafe(no_mangle)]
-pub extern "C" fn nr_close_writer(writer: NrWriter)
-    requires live { (held : WriterHeld) × (writer.live ≡ held ∷ []) }
+pub extern "C" fn nr_close_reader(alloc: Global, reader: &mut NrReader)
+    ensures { reader.new.live ≡ [] }
 {
-    drop(writer.close());
+    if reader.is_live() {
+        drop(reader.close(alloc));
+    }
 }
 
-/// The map's sizes.
+/// Ends the writer. The memory of the map goes with the last handle. Nothing happens where the handle
+/// isn't live.
 #[unsafe(no_mangle)]
-pub extern "C" fn nr_sizes(reader: &mut NrReader, sizes: &mut NrSizes)
-    requires live { (held : ReaderHeld) × (reader.old.live ≡ held ∷ []) }
-    ensures live { reader.new.live ≡ reader.old.live }
-    ensures sizes { (held : ReaderHeld) → reader.old.live ≡ held ∷ [] → sizes.new ≡ sizes_of held.map.value.shape }
+pub extern "C" fn nr_close_writer(alloc: Global, writer: &mut NrWriter)
+    ensures { writer.new.live ≡ [] }
 {
+    if writer.is_live() {
+        drop(writer.close(alloc));
+    }
+}
+
+/// The map's sizes: `NR_DONE`; or `NR_CLOSED`, and `sizes` stay.
+#[unsafe(no_mangle)]
+pub extern "C" fn nr_sizes(reader: &mut NrReader, sizes: &mut NrSizes) -> u32
+    ensures { WhenLive result (sizes.new ≡ sizes.old) (TellsSizes sizes.new result) reader.old.live reader.new.live }
+{
+    if !reader.is_live() {
+        return NR_CLOSED;
+    }
     let side = reader.side();
     *sizes = NrSizes::of(&side.map);
+    NR_DONE
 }

@@ -1,10 +1,11 @@
 //! A reader that holds a set.
 ghost use Rattle.std.specs.Prelude.{◌≡◌, ⊤};
-ghost use Rattle.nr_c.specs.Live.{MayRead, WhenHolding, WhenIdle, WithKey, reader_keys};
+ghost use Rattle.nr_c.specs.Live.{MayRead, WhenHolding, WhenIdle, WhenLive, WithKey, reader_keys};
 ghost use Rattle.nr_c.specs.Pins.{CopiesSet, FindsByHold, PinsCells, Releases, ReadsRow};
 
 use crate::codes::{
-    NR_DONE, NR_HOLDING, NR_HOLE, NR_NO_KEY, NR_NO_ROW, NR_NOT_HOLDING, NR_OTHER, NR_ROWS,
+    NR_CLOSED, NR_DONE, NR_HOLDING, NR_HOLE, NR_NO_KEY, NR_NO_ROW, NR_NOT_HOLDING, NR_OTHER,
+    NR_ROWS,
 };
 use crate::hand::Hand;
 use crate::reader_handle::NrReader;
@@ -17,9 +18,12 @@ use nr_model::Row;
 /// or `NR_HOLDING` where it holds a set, with no step.
 #[unsafe(no_mangle)]
 pub extern "C" fn nr_pin(reader: &mut NrReader, key: u32, count: &mut u32) -> u32
-    requires live { MayRead reader.old.live }
-    ensures { WithKey reader_keys key result (count.new ≡ count.old) (WhenIdle result (count.new ≡ count.old) (PinsCells key count.old count.new result)) reader.old.live reader.new.live }
+    requires rests { MayRead reader.old.live }
+    ensures { WhenLive result (count.new ≡ count.old) (WithKey reader_keys key result (count.new ≡ count.old) (WhenIdle result (count.new ≡ count.old) (PinsCells key count.old count.new result))) reader.old.live reader.new.live }
 {
+    if !reader.is_live() {
+        return NR_CLOSED;
+    }
     let side = reader.side();
     if !side.has_key(key) {
         return NR_NO_KEY;
@@ -45,9 +49,12 @@ pub extern "C" fn nr_pin(reader: &mut NrReader, key: u32, count: &mut u32) -> u3
 /// no step, and `row` stays. `NR_NOT_HOLDING` where nothing is held, with no step.
 #[unsafe(no_mangle)]
 pub extern "C" fn nr_row_at(reader: &mut NrReader, place: u32, row: &mut Row) -> u32
-    requires live { MayRead reader.old.live }
-    ensures { WhenHolding result (row.new ≡ row.old) (ReadsRow place row.old row.new result) reader.old.live reader.new.live }
+    requires rests { MayRead reader.old.live }
+    ensures { WhenLive result (row.new ≡ row.old) (WhenHolding result (row.new ≡ row.old) (ReadsRow place row.old row.new result)) reader.old.live reader.new.live }
 {
+    if !reader.is_live() {
+        return NR_CLOSED;
+    }
     let side = reader.side();
     if !side.holds() {
         return NR_NOT_HOLDING;
@@ -66,9 +73,12 @@ pub extern "C" fn nr_row_at(reader: &mut NrReader, place: u32, row: &mut Row) ->
 /// or `NR_NOT_HOLDING`, and they stay.
 #[unsafe(no_mangle)]
 pub extern "C" fn nr_copy(reader: &mut NrReader, rows: &mut NrRows) -> u32
-    requires live { MayRead reader.old.live }
-    ensures { WhenHolding result (rows.new ≡ rows.old) (CopiesSet rows.new result) reader.old.live reader.new.live }
+    requires rests { MayRead reader.old.live }
+    ensures { WhenLive result (rows.new ≡ rows.old) (WhenHolding result (rows.new ≡ rows.old) (CopiesSet rows.new result)) reader.old.live reader.new.live }
 {
+    if !reader.is_live() {
+        return NR_CLOSED;
+    }
     let side = reader.side();
     if !side.holds() {
         return NR_NOT_HOLDING;
@@ -86,9 +96,12 @@ pub extern "C" fn nr_copy(reader: &mut NrReader, rows: &mut NrRows) -> u32
 /// `NR_NO_KEY`, or `NR_NOT_HOLDING` where nothing is held, with no step.
 #[unsafe(no_mangle)]
 pub extern "C" fn nr_again(reader: &mut NrReader, key: u32) -> u32
-    requires live { MayRead reader.old.live }
-    ensures { WithKey reader_keys key result ⊤ (WhenHolding result ⊤ (FindsByHold key result)) reader.old.live reader.new.live }
+    requires rests { MayRead reader.old.live }
+    ensures { WhenLive result ⊤ (WithKey reader_keys key result ⊤ (WhenHolding result ⊤ (FindsByHold key result))) reader.old.live reader.new.live }
 {
+    if !reader.is_live() {
+        return NR_CLOSED;
+    }
     let side = reader.side();
     if !side.has_key(key) {
         return NR_NO_KEY;
@@ -105,9 +118,12 @@ pub extern "C" fn nr_again(reader: &mut NrReader, key: u32) -> u32
 /// Ends the hold, in 1 step: `NR_DONE`; or `NR_NOT_HOLDING` with no step.
 #[unsafe(no_mangle)]
 pub extern "C" fn nr_release(reader: &mut NrReader) -> u32
-    requires live { MayRead reader.old.live }
-    ensures { WhenHolding result ⊤ (Releases result) reader.old.live reader.new.live }
+    requires rests { MayRead reader.old.live }
+    ensures { WhenLive result ⊤ (WhenHolding result ⊤ (Releases result)) reader.old.live reader.new.live }
 {
+    if !reader.is_live() {
+        return NR_CLOSED;
+    }
     let side = reader.side();
     if !side.holds() {
         return NR_NOT_HOLDING;

@@ -1,6 +1,7 @@
 //! A poster's handle: a box of a poster's side, or none, whose type names no other type, so that C
 //! may hold it.
 ghost use Rattle.std.specs.Prelude.{◌≡◌, List, [], ◌∷◌};
+ghost use Rattle.std.specs.Bool.{OnFalse, OnTrue};
 ghost use base.Stored.{coded_list};
 ghost use Rattle.nr_c.specs.declared.poster_side.PosterSide.{PosterSide};
 ghost use Rattle.nr_c.specs.PosterHandles.{poster_side_coded, poster_handle_owns};
@@ -11,9 +12,10 @@ use nr_trigger::Poster;
 use std::alloc::Global;
 use std::marker::Model;
 use std::mem::{self, ManuallyDrop};
+use std::ptr;
 
-/// C starts one as zeros, which leads nowhere, and never copies one that leads somewhere. It can't be
-/// dropped: its owner ends what it leads to.
+/// C starts one as zeros, which leads nowhere, as does one that was closed; it never copies one that
+/// leads somewhere. It can't be dropped: its owner ends what it leads to.
 #[repr(C)]
 pub struct NrPoster {
     pub(crate) ptr: *mut u8,
@@ -39,13 +41,33 @@ impl NrPoster {
         let _ = unsafe { ManuallyDrop::new_unchecked(empty) };
     }
 
-    /// Ends the poster, and its share of the queue.
-    pub fn close(self) -> Poster
-        requires { (side : PosterSide) × (self.live ≡ side ∷ []) }
-        ensures { (side : PosterSide) → self.live ≡ side ∷ [] → result ≡ side.poster }
+    /// Whether it leads somewhere.
+    pub fn is_live(&mut self) -> bool
+        ensures same { self.new ≡ self.old }
+        ensures live { OnTrue result ((side : PosterSide) × (self.new.live ≡ side ∷ [])) }
+        ensures empty { OnFalse result (self.new.live ≡ []) }
     {
-        let side = Box::into_inner(self.into_box());
+        !self.ptr.is_null()
+    }
+
+    /// Ends the poster, and its share of the queue. The handle leads nowhere then.
+    pub fn close(&mut self, alloc: Global) -> Poster
+        requires { (side : PosterSide) × (self.old.live ≡ side ∷ []) }
+        ensures ends { (side : PosterSide) → self.old.live ≡ side ∷ [] → result ≡ side.poster }
+        ensures empty { self.new.live ≡ [] }
+    {
+        let handle = mem::replace(self, NrPoster::empty(alloc));
+        let side = Box::into_inner(handle.into_box());
         side.poster
+    }
+
+    fn empty(alloc: Global) -> NrPoster
+        ensures { result.live ≡ [] }
+    {
+        NrPoster {
+            ptr: ptr::null_mut(),
+            alloc,
+        }
     }
 
     fn into_box(self) -> Box<PosterSide, Global>

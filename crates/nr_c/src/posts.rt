@@ -1,11 +1,9 @@
 //! Requests on their way to the dataflow.
-ghost use Rattle.std.specs.Prelude.{◌≡◌, ⊤, [], ◌∷◌};
-ghost use Rattle.nr_c.specs.declared.poster_side.PosterSide.{PosterSide as PosterHeld};
-ghost use Rattle.nr_c.specs.declared.taker_side.TakerSide.{TakerSide as TakerHeld};
-ghost use Rattle.nr_c.specs.Live.{WithKey};
+ghost use Rattle.std.specs.Prelude.{◌≡◌, ⊤};
+ghost use Rattle.nr_c.specs.Live.{WhenLive, WithKey};
 ghost use Rattle.nr_c.specs.Posting.{PosterCalls, PostsByCode, TakerCalls, TakesByCode, poster_keys};
 
-use crate::codes::{NR_DONE, NR_NO_KEY, NR_NOT_POSTED, NR_NOT_TAKEN};
+use crate::codes::{NR_CLOSED, NR_DONE, NR_NO_KEY, NR_NOT_POSTED, NR_NOT_TAKEN};
 use crate::poster_handle::NrPoster;
 use crate::taker_handle::NrTaker;
 use nr_trigger::Upquery;
@@ -15,9 +13,11 @@ use nr_trigger::Upquery;
 /// `NR_NO_KEY`, with no attempt, where the queue has no such key.
 #[unsafe(no_mangle)]
 pub extern "C" fn nr_post(poster: &mut NrPoster, key: u32, number: u64) -> u32
-    requires live { (held : PosterHeld) × (poster.old.live ≡ held ∷ []) }
-    ensures { WithKey poster_keys key result ⊤ (PosterCalls (PostsByCode key number result)) poster.old.live poster.new.live }
+    ensures { WhenLive result ⊤ (WithKey poster_keys key result ⊤ (PosterCalls (PostsByCode key number result))) poster.old.live poster.new.live }
 {
+    if !poster.is_live() {
+        return NR_CLOSED;
+    }
     let side = poster.side();
     if key >= side.keys {
         return NR_NO_KEY;
@@ -36,9 +36,11 @@ pub extern "C" fn nr_post(poster: &mut NrPoster, key: u32, number: u64) -> u32
 /// and then nothing has changed.
 #[unsafe(no_mangle)]
 pub extern "C" fn nr_take(taker: &mut NrTaker, key: &mut u32, number: &mut u64) -> u32
-    requires live { (held : TakerHeld) × (taker.old.live ≡ held ∷ []) }
-    ensures { TakerCalls (TakesByCode key.old number.old key.new number.new result) taker.old.live taker.new.live }
+    ensures { WhenLive result ((key.new ≡ key.old) × (number.new ≡ number.old)) (TakerCalls (TakesByCode key.old number.old key.new number.new result)) taker.old.live taker.new.live }
 {
+    if !taker.is_live() {
+        return NR_CLOSED;
+    }
     let side = taker.side();
     let Some(trigger) = side.queue.try_take(&mut side.taker) else {
         return NR_NOT_TAKEN;

@@ -1,13 +1,11 @@
 //! What opens a queue of requests and its handles, and what ends them.
-ghost use Rattle.std.specs.Prelude.{◌≡◌, ◌↔◌, ◌⊎◌, ℕ, [], ◌∷◌, Err, IfOk, IfErr};
+ghost use Rattle.std.specs.Prelude.{◌≡◌, ◌↔◌, ◌⊎◌, ℕ, [], Err, IfOk, IfErr};
 ghost use Rattle.nr_model.specs.Sizes.{IsBadSize};
 ghost use Rattle.nr_trigger.specs.declared.triggers.TheConstants.{MAX_CAPACITY, MAX_POSTERS};
-ghost use Rattle.nr_c.specs.declared.poster_side.PosterSide.{PosterSide as PosterHeld};
-ghost use Rattle.nr_c.specs.declared.taker_side.TakerSide.{TakerSide as TakerHeld};
-ghost use Rattle.nr_c.specs.Numbers.{answer_bad_size};
+ghost use Rattle.nr_c.specs.Live.{WhenEmpty, WhenOther};
 ghost use Rattle.nr_c.specs.Queues.{IsNewQueue, OpensQueue, TakesPoster};
 
-use crate::codes::{NR_BAD_SIZE, NR_DONE, NR_NO_MEMORY, NR_NO_POSTER};
+use crate::codes::{NR_BAD_SIZE, NR_CLOSED, NR_DONE, NR_LIVE, NR_NO_MEMORY, NR_NO_POSTER};
 use crate::poster_handle::NrPoster;
 use crate::poster_side::PosterSide;
 use crate::taker_handle::NrTaker;
@@ -18,8 +16,8 @@ use std::alloc::Global;
 use std::sync::Arc;
 
 /// Opens a queue for requests of keys below a number, and makes the taker's handle live. Answers
-/// `NR_DONE`; `NR_BAD_SIZE` where a size is out of its limits, a capacity of 1 to 65,536 requests
-/// and 1 to 1,024 posters; or `NR_NO_MEMORY`. The handle stays empty where it isn't done.
+/// `NR_DONE`; `NR_LIVE` where the handle is live already; `NR_BAD_SIZE` where a size is out of its limits, a capacity of 1 to 65,536 requests
+/// and 1 to 1,024 posters; or `NR_NO_MEMORY`. The handle stays as it was where it isn't done.
 #[unsafe(no_mangle)]
 pub extern "C" fn nr_open_queue(
     alloc: Global,
@@ -28,10 +26,11 @@ pub extern "C" fn nr_open_queue(
     posters: u32,
     taker: &mut NrTaker,
 ) -> u32
-    requires empty { taker.old.live ≡ [] }
-    ensures bad_size { (result ≡ answer_bad_size) ↔ (IsBadSize MAX_CAPACITY capacity ⊎ IsBadSize MAX_POSTERS posters) }
-    ensures opens { OpensQueue capacity posters keys result taker.new.live }
+    ensures { WhenEmpty result (OpensQueue capacity posters keys result) taker.old.live taker.new.live }
 {
+    if taker.is_live() {
+        return NR_LIVE;
+    }
     match opened_queue(alloc, keys, capacity, posters) {
         Ok(side) => {
             taker.lead_to(side);
@@ -65,15 +64,19 @@ fn opened_queue(
     Ok(Box::new(alloc, side).map_err(|_| OpenFault::Memory)?)
 }
 
-/// Makes the handle of one more poster live. Answers `NR_DONE`; `NR_NO_POSTER` where each poster
-/// has a handle; or `NR_NO_MEMORY`. The handle stays empty where it isn't done, and the taker's
-/// stays as it is.
+/// Makes the handle of one more poster live. Answers `NR_DONE`; `NR_CLOSED` where the taker's isn't
+/// live; `NR_LIVE` where the poster's is already; `NR_NO_POSTER` where each poster has a handle; or
+/// `NR_NO_MEMORY`. The poster's handle stays as it was where it isn't done.
 #[unsafe(no_mangle)]
 pub extern "C" fn nr_open_poster(alloc: Global, taker: &mut NrTaker, poster: &mut NrPoster) -> u32
-    requires live { (held : TakerHeld) × (taker.old.live ≡ held ∷ []) }
-    requires empty { poster.old.live ≡ [] }
-    ensures { TakesPoster result taker.old.live taker.new.live poster.new.live }
+    ensures { WhenOther result (TakesPoster result) taker.old.live poster.old.live taker.new.live poster.new.live }
 {
+    if !taker.is_live() {
+        return NR_CLOSED;
+    }
+    if poster.is_live() {
+        return NR_LIVE;
+    }
     let side = taker.side();
     let Some(next) = side.spare.pop() else {
         return NR_NO_POSTER;
@@ -124,18 +127,23 @@ fn posting(
     }
 }
 
-/// Ends a poster, which no handle gets again.
+/// Ends a poster, which no handle gets again. Nothing happens where the handle isn't live.
 #[unsafe(no_mangle)]
-pub extern "C" fn nr_close_poster(poster: NrPoster)
-    requires live { (held : PosterHeld) × (poster.live ≡ held ∷ []) }
+pub extern "C" fn nr_close_poster(alloc: Global, poster: &mut NrPoster)
+    ensures { poster.new.live ≡ [] }
 {
-    drop(poster.close());
+    if poster.is_live() {
+        drop(poster.close(alloc));
+    }
 }
 
-/// Ends the taker. The memory of the queue goes with the last handle.
+/// Ends the taker. The memory of the queue goes with the last handle. Nothing happens where the handle
+/// isn't live.
 #[unsafe(no_mangle)]
-pub extern "C" fn nr_close_taker(taker: NrTaker)
-    requires live { (held : TakerHeld) × (taker.live ≡ held ∷ []) }
+pub extern "C" fn nr_close_taker(alloc: Global, taker: &mut NrTaker)
+    ensures { taker.new.live ≡ [] }
 {
-    drop(taker.close());
+    if taker.is_live() {
+        drop(taker.close(alloc));
+    }
 }

@@ -1,6 +1,7 @@
 //! A reader's handle: a box of a reader's side, or none, whose type names no other type, so that C
 //! may hold it.
-ghost use Rattle.std.specs.Prelude.{◌≡◌, List, [], ◌∷◌};
+ghost use Rattle.std.specs.Prelude.{◌≡◌, List, [], ◌∷◌, IfSome};
+ghost use Rattle.std.specs.Bool.{OnFalse, OnTrue};
 ghost use base.Stored.{coded_list};
 ghost use Rattle.nr_c.specs.declared.reader_side.ReaderSide.{ReaderSide};
 ghost use Rattle.nr_c.specs.Hands.{EndsHand};
@@ -12,9 +13,10 @@ use nr_map::Reader;
 use std::alloc::Global;
 use std::marker::Model;
 use std::mem::{self, ManuallyDrop};
+use std::ptr;
 
-/// C starts one as zeros, which leads nowhere, and never copies one that leads somewhere. It can't be
-/// dropped: its owner ends what it leads to.
+/// C starts one as zeros, which leads nowhere, as does one that was closed; it never copies one that
+/// leads somewhere. It can't be dropped: its owner ends what it leads to.
 #[repr(C)]
 pub struct NrReader {
     pub(crate) ptr: *mut u8,
@@ -40,12 +42,34 @@ impl NrReader {
         let _ = unsafe { ManuallyDrop::new_unchecked(empty) };
     }
 
-    /// Ends the reader: what it holds is released, and its share of the map ends.
-    pub fn close(self) -> Option<Reader>
-        requires { (side : ReaderSide) × (self.live ≡ side ∷ []) }
-        ensures { (side : ReaderSide) → self.live ≡ side ∷ [] → EndsHand side.hand result }
+    /// Whether it leads somewhere.
+    pub fn is_live(&mut self) -> bool
+        ensures same { self.new ≡ self.old }
+        ensures live { OnTrue result ((side : ReaderSide) × (self.new.live ≡ side ∷ [])) }
+        ensures empty { OnFalse result (self.new.live ≡ []) }
     {
-        Box::into_inner(self.into_box()).end()
+        !self.ptr.is_null()
+    }
+
+    /// Ends the reader: what it holds is released, and its share of the map ends. The handle leads nowhere
+    /// then.
+    pub fn close(&mut self, alloc: Global) -> Option<Reader>
+        requires { (side : ReaderSide) × (self.old.live ≡ side ∷ []) }
+        ensures ends { (side : ReaderSide) → self.old.live ≡ side ∷ [] → EndsHand side.hand result }
+        ensures own { (side : ReaderSide) → self.old.live ≡ side ∷ [] → IfSome result (λ reader. reader.table ≡ side.map.value) }
+        ensures empty { self.new.live ≡ [] }
+    {
+        let handle = mem::replace(self, NrReader::empty(alloc));
+        Box::into_inner(handle.into_box()).end()
+    }
+
+    fn empty(alloc: Global) -> NrReader
+        ensures { result.live ≡ [] }
+    {
+        NrReader {
+            ptr: ptr::null_mut(),
+            alloc,
+        }
     }
 
     fn into_box(self) -> Box<ReaderSide, Global>

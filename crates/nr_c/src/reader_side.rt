@@ -1,5 +1,5 @@
 //! What a reader's handle leads to.
-ghost use Rattle.std.specs.Prelude.{◌≡◌, ◌<◌, ◌≤◌, IsSome, Some};
+ghost use Rattle.std.specs.Prelude.{◌≡◌, ◌<◌, ◌≤◌, IfSome, IsSome, Some};
 ghost use Rattle.std.specs.Bool.{OnFalse, OnTrue};
 ghost use Rattle.nr_c.specs.Hands.{EndsHand, HoldsNone, HoldsSome, InHand, table_of};
 ghost use Rattle.nr_board.specs.Callers.{Caller};
@@ -40,7 +40,8 @@ impl Drop for ReaderSide {
 // The reader that is left, which holds nothing.
 fn idle_again(map: &ReaderMap, hand: Hand) -> Option<Reader>
     requires own { table_of hand map.now ≡ map.now }
-    ensures { EndsHand hand result }
+    ensures ends { EndsHand hand result }
+    ensures own { IfSome result (λ reader. reader.table ≡ map.now) }
 {
     match hand {
         Hand::Idle(reader) => Some(reader),
@@ -160,7 +161,8 @@ impl ReaderSide {
 
     /// The reader, which holds nothing any more. Its share of the map ends.
     pub fn end(mut self) -> Option<Reader>
-        ensures { EndsHand self.hand result }
+        ensures ends { EndsHand self.hand result }
+        ensures own { IfSome result (λ reader. reader.table ≡ self.map.value) }
     {
         let hand = mem::replace(&mut self.hand, Hand::Taken);
         idle_again(&self.map, hand)

@@ -4,10 +4,10 @@ ghost use Rattle.nr_board.specs.Callers.{Caller};
 ghost use Rattle.nr_c.specs.declared.hand.Hand.TheVariants as hands;
 ghost use Rattle.nr_map.specs.Answers.{AsksKey, FindsIn, acts_of};
 ghost use Rattle.nr_c.specs.Hands.{table_of};
-ghost use Rattle.nr_c.specs.Live.{AsksByCode, FindsByCode, MayRead, ReaderCalls, WhenIdle, WithKey, reader_keys};
+ghost use Rattle.nr_c.specs.Live.{AsksByCode, FindsByCode, MayRead, ReaderCalls, WhenIdle, WhenLive, WithKey, reader_keys};
 ghost use Rattle.nr_c.specs.RowCells.{ShowsSet};
 
-use crate::codes::{NR_FILLED, NR_HOLDING, NR_NO_KEY, NR_SEND, NR_WAITING, of_found};
+use crate::codes::{NR_CLOSED, NR_FILLED, NR_HOLDING, NR_NO_KEY, NR_SEND, NR_WAITING, of_found};
 use crate::hand::Hand;
 use crate::reader_handle::NrReader;
 use crate::rows::NrRows;
@@ -18,9 +18,12 @@ use nr_map::{Asked, Found, ReaderMap};
 /// `NR_HOLE`; or `NR_NO_KEY`, or `NR_HOLDING` where the reader holds a set, with no step.
 #[unsafe(no_mangle)]
 pub extern "C" fn nr_find(reader: &mut NrReader, key: u32, rows: &mut NrRows) -> u32
-    requires live { MayRead reader.old.live }
-    ensures { WithKey reader_keys key result (rows.new ≡ rows.old) (WhenIdle result (rows.new ≡ rows.old) (ReaderCalls (FindsByCode key rows.old rows.new result))) reader.old.live reader.new.live }
+    requires rests { MayRead reader.old.live }
+    ensures { WhenLive result (rows.new ≡ rows.old) (WithKey reader_keys key result (rows.new ≡ rows.old) (WhenIdle result (rows.new ≡ rows.old) (ReaderCalls (FindsByCode key rows.old rows.new result)))) reader.old.live reader.new.live }
 {
+    if !reader.is_live() {
+        return NR_CLOSED;
+    }
     let side = reader.side();
     if !side.has_key(key) {
         return NR_NO_KEY;
@@ -50,9 +53,12 @@ fn find_idle(map: &ReaderMap, hand: &mut Hand, key: u32, rows: &mut NrRows) -> F
 /// or `NR_HOLDING` where the reader holds a set, with no step.
 #[unsafe(no_mangle)]
 pub extern "C" fn nr_ask(reader: &mut NrReader, key: u32, number: &mut u64) -> u32
-    requires live { MayRead reader.old.live }
-    ensures { WithKey reader_keys key result (number.new ≡ number.old) (WhenIdle result (number.new ≡ number.old) (ReaderCalls (AsksByCode key number.old number.new result))) reader.old.live reader.new.live }
+    requires rests { MayRead reader.old.live }
+    ensures { WhenLive result (number.new ≡ number.old) (WithKey reader_keys key result (number.new ≡ number.old) (WhenIdle result (number.new ≡ number.old) (ReaderCalls (AsksByCode key number.old number.new result)))) reader.old.live reader.new.live }
 {
+    if !reader.is_live() {
+        return NR_CLOSED;
+    }
     let side = reader.side();
     if !side.has_key(key) {
         return NR_NO_KEY;

@@ -1,6 +1,7 @@
 //! The taker's handle: a box of the taker's side, or none, whose type names no other type, so that C
 //! may hold it.
 ghost use Rattle.std.specs.Prelude.{◌≡◌, List, [], ◌∷◌};
+ghost use Rattle.std.specs.Bool.{OnFalse, OnTrue};
 ghost use base.Stored.{coded_list};
 ghost use Rattle.nr_c.specs.declared.taker_side.TakerSide.{TakerSide};
 ghost use Rattle.nr_c.specs.TakerHandles.{taker_side_coded, taker_handle_owns};
@@ -11,9 +12,10 @@ use nr_trigger::Taker;
 use std::alloc::Global;
 use std::marker::Model;
 use std::mem::{self, ManuallyDrop};
+use std::ptr;
 
-/// C starts one as zeros, which leads nowhere, and never copies one that leads somewhere. It can't be
-/// dropped: its owner ends what it leads to.
+/// C starts one as zeros, which leads nowhere, as does one that was closed; it never copies one that
+/// leads somewhere. It can't be dropped: its owner ends what it leads to.
 #[repr(C)]
 pub struct NrTaker {
     pub(crate) ptr: *mut u8,
@@ -39,13 +41,33 @@ impl NrTaker {
         let _ = unsafe { ManuallyDrop::new_unchecked(empty) };
     }
 
-    /// Ends the taker, and its share of the queue.
-    pub fn close(self) -> Taker
-        requires { (side : TakerSide) × (self.live ≡ side ∷ []) }
-        ensures { (side : TakerSide) → self.live ≡ side ∷ [] → result ≡ side.taker }
+    /// Whether it leads somewhere.
+    pub fn is_live(&mut self) -> bool
+        ensures same { self.new ≡ self.old }
+        ensures live { OnTrue result ((side : TakerSide) × (self.new.live ≡ side ∷ [])) }
+        ensures empty { OnFalse result (self.new.live ≡ []) }
     {
-        let side = Box::into_inner(self.into_box());
+        !self.ptr.is_null()
+    }
+
+    /// Ends the taker, and its share of the queue. The handle leads nowhere then.
+    pub fn close(&mut self, alloc: Global) -> Taker
+        requires { (side : TakerSide) × (self.old.live ≡ side ∷ []) }
+        ensures ends { (side : TakerSide) → self.old.live ≡ side ∷ [] → result ≡ side.taker }
+        ensures empty { self.new.live ≡ [] }
+    {
+        let handle = mem::replace(self, NrTaker::empty(alloc));
+        let side = Box::into_inner(handle.into_box());
         side.taker
+    }
+
+    fn empty(alloc: Global) -> NrTaker
+        ensures { result.live ≡ [] }
+    {
+        NrTaker {
+            ptr: ptr::null_mut(),
+            alloc,
+        }
     }
 
     fn into_box(self) -> Box<TakerSide, Global>

@@ -1,6 +1,7 @@
 //! The writer's handle: a box of the writer's side, or none, whose type names no other type, so that C
 //! may hold it.
 ghost use Rattle.std.specs.Prelude.{◌≡◌, List, [], ◌∷◌};
+ghost use Rattle.std.specs.Bool.{OnFalse, OnTrue};
 ghost use base.Stored.{coded_list};
 ghost use Rattle.nr_c.specs.declared.writer_side.WriterSide.{WriterSide};
 ghost use Rattle.nr_c.specs.WriterHandles.{writer_side_coded, writer_handle_owns};
@@ -11,9 +12,10 @@ use nr_map::Writer;
 use std::alloc::Global;
 use std::marker::Model;
 use std::mem::{self, ManuallyDrop};
+use std::ptr;
 
-/// C starts one as zeros, which leads nowhere, and never copies one that leads somewhere. It can't be
-/// dropped: its owner ends what it leads to.
+/// C starts one as zeros, which leads nowhere, as does one that was closed; it never copies one that
+/// leads somewhere. It can't be dropped: its owner ends what it leads to.
 #[repr(C)]
 pub struct NrWriter {
     pub(crate) ptr: *mut u8,
@@ -39,13 +41,33 @@ impl NrWriter {
         let _ = unsafe { ManuallyDrop::new_unchecked(empty) };
     }
 
-    /// Ends the writer, and its share of the map.
-    pub fn close(self) -> Writer
-        requires { (side : WriterSide) × (self.live ≡ side ∷ []) }
-        ensures { (side : WriterSide) → self.live ≡ side ∷ [] → result ≡ side.writer }
+    /// Whether it leads somewhere.
+    pub fn is_live(&mut self) -> bool
+        ensures same { self.new ≡ self.old }
+        ensures live { OnTrue result ((side : WriterSide) × (self.new.live ≡ side ∷ [])) }
+        ensures empty { OnFalse result (self.new.live ≡ []) }
     {
-        let side = Box::into_inner(self.into_box());
+        !self.ptr.is_null()
+    }
+
+    /// Ends the writer, and its share of the map. The handle leads nowhere then.
+    pub fn close(&mut self, alloc: Global) -> Writer
+        requires { (side : WriterSide) × (self.old.live ≡ side ∷ []) }
+        ensures ends { (side : WriterSide) → self.old.live ≡ side ∷ [] → result ≡ side.writer }
+        ensures empty { self.new.live ≡ [] }
+    {
+        let handle = mem::replace(self, NrWriter::empty(alloc));
+        let side = Box::into_inner(handle.into_box());
         side.writer
+    }
+
+    fn empty(alloc: Global) -> NrWriter
+        ensures { result.live ≡ [] }
+    {
+        NrWriter {
+            ptr: ptr::null_mut(),
+            alloc,
+        }
     }
 
     fn into_box(self) -> Box<WriterSide, Global>

@@ -1,11 +1,11 @@
 //! What the writer calls.
 ghost use Rattle.std.specs.Prelude.{◌≡◌, ⊤};
-ghost use Rattle.nr_c.specs.Live.{MayWrite, WithKey, WriterCalls, writer_keys};
+ghost use Rattle.nr_c.specs.Live.{WhenLive, WithKey, WriterCalls, writer_keys};
 ghost use Rattle.nr_c.specs.Writes.{CancelsByCode, EvictsByCode, FillsByCode, IsNumber, LooksByCode, StatesByCode, UpdatesByCode};
 
 use crate::codes::{
-    NR_BAD_BATCH, NR_DONE, NR_NO_KEY, NR_NOT_SORTED, NR_TOO_MANY, of_cancel, of_evict, of_fill,
-    of_found, of_kind, of_update,
+    NR_BAD_BATCH, NR_CLOSED, NR_DONE, NR_NO_KEY, NR_NOT_SORTED, NR_TOO_MANY, of_cancel, of_evict,
+    of_fill, of_found, of_kind, of_update,
 };
 use crate::rows::{NrRows, are_batch, ascends};
 use crate::writer_handle::NrWriter;
@@ -16,9 +16,11 @@ use nr_model::{Delta, Row};
 /// step.
 #[unsafe(no_mangle)]
 pub extern "C" fn nr_look(writer: &mut NrWriter, key: u32, rows: &mut NrRows) -> u32
-    requires live { MayWrite writer.old.live }
-    ensures { WithKey writer_keys key result (rows.new ≡ rows.old) (WriterCalls (LooksByCode key rows.old rows.new result)) writer.old.live writer.new.live }
+    ensures { WhenLive result (rows.new ≡ rows.old) (WithKey writer_keys key result (rows.new ≡ rows.old) (WriterCalls (LooksByCode key rows.old rows.new result))) writer.old.live writer.new.live }
 {
+    if !writer.is_live() {
+        return NR_CLOSED;
+    }
     let side = writer.side();
     if !side.has_key(key) {
         return NR_NO_KEY;
@@ -33,9 +35,11 @@ pub extern "C" fn nr_look(writer: &mut NrWriter, key: u32, rows: &mut NrRows) ->
 /// `NR_ALL_FILLED`.
 #[unsafe(no_mangle)]
 pub extern "C" fn nr_fill(writer: &mut NrWriter, key: u32, number: u64, rows: &[Row]) -> u32
-    requires live { MayWrite writer.old.live }
-    ensures { WithKey writer_keys key result ⊤ (WriterCalls (FillsByCode key number rows.now result)) writer.old.live writer.new.live }
+    ensures { WhenLive result ⊤ (WithKey writer_keys key result ⊤ (WriterCalls (FillsByCode key number rows.now result))) writer.old.live writer.new.live }
 {
+    if !writer.is_live() {
+        return NR_CLOSED;
+    }
     let side = writer.side();
     if !side.has_key(key) {
         return NR_NO_KEY;
@@ -55,9 +59,11 @@ pub extern "C" fn nr_fill(writer: &mut NrWriter, key: u32, number: u64, rows: &[
 /// else `NR_ALL_FILLED`.
 #[unsafe(no_mangle)]
 pub extern "C" fn nr_update(writer: &mut NrWriter, key: u32, deltas: &[Delta]) -> u32
-    requires live { MayWrite writer.old.live }
-    ensures { WithKey writer_keys key result ⊤ (WriterCalls (UpdatesByCode key deltas.now result)) writer.old.live writer.new.live }
+    ensures { WhenLive result ⊤ (WithKey writer_keys key result ⊤ (WriterCalls (UpdatesByCode key deltas.now result))) writer.old.live writer.new.live }
 {
+    if !writer.is_live() {
+        return NR_CLOSED;
+    }
     let side = writer.side();
     if !side.has_key(key) {
         return NR_NO_KEY;
@@ -72,9 +78,11 @@ pub extern "C" fn nr_update(writer: &mut NrWriter, key: u32, deltas: &[Delta]) -
 /// `NR_NOTHING`; or `NR_NO_KEY` with no step.
 #[unsafe(no_mangle)]
 pub extern "C" fn nr_evict(writer: &mut NrWriter, key: u32) -> u32
-    requires live { MayWrite writer.old.live }
-    ensures { WithKey writer_keys key result ⊤ (WriterCalls (EvictsByCode key result)) writer.old.live writer.new.live }
+    ensures { WhenLive result ⊤ (WithKey writer_keys key result ⊤ (WriterCalls (EvictsByCode key result))) writer.old.live writer.new.live }
 {
+    if !writer.is_live() {
+        return NR_CLOSED;
+    }
     let side = writer.side();
     if !side.has_key(key) {
         return NR_NO_KEY;
@@ -86,9 +94,11 @@ pub extern "C" fn nr_evict(writer: &mut NrWriter, key: u32) -> u32
 /// `NR_CANCELLED`, `NR_NOTHING` or `NR_WORN`; or `NR_NO_KEY` with no step.
 #[unsafe(no_mangle)]
 pub extern "C" fn nr_cancel(writer: &mut NrWriter, key: u32) -> u32
-    requires live { MayWrite writer.old.live }
-    ensures { WithKey writer_keys key result ⊤ (WriterCalls (CancelsByCode key result)) writer.old.live writer.new.live }
+    ensures { WhenLive result ⊤ (WithKey writer_keys key result ⊤ (WriterCalls (CancelsByCode key result))) writer.old.live writer.new.live }
 {
+    if !writer.is_live() {
+        return NR_CLOSED;
+    }
     let side = writer.side();
     if !side.has_key(key) {
         return NR_NO_KEY;
@@ -99,9 +109,11 @@ pub extern "C" fn nr_cancel(writer: &mut NrWriter, key: u32) -> u32
 /// What a key is, in 1 step: `NR_HOLE`, `NR_ASKED` or `NR_ROWS`; or `NR_NO_KEY` with no step.
 #[unsafe(no_mangle)]
 pub extern "C" fn nr_state(writer: &mut NrWriter, key: u32) -> u32
-    requires live { MayWrite writer.old.live }
-    ensures { WithKey writer_keys key result ⊤ (WriterCalls (StatesByCode key result)) writer.old.live writer.new.live }
+    ensures { WhenLive result ⊤ (WithKey writer_keys key result ⊤ (WriterCalls (StatesByCode key result))) writer.old.live writer.new.live }
 {
+    if !writer.is_live() {
+        return NR_CLOSED;
+    }
     let side = writer.side();
     if !side.has_key(key) {
         return NR_NO_KEY;
@@ -113,9 +125,11 @@ pub extern "C" fn nr_state(writer: &mut NrWriter, key: u32) -> u32
 /// number. Answers `NR_DONE` or `NR_NO_KEY`. No step.
 #[unsafe(no_mangle)]
 pub extern "C" fn nr_number(writer: &mut NrWriter, key: u32, number: &mut u64) -> u32
-    requires live { MayWrite writer.old.live }
-    ensures { WithKey writer_keys key result (number.new ≡ number.old) (WriterCalls (IsNumber key number.new result)) writer.old.live writer.new.live }
+    ensures { WhenLive result (number.new ≡ number.old) (WithKey writer_keys key result (number.new ≡ number.old) (WriterCalls (IsNumber key number.new result))) writer.old.live writer.new.live }
 {
+    if !writer.is_live() {
+        return NR_CLOSED;
+    }
     let side = writer.side();
     if !side.has_key(key) {
         return NR_NO_KEY;

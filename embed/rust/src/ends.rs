@@ -36,8 +36,8 @@ impl In {
 
 impl Drop for In {
     fn drop(&mut self) {
-        // SAFETY: the handle is live, and is not used again.
-        unsafe { ffi::nr_close_poster(self.0.last()) }
+        // SAFETY: the handle is this poster's.
+        unsafe { ffi::nr_close_poster(&mut self.0) }
     }
 }
 
@@ -60,7 +60,7 @@ impl Out {
 
 impl Drop for Out {
     fn drop(&mut self) {
-        // SAFETY: the handle is live, and is not used again.
-        unsafe { ffi::nr_close_taker(self.0.last()) }
+        // SAFETY: the handle is this taker's.
+        unsafe { ffi::nr_close_taker(&mut self.0) }
     }
 }

@@ -13,11 +13,6 @@ impl Handle {
     pub const fn empty() -> Handle {
         Handle(std::ptr::null_mut())
     }
-
-    /// The same place, to close it: the handle isn't used any more.
-    pub fn last(&mut self) -> Handle {
-        Handle(self.0)
-    }
 }
 
 pub const NR_ROWS: u32 = 0;
@@ -44,8 +39,8 @@ pub const NR_ALL_FILLED: u32 = 30;
 extern "C" {
     pub fn nr_open(shape: *const Shape, writer: *mut Handle) -> u32;
     pub fn nr_open_reader(writer: *mut Handle, reader: *mut Handle) -> u32;
-    pub fn nr_close_reader(reader: Handle);
-    pub fn nr_close_writer(writer: Handle);
+    pub fn nr_close_reader(reader: *mut Handle);
+    pub fn nr_close_writer(writer: *mut Handle);
     pub fn nr_find(reader: *mut Handle, key: u32, rows: *mut Rows) -> u32;
     pub fn nr_ask(reader: *mut Handle, key: u32, number: *mut u64) -> u32;
     pub fn nr_pin(reader: *mut Handle, key: u32, count: *mut u32) -> u32;
@@ -61,15 +56,15 @@ extern "C" {
     pub fn nr_cancel(writer: *mut Handle, key: u32) -> u32;
     pub fn nr_state(writer: *mut Handle, key: u32) -> u32;
     pub fn nr_number(writer: *mut Handle, key: u32, number: *mut u64) -> u32;
-    pub fn nr_sizes(reader: *mut Handle, sizes: *mut Sizes);
+    pub fn nr_sizes(reader: *mut Handle, sizes: *mut Sizes) -> u32;
     pub fn nr_meet(reader: *mut Handle, writer: *mut Handle) -> u32;
     pub fn nr_meet_readers(reader: *mut Handle, other: *mut Handle) -> u32;
     pub fn nr_gather(writer: *mut Handle, reader: *mut Handle) -> u32;
     pub fn nr_gather_pin(writer: *mut Handle, reader: *mut Handle) -> u32;
     pub fn nr_open_queue(keys: u32, capacity: u32, posters: u32, taker: *mut Handle) -> u32;
     pub fn nr_open_poster(taker: *mut Handle, poster: *mut Handle) -> u32;
-    pub fn nr_close_poster(poster: Handle);
-    pub fn nr_close_taker(taker: Handle);
+    pub fn nr_close_poster(poster: *mut Handle);
+    pub fn nr_close_taker(taker: *mut Handle);
     pub fn nr_post(poster: *mut Handle, key: u32, number: u64) -> u32;
     pub fn nr_take(taker: *mut Handle, key: *mut u32, number: *mut u64) -> u32;
 }

@@ -112,8 +112,8 @@ impl Reader {
 
 impl Drop for Reader {
     fn drop(&mut self) {
-        // SAFETY: the handle is live, and is not used again. What it holds is released by this.
-        unsafe { ffi::nr_close_reader(self.handle.last()) }
+        // SAFETY: the handle is this reader's. What it holds is released by this.
+        unsafe { ffi::nr_close_reader(&mut self.handle) }
     }
 }
 

@@ -123,7 +123,7 @@ impl Writer {
 
 impl Drop for Writer {
     fn drop(&mut self) {
-        // SAFETY: the handle is live, and is not used again.
-        unsafe { ffi::nr_close_writer(self.handle.last()) }
+        // SAFETY: the handle is this writer's.
+        unsafe { ffi::nr_close_writer(&mut self.handle) }
     }
 }

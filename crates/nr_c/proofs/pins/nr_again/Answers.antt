@@ -3,37 +3,37 @@ use Rattle.nr_c.specs.Numbers.{answer_other, answer_rows}
 use Rattle.nr_c.proofs.pins.nr_again.Goals as goal
 
 pub returns-then-not-has_key : goal.returns-then-not-has_key
-returns-then-not-has_key c = inl (record { code_is = refl; stay = tt; held = c.side-side.result.now; was = c.side-side.ensures.value; is = refl; above = c.if-not-has_key.ensures.hasnt })
+returns-then-not-has_key c = inr (inl (record { code_is = refl; stay = tt; held = c.side-side.result.now; was = ap (λ handle. handle.live) (sym c.is_live.ensures.same) ∙ c.side-side.ensures.value; is = refl; above = c.if-not-has_key.ensures.hasnt }))
 
 pub returns-then-not-holds : goal.returns-then-not-holds
-returns-then-not-holds c = inr (record { held = c.side-side.result.now; was = c.side-side.ensures.value; below = c.if-not-has_key.ensures.has }, inl (record { code_is = refl; stay = tt; held = c.side-side.result.now; was = c.side-side.ensures.value; is = refl; hand = c.if-not-holds.ensures.none }))
+returns-then-not-holds c = inr (inr (record { held = c.side-side.result.now; was = ap (λ handle. handle.live) (sym c.is_live.ensures.same) ∙ c.side-side.ensures.value; below = c.if-not-has_key.ensures.has }, inl (record { code_is = refl; stay = tt; held = c.side-side.result.now; was = ap (λ handle. handle.live) (sym c.is_live.ensures.same) ∙ c.side-side.ensures.value; is = refl; hand = c.if-not-holds.ensures.none })))
 
 pub returns-then-found : goal.returns-then-found
-returns-then-found c = inr (
-  record { held = c.side-side.result.now; was = c.side-side.ensures.value; below = c.if-not-has_key.ensures.has },
+returns-then-found c = inr (inr (
+  record { held = c.side-side.result.now; was = ap (λ handle. handle.live) (sym c.is_live.ensures.same) ∙ c.side-side.ensures.value; below = c.if-not-has_key.ensures.has },
   inr ((
     c.again-found.result,
     ap (λ (b : Bool). cond {A = ℕ} b answer_rows answer_other) (sym c.if-found.true),
     c.take_pin-pin.result,
     c.again-found.new.self,
-    record { old = c.side-side.result.now; new = _; led = c.side-side.ensures.value; leads = refl; map = c.put.ensures.map ∙ c.take_pin-pin.ensures.map; old_hand = c.take_pin-pin.ensures.pin; new_hand = c.put.ensures.hand },
+    record { old = c.side-side.result.now; new = _; led = ap (λ handle. handle.live) (sym c.is_live.ensures.same) ∙ c.side-side.ensures.value; leads = refl; map = c.put.ensures.map ∙ c.take_pin-pin.ensures.map; old_hand = c.take_pin-pin.ensures.pin; new_hand = c.put.ensures.hand },
     c.again-found.ensures.finds,
     c.again-found.ensures.exact,
     c.again-found.ensures.rows,
   )),
-)
+))
 
 pub returns-else-found : goal.returns-else-found
-returns-else-found c = inr (
-  record { held = c.side-side.result.now; was = c.side-side.ensures.value; below = c.if-not-has_key.ensures.has },
+returns-else-found c = inr (inr (
+  record { held = c.side-side.result.now; was = ap (λ handle. handle.live) (sym c.is_live.ensures.same) ∙ c.side-side.ensures.value; below = c.if-not-has_key.ensures.has },
   inr ((
     c.again-found.result,
     ap (λ (b : Bool). cond {A = ℕ} b answer_rows answer_other) (sym c.if-found.false),
     c.take_pin-pin.result,
     c.again-found.new.self,
-    record { old = c.side-side.result.now; new = _; led = c.side-side.ensures.value; leads = refl; map = c.put.ensures.map ∙ c.take_pin-pin.ensures.map; old_hand = c.take_pin-pin.ensures.pin; new_hand = c.put.ensures.hand },
+    record { old = c.side-side.result.now; new = _; led = ap (λ handle. handle.live) (sym c.is_live.ensures.same) ∙ c.side-side.ensures.value; leads = refl; map = c.put.ensures.map ∙ c.take_pin-pin.ensures.map; old_hand = c.take_pin-pin.ensures.pin; new_hand = c.put.ensures.hand },
     c.again-found.ensures.finds,
     c.again-found.ensures.exact,
     c.again-found.ensures.rows,
   )),
-)
+))

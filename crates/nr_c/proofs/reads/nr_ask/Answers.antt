@@ -1,42 +1,42 @@
-use Rattle.std.proofs.Common.{refl, inl, inr}
+use Rattle.std.proofs.Common.{refl, inl, inr, ap, sym, ◌∙◌}
 use Rattle.nr_map.specs.declared.answers.Asked.TheVariants as asked
 use Rattle.nr_c.proofs.reads.nr_ask.Goals as goal
 
 pub returns-then-not-has_key : goal.returns-then-not-has_key
-returns-then-not-has_key c = inl (record { code_is = refl; stay = refl; held = c.side-side.result.now; was = c.side-side.ensures.value; is = refl; above = c.if-not-has_key.ensures.hasnt })
+returns-then-not-has_key c = inr (inl (record { code_is = refl; stay = refl; held = c.side-side.result.now; was = ap (λ handle. handle.live) (sym c.is_live.ensures.same) ∙ c.side-side.ensures.value; is = refl; above = c.if-not-has_key.ensures.hasnt }))
 
 pub returns-then-holds : goal.returns-then-holds
-returns-then-holds c = inr (record { held = c.side-side.result.now; was = c.side-side.ensures.value; below = c.if-not-has_key.ensures.has }, inl (record { code_is = refl; stay = refl; held = c.side-side.result.now; was = c.side-side.ensures.value; is = refl; hand = c.if-holds.ensures.some }))
+returns-then-holds c = inr (inr (record { held = c.side-side.result.now; was = ap (λ handle. handle.live) (sym c.is_live.ensures.same) ∙ c.side-side.ensures.value; below = c.if-not-has_key.ensures.has }, inl (record { code_is = refl; stay = refl; held = c.side-side.result.now; was = ap (λ handle. handle.live) (sym c.is_live.ensures.same) ∙ c.side-side.ensures.value; is = refl; hand = c.if-holds.ensures.some })))
 
 pub returns-in-Send : goal.returns-in-Send
-returns-in-Send c = let (old, new, was, is, asks, idle, marks) = c.in-Send.ensures.asks in inr (
-  record { held = c.side-side.result.now; was = c.side-side.ensures.value; below = c.if-not-has_key.ensures.has },
+returns-in-Send c = inr (let (old, new, was, is, asks, idle, marks) = c.in-Send.ensures.asks in inr (
+  record { held = c.side-side.result.now; was = ap (λ handle. handle.live) (sym c.is_live.ensures.same) ∙ c.side-side.ensures.value; below = c.if-not-has_key.ensures.has },
   inr ((
     old,
     new,
-    record { old = c.side-side.result.now; new = _; led = c.side-side.ensures.value; leads = refl; map = refl; old_hand = was; new_hand = is },
+    record { old = c.side-side.result.now; new = _; led = ap (λ handle. handle.live) (sym c.is_live.ensures.same) ∙ c.side-side.ensures.value; leads = refl; map = refl; old_hand = was; new_hand = is },
     (asked.Send _, refl, asks, c.number.ensures, idle, marks),
   )),
-)
+))
 
 pub returns-in-Waiting : goal.returns-in-Waiting
-returns-in-Waiting c = let (old, new, was, is, asks, idle, marks) = c.in-Waiting.ensures.asks in inr (
-  record { held = c.side-side.result.now; was = c.side-side.ensures.value; below = c.if-not-has_key.ensures.has },
+returns-in-Waiting c = inr (let (old, new, was, is, asks, idle, marks) = c.in-Waiting.ensures.asks in inr (
+  record { held = c.side-side.result.now; was = ap (λ handle. handle.live) (sym c.is_live.ensures.same) ∙ c.side-side.ensures.value; below = c.if-not-has_key.ensures.has },
   inr ((
     old,
     new,
-    record { old = c.side-side.result.now; new = _; led = c.side-side.ensures.value; leads = refl; map = refl; old_hand = was; new_hand = is },
+    record { old = c.side-side.result.now; new = _; led = ap (λ handle. handle.live) (sym c.is_live.ensures.same) ∙ c.side-side.ensures.value; leads = refl; map = refl; old_hand = was; new_hand = is },
     (asked.Waiting, refl, asks, refl, idle, marks),
   )),
-)
+))
 
 pub returns-in-Filled : goal.returns-in-Filled
-returns-in-Filled c = let (old, new, was, is, asks, idle, marks) = c.in-Filled.ensures.asks in inr (
-  record { held = c.side-side.result.now; was = c.side-side.ensures.value; below = c.if-not-has_key.ensures.has },
+returns-in-Filled c = inr (let (old, new, was, is, asks, idle, marks) = c.in-Filled.ensures.asks in inr (
+  record { held = c.side-side.result.now; was = ap (λ handle. handle.live) (sym c.is_live.ensures.same) ∙ c.side-side.ensures.value; below = c.if-not-has_key.ensures.has },
   inr ((
     old,
     new,
-    record { old = c.side-side.result.now; new = _; led = c.side-side.ensures.value; leads = refl; map = refl; old_hand = was; new_hand = is },
+    record { old = c.side-side.result.now; new = _; led = ap (λ handle. handle.live) (sym c.is_live.ensures.same) ∙ c.side-side.ensures.value; leads = refl; map = refl; old_hand = was; new_hand = is },
     (asked.Filled, refl, asks, refl, idle, marks),
   )),
-)
+))

@@ -17,7 +17,8 @@ use Rattle.nr_c.specs.contracts.writer_handle.NrWriter.{the_row, the_type}
 
 quiet_live : (a : Global) (p : Ptr) (l : List T.the_row.Denot) → Keyless (writer_handle_owns a p l)
 quiet_live a p [] = tt
-quiet_live a p (t ∷ ts) = (lies T.the_row token p t, heap.frees.frees a (raw (lone T.the_row.mir)) p)
+quiet_live a p (t ∷ u ∷ ts) = tt
+quiet_live a p (t ∷ []) = (lies T.the_row token p t, heap.frees.frees a (raw (lone T.the_row.mir)) p)
 
 pub send : IsSend the_row
 send =

@@ -1,0 +1,158 @@
+/* The functions of nr.h, which answer NULL in place of a handle. What they call is proved, and takes no pointer that
+   is NULL: embed/build gives it the names that begin with proved_. */
+#include "../include/nr.h"
+
+uint32_t proved_nr_open(const nr_shape *shape, nr_writer *writer);
+uint32_t nr_open(const nr_shape *shape, nr_writer *writer) {
+  return writer ? proved_nr_open(shape, writer) : NR_CLOSED;
+}
+
+uint32_t proved_nr_open_reader(nr_writer *writer, nr_reader *reader);
+uint32_t nr_open_reader(nr_writer *writer, nr_reader *reader) {
+  return writer && reader ? proved_nr_open_reader(writer, reader) : NR_CLOSED;
+}
+
+uint32_t proved_nr_return_reader(nr_writer *writer, nr_reader *reader);
+uint32_t nr_return_reader(nr_writer *writer, nr_reader *reader) {
+  return writer && reader ? proved_nr_return_reader(writer, reader) : NR_CLOSED;
+}
+
+void proved_nr_close_reader(nr_reader *reader);
+void nr_close_reader(nr_reader *reader) {
+  if (reader) proved_nr_close_reader(reader);
+}
+
+void proved_nr_close_writer(nr_writer *writer);
+void nr_close_writer(nr_writer *writer) {
+  if (writer) proved_nr_close_writer(writer);
+}
+
+uint32_t proved_nr_find(nr_reader *reader, uint32_t key, nr_rows *rows);
+uint32_t nr_find(nr_reader *reader, uint32_t key, nr_rows *rows) {
+  return reader ? proved_nr_find(reader, key, rows) : NR_CLOSED;
+}
+
+uint32_t proved_nr_ask(nr_reader *reader, uint32_t key, uint64_t *number);
+uint32_t nr_ask(nr_reader *reader, uint32_t key, uint64_t *number) {
+  return reader ? proved_nr_ask(reader, key, number) : NR_CLOSED;
+}
+
+uint32_t proved_nr_pin(nr_reader *reader, uint32_t key, uint32_t *count);
+uint32_t nr_pin(nr_reader *reader, uint32_t key, uint32_t *count) {
+  return reader ? proved_nr_pin(reader, key, count) : NR_CLOSED;
+}
+
+uint32_t proved_nr_row_at(nr_reader *reader, uint32_t place, nr_row *row);
+uint32_t nr_row_at(nr_reader *reader, uint32_t place, nr_row *row) {
+  return reader ? proved_nr_row_at(reader, place, row) : NR_CLOSED;
+}
+
+uint32_t proved_nr_copy(nr_reader *reader, nr_rows *rows);
+uint32_t nr_copy(nr_reader *reader, nr_rows *rows) {
+  return reader ? proved_nr_copy(reader, rows) : NR_CLOSED;
+}
+
+uint32_t proved_nr_again(nr_reader *reader, uint32_t key);
+uint32_t nr_again(nr_reader *reader, uint32_t key) {
+  return reader ? proved_nr_again(reader, key) : NR_CLOSED;
+}
+
+uint32_t proved_nr_find_kept(nr_reader *reader, uint32_t key, nr_rows *rows);
+uint32_t nr_find_kept(nr_reader *reader, uint32_t key, nr_rows *rows) {
+  return reader ? proved_nr_find_kept(reader, key, rows) : NR_CLOSED;
+}
+
+uint32_t proved_nr_release(nr_reader *reader);
+uint32_t nr_release(nr_reader *reader) {
+  return reader ? proved_nr_release(reader) : NR_CLOSED;
+}
+
+uint32_t proved_nr_sizes(nr_reader *reader, nr_size *sizes);
+uint32_t nr_sizes(nr_reader *reader, nr_size *sizes) {
+  return reader ? proved_nr_sizes(reader, sizes) : NR_CLOSED;
+}
+
+uint32_t proved_nr_look(nr_writer *writer, uint32_t key, nr_rows *rows);
+uint32_t nr_look(nr_writer *writer, uint32_t key, nr_rows *rows) {
+  return writer ? proved_nr_look(writer, key, rows) : NR_CLOSED;
+}
+
+uint32_t proved_nr_fill(nr_writer *writer, uint32_t key, uint64_t number, const nr_row *rows, size_t n);
+uint32_t nr_fill(nr_writer *writer, uint32_t key, uint64_t number, const nr_row *rows, size_t n) {
+  return writer ? proved_nr_fill(writer, key, number, rows, n) : NR_CLOSED;
+}
+
+uint32_t proved_nr_update(nr_writer *writer, uint32_t key, const nr_delta *deltas, size_t n);
+uint32_t nr_update(nr_writer *writer, uint32_t key, const nr_delta *deltas, size_t n) {
+  return writer ? proved_nr_update(writer, key, deltas, n) : NR_CLOSED;
+}
+
+uint32_t proved_nr_evict(nr_writer *writer, uint32_t key);
+uint32_t nr_evict(nr_writer *writer, uint32_t key) {
+  return writer ? proved_nr_evict(writer, key) : NR_CLOSED;
+}
+
+uint32_t proved_nr_cancel(nr_writer *writer, uint32_t key);
+uint32_t nr_cancel(nr_writer *writer, uint32_t key) {
+  return writer ? proved_nr_cancel(writer, key) : NR_CLOSED;
+}
+
+uint32_t proved_nr_state(nr_writer *writer, uint32_t key);
+uint32_t nr_state(nr_writer *writer, uint32_t key) {
+  return writer ? proved_nr_state(writer, key) : NR_CLOSED;
+}
+
+uint32_t proved_nr_number(nr_writer *writer, uint32_t key, uint64_t *number);
+uint32_t nr_number(nr_writer *writer, uint32_t key, uint64_t *number) {
+  return writer ? proved_nr_number(writer, key, number) : NR_CLOSED;
+}
+
+uint32_t proved_nr_meet(nr_reader *reader, nr_writer *writer);
+uint32_t nr_meet(nr_reader *reader, nr_writer *writer) {
+  return reader && writer ? proved_nr_meet(reader, writer) : NR_CLOSED;
+}
+
+uint32_t proved_nr_meet_readers(nr_reader *reader, nr_reader *other);
+uint32_t nr_meet_readers(nr_reader *reader, nr_reader *other) {
+  return reader && other ? proved_nr_meet_readers(reader, other) : NR_CLOSED;
+}
+
+uint32_t proved_nr_gather(nr_writer *writer, nr_reader *reader);
+uint32_t nr_gather(nr_writer *writer, nr_reader *reader) {
+  return writer && reader ? proved_nr_gather(writer, reader) : NR_CLOSED;
+}
+
+uint32_t proved_nr_gather_pin(nr_writer *writer, nr_reader *reader);
+uint32_t nr_gather_pin(nr_writer *writer, nr_reader *reader) {
+  return writer && reader ? proved_nr_gather_pin(writer, reader) : NR_CLOSED;
+}
+
+uint32_t proved_nr_open_queue(uint32_t keys, uint32_t capacity, uint32_t posters, nr_taker *taker);
+uint32_t nr_open_queue(uint32_t keys, uint32_t capacity, uint32_t posters, nr_taker *taker) {
+  return taker ? proved_nr_open_queue(keys, capacity, posters, taker) : NR_CLOSED;
+}
+
+uint32_t proved_nr_open_poster(nr_taker *taker, nr_poster *poster);
+uint32_t nr_open_poster(nr_taker *taker, nr_poster *poster) {
+  return taker && poster ? proved_nr_open_poster(taker, poster) : NR_CLOSED;
+}
+
+void proved_nr_close_poster(nr_poster *poster);
+void nr_close_poster(nr_poster *poster) {
+  if (poster) proved_nr_close_poster(poster);
+}
+
+void proved_nr_close_taker(nr_taker *taker);
+void nr_close_taker(nr_taker *taker) {
+  if (taker) proved_nr_close_taker(taker);
+}
+
+uint32_t proved_nr_post(nr_poster *poster, uint32_t key, uint64_t number);
+uint32_t nr_post(nr_poster *poster, uint32_t key, uint64_t number) {
+  return poster ? proved_nr_post(poster, key, number) : NR_CLOSED;
+}
+
+uint32_t proved_nr_take(nr_taker *taker, uint32_t *key, uint64_t *number);
+uint32_t nr_take(nr_taker *taker, uint32_t *key, uint64_t *number) {
+  return taker ? proved_nr_take(taker, key, number) : NR_CLOSED;
+}
