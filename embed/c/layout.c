@@ -54,9 +54,13 @@ static void test_shape(void) {
   const nr_shape least = {1, 1, 1, 1, 0, 0};
   wants("the least sizes", NR_DONE, opens(least));
   nr_shape shape = least;
-  shape.keys = 2;
-  wants("more keys than slots", NR_BAD_SIZE, opens(shape));
-  shape.slots = 2;
+  shape.keys = 65536;
+  wants("the most keys of few slots", NR_DONE, opens(shape));
+  shape.keys = 65537;
+  wants("a key too many for a slot", NR_BAD_SIZE, opens(shape));
+  shape.slots = 65536;
+  wants("a slot too few", NR_BAD_SIZE, opens(shape));
+  shape.slots = 65537;
   wants("as many keys as slots", NR_DONE, opens(shape));
   shape = least;
   shape.slots = 4194303;

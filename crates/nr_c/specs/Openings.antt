@@ -1,5 +1,6 @@
 -- What opens a map and its handles.
 use Rattle.std.specs.Prelude.{ℕ, ◌≡◌, ◌↔◌, ◌⊎◌, List, [], ◌∷◌, ◌++◌, Some}
+use Rattle.nr_machine.specs.Sizes.{IsBadShape}
 use Rattle.nr_machine.specs.declared.shape.Shape.{Shape}
 use Rattle.nr_board.specs.Callers.{Caller}
 use Rattle.nr_map.specs.LargeShapes.{IsBadLargeShape}
@@ -18,9 +19,13 @@ IsNewWriter shape side = IsOpened shape side.map.value side.writer side.spare.it
 abbrev pub OpensMap : Shape → ℕ → List WriterSide → Type 0
 OpensMap shape code after = ((code ≡ answer_done) × (side : WriterSide) × (after ≡ side ∷ []) × IsNewWriter shape side) ⊎ (((code ≡ answer_bad_size) ⊎ (code ≡ answer_no_memory)) × (after ≡ []))
 
+-- the shape is out of a script's limits and of a large map's
+abbrev pub IsRefused : Shape → Type 0
+IsRefused shape = IsBadShape shape × IsBadLargeShape shape
+
 -- an opening by its code: sizes out of their limits are refused, and the handle leads to the side of a new map, or nowhere
 abbrev pub Opens : Shape → ℕ → List WriterSide → Type 0
-Opens shape code after = ((code ≡ answer_bad_size) ↔ IsBadLargeShape shape) × OpensMap shape code after
+Opens shape code after = ((code ≡ answer_bad_size) ↔ IsRefused shape) × OpensMap shape code after
 
 -- the writer's handle leads to one side, of the same map and with the same writer, and these readers have no handle
 pub record Keeps (before after : List WriterSide) (had has : List Caller) : Type 0 where

@@ -1,10 +1,10 @@
 //! What opens a map and its handles, and what ends them.
 ghost use Rattle.std.specs.Prelude.{◌≡◌, ◌↔◌, [], Err, IfOk, IfErr};
-ghost use Rattle.nr_map.specs.LargeShapes.{IsBadLargeShape};
+ghost use Rattle.nr_map.specs.Opened.{IsOpened};
 ghost use Rattle.nr_c.specs.declared.hand.Hand.TheVariants as hand;
 ghost use Rattle.nr_c.specs.Live.{MayRead, WhenBothLive, WhenEmpty, WhenLive, WhenOther};
 ghost use Rattle.nr_c.specs.Meets.{OneMap};
-ghost use Rattle.nr_c.specs.Openings.{IsNewWriter, Opens, ReturnsReader, TakesReader};
+ghost use Rattle.nr_c.specs.Openings.{IsNewWriter, IsRefused, Opens, ReturnsReader, TakesReader};
 ghost use Rattle.nr_c.specs.Sizes.{TellsSizes, shape_of_sizes};
 
 use crate::codes::{NR_BAD_SIZE, NR_CLOSED, NR_DONE, NR_LIVE, NR_NO_MEMORY, NR_NO_READER};
@@ -13,15 +13,16 @@ use crate::reader_side::ReaderSide;
 use crate::sizes::{NrShape, NrSizes};
 use crate::writer_handle::NrWriter;
 use crate::writer_side::WriterSide;
-use nr_map::{Reader, ReaderMap};
+use nr_core::Shape;
+use nr_map::{Reader, ReaderMap, Writer};
 use nr_model::OpenFault;
 use std::alloc::Global;
 use std::sync::Arc;
 
 /// Opens a map of that shape, and makes the writer's handle live. Answers `NR_DONE`; `NR_LIVE` where
-/// the handle is live already; `NR_BAD_SIZE` where a size is out of its limits, 1 to 4,194,303 slots,
-/// 1 to as many keys, 1 to 65,535 readers, a first number up to 4,194,303 and 1 to 255 rows a key; or
-/// `NR_NO_MEMORY`. The handle stays as it was where it isn't done.
+/// the handle is live already; `NR_BAD_SIZE` where a size is out of its limits, 1 to 65,536 keys, 1 to
+/// 131,072 slots and 1 to 1,024 readers, or 1 to 4,194,303 slots, 1 to as many keys and 1 to 65,535
+/// readers; with a first number up to 4,194,303 and 1 to 255 rows a key; or `NR_NO_MEMORY`. The handle stays as it was where it isn't done.
 #[unsafe(no_mangle)]
 pub extern "C" fn nr_open(alloc: Global, shape: &NrShape, writer: &mut NrWriter) -> u32
     ensures { WhenEmpty result (Opens (shape_of_sizes shape.now) result) writer.old.live writer.new.live }
@@ -39,12 +40,24 @@ pub extern "C" fn nr_open(alloc: Global, shape: &NrShape, writer: &mut NrWriter)
     }
 }
 
+// A map with fewer slots than keys, which is within the limits of scripts, or a larger one.
+fn opened_map(alloc: Global, shape: &Shape) -> Result<(ReaderMap, Writer, Vec<Reader>), OpenFault>
+    ensures bad_size { (result ≡ Err OpenFault.BadSize) ↔ IsRefused shape.now }
+    ensures ok { IfOk result (λ opened. IsOpened shape.now opened.0 opened.1 opened.2.items) }
+{
+    if shape.is_bad() {
+        ReaderMap::open_large(alloc, shape)
+    } else {
+        ReaderMap::open_with(alloc, shape)
+    }
+}
+
 // A map's writer's side.
 fn opened(alloc: Global, shape: &NrShape) -> Result<Box<WriterSide, Global>, OpenFault>
-    ensures bad_size { (result ≡ Err OpenFault.BadSize) ↔ IsBadLargeShape (shape_of_sizes shape.now) }
+    ensures bad_size { (result ≡ Err OpenFault.BadSize) ↔ IsRefused (shape_of_sizes shape.now) }
     ensures ok { IfOk result (λ side. IsNewWriter (shape_of_sizes shape.now) side.value) }
 {
-    let (map, writer, spare) = ReaderMap::open_large(alloc, &shape.shape())?;
+    let (map, writer, spare) = opened_map(alloc, &shape.shape())?;
     let map = Arc::new(alloc, map).map_err(|_| OpenFault::Memory)?;
     let side = WriterSide { map, writer, spare };
     Ok(Box::new(alloc, side).map_err(|_| OpenFault::Memory)?)

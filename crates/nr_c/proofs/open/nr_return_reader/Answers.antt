@@ -1,5 +1,4 @@
 use Rattle.std.proofs.Common.{◌≡◌, [], ◌∷◌, ◌++◌, ap, inl, inr, refl, subst, sym, ◌∙◌}
-use Rattle.nr_board.specs.Callers.{Caller}
 use Rattle.nr_c.proofs.Ending.{some-is-left}
 use Rattle.nr_c.specs.Hands.{EndsHand}
 use Rattle.nr_c.specs.Live.{MayRead}

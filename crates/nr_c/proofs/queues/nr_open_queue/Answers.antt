@@ -1,4 +1,4 @@
-use Rattle.std.proofs.Common.{◌≡◌, ℕ, MatchResult, nat_eq, ap, inl, inr, refl, subst, sym, ◌∙◌}
+use Rattle.std.proofs.Common.{ℕ, MatchResult, nat_eq, ap, inl, inr, refl, subst, sym, ◌∙◌}
 use Rattle.std.specs.Bool.{MatchBool, ⊤}
 use Rattle.nr_c.proofs.queues.nr_open_queue.Goals as goal
 
