@@ -28,6 +28,8 @@ pub enum Fault {
     BadSize,
     /// There is no memory.
     NoMemory,
+    /// Each reader of the map is open, or was dropped.
+    NoReader,
 }
 
 impl fmt::Display for Fault {
@@ -44,6 +46,7 @@ impl fmt::Display for Fault {
             Fault::NotSorted => "the rows are not in order",
             Fault::BadSize => "a size is out of its limits",
             Fault::NoMemory => "there is no memory",
+            Fault::NoReader => "each reader is open or was dropped",
         })
     }
 }
@@ -64,6 +67,7 @@ pub(crate) fn done(code: u32) -> Result<(), Fault> {
         ffi::NR_NOT_SORTED => Fault::NotSorted,
         ffi::NR_BAD_SIZE => Fault::BadSize,
         ffi::NR_NO_MEMORY => Fault::NoMemory,
+        ffi::NR_NO_READER => Fault::NoReader,
         _ => unreachable!("an answer of another call"),
     })
 }

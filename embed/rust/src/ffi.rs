@@ -34,11 +34,13 @@ pub const NR_BAD_BATCH: u32 = 18;
 pub const NR_NOT_SORTED: u32 = 19;
 pub const NR_BAD_SIZE: u32 = 20;
 pub const NR_NO_MEMORY: u32 = 21;
+pub const NR_NO_READER: u32 = 22;
 pub const NR_ALL_FILLED: u32 = 30;
 
 extern "C" {
     pub fn nr_open(shape: *const Shape, writer: *mut Handle) -> u32;
     pub fn nr_open_reader(writer: *mut Handle, reader: *mut Handle) -> u32;
+    pub fn nr_return_reader(writer: *mut Handle, reader: *mut Handle) -> u32;
     pub fn nr_close_reader(reader: *mut Handle);
     pub fn nr_close_writer(writer: *mut Handle);
     pub fn nr_find(reader: *mut Handle, key: u32, rows: *mut Rows) -> u32;

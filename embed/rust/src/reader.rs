@@ -3,7 +3,8 @@ use crate::ffi::{self, Handle};
 use crate::map::Map;
 use crate::{Asked, Row, Rows, Sizes, Ticket, Writer};
 
-/// A reader of a map. Each call that takes a key panics where the map has no such key.
+/// A reader of a map. Each call that takes a key panics where the map has no such key. One that is dropped is not opened
+/// again; [`Writer::return_reader`] gives it back.
 #[derive(Debug)]
 pub struct Reader {
     handle: Handle,

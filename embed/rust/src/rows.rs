@@ -63,15 +63,16 @@ impl Delta {
     }
 }
 
-/// What a map is opened with.
+/// What a map is opened with: up to 65,536 keys, 131,072 slots and 1,024 readers, or else up to 4,194,303 slots, as many
+/// keys and 65,535 readers.
 #[repr(C)]
 #[derive(Clone, Copy, Debug, PartialEq, Eq)]
 pub struct Shape {
-    /// 1 to 65,536.
+    /// At least 1.
     pub keys: u32,
-    /// 1 to 131,072. With one for each key, each reader and one more no fill or update finds no slot.
+    /// At least 1. With one for each key, each reader and one more no fill or update finds no slot.
     pub slots: u32,
-    /// 1 to 1,024.
+    /// At least 1.
     pub readers: u32,
     /// How many a key may have: 1 to 255.
     pub rows: u32,

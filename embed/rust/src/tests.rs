@@ -193,6 +193,34 @@ fn a_key_that_is_not_there_panics() {
 }
 
 #[test]
+fn a_reader_that_is_returned_is_opened_again() {
+    let ReaderMap { mut writer, mut readers } = ReaderMap::open(&Shape::new(1, 2, 2)).unwrap();
+    assert_eq!(writer.open_reader().err(), Some(Fault::NoReader));
+    writer.fill(asked(&mut readers[0], 0), &[ONE]).unwrap();
+    let mut rows = Rows::new();
+    let mut reader = readers.pop().expect("there are two");
+    for _ in 0..3 {
+        assert_eq!(reader.find_kept(0, &mut rows), Some(&[ONE][..]));
+        writer.return_reader(reader).expect("there is memory");
+        reader = writer.open_reader().expect("it was returned");
+    }
+    // What it held was released: an update needs the slot that isn't the key's, and so does the next.
+    for delta in [Delta::plus(ONE), Delta::minus(ONE)] {
+        assert_eq!(writer.update(0, &[delta]), Ok(Updated::Done));
+    }
+    drop(reader);
+    assert_eq!(writer.open_reader().err(), Some(Fault::NoReader));
+    assert_eq!(readers[0].find(0, &mut rows), Some(&[ONE][..]));
+}
+
+#[test]
+#[should_panic(expected = "the tokens are of two maps")]
+fn a_reader_is_returned_to_its_own_map() {
+    let [mut one, mut two] = two_maps();
+    let _ = one.writer.return_reader(two.readers.pop().expect("there is one"));
+}
+
+#[test]
 fn tokens_of_one_map_meet_and_gather() {
     let ReaderMap { mut writer, mut readers } = ReaderMap::open(&Shape::new(1, 4, 2)).unwrap();
     let sizes = Sizes { keys: 1, slots: 4, readers: 2, rows: 15 };

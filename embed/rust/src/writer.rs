@@ -15,11 +15,24 @@ pub struct Writer {
 unsafe impl Send for Writer {}
 
 impl Writer {
-    pub(crate) fn open_reader(&mut self) -> Result<Reader, Fault> {
+    /// Opens a reader that was returned. Refused with [`Fault::NoReader`] where there is none, or with
+    /// [`Fault::NoMemory`].
+    pub fn open_reader(&mut self) -> Result<Reader, Fault> {
         let mut handle = Handle::empty();
         // SAFETY: the writer's handle is live, and the other is not.
         done(unsafe { ffi::nr_open_reader(&mut self.handle, &mut handle) })?;
         Ok(Reader::of(handle, self.map))
+    }
+
+    /// Takes a reader back, so that [`Writer::open_reader`] opens it again: for threads that come and go. What it holds
+    /// is released. It comes back where there is no memory. Panics where it is of another map.
+    pub fn return_reader(&mut self, mut reader: Reader) -> Result<(), Reader> {
+        let handle = reader.for_writer(&self.map);
+        // SAFETY: both handles are of one map. Where this is done, the reader's is closed, as it may be once more.
+        match unsafe { ffi::nr_return_reader(&mut self.handle, handle) } {
+            ffi::NR_DONE => Ok(()),
+            _ => Err(reader),
+        }
     }
 
     /// The writer's own find.
