@@ -69,6 +69,7 @@ class Maker:
             (6, "ask %s %s" % (self.reader(), key)),
             (6, "fill %s%s" % (key, self.rows())),
             (8, "update %s%s" % (key, self.deltas())),
+            (5, "replace %s%s" % (key, self.rows())),
             (4, "evict %s" % key),
             (2, "look %s" % key),
             (5, "pin %s %s" % (self.reader(), key)),
@@ -92,6 +93,7 @@ class Maker:
             (1, "writer find %s" % self.key()),
             (6, "writer fill %s%s" % (self.key(), self.rows())),
             (8, "writer update %s%s" % (self.key(), self.deltas())),
+            (5, "writer replace %s%s" % (self.key(), self.rows())),
             (4, "writer evict %s" % self.key()),
             (0.2, self.opening("open")),
         ]

@@ -22,6 +22,7 @@ WRITER_SHAPES = {
     b"find": ("key",),
     b"fill": ("key", "rows"),
     b"update": ("key", "batch"),
+    b"replace": ("key", "rows"),
     b"evict": ("key",),
 }
 
@@ -196,6 +197,13 @@ class Machine:
             return "dropped"
         rows = yield from self.read_rows(slot_of(word))
         rows = applied(rows, batch, self.sizes.rows)
+        slot = yield from self.search()
+        self.retire((yield from self.publish(key, slot, rows)))
+        return "done"
+
+    def write_replace(self, key, rows):
+        if not self.word(key) & FILLED:
+            return "dropped"
         slot = yield from self.search()
         self.retire((yield from self.publish(key, slot, rows)))
         return "done"

@@ -9,6 +9,7 @@ SHAPES = {
     b"ask": ("reader", "key"),
     b"fill": ("key", "rows"),
     b"update": ("key", "batch"),
+    b"replace": ("key", "rows"),
     b"evict": ("key",),
     b"look": ("key",),
     b"pin": ("reader", "key"),
@@ -118,6 +119,12 @@ class Script:
         if key not in self.filled:
             return "dropped"
         self.put(key, applied(self.filled[key][0], batch, self.sizes.rows))
+        return "done"
+
+    def replace(self, key, rows):
+        if key not in self.filled:
+            return "dropped"
+        self.put(key, rows)
         return "done"
 
     def put(self, key, rows):

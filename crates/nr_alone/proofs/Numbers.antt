@@ -33,6 +33,7 @@ reading_cancels_none key (model.Find k) r is = refl
 reading_cancels_none key (model.Ask k) r is = refl
 reading_cancels_none key (model.Fill k n rows) r is = let never : false ≡ true = is in cc
 reading_cancels_none key (model.Update k batch) r is = let never : false ≡ true = is in cc
+reading_cancels_none key (model.Replace k rows) r is = let never : false ≡ true = is in cc
 reading_cancels_none key (model.Evict k) r is = let never : false ≡ true = is in cc
 reading_cancels_none key (model.Cancel k) r is = let never : false ≡ true = is in cc
 

@@ -38,7 +38,7 @@ impl Model for Alone {
 }
 
 impl Alone {
-    ghost use Rattle.nr_model.specs.Maps.{FillFits, key_count, number_of, state_of};
+    ghost use Rattle.nr_model.specs.Maps.{SetFits, key_count, number_of, state_of};
     ghost use Rattle.nr_model.specs.declared.calls.Call.TheVariants as model;
     ghost use Rattle.nr_alone.specs.MapState.{answer_again, answer_call, answer_of_reader, answer_pinning, answer_show, answer_unpin, opened_map};
 
@@ -94,7 +94,7 @@ impl Alone {
     /// A call of the writer's at one of the map's keys. The rows of a find are written into the set.
     pub fn call<'a>(&mut self, call: &WriterCall<'_>, rows: &'a mut RowSet) -> Answer<'a>
         requires key { writer_key call.now < key_count self.old.map }
-        requires fits { FillFits self.old.map.bound (model_call call.now) }
+        requires fits { SetFits self.old.map.bound (model_call call.now) }
         ensures { answer_call self.old (model_call call.now) ≡ (Ok result, self.new) }
     {
         laws();

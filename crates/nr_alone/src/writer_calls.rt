@@ -1,11 +1,11 @@
 //! The calls of the writer.
 ghost use Rattle.std.specs.Prelude.{◌≡◌, ◌<◌};
-ghost use Rattle.nr_model.specs.Maps.{FillFits};
+ghost use Rattle.nr_model.specs.Maps.{SetFits};
 ghost use Rattle.nr_alone.specs.WriterCalls.{model_call, writer_key};
 ghost use Rattle.nr_alone.specs.WriterMakes.{WriterMakes};
 
 use crate::answer::{Answer, Said};
-use nr_map::{Cancel, Evict, FillFault, Found, ReaderMap, UpdateFault, Writer};
+use nr_map::{Cancel, Evict, FillFault, Found, ReaderMap, ReplaceFault, UpdateFault, Writer};
 use nr_model::{Batch, RowSet};
 
 /// A call of the writer's, at a key. Its rows and its batch lie elsewhere.
@@ -17,6 +17,8 @@ pub enum WriterCall<'a> {
     Fill(u32, u64, &'a RowSet),
     /// Applies a batch to the key's rows.
     Update(u32, &'a Batch),
+    /// Puts the set whole in place of the key's rows.
+    Replace(u32, &'a RowSet),
     /// Makes the key missing again.
     Evict(u32),
     /// Takes the request of the key back.
@@ -32,7 +34,7 @@ pub(crate) fn call_writer<'a>(
 ) -> Answer<'a>
     requires own { writer.old.table ≡ map.now }
     requires key { writer_key call.now < map.now.shape.keys }
-    requires fits { FillFits map.now.shape.rows (model_call call.now) }
+    requires fits { SetFits map.now.shape.rows (model_call call.now) }
     ensures { WriterMakes (model_call call.now) writer.old writer.new result }
 {
     let said = match call {
@@ -53,6 +55,11 @@ pub(crate) fn call_writer<'a>(
             Err(UpdateFault::NoRow) => Said::NoRow,
             Err(UpdateFault::TooMany) => Said::TooMany,
             Err(UpdateFault::NoSlot(_)) => Said::NoSlot,
+        },
+        WriterCall::Replace(key, set) => match map.replace(writer, *key, set) {
+            Ok(()) => Said::Done,
+            Err(ReplaceFault::Dropped) => Said::Dropped,
+            Err(ReplaceFault::NoSlot(_)) => Said::NoSlot,
         },
         WriterCall::Evict(key) => match map.evict(writer, *key) {
             Evict::Evicted => Said::Evicted,

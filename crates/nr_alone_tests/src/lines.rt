@@ -17,6 +17,7 @@ enum Line {
     Fill(u64),
     FillAs(u64, u64),
     Update(u64, u64),
+    Replace(u64),
     Evict,
     Cancel,
     Look,
@@ -34,6 +35,7 @@ enum Said {
     Done,
     NotAsked,
     Stale,
+    Dropped,
     NoSlot,
     Evicted,
     Cancelled,
@@ -66,6 +68,7 @@ fn told(answer: Result<Answer<'_>, Refusal>) -> Said {
             Told::Done => Said::Done,
             Told::NotAsked => Said::NotAsked,
             Told::Stale => Said::Stale,
+            Told::Dropped => Said::Dropped,
             Told::Evicted => Said::Evicted,
             Told::Cancelled => Said::Cancelled,
             Told::Worn => Said::Worn,
@@ -87,6 +90,17 @@ fn filled(map: &mut Alone, key: u32, number: u64, a: u64) -> Said {
     }
     let mut found = RowSet::new();
     told(Ok(map.call(&WriterCall::Fill(key, number, &rows), &mut found)))
+}
+
+fn replaced(map: &mut Alone, key: u32, a: u64) -> Said {
+    let Ok(rows) = RowSet::of(&[row(a)]) else {
+        return Said::Other;
+    };
+    if key >= map.keys() || rows.len() > map.rows() as usize {
+        return Said::Other;
+    }
+    let mut found = RowSet::new();
+    told(Ok(map.call(&WriterCall::Replace(key, &rows), &mut found)))
 }
 
 fn updated(map: &mut Alone, key: u32, minus: u64, plus: u64) -> Said {
@@ -142,6 +156,7 @@ fn answer(map: &mut Alone, key: u32, line: Line) -> Said {
         }
         Line::FillAs(number, a) => filled(map, key, number, a),
         Line::Update(minus, plus) => updated(map, key, minus, plus),
+        Line::Replace(a) => replaced(map, key, a),
         Line::Evict => told(Ok(map.call(&WriterCall::Evict(key), &mut found))),
         Line::Cancel => told(Ok(map.call(&WriterCall::Cancel(key), &mut found))),
         Line::Look => told(Ok(map.call(&WriterCall::Find(key), &mut found))),
@@ -271,6 +286,30 @@ const AGAIN: Lines = &[
 #[test]
 fn a_pin_finds_its_key_again_until_it_is_put_anew(rt: HostRuntime) -> Result<(), Fail> {
     runs(&rt, &shape(2, 4, 2), AGAIN)
+}
+
+// A pinned set that was replaced takes a slot of its own.
+const REPLACED: Lines = &[
+    (0, Line::Replace(1), Said::Dropped),
+    (0, Line::Ask(0), Said::Send(0)),
+    (0, Line::Replace(1), Said::Dropped),
+    (0, Line::Fill(1), Said::Done),
+    (0, Line::Pin(0), Said::Ok),
+    (0, Line::Replace(2), Said::Done),
+    (0, Line::Again(0), Said::OtherSet),
+    (0, Line::Show(0), Said::Row(1)),
+    (0, Line::Look, Said::Row(2)),
+    (0, Line::Replace(3), Said::NoSlot),
+    (0, Line::Look, Said::Row(2)),
+    (0, Line::Unpin(0), Said::Ok),
+    (0, Line::Replace(3), Said::Done),
+    (0, Line::Find(0), Said::Row(3)),
+    (1, Line::Find(0), Said::Hole),
+];
+
+#[test]
+fn a_replaced_set_takes_a_slot_while_it_is_pinned(rt: HostRuntime) -> Result<(), Fail> {
+    runs(&rt, &shape(2, 2, 1), REPLACED)
 }
 
 const NUMBERS: Lines = &[

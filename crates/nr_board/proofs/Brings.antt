@@ -1,4 +1,4 @@
--- The fill that ends brings a row set of the map: each was given one, and so the set that a call wants at its key is the one that its fill brings.
+-- The call that ends brings a row set of the map: each was given one, and so the set that a call wants at its key is the one that it brings.
 use Rattle.std.proofs.Common.{◌≡◌, ℕ, ◌+◌, ◌*◌, ◌<◌, ◌==◌, Bool, true, false, if◌then◌else◌, List, length, inl, refl, sym, ap, subst}
 use Rattle.std.specs.Prelude.{None, Some, Option, slice_index}
 use Rattle.nr_model.specs.declared.rows.Row.{Row}
@@ -8,21 +8,21 @@ use Rattle.nr_model.specs.declared.calls.Reply.TheVariants as reply
 use Rattle.nr_model.specs.declared.states.KeyState.{KeyState}
 use Rattle.nr_model.specs.declared.states.KeyState.TheVariants as states
 use Rattle.nr_model.specs.Laws.{BringsRowSet}
-use Rattle.nr_model.specs.Maps.{PartialMap, call_key, number_of, reply_at, state_after, state_of}
+use Rattle.nr_model.specs.Maps.{PartialMap, call_key, number_of, replace_reply, replaced, reply_at, state_after, state_of}
 use Rattle.nr_model.specs.Rows.{IsRowSet}
 use Rattle.nr_words.specs.SetWords.{decode}
 use Rattle.nr_machine.specs.declared.calls.Step.{Step}
 use Rattle.nr_machine.specs.declared.calls.Step.TheVariants.{Ended, Going}
 use Rattle.nr_machine.specs.declared.calls.WReply.TheVariants as writer
 use Rattle.nr_machine.specs.declared.calls.WriterCall.{WriterCall}
-use Rattle.nr_machine.specs.declared.calls.WriterCall.TheVariants.{Find, Fill, Update, Evict, Cancel}
+use Rattle.nr_machine.specs.declared.calls.WriterCall.TheVariants.{Find, Fill, Update, Replace, Evict, Cancel}
 use Rattle.nr_machine.specs.declared.places.Place.TheVariants.{Reading}
 use Rattle.nr_machine.specs.declared.roles.Desk.{Desk}
 use Rattle.nr_machine.specs.declared.shape.Shape.{Shape}
 use Rattle.nr_machine.specs.Given.{IsGivenCall}
 use Rattle.nr_machine.specs.Slots.{bound_of}
 use Rattle.nr_machine.specs.Story.{call_of, ending}
-use Rattle.nr_machine.specs.Writer.{decoded, moved_to, read_on}
+use Rattle.nr_machine.specs.Writer.{decided, decoded, moved_to, read_on}
 use Rattle.nr_core.specs.Core.{Wants}
 use Rattle.nr_board.specs.Entries.{AreCallers}
 use Rattle.nr_board.specs.NamedRows.{rows_of_state}
@@ -37,6 +37,7 @@ pub given_brings : (bound : ℕ) (call : WriterCall) → IsGivenCall bound call 
 given_brings bound (Find key) given = tt
 given_brings bound (Fill key number rows) given = given
 given_brings bound (Update key batch) given = tt
+given_brings bound (Replace key rows) given = given
 given_brings bound (Evict key) given = tt
 given_brings bound (Cancel key) given = tt
 
@@ -50,26 +51,39 @@ fill_leaves bound key number new rows (states.Asked n) done leaves = of_test (n 
     of_test false is = absurd (cc)
 fill_leaves bound key number new rows (states.Rows n had) done leaves = absurd (cc)
 
+-- and so of a replacement
+replace_leaves : (new rows : List Row) (state : KeyState) → replace_reply state ≡ reply.Done → replaced new state ≡ states.Rows (number_of state) rows → new ≡ rows
+replace_leaves new rows (states.Hole n) done leaves = absurd (cc)
+replace_leaves new rows (states.Asked n) done leaves = absurd (cc)
+replace_leaves new rows (states.Rows n had) done leaves = ap rows_of_state leaves
+
 pub wants_brings : (shape : Shape) (words : List ℕ) (map : PartialMap) (hold : ℕ → ℕ) (call : WriterCall) (rows : List Row) → Wants shape words map hold call rows → BringsRowSet shape.rows (call_of call)
 wants_brings shape words map hold (Find key) rows wants = tt
 wants_brings shape words map hold (Fill key number new) rows wants =
     subst (IsRowSet shape.rows) (sym (fill_leaves (bound_of shape) key number new rows (state_of map key) wants.done wants.leaves)) wants.row_set
 wants_brings shape words map hold (Update key batch) rows wants = tt
+wants_brings shape words map hold (Replace key new) rows wants =
+    subst (IsRowSet shape.rows) (sym (replace_leaves new rows (state_of map key) wants.done wants.leaves)) wants.row_set
 wants_brings shape words map hold (Evict key) rows wants = tt
 wants_brings shape words map hold (Cancel key) rows wants = tt
 
--- only finds and updates read, and what a read of a fill would end is no entry
-pub reads_no_fill : (shape : Shape) (desk : Desk) (call : WriterCall) (slot : ℕ) (got : List ℕ) → call_key (call_of call) < shape.keys → AreCallers shape (ending (call_of call) (read_on shape desk call slot got).1)
-reads_no_fill shape desk (Find key) slot got near = writer_entries shape (model.Find key) (read_on shape desk (Find key) slot got).1 near tt
-reads_no_fill shape desk (Fill key number rows) slot got near = by_length (length got == 2 * slice_index got 0 + 1)
+-- a call that brings its set ends with no read
+quiet_read : (shape : Shape) (desk : Desk) (call : WriterCall) (slot : ℕ) (got : List ℕ) → ((found : List Row) → (decided shape desk call found).1 ≡ Going) → AreCallers shape (ending (call_of call) (read_on shape desk call slot got).1)
+quiet_read shape desk call slot got quiet = by_length (length got == 2 * slice_index got 0 + 1)
   where
-    by_set : (set : Option (List Row)) → AreCallers shape (ending (model.Fill key number rows) (decoded shape desk (Fill key number rows) set).1)
+    by_set : (set : Option (List Row)) → AreCallers shape (ending (call_of call) (decoded shape desk call set).1)
     by_set None = tt
-    by_set (Some found) = tt
+    by_set (Some found) = subst (λ (step : Step). AreCallers shape (ending (call_of call) step)) (sym (quiet found)) tt
 
-    by_length : (whole : Bool) → AreCallers shape (ending (model.Fill key number rows) (if whole then decoded shape desk (Fill key number rows) (decode got) else (moved_to desk (Reading (Fill key number rows) slot got), Going)).1)
+    by_length : (whole : Bool) → AreCallers shape (ending (call_of call) (if whole then decoded shape desk call (decode got) else (moved_to desk (Reading call slot got), Going)).1)
     by_length true = by_set (decode got)
     by_length false = tt
+
+-- only finds and updates read
+pub reads_no_fill : (shape : Shape) (desk : Desk) (call : WriterCall) (slot : ℕ) (got : List ℕ) → call_key (call_of call) < shape.keys → AreCallers shape (ending (call_of call) (read_on shape desk call slot got).1)
+reads_no_fill shape desk (Find key) slot got near = writer_entries shape (model.Find key) (read_on shape desk (Find key) slot got).1 near tt
+reads_no_fill shape desk (Fill key number rows) slot got near = quiet_read shape desk (Fill key number rows) slot got (λ found. refl)
+reads_no_fill shape desk (Replace key rows) slot got near = quiet_read shape desk (Replace key rows) slot got (λ found. refl)
 reads_no_fill shape desk (Update key batch) slot got near = writer_entries shape (model.Update key batch) (read_on shape desk (Update key batch) slot got).1 near tt
 reads_no_fill shape desk (Evict key) slot got near = writer_entries shape (model.Evict key) (read_on shape desk (Evict key) slot got).1 near tt
 reads_no_fill shape desk (Cancel key) slot got near = writer_entries shape (model.Cancel key) (read_on shape desk (Cancel key) slot got).1 near tt

@@ -23,6 +23,7 @@ reading_leaves bound (model.Find key) number rows reads = refl
 reading_leaves bound (model.Ask key) number rows reads = refl
 reading_leaves bound (model.Fill key other new) number rows reads = absurd (cc)
 reading_leaves bound (model.Update key batch) number rows reads = absurd (cc)
+reading_leaves bound (model.Replace key new) number rows reads = absurd (cc)
 reading_leaves bound (model.Evict key) number rows reads = absurd (cc)
 reading_leaves bound (model.Cancel key) number rows reads = absurd (cc)
 

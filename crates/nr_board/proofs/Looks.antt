@@ -12,7 +12,7 @@ use Rattle.nr_machine.specs.Writer.{cancel_asked, ended, fill_asked, looked, mov
 use Rattle.nr_machine.specs.declared.calls.Step.{Step}
 use Rattle.nr_machine.specs.declared.calls.Step.TheVariants.{Going}
 use Rattle.nr_machine.specs.declared.calls.WriterCall.{WriterCall}
-use Rattle.nr_machine.specs.declared.calls.WriterCall.TheVariants.{Cancel, Evict, Fill, Find, Update}
+use Rattle.nr_machine.specs.declared.calls.WriterCall.TheVariants.{Cancel, Evict, Fill, Find, Replace, Update}
 use Rattle.nr_machine.specs.declared.places.Place.TheVariants.{Idle, Leaving, Reading, Withdrawing}
 use Rattle.nr_machine.specs.declared.roles.Desk.{Desk}
 use Rattle.nr_machine.specs.declared.roles.Role.TheVariants.{Writer}
@@ -116,6 +116,13 @@ module _ (shape : Shape) (desk : Desk) (key word : ℕ) where
 
     pub fill_settles : is_filled word ≡ false → has_ask word ≡ true → slot_of word ≡ number → looked shape desk (Fill key number rows) word ≡ settled shape desk (Fill key number rows) rows
     fill_settles empty asked own = fill_of_asked empty asked ∙ ap (λ (b : Bool). cond {A = Desk × Step} b (settled shape desk (Fill key number rows) rows) (moved_to desk Idle, ended reply.Stale)) (eq-eqb (slot_of word) number own)
+
+  module _ (rows : List Row) where
+    pub replace_dropped : is_filled word ≡ false → looked shape desk (Replace key rows) word ≡ (moved_to desk Idle, ended reply.Dropped)
+    replace_dropped empty = ap (λ (b : Bool). cond {A = Desk × Step} b (settled shape desk (Replace key rows) rows) (moved_to desk Idle, ended reply.Dropped)) empty
+
+    pub replace_settles : is_filled word ≡ true → looked shape desk (Replace key rows) word ≡ settled shape desk (Replace key rows) rows
+    replace_settles full = ap (λ (b : Bool). cond {A = Desk × Step} b (settled shape desk (Replace key rows) rows) (moved_to desk Idle, ended reply.Dropped)) full
 
   module _ (batch : List Delta) where
     pub update_dropped : is_filled word ≡ false → looked shape desk (Update key batch) word ≡ (moved_to desk Idle, ended reply.Dropped)

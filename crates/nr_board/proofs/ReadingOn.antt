@@ -28,7 +28,7 @@ use Rattle.nr_machine.specs.declared.calls.Step.{Step}
 use Rattle.nr_machine.specs.declared.calls.Step.TheVariants.{Ended, Going}
 use Rattle.nr_machine.specs.declared.calls.WReply.TheVariants as writer
 use Rattle.nr_machine.specs.declared.calls.WriterCall.{WriterCall}
-use Rattle.nr_machine.specs.declared.calls.WriterCall.TheVariants.{Cancel, Evict, Fill, Find, Update}
+use Rattle.nr_machine.specs.declared.calls.WriterCall.TheVariants.{Cancel, Evict, Fill, Find, Replace, Update}
 use Rattle.nr_machine.specs.declared.places.Place.TheVariants.{Idle, Reading, Searching}
 use Rattle.nr_machine.specs.declared.roles.Desk.{Desk}
 use Rattle.nr_machine.specs.declared.shape.Shape.{Shape}
@@ -65,6 +65,7 @@ module _ (shape : Shape) (desk : Desk) (number : ℕ) (rows : List Row) (log : L
   decided_leaves (Find key) near had = state_same shape log (entry 0 (model.Find key) (reply.Rows rows)) near ∙ had
   decided_leaves (Fill key given new) near had = quiet_leaves key [] refl had
   decided_leaves (Update key batch) near had = renewed_leaves key batch near had (applied (bound_of shape) rows batch) refl
+  decided_leaves (Replace key new) near had = quiet_leaves key [] refl had
   decided_leaves (Evict key) near had = quiet_leaves key [] refl had
   decided_leaves (Cancel key) near had = quiet_leaves key [] refl had
 

@@ -4,11 +4,11 @@ use Rattle.nr_model.specs.declared.batches.Delta.{Delta}
 use Rattle.nr_model.specs.declared.calls.Reply.TheVariants as reply
 use Rattle.nr_model.specs.declared.states.KeyState.{KeyState}
 use Rattle.nr_model.specs.declared.states.KeyState.TheVariants as states
-use Rattle.nr_model.specs.Maps.{PartialMap, cancel_reply, evict_reply, fill_reply, find_reply, last_number, reply_to, state_of, update_reply}
+use Rattle.nr_model.specs.Maps.{PartialMap, cancel_reply, evict_reply, fill_reply, find_reply, last_number, replace_reply, reply_to, state_of, update_reply}
 use Rattle.nr_words.specs.KeyWords.{arrivals_of, has_ask, is_filled, slot_of}
 use Rattle.nr_core.proofs.Choices.{by_cases}
 use Rattle.nr_machine.specs.declared.calls.WriterCall.{WriterCall}
-use Rattle.nr_machine.specs.declared.calls.WriterCall.TheVariants.{Cancel, Evict, Fill, Find, Update}
+use Rattle.nr_machine.specs.declared.calls.WriterCall.TheVariants.{Cancel, Evict, Fill, Find, Replace, Update}
 use Rattle.nr_machine.specs.declared.places.Retired.{Retired}
 use Rattle.nr_machine.specs.Slots.{name_number}
 use Rattle.nr_machine.specs.States.{key_of}
@@ -32,6 +32,11 @@ full_if_updated : (bound : ℕ) (batch : List Delta) (state : KeyState) → repl
 full_if_updated bound batch (states.Hole n) is = absurd (cc)
 full_if_updated bound batch (states.Asked n) is = absurd (cc)
 full_if_updated bound batch (states.Rows n rows) is = refl
+
+full_if_replaced : (state : KeyState) → reply.Done ≡ replace_reply state → kind_of state ≡ kind.Rows
+full_if_replaced (states.Hole n) is = absurd (cc)
+full_if_replaced (states.Asked n) is = absurd (cc)
+full_if_replaced (states.Rows n rows) is = refl
 
 full_if_evicted : (state : KeyState) → reply.Evicted ≡ evict_reply state → kind_of state ≡ kind.Rows
 full_if_evicted (states.Hole n) is = absurd (cc)
@@ -78,6 +83,7 @@ module _ (word : ℕ) (old : Caller) (before after : List Retired) (retires : af
     retires ∙ ap (λ (b : Bool). before ++ cond {A = List Retired} b (record { slot = slot_of word; arrivals = arrivals_of word } ∷ []) []) empty ∙ append-nil before,
   )
   retires_so map (Update key batch) done shows named = one_retired key named (shows ∙ full_if_updated map.bound batch (state_of map key) done)
+  retires_so map (Replace key rows) done shows named = one_retired key named (shows ∙ full_if_replaced (state_of map key) done)
   retires_so map (Evict key) done shows named = no_evict (state_of map key) _ done
   retires_so map (Cancel key) done shows named = no_cancel (state_of map key) _ done
 

@@ -148,7 +148,7 @@ pub has_set : {table : Table} {spare : Spare} {steps : ℕ} {call : WriterCall} 
 has_set {table = table} {spare = spare} {steps = steps} {call = call} {rows = rows} {before = before} {mid = mid} rests leads marks =
     let so = settles_so table spare before rests steps call rows mid leads (ap (λ (m : Marks). m.polls) marks) in record { rests = rests; settles = so.0; grows = so.1; marks = marks }
 
--- a fill has it at its look
+-- a fill and a replacement have it at their look
 pub look_settles : {table : Table} {spare : Spare} {call : WriterCall} {rows : List Row} {found : ℕ} {before after : MapSeat} → HasLooked table spare call found before after → looked table.shape (desk_with spare Idle) call found ≡ settled table.shape (desk_with spare Idle) call rows → HasSet table spare 1 call rows before after
 look_settles {table = table} {call = call} {before = before} {after = after} looks is = has_set looks.rests (subst (λ (o : Desk × Step). LeadsIn 1 table (call_of call) o before after) is looks.leads) looks.marks
 

@@ -76,7 +76,7 @@ pub record Grows (steps : ℕ) (old : Caller) (entries : List Entry) (new : Call
   pub legal : IsLegal (map_at_opening old.table) new.seen
   -- of the caller's calls the history has just those that it made, each once
   pub own : entries_of new.seen new.number ≡ new.mine
-  -- and of others' only finds and requests of the map's readers, and calls of its writer, whose fills bring row sets of the map
+  -- and of others' only finds and requests of the map's readers, and calls of its writer, which bring no sets but row sets of the map
   pub callers : AreCallers old.table.shape new.seen
   pub steps_made : new.steps ≡ old.steps + steps
   -- it learnt nothing of readers

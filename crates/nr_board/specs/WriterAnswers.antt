@@ -19,6 +19,8 @@ use Rattle.nr_board.specs.declared.answers.Evict.{Evict}
 use Rattle.nr_board.specs.declared.answers.Evict.TheVariants as evict
 use Rattle.nr_board.specs.declared.answers.FillFault.{FillFault}
 use Rattle.nr_board.specs.declared.answers.FillFault.TheVariants as fill
+use Rattle.nr_board.specs.declared.answers.ReplaceFault.{ReplaceFault}
+use Rattle.nr_board.specs.declared.answers.ReplaceFault.TheVariants as replace
 use Rattle.nr_board.specs.declared.answers.UpdateFault.{UpdateFault}
 use Rattle.nr_board.specs.declared.answers.UpdateFault.TheVariants as update
 use Rattle.nr_board.specs.declared.answers.Found.{Found}
@@ -43,12 +45,13 @@ pub record RetiresOne (key : ℕ) (old : Caller) (before after : List Retired) :
   pub named : slice_index old.marks.names key ≡ suc slot
   pub retires : after ≡ before ++ record { slot = slot; arrivals = arrivals } ∷ []
 
--- an update and an eviction retire the slot that their key named; a fill's key named none
+-- an update, a replacement and an eviction retire the slot that their key named; a fill's key named none
 abbrev pub Retires : Call → Caller → List Retired → List Retired → Type 0
 Retires (model.Find key) old before after = after ≡ before
 Retires (model.Ask key) old before after = after ≡ before
 Retires (model.Fill key number rows) old before after = (slice_index old.marks.names key ≡ 0) × (after ≡ before)
 Retires (model.Update key batch) old before after = RetiresOne key old before after
+Retires (model.Replace key rows) old before after = RetiresOne key old before after
 Retires (model.Evict key) old before after = RetiresOne key old before after
 Retires (model.Cancel key) old before after = after ≡ before
 
@@ -109,6 +112,12 @@ UpdatesKey bound key batch old new (Err update.Dropped) = Gains 1 old (model.Upd
 UpdatesKey bound key batch old new (Err update.NoRow) = (set : List Row) × (applied bound set batch ≡ Err fault.NoRow) × (gains : Gains (2 * length set + 2) old (model.Update key batch) reply.NoRow new) × KeyHad key set old gains.between × SlotsStay old new
 UpdatesKey bound key batch old new (Err update.TooMany) = (set : List Row) × (applied bound set batch ≡ Err fault.TooMany) × (gains : Gains (2 * length set + 2) old (model.Update key batch) reply.TooMany new) × KeyHad key set old gains.between × SlotsStay old new
 UpdatesKey bound key batch old new (Err (update.NoSlot counts)) = (set left : List Row) × (applied bound set batch ≡ Ok left) × (without : HasNoSlot (2 * length set + 2) old (model.Update key batch) counts new) × KeyHad key set old without.grows.between
+
+-- a replacement looks, and reads nothing of the set that the key had
+abbrev pub ReplacesKey : ℕ → List Row → Caller → Caller → Result (Unit {0}) ReplaceFault → Type 0
+ReplacesKey key rows old new (Ok done) = Publishes 1 old (model.Replace key rows) rows new
+ReplacesKey key rows old new (Err replace.Dropped) = Gains 1 old (model.Replace key rows) reply.Dropped new × SlotsStay old new
+ReplacesKey key rows old new (Err (replace.NoSlot counts)) = HasNoSlot 1 old (model.Replace key rows) counts new
 
 -- an eviction retires the key's slot
 abbrev pub EvictsKey : ℕ → Caller → Caller → Evict → Type 0

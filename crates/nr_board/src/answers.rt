@@ -41,6 +41,15 @@ pub enum UpdateFault {
     NoSlot(NoSlot),
 }
 
+/// Why a replacement is refused.
+#[derive(Clone, Copy, Debug, PartialEq, Eq, Error)]
+pub enum ReplaceFault {
+    #[error("the key is not filled")]
+    Dropped,
+    #[error("there is no slot")]
+    NoSlot(NoSlot),
+}
+
 /// The answer to an eviction.
 #[derive(Clone, Copy, Debug, PartialEq, Eq)]
 pub enum Evict {

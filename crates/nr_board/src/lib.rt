@@ -15,6 +15,6 @@ mod rule;
 mod view;
 mod writer_calls;
 
-pub use answers::{Cancel, Evict, FillFault, Found, KeyKind, UpdateFault};
+pub use answers::{Cancel, Evict, FillFault, Found, KeyKind, ReplaceFault, UpdateFault};
 pub use board::{Board, Note, Seat};
 pub use rule::Given;

@@ -6,7 +6,7 @@ ghost use Rattle.nr_machine.specs.declared.calls.WriterCall.TheVariants as write
 ghost use Rattle.nr_board.specs.Callers.{token};
 ghost use Rattle.nr_board.specs.WriterSeats.{RestsAt};
 
-use crate::answers::{Cancel, Evict, FillFault, Found, UpdateFault};
+use crate::answers::{Cancel, Evict, FillFault, Found, ReplaceFault, UpdateFault};
 use crate::board::{Board, Seat};
 use crate::only_proved::only_proved;
 use crate::rule::Given;
@@ -15,7 +15,7 @@ use nr_model::{ApplyFault, Delta, LAST_NUMBER, Pile, Row, RowRoom};
 use nr_words::parts;
 
 impl Board {
-    ghost use Rattle.nr_board.specs.WriterAnswers.{LooksIn, FillsKey, UpdatesKey, EvictsKey, CancelsKey};
+    ghost use Rattle.nr_board.specs.WriterAnswers.{LooksIn, FillsKey, UpdatesKey, ReplacesKey, EvictsKey, CancelsKey};
 
     pub fn look_up<G: Given, R: RowRoom>(
         &self,
@@ -100,6 +100,31 @@ impl Board {
         }
         if let Err(counts) = self.publish_set::<G>(seat, spare, key, pile.as_slice()) {
             return Err(UpdateFault::NoSlot(counts));
+        }
+        Ok(())
+    }
+
+    pub fn replace_key<G: Given>(
+        &self,
+        seat: &mut Seat,
+        spare: &mut Spare,
+        key: u32,
+        rows: &[Row],
+    ) -> Result<(), ReplaceFault>
+        requires call { G.call ≡ writer.Replace key rows.now }
+        requires row_set { IsRowSet self.now.shape.rows rows.now }
+        requires own { (token seat.old).table ≡ self.now }
+        requires rests { RestsAt (token seat.old).table spare.old seat.old }
+        requires key { key < self.now.shape.keys }
+        ensures rests { RestsAt (token seat.new).table spare.new seat.new }
+        ensures replaces { ReplacesKey key rows.now (token seat.old) (token seat.new) result }
+    {
+        let found = parts(self.look::<G>(seat, key));
+        if !found.filled {
+            return Err(ReplaceFault::Dropped);
+        }
+        if let Err(counts) = self.publish_set::<G>(seat, spare, key, rows) {
+            return Err(ReplaceFault::NoSlot(counts));
         }
         Ok(())
     }

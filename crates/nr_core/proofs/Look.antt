@@ -11,7 +11,7 @@ use Rattle.nr_model.specs.declared.rows.Row.{Row}
 use Rattle.nr_model.specs.declared.states.KeyState.{KeyState}
 use Rattle.nr_words.specs.KeyWords.{has_ask, slot_of}
 use Rattle.nr_core.proofs.Choices.{by_cases}
-use Rattle.nr_core.proofs.Frames.{asked_no_hole}
+use Rattle.nr_core.proofs.Frames.{asked_no_hole, not_hole}
 use Rattle.nr_core.proofs.KeyWords.{names_none, names_one}
 use Rattle.nr_core.proofs.Settle.{ends, goes_on, idle_desk, key_same, own_ending, settles}
 use Rattle.nr_core.specs.Core.{AtDesk, Core, ShowsState}
@@ -27,7 +27,7 @@ use Rattle.nr_machine.specs.Writer.{cancel_asked, ended, fill_asked, looked, mov
 use Rattle.nr_machine.specs.declared.calls.Step.{Step}
 use Rattle.nr_machine.specs.declared.calls.Step.TheVariants.{Going}
 use Rattle.nr_machine.specs.declared.calls.WriterCall.{WriterCall}
-use Rattle.nr_machine.specs.declared.calls.WriterCall.TheVariants.{Cancel, Evict, Fill, Find, Update}
+use Rattle.nr_machine.specs.declared.calls.WriterCall.TheVariants.{Cancel, Evict, Fill, Find, Replace, Update}
 use Rattle.nr_machine.specs.declared.places.Place.{Place}
 use Rattle.nr_machine.specs.declared.places.Place.TheVariants.{Idle, Leaving, Reading, Withdrawing}
 use Rattle.nr_machine.specs.declared.places.Retired.{Retired}
@@ -86,6 +86,22 @@ look_all shape words roles log core id desk there idle (Update k batch) given ne
       | key.Hole n ↦ λ is t. stops shape words roles log core id desk there k idle call reply.Dropped near (ap (λ b. cond b A B) (names_none w t.0)) (ap (reply_at (bound_of shape) (model.Update k batch)) is) (ap (state_after (bound_of shape) (model.Update k batch)) is ∙ sym is)
       | key.Asked n ↦ λ is t. stops shape words roles log core id desk there k idle call reply.Dropped near (ap (λ b. cond b A B) (names_none w t.0)) (ap (reply_at (bound_of shape) (model.Update k batch)) is) (ap (state_after (bound_of shape) (model.Update k batch)) is ∙ sym is)
       | key.Rows number rows ↦ λ is t. let n = names_one w t.0 t.1 in begins shape words roles log core id desk there k idle call (slot_of w) number rows near (t.1 ∙ ap suc (sym n.1)) is (ap (λ b. cond b A B) n.0)
+    ] in go (state_of map k) refl (core.shows k near)
+look_all shape words roles log core id desk there idle (Replace k rows) given near =
+    let map = map_after shape log in let w = get_or words k 0 in let call = Replace k rows in let c = model.Replace k rows in
+    let Goal : KeyState → Type 0 = λ z. state_of map k ≡ z → ShowsState shape words w z → Looked shape words roles log core id desk there k call in
+    let A : Desk × Step = settled shape desk call rows in let B : Desk × Step = (moved_to desk Idle, ended reply.Dropped) in
+    let go : (z : KeyState) → Goal z = λ z. elim z as Goal [
+      | key.Hole n ↦ λ is t. stops shape words roles log core id desk there k idle call reply.Dropped near (ap (λ b. cond b A B) (names_none w t.0)) (ap (reply_at (bound_of shape) c) is) (ap (state_after (bound_of shape) c) is ∙ sym is)
+      | key.Asked n ↦ λ is t. stops shape words roles log core id desk there k idle call reply.Dropped near (ap (λ b. cond b A B) (names_none w t.0)) (ap (reply_at (bound_of shape) c) is) (ap (state_after (bound_of shape) c) is ∙ sym is)
+      | key.Rows n old ↦ λ is t. let named = names_one w t.0 t.1 in outcome shape words roles log core id desk there k call A (ap (λ b. cond b A B) named.0)
+          (settles shape words roles log core id desk there k call rows (idle_keeps shape words roles log core id desk there k idle) (record {
+            near = near;
+            row_set = given;
+            no_hole = not_hole (state_of map k) n old is;
+            done = ap (reply_at (bound_of shape) c) is;
+            leaves = ap (state_after (bound_of shape) c) is ∙ ap (λ (m : ℕ). key.Rows m rows) (sym (ap number_of is));
+          }))
     ] in go (state_of map k) refl (core.shows k near)
 look_all shape words roles log core id desk there idle (Evict k) given near =
     let map = map_after shape log in let w = get_or words k 0 in let call = Evict k in

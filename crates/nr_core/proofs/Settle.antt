@@ -27,7 +27,7 @@ use Rattle.nr_machine.specs.Writer.{moved_to, no_slot, settled, taking_fresh}
 use Rattle.nr_machine.specs.declared.calls.Step.{Step}
 use Rattle.nr_machine.specs.declared.calls.Step.TheVariants.{Ended, Going}
 use Rattle.nr_machine.specs.declared.calls.WriterCall.{WriterCall}
-use Rattle.nr_machine.specs.declared.calls.WriterCall.TheVariants.{Cancel, Evict, Fill, Find, Update}
+use Rattle.nr_machine.specs.declared.calls.WriterCall.TheVariants.{Cancel, Evict, Fill, Find, Replace, Update}
 use Rattle.nr_machine.specs.declared.places.Place.TheVariants.{Idle, Searching}
 use Rattle.nr_machine.specs.declared.roles.Desk.{Desk}
 use Rattle.nr_machine.specs.declared.roles.Role.{Role}
@@ -47,6 +47,7 @@ pub key_same : (call : WriterCall) → call_key (call_of call) ≡ key_of call
 key_same (Find k) = refl
 key_same (Fill k number rows) = refl
 key_same (Update k batch) = refl
+key_same (Replace k rows) = refl
 key_same (Evict k) = refl
 key_same (Cancel k) = refl
 

@@ -40,7 +40,7 @@ use Rattle.nr_machine.specs.declared.operation.Operation.{Operation}
 use Rattle.nr_machine.specs.declared.calls.Step.{Step}
 use Rattle.nr_machine.specs.declared.calls.Step.TheVariants.{Going}
 use Rattle.nr_machine.specs.declared.calls.WriterCall.{WriterCall}
-use Rattle.nr_machine.specs.declared.calls.WriterCall.TheVariants.{Cancel, Evict, Fill, Find, Update}
+use Rattle.nr_machine.specs.declared.calls.WriterCall.TheVariants.{Cancel, Evict, Fill, Find, Replace, Update}
 use Rattle.nr_machine.specs.declared.places.Hold.{Hold}
 use Rattle.nr_machine.specs.declared.places.Place.{Place}
 use Rattle.nr_machine.specs.declared.places.Place.TheVariants.{Idle, Leaving, Putting, Reading, Searching, Withdrawing}
@@ -209,6 +209,7 @@ module _ (shape : Shape) (words : List ℕ) (hs : List Hold) (made : List Operat
   look_good : (desk : Desk) (call : WriterCall) (w : ℕ) → Good [] (looked shape desk call w)
   look_good desk (Find k) w = by_cases (λ v. Good [] (cond {A = Desk × Step} v (moved_to desk (Reading (Find k) (slot_of w) []), Going) (moved_to desk Idle, ended reply.Hole))) (is_filled w) (λ _. refl) (λ _. tt)
   look_good desk (Update k b) w = by_cases (λ v. Good [] (cond {A = Desk × Step} v (moved_to desk (Reading (Update k b) (slot_of w) []), Going) (moved_to desk Idle, ended reply.Dropped))) (is_filled w) (λ _. refl) (λ _. tt)
+  look_good desk (Replace k rows) w = by_cases (λ v. Good [] (cond {A = Desk × Step} v (settled shape desk (Replace k rows) rows) (moved_to desk Idle, ended reply.Dropped))) (is_filled w) (λ _. settle_good desk (Replace k rows) rows [] refl) (λ _. tt)
   look_good desk (Evict k) w = by_cases (λ v. Good [] (cond {A = Desk × Step} v (moved_to desk (Leaving k), Going) (moved_to desk Idle, ended reply.Nothing))) (is_filled w) (λ _. tt) (λ _. tt)
   look_good desk (Fill k number rows) w = let call = Fill k number rows in let F : Desk × Step = fill_asked shape desk call number rows (slot_of w) in
       by_cases (λ v. Good [] (cond {A = Desk × Step} v (moved_to desk Idle, ended reply.Already) (cond {A = Desk × Step} (has_ask w) F (moved_to desk Idle, ended reply.NotAsked)))) (is_filled w) (λ _. tt)
@@ -223,6 +224,7 @@ module _ (shape : Shape) (words : List ℕ) (hs : List Hold) (made : List Operat
   decided_good : (desk : Desk) (call : WriterCall) (rows : List Row) (polls : List Poll) → polls ≡ [] → Good polls (decided shape desk call rows)
   decided_good desk (Find k) rows polls none = tt
   decided_good desk (Fill k number new) rows polls none = tt
+  decided_good desk (Replace k new) rows polls none = tt
   decided_good desk (Evict k) rows polls none = tt
   decided_good desk (Cancel k) rows polls none = tt
   decided_good desk (Update k b) rows polls none = go (applied (bound_of shape) rows b)

@@ -3,14 +3,14 @@ use Rattle.std.proofs.Common.{List, [], ap, arith, cond, false, length, nat_eq, 
 use Rattle.std.proofs.lemmas.Bool.{eqb-true, ltb-false}
 use Rattle.std.specs.Prelude.{Err, Ok, Result, nat_lt}
 use Rattle.nr_model.specs.Batches.{applied}
-use Rattle.nr_model.specs.Maps.{applied_reply, cancel_reply, fill_reply, last_number, reply_at}
+use Rattle.nr_model.specs.Maps.{applied_reply, cancel_reply, fill_reply, last_number, replace_reply, reply_at}
 use Rattle.nr_model.specs.declared.batches.ApplyFault.{ApplyFault}
 use Rattle.nr_model.specs.declared.calls.Reply.{Reply}
 use Rattle.nr_model.specs.declared.rows.Row.{Row}
 use Rattle.nr_model.specs.declared.states.KeyState.{KeyState}
 use Rattle.nr_words.specs.KeyWords.{has_ask, is_filled, same_count, slot_of}
 use Rattle.nr_core.proofs.Choices.{by_cases}
-use Rattle.nr_core.proofs.KeyWords.{names_one}
+use Rattle.nr_core.proofs.KeyWords.{names_none, names_one}
 use Rattle.nr_core.specs.Core.{ShowsState}
 use Rattle.nr_machine.specs.Machine.{or_refusal}
 use Rattle.nr_machine.specs.Slots.{bound_of}
@@ -21,7 +21,7 @@ use Rattle.nr_machine.specs.declared.calls.NoSlot.{NoSlot}
 use Rattle.nr_machine.specs.declared.calls.Step.{Step}
 use Rattle.nr_machine.specs.declared.calls.Step.TheVariants.{Ended, Going}
 use Rattle.nr_machine.specs.declared.calls.WriterCall.{WriterCall}
-use Rattle.nr_machine.specs.declared.calls.WriterCall.TheVariants.{Cancel, Evict, Fill, Find, Update}
+use Rattle.nr_machine.specs.declared.calls.WriterCall.TheVariants.{Cancel, Evict, Fill, Find, Replace, Update}
 use Rattle.nr_machine.specs.declared.places.Place.TheVariants.{Idle, Leaving, Reading, Searching, Withdrawing}
 use Rattle.nr_machine.specs.declared.roles.Desk.{Desk}
 use Rattle.nr_machine.specs.declared.shape.Shape.{Shape}
@@ -63,7 +63,7 @@ module _ (shape : Shape) (desk : Desk) (counts : NoSlot) where
       (λ none e. (record { same = refl; counted = sym (ap counts_in e) }, ltb-false desk.fresh shape.slots full, eqb-true (length desk.retired) 0 none))
       (λ _ e. absurd (not_going counts e)))
 
-  -- a look ends so at a fill of an asked key alone
+  -- a look ends so at a fill of an asked key, and where a filled key's set is replaced
   pub look_none : (call : WriterCall) (w : ℕ) → IsWithout counts (looked shape desk call w)
       → NoneLeft shape desk (looked shape desk call w) counts × (shape.slots ≤ desk.fresh) × (length desk.retired ≡ 0) × ((state : KeyState) (words : List ℕ) → ShowsState shape words w state → reply_at (bound_of shape) (call_of call) state ≡ reply.Done)
   look_none (Find k) w = by_cases (λ v. let o = cond {A = Desk × Step} v (moved_to desk (Reading (Find k) (slot_of w) []), Going) (moved_to desk Idle, ended reply.Hole) in
@@ -72,6 +72,19 @@ module _ (shape : Shape) (desk : Desk) (counts : NoSlot) where
   look_none (Update k batch) w = by_cases (λ v. let o = cond {A = Desk × Step} v (moved_to desk (Reading (Update k batch) (slot_of w) []), Going) (moved_to desk Idle, ended reply.Dropped) in
       IsWithout counts o → NoneLeft shape desk o counts × (shape.slots ≤ desk.fresh) × (length desk.retired ≡ 0) × ((state : KeyState) (words : List ℕ) → ShowsState shape words w state → reply_at (bound_of shape) (model.Update k batch) state ≡ reply.Done)) (is_filled w)
       (λ _ e. absurd (not_going counts e)) (λ _ e. absurd (not_reply counts reply.Dropped e))
+  look_none (Replace k rows) w = by_cases (λ v. is_filled w ≡ v → let o = cond {A = Desk × Step} v (settled shape desk (Replace k rows) rows) (moved_to desk Idle, ended reply.Dropped) in
+      IsWithout counts o → NoneLeft shape desk o counts × (shape.slots ≤ desk.fresh) × (length desk.retired ≡ 0) × ((state : KeyState) (words : List ℕ) → ShowsState shape words w state → replace_reply state ≡ reply.Done)) (is_filled w)
+      (λ filled _ e. let n = settle_none (Replace k rows) rows e in (n.0, n.1, n.2, λ state words shows. filled_state_of state words shows filled))
+      (λ _ _ e. absurd (not_reply counts reply.Dropped e))
+      refl
+    where
+      unfilled : is_filled w ≡ true → is_filled w ≡ false → ⊥
+      unfilled filled none = let never : true ≡ false = sym filled ∙ none in cc
+
+      filled_state_of : (state : KeyState) (words : List ℕ) → ShowsState shape words w state → is_filled w ≡ true → replace_reply state ≡ reply.Done
+      filled_state_of (key.Hole n) words shows filled = absurd (unfilled filled (names_none w shows.0))
+      filled_state_of (key.Asked n) words shows filled = absurd (unfilled filled (names_none w shows.0))
+      filled_state_of (key.Rows n old) words shows filled = refl
   look_none (Evict k) w = by_cases (λ v. let o = cond {A = Desk × Step} v (moved_to desk (Leaving k), Going) (moved_to desk Idle, ended reply.Nothing) in
       IsWithout counts o → NoneLeft shape desk o counts × (shape.slots ≤ desk.fresh) × (length desk.retired ≡ 0) × ((state : KeyState) (words : List ℕ) → ShowsState shape words w state → reply_at (bound_of shape) (model.Evict k) state ≡ reply.Done)) (is_filled w)
       (λ _ e. absurd (not_going counts e)) (λ _ e. absurd (not_reply counts reply.Nothing e))
@@ -106,6 +119,7 @@ module _ (shape : Shape) (desk : Desk) (counts : NoSlot) where
       → NoneLeft shape desk (decided shape desk call rows) counts × (shape.slots ≤ desk.fresh) × (length desk.retired ≡ 0) × ((number : ℕ) → reply_at (bound_of shape) (call_of call) (key.Rows number rows) ≡ reply.Done)
   decided_none (Find k) rows e = absurd (not_reply counts (reply.Rows rows) e)
   decided_none (Fill k number new) rows e = absurd (not_going counts e)
+  decided_none (Replace k new) rows e = absurd (not_going counts e)
   decided_none (Evict k) rows e = absurd (not_going counts e)
   decided_none (Cancel k) rows e = absurd (not_going counts e)
   decided_none (Update k batch) rows e = go (applied (bound_of shape) rows batch) refl e

@@ -27,7 +27,7 @@ use Rattle.nr_machine.specs.Writer.{decided, decoded, moved_to, read_on, renewed
 use Rattle.nr_machine.specs.declared.calls.Step.{Step}
 use Rattle.nr_machine.specs.declared.calls.Step.TheVariants.{Going}
 use Rattle.nr_machine.specs.declared.calls.WriterCall.{WriterCall}
-use Rattle.nr_machine.specs.declared.calls.WriterCall.TheVariants.{Cancel, Evict, Fill, Find, Update}
+use Rattle.nr_machine.specs.declared.calls.WriterCall.TheVariants.{Cancel, Evict, Fill, Find, Replace, Update}
 use Rattle.nr_machine.specs.declared.places.Place.{Place}
 use Rattle.nr_machine.specs.declared.places.Place.TheVariants.{Idle, Reading}
 use Rattle.nr_machine.specs.declared.places.Retired.{Retired}
@@ -44,6 +44,7 @@ decide_all : (shape : Shape) (words : List ℕ) (roles : List Role) (log : List 
     → Core shape (set words place (get_or words place 0)) (set roles id (Writer (decided shape desk call rows).0)) (log ++ ending (call_of call) (decided shape desk call rows).1)
 decide_all shape words roles log core id desk there place (Find k) rows near number full row_set same idle = ends shape words roles log core id desk there place (moved_to desk Idle) (model.Find k) (reply.Rows rows) near (ap (reply_at (bound_of shape) (model.Find k)) full) refl same idle
 decide_all shape words roles log core id desk there place (Fill k asked new) rows near number full row_set same idle = goes_on shape words roles log core id desk there place (moved_to desk Idle) same idle
+decide_all shape words roles log core id desk there place (Replace k new) rows near number full row_set same idle = goes_on shape words roles log core id desk there place (moved_to desk Idle) same idle
 decide_all shape words roles log core id desk there place (Evict k) rows near number full row_set same idle = goes_on shape words roles log core id desk there place (moved_to desk Idle) same idle
 decide_all shape words roles log core id desk there place (Cancel k) rows near number full row_set same idle = goes_on shape words roles log core id desk there place (moved_to desk Idle) same idle
 decide_all shape words roles log core id desk there place (Update k batch) rows near number full row_set same idle = let call = Update k batch in let c = model.Update k batch in let z = state_of (map_after shape log) k in

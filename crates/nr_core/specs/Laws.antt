@@ -30,7 +30,7 @@ use Rattle.nr_machine.specs.Sizes.{IsShape}
 use Rattle.nr_machine.specs.Given.{IsGivenCall}
 use Rattle.nr_core.specs.Accounts.{Accounted}
 
--- the sets that fills bring are row sets
+-- the sets that calls bring are row sets
 abbrev pub IsGiven : ℕ → Event → Type 0
 IsGiven bound (Arrive reader at) = Unit {0}
 IsGiven bound (Read reader index) = Unit {0}

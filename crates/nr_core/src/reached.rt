@@ -1,6 +1,6 @@
 //! The step machine that callers see.
 ghost use Rattle.std.specs.Prelude.{◌≡◌, ◌≤◌, ◌<◌, ◌↔◌, ◌⊎◌, IfOk, Err, Some, option_map};
-ghost use Rattle.nr_model.specs.Maps.{FillFits, number_of};
+ghost use Rattle.nr_model.specs.Maps.{SetFits, number_of};
 ghost use Rattle.nr_model.specs.declared.rows.TheConstants.{DEFAULT_ROWS, MAX_ROWS};
 ghost use Rattle.nr_model.specs.declared.seq_map.TheConstants.{MAX_KEYS};
 ghost use Rattle.nr_machine.specs.Sizes.{IsBadShape};
@@ -159,7 +159,7 @@ impl Core {
     /// such key (`OutOfRange`), and then where the writer is in a call (`Busy`). A fill brings at most
     /// `rows()` rows.
     pub fn start(&mut self, call: &WriterCall) -> Result<Step, Refusal>
-        requires fits { FillFits self.old.shape.rows (call_of call.now) }
+        requires fits { SetFits self.old.shape.rows (call_of call.now) }
         ensures answer { result ≡ start_answer self.old call.now }
         ensures new { self.new ≡ next_state self.old (Start call.now) }
     {

@@ -1,6 +1,6 @@
 //! Schedules as calls of the machine, with the answers that they must give.
 ghost use Rattle.std.specs.Prelude.{◌≡◌, IsTrue, IfOk};
-ghost use Rattle.nr_model.specs.Maps.{FillFits};
+ghost use Rattle.nr_model.specs.Maps.{SetFits};
 ghost use Rattle.nr_machine.specs.Story.{call_of};
 
 use nr_core::{
@@ -26,6 +26,8 @@ enum Line {
     Fill(u64, &'static [(u64, u64)]),
     Plus(u64, u64),
     Minus(u64, u64),
+    /// A replacement with these rows.
+    Replace(&'static [(u64, u64)]),
     Evict,
     Cancel,
     Go,
@@ -43,7 +45,9 @@ enum Told {
     Without(NoSlot),
 }
 
-use Line::{Again, Arrive, Ask, Cancel, Depart, Evict, Fill, Find, Go, Goes, Minus, Plus, Read};
+use Line::{
+    Again, Arrive, Ask, Cancel, Depart, Evict, Fill, Find, Go, Goes, Minus, Plus, Read, Replace,
+};
 use Told::{Says, Sends, Without, Word};
 
 /// Steps, each with its answer.
@@ -70,6 +74,7 @@ fn answer(core: &mut Core, line: &Line) -> Told {
         Fill(number, rows) => started(core, &WriterCall::Fill(0, *number, rows_of(rows))),
         Plus(a, b) => updated(core, plus(*a, *b)),
         Minus(a, b) => updated(core, minus(*a, *b)),
+        Replace(rows) => started(core, &WriterCall::Replace(0, rows_of(rows))),
         Evict => started(core, &WriterCall::Evict(0)),
         Cancel => started(core, &WriterCall::Cancel(0)),
         Go => stepped(&core.go()),
@@ -102,12 +107,14 @@ fn started(core: &mut Core, call: &WriterCall) -> Told {
     }
 }
 
-/// A fill brings no more rows than a key may have.
+/// The call brings no more rows than a key may have.
 fn fits(core: &Core, call: &WriterCall) -> bool
-    ensures { IsTrue result → FillFits core.now.shape.rows (call_of call.now) }
+    ensures { IsTrue result → SetFits core.now.shape.rows (call_of call.now) }
 {
     match call {
-        WriterCall::Fill(_, _, rows) => rows.len() <= core.rows() as usize,
+        WriterCall::Fill(_, _, rows) | WriterCall::Replace(_, rows) => {
+            rows.len() <= core.rows() as usize
+        }
         _ => true,
     }
 }
@@ -314,6 +321,59 @@ const WRAPPED: Lines = &[
 #[test]
 fn counts_wrap(rt: HostRuntime) -> Result<(), Fail> {
     runs_anew(&rt, &sized(1, 2, 1_099_511_627_775), WRAPPED)
+}
+
+// a replacement looks, puts its words and publishes them, and reads nothing of the old set
+const REPLACED: Lines = &[
+    (Replace(&[(1, 1)]), Says("dropped")),
+    (Ask(1, 0), Sends(0)),
+    (Replace(&[(1, 1)]), Says("dropped")),
+    (Fill(0, &[(5, 6)]), Says("-")),
+    (Goes(3), Says("-")),
+    (Go, Says("done")),
+    (Arrive(1, 0), Says("held")),
+    (Replace(&[(2, 2), (1, 1)]), Says("-")),
+    (Goes(5), Says("-")),
+    (Again(1, 0), Says("same")),
+    (Go, Says("done")),
+    (Again(1, 0), Says("other")),
+    (Read(1, 0), Word(1)),
+    (Read(1, 1), Word(5)),
+    (Depart(1), Says("ok")),
+    (Replace(&[]), Says("-")),
+    (Go, Says("-")),
+    (Go, Says("done")),
+    (Arrive(1, 0), Says("held")),
+    (Read(1, 0), Word(0)),
+    (Depart(1), Says("ok")),
+    // the slot of the fill is polled and taken
+    (Replace(&[(7, 7)]), Says("-")),
+    (Goes(4), Says("-")),
+    (Go, Says("done")),
+    (Find(0), Says("-")),
+    (Goes(2), Says("-")),
+    (Go, Says("rows")),
+];
+
+#[test]
+fn a_set_is_replaced_by_one_publication(rt: HostRuntime) -> Result<(), Fail> {
+    runs_anew(&rt, &sized(3, 1, 0), REPLACED)
+}
+
+const REPLACED_NOWHERE: Lines = &[
+    (Ask(1, 0), Sends(0)),
+    (Fill(0, &[(5, 6)]), Says("-")),
+    (Goes(3), Says("-")),
+    (Go, Says("done")),
+    (Replace(&[(1, 1)]), Without(NoSlot { live: 1, held: 0 })),
+    (Find(0), Says("-")),
+    (Goes(2), Says("-")),
+    (Go, Says("rows")),
+];
+
+#[test]
+fn a_replacement_needs_a_slot(rt: HostRuntime) -> Result<(), Fail> {
+    runs_anew(&rt, &sized(1, 1, 0), REPLACED_NOWHERE)
 }
 
 // the second update gives the key its rows back, in another slot; the hole has number 0, as the held slot has

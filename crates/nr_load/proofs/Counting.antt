@@ -86,6 +86,7 @@ send_here by (call.Find key) answer = refl
 send_here by (call.Ask key) answer = send_one by key answer
 send_here by (call.Fill key number rows) answer = refl
 send_here by (call.Update key batch) answer = refl
+send_here by (call.Replace key rows) answer = refl
 send_here by (call.Evict key) answer = refl
 send_here by (call.Cancel key) answer = refl
 

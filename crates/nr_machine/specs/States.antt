@@ -2,7 +2,7 @@
 use Rattle.std.specs.Prelude.{ℕ, ◌-◌, List, [], replicate, slice_index, slice_index_or}
 use Rattle.nr_machine.specs.declared.shape.Shape.{Shape}
 use Rattle.nr_machine.specs.declared.calls.WriterCall.{WriterCall}
-use Rattle.nr_machine.specs.declared.calls.WriterCall.TheVariants.{Find, Fill, Update, Evict, Cancel}
+use Rattle.nr_machine.specs.declared.calls.WriterCall.TheVariants.{Find, Fill, Update, Replace, Evict, Cancel}
 use Rattle.nr_machine.specs.declared.places.Hold.{Hold}
 use Rattle.nr_machine.specs.declared.places.Hold.TheVariants.{Nothing, On}
 use Rattle.nr_machine.specs.declared.places.Place.TheVariants.{Idle}
@@ -63,5 +63,6 @@ abbrev pub key_of : WriterCall → ℕ
 key_of (Find key) = key
 key_of (Fill key number rows) = key
 key_of (Update key batch) = key
+key_of (Replace key rows) = key
 key_of (Evict key) = key
 key_of (Cancel key) = key

@@ -10,7 +10,7 @@ use Rattle.nr_model.specs.Maps.{opening}
 use Rattle.nr_model.specs.Histories.{Entry, after}
 use Rattle.nr_machine.specs.declared.shape.Shape.{Shape}
 use Rattle.nr_machine.specs.declared.calls.WriterCall.{WriterCall}
-use Rattle.nr_machine.specs.declared.calls.WriterCall.TheVariants.{Find, Fill, Update, Evict, Cancel}
+use Rattle.nr_machine.specs.declared.calls.WriterCall.TheVariants.{Find, Fill, Update, Replace, Evict, Cancel}
 use Rattle.nr_machine.specs.declared.calls.WReply.TheVariants as writer
 use Rattle.nr_machine.specs.declared.calls.Step.{Step}
 use Rattle.nr_machine.specs.declared.calls.Step.TheVariants.{Going, Ended}
@@ -45,6 +45,7 @@ abbrev pub call_of : WriterCall → Call
 call_of (Find at) = model.Find at
 call_of (Fill at number rows) = model.Fill at number rows
 call_of (Update at batch) = model.Update at batch
+call_of (Replace at rows) = model.Replace at rows
 call_of (Evict at) = model.Evict at
 call_of (Cancel at) = model.Cancel at
 

@@ -8,7 +8,7 @@ use Rattle.nr_model.specs.Batches.{applied}
 use Rattle.nr_model.specs.Maps.{applied_reply, last_number}
 use Rattle.nr_machine.specs.declared.shape.Shape.{Shape}
 use Rattle.nr_machine.specs.declared.calls.WriterCall.{WriterCall}
-use Rattle.nr_machine.specs.declared.calls.WriterCall.TheVariants.{Find, Fill, Update, Evict, Cancel}
+use Rattle.nr_machine.specs.declared.calls.WriterCall.TheVariants.{Find, Fill, Update, Replace, Evict, Cancel}
 use Rattle.nr_machine.specs.declared.calls.WReply.TheVariants as writer
 use Rattle.nr_machine.specs.declared.calls.Step.{Step}
 use Rattle.nr_machine.specs.declared.calls.Step.TheVariants.{Going, Ended}
@@ -59,6 +59,7 @@ looked shape desk (Fill key number rows) word =
     else (if has_ask word then fill_asked shape desk (Fill key number rows) number rows (slot_of word) else (moved_to desk Idle, ended reply.NotAsked)))
 looked shape desk (Update key batch) word =
     (if is_filled word then (moved_to desk (Reading (Update key batch) (slot_of word) []), Going) else (moved_to desk Idle, ended reply.Dropped))
+looked shape desk (Replace key rows) word = (if is_filled word then settled shape desk (Replace key rows) rows else (moved_to desk Idle, ended reply.Dropped))
 looked shape desk (Evict key) word = (if is_filled word then (moved_to desk (Leaving key), Going) else (moved_to desk Idle, ended reply.Nothing))
 looked shape desk (Cancel key) word =
     (if is_filled word
@@ -75,6 +76,7 @@ abbrev pub decided : Shape → Desk → WriterCall → List Row → Desk × Step
 decided shape desk (Find key) rows = (moved_to desk Idle, ended (reply.Rows rows))
 decided shape desk (Fill key number new) rows = (moved_to desk Idle, Going)
 decided shape desk (Update key batch) rows = renewed shape desk (Update key batch) (applied (bound_of shape) rows batch)
+decided shape desk (Replace key new) rows = (moved_to desk Idle, Going)
 decided shape desk (Evict key) rows = (moved_to desk Idle, Going)
 decided shape desk (Cancel key) rows = (moved_to desk Idle, Going)
 

@@ -1,6 +1,6 @@
 //! What callers ask of the machine, and what it answers.
 ghost use Rattle.std.specs.Prelude.{ℕ, ◌≡◌};
-ghost use Rattle.nr_model.specs.Maps.{FillFits};
+ghost use Rattle.nr_model.specs.Maps.{SetFits};
 ghost use Rattle.nr_machine.specs.States.{key_of};
 ghost use Rattle.nr_machine.specs.Story.{call_of};
 ghost use Rattle.nr_machine.specs.Given.{IsGivenCall};
@@ -14,6 +14,8 @@ pub enum WriterCall {
     /// The number is that of the request which the rows answer.
     Fill(u32, u64, RowSet),
     Update(u32, Batch),
+    /// The set is put whole in place of the key's rows.
+    Replace(u32, RowSet),
     Evict(u32),
     /// The key's request is taken back.
     Cancel(u32),
@@ -79,17 +81,18 @@ impl WriterCall {
             WriterCall::Find(key) => *key,
             WriterCall::Fill(key, _, _) => *key,
             WriterCall::Update(key, _) => *key,
+            WriterCall::Replace(key, _) => *key,
             WriterCall::Evict(key) => *key,
             WriterCall::Cancel(key) => *key,
         }
     }
 
-    /// Tells a proof that the set which a fill brings is a row set, as its type says of it, within
+    /// Tells a proof that the set which a call brings is a row set, as its type says of it, within
     /// any bound that it fits. Nothing else comes of the call.
     pub(crate) fn given(&self)
-        ensures { (bound : ℕ) → FillFits bound (call_of self.now) → IsGivenCall bound self.now }
+        ensures { (bound : ℕ) → SetFits bound (call_of self.now) → IsGivenCall bound self.now }
     {
-        if let WriterCall::Fill(_, _, rows) = self {
+        if let WriterCall::Fill(_, _, rows) | WriterCall::Replace(_, rows) = self {
             rows.len();
         }
     }

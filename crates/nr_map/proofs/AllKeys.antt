@@ -40,6 +40,7 @@ asks_other key (model.Find k) b other = refl
 asks_other key (model.Ask k) b other = ap (λ (a : Bool). a && b) (ne_eqb k key (λ e. other (sym e)))
 asks_other key (model.Fill k number rows) b other = refl
 asks_other key (model.Update k batch) b other = refl
+asks_other key (model.Replace k rows) b other = refl
 asks_other key (model.Evict k) b other = refl
 asks_other key (model.Cancel k) b other = refl
 
@@ -48,6 +49,7 @@ fills_other key (model.Find k) b other = refl
 fills_other key (model.Ask k) b other = refl
 fills_other key (model.Fill k number rows) b other = ap (λ (a : Bool). a && b) (ne_eqb k key (λ e. other (sym e)))
 fills_other key (model.Update k batch) b other = refl
+fills_other key (model.Replace k rows) b other = refl
 fills_other key (model.Evict k) b other = refl
 fills_other key (model.Cancel k) b other = refl
 
@@ -56,6 +58,7 @@ cancels_other key (model.Find k) b other = refl
 cancels_other key (model.Ask k) b other = refl
 cancels_other key (model.Fill k number rows) b other = refl
 cancels_other key (model.Update k batch) b other = refl
+cancels_other key (model.Replace k rows) b other = refl
 cancels_other key (model.Evict k) b other = refl
 cancels_other key (model.Cancel k) b other = ap (λ (a : Bool). a && b) (ne_eqb k key (λ e. other (sym e)))
 

@@ -16,6 +16,7 @@ reading_brings bound (model.Find key) reads = tt
 reading_brings bound (model.Ask key) reads = tt
 reading_brings bound (model.Fill key number rows) reads = absurd (cc)
 reading_brings bound (model.Update key batch) reads = tt
+reading_brings bound (model.Replace key rows) reads = absurd (cc)
 reading_brings bound (model.Evict key) reads = tt
 reading_brings bound (model.Cancel key) reads = tt
 

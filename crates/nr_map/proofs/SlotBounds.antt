@@ -8,7 +8,7 @@ use Rattle.nr_machine.specs.declared.shape.Shape.{Shape}
 use Rattle.nr_machine.specs.Story.{map_after}
 use Rattle.nr_board.specs.Callers.{Table}
 use Rattle.nr_machine.specs.Spares.{Spare}
-use Rattle.nr_map.specs.SlotBounds.{NoSlotIsRare, PollsAreFew, RoomForFills, RoomForUpdates}
+use Rattle.nr_map.specs.SlotBounds.{NoSlotIsRare, PollsAreFew, RoomForFills, RoomForReplacements, RoomForUpdates}
 
 -- no more keys are filled than there are
 few_filled : (shape : Shape) (log : List Entry) → filled_count (map_after shape log) ≤ shape.keys
@@ -30,3 +30,6 @@ room_for_fills_lem key number rows old new counts room without = (no_slot_is_rar
 
 pub room_for_updates_lem : RoomForUpdates
 room_for_updates_lem bound key batch old new counts room updates = (no_slot_is_rare_lem _ _ counts old new updates.3).2 room
+
+pub room_for_replacements_lem : RoomForReplacements
+room_for_replacements_lem key rows old new counts room without = (no_slot_is_rare_lem 1 _ counts old new without).2 room

@@ -15,7 +15,7 @@ use Rattle.nr_model.specs.declared.rows.Row.{Row}
 use Rattle.nr_model.specs.declared.batches.ApplyFault.{ApplyFault}
 use Rattle.nr_model.specs.declared.batches.ApplyFault.TheVariants as fault
 use Rattle.nr_model.specs.declared.calls.Call.{Call}
-use Rattle.nr_model.specs.declared.calls.Call.TheVariants.{Find, Ask, Fill, Update, Evict, Cancel}
+use Rattle.nr_model.specs.declared.calls.Call.TheVariants.{Find, Ask, Fill, Update, Replace, Evict, Cancel}
 use Rattle.nr_model.specs.declared.calls.Reply.{Reply}
 use Rattle.nr_model.specs.declared.calls.Reply.TheVariants as reply
 use Rattle.nr_model.specs.declared.states.KeyState.{KeyState}
@@ -50,6 +50,9 @@ stays bound (Fill k number new) (Rows n old) m rows none is = is
 stays bound (Update k batch) (Hole n) m rows none is = is
 stays bound (Update k batch) (Asked n) m rows none is = is
 stays bound (Update k batch) (Rows n old) m rows none is = update_stays (applied bound old batch) n m old rows none is
+stays bound (Replace k new) (Hole n) m rows none is = is
+stays bound (Replace k new) (Asked n) m rows none is = is
+stays bound (Replace k new) (Rows n old) m rows none is = absurd (cc)
 stays bound (Evict k) (Hole n) m rows none is = is
 stays bound (Evict k) (Asked n) m rows none is = is
 stays bound (Evict k) (Rows n old) m rows none is = absurd (cc)
@@ -65,6 +68,7 @@ stays_filled bound (Find k) (Rows n old) none filled = refl
 stays_filled bound (Ask k) (Rows n old) none filled = refl
 stays_filled bound (Fill k number new) (Rows n old) none filled = refl
 stays_filled bound (Update k batch) (Rows n old) none filled = refl
+stays_filled bound (Replace k new) (Rows n old) none filled = refl
 stays_filled bound (Evict k) (Rows n old) none filled = absurd (cc)
 stays_filled bound (Cancel k) (Rows n old) none filled = refl
 
@@ -90,6 +94,9 @@ puts bound (Fill k number new) (Rows n old) done = refl
 puts bound (Update k batch) (Hole n) done = absurd (cc)
 puts bound (Update k batch) (Asked n) done = absurd (cc)
 puts bound (Update k batch) (Rows n old) done = refl
+puts bound (Replace k new) (Hole n) done = absurd (cc)
+puts bound (Replace k new) (Asked n) done = absurd (cc)
+puts bound (Replace k new) (Rows n old) done = refl
 puts bound (Evict k) (Hole n) done = absurd (cc)
 puts bound (Evict k) (Asked n) done = absurd (cc)
 puts bound (Evict k) (Rows n old) done = absurd (cc)

@@ -5,8 +5,9 @@ use Rattle.nr_model.specs.declared.batches.Delta.{Delta}
 use Rattle.nr_model.specs.declared.rows.Row.{Row}
 use Rattle.nr_machine.specs.declared.calls.NoSlot.{NoSlot}
 use Rattle.nr_board.specs.declared.answers.FillFault.TheVariants as fill
+use Rattle.nr_board.specs.declared.answers.ReplaceFault.TheVariants as replace
 use Rattle.nr_board.specs.declared.answers.UpdateFault.TheVariants as update
-use Rattle.nr_board.specs.WriterAnswers.{FillsKey, HasNoSlot, Publishes, UpdatesKey}
+use Rattle.nr_board.specs.WriterAnswers.{FillsKey, HasNoSlot, Publishes, ReplacesKey, UpdatesKey}
 use Rattle.nr_board.specs.Callers.{Caller, Table}
 
 -- the map has a slot for each key, each reader and one more
@@ -35,3 +36,8 @@ abbrev pub RoomForUpdates : Type 0
 RoomForUpdates =
     (bound key : ℕ) (batch : List Delta) (old new : Caller) (counts : NoSlot) →
     HasRoomForAll old.table → UpdatesKey bound key batch old new (Err (update.NoSlot counts)) → ⊥
+
+abbrev pub RoomForReplacements : Type 0
+RoomForReplacements =
+    (key : ℕ) (rows : List Row) (old new : Caller) (counts : NoSlot) →
+    HasRoomForAll old.table → ReplacesKey key rows old new (Err (replace.NoSlot counts)) → ⊥

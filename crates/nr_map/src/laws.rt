@@ -1,7 +1,7 @@
 //! Laws over the definitions alone. Nothing runs here: each function's contract is the law.
 ghost use Rattle.nr_map.specs.ExactPlaces.{DoneMeansFewerInUse, NoSlotMeansAllInUse};
 ghost use Rattle.nr_map.specs.Written.{FindsWhatItHeard, FindsWritten, HearsAllCalls, ReadsNoOlder};
-ghost use Rattle.nr_map.specs.SlotBounds.{NoSlotIsRare, PollsAreFew, RoomForFills, RoomForUpdates};
+ghost use Rattle.nr_map.specs.SlotBounds.{NoSlotIsRare, PollsAreFew, RoomForFills, RoomForReplacements, RoomForUpdates};
 ghost use Rattle.nr_map.specs.RowBounds.{RowsFitTheMap};
 ghost use Rattle.nr_map.specs.Rounds.{BeginningsMeet, CallsStay, EntriesAreCallers, RoundsTellAll, SendsOfAll, SendsOfAllKeys};
 
@@ -73,6 +73,11 @@ pub fn room_for_fills()
 /// Nor is an update.
 pub fn room_for_updates()
     ensures { RoomForUpdates }
+{}
+
+/// Nor is a replacement.
+pub fn room_for_replacements()
+    ensures { RoomForReplacements }
 {}
 
 /// A find that comes after a put of its key, in any legal history, has the rows of that put or of a

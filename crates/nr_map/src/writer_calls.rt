@@ -5,7 +5,7 @@ ghost use Rattle.nr_model.specs.Rows.{IsRowSet};
 
 use crate::reader_map::ReaderMap;
 use crate::writer::Writer;
-use nr_board::{Evict, FillFault, Found, UpdateFault};
+use nr_board::{Evict, FillFault, Found, ReplaceFault, UpdateFault};
 use nr_model::{Batch, Delta, Row, RowRoom, RowSet};
 use std::marker::Brand;
 
@@ -13,7 +13,7 @@ use std::marker::Brand;
 // public call lends the writer's seat and slots, one by one, to the call as its seat makes it.
 impl ReaderMap {
     ghost use Rattle.nr_board.specs.declared.answers.Found.TheVariants as found;
-    ghost use Rattle.nr_board.specs.WriterAnswers.{LooksAt, LooksIn, FillsKey, UpdatesKey, EvictsKey};
+    ghost use Rattle.nr_board.specs.WriterAnswers.{LooksAt, LooksIn, FillsKey, UpdatesKey, ReplacesKey, EvictsKey};
 
     /// A find of the writer's own: writes the key's rows into the caller's set, which stays as it
     /// is where the key is a hole. Takes 1 step for a hole, and 2n + 2 for n rows.
@@ -108,6 +108,36 @@ impl ReaderMap {
             key,
             deltas,
         )
+    }
+
+    /// Puts a set of at most `rows()` rows whole in place of a filled key's, by one publication,
+    /// without a read of the old one. Refused where the key is not filled, and where it needs a slot
+    /// and each one is a filled key's or held by a reader. Takes 1 step where the key is not filled,
+    /// 2n + 3 and the polls for n rows where it is done, and 1 and a poll of each retired slot where
+    /// there is none.
+    pub fn replace(&self, writer: &mut Writer, key: u32, rows: &RowSet) -> Result<(), ReplaceFault>
+        requires own { writer.old.table ≡ self.now }
+        requires key { key < self.now.shape.keys }
+        requires few { length rows.now ≤ self.now.shape.rows }
+        ensures { ReplacesKey key rows.now writer.old writer.new result }
+    {
+        self.replace_rows(writer, key, rows.as_slice())
+    }
+
+    /// As `replace`, with at most `rows()` rows in ascending order in place of a set.
+    pub fn replace_rows(
+        &self,
+        writer: &mut Writer,
+        key: u32,
+        rows: &[Row],
+    ) -> Result<(), ReplaceFault>
+        requires own { writer.old.table ≡ self.now }
+        requires key { key < self.now.shape.keys }
+        requires row_set { IsRowSet self.now.shape.rows rows.now }
+        ensures { ReplacesKey key rows.now writer.old writer.new result }
+    {
+        self.board
+            .replace_key::<Brand>(&mut writer.seat, &mut writer.spare, key, rows)
     }
 
     /// Makes a filled key a hole, which keeps its number. Takes 2 steps, and 1 where the key is not

@@ -2,7 +2,8 @@
 ghost use Rattle.std.specs.Prelude.{◌≡◌, ◌<◌};
 
 use nr_map::{
-    Asked, Cancel, Evict, FillFault, Found, KeyKind, Reader, ReaderMap, UpdateFault, Writer,
+    Asked, Cancel, Evict, FillFault, Found, KeyKind, Reader, ReaderMap, ReplaceFault, UpdateFault,
+    Writer,
 };
 use nr_model::{Batch, Delta, MAX_DELTAS, MAX_ROWS, Pile, Row, RowSet};
 
@@ -146,6 +147,41 @@ pub(crate) fn update_rows(
         return None;
     }
     Some(map.update_rows(writer, key, deltas))
+}
+
+/// Replaces a key's set. `None` where the set has more rows than a key may have.
+pub(crate) fn replace(
+    map: &ReaderMap,
+    writer: &mut Writer,
+    key: u32,
+    rows: &RowSet,
+) -> Option<Result<(), ReplaceFault>>
+    requires own { writer.old.table ≡ map.now }
+    requires key { key < map.now.shape.keys }
+    ensures own { writer.new.table ≡ map.now }
+{
+    if rows.len() > map.rows() as usize {
+        return None;
+    }
+    Some(map.replace(writer, key, rows))
+}
+
+/// Replaces a key's set by the rows of a set, as a slice. `None` where they are more than a key may
+/// have.
+pub(crate) fn replace_rows(
+    map: &ReaderMap,
+    writer: &mut Writer,
+    key: u32,
+    rows: &RowSet,
+) -> Option<Result<(), ReplaceFault>>
+    requires own { writer.old.table ≡ map.now }
+    requires key { key < map.now.shape.keys }
+    ensures own { writer.new.table ≡ map.now }
+{
+    if rows.len() > map.rows() as usize {
+        return None;
+    }
+    Some(map.replace_rows(writer, key, rows.as_slice()))
 }
 
 /// Evicts a key.

@@ -2,12 +2,13 @@
 //! scripts against the sequential model.
 ghost use Rattle.std.specs.Prelude.{◌≡◌, ◌<◌, IfOk};
 ghost use Rattle.std.specs.Bool.{OnTrue};
-ghost use Rattle.nr_model.specs.Maps.{FillFits, key_count, call_key};
+ghost use Rattle.nr_model.specs.Maps.{SetFits, key_count, call_key};
 
 use crate::calls::{Told, ask, cancel, evict, find, look, rows_of, state};
 use crate::worked::Worked;
 use nr_map::{
-    Cancel, Evict, FillFault, Found, KeyKind, Reader, ReaderMap, Shape, UpdateFault, Writer,
+    Cancel, Evict, FillFault, Found, KeyKind, Reader, ReaderMap, ReplaceFault, Shape, UpdateFault,
+    Writer,
 };
 use nr_model::{
     Batch, Call, DEFAULT_ROWS, Delta, KeyState, LAST_NUMBER, OpenFault, Reply, Row, RowSet, SeqMap,
@@ -194,12 +195,13 @@ impl Dice {
         ensures { IfOk result (λ call. call_key call < key_count model.now) }
     {
         let key = self.roll(u64::from(model.keys())) as u32;
-        match self.roll(8) {
+        match self.roll(9) {
             0 => Ok(Call::Find(key)),
             1 | 2 => Ok(Call::Ask(key)),
             3 | 4 => Ok(self.fill(key, model.state(key).number())),
             5 => self.update(key),
-            6 => Ok(Call::Evict(key)),
+            6 => Ok(Call::Replace(key, one_row(self.roll(3)))),
+            7 => Ok(Call::Evict(key)),
             _ => Ok(Call::Cancel(key)),
         }
     }
@@ -224,10 +226,10 @@ impl Dice {
 }
 
 fn fits(call: &Call, rows: u32) -> bool
-    ensures { OnTrue result (FillFits rows call.now) }
+    ensures { OnTrue result (SetFits rows call.now) }
 {
     match call {
-        Call::Fill(_, _, set) => set.len() <= rows as usize,
+        Call::Fill(_, _, set) | Call::Replace(_, set) => set.len() <= rows as usize,
         _ => true,
     }
 }
@@ -242,7 +244,7 @@ fn answers(
 ) -> bool
     requires own { (writer.old.table ≡ map.now) × (reader.old.table ≡ map.now) }
     requires key { call_key call.now < map.now.shape.keys }
-    requires fits { FillFits map.now.shape.rows call.now }
+    requires fits { SetFits map.now.shape.rows call.now }
     ensures own { (writer.new.table ≡ map.now) × (reader.new.table ≡ map.now) }
 {
     match call {
@@ -269,6 +271,11 @@ fn answers(
             Err(UpdateFault::NoRow) => matches!(reply, Reply::NoRow),
             Err(UpdateFault::TooMany) => matches!(reply, Reply::TooMany),
             Err(UpdateFault::NoSlot(_)) => false,
+        },
+        Call::Replace(key, rows) => match map.replace(writer, *key, rows) {
+            Ok(()) => matches!(reply, Reply::Done),
+            Err(ReplaceFault::Dropped) => matches!(reply, Reply::Dropped),
+            Err(ReplaceFault::NoSlot(_)) => false,
         },
         Call::Evict(key) => match evict(map, writer, *key) {
             Evict::Evicted => matches!(reply, Reply::Evicted),

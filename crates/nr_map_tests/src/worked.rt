@@ -4,10 +4,11 @@ ghost use Rattle.std.specs.Prelude.{◌≡◌, IfOk, IfSome};
 
 use crate::calls::{
     Told, ask, cancel, evict, fill, fill_rows, find, find_into, look, look_into, pairs_are,
-    rows_of, state, update, update_rows,
+    replace, replace_rows, rows_of, state, update, update_rows,
 };
 use nr_map::{
-    Cancel, Evict, FillFault, Found, KeyKind, Reader, ReaderMap, Shape, UpdateFault, Writer,
+    Cancel, Evict, FillFault, Found, KeyKind, Reader, ReaderMap, ReplaceFault, Shape, UpdateFault,
+    Writer,
 };
 use nr_model::{Delta, Pile, RowSet};
 use std::alloc::Global;
@@ -223,6 +224,34 @@ impl Worked {
         assert!(rt; key < self.map.keys());
         let updated = update_rows(&self.map, &mut self.writer, key, deltas);
         assert_eq!(rt; updated, Some(answer));
+    }
+
+    pub(crate) fn replaces<R: Abort>(
+        &mut self,
+        rt: &R,
+        key: u32,
+        pairs: &[(u64, u64)],
+        answer: Result<(), ReplaceFault>,
+    )
+        ensures { self.new ≡ self.old }
+    {
+        assert!(rt; key < self.map.keys());
+        let replaced = replace(&self.map, &mut self.writer, key, &rows_of(pairs));
+        assert_eq!(rt; replaced, Some(answer));
+    }
+
+    pub(crate) fn replaces_rows<R: Abort>(
+        &mut self,
+        rt: &R,
+        key: u32,
+        rows: &RowSet,
+        answer: Result<(), ReplaceFault>,
+    )
+        ensures { self.new ≡ self.old }
+    {
+        assert!(rt; key < self.map.keys());
+        let replaced = replace_rows(&self.map, &mut self.writer, key, rows);
+        assert_eq!(rt; replaced, Some(answer));
     }
 
     pub(crate) fn evicts<R: Abort>(&mut self, rt: &R, key: u32, answer: Evict)

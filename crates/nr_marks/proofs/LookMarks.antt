@@ -29,7 +29,7 @@ use Rattle.nr_machine.specs.declared.calls.NoSlot.{NoSlot}
 use Rattle.nr_machine.specs.declared.calls.Step.{Step}
 use Rattle.nr_machine.specs.declared.calls.Step.TheVariants.{Ended, Going}
 use Rattle.nr_machine.specs.declared.calls.WriterCall.{WriterCall}
-use Rattle.nr_machine.specs.declared.calls.WriterCall.TheVariants.{Cancel, Evict, Fill, Find, Update}
+use Rattle.nr_machine.specs.declared.calls.WriterCall.TheVariants.{Cancel, Evict, Fill, Find, Replace, Update}
 use Rattle.nr_machine.specs.declared.places.Place.TheVariants.{Idle, Leaving, Reading, Searching, Withdrawing}
 use Rattle.nr_machine.specs.declared.places.Retired.{Retired}
 use Rattle.nr_machine.specs.declared.roles.Desk.{Desk}
@@ -91,6 +91,7 @@ module _ {A : Type 0} (role : A → Role) (marks : A → Marks) where
         (λ _. by_cases (λ b. Calm callers desk (cond {A = Desk × Step} b (settled shape desk (Fill k number rows) rows) (moved_to desk Idle, ended reply.Stale))) (nat_eq (slot_of word) number) (λ _. settled_calm (Fill k number rows) rows) (λ _. (refl, tt, refl)))
         (λ _. (refl, tt, refl)))
     looked_calm (Update k batch) word = by_cases (λ b. Calm callers desk (cond {A = Desk × Step} b (moved_to desk (Reading (Update k batch) (slot_of word) []), Going) (moved_to desk Idle, ended reply.Dropped))) (is_filled word) (λ _. (refl, refl, refl)) (λ _. (refl, tt, refl))
+    looked_calm (Replace k rows) word = by_cases (λ b. Calm callers desk (cond {A = Desk × Step} b (settled shape desk (Replace k rows) rows) (moved_to desk Idle, ended reply.Dropped))) (is_filled word) (λ _. settled_calm (Replace k rows) rows) (λ _. (refl, tt, refl))
     looked_calm (Evict k) word = by_cases (λ b. Calm callers desk (cond {A = Desk × Step} b (moved_to desk (Leaving k), Going) (moved_to desk Idle, ended reply.Nothing))) (is_filled word) (λ _. (refl, tt, refl)) (λ _. (refl, tt, refl))
     looked_calm (Cancel k) word = by_cases (λ b. Calm callers desk (cond {A = Desk × Step} b (moved_to desk Idle, ended reply.Nothing) (cond {A = Desk × Step} (has_ask word) (cancel_asked desk k (slot_of word)) (moved_to desk Idle, ended reply.Nothing)))) (is_filled word) (λ _. (refl, tt, refl))
         (λ _. by_cases (λ b. Calm callers desk (cond {A = Desk × Step} b (cancel_asked desk k (slot_of word)) (moved_to desk Idle, ended reply.Nothing))) (has_ask word)
@@ -105,6 +106,7 @@ module _ {A : Type 0} (role : A → Role) (marks : A → Marks) where
     decided_calm (Find k) rows = (refl, tt, refl)
     decided_calm (Fill k number new) rows = (refl, tt, refl)
     decided_calm (Update k batch) rows = renewed_calm (Update k batch) (applied (bound_of shape) rows batch)
+    decided_calm (Replace k new) rows = (refl, tt, refl)
     decided_calm (Evict k) rows = (refl, tt, refl)
     decided_calm (Cancel k) rows = (refl, tt, refl)
 

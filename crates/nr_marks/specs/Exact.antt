@@ -54,6 +54,6 @@ pub record Lists (desk : Desk) (marks : Marks) (shape : Shape) (log : List Entry
   pub empty : (at : ℕ) → at < shape.keys → slice_index marks.names at ≡ 0 → is_filled_key (state_of (map_after shape log) at) ≡ false
   pub full : (at slot : ℕ) → at < shape.keys → slice_index marks.names at ≡ suc slot → (is_filled_key (state_of (map_after shape log) at) ≡ true) × (slice_index marks.puts slot ≡ put_number log at)
 
--- a fill or update that is done took a free slot, or one that was retired; its put number is new
+-- a call that put a set took a free slot, or one that was retired; its put number is new
 abbrev pub TookSpare : Shape → Desk → Marks → List Entry → Type 0
 TookSpare shape desk now log = (desk.fresh < shape.slots) ⊎ ((at : ℕ) × (entry : Retired) × (get_elem? desk.retired at ≡ some entry) × (put_count log ≤ slice_index now.puts entry.slot))

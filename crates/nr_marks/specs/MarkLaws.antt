@@ -31,7 +31,7 @@ NoSlotByMarks =
     filled_count (map_after shape log) + length desk.retired ≡ shape.slots →
     slots_in_use shape log readers ≡ shape.slots
 
--- The same of a fill or an update that was done: before it fewer were in use.
+-- The same of a call that was done with its set put: before it fewer were in use.
 abbrev pub DoneByMarks : Type 0
 DoneByMarks =
     (shape : Shape) (desk : Desk) (after : List Retired) (marks now : Marks) (log : List Entry) (readers : List Past) →

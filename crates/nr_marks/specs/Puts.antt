@@ -1,4 +1,4 @@
--- Put numbers: the sets that a history put, by fills and updates that were done, are numbered in their order from 0 on.
+-- Put numbers: the sets that a history put, by fills, updates and replacements that were done, are numbered in their order from 0 on.
 use Rattle.std.specs.Prelude.{ℕ, ◌+◌, ◌==◌, ◌&&◌, Bool, if◌then◌else◌, List, [], ◌∷◌}
 use Rattle.nr_model.specs.Maps.{call_key}
 use Rattle.nr_model.specs.Histories.{Entry, is_done}

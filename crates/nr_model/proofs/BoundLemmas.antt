@@ -8,7 +8,7 @@ use Rattle.nr_model.specs.declared.rows.Row.{Row}
 use Rattle.nr_model.specs.declared.batches.Delta.{Delta}
 use Rattle.nr_model.specs.declared.batches.ApplyFault.{ApplyFault}
 use Rattle.nr_model.specs.declared.calls.Call.{Call}
-use Rattle.nr_model.specs.declared.calls.Call.TheVariants.{Find, Ask, Fill, Update, Evict, Cancel}
+use Rattle.nr_model.specs.declared.calls.Call.TheVariants.{Find, Ask, Fill, Update, Replace, Evict, Cancel}
 use Rattle.nr_model.specs.declared.states.KeyState.{KeyState}
 use Rattle.nr_model.specs.declared.states.KeyState.TheVariants.{Hole, Asked, Rows}
 use Rattle.nr_model.specs.Rows.{IsRowSet}
@@ -44,6 +44,9 @@ call_has bound (Fill key number new) (Rows n rows) brings h = h
 call_has bound (Update key batch) (Hole n) brings h = tt
 call_has bound (Update key batch) (Asked n) brings h = tt
 call_has bound (Update key batch) (Rows n rows) brings h = update_has bound rows batch (applied bound rows batch) refl h
+call_has bound (Replace key new) (Hole n) brings h = tt
+call_has bound (Replace key new) (Asked n) brings h = tt
+call_has bound (Replace key new) (Rows n rows) brings h = brings
 call_has bound (Evict key) (Hole n) brings h = tt
 call_has bound (Evict key) (Asked n) brings h = tt
 call_has bound (Evict key) (Rows n rows) brings h = tt

@@ -7,7 +7,7 @@ use Rattle.nr_model.specs.declared.batches.ApplyFault.TheVariants as fault
 use Rattle.nr_model.specs.Rows.{is_ascending, in_order, count_of, IsRowSet}
 use Rattle.nr_model.specs.Batches.{applied, positive_rows, negative_rows}
 use Rattle.nr_model.specs.declared.calls.Call.{Call}
-use Rattle.nr_model.specs.declared.calls.Call.TheVariants.{Find, Ask, Fill, Update, Evict, Cancel}
+use Rattle.nr_model.specs.declared.calls.Call.TheVariants.{Find, Ask, Fill, Update, Replace, Evict, Cancel}
 use Rattle.nr_model.specs.declared.calls.Reply.TheVariants as reply
 use Rattle.nr_model.specs.declared.states.KeyState.{KeyState}
 use Rattle.nr_model.specs.declared.states.KeyState.TheVariants.{Hole, Asked, Rows}
@@ -95,16 +95,17 @@ AnswersFitTheirRequests =
     ((e.call ≡ Ask key) → (e.reply ≡ reply.Send number) → number ≡ first_number + cancels history key)
     × ((rows : List Row) → (e.call ≡ Fill key number rows) → (e.reply ≡ reply.Done) → number ≡ first_number + cancels history key)
 
--- the set of a fill is a row set within the bound
+-- the set that a call brings is a row set within the bound
 abbrev pub BringsRowSet : ℕ → Call → Type 0
 BringsRowSet bound (Find key) = Unit {0}
 BringsRowSet bound (Ask key) = Unit {0}
 BringsRowSet bound (Fill key number rows) = IsRowSet bound rows
 BringsRowSet bound (Update key batch) = Unit {0}
+BringsRowSet bound (Replace key rows) = IsRowSet bound rows
 BringsRowSet bound (Evict key) = Unit {0}
 BringsRowSet bound (Cancel key) = Unit {0}
 
--- whatever is called, each key's rows are a row set within the bound, where each fill brings one
+-- whatever is called, each key's rows are a row set within the bound, where each set that is brought is one
 abbrev pub RowsStayWithinBound : Type 0
 RowsStayWithinBound =
     (keys bound first_number key number : ℕ) (rows : List Row) (history : List Entry) →

@@ -16,6 +16,8 @@ pub enum Call {
     Fill(u32, u64, RowSet),
     /// Applies a batch to the key's rows.
     Update(u32, Batch),
+    /// Puts a set whole in place of the key's rows.
+    Replace(u32, RowSet),
     /// Makes the key missing again.
     Evict(u32),
     /// Takes the request of the key back.
@@ -31,6 +33,7 @@ impl Call {
             Call::Find(key) | Call::Ask(key) | Call::Evict(key) | Call::Cancel(key) => *key,
             Call::Fill(key, _, _) => *key,
             Call::Update(key, _) => *key,
+            Call::Replace(key, _) => *key,
         }
     }
 }
@@ -48,7 +51,7 @@ pub enum Reply {
     Waiting,
     /// To a request: the key is filled.
     Filled,
-    /// To a fill or an update: the rows stand.
+    /// To a fill, an update or a replacement: the rows stand.
     Done,
     /// To a fill: nobody asked for the key.
     NotAsked,
@@ -56,7 +59,7 @@ pub enum Reply {
     Stale,
     /// To a fill: the key is filled.
     Already,
-    /// To an update: the key is not filled, so the batch is dropped.
+    /// To an update or a replacement: the key is not filled, so the rows are dropped.
     Dropped,
     /// To an update: the batch takes away a row that is not there.
     NoRow,

@@ -3,7 +3,7 @@ ghost use Rattle.std.specs.Prelude.{◌≡◌, ◌≤◌, ◌<◌, List, length,
 ghost use Rattle.nr_model.specs.declared.rows.Row.{Row as SetRow};
 ghost use Rattle.nr_model.specs.Rows.{is_ascending};
 ghost use Rattle.nr_model.specs.Batches.{applied};
-ghost use Rattle.nr_model.specs.Maps.{find_reply, ask_reply, fill_reply, update_reply, evict_reply, cancel_reply, asked, filled, updated, evicted, cancelled, reply_at, state_after, FillFits, StateFits};
+ghost use Rattle.nr_model.specs.Maps.{find_reply, ask_reply, fill_reply, update_reply, replace_reply, evict_reply, cancel_reply, asked, filled, updated, replaced, evicted, cancelled, reply_at, state_after, SetFits, StateFits};
 ghost use Rattle.nr_model.specs.Runs.{state_in, IsKeptRun};
 
 use crate::batches::{ApplyFault, Batch};
@@ -43,7 +43,7 @@ impl Head {
     pub fn call(&mut self, run: &mut [Row], call: &Call) -> Reply
         requires kept { IsKeptRun self.old run.old }
         requires room { length run.old ≤ MAX_ROWS }
-        requires fits { FillFits (length run.old) call.now }
+        requires fits { SetFits (length run.old) call.now }
         ensures reply { result ≡ reply_at (length run.old) call.now (state_in self.old run.old) }
         ensures new { state_in self.new run.new ≡ state_after (length run.old) call.now (state_in self.old run.old) }
         ensures kept { IsKeptRun self.new run.new }
@@ -53,6 +53,7 @@ impl Head {
             Call::Ask(_) => self.ask(),
             Call::Fill(_, number, rows) => self.fill(run, *number, rows.as_slice()),
             Call::Update(_, batch) => self.update(run, batch),
+            Call::Replace(_, rows) => self.replace(run, rows.as_slice()),
             Call::Evict(_) => self.evict(),
             Call::Cancel(_) => self.cancel(),
         }
@@ -122,6 +123,22 @@ impl Head {
                 Err(ApplyFault::TooMany) => Reply::TooMany,
             },
         }
+    }
+
+    fn replace(&mut self, run: &mut [Row], new: &[Row]) -> Reply
+        requires kept { IsKeptRun self.old run.old }
+        requires in_order { IsTrue (is_ascending new.now) }
+        requires fits { length new.now ≤ length run.old }
+        ensures reply { result ≡ replace_reply (state_in self.old run.old) }
+        ensures new { state_in self.new run.new ≡ replaced new.now (state_in self.old run.old) }
+        ensures kept { IsKeptRun self.new run.new }
+    {
+        let Head::Rows(number, _) = *self else {
+            return Reply::Dropped;
+        };
+        run[..new.len()].copy_from_slice(new);
+        *self = Head::Rows(number, new.len());
+        Reply::Done
     }
 
     fn evict(&mut self) -> Reply

@@ -1,6 +1,6 @@
 //! The partial map that one caller uses.
 ghost use Rattle.std.specs.Prelude.{◌≡◌, ◌≤◌, ◌<◌, ◌↔◌, ◌⊎◌, ℕ, length, IfOk, Err};
-ghost use Rattle.nr_model.specs.Maps.{last_number, opening, state_of, reply_to, next, call_key, key_count, FillFits, StateFits};
+ghost use Rattle.nr_model.specs.Maps.{last_number, opening, state_of, reply_to, next, call_key, key_count, SetFits, StateFits};
 ghost use Rattle.nr_model.specs.Sizes.{IsBadSize};
 
 use crate::calls::{Call, Reply};
@@ -112,11 +112,11 @@ impl SeqMap {
         self.heads[key as usize].state(&self.cells[start..start + rows])
     }
 
-    /// Carries out a call at a key below `keys()`, and answers it. The set of a fill has at most
-    /// `rows()` rows. Takes no memory, and changes no other key.
+    /// Carries out a call at a key below `keys()`, and answers it. A set that it brings has at
+    /// most `rows()` rows. Takes no memory, and changes no other key.
     pub fn call(&mut self, call: &Call) -> Reply
         requires key { call_key call.now < key_count self.old }
-        requires fits { FillFits self.old.bound call.now }
+        requires fits { SetFits self.old.bound call.now }
         ensures reply { result ≡ reply_to self.old call.now }
         ensures new { self.new ≡ next self.old call.now }
     {

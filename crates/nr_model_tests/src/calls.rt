@@ -254,6 +254,41 @@ fn a_key_is_asked_filled_updated_and_evicted(rt: HostRuntime) -> Result<(), Fail
 }
 
 #[test]
+fn a_set_is_replaced_whole(rt: HostRuntime) -> Result<(), Fail> {
+    let mut map = SeqMap::open(rt.alloc(), 2).map_err(|_| "not opened")?;
+    let few = Call::Replace(1, set_of(&[row(9, 9)])?);
+    let many = Call::Replace(1, set_of(&[row(2, 2), row(1, 1), row(1, 1)])?);
+    assert_eq!(rt; few.key(), 1);
+    assert!(rt; matches!(&map.call(&few), Reply::Dropped));
+    assert!(rt; matches!(&map.call(&Call::Ask(1)), Reply::Send(0)));
+    assert!(rt; matches!(&map.call(&few), Reply::Dropped));
+    assert!(rt; matches!(&map.state(1), KeyState::Asked(0)));
+    assert!(rt;
+        matches!(
+            &map.call(&Call::Fill(1, 0, set_of(&[row(5, 5)])?)),
+            Reply::Done
+        )
+    );
+    assert!(rt; matches!(&map.call(&many), Reply::Done));
+    let Reply::Rows(rows) = map.call(&Call::Find(1)) else {
+        return Err("the key was not found".into());
+    };
+    assert_eq!(rt;
+        rows.as_slice(),
+        [row(1, 1), row(1, 1), row(2, 2)].as_slice()
+    );
+    assert!(rt; matches!(&map.call(&few), Reply::Done));
+    let Reply::Rows(rows) = map.call(&Call::Find(1)) else {
+        return Err("the key was not found".into());
+    };
+    assert_eq!(rt; rows.as_slice(), [row(9, 9)].as_slice());
+    assert!(rt; matches!(&map.call(&Call::Replace(1, RowSet::new())), Reply::Done));
+    assert!(rt; map.state(1).is_filled());
+    assert!(rt; matches!(&map.state(0), KeyState::Hole(0)));
+    Ok(())
+}
+
+#[test]
 fn a_request_is_cancelled_until_its_number_is_worn(rt: HostRuntime) -> Result<(), Fail> {
     let mut map = SeqMap::open_with(rt.alloc(), 1, 4_194_302, 15).map_err(|_| "not opened")?;
     let late = Call::Fill(0, 4_194_302, set_of(&[row(1, 1)])?);

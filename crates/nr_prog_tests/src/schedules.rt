@@ -256,6 +256,44 @@ go|done
 writer cancel 0|nothing
 ";
 
+const A_REPLACEMENT_READS_NOTHING: Lines = "writer replace 0 1:1|closed
+open 1 2 1|ok
+writer replace 0 1:1|dropped
+ask 1 0|send
+writer replace 0 1:1|dropped
+writer fill 0 5:6|-
+go|-
+go|-
+go|-
+go|done
+arrive 1 0|held
+writer replace 0 2:2 1:1|-
+writer replace 0|busy
+go|-
+go|-
+go|-
+go|-
+go|-
+again 1 0|same
+go|done
+again 1 0|other
+read 1 0|1
+read 1 1|5
+writer replace 0|-
+go|no-slot 1 1
+depart 1|ok
+writer replace 0|-
+go|-
+go|-
+go|done
+arrive 1 0|held
+read 1 0|0
+writer replace|bad
+writer replace 0 +1:1|bad
+writer replace 1 1:1|out-of-range
+writer replace 1 1:1 2:1 3:1 4:1 5:1 6:1 7:1 8:1 9:1 10:1 11:1 12:1 13:1 14:1 15:1 16:1|too-many
+";
+
 const A_KEY_HAS_THE_ROWS_OF_ITS_OPENING: Lines = "open 1 3 1 0 0 256|bad
 open 1 3 1 0 0 0|bad
 open 1 3 1 0 0 2|ok
@@ -277,7 +315,7 @@ go|-
 go|too-many
 ";
 
-const SCHEDULES: [Lines; 10] = [
+const SCHEDULES: [Lines; 11] = [
     EVICTED_SET_STAYS_WHILE_IT_IS_HELD,
     COUNTS_WRAP,
     A_FILL_SHOWS_WHEN_IT_IS_DONE,
@@ -287,6 +325,7 @@ const SCHEDULES: [Lines; 10] = [
     REFUSALS_IN_THEIR_ORDER,
     A_LATE_FILL_IS_STALE,
     A_WORN_REQUEST_STAYS,
+    A_REPLACEMENT_READS_NOTHING,
     A_KEY_HAS_THE_ROWS_OF_ITS_OPENING,
 ];
 

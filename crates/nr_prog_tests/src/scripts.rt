@@ -324,6 +324,42 @@ fill b 2:2|not-asked
 look a|rows 1:1
 ";
 
+const A_SET_IS_REPLACED_WHOLE: Lines = "replace 0 1:1|closed
+open 1 3 1|ok
+replace 0 1:1|dropped
+ask 1 0|send
+replace 0 1:1|dropped
+fill 0 5:5|done
+pin 1 0|ok
+replace 0 2:2 1:1|done
+show 1|rows 5:5
+again 1 0|other
+look 0|rows 1:1 2:2
+replace 0|done
+look 0|rows
+replace|bad
+replace 0 +1:1|bad
+replace 1 1:1 2:1 3:1 4:1 5:1 6:1 7:1 8:1 9:1 10:1 11:1 12:1 13:1 14:1 15:1 16:1|no-key
+replace 0 1:1 2:1 3:1 4:1 5:1 6:1 7:1 8:1 9:1 10:1 11:1 12:1 13:1 14:1 15:1 16:1|too-many
+look 0|rows
+evict 0|evicted
+replace 0|dropped
+";
+
+const A_REPLACEMENT_NEEDS_A_SLOT: Lines = "open-named 1 2 1|ok
+replace a 1:1|dropped
+replace b|full
+ask 1 a|send
+fill a 1:1|done
+pin 1 a|ok
+replace a 2:2|done
+replace a 3:3|no-slot
+look a|rows 2:2
+unpin 1|ok
+replace a 3:3|done
+find 1 a|rows 3:3
+";
+
 const A_KEY_HAS_THE_ROWS_OF_ITS_OPENING: Lines = "open 1 3 1 0 0 256|bad
 open 1 3 1 0 0 0|bad
 open 1 3 1 0 0 2|ok
@@ -335,7 +371,7 @@ update 0 +3:3 -1:1|done
 find 1 0|rows 2:2 3:3
 ";
 
-const SCRIPTS: [Lines; 24] = [
+const SCRIPTS: [Lines; 26] = [
     EMPTY_INPUT,
     FIRST_PATH,
     UNASKED_KEYS_TAKE_NOTHING,
@@ -359,6 +395,8 @@ const SCRIPTS: [Lines; 24] = [
     A_REFUSED_LINE_KEEPS_ITS_NAME,
     A_CANCELLED_REQUEST_IS_ASKED_ANEW,
     A_LATE_FILL_IS_STALE,
+    A_SET_IS_REPLACED_WHOLE,
+    A_REPLACEMENT_NEEDS_A_SLOT,
     A_KEY_HAS_THE_ROWS_OF_ITS_OPENING,
 ];
 

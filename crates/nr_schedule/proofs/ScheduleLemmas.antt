@@ -1,13 +1,17 @@
 -- An opened schedule is the run of the events that its lines spell.
-use Rattle.std.proofs.Common.{subst, ℕ, ◌≡◌, true, false, Bool, List, [], ◌∷◌, ◌++◌, length, Option, None, Some, Ok, Err, refl, sym, ◌∙◌, ap, arith}
+use Rattle.std.proofs.Common.{subst, ℕ, ◌≡◌, true, false, Bool, List, [], ◌∷◌, ◌++◌, length, Option, None, Some, Result, Ok, Err, refl, sym, ◌∙◌, ap, arith}
 use Rattle.std.specs.Prelude.{fold, nat_le, if◌then◌else◌, option_map, option_and_then, codes}
 use Rattle.std.proofs.lemmas.List.Sums.{fold-append}
 use borrow.Author.Tests.{leb-true}
 use Rattle.std.proofs.lemmas.Bool.Decides.{nat_tests}
 use Rattle.nr_model.specs.declared.rows.Row.{Row}
 use Rattle.nr_model.specs.declared.rows.TheConstants.{MAX_ROWS}
-use Rattle.nr_model.specs.Rows.{in_order}
+use Rattle.nr_model.specs.declared.rows.TooMany.{TooMany}
+use Rattle.nr_model.specs.Rows.{IsRowSet, in_order}
 use Rattle.nr_model.proofs.LawLemmas.{order_keeps_rows_lem}
+use Rattle.nr_machine.specs.declared.calls.WriterCall.{WriterCall}
+use Rattle.nr_machine.specs.declared.calls.WriterCall.TheVariants as calls
+use Rattle.nr_machine.specs.Given.{IsGivenCall}
 use Rattle.nr_machine.specs.States as machine
 use Rattle.nr_machine.specs.Machine.{next_state}
 use Rattle.nr_core.proofs.Reach.{all_keep_shape}
@@ -21,15 +25,15 @@ use Rattle.nr_text.specs.Opening.{opening_of_words, is_in_limits, shape_of_openi
 use Rattle.nr_text.specs.declared.opening.Opening.{Opening}
 use Rattle.nr_machine.specs.Sizes.{IsShape}
 use Rattle.nr_schedule.specs.Machine.{schedule_reply, answer_schedule_command}
-use Rattle.nr_schedule.specs.Opened.{number_now, opened_schedule, start_fill}
-use Rattle.nr_schedule.specs.ScheduleRuns.{fill_event, event_of, event_if, line_event, events, ScheduleRuns}
+use Rattle.nr_schedule.specs.Opened.{number_now, opened_schedule, start_with}
+use Rattle.nr_schedule.specs.ScheduleRuns.{event_with, event_of, event_if, line_event, events, ScheduleRuns}
 use Rattle.nr_lines.specs.Dialogue.{stays_open}
 use Rattle.nr_lines.specs.Plain.{is_plain, or_bad}
 use Rattle.nr_lines.specs.Text.{after_lines}
 
-fill_steps : (state : machine.State) (key number : ℕ) (set : Option (List Row)) → (stays_open (start_fill state key number set)).1 ≡ Some (fold next_state state (fill_event key number set))
-fill_steps state key number None = refl
-fill_steps state key number (Some rows) = refl
+set_steps : (state : machine.State) (call : List Row → WriterCall) (set : Option (List Row)) → (stays_open (start_with state call set)).1 ≡ Some (fold next_state state (event_with call set))
+set_steps state call None = refl
+set_steps state call (Some rows) = refl
 
 command_steps : (state : machine.State) (tried : Option Command) → (answer_schedule_command (Some state) tried).1 ≡ Some (fold next_state state (event_if state tried))
 command_steps state None = refl
@@ -40,9 +44,10 @@ command_steps state (Some (commands.Depart reader)) = refl
 command_steps state (Some (commands.Ask reader key)) = refl
 command_steps state (Some (commands.Again reader key)) = refl
 command_steps state (Some (commands.Find key)) = refl
-command_steps state (Some (commands.Fill key set)) = fill_steps state key (number_now state key) (within state.shape.rows set)
-command_steps state (Some (commands.FillAs key number set)) = fill_steps state key number (within state.shape.rows set)
+command_steps state (Some (commands.Fill key set)) = set_steps state (calls.Fill key (number_now state key)) (within state.shape.rows set)
+command_steps state (Some (commands.FillAs key number set)) = set_steps state (calls.Fill key number) (within state.shape.rows set)
 command_steps state (Some (commands.Update key batch)) = refl
+command_steps state (Some (commands.Replace key set)) = set_steps state (calls.Replace key) (within state.shape.rows set)
 command_steps state (Some (commands.Evict key)) = refl
 command_steps state (Some (commands.Cancel key)) = refl
 command_steps state (Some commands.Go) = refl
@@ -62,14 +67,14 @@ given_more : (bound : ℕ) (front back : List machine.Event) → AllGiven bound 
 given_more bound [] back front_given back_given = back_given
 given_more bound (event ∷ front) back (given, more) back_given = (given, given_more bound front back more back_given)
 
-ordered_given : (bound key number : ℕ) (rows : List Row) (few : Bool) → nat_le (length (in_order rows)) bound ≡ few
-    → AllGiven bound (fill_event key number (if few then Some (in_order rows) else None))
-ordered_given bound key number rows true few = (((order_keeps_rows_lem rows).0, leb-true _ _ few), tt)
-ordered_given bound key number rows false few = tt
+module _ (bound : ℕ) (call : List Row → WriterCall) (given : (rows : List Row) → IsRowSet bound rows → IsGivenCall bound (call rows)) where
+  ordered_given : (rows : List Row) (few : Bool) → nat_le (length (in_order rows)) bound ≡ few → AllGiven bound (event_with call (if few then Some (in_order rows) else None))
+  ordered_given rows true few = (given (in_order rows) ((order_keeps_rows_lem rows).0, leb-true _ _ few), tt)
+  ordered_given rows false few = tt
 
-set_given : (bound key number : ℕ) (rows : List Row) (few : Bool) → AllGiven bound (fill_event key number (within bound (if few then Ok (in_order rows) else Err (record {}))))
-set_given bound key number rows true = ordered_given bound key number rows (nat_le (length (in_order rows)) bound) refl
-set_given bound key number rows false = tt
+  set_given : (rows : List Row) (few : Bool) → AllGiven bound (event_with call (within bound (if few then Ok (in_order rows) else Err (record {}))))
+  set_given rows true = ordered_given rows (nat_le (length (in_order rows)) bound) refl
+  set_given rows false = tt
 
 module _ (state : machine.State) where
   -- the events of a command, if there is one, bring row sets
@@ -107,11 +112,11 @@ module _ (state : machine.State) where
   alone_gives made [] given = record { sets = given }
   alone_gives made (word ∷ more) given = gives_none
 
-  filling_gives : (line : List (List ℕ)) → Gives (filling number commands.Fill line)
-  filling_gives [] = gives_none
-  filling_gives (word ∷ more) =
-      chained_gives (λ key. option_map (λ rows. commands.Fill key (set_of rows)) (each row more)) (number word)
-      (λ key. mapped_gives (λ rows. commands.Fill key (set_of rows)) (each row more) (λ rows. set_given (bound_of state.shape) key (number_now state key) rows (nat_le (length rows) MAX_ROWS)))
+  filling_gives : (made : ℕ → Result (List Row) TooMany → Command) (line : List (List ℕ)) → ((key : ℕ) (rows : List Row) → AllGiven (bound_of state.shape) (event_of state (made key (set_of rows)))) → Gives (filling number made line)
+  filling_gives made [] given = gives_none
+  filling_gives made (word ∷ more) given =
+      chained_gives (λ key. option_map (λ rows. made key (set_of rows)) (each row more)) (number word)
+      (λ key. mapped_gives (λ rows. made key (set_of rows)) (each row more) (given key))
 
   filling_as_gives : (line : List (List ℕ)) → Gives (filling_as number commands.FillAs line)
   filling_as_gives [] = gives_none
@@ -119,7 +124,7 @@ module _ (state : machine.State) where
   filling_as_gives (word ∷ spelled ∷ more) =
       chained_gives (λ key. option_and_then (λ n. option_map (λ rows. commands.FillAs key n (set_of rows)) (each row more)) (number spelled)) (number word)
       (λ key. chained_gives (λ n. option_map (λ rows. commands.FillAs key n (set_of rows)) (each row more)) (number spelled)
-      (λ n. mapped_gives (λ rows. commands.FillAs key n (set_of rows)) (each row more) (λ rows. set_given (bound_of state.shape) key n rows (nat_le (length rows) MAX_ROWS))))
+      (λ n. mapped_gives (λ rows. commands.FillAs key n (set_of rows)) (each row more) (λ rows. set_given (bound_of state.shape) (calls.Fill key n) (λ _ set. set) rows (nat_le (length rows) MAX_ROWS))))
 
   updating_gives : (line : List (List ℕ)) → Gives (updating number commands.Update line)
   updating_gives [] = gives_none
@@ -131,11 +136,12 @@ module _ (state : machine.State) where
   writer_gives [] = gives_none
   writer_gives (name ∷ more) =
       either_gives _ _ _ (one_gives commands.Find more (λ n. (tt, tt)))
-      (either_gives _ _ _ (filling_gives more)
+      (either_gives _ _ _ (filling_gives commands.Fill more (λ key rows. set_given (bound_of state.shape) (calls.Fill key (number_now state key)) (λ _ set. set) rows (nat_le (length rows) MAX_ROWS)))
       (either_gives _ _ _ (filling_as_gives more)
       (either_gives _ _ _ (updating_gives more)
+      (either_gives _ _ _ (filling_gives commands.Replace more (λ key rows. set_given (bound_of state.shape) (calls.Replace key) (λ _ set. set) rows (nat_le (length rows) MAX_ROWS)))
       (either_gives _ _ _ (one_gives commands.Evict more (λ n. (tt, tt)))
-      (either_gives _ _ _ (one_gives commands.Cancel more (λ n. (tt, tt))) gives_none)))))
+      (either_gives _ _ _ (one_gives commands.Cancel more (λ n. (tt, tt))) gives_none))))))
 
   command_gives : (line : List (List ℕ)) → Gives (schedule_command line)
   command_gives [] = gives_none

@@ -2,7 +2,7 @@
 use Rattle.std.specs.Prelude.{ℕ, if◌then◌else◌, List, [], ◌∷◌, Option, Some, None, codes, option_and_then, option_map}
 use Rattle.std.specs.Str.{bytes_eq}
 use Rattle.nr_schedule.specs.declared.command.Command.{Command}
-use Rattle.nr_schedule.specs.declared.command.Command.TheVariants.{Open, Arrive, Read, Depart, Ask, Again, Find, Fill, FillAs, Update, Evict, Cancel, Go}
+use Rattle.nr_schedule.specs.declared.command.Command.TheVariants.{Open, Arrive, Read, Depart, Ask, Again, Find, Fill, FillAs, Update, Replace, Evict, Cancel, Go}
 use Rattle.nr_text.specs.Grammar.{number, filling, filling_as, updating}
 use Rattle.nr_text.specs.Opening.{opening_of_words}
 
@@ -23,6 +23,7 @@ by_writer (name ∷ more) =
     else if bytes_eq name (codes "fill") then filling number Fill more
     else if bytes_eq name (codes "fill-as") then filling_as number FillAs more
     else if bytes_eq name (codes "update") then updating number Update more
+    else if bytes_eq name (codes "replace") then filling number Replace more
     else if bytes_eq name (codes "evict") then one_number Evict more
     else if bytes_eq name (codes "cancel") then one_number Cancel more
     else None

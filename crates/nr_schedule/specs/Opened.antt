@@ -16,7 +16,7 @@ use Rattle.nr_text.specs.Opening.{shape_of_opening}
 use Rattle.nr_text.specs.Grammar.{within}
 use Rattle.nr_text.specs.declared.opening.Opening.{Opening}
 use Rattle.nr_schedule.specs.declared.command.Command.{Command}
-use Rattle.nr_schedule.specs.declared.command.Command.TheVariants.{Open, Arrive, Read, Depart, Ask, Again, Find, Fill, FillAs, Update, Evict, Cancel, Go}
+use Rattle.nr_schedule.specs.declared.command.Command.TheVariants.{Open, Arrive, Read, Depart, Ask, Again, Find, Fill, FillAs, Update, Replace, Evict, Cancel, Go}
 use Rattle.nr_schedule.specs.declared.answer.StepAnswer.{StepAnswer}
 use Rattle.nr_schedule.specs.declared.answer.StepAnswer.TheVariants as answers
 use Rattle.nr_schedule.specs.declared.answer.StepRefusal.{StepRefusal}
@@ -35,10 +35,10 @@ answered answer (Err why) = Err (refusals.Refused why)
 abbrev pub start : machine.State → WriterCall → ScheduleOutcome
 start state call = (answered answers.Writer (start_answer state call), next_state state (machine.Start call))
 
--- a fill of too many rows is no call
-abbrev pub start_fill : machine.State → ℕ → ℕ → Option (List Row) → ScheduleOutcome
-start_fill state key number (Some rows) = start state (calls.Fill key number rows)
-start_fill state key number None = (Err refusals.TooMany, state)
+-- with too many rows it is no call
+abbrev pub start_with : machine.State → (List Row → WriterCall) → Option (List Row) → ScheduleOutcome
+start_with state call (Some rows) = start state (call rows)
+start_with state call None = (Err refusals.TooMany, state)
 
 -- the number of a key as it stands; a key that isn't there has none, and its fill is refused whatever it names
 abbrev pub number_now : machine.State → ℕ → ℕ
@@ -53,9 +53,10 @@ answer_opened_schedule state (Depart reader) = (answered (λ _. answers.Ok) (dep
 answer_opened_schedule state (Ask reader key) = (answered answers.Asked (ask_answer state reader key), next_state state (machine.Ask reader key))
 answer_opened_schedule state (Again reader key) = (answered answers.Again (find_again_answer state reader key), next_state state (machine.FindAgain reader key))
 answer_opened_schedule state (Find key) = start state (calls.Find key)
-answer_opened_schedule state (Fill key rows) = start_fill state key (number_now state key) (within state.shape.rows rows)
-answer_opened_schedule state (FillAs key number rows) = start_fill state key number (within state.shape.rows rows)
+answer_opened_schedule state (Fill key rows) = start_with state (calls.Fill key (number_now state key)) (within state.shape.rows rows)
+answer_opened_schedule state (FillAs key number rows) = start_with state (calls.Fill key number) (within state.shape.rows rows)
 answer_opened_schedule state (Update key batch) = start state (calls.Update key batch)
+answer_opened_schedule state (Replace key rows) = start_with state (calls.Replace key) (within state.shape.rows rows)
 answer_opened_schedule state (Evict key) = start state (calls.Evict key)
 answer_opened_schedule state (Cancel key) = start state (calls.Cancel key)
 answer_opened_schedule state Go = (answered answers.Writer (go_answer state), next_state state machine.Go)

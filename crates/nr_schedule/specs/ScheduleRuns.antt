@@ -1,6 +1,7 @@
 -- Schedules as runs of the step machine: the events that their lines spell, and the law that ties the two.
 use Rattle.std.specs.Prelude.{ℕ, ◌≡◌, true, if◌then◌else◌, fold, List, [], ◌∷◌, ◌++◌, Option, None, Some}
 use Rattle.nr_model.specs.declared.rows.Row.{Row}
+use Rattle.nr_machine.specs.declared.calls.WriterCall.{WriterCall}
 use Rattle.nr_machine.specs.declared.calls.WriterCall.TheVariants as calls
 use Rattle.nr_machine.specs.States.{State, Event, Arrive, Read, Depart, Ask, FindAgain, Start, Go}
 use Rattle.nr_machine.specs.Machine.{next_state, run}
@@ -19,9 +20,9 @@ use Rattle.nr_lines.specs.Plain.{is_plain, or_bad}
 use Rattle.nr_lines.specs.Text.{after_lines}
 
 -- the event of a command, where it is one of the machine's; a fill that names no number has that of its key as it stands
-abbrev pub fill_event : ℕ → ℕ → Option (List Row) → List Event
-fill_event key number (Some rows) = Start (calls.Fill key number rows) ∷ []
-fill_event key number None = []
+abbrev pub event_with : (List Row → WriterCall) → Option (List Row) → List Event
+event_with call (Some rows) = Start (call rows) ∷ []
+event_with call None = []
 
 abbrev pub event_of : State → Command → List Event
 event_of state (commands.Open opening) = []
@@ -31,9 +32,10 @@ event_of state (commands.Depart reader) = Depart reader ∷ []
 event_of state (commands.Ask reader key) = Ask reader key ∷ []
 event_of state (commands.Again reader key) = FindAgain reader key ∷ []
 event_of state (commands.Find key) = Start (calls.Find key) ∷ []
-event_of state (commands.Fill key rows) = fill_event key (number_now state key) (within state.shape.rows rows)
-event_of state (commands.FillAs key number rows) = fill_event key number (within state.shape.rows rows)
+event_of state (commands.Fill key rows) = event_with (calls.Fill key (number_now state key)) (within state.shape.rows rows)
+event_of state (commands.FillAs key number rows) = event_with (calls.Fill key number) (within state.shape.rows rows)
 event_of state (commands.Update key batch) = Start (calls.Update key batch) ∷ []
+event_of state (commands.Replace key rows) = event_with (calls.Replace key) (within state.shape.rows rows)
 event_of state (commands.Evict key) = Start (calls.Evict key) ∷ []
 event_of state (commands.Cancel key) = Start (calls.Cancel key) ∷ []
 event_of state commands.Go = Go ∷ []

@@ -1,7 +1,9 @@
 //! What a line of a schedule commands.
-ghost use Rattle.std.specs.Prelude.{◌≡◌, ℕ, option_map};
+ghost use Rattle.std.specs.Prelude.{◌≡◌, ℕ, List, Result, option_map};
+ghost use Rattle.nr_model.specs.declared.rows.Row.{Row};
+ghost use Rattle.nr_model.specs.declared.rows.TooMany.{TooMany};
 ghost use Rattle.nr_schedule.specs.declared.command.Command.{Command};
-ghost use Rattle.nr_schedule.specs.declared.command.Command.TheVariants.{Fill, FillAs, Update};
+ghost use Rattle.nr_schedule.specs.declared.command.Command.TheVariants.{FillAs, Update};
 ghost use Rattle.nr_schedule.specs.Commands.{schedule_command, by_writer, one_number, two_numbers};
 ghost use Rattle.nr_text.specs.Grammar.{words, number, filling, filling_as, updating};
 ghost use Rattle.nr_text.specs.Words.{words_left};
@@ -31,7 +33,7 @@ pub(crate) enum Command<'a> {
         reader: u64,
         key: u64,
     },
-    /// This and the next five begin a call of the writer.
+    /// This and the next six begin a call of the writer.
     Find {
         key: u64,
     },
@@ -47,6 +49,10 @@ pub(crate) enum Command<'a> {
     Update {
         key: u64,
         batch: GivenBatch<'a>,
+    },
+    Replace {
+        key: u64,
+        rows: GivenRows<'a>,
     },
     Evict {
         key: u64,
@@ -106,13 +112,18 @@ fn by_writer<'a>(mut words: Words<'a>, given: &'a mut Given) -> Option<Command<'
         return Some(Command::Find { key });
     }
     if name == b"fill".as_slice() {
-        return filling(words, given);
+        let (key, rows) = key_and_rows(words, given)?;
+        return Some(Command::Fill { key, rows });
     }
     if name == b"fill-as".as_slice() {
         return filling_as(words, given);
     }
     if name == b"update".as_slice() {
         return updating(words, given);
+    }
+    if name == b"replace".as_slice() {
+        let (key, rows) = key_and_rows(words, given)?;
+        return Some(Command::Replace { key, rows });
     }
     if name == b"evict".as_slice() {
         let key = one_number(words)?;
@@ -125,12 +136,12 @@ fn by_writer<'a>(mut words: Words<'a>, given: &'a mut Given) -> Option<Command<'
     None
 }
 
-fn filling<'a>(mut words: Words<'a>, given: &'a mut Given) -> Option<Command<'a>>
-    ensures { result ≡ filling number Fill (words_left words.entry) }
+fn key_and_rows<'a>(mut words: Words<'a>, given: &'a mut Given) -> Option<(u64, GivenRows<'a>)>
+    ensures { (made : ℕ → Result (List Row) TooMany → Command) → filling number made (words_left words.entry) ≡ option_map (λ found. made found.0 found.1) result }
 {
     let key = number(words.next()?)?;
     let rows = given.put_rows(set(words)?);
-    Some(Command::Fill { key, rows })
+    Some((key, rows))
 }
 
 fn filling_as<'a>(mut words: Words<'a>, given: &'a mut Given) -> Option<Command<'a>>

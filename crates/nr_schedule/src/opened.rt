@@ -1,13 +1,13 @@
 //! A schedule's machine once it is opened: the step machine, for numbers of any size.
 ghost use Rattle.std.specs.Prelude.{◌≡◌, true, false, IfOk, IfErr, MatchOption};
-ghost use Rattle.nr_model.specs.Maps.{FillFits};
+ghost use Rattle.nr_model.specs.Maps.{SetFits};
 ghost use Rattle.nr_machine.specs.Story.{call_of};
 ghost use Rattle.nr_machine.specs.Machine.{next_state, arrive_answer, read_answer, depart_answer, ask_answer, find_again_answer, go_answer};
 ghost use Rattle.nr_machine.specs.declared.calls.WriterCall.TheVariants as calls;
 ghost use Rattle.nr_machine.specs.Refusals.{has_reader, has_key};
 ghost use Rattle.nr_text.specs.Grammar.{within};
 ghost use Rattle.nr_text.specs.Opening.{is_in_limits};
-ghost use Rattle.nr_schedule.specs.Opened.{answer_opened_schedule, answered, number_now, start, start_fill, opened_schedule};
+ghost use Rattle.nr_schedule.specs.Opened.{answer_opened_schedule, answered, number_now, start, start_with, opened_schedule};
 ghost use Rattle.nr_schedule.specs.declared.answer.StepAnswer.TheVariants as answers;
 
 use crate::answer::{StepAnswer, StepRefusal, WriterStep};
@@ -96,6 +96,7 @@ impl Opened {
             Command::Fill { key, rows } => self.fill(*key, None, rows, tried),
             Command::FillAs { key, number, rows } => self.fill(*key, Some(*number), rows, tried),
             Command::Update { key, batch } => self.update(*key, batch, tried),
+            Command::Replace { key, rows } => self.replace(*key, rows, tried),
             Command::Evict { key } => self.evict(*key, tried),
             Command::Cancel { key } => self.cancel(*key, tried),
             Command::Go => self.go(tried),
@@ -154,8 +155,8 @@ impl Opened {
         tried: &'a mut Result<Step, Refusal>,
     ) -> Result<StepAnswer<'a>, StepRefusal>
         ensures { MatchOption number
-            (start_fill self.old key (number_now self.old key) (within self.old.shape.rows rows.now) ≡ (result, self.new))
-            (λ number. start_fill self.old key number (within self.old.shape.rows rows.now) ≡ (result, self.new)) }
+            (start_with self.old (calls.Fill key (number_now self.old key)) (within self.old.shape.rows rows.now) ≡ (result, self.new))
+            (λ number. start_with self.old (calls.Fill key number) (within self.old.shape.rows rows.now) ≡ (result, self.new)) }
     {
         let Some(rows) = rows.within(self.core.rows()) else {
             return Err(StepRefusal::TooMany);
@@ -191,6 +192,21 @@ impl Opened {
         self.start(&WriterCall::Update(key, *batch.batch()), tried)
     }
 
+    fn replace<'a>(
+        &mut self,
+        key: u64,
+        rows: &GivenRows<'_>,
+        tried: &'a mut Result<Step, Refusal>,
+    ) -> Result<StepAnswer<'a>, StepRefusal>
+        ensures { start_with self.old (calls.Replace key) (within self.old.shape.rows rows.now) ≡ (result, self.new) }
+    {
+        let Some(rows) = rows.within(self.core.rows()) else {
+            return Err(StepRefusal::TooMany);
+        };
+        let key = self.small(key)?;
+        self.start(&WriterCall::Replace(key, *rows), tried)
+    }
+
     fn evict<'a>(
         &mut self,
         key: u64,
@@ -218,7 +234,7 @@ impl Opened {
         call: &WriterCall,
         tried: &'a mut Result<Step, Refusal>,
     ) -> Result<StepAnswer<'a>, StepRefusal>
-        requires fits { FillFits self.old.shape.rows (call_of call.now) }
+        requires fits { SetFits self.old.shape.rows (call_of call.now) }
         ensures answer { start self.old call.now ≡ (result, self.new) }
     {
         *tried = self.core.start(call);

@@ -3,7 +3,7 @@ use Rattle.std.specs.Prelude.{ℕ, ◌&&◌, nat_lt, nat_le, if◌then◌else◌
 use Rattle.std.specs.List.{list_all}
 use Rattle.std.specs.Str.{bytes_eq}
 use Rattle.nr_script.specs.declared.command.Command.{Command}
-use Rattle.nr_script.specs.declared.command.Command.TheVariants.{Open, Find, Ask, Fill, FillAs, Update, Evict, Cancel, Look, Pin, Show, Again, Unpin}
+use Rattle.nr_script.specs.declared.command.Command.TheVariants.{Open, Find, Ask, Fill, FillAs, Update, Replace, Evict, Cancel, Look, Pin, Show, Again, Unpin}
 use Rattle.nr_text.specs.Grammar.{number, filling, filling_as, updating}
 use Rattle.nr_text.specs.Opening.{opening_of_words}
 
@@ -39,6 +39,7 @@ script_command (name ∷ more) =
     else if bytes_eq name (codes "fill") then filling key Fill more
     else if bytes_eq name (codes "fill-as") then filling_as key FillAs more
     else if bytes_eq name (codes "update") then updating key Update more
+    else if bytes_eq name (codes "replace") then filling key Replace more
     else if bytes_eq name (codes "evict") then key_alone Evict more
     else if bytes_eq name (codes "cancel") then key_alone Cancel more
     else if bytes_eq name (codes "look") then key_alone Look more

@@ -16,7 +16,7 @@ use Rattle.nr_names.specs.Naming.{no_names, intern_reply, next_naming, adds}
 use Rattle.nr_script.specs.declared.keys.Keys.{Keys}
 use Rattle.nr_script.specs.declared.keys.Keys.TheVariants as kinds
 use Rattle.nr_script.specs.declared.command.Command.{Command}
-use Rattle.nr_script.specs.declared.command.Command.TheVariants.{Open, Find, Ask, Fill, FillAs, Update, Evict, Cancel, Look, Pin as PinKey, Show, Again, Unpin}
+use Rattle.nr_script.specs.declared.command.Command.TheVariants.{Open, Find, Ask, Fill, FillAs, Update, Replace, Evict, Cancel, Look, Pin as PinKey, Show, Again, Unpin}
 use Rattle.nr_script.specs.declared.answer.Refusal.{Refusal}
 use Rattle.nr_script.specs.declared.answer.Refusal.TheVariants as refusals
 use Rattle.nr_text.specs.Opening.{shape_of_opening}
@@ -126,6 +126,8 @@ answer_opened_script script (Fill word set) =
 answer_opened_script script (FillAs word number set) =
     with_found (found_key script word) (λ key after. with_found (found_set after set, after) (λ rows fits. called fits (calls.Fill key number rows)))
 answer_opened_script script (Update word batch) = with_found (found_key script word) (λ key after. called after (calls.Update key batch))
+answer_opened_script script (Replace word set) =
+    with_found (found_key script word) (λ key after. with_found (found_set after set, after) (λ rows fits. called fits (calls.Replace key rows)))
 answer_opened_script script (Evict word) = with_found (found_key script word) (λ key after. called after (calls.Evict key))
 answer_opened_script script (Cancel word) = with_found (found_key script word) (λ key after. called after (calls.Cancel key))
 answer_opened_script script (Look word) = with_found (found_key script word) (λ key after. called after (calls.Find key))
@@ -142,6 +144,7 @@ adds_by script (Ask reader word) = adds_key script.keys word
 adds_by script (Fill word set) = adds_key script.keys word
 adds_by script (FillAs word number set) = adds_key script.keys word
 adds_by script (Update word batch) = adds_key script.keys word
+adds_by script (Replace word set) = adds_key script.keys word
 adds_by script (Evict word) = adds_key script.keys word
 adds_by script (Cancel word) = adds_key script.keys word
 adds_by script (Look word) = adds_key script.keys word

@@ -1,8 +1,10 @@
 //! What a line asks for.
-ghost use Rattle.std.specs.Prelude.{◌≡◌, List, ℕ, option_map};
+ghost use Rattle.std.specs.Prelude.{◌≡◌, List, ℕ, Result, option_map};
+ghost use Rattle.nr_model.specs.declared.rows.Row.{Row};
+ghost use Rattle.nr_model.specs.declared.rows.TooMany.{TooMany};
 ghost use Rattle.std.specs.List.{list_all};
 ghost use Rattle.nr_script.specs.declared.command.Command.{Command};
-ghost use Rattle.nr_script.specs.declared.command.Command.TheVariants.{Fill, FillAs, Update};
+ghost use Rattle.nr_script.specs.declared.command.Command.TheVariants.{FillAs, Update};
 ghost use Rattle.nr_script.specs.Commands.{script_command, is_name_byte, key, reader_and_key, key_alone, reader_alone};
 ghost use Rattle.nr_text.specs.Grammar.{words, number, filling, filling_as, updating};
 ghost use Rattle.nr_text.specs.Words.{words_left};
@@ -77,6 +79,10 @@ pub(crate) enum Command<'a> {
         key: KeyWord<'a>,
         batch: GivenBatch<'a>,
     },
+    Replace {
+        key: KeyWord<'a>,
+        rows: GivenRows<'a>,
+    },
     Evict {
         key: KeyWord<'a>,
     },
@@ -129,13 +135,18 @@ pub(crate) fn parse<'a>(line: &'a [u8], given: &'a mut Given) -> Option<Command<
         return Some(Command::Ask { reader, key });
     }
     if name == b"fill".as_slice() {
-        return filling(words, given);
+        let (key, rows) = key_and_rows(words, given)?;
+        return Some(Command::Fill { key, rows });
     }
     if name == b"fill-as".as_slice() {
         return filling_as(words, given);
     }
     if name == b"update".as_slice() {
         return updating(words, given);
+    }
+    if name == b"replace".as_slice() {
+        let (key, rows) = key_and_rows(words, given)?;
+        return Some(Command::Replace { key, rows });
     }
     if name == b"evict".as_slice() {
         let key = key_alone(words)?;
@@ -214,12 +225,15 @@ fn is_name(word: &[u8]) -> bool
     word.iter().all(|b| *b >= 33 && *b <= 126)
 }
 
-fn filling<'a>(mut words: Words<'a>, given: &'a mut Given) -> Option<Command<'a>>
-    ensures { result ≡ filling key Fill (words_left words.entry) }
+fn key_and_rows<'a>(
+    mut words: Words<'a>,
+    given: &'a mut Given,
+) -> Option<(KeyWord<'a>, GivenRows<'a>)>
+    ensures { (made : List ℕ → Result (List Row) TooMany → Command) → filling key made (words_left words.entry) ≡ option_map (λ found. made found.0 found.1) result }
 {
     let key = key(words.next()?)?;
     let rows = given.put_rows(set(words)?);
-    Some(Command::Fill { key, rows })
+    Some((key, rows))
 }
 
 fn filling_as<'a>(mut words: Words<'a>, given: &'a mut Given) -> Option<Command<'a>>

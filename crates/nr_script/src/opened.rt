@@ -1,6 +1,6 @@
 //! A script that was opened: a map, and what stands for its keys on the script's lines.
 ghost use Rattle.std.specs.Prelude.{◌≡◌, ◌<◌, ◌≤◌, ◌-◌, length, IfOk, IfErr, OnOk, OnErr, IsTrue, Ok, Err};
-ghost use Rattle.nr_model.specs.Maps.{FillFits, key_count, last_number, state_of};
+ghost use Rattle.nr_model.specs.Maps.{SetFits, key_count, last_number, state_of};
 ghost use Rattle.nr_model.specs.declared.calls.Call.TheVariants as model;
 ghost use Rattle.nr_alone.specs.MapState.{answer_again, answer_pinning, answer_show, answer_unpin};
 ghost use Rattle.nr_alone.specs.WriterCalls.{model_call, writer_key};
@@ -99,6 +99,7 @@ impl Opened {
                 Ok(key) => Ok(Ok(self.call(&WriterCall::Update(key, batch.batch()), found))),
                 Err(refusal) => Ok(Err(refusal)),
             },
+            Command::Replace { key, rows } => self.replace(key, rows, found),
             Command::Evict { key } => match self.key(key)? {
                 Ok(key) => Ok(Ok(self.call(&WriterCall::Evict(key), found))),
                 Err(refusal) => Ok(Err(refusal)),
@@ -178,10 +179,31 @@ impl Opened {
         }
     }
 
+    /// A replacement, unless there are too many rows.
+    fn replace<'a>(
+        &mut self,
+        word: &KeyWord<'_>,
+        rows: &GivenRows<'_>,
+        found: &'a mut RowSet,
+    ) -> Tried<Answer<'a>>
+        ensures answer { IfOk result (λ said. answer_opened_script self.old (command.Replace word.now rows.now) ≡ (said, self.new)) }
+        ensures fault { IfErr result (λ fault. fault ≡ RunFault.Memory) }
+        ensures memory { OnErr result (IsTrue (adds_key self.old.keys word.now)) }
+    {
+        let key = match self.key(word)? {
+            Ok(key) => key,
+            Err(refusal) => return Ok(Err(refusal)),
+        };
+        let Some(rows) = rows.within(self.map.rows()) else {
+            return Ok(Err(Refusal::TooMany));
+        };
+        Ok(Ok(self.call(&WriterCall::Replace(key, rows), found)))
+    }
+
     /// A call of the writer's at one of the map's keys.
     fn call<'a>(&mut self, call: &WriterCall<'_>, found: &'a mut RowSet) -> Answer<'a>
         requires key { writer_key call.now < key_count self.old.state.map }
-        requires fits { FillFits self.old.state.map.bound (model_call call.now) }
+        requires fits { SetFits self.old.state.map.bound (model_call call.now) }
         ensures { called self.old (model_call call.now) ≡ (Ok result, self.new) }
     {
         self.map.call(call, found)

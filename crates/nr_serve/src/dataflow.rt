@@ -1,15 +1,17 @@
 //! The dataflow's side: it fills the keys whose tickets were posted, and keeps the map's rows right.
-ghost use Rattle.std.specs.Prelude.{◌≡◌, ◌≢◌, ◌<◌, ◌≤◌, [], None, Some, Err};
+ghost use Rattle.std.specs.Prelude.{◌≡◌, ◌≢◌, ◌<◌, ◌≤◌, [], length, None, Some, Err};
 ghost use Rattle.std.specs.Borrow.{sem};
 ghost use Rattle.nr_board.specs.Callers.{KnowsOwn};
 ghost use Rattle.nr_board.specs.Meetings.{HearsNote, known_to, with_step};
-ghost use Rattle.nr_board.specs.WriterAnswers.{CancelsKey, EvictsKey, UpdatesKey};
+ghost use Rattle.nr_board.specs.WriterAnswers.{CancelsKey, EvictsKey, ReplacesKey, UpdatesKey};
 
 use crate::lobby::Lobby;
 use crate::raiser::Raiser;
 use crate::source::Source;
-use nr_map::{Cancel, Evict, FillFault, NoSlot, Note, ReaderMap, UpdateFault, Writer, laws};
-use nr_model::Batch;
+use nr_map::{
+    Cancel, Evict, FillFault, NoSlot, Note, ReaderMap, ReplaceFault, UpdateFault, Writer, laws,
+};
+use nr_model::{Batch, RowSet};
 use nr_trigger::{Taker, Trigger, Triggers};
 use std::marker::Model;
 use std::sync::Wait;
@@ -181,6 +183,19 @@ impl<'a, S: Source> Dataflow<'a, S> {
     {
         laws::room_for_updates();
         self.map.update(&mut self.writer, key, batch)
+    }
+
+    /// Puts a set whole in place of a filled key's, as the map's `replace` does. On a map with a slot
+    /// for each key, each reader and one more there always is a slot.
+    pub fn replace(&mut self, key: u32, rows: &RowSet) -> Result<(), ReplaceFault>
+        requires key { key < self.old.map.shape.keys }
+        requires few { length rows.now ≤ self.old.map.shape.rows }
+        ensures replaces { ReplacesKey key rows.now self.old.writer self.new.writer result }
+        ensures rest { self.new ≡ record self.old { writer = self.new.writer } }
+        ensures room { HasRoomForAll self.old.map → (counts : NoSlot) → result ≢ Err (ReplaceFault.NoSlot counts) }
+    {
+        laws::room_for_replacements();
+        self.map.replace(&mut self.writer, key, rows)
     }
 
     /// Makes a filled key a hole, as the map's `evict` does.

@@ -4,7 +4,7 @@ ghost use Rattle.std.specs.Prelude.{◌≡◌};
 
 use crate::queue::{Server, opened_server};
 use crate::source::Shelf;
-use nr_map::{Cancel, Evict, UpdateFault};
+use nr_map::{Cancel, Evict, ReplaceFault, UpdateFault};
 use nr_model::{Batch, OpenFault, RowSet};
 use nr_serve::{Client, Dataflow, Got, Lobby, OpenGate, Turn};
 use std::alloc::Global;
@@ -22,6 +22,7 @@ struct Changed {
     filled: Turn,
     applied: Result<(), UpdateFault>,
     rows: RowSet,
+    replaced: Result<(), ReplaceFault>,
     evicted: Evict,
 }
 
@@ -59,11 +60,13 @@ fn change<R: Wait>(
     let applied = flow.apply(1, change);
     client.hear(flow.note());
     client.get(rt, 1, 1, &mut rows);
+    let replaced = flow.replace(1, &RowSet::new());
     let evicted = flow.evict(1);
     Changed {
         filled,
         applied,
         rows,
+        replaced,
         evicted,
     }
 }
@@ -132,10 +135,11 @@ fn end(client: Client<'_, OpenGate>, flow: Dataflow<'_, Shelf>) {
 pub fn show<R: Print>(rt: &R, told: &Flowed) -> io::Result<()> {
     let Flowed { changed, given_up } = told;
     println!(rt;
-        "A dataflow\n  a turn: {:?}\n  a change: {:?}, to {:?}\n  an eviction: {:?}",
+        "A dataflow\n  a turn: {:?}\n  a change: {:?}, to {:?}\n  a replacement by no rows: {:?}\n  an eviction: {:?}",
         changed.filled,
         changed.applied,
         changed.rows.as_slice(),
+        changed.replaced,
         changed.evicted
     )?;
     println!(rt;

@@ -4,7 +4,7 @@ ghost use Rattle.nr_model.specs.Rows.{is_ascending};
 
 use crate::calls::{CHANGE, ask, fill};
 use crate::opening::opened;
-use nr_map::{FillFault, Found, Reader, ReaderMap, UpdateFault, Writer};
+use nr_map::{FillFault, Found, Reader, ReaderMap, ReplaceFault, UpdateFault, Writer};
 use nr_model::{OpenFault, Pile, Row};
 use std::alloc::Global;
 use std::io::{self, Print};
@@ -16,6 +16,7 @@ pub struct Copied {
     changed: Result<(), UpdateFault>,
     looked: Found,
     rows: Pile,
+    replaced: Option<Result<(), ReplaceFault>>,
 }
 
 // A fill from a slice whose rows are in order. None where they are more than a key may have.
@@ -37,6 +38,23 @@ fn fill_from(
     Some(map.fill_rows(writer, key, number, rows))
 }
 
+// A replacement from such a slice. None where the rows are more than a key may have.
+fn replace_from(
+    map: &ReaderMap,
+    writer: &mut Writer,
+    key: u32,
+    rows: &[Row],
+) -> Option<Result<(), ReplaceFault>>
+    requires own { writer.old.table ≡ map.now }
+    requires key { key < map.now.shape.keys }
+    requires in_order { IsTrue (is_ascending rows.now) }
+{
+    if rows.len() > map.rows() as usize {
+        return None;
+    }
+    Some(map.replace_rows(writer, key, rows))
+}
+
 // A pile is a room for rows, as any type is that has `RowRoom`: a find writes them there. A change
 // needs no batch where its signed rows stand, one to sixty-four.
 fn copy_rows(map: &ReaderMap, writer: &mut Writer, reader: &mut Reader) -> Copied
@@ -49,16 +67,19 @@ fn copy_rows(map: &ReaderMap, writer: &mut Writer, reader: &mut Reader) -> Copie
     let changed = map.update_rows(writer, 1, &CHANGE);
     let mut rows = Pile::new();
     let looked = map.look_into(writer, 1, &mut rows);
+    let replaced = replace_from(map, writer, 0, rows.as_slice());
     Copied {
         found,
         filled,
         changed,
         looked,
         rows,
+        replaced,
     }
 }
 
-/// Key 0 is filled, and key 1 gets the same rows, of which one goes and another comes.
+/// Key 0 is filled, and key 1 gets the same rows, of which one goes and another comes. Then key 0's
+/// set is replaced by key 1's.
 pub fn passed_over(alloc: Global) -> Result<Copied, OpenFault> {
     let (map, mut writer, mut one, _two) = opened(alloc, 2, 5)?;
     ask(&map, &mut one, 0);
@@ -69,11 +90,12 @@ pub fn passed_over(alloc: Global) -> Result<Copied, OpenFault> {
 
 pub fn show<R: Print>(rt: &R, told: &Copied) -> io::Result<()> {
     println!(rt;
-        "Another room\n  reader 1 finds {:?}\n  a fill with them: {:?}\n  a change: {:?}\n  the writer finds {:?}: {:?}",
+        "Another room\n  reader 1 finds {:?}\n  a fill with them: {:?}\n  a change: {:?}\n  the writer finds {:?}: {:?}\n  the first key gets them too: {:?}",
         told.found,
         told.filled,
         told.changed,
         told.looked,
-        told.rows.as_slice()
+        told.rows.as_slice(),
+        told.replaced
     )
 }

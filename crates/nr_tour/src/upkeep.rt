@@ -1,8 +1,8 @@
 //! What the dataflow does to a filled key.
-use crate::calls::{ask, fill};
+use crate::calls::{ask, fill, set_of};
 use crate::opening::opened;
-use nr_map::{Evict, UpdateFault};
-use nr_model::{Batch, OpenFault, RowSet};
+use nr_map::{Evict, ReplaceFault, UpdateFault};
+use nr_model::{Batch, OpenFault, Row, RowSet};
 use std::alloc::Global;
 use std::io::{self, Print};
 
@@ -11,11 +11,13 @@ pub struct Upkeep {
     updated: Result<(), UpdateFault>,
     rows: RowSet,
     refused: Result<(), UpdateFault>,
+    replaced: Result<(), ReplaceFault>,
+    new_rows: RowSet,
     evicted: Evict,
     dropped: Result<(), UpdateFault>,
 }
 
-/// The writer fills key 0, changes it and evicts it. The change is applied whole or not at all: the
+/// The writer fills key 0, changes it, replaces its set and evicts it. The change is applied whole or not at all: the
 /// second time there is no row `7:1` to take away, and the third time no set.
 pub fn kept_up(alloc: Global, change: &Batch) -> Result<Upkeep, OpenFault> {
     let (map, mut writer, mut one, _two) = opened(alloc, 2, 5)?;
@@ -25,12 +27,18 @@ pub fn kept_up(alloc: Global, change: &Batch) -> Result<Upkeep, OpenFault> {
     let mut rows = RowSet::new();
     map.look(&mut writer, 0, &mut rows);
     let refused = map.update(&mut writer, 0, change);
+    let new = set_of(&map, &[Row { a: 5, b: 5 }]);
+    let replaced = map.replace(&mut writer, 0, &new);
+    let mut new_rows = RowSet::new();
+    map.look(&mut writer, 0, &mut new_rows);
     let evicted = map.evict(&mut writer, 0);
     let dropped = map.update(&mut writer, 0, change);
     Ok(Upkeep {
         updated,
         rows,
         refused,
+        replaced,
+        new_rows,
         evicted,
         dropped,
     })
@@ -38,10 +46,12 @@ pub fn kept_up(alloc: Global, change: &Batch) -> Result<Upkeep, OpenFault> {
 
 pub fn show<R: Print>(rt: &R, told: &Upkeep) -> io::Result<()> {
     println!(rt;
-        "Upkeep\n  an update: {:?}, to {:?}\n  the same again: {:?}\n  an eviction: {:?}\n  an update of the hole: {:?}",
+        "Upkeep\n  an update: {:?}, to {:?}\n  the same again: {:?}\n  a replacement: {:?}, by {:?}\n  an eviction: {:?}\n  an update of the hole: {:?}",
         told.updated,
         told.rows.as_slice(),
         told.refused,
+        told.replaced,
+        told.new_rows.as_slice(),
         told.evicted,
         told.dropped
     )

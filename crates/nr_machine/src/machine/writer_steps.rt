@@ -10,9 +10,9 @@ ghost use Rattle.nr_machine.specs.Story.{call_of};
 ghost use Rattle.nr_machine.specs.Machine.{next_state, moved, found_by, start_answer, go_answer};
 ghost use Rattle.nr_machine.specs.Outcomes.{step_of, step_or_refusal};
 ghost use Rattle.nr_machine.specs.Parts.{machine_state};
-ghost use Rattle.nr_machine.specs.Writer.{looked, fill_asked, cancel_asked, decoded, went, moved_to};
+ghost use Rattle.nr_machine.specs.Writer.{looked, fill_asked, cancel_asked, settled, decoded, went, moved_to};
 ghost use Rattle.nr_machine.specs.Slots.{bound_of, slot_room};
-ghost use Rattle.nr_model.specs.Maps.{FillFits};
+ghost use Rattle.nr_model.specs.Maps.{SetFits};
 ghost use Rattle.nr_machine.specs.Given.{IsGivenCall};
 ghost use Rattle.nr_machine.specs.Room.{HasRoom};
 
@@ -27,7 +27,7 @@ impl Machine {
     /// The look: loads the word of the call's key.
     pub fn start(&mut self, call: &WriterCall) -> Result<Outcome, Refusal>
         requires room { HasRoom (machine_state self.old) }
-        requires fits { FillFits (bound_of (machine_state self.old).shape) (call_of call.now) }
+        requires fits { SetFits (bound_of (machine_state self.old).shape) (call_of call.now) }
         ensures answer { (found : List Row) → step_or_refusal found result ≡ start_answer (machine_state self.old) call.now }
         ensures new { machine_state self.new ≡ next_state (machine_state self.old) (Start call.now) }
         ensures given { IsGivenCall (bound_of (machine_state self.old).shape) call.now }
@@ -91,6 +91,13 @@ impl Machine {
                     self.end(Outcome::Dropped)
                 }
             }
+            WriterCall::Replace(_, rows) => {
+                if found.filled {
+                    self.settle_on(call, rows)
+                } else {
+                    self.end(Outcome::Dropped)
+                }
+            }
             WriterCall::Evict(key) => {
                 if found.filled {
                     self.stage = Stage::Leaving(*key);
@@ -130,6 +137,15 @@ impl Machine {
         if asked != number {
             return self.end(Outcome::Stale);
         }
+        self.settle_on(call, rows)
+    }
+
+    /// The call takes a slot for the set that it brings.
+    fn settle_on(&mut self, call: &WriterCall, rows: &RowSet) -> Outcome
+        requires { length self.old.spare.retired ≤ self.old.layout.slots }
+        ensures answer { (found : List Row) → step_of found result ≡ (settled (machine_state self.old).shape (machine_state self.old).desk call.now rows.now).1 }
+        ensures new { machine_state self.new ≡ record (machine_state self.old) { desk = (settled (machine_state self.old).shape (machine_state self.old).desk call.now rows.now).0 } }
+    {
         self.call = *call;
         self.rows = *rows;
         self.settle()
@@ -189,9 +205,10 @@ impl Machine {
                 Err(ApplyFault::NoRow) => self.end(Outcome::NoRow),
                 Err(ApplyFault::TooMany) => self.end(Outcome::TooMany),
             },
-            WriterCall::Fill(_, _, _) | WriterCall::Evict(_) | WriterCall::Cancel(_) => {
-                self.end(Outcome::Going)
-            }
+            WriterCall::Fill(_, _, _)
+            | WriterCall::Replace(_, _)
+            | WriterCall::Evict(_)
+            | WriterCall::Cancel(_) => self.end(Outcome::Going),
         }
     }
 

@@ -1,7 +1,7 @@
 use Rattle.std.proofs.Common.{◌≡◌, ◌<◌, ℕ, List, length, sym, ap, ◌∙◌, subst, arith}
 use Rattle.std.specs.Prelude.{Ok}
 use Rattle.std.proofs.lemmas.List.{with_items_is}
-use Rattle.nr_model.specs.Maps.{FillFits, key_count}
+use Rattle.nr_model.specs.Maps.{SetFits, key_count}
 use Rattle.nr_alone.specs.WriterCalls.{writer_key}
 use Rattle.nr_alone.specs.WriterCalls.{model_call}
 use Rattle.nr_alone.specs.declared.seat.Seat.{Seat}
@@ -21,8 +21,8 @@ call_writer-answer-requires-clause-key c =
 
 pub call_writer-answer-requires-clause-fits : goal.call_writer-answer-requires-clause-fits
 call_writer-answer-requires-clause-fits c =
-    let fits = subst (λ (s : MapState). FillFits s.map.bound (model_call c.args.call.now)) (sym c.self.view_is) c.requires.fits in
-    subst (λ (n : ℕ). FillFits n (model_call c.args.call.now)) (bound_is c.self.inside.map (log_of c.self.inside.writer c.self.inside.seats.items)) fits
+    let fits = subst (λ (s : MapState). SetFits s.map.bound (model_call c.args.call.now)) (sym c.self.view_is) c.requires.fits in
+    subst (λ (n : ℕ). SetFits n (model_call c.args.call.now)) (bound_is c.self.inside.map (log_of c.self.inside.writer c.self.inside.seats.items)) fits
 
 pub invariant_of-self : goal.invariant_of-self
 invariant_of-self c =
