@@ -1,10 +1,10 @@
 -- Notes are split from a token and joined to another.
 use Rattle.std.proofs.Common.{◌≡◌, ℕ, ◌≢◌, List, [], ◌∷◌, ◌++◌, map, set, ◌⊎◌, ⊎_elim, inl, inr, refl, sym, ap, ◌∙◌, subst, arith}
 use mathlib.Core.List.{map-append}
-use mathlib.Core.Option.{some}
+use mathlib.Core.Option.{none, some}
 use lib.ListN.{get_elem?}
-use lib.Seq.{map-set}
-use Rattle.atomic_table.specs.Table.{Joins, Splits, State}
+use lib.Seq.{map-set, set-get_or}
+use Rattle.atomic_table.specs.Table.{Allows, Joins, Me, Splits, State, keeps, step}
 use Rattle.atomic_table.proofs.Lists.{at_map, set_else}
 use Rattle.nr_model.specs.Histories.{Entry}
 use Rattle.nr_core.proofs.Seat.{notes}
@@ -15,6 +15,10 @@ use Rattle.nr_machine.specs.Sums.{total}
 use Rattle.nr_machine.specs.declared.roles.Role.{Role}
 use Rattle.nr_machine.specs.declared.roles.Role.TheVariants.{Note}
 use Rattle.nr_machine.specs.declared.shape.Shape.{Shape}
+use Rattle.nr_board.specs.Ahead.{has_loaded}
+use Rattle.nr_board.proofs.Tokens.{MapSeat}
+use Rattle.nr_board.specs.Callers.{caller_of, token}
+use Rattle.nr_board.specs.Meetings.{with_step}
 use Rattle.nr_board.specs.Notes.{has_noted, note_of, spent, with_note}
 use Rattle.nr_marks.proofs.Knowing.{knowing_set, knowing_snoc, told_since}
 use Rattle.nr_marks.proofs.ListPlaces.{no_places}
@@ -25,9 +29,9 @@ use Rattle.nr_board.specs.Views.{View}
 
 -- a number that is no caller's has no entries
 note_fits : (shape : Shape) (log : List Entry) (view note : View) → note.role ≡ Note → StartsWith log note.seen → note.told ≡ [] → Fits shape log note
-note_fits shape log view note is begins none = record {
+note_fits shape log view note is begins untold = record {
   begins = begins;
-  told = subst (StartsWith log) (sym none) (record { rest = log; is = refl });
+  told = subst (StartsWith log) (sym untold) (record { rest = log; is = refl });
   own = λ caller his. absurd (cc);
   knows_own = λ caller his. absurd (cc);
   acts = λ reads. let no_reader : is_reader note.role ≡ 0 = ap is_reader is in absurd (omega arith);
@@ -93,6 +97,18 @@ splits_so shape id view state kept at =
     let own : Fits shape kept.log maker = record { begins = fits.begins; told = fits.told; own = fits.own; knows_own = fits.knows_own; acts = fits.acts; sized = fits.sized } in
     adds_note shape id maker (record { words = state.words; homes = state.homes; views = set state.views id maker })
     (replaced shape state id view maker kept at refl (inl refl) own (kept.maker id view at) (kept.pasts id view at) (kept.told_pasts id view at)) (here_after state.views id view maker at)
+
+-- a load that tells nothing leaves the words, and its token counts the step
+pub loads_so : (shape : Shape) (slots id : ℕ) (me : Me (Unit {0}) View) (place : ℕ) → Allows (Kept shape) slots id me place (λ word. word) (has_loaded (step slots place 0 0 none) me)
+loads_so shape slots id me place state kept homes at bounded =
+    let view = me.0 in let next = has_noted view in let fits = kept.fits id view at in
+    let own : Fits shape kept.log next = record { begins = fits.begins; told = fits.told; own = fits.own; knows_own = fits.knows_own; acts = fits.acts; sized = fits.sized } in
+    let rests = replaced shape state id view next kept at refl (inl refl) own (kept.maker id view at) (kept.pasts id view at) (kept.told_pasts id view at) in
+    (next, keeps, tt, subst (λ (words : List ℕ). Kept shape (record { words = words; homes = state.homes; views = set state.views id next })) (sym (set-get_or state.words place 0)) rests, refl)
+
+-- as contracts see the token
+pub loaded_token : (seat next : MapSeat) → next.table_id ≡ seat.table_id → next.me.0 ≡ has_noted seat.me.0 → token next ≡ with_step (token seat)
+loaded_token seat next same told = λ j. caller_of (same j) (told j)
 
 -- the hearer takes the note in, and then what is left of it tells nothing
 pub joins_so : (shape : Shape) (id : ℕ) (view : View) (other : ℕ) (note : View) → note.role ≡ Note → Joins (Kept shape) id view other note (with_note view note) spent

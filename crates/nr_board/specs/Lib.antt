@@ -1,3 +1,4 @@
+pub mod Ahead
 pub mod Views
 pub mod Entries
 pub mod Callers

@@ -11,7 +11,7 @@ use Rattle.nr_board.specs.Views.{no_shape, View}
 abbrev pub IsCaller : Role → Type 0
 IsCaller role = 0 < is_writer role + is_reader role
 
--- the token that makes a note counts the note's step, and is else as it was
+-- the token that makes a note counts the note's step, and is else as it was; so is one whose load tells it nothing
 abbrev pub has_noted : View → View
 has_noted view = record view { steps = view.steps + 1 }
 

@@ -5,6 +5,7 @@ ghost use Rattle.nr_model.specs.declared.rows.TheConstants.{MAX_ROWS};
 ghost use Rattle.nr_model.specs.declared.calls.Call.TheVariants as model;
 ghost use Rattle.nr_model.specs.declared.calls.Reply.TheVariants as reply;
 ghost use Rattle.nr_words.specs.KeyWords.{is_filled, slot_of};
+ghost use Rattle.nr_words.specs.Places.{total_of};
 ghost use Rattle.nr_words.specs.SetWords.{encode};
 ghost use Rattle.nr_machine.specs.declared.roles.Desk.{Desk};
 ghost use Rattle.nr_machine.specs.declared.roles.Role.TheVariants.{Writer};
@@ -26,11 +27,12 @@ ghost use Rattle.nr_board.specs.Seats.{IdlesAt, HoldsAt, names_at};
 ghost use Rattle.nr_board.specs.Notes.{IsCaller, IsNote, has_noted, note_of, with_note};
 ghost use Rattle.nr_board.specs.Kinds.{kind_of, kind_shown};
 ghost use Rattle.nr_board.specs.Learning.{Learned};
-ghost use Rattle.nr_board.specs.Meetings.{HasPut, Learns};
+ghost use Rattle.nr_board.specs.Meetings.{HasPut, Learns, with_step};
 ghost use Rattle.nr_board.specs.WriterSeats.{GoesOn, IsBetween, IsReading, IsPolling, IsPutting, IsPublishing, IsLeaving, IsWithdrawing, LeadsTo, PutsTo};
 
 use crate::rule::{
-    Arrives, Asks, Departs, FindsAgain, Given, Goes, Law, Looks, Notes, Puts, Reads, Seats, Sees,
+    Arrives, Asks, Departs, FindsAgain, Given, Goes, Law, Looks, Nears, Notes, Puts, Reads, Seats,
+    Sees,
 };
 use crate::view::View;
 use atomic_table::Table;
@@ -212,6 +214,41 @@ impl Board {
         let words = &self.table.shared;
         let place = begin - 1;
         words.fetch_add::<Departs>(seat, place as usize, 1);
+    }
+
+    /// Loads the word of a key that will be found, so that it is near then. The load tells nothing.
+    pub fn load_key(&self, seat: &mut Seat, key: u32) -> u64
+        requires own { (token seat.old).table ≡ self.now }
+        requires key { key < self.now.shape.keys }
+        ensures step { token seat.new ≡ with_step (token seat.old) }
+        ensures role { seat.new.me.0.role ≡ seat.old.me.0.role }
+    {
+        let words = &self.table.shared;
+        words.load::<Nears>(seat, key as usize)
+    }
+
+    /// Loads the first word of the slot that a key's word names, so that it is near at the find, or
+    /// word 0 where it names none. The load tells nothing.
+    pub fn load_slot(&self, seat: &mut Seat, word: u64)
+        requires own { (token seat.old).table ≡ self.now }
+        ensures step { token seat.new ≡ with_step (token seat.old) }
+        ensures role { seat.new.me.0.role ≡ seat.old.me.0.role }
+    {
+        let words = &self.table.shared;
+        let place = self.block_named(word);
+        words.load::<Nears>(seat, place as usize);
+    }
+
+    /// Where the slot begins that a key's word names, and 0 where it names none of the map's.
+    fn block_named(&self, word: u64) -> u64
+        ensures { result < total_of (layout self.now.shape) }
+    {
+        let found = parts(word);
+        if found.filled && found.slot < self.shape.slots {
+            self.layout().departures(found.slot)
+        } else {
+            0
+        }
     }
 
     /// The writer looks at the key of a call: its word.

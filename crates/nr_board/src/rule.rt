@@ -115,6 +115,15 @@ impl Play<(), View> for Sees {
     ghost then = { has_learned };
 }
 
+/// A load that tells its token nothing.
+pub struct Nears;
+
+impl Play<(), View> for Nears {
+    ghost use Rattle.nr_board.specs.Ahead.{has_loaded};
+
+    ghost then = { has_loaded };
+}
+
 /// A note is made of what a token has seen, and taken in by another.
 pub struct Notes;
 

@@ -19,3 +19,7 @@ pub record IsShape (shape : Shape) : Type 0 where
 -- keys, slots, readers, the first number or the rows of a key are out of their limits
 abbrev pub IsBadShape : Shape → Type 0
 IsBadShape shape = IsBadSize MAX_KEYS shape.keys ⊎ IsBadSize MAX_SLOTS shape.slots ⊎ IsBadSize MAX_READERS shape.readers ⊎ (last_number < shape.first_number) ⊎ IsBadSize MAX_ROWS shape.rows
+
+-- the same for a large map, which has as many slots as keys, or more
+abbrev pub IsBadLargeShape : Shape → Type 0
+IsBadLargeShape shape = IsBadSize 4194303 shape.slots ⊎ IsBadSize shape.slots shape.keys ⊎ IsBadSize 65535 shape.readers ⊎ (4194303 < shape.first_number) ⊎ IsBadSize 255 shape.rows
