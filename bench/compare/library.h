@@ -27,6 +27,7 @@ typedef struct {
   uint32_t (*again)(nr_reader *, uint32_t);
   uint32_t (*release)(nr_reader *);
   uint32_t (*find_kept)(nr_reader *, uint32_t, nr_rows *);
+  uint32_t (*find_each)(nr_reader *, const uint32_t *, size_t, nr_rows *, uint32_t *);
   void *from;
   nr_writer writer;
   struct {
@@ -70,6 +71,7 @@ static void load(library *l, const char *name, const char *path, nr_shape shape)
   *(void **)&l->again = dlsym(l->from, "nr_again");
   *(void **)&l->release = dlsym(l->from, "nr_release");
   *(void **)&l->find_kept = dlsym(l->from, "nr_find_kept");
+  *(void **)&l->find_each = dlsym(l->from, "nr_find_each");
   if (l->open(&shape, &l->writer) != NR_DONE) stop("an opening");
   for (int i = 0; i < READERS; i++)
     if (l->open_reader(&l->writer, &l->reader[i].handle) != NR_DONE) stop("a reader");

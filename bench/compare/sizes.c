@@ -5,11 +5,11 @@
 #define _GNU_SOURCE
 #include "library.h"
 
-enum { ROWS_THERE = 1, CALLS = 100000, FILLS = 512, MOST_ROUNDS = 100, THREADS = 3 };
+enum { ROWS_THERE = 1, GROUP = 16, CALLS = 100000 / GROUP * GROUP, FILLS = 512, MOST_ROUNDS = 100, THREADS = 3 };
 
-typedef enum { FIND_1, FIND_3, UPDATE, FILL, COLUMNS } column;
+typedef enum { FIND_1, EACH_1, FIND_3, EACH_3, UPDATE, FILL, COLUMNS } column;
 
-static const char *const names[COLUMNS] = {"find by 1", "find by 3", "update", "fill"};
+static const char *const names[COLUMNS] = {"find by 1", "16 at once by 1", "find by 3", "16 at once by 3", "update", "fill"};
 
 static library maps[MOST];
 static double each[COLUMNS][MOST][MOST_ROUNDS];
@@ -40,7 +40,32 @@ static void *finds(void *given) {
   return NULL;
 }
 
-static double find_by(library *l, int threads, uint64_t seed) {
+/* Sixteen keys by one call, and by sixteen where the library has no such call. */
+static void find_group(job *j, const uint32_t *wanted, nr_rows *found) {
+  nr_reader *reader = &j->map->reader[j->id].handle;
+  uint32_t answers[GROUP];
+  if (j->map->find_each)
+    j->map->find_each(reader, wanted, GROUP, found, answers);
+  else
+    for (int i = 0; i < GROUP; i++) answers[i] = j->map->find(reader, wanted[i], &found[i]);
+  for (int i = 0; i < GROUP; i++)
+    if (answers[i] != NR_ROWS) stop("a find");
+}
+
+static void *finds_of_16(void *given) {
+  job *j = given;
+  static _Thread_local nr_rows found[GROUP];
+  uint32_t wanted[GROUP];
+  double began = now();
+  for (int i = 0; i < CALLS; i += GROUP) {
+    for (int at = 0; at < GROUP; at++) wanted[at] = drawn(&j->seed);
+    find_group(j, wanted, found);
+  }
+  j->each = (now() - began) / CALLS;
+  return NULL;
+}
+
+static double find_by(library *l, void *(*finds)(void *), int threads, uint64_t seed) {
   pthread_t t[THREADS];
   job jobs[THREADS];
   double sum = 0;
@@ -83,8 +108,10 @@ static double fill(library *l, uint64_t seed) {
 static void measure(int m, int r) {
   library *l = &maps[m];
   uint64_t seed = 88172645463325252u + (uint64_t)r * 104729;
-  each[FIND_1][m][r] = find_by(l, 1, seed);
-  each[FIND_3][m][r] = find_by(l, THREADS, seed);
+  each[FIND_1][m][r] = find_by(l, finds, 1, seed);
+  each[EACH_1][m][r] = find_by(l, finds_of_16, 1, seed);
+  each[FIND_3][m][r] = find_by(l, finds, THREADS, seed);
+  each[EACH_3][m][r] = find_by(l, finds_of_16, THREADS, seed);
   each[UPDATE][m][r] = update(l, seed);
   each[FILL][m][r] = fill(l, seed);
 }

@@ -5,13 +5,13 @@ use Rattle.std.proofs.Math.Seq.{append_snoc}
 use Rattle.nr_model.specs.declared.rows.Row.{Row}
 use Rattle.nr_board.specs.Callers.{Caller}
 use Rattle.nr_map.specs.declared.wanted.Wanted.{Wanted}
-use Rattle.nr_map.specs.FindsEach.{FindsEach, FindsWanted}
+use Rattle.nr_map.specs.FindsEach.{FindsList, FindsWanted, with_loads}
 
 -- that many finds were made: finds of the other keys, which stand there as before, make finds of all
 pub record Begun {Room : Type 0} (shows : Room → List Row → Type 0) (first : Caller) (wanted : List (Wanted Room)) (made : ℕ) (now : Caller) (keys : List (Wanted Room)) : Type 0 where
   pub long : length keys ≡ length wanted
   pub rest : drop made keys ≡ drop made wanted
-  pub on : (last : Caller) (found : List (Wanted Room)) → FindsEach shows now (drop made wanted) last found → FindsEach shows first wanted last (take made keys ++ found)
+  pub on : (last : Caller) (found : List (Wanted Room)) → FindsList shows now (drop made wanted) last found → FindsList shows first wanted last (take made keys ++ found)
 
 module _ {Room : Type 0} (shows : Room → List Row → Type 0) (first : Caller) (wanted : List (Wanted Room)) where
   pub none_made : Begun shows first wanted 0 first wanted
@@ -33,13 +33,20 @@ module _ {Room : Type 0} (shows : Room → List Row → Type 0) (first : Caller)
       one_more next found finds = record {
         long = length-set keys made found ∙ begun.long;
         rest = drop-set-lt (made + 1) keys made found (omega arith) ∙ same_rest;
-        on = λ last others so. let next_too : FindsEach shows now (one ∷ drop (made + 1) wanted) last (found ∷ others) = (next, finds, so) in
-            subst (λ (l : List (Wanted Room)). FindsEach shows first wanted last l)
+        on = λ last others so. let next_too : FindsList shows now (one ∷ drop (made + 1) wanted) last (found ∷ others) = (next, finds, so) in
+            subst (λ (l : List (Wanted Room)). FindsList shows first wanted last l)
             (sym (append_snoc (take made keys) found others) ∙ ap (λ (l : List (Wanted Room)). l ++ others) (sym (take_more_set keys made found low)))
-            (begun.on last (found ∷ others) (subst (λ (l : List (Wanted Room)). FindsEach shows now l last (found ∷ others)) (ap (λ (l : List (Wanted Room)). one ∷ l) (sym same_rest) ∙ tails.0) next_too));
+            (begun.on last (found ∷ others) (subst (λ (l : List (Wanted Room)). FindsList shows now l last (found ∷ others)) (ap (λ (l : List (Wanted Room)). one ∷ l) (sym same_rest) ∙ tails.0) next_too));
       }
 
-    pub all_made : length keys ≤ made → FindsEach shows first wanted now keys
+    pub all_made : length keys ≤ made → FindsList shows first wanted now keys
     all_made end =
-        subst (λ (l : List (Wanted Room)). FindsEach shows first wanted now l) (append-nil (take made keys) ∙ take_all made keys end)
-        (begun.on now [] (subst (λ (l : List (Wanted Room)). FindsEach shows now l now []) (sym (drop_all made wanted (omega (arith, begun.long)))) refl))
+        subst (λ (l : List (Wanted Room)). FindsList shows first wanted now l) (append-nil (take made keys) ∙ take_all made keys end)
+        (begun.on now [] (subst (λ (l : List (Wanted Room)). FindsList shows now l now []) (sym (drop_all made wanted (omega (arith, begun.long)))) refl))
+
+-- loads add up
+pub no_loads : (caller : Caller) → caller ≡ with_loads 0 caller
+no_loads caller = ap (λ (steps : ℕ). record caller { steps = steps }) (omega arith)
+
+pub loads_both : (first then sum : ℕ) (caller : Caller) → first + then ≡ sum → with_loads then (with_loads first caller) ≡ with_loads sum caller
+loads_both first then sum caller is = ap (λ (steps : ℕ). record caller { steps = steps }) (omega (arith, is))

@@ -7,4 +7,5 @@ pub mod NoSlots
 pub mod SlotBounds
 pub mod HandSteps
 pub mod FindsEach
+pub mod FindsGroups
 pub mod RowBounds

@@ -1,5 +1,5 @@
 -- What a find answers after a put of its key.
-use Rattle.std.proofs.Common.{◌≡◌, ◌≢◌, ℕ, ◌+◌, ◌<◌, Bool, true, false, ◌&&◌, ◌==◌, cond, List, [], ◌∷◌, ◌++◌, length, ⊎_elim, inl, inr, ◌⊎◌, ap, subst, refl, sym, ◌∙◌, arith, append_assoc, Result, Ok, Err}
+use Rattle.std.proofs.Common.{◌≡◌, ◌≢◌, ℕ, ◌+◌, ◌<◌, Bool, true, false, ◌&&◌, ◌==◌, List, [], ◌∷◌, ◌++◌, length, ⊎_elim, inl, inr, ◌⊎◌, ap, subst, refl, sym, ◌∙◌, arith, append_assoc, Result, Ok, Err}
 use Rattle.std.specs.List.{count_by}
 use Rattle.std.specs.Prelude.{if◌then◌else◌}
 use Rattle.std.proofs.lemmas.Bool.{cases_eq, cases_Bool, cases_lt, eq-eqb, ne_eqb}
@@ -13,7 +13,6 @@ use Rattle.nr_board.specs.Meetings.{Known}
 use Rattle.nr_board.specs.Rule.{StartsWith}
 use Rattle.nr_model.specs.declared.rows.Row.{Row}
 use Rattle.nr_model.specs.declared.batches.ApplyFault.{ApplyFault}
-use Rattle.nr_model.specs.declared.batches.ApplyFault.TheVariants as fault
 use Rattle.nr_model.specs.declared.calls.Call.{Call}
 use Rattle.nr_model.specs.declared.calls.Call.TheVariants.{Find, Ask, Fill, Update, Replace, Evict, Cancel}
 use Rattle.nr_model.specs.declared.calls.Reply.{Reply}
@@ -21,7 +20,7 @@ use Rattle.nr_model.specs.declared.calls.Reply.TheVariants as reply
 use Rattle.nr_model.specs.declared.states.KeyState.{KeyState}
 use Rattle.nr_model.specs.declared.states.KeyState.TheVariants.{Hole, Asked, Rows}
 use Rattle.nr_model.specs.Batches.{applied}
-use Rattle.nr_model.specs.Maps.{PartialMap, applied_reply, rows_or, call_key, find_reply, is_filled_key, last_number, next, reply_at, reply_to, state_after, state_of}
+use Rattle.nr_model.specs.Maps.{PartialMap, applied_reply, rows_or, call_key, find_reply, is_filled_key, next, reply_at, reply_to, state_after, state_of}
 use Rattle.nr_model.specs.Histories.{Entry, IsLegal, after, is_done}
 use Rattle.nr_model.proofs.HistoryLemmas.{count_by-cons, one, state_of-next_other, state_of-next_same}
 use Rattle.nr_map.specs.Written.{FindsPut, FindsWhatItHeard, FindsWritten, HeardBefore, LastPut, NonePut, ReadsNoOlder, evicts_at, is_evicted}

@@ -1,5 +1,5 @@
 -- Finds of many keys, one after another.
-use Rattle.std.specs.Prelude.{◌≡◌, ◌+◌, List, [], ◌∷◌, None}
+use Rattle.std.specs.Prelude.{◌≡◌, ℕ, ◌+◌, ◌*◌, ◌%◌, ◌==◌, if◌then◌else◌, min, List, [], ◌∷◌, length, None}
 use Rattle.nr_model.specs.declared.rows.Row.{Row}
 use Rattle.nr_board.specs.Callers.{Caller}
 use Rattle.nr_map.specs.Answers.{FindsIn, acts_of}
@@ -12,9 +12,28 @@ pub record FindsWanted {Room : Type 0} (shows : Room → List Row → Type 0) (o
   pub idle : new.holds ≡ None
   pub acts : new.marks.acts ≡ old.marks.acts + acts_of found.found
 
+-- that many loads that tell nothing
+abbrev pub with_loads : ℕ → Caller → Caller
+with_loads loads caller = record caller { steps = caller.steps + loads }
+
 -- the finds of a list of keys: that of the first, and then those of the others
+abbrev pub FindsList : {Room : Type 0} → (Room → List Row → Type 0) → Caller → List (Wanted Room) → Caller → List (Wanted Room) → Type 0
+FindsList shows old [] new [] = new ≡ old
+FindsList shows old (wanted ∷ others) new (found ∷ rest) = (next : Caller) × FindsWanted shows old wanted next found × FindsList shows next others new rest
+FindsList shows old [] new (found ∷ rest) = ⊥
+FindsList shows old (wanted ∷ others) new [] = ⊥
+
+-- the loads before the find of the key at that place, from which on so many are left: two for each key of a group of sixteen, before its first
+abbrev pub loads_at : ℕ → ℕ → ℕ
+loads_at place left = if (place % 16 == 0) then 2 * min left 16 else 0
+
+-- the same with these loads, from that place of a list on
+abbrev pub FindsFrom : {Room : Type 0} → (Room → List Row → Type 0) → ℕ → Caller → List (Wanted Room) → Caller → List (Wanted Room) → Type 0
+FindsFrom shows place old [] new [] = new ≡ old
+FindsFrom shows place old (wanted ∷ others) new (found ∷ rest) = (next : Caller) × FindsWanted shows (with_loads (loads_at place (length (wanted ∷ others))) old) wanted next found × FindsFrom shows (place + 1) next others new rest
+FindsFrom shows place old [] new (found ∷ rest) = ⊥
+FindsFrom shows place old (wanted ∷ others) new [] = ⊥
+
+-- from its first key on
 abbrev pub FindsEach : {Room : Type 0} → (Room → List Row → Type 0) → Caller → List (Wanted Room) → Caller → List (Wanted Room) → Type 0
-FindsEach shows old [] new [] = new ≡ old
-FindsEach shows old (wanted ∷ others) new (found ∷ rest) = (next : Caller) × FindsWanted shows old wanted next found × FindsEach shows next others new rest
-FindsEach shows old [] new (found ∷ rest) = ⊥
-FindsEach shows old (wanted ∷ others) new [] = ⊥
+FindsEach shows old wanted new found = FindsFrom shows 0 old wanted new found

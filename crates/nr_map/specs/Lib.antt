@@ -3,7 +3,6 @@ pub mod Pins
 pub mod Hands
 pub mod Written
 pub mod Opened
-pub mod LargeShapes
 pub mod Tickets
 pub mod Answers
 pub mod FindsEach

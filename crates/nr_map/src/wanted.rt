@@ -1,11 +1,14 @@
 //! Finds of many keys by one call.
-ghost use Rattle.std.specs.Prelude.{◌≡◌, ◌<◌};
+ghost use Rattle.std.specs.Prelude.{◌≡◌, ℕ, ◌+◌, ◌*◌, ◌<◌, ◌≤◌, All, length, min, take};
 ghost use Rattle.nr_board.specs.declared.answers.Found.TheVariants.{Hole};
 
 use crate::reader::Reader;
 use crate::reader_map::ReaderMap;
 use nr_board::Found;
 use nr_model::RowRoom;
+
+// How many keys' words are loaded ahead at a time.
+const GROUP: usize = 16;
 
 /// A key to be found, the room for its rows, and what its last find was answered.
 #[derive(Drop)]
@@ -31,20 +34,36 @@ impl<R> Wanted<R> {
 }
 
 impl ReaderMap {
-    ghost use Rattle.std.specs.Prelude.{All};
-    ghost use Rattle.nr_map.specs.FindsEach.{FindsEach, FindsWanted};
+    ghost use Rattle.nr_map.specs.FindsEach.{FindsEach, FindsList, FindsWanted, with_loads};
 
     /// Looks each key up, in their order, as `find_into` does one: a find of each is an entry of its
     /// own, also of a key that is wanted twice. Each key's rows go to its own room, which stays as it
-    /// is where the key is a hole. Takes the steps of all the finds: 1 for a hole, and 2n + 3 for n
-    /// rows.
+    /// is where the key is a hole. Takes the steps of all the finds, 1 for a hole and 2n + 3 for n
+    /// rows, and 2 loads for each key, which are made for 16 keys at a time before these are found:
+    /// so the caches fetch what 16 finds need at once.
     pub fn find_each<R: RowRoom>(&self, reader: &mut Reader, wanted: &mut [Wanted<R>])
         requires own { reader.old.table ≡ self.now }
         requires keys { All (λ one. one.key < self.now.shape.keys) wanted.old }
         ensures own { reader.new.table ≡ self.now }
         ensures finds { FindsEach R.shows reader.old wanted.old reader.new wanted.new }
     {
-        for one in wanted.iter_mut() {
+        for group in 0..wanted.len().div_ceil(GROUP) {
+            let begin = group * GROUP;
+            let end = end_of_group(begin, wanted.len());
+            self.find_group(reader, &mut wanted[begin..end]);
+        }
+    }
+
+    // The finds of at most sixteen keys.
+    fn find_group<R: RowRoom>(&self, reader: &mut Reader, group: &mut [Wanted<R>])
+        requires own { reader.old.table ≡ self.now }
+        requires keys { All (λ one. one.key < self.now.shape.keys) group.old }
+        requires few { length group.old ≤ 16 }
+        ensures own { reader.new.table ≡ self.now }
+        ensures finds { FindsList R.shows (with_loads (2 * length group.old) reader.old) group.old reader.new group.new }
+    {
+        self.load_group(reader, group);
+        for one in group.iter_mut() {
             self.find_wanted(reader, one);
         }
     }
@@ -56,5 +75,89 @@ impl ReaderMap {
         ensures finds { FindsWanted R.shows reader.old one.old reader.new one.new }
     {
         one.found = self.find_into(reader, one.key, &mut one.rows);
+    }
+
+    /// Loads the words that finds of at most sixteen keys will need, so that they are near then: the
+    /// words of the keys, and after these the first words of the slots that they name. It tells
+    /// nothing, and `find_each` does so by itself. Takes 2 steps a key.
+    pub fn load_ahead(&self, reader: &mut Reader, keys: &[u32])
+        requires own { reader.old.table ≡ self.now }
+        requires keys { All (λ key. key < self.now.shape.keys) keys.now }
+        requires few { length keys.now ≤ 16 }
+        ensures { reader.new ≡ with_loads (2 * length keys.now) reader.old }
+    {
+        let words = self.load_keys(reader, keys);
+        self.load_slots(reader, &words[..keys.len()]);
+    }
+
+    fn load_keys(&self, reader: &mut Reader, keys: &[u32]) -> [u64; GROUP]
+        requires own { reader.old.table ≡ self.now }
+        requires keys { All (λ key. key < self.now.shape.keys) keys.now }
+        requires few { length keys.now ≤ 16 }
+        ensures { reader.new ≡ with_loads (length keys.now) reader.old }
+    {
+        let mut words = [0; GROUP];
+        for place in 0..keys.len() {
+            words[place] = self.key_ahead(reader, keys[place]);
+        }
+        words
+    }
+
+    fn load_slots(&self, reader: &mut Reader, words: &[u64])
+        requires own { reader.old.table ≡ self.now }
+        ensures { reader.new ≡ with_loads (length words.now) reader.old }
+    {
+        for place in 0..words.len() {
+            self.slot_ahead(reader, words[place]);
+        }
+    }
+
+    fn load_group<R>(&self, reader: &mut Reader, group: &[Wanted<R>])
+        requires own { reader.old.table ≡ self.now }
+        requires keys { All (λ one. one.key < self.now.shape.keys) group.now }
+        requires few { length group.now ≤ 16 }
+        ensures { reader.new ≡ with_loads (2 * length group.now) reader.old }
+    {
+        let keys = keys_of(group);
+        self.load_ahead(reader, &keys[..group.len()]);
+    }
+
+    fn key_ahead(&self, reader: &mut Reader, key: u32) -> u64
+        requires own { reader.old.table ≡ self.now }
+        requires key { key < self.now.shape.keys }
+        ensures { reader.new ≡ with_loads 1 reader.old }
+    {
+        self.board.load_key(&mut reader.seat, key)
+    }
+
+    fn slot_ahead(&self, reader: &mut Reader, word: u64)
+        requires own { reader.old.table ≡ self.now }
+        ensures { reader.new ≡ with_loads 1 reader.old }
+    {
+        self.board.load_slot(&mut reader.seat, word);
+    }
+}
+
+// The keys of a group, and zeros after them.
+fn keys_of<R>(group: &[Wanted<R>]) -> [u32; GROUP]
+    requires few { length group.now ≤ 16 }
+    ensures { (bound : ℕ) → All (λ one. one.key < bound) group.now → All (λ key. key < bound) (take (length group.now) result) }
+{
+    let mut keys = [0; GROUP];
+    for place in 0..group.len() {
+        keys[place] = group[place].key;
+    }
+    keys
+}
+
+// Where the group ends that begins there, in a list of that many keys.
+fn end_of_group(begin: usize, keys: usize) -> usize
+    requires { begin < keys }
+    ensures { result ≡ min (begin + 16) keys }
+{
+    if keys - begin < GROUP {
+        keys
+    } else {
+        begin + GROUP
     }
 }

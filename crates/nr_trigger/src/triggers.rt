@@ -12,7 +12,7 @@ use crate::tokens::{Poster, Seat, Taker};
 use crate::trigger::Trigger;
 use crate::view::View;
 use crossbeam_queue::RuledArrayQueue;
-use nr_map::Ticket;
+use nr_map::{MOST_READERS, MOST_SLOTS, Ticket};
 use nr_model::{OpenFault, is_bad_size};
 use std::alloc::{AllocError, Global};
 use std::marker::{Brand, Model};
@@ -51,6 +51,23 @@ impl Triggers {
         ensures ok { IfOk result (λ opened. IsOpenedQueue capacity posters keys opened.0 opened.1.items opened.2) }
     {
         if is_bad_size(MAX_CAPACITY, capacity) || is_bad_size(MAX_POSTERS, posters) {
+            return Err(OpenFault::BadSize);
+        }
+        seated(alloc, capacity, posters).map_err(|_| OpenFault::Memory)
+    }
+
+    /// As `open`, for programs that need more: a capacity of 1 to 4,194,303 tickets and 1 to 65,535
+    /// posters.
+    pub fn open_large(
+        alloc: Global,
+        capacity: u32,
+        posters: u32,
+    ) -> Result<(Triggers, Vec<Poster>, Taker), OpenFault>
+        ghost keys: { ℕ }
+        ensures bad_size { (result ≡ Err OpenFault.BadSize) ↔ (IsBadSize 4194303 capacity ⊎ IsBadSize 65535 posters) }
+        ensures ok { IfOk result (λ opened. IsOpenedQueue capacity posters keys opened.0 opened.1.items opened.2) }
+    {
+        if is_bad_size(MOST_SLOTS, capacity) || is_bad_size(MOST_READERS, posters) {
             return Err(OpenFault::BadSize);
         }
         seated(alloc, capacity, posters).map_err(|_| OpenFault::Memory)

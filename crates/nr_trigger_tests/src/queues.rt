@@ -3,7 +3,7 @@
 //! (`rt try --test --fail-alloc N`, for each N from 1 on).
 ghost use Rattle.std.specs.Prelude.{◌≡◌, ◌<◌, ◌≤◌, ◌+◌, All, IfOk};
 
-use nr_map::{Asked, Reader, ReaderMap, Ticket, Writer};
+use nr_map::{Asked, Reader, ReaderMap, Shape, Ticket, Writer};
 use nr_model::OpenFault;
 use nr_trigger::{Poster, Taker, Triggers, Upquery};
 use std::alloc::Global;
@@ -173,6 +173,59 @@ fn one_attempt_posts_and_takes_where_nobody_is_in_the_way(rt: HostRuntime) -> Re
 #[test]
 fn refused_memory_is_told_and_opens_no_queue(rt: HostRuntime) {
     assert!(rt; queue_of(rt.alloc(), 3, 2).is_ok());
+}
+
+// A queue whose sizes may be large.
+fn large_queue_of(
+    alloc: Global,
+    capacity: u32,
+    posters: u32,
+) -> Result<(Triggers, Vec<Poster>, Taker), OpenFault> {
+    match Triggers::open_large(alloc, capacity, posters) {
+        Err(OpenFault::Memory) => Triggers::open_large(alloc, capacity, posters),
+        opened => opened,
+    }
+}
+
+fn large_map_of(
+    alloc: Global,
+    keys: u32,
+    readers: u32,
+) -> Result<(ReaderMap, Writer, Vec<Reader>), OpenFault> {
+    let shape = Shape {
+        keys,
+        slots: keys,
+        readers,
+        first_count: 0,
+        first_number: 0,
+        rows: 1,
+    };
+    match ReaderMap::open_large(alloc, &shape) {
+        Err(OpenFault::Memory) => ReaderMap::open_large(alloc, &shape),
+        opened => opened,
+    }
+}
+
+// Memory may be refused once: each is then opened by a second try.
+#[test]
+fn refused_memory_is_told_and_opens_nothing_large(rt: HostRuntime) {
+    assert!(rt; large_queue_of(rt.alloc(), 65_537, 1_025).is_ok());
+    assert!(rt; large_map_of(rt.alloc(), 131_073, 1_025).is_ok());
+}
+
+#[test]
+fn large_sizes_have_their_limits(rt: HostRuntime) {
+    for (capacity, posters) in [(0, 1), (4_194_304, 1), (1, 0), (1, 65_536)] {
+        assert!(rt;
+            matches!(
+                large_queue_of(rt.alloc(), capacity, posters),
+                Err(OpenFault::BadSize)
+            )
+        );
+    }
+    for (capacity, posters) in [(1, 1), (4_194_303, 1), (1, 65_535)] {
+        assert!(rt; large_queue_of(rt.alloc(), capacity, posters).is_ok());
+    }
 }
 
 #[test]

@@ -1,25 +1,42 @@
-use Rattle.std.proofs.Common.{◌<◌, ◌∙◌, length, arith, subst, sym}
+use Rattle.std.proofs.Common.{ℕ, ◌≡◌, ◌+◌, ◌-◌, ◌*◌, ◌<◌, ◌≤◌, ◌++◌, ◌∙◌, List, ap, arith, drop, length, min, subst, sym, take}
+use Rattle.std.proofs.lemmas.Grind.{div_ceil_times}
+use Rattle.std.proofs.lemmas.List.{drop-drop, length-take-le, length-append, take-append-drop}
 use Rattle.nr_map.specs.declared.wanted.Wanted.{Wanted}
-use Rattle.nr_map.specs.FindsEach.{FindsWanted}
-use Rattle.nr_map.proofs.FindsEach.{all_made, as_wanted, none_made, one_more}
+use Rattle.nr_map.proofs.FindsGroups.{Grouped, all_grouped, group_more}
 use Rattle.nr_map.proofs.reader_map.ReaderMap.find_each.Goals as goal
 
-pub find_wanted-requires-clause-key : goal.find_wanted-requires-clause-key
-find_wanted-requires-clause-key g c = let at = c.loop-one.one-index in let one = c.one-item.result in let keys = c.loop-one.wanted in
-    let low : at < length keys = omega arith in
-    let was = as_wanted g.R.RowRoom.shows c.args.reader.now c.args.wanted.now at c.loop-one.reader keys c.loop-one.invariant.begun one low c.one-item.is in
-    subst (λ (w : Wanted _). w.key < c.args.self.now.shape.keys) (sym was ∙ c.one-item.is) (c.requires.keys at one (omega arith))
+-- a part of a list from a place to an end, and what comes after it
+module _ {A : Type 0} (keys : List A) (begin end : ℕ) (low : begin ≤ end) (fits : end ≤ length keys) where
+  after : drop (end - begin) (drop begin keys) ≡ drop end keys
+  after = drop-drop (end - begin) begin keys ∙ ap (λ (n : ℕ). drop n keys) (let whole : begin + (end - begin) ≡ end = omega (arith, low) in whole)
 
-pub loop-one-init : goal.loop-one-init
-loop-one-init g c = record { own = c.requires.own; begun = none_made g.R.RowRoom.shows c.args.reader.now c.args.wanted.now }
+  left : length (drop begin keys) + begin ≡ length keys
+  left = let front : length (take begin keys) ≡ begin = length-take-le begin keys (omega (arith, low, fits)) in omega (arith, length-append (take begin keys) (drop begin keys), ap length (take-append-drop begin keys), front)
 
-pub loop-one-preserved : goal.loop-one-preserved
-loop-one-preserved g c = let at = c.loop-one.one-index in let one = c.one-item.result in let keys = c.loop-one.wanted in
-    let low : at < length keys = omega arith in record {
-      own = c.find_wanted.ensures.own;
-      begun = one_more g.R.RowRoom.shows c.args.reader.now c.args.wanted.now at c.loop-one.reader keys c.loop-one.invariant.begun one low c.one-item.is c.find_wanted.new.reader c.find_wanted.new.one
-          (subst (λ (w : Wanted _). FindsWanted g.R.RowRoom.shows c.loop-one.reader w c.find_wanted.new.reader c.find_wanted.new.one) (sym c.one-item.is) c.find_wanted.ensures.finds);
+  part_size : length (take (end - begin) (drop begin keys)) + begin ≡ end
+  part_size = let part : length (take (end - begin) (drop begin keys)) ≡ end - begin = length-take-le (end - begin) (drop begin keys) (omega (arith, left, low, fits)) in omega (arith, part, low)
+
+  part_whole : take (end - begin) (drop begin keys) ++ drop end keys ≡ drop begin keys
+  part_whole = ap (λ (l : List A). take (end - begin) (drop begin keys) ++ l) (sym after) ∙ take-append-drop (end - begin) (drop begin keys)
+
+pub loop-group-preserved : goal.loop-group-preserved
+loop-group-preserved g c = let shows = g.R.RowRoom.shows in let first = c.args.reader.now in let wanted : List (Wanted g.row.R.Denot) = c.args.wanted.now in let keys : List (Wanted g.row.R.Denot) = c.loop-group.wanted in
+    let begin : ℕ = c.loop-group.group * 16 in let end : ℕ = c.end_of_group-end.result in let had = c.loop-group.invariant.grouped in let long : length keys ≡ length wanted = had.long in
+    let bounds = div_ceil_times (length wanted) 16 (omega arith) in
+    let near : begin < length wanted = omega (arith, bounds.1, c.div_ceil-group-end.ensures, c.loop-group-test.true) in
+    let low : begin < length keys = omega (arith, near, long) in
+    let end_is : end ≡ min (begin + 16) (length keys) = c.end_of_group-end.ensures in
+    let here : min begin (length wanted) ≡ begin = omega (arith, near) in let there : end ≡ min ((c.loop-group.group + 1) * 16) (length wanted) = omega (arith, end_is, long) in
+    let up : begin ≤ end = omega (arith, end_is, low) in let fits : end ≤ length keys = omega (arith, end_is) in
+    let found : List (Wanted g.row.R.Denot) = c.find_group.new.group in
+    let more : Grouped shows first wanted end c.find_group.new.reader (take begin keys ++ (found ++ drop end keys)) =
+    group_more shows first wanted c.loop-group.group end c.loop-group.reader keys (subst (λ (made : ℕ). Grouped shows first wanted made c.loop-group.reader keys) here had) low end_is
+    c.find_group.new.reader found (take (end - begin) (drop begin keys)) (part_whole keys begin end up fits) (part_size keys begin end up fits) c.find_group.ensures.finds in record {
+      own = c.find_group.ensures.own;
+      grouped = subst (λ (p : ℕ × List (Wanted g.row.R.Denot)). Grouped shows first wanted p.0 c.find_group.new.reader (take begin keys ++ (found ++ p.1))) (λ j. (there j, sym (after keys begin end up fits) j)) more;
     }
 
 pub returns-clause-finds : goal.returns-clause-finds
-returns-clause-finds g c = all_made g.R.RowRoom.shows c.args.reader.now c.args.wanted.now c.loop-one.one-index c.loop-one.reader c.loop-one.wanted c.loop-one.invariant.begun (omega arith)
+returns-clause-finds g c = let wanted = c.args.wanted.now in let had = c.loop-group.invariant.grouped in let bounds = div_ceil_times (length wanted) 16 (omega arith) in
+    all_grouped g.R.RowRoom.shows c.args.reader.now wanted (min (c.loop-group.group * 16) (length wanted)) c.loop-group.reader c.loop-group.wanted had
+    (omega (arith, had.long, bounds.0, c.div_ceil-group-end.ensures, c.loop-group-test.false))

@@ -1,0 +1,4 @@
+use Rattle.nr_trigger.proofs.triggers.Triggers.open_large.Given as goal
+
+abbrev pub ghost-seated : goal.ghost-seated
+ghost-seated g a = g.keys
