@@ -1,9 +1,8 @@
 -- What opens a map and its handles.
 use Rattle.std.specs.Prelude.{ℕ, ◌≡◌, ◌↔◌, ◌⊎◌, List, [], ◌∷◌, ◌++◌, Some}
-use Rattle.nr_machine.specs.Sizes.{IsBadShape}
+use Rattle.nr_machine.specs.Sizes.{IsBadLargeShape, IsBadShape}
 use Rattle.nr_machine.specs.declared.shape.Shape.{Shape}
 use Rattle.nr_board.specs.Callers.{Caller}
-use Rattle.nr_map.specs.LargeShapes.{IsBadLargeShape}
 use Rattle.nr_map.specs.Opened.{IsOpened}
 use Rattle.nr_c.specs.Hands.{EndsHand}
 use Rattle.nr_c.specs.Numbers.{answer_bad_size, answer_done, answer_no_memory, answer_no_reader}
