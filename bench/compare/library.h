@@ -93,7 +93,7 @@ static int by_size(const void *a, const void *b) {
 }
 
 /* What stands at that part of the values, which it sorts. */
-static double at_part(double *values, int n, double part) {
+static inline double at_part(double *values, int n, double part) {
   qsort(values, (size_t)n, sizeof *values, by_size);
   return values[(int)(part * n)];
 }

@@ -1,5 +1,5 @@
 -- A client's gets send no more requests than they have tries.
-use Rattle.std.proofs.Common.{◌≡◌, ℕ, suc, zero, ◌+◌, ◌*◌, ◌<◌, ◌≤◌, List, [], ◌∷◌, ◌++◌, length, refl, sym, ap, ◌∙◌, subst, arith}
+use Rattle.std.proofs.Common.{◌≡◌, ℕ, suc, zero, ◌+◌, ◌*◌, ◌<◌, ◌≤◌, List, [], ◌∷◌, ◌++◌, length, refl, sym, ap, ◌∙◌, subst, arith, Option}
 use Rattle.std.proofs.Math.Nat.{mul-suc}
 use Rattle.nr_model.specs.declared.rows.Row.{Row}
 use Rattle.nr_model.specs.declared.calls.Reply.{Reply}
@@ -13,6 +13,7 @@ use Rattle.nr_serve.specs.declared.answers.Requested.{Requested}
 use Rattle.nr_serve.specs.declared.answers.Requested.TheVariants.{NotMade, Sent, Waiting, Filled}
 use Rattle.nr_serve.specs.declared.hands.Hands.{Hands}
 use Rattle.nr_serve.specs.Gets.{Ends, found, miss, misses, requested}
+use Rattle.nr_load.specs.declared.fault.LoadFault.{LoadFault}
 use Rattle.nr_load.specs.Drawn.{drawn, drawn_on}
 use Rattle.nr_load.specs.Gained.{Gained, Tells}
 use Rattle.nr_load.specs.Works.{GetsKey, Works}
@@ -56,11 +57,11 @@ pub record GainedFew (keys : ℕ) (old new : Caller) (most : ℕ) : Type 0 where
   pub low : count ≤ most
   pub gained : Gained keys old new count 0
 
-gets_few : (tries keys key : ℕ) (old : Hands) (g : Got) (new : Hands) → key < keys → GetsKey tries key old g new → GainedFew keys old.reader new.reader tries
-gets_few tries keys key old g new near gets =
+gets_few : (tries keys key : ℕ) (old : Hands) (g : Got) (rows : List Row) (new : Hands) → key < keys → GetsKey tries key old g rows new → GainedFew keys old.reader new.reader tries
+gets_few tries keys key old g rows new near gets =
     let get = gets.gets in
     let by : ℕ = old.reader.number in
-    let last = few_last keys by key tries g (length get.requests) get.last get.last_steps gets.before gets.after near get.ends in
+    let last = few_last keys by key tries g (length get.requests) get.last get.last_steps gets.before rows near get.ends in
     let all = few_both keys (misses by key get.requests) get.last (length get.requests) 0 tries (omega (arith, last.0)) (few_misses keys by key get.requests near) last.1 in
     record { count = all.count; low = all.low; gained = record { table = get.moves.makes.table; number = get.moves.makes.number; entries = misses by key get.requests ++ get.last; mine = get.moves.makes.mine; tells = all.tells } }
 
@@ -68,9 +69,9 @@ drawn_near : (keys : ℕ) (g : Lcg) → 0 < keys → drawn keys g < keys
 unfolding drawn
 drawn_near keys g some = omega arith
 
-pub works_few : (tries keys made : ℕ) (g : Lcg) (answered : ℕ) (old new : Hands) (g' : Lcg) → 0 < keys → Works tries keys made g answered old new g' → GainedFew keys old.reader new.reader (tries * made)
-works_few tries keys zero g answered old new g' some w = record { count = 0; low = omega arith; gained = gained_none keys old.reader new.reader (ap (λ (hands : Hands). hands.reader) w.1) }
-works_few tries keys (suc more) g answered old new g' some w =
-    let one = gets_few tries keys _ old w.0 w.1 (drawn_near keys g some) w.3 in
-    let rest = works_few tries keys more (drawn_on g) w.2 w.1 new g' some w.6 in
+pub works_few : (tries keys made : ℕ) (g : Lcg) (answered : ℕ) (known : List ℕ) (fault : Option LoadFault) (old new : Hands) (g' : Lcg) → 0 < keys → Works tries keys made g answered known fault old new g' → GainedFew keys old.reader new.reader (tries * made)
+works_few tries keys zero g answered known fault old new g' some w = record { count = 0; low = omega arith; gained = gained_none keys old.reader new.reader (ap (λ (hands : Hands). hands.reader) w.2) }
+works_few tries keys (suc more) g answered known fault old new g' some w =
+    let one = gets_few tries keys _ old w.0 w.3 w.1 (drawn_near keys g some) w.7 in
+    let rest = works_few tries keys more (drawn_on g) w.2 w.6 w.5 w.1 new g' some w.11 in
     record { count = one.count + rest.count; low = omega (arith, one.low, rest.low, mul-suc tries more); gained = gained_then keys old.reader w.1.reader new.reader one.count 0 rest.count 0 one.gained rest.gained }

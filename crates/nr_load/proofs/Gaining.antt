@@ -22,7 +22,7 @@ use Rattle.nr_serve.specs.Turns.{IsPast, SpendsOne, Turns}
 use Rattle.nr_load.specs.Gained.{Gained, Tells}
 use Rattle.nr_load.proofs.Counting.{tells_both, tells_evict, tells_fill, tells_none, tells_update}
 
-pub gained_none : (keys : ℕ) (a b : Caller) → b ≡ a → Gained keys a b 0 0
+abbrev pub gained_none : (keys : ℕ) (a b : Caller) → b ≡ a → Gained keys a b 0 0
 gained_none keys a b same = record {
   table = ap (λ (c : Caller). c.table) same;
   number = ap (λ (c : Caller). c.number) same;
@@ -31,7 +31,7 @@ gained_none keys a b same = record {
   tells = tells_none keys;
 }
 
-pub gained_then : (keys : ℕ) (a b c : Caller) (s f t g : ℕ) → Gained keys a b s f → Gained keys b c t g → Gained keys a c (s + t) (f + g)
+abbrev pub gained_then : (keys : ℕ) (a b c : Caller) (s f t g : ℕ) → Gained keys a b s f → Gained keys b c t g → Gained keys a c (s + t) (f + g)
 gained_then keys a b c s f t g one two = record {
   table = two.table ∙ one.table;
   number = two.number ∙ one.number;
@@ -40,14 +40,24 @@ gained_then keys a b c s f t g one two = record {
   tells = tells_both keys one.entries two.entries s f t g one.tells two.tells;
 }
 
-grown : (steps keys : ℕ) (a b : Caller) (entries : List Entry) (s f : ℕ) → Grows steps a entries b → Tells keys entries s f → Gained keys a b s f
+-- the same of an equal number of keys, and to an equal caller
+abbrev pub gained_of : (keys keys' : ℕ) (a b b' : Caller) (s f : ℕ) → keys ≡ keys' → b' ≡ b → Gained keys a b s f → Gained keys' a b' s f
+gained_of keys keys' a b b' s f same is gained = record {
+  table = ap (λ (c : Caller). c.table) is ∙ gained.table;
+  number = ap (λ (c : Caller). c.number) is ∙ gained.number;
+  entries = gained.entries;
+  mine = ap (λ (c : Caller). c.mine) is ∙ gained.mine;
+  tells = subst (λ (n : ℕ). Tells n gained.entries s f) same gained.tells;
+}
+
+abbrev grown : (steps keys : ℕ) (a b : Caller) (entries : List Entry) (s f : ℕ) → Grows steps a entries b → Tells keys entries s f → Gained keys a b s f
 grown steps keys a b entries s f grows tells = record { table = grows.table; number = grows.number; entries = entries; mine = grows.mine; tells = tells }
 
-pub evicts_gain : (keys key : ℕ) (a b : Caller) (answer : Evict) → key < keys → EvictsKey key a b answer → Gained keys a b 0 0
+abbrev pub evicts_gain : (keys key : ℕ) (a b : Caller) (answer : Evict) → key < keys → EvictsKey key a b answer → Gained keys a b 0 0
 evicts_gain keys key a b evict.Evicted low evicts = grown 2 keys a b _ 0 0 evicts.0 (tells_evict keys a.number key _ low)
 evicts_gain keys key a b evict.Nothing low evicts = grown 1 keys a b _ 0 0 evicts.0 (tells_evict keys a.number key _ low)
 
-pub updates_gain : (keys bound key : ℕ) (batch : List Delta) (a b : Caller) (answer : Result (Unit {0}) UpdateFault) → key < keys → UpdatesKey bound key batch a b answer → Gained keys a b 0 0
+abbrev pub updates_gain : (keys bound key : ℕ) (batch : List Delta) (a b : Caller) (answer : Result (Unit {0}) UpdateFault) → key < keys → UpdatesKey bound key batch a b answer → Gained keys a b 0 0
 updates_gain keys bound key batch a b (Ok done) low updates = grown _ keys a b _ 0 0 updates.3.gains (tells_update keys a.number key batch _ low)
 updates_gain keys bound key batch a b (Err update.Dropped) low updates = grown _ keys a b _ 0 0 updates.0 (tells_update keys a.number key batch _ low)
 updates_gain keys bound key batch a b (Err update.NoRow) low updates = grown _ keys a b _ 0 0 updates.2 (tells_update keys a.number key batch _ low)
@@ -60,17 +70,17 @@ fills_of (turn.Filled key) = 1
 fills_of (turn.Passed key) = 0
 fills_of (turn.Kept counts) = 0
 
-passes : (keys key number : ℕ) (rows : List Row) (a b : Caller) (fault : FillFault) → IsPast fault → key < keys → FillsKey key number rows a b (Err fault) → Gained keys a b 0 0
+abbrev passes : (keys key number : ℕ) (rows : List Row) (a b : Caller) (fault : FillFault) → IsPast fault → key < keys → FillsKey key number rows a b (Err fault) → Gained keys a b 0 0
 passes keys key number rows a b fill.NotAsked past low fills = grown 1 keys a b _ 0 0 fills.0 (tells_fill keys a.number key number rows _ low)
 passes keys key number rows a b fill.Already past low fills = grown 1 keys a b _ 0 0 fills.0 (tells_fill keys a.number key number rows _ low)
 passes keys key number rows a b fill.Stale past low fills = grown 1 keys a b _ 0 0 fills.0 (tells_fill keys a.number key number rows _ low)
 passes keys key number rows a b (fill.NoSlot counts) past low fills = absurd past
 
 module _ {S : Type 0} (gives : S → ℕ → List Row → S → Type 0) where
-  near_post : (old new : FlowSeen S) (key : ℕ) (answer : Result (Unit {0}) FillFault) (spends : SpendsOne gives old key answer new) → spends.post.upquery.key < old.map.shape.keys
+  pub near_post : (old new : FlowSeen S) (key : ℕ) (answer : Result (Unit {0}) FillFault) (spends : SpendsOne gives old key answer new) → spends.post.upquery.key < old.map.shape.keys
   near_post old new key answer spends = subst (λ (k : ℕ). k < old.map.shape.keys) (sym spends.key_is) spends.near
 
-  pub turns_gain : (old new : FlowSeen S) (answer : Turn) → Turns gives old answer new → Gained old.map.shape.keys old.writer new.writer 0 (fills_of answer)
+  abbrev pub turns_gain : (old new : FlowSeen S) (answer : Turn) → Turns gives old answer new → Gained old.map.shape.keys old.writer new.writer 0 (fills_of answer)
   turns_gain old new turn.Idle turns = gained_none old.map.shape.keys old.writer new.writer (ap (λ (flow : FlowSeen S). flow.writer) turns.2)
   turns_gain old new (turn.Filled key) turns =
       grown _ old.map.shape.keys old.writer new.writer _ 0 1 turns.answers.fills.gains (tells_fill old.map.shape.keys old.writer.number turns.post.upquery.key turns.post.upquery.number turns.answers.rows _ (near_post old new key (Ok tt) turns))

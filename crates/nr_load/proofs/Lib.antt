@@ -1,3 +1,4 @@
+pub mod News
 pub mod Working
 pub mod Counting
 pub mod Gaining
@@ -7,4 +8,6 @@ pub mod Joining
 pub mod Settling
 pub mod Balancing
 pub mod Accounting
+pub mod Finding
+pub mod Flowing
 pub mod Reporting

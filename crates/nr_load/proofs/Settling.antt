@@ -105,7 +105,7 @@ no_choice : (b : Bool) (f g : LoadFault) → (if b then Some f else Some g) ≡ 
 no_choice true f g e = cc
 no_choice false f g e = cc
 
-none_of : (fault other : Option LoadFault) → earlier fault other ≡ None → (fault ≡ None) × (other ≡ None)
+pub none_of : (fault other : Option LoadFault) → earlier fault other ≡ None → (fault ≡ None) × (other ≡ None)
 none_of None other e = (refl, e)
 none_of (Some f) None e = absurd (cc)
 none_of (Some f) (Some g) e = absurd (no_choice _ f g e)
@@ -114,9 +114,10 @@ is_so : (b : Bool) (f : LoadFault) → (if b then None else Some f) ≡ None →
 is_so true f e = refl
 is_so false f e = absurd (cc)
 
--- where no fault is told, no thread was refused and all gets were made
-pub none_told : (one other : Option LoadFault) (is_whole is_all : Bool) → first_of one other is_whole is_all ≡ None → (is_whole ≡ true) × (is_all ≡ true)
+-- where no fault is told, no thread was refused, all gets were made, and neither told one
+pub none_told : (one other : Option LoadFault) (is_whole is_all : Bool) → first_of one other is_whole is_all ≡ None → (is_whole ≡ true) × (is_all ≡ true) × (one ≡ None) × (other ≡ None)
 none_told one other is_whole is_all e =
     let last = none_of (earlier (earlier one other) (if is_whole then None else Some faults.Thread)) (if is_all then None else Some faults.WrongRows) e in
     let refused = none_of (earlier one other) (if is_whole then None else Some faults.Thread) last.0 in
-    (is_so is_whole faults.Thread refused.1, is_so is_all faults.WrongRows last.1)
+    let both = none_of one other refused.0 in
+    (is_so is_whole faults.Thread refused.1, is_so is_all faults.WrongRows last.1, both.0, both.1)

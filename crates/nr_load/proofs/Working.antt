@@ -1,64 +1,75 @@
 -- Gets that follow one another.
-use Rattle.std.proofs.Common.{◌≡◌, ℕ, suc, ◌+◌, ◌≤◌, false, refl, sym, subst, arith, Option, None, Some}
-use Rattle.std.specs.Prelude.{MatchOption}
-use Rattle.std.specs.Option.{is_some}
+use Rattle.std.proofs.Common.{◌≡◌, ℕ, suc, ◌+◌, ◌≤◌, List, length, length-set, refl, sym, ap, ◌∙◌, subst, arith, Option, None, Some}
 use Rattle.rand_pcg.specs.Lcg.{Lcg}
+use Rattle.nr_model.specs.declared.rows.Row.{Row}
 use Rattle.nr_serve.specs.declared.hands.Hands.{Hands}
 use Rattle.nr_serve.specs.declared.answers.Got.{Got}
 use Rattle.nr_serve.specs.declared.answers.Got.TheVariants.{Rows, GaveUp, Barred}
+use Rattle.nr_load.specs.declared.fault.LoadFault.{LoadFault}
+use Rattle.nr_load.specs.declared.fault.LoadFault.TheVariants as faults
 use Rattle.nr_load.specs.Drawn.{drawn, drawn_on}
-use Rattle.nr_load.specs.Works.{answers, MayFollow, MayGoOn, GetsKey, Works}
+use Rattle.nr_load.specs.Works.{GetsKey, Judged, Works, answers, of_gets}
 
 -- whatever gets follow, they go on these
-abbrev pub Begins : ℕ → ℕ → ℕ → Lcg → ℕ → Hands → Hands → Lcg → Type 0
-Begins tries keys made g answered old now g' = (n a : ℕ) (end : Hands) (h : Lcg) → Works tries keys n g' a now end h → Works tries keys (made + n) g (answered + a) old end h
+abbrev pub Begins : ℕ → ℕ → ℕ → Lcg → ℕ → List ℕ → Hands → List ℕ → Hands → Lcg → Type 0
+Begins tries keys made g answered known old known' now g' =
+    (n a : ℕ) (fault : Option LoadFault) (end : Hands) (h : Lcg) → Works tries keys n g' a known' fault now end h → Works tries keys (made + n) g (answered + a) known fault old end h
 
-pub begins : (tries keys : ℕ) (g : Lcg) (old : Hands) → Begins tries keys 0 g 0 old old g
-begins tries keys g old n a end h w =
+pub begins : (tries keys : ℕ) (g : Lcg) (known : List ℕ) (old : Hands) → Begins tries keys 0 g 0 known old known old g
+begins tries keys g known old n a fault end h w =
     let m : n ≡ 0 + n = omega arith in
     let b : a ≡ 0 + a = omega arith in
-    subst (λ (i : ℕ). Works tries keys i g (0 + a) old end h) m (subst (λ (i : ℕ). Works tries keys n g i old end h) b w)
-
-follows : (got : Got) (n : ℕ) → MayGoOn got → MayFollow got n
-follows Barred n none = absurd none
-follows Rows n on = tt
-follows GaveUp n on = tt
-
-last : (got : Got) → MayFollow got 0
-last Barred = refl
-last Rows = tt
-last GaveUp = tt
+    subst (λ (i : ℕ). Works tries keys i g (0 + a) known fault old end h) m (subst (λ (i : ℕ). Works tries keys n g i known fault old end h) b w)
 
 -- what was begun stands for itself
-pub ends : (tries keys made : ℕ) (g : Lcg) (answered : ℕ) (old now : Hands) (g' : Lcg) → Begins tries keys made g answered old now g' → Works tries keys made g answered old now g'
-ends tries keys made g answered old now g' begun =
+pub ends : (tries keys made : ℕ) (g : Lcg) (answered : ℕ) (known : List ℕ) (old : Hands) (known' : List ℕ) (now : Hands) (g' : Lcg) → Begins tries keys made g answered known old known' now g'
+    → Works tries keys made g answered known None old now g'
+ends tries keys made g answered known old known' now g' begun =
     let m : made + 0 ≡ made = omega arith in
     let a : answered + 0 ≡ answered = omega arith in
-    subst (λ (i : ℕ). Works tries keys i g answered old now g') m (subst (λ (i : ℕ). Works tries keys (made + 0) g i old now g') a (begun 0 0 now g' (refl, refl, refl)))
+    subst (λ (i : ℕ). Works tries keys i g answered known None old now g') m (subst (λ (i : ℕ). Works tries keys (made + 0) g i known None old now g') a (begun 0 0 None now g' (refl, refl, refl, refl)))
 
-pub goes_on : (tries keys made : ℕ) (g : Lcg) (answered : ℕ) (old now mid : Hands) (g' : Lcg) (got : Got) → Begins tries keys made g answered old now g' → GetsKey tries (drawn keys g') now got mid → MayGoOn got
-    → Begins tries keys (made + 1) g (answered + answers got) old mid (drawn_on g')
-goes_on tries keys made g answered old now mid g' got begun gets on n a end h w =
-    let m : made + suc n ≡ made + 1 + n = omega arith in
-    let b : answered + (answers got + a) ≡ answered + answers got + a = omega arith in
-    subst (λ (i : ℕ). Works tries keys i g (answered + answers got + a) old end h) m
-    (subst (λ (i : ℕ). Works tries keys (made + suc n) g i old end h) b
-    (begun (suc n) (answers got + a) end h (got, mid, a, gets, follows got n on, refl, w)))
+-- one get more
+module _ (tries keys made : ℕ) (g : Lcg) (answered : ℕ) (known : List ℕ) (old : Hands) (known' : List ℕ) (now mid : Hands) (g' : Lcg) (got : Got) (rows : List Row) (known'' : List ℕ)
+    (begun : Begins tries keys made g answered known old known' now g') (gets : GetsKey tries (drawn keys g') now got rows mid) where
+  pub goes_on : Judged (drawn keys g') known' got rows None known'' → Begins tries keys (made + 1) g (answered + answers got) known old known'' mid (drawn_on g')
+  goes_on judged n a fault end h w =
+      let m : made + suc n ≡ made + 1 + n = omega arith in
+      let b : answered + (answers got + a) ≡ answered + answers got + a = omega arith in
+      subst (λ (i : ℕ). Works tries keys i g (answered + answers got + a) known fault old end h) m
+      (subst (λ (i : ℕ). Works tries keys (made + suc n) g i known fault old end h) b
+      (begun (suc n) (answers got + a) fault end h (got, mid, a, rows, None, fault, known'', gets, judged, refl, refl, w)))
 
--- the last get may have been barred
-pub ends_with : (tries keys made : ℕ) (g : Lcg) (answered : ℕ) (old now mid : Hands) (g' : Lcg) (got : Got) → Begins tries keys made g answered old now g' → GetsKey tries (drawn keys g') now got mid
-    → Works tries keys (made + 1) g (answered + answers got) old mid (drawn_on g')
-ends_with tries keys made g answered old now mid g' got begun gets =
-    let b : answered + (answers got + 0) ≡ answered + answers got = omega arith in
-    subst (λ (i : ℕ). Works tries keys (made + 1) g i old mid (drawn_on g')) b
-    (begun 1 (answers got + 0) mid (drawn_on g') (got, mid, 0, gets, last got, refl, (refl, refl, refl)))
+  -- a fault ends them
+  pub ends_with : (fault : LoadFault) → Judged (drawn keys g') known' got rows (Some fault) known'' → Works tries keys (made + 1) g (answered + answers got) known (Some fault) old mid (drawn_on g')
+  ends_with fault judged =
+      let b : answered + (answers got + 0) ≡ answered + answers got = omega arith in
+      subst (λ (i : ℕ). Works tries keys (made + 1) g i known (Some fault) old mid (drawn_on g')) b
+      (begun 1 (answers got + 0) (Some fault) mid (drawn_on g') (got, mid, 0, rows, Some fault, None, known'', gets, judged, (refl, refl, refl), refl, (refl, refl, refl, refl)))
 
 pub answers_one : (got : Got) → answers got ≤ 1
 answers_one Barred = omega arith
 answers_one Rows = omega arith
 answers_one GaveUp = omega arith
 
--- without a fault it may go on
-pub faultless : {A : Type 0} (fault : Option A) (got : Got) → MatchOption fault (MayGoOn got) (λ f. Unit {0}) → is_some fault ≡ false → MayGoOn got
-faultless None got on none = on
-faultless (Some f) got on none = absurd (cc)
+some_or_none : (fault : LoadFault) → Some fault ≡ None → ⊥
+some_or_none fault is = absurd (cc)
+
+-- what is known has a number for each key still
+pub judged_long : (key : ℕ) (known : List ℕ) (got : Got) (rows : List Row) (told : Option LoadFault) (known' : List ℕ) → Judged key known got rows told known' → length known' ≡ length known
+judged_long key known Rows rows None known' judged = ap (λ (l : List ℕ). length l) judged.3 ∙ length-set known key judged.0
+judged_long key known Rows rows (Some fault) known' judged = ap (λ (l : List ℕ). length l) judged.1
+judged_long key known GaveUp rows told known' judged = ap (λ (l : List ℕ). length l) judged.1
+judged_long key known Barred rows told known' judged = ap (λ (l : List ℕ). length l) judged.1
+
+-- no get tells a want of memory
+pub judged_told : (key : ℕ) (known : List ℕ) (got : Got) (rows : List Row) (fault : LoadFault) (known' : List ℕ) → Judged key known got rows (Some fault) known' → of_gets (Some fault) ≡ Some fault
+judged_told key known Rows rows fault known' judged = subst (λ (it : LoadFault). of_gets (Some it) ≡ Some it) (sym judged.0) refl
+judged_told key known GaveUp rows fault known' judged = absurd (let is = judged.0 in some_or_none fault is)
+judged_told key known Barred rows fault known' judged = subst (λ (it : Option LoadFault). of_gets it ≡ it) (sym judged.0) refl
+
+pub not_memory : (fault : LoadFault) → of_gets (Some fault) ≡ Some fault → Some fault ≡ Some faults.Memory → ⊥
+not_memory faults.Memory told is = some_or_none faults.Memory (sym told)
+not_memory faults.Thread told is = absurd (cc)
+not_memory faults.Barred told is = absurd (cc)
+not_memory faults.WrongRows told is = absurd (cc)

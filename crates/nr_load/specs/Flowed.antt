@@ -1,12 +1,46 @@
--- What the dataflow's thread gives back.
-use Rattle.std.specs.Prelude.{◌≡◌, ℕ}
+-- What a turn does, and what the dataflow's thread gives back.
+use Rattle.std.specs.Prelude.{◌≡◌, ◌≢◌, ◌+◌, ℕ, List, [], ◌∷◌, Option, None, Result, Ok, Err}
+use Rattle.nr_model.specs.declared.batches.Delta.{Delta}
+use Rattle.nr_model.specs.declared.calls.Call.TheVariants as call
+use Rattle.nr_model.specs.declared.calls.Reply.{Reply}
+use Rattle.nr_model.specs.declared.calls.Reply.TheVariants as reply
+use Rattle.nr_model.specs.Histories.{Entry}
+use Rattle.nr_machine.specs.Story.{entry}
 use Rattle.nr_board.specs.Callers.{Caller}
+use Rattle.nr_board.specs.declared.answers.UpdateFault.{UpdateFault}
+use Rattle.nr_serve.specs.Flows.{FlowSeen}
 use Rattle.nr_serve.specs.Hands.{capped}
 use Rattle.nr_load.specs.declared.flow.Flowed.{Flowed}
+use Rattle.nr_load.specs.declared.flow.Turned.{Turned}
+use Rattle.nr_load.specs.declared.flow.Turned.TheVariants as turned
+use Rattle.nr_load.specs.Base.{Changes, IsRound, Rounds}
 use Rattle.nr_load.specs.Gained.{Gained}
 
--- of the writer that it was given: it asked for nothing, and its fills are counted
+-- the one call is a change of a row that was refused
+abbrev pub IsRefused : ℕ → List Entry → Type 0
+IsRefused by later = (key : ℕ) × (batch : List Delta) × (answer : Reply) × (later ≡ entry by (call.Update key batch) answer ∷ []) × (answer ≢ reply.Done)
+
+-- what became of a key after a fill, unless the map refused the change of its row
+abbrev pub Changed : Result (Unit {0}) UpdateFault → (by fills key : ℕ) → List ℕ → List Entry → List ℕ → Type 0
+Changed (Ok done) by fills key base later base' = Changes by fills key base later base'
+Changed (Err fault) by fills key base later base' = IsRefused by later
+
+-- a turn: nothing was asked for, or one trigger, or the map refused a change
+abbrev pub IsTurn : Turned → (by fills : ℕ) → List ℕ → List Entry → ℕ → List ℕ → Type 0
+IsTurn turned.Idle by fills base entries fills' base' = (entries ≡ []) × (fills' ≡ fills) × (base' ≡ base)
+IsTurn turned.Went by fills base entries fills' base' = IsRound by fills base entries fills' base'
+IsTurn turned.Wrong by fills base entries fills' base' = (filled : Entry) × (later : List Entry) × (entries ≡ filled ∷ later) × IsRefused by later
+
+-- what one turn gained: it asked for nothing, and its fills are counted
+pub record TurnsOnce (old new : FlowSeen (List ℕ)) (turned : Turned) (fills fills' : ℕ) : Type 0 where
+  pub count : ℕ
+  pub gained : Gained old.map.shape.keys old.writer new.writer 0 count
+  pub fills_are : fills' ≡ capped (fills + count)
+  pub turn : IsTurn turned old.writer.number fills old.source gained.entries fills' new.source
+
+-- of the writer that it was given: it asked for nothing, and its fills are counted; where it tells no fault its calls are those of a base
 pub record Flows (writer : Caller) (flowed : Flowed) : Type 0 where
   pub count : ℕ
   pub gained : Gained writer.table.shape.keys writer flowed.writer 0 count
   pub fills : flowed.fills ≡ capped count
+  pub rounds : flowed.fault ≡ None → (turns : ℕ) × (base : List ℕ) × Rounds writer.number writer.table.shape.keys turns gained.entries flowed.fills base

@@ -1,6 +1,7 @@
 pub mod Faults
 pub mod Drawn
 pub mod Works
+pub mod Base
 pub mod Gained
 pub mod Flowed
 pub mod Outcomes

@@ -1,5 +1,5 @@
 -- What the threads of the workers give back.
-use Rattle.std.specs.Prelude.{◌≡◌, ◌≤◌, ℕ, ◌+◌, ◌*◌, List, [], ◌∷◌, Option, None, false}
+use Rattle.std.specs.Prelude.{◌≡◌, ◌≤◌, ℕ, ◌+◌, ◌*◌, List, [], ◌∷◌, Option, None, false, replicate}
 use Rattle.std.specs.declared.thread.PromisedHandle.{PromisedHandle}
 use Rattle.rand_pcg.specs.Lcg.{Lcg}
 use Rattle.nr_board.specs.Callers.{Caller}
@@ -10,7 +10,7 @@ use Rattle.nr_load.specs.declared.workers.Serving.{Serving}
 use Rattle.nr_load.specs.Drawn.{stream_of}
 use Rattle.nr_load.specs.Faults.{earlier}
 use Rattle.nr_load.specs.Gained.{Gained}
-use Rattle.nr_load.specs.Works.{Works}
+use Rattle.nr_load.specs.Works.{Works, of_gets}
 
 -- the gets of a reader, of the keys that its own generator drew
 pub record DrawsItsOwn (seed : ℕ) (reader : Caller) (outcome : Outcome) : Type 0 where
@@ -20,7 +20,7 @@ pub record DrawsItsOwn (seed : ℕ) (reader : Caller) (outcome : Outcome) : Type
   pub empty : old.kept ≡ None
   pub ends : new.reader ≡ outcome.reader
   pub generator : Lcg
-  pub works : Works 1000000 reader.table.shape.keys outcome.worked.made (stream_of seed reader.number) outcome.worked.answered old new generator
+  pub works : Works 1000000 reader.table.shape.keys outcome.worked.made (stream_of seed reader.number) outcome.worked.answered (replicate reader.table.shape.keys 0) (of_gets outcome.worked.fault) old new generator
 
 -- what a worker says of the reader that it was given
 pub record Serves (seed gets : ℕ) (reader : Caller) (outcome : Outcome) : Type 0 where

@@ -1,5 +1,5 @@
 -- What a load comes to: one history in which each reader made all its gets, and the report of it.
-use Rattle.std.specs.Prelude.{◌≡◌, ◌<◌, ◌≤◌, ◌+◌, ◌*◌, ℕ, Bool, List, length, None, slice_index_or}
+use Rattle.std.specs.Prelude.{◌≡◌, ◌<◌, ◌≤◌, ◌+◌, ◌*◌, ℕ, Bool, List, length, replicate, None, slice_index_or}
 use Rattle.std.specs.List.{count_by}
 use Rattle.rand_pcg.specs.Lcg.{Lcg}
 use Rattle.nr_model.specs.Histories.{Entry, IsLegal, after, entries_of}
@@ -15,6 +15,7 @@ use Rattle.nr_serve.specs.declared.hands.Hands.{Hands}
 use Rattle.nr_tally.specs.Balance.{of_all}
 use Rattle.nr_load.specs.declared.load.LoadReport.{LoadReport}
 use Rattle.nr_load.specs.declared.load.Plan.{Plan}
+use Rattle.nr_load.specs.Base.{FindsRows}
 use Rattle.nr_load.specs.Drawn.{stream_of}
 use Rattle.nr_load.specs.Gained.{Tells}
 use Rattle.nr_load.specs.Works.{Works}
@@ -40,7 +41,7 @@ pub record MakesAll (plan : Plan) (map : Table) (number answered : ℕ) (calls :
   pub begins : old.reader ≡ newcomer map number no_marks
   pub empty : old.kept ≡ None
   pub generator : Lcg
-  pub works : Works 1000000 plan.keys plan.gets (stream_of plan.seed number) answered old new generator
+  pub works : Works 1000000 plan.keys plan.gets (stream_of plan.seed number) answered (replicate plan.keys 0) None old new generator
   pub all : calls ≡ new.reader.mine
 
 -- the report is of one legal history of a new map, in which each reader made all its gets, and the writer requested and cancelled nothing and did all fills
@@ -55,6 +56,8 @@ pub record ComesTo (plan : Plan) (report : LoadReport) : Type 0 where
   pub each : length answers ≡ plan.readers
   pub works : (at other : ℕ) → at < plan.readers → MakesAll plan map (at + 1) (slice_index_or answers at other) (entries_of history (at + 1))
   pub writes : Tells plan.keys (entries_of history 0) 0 (count_by is_fill history)
+  -- each find found the one row of its key that the base had then; the base began with `k:0` for each key k
+  pub finds : FindsRows (replicate plan.keys 0) history
   pub gets : report.gets ≡ plan.readers * plan.gets
   pub answered : report.answered ≡ total (λ count. count) answers
   pub few : report.answered ≤ report.gets

@@ -1,11 +1,14 @@
 -- A worker's gets, in order.
-use Rattle.std.specs.Prelude.{◌≡◌, ℕ, zero, suc, ◌+◌, List}
+use Rattle.std.specs.Prelude.{◌≡◌, ◌≤◌, ℕ, zero, suc, ◌+◌, List, [], ◌∷◌, slice_index, slice_set, Option, None, Some}
 use Rattle.nr_model.specs.declared.rows.Row.{Row}
 use Rattle.rand_pcg.specs.Lcg.{Lcg}
 use Rattle.nr_serve.specs.declared.answers.Got.{Got}
 use Rattle.nr_serve.specs.declared.answers.Got.TheVariants.{Rows, GaveUp, Barred}
 use Rattle.nr_serve.specs.declared.hands.Hands.{Hands}
 use Rattle.nr_serve.specs.Gets.{Gets}
+use Rattle.nr_load.specs.declared.fault.LoadFault.{LoadFault}
+use Rattle.nr_load.specs.declared.fault.LoadFault.TheVariants as faults
+use Rattle.nr_load.specs.Base.{row_of}
 use Rattle.nr_load.specs.Drawn.{drawn, drawn_on}
 
 abbrev pub answers : Got → ℕ
@@ -13,29 +16,42 @@ answers Rows = 1
 answers GaveUp = 0
 answers Barred = 0
 
--- that many gets may follow: one that was barred is the last
-abbrev pub MayFollow : Got → ℕ → Type 0
-MayFollow Barred more = more ≡ 0
-MayFollow Rows more = Unit {0}
-MayFollow GaveUp more = Unit {0}
+-- rows that are news: the one row of the key, not below what was known of it; from then on that is known
+abbrev pub AreNews : ℕ → List ℕ → List Row → List ℕ → Type 0
+AreNews key known rows known' = (x : ℕ) × (rows ≡ row_of key x ∷ []) × (slice_index known key ≤ x) × (known' ≡ slice_set known key x)
 
-abbrev pub MayGoOn : Got → Type 0
-MayGoOn Barred = ⊥
-MayGoOn Rows = Unit {0}
-MayGoOn GaveUp = Unit {0}
+-- what is told of a get, by how it ended and its rows
+abbrev pub Judged : ℕ → List ℕ → Got → List Row → Option LoadFault → List ℕ → Type 0
+Judged key known Rows rows None known' = AreNews key known rows known'
+Judged key known Rows rows (Some fault) known' = (fault ≡ faults.WrongRows) × (known' ≡ known) × ((later : List ℕ) → AreNews key known rows later → ⊥)
+Judged key known GaveUp rows fault known' = (fault ≡ None) × (known' ≡ known)
+Judged key known Barred rows fault known' = (fault ≡ Some faults.Barred) × (known' ≡ known)
 
--- one get of the key, whatever its rows were
-pub record GetsKey (tries key : ℕ) (old : Hands) (got : Got) (new : Hands) : Type 0 where
+-- one get of the key, which left these rows
+pub record GetsKey (tries key : ℕ) (old : Hands) (got : Got) (rows : List Row) (new : Hands) : Type 0 where
   pub before : List Row
-  pub after : List Row
-  pub gets : Gets key tries old before got new after
+  pub gets : Gets key tries old before got new rows
 
--- a get of each of the next that many drawn keys, in order, and nothing else; that many were answered with rows
-abbrev pub Works : (tries keys made : ℕ) → Lcg → (answered : ℕ) → Hands → Hands → Lcg → Type 0
-Works tries keys zero generator answered old new generator' = (answered ≡ 0) × (new ≡ old) × (generator' ≡ generator)
-Works tries keys (suc more) generator answered old new generator' =
-    (got : Got) × (mid : Hands) × (rest : ℕ)
-    × GetsKey tries (drawn keys generator) old got mid
-    × MayFollow got more
+-- the fault of all gets is that of this one, which is the last then, or that of the others
+abbrev pub TellsOne : Option LoadFault → Option LoadFault → Option LoadFault → ℕ → Type 0
+TellsOne None others all more = all ≡ others
+TellsOne (Some fault) others all more = (all ≡ Some fault) × (others ≡ None) × (more ≡ 0)
+
+-- a get of each of the next that many drawn keys, in order, and nothing else; that many were answered with rows, and a fault of one was told, which is the last
+abbrev pub Works : (tries keys made : ℕ) → Lcg → (answered : ℕ) → List ℕ → Option LoadFault → Hands → Hands → Lcg → Type 0
+Works tries keys zero generator answered known fault old new generator' = (answered ≡ 0) × (fault ≡ None) × (new ≡ old) × (generator' ≡ generator)
+Works tries keys (suc more) generator answered known fault old new generator' =
+    (got : Got) × (mid : Hands) × (rest : ℕ) × (rows : List Row) × (told : Option LoadFault) × (others : Option LoadFault) × (known' : List ℕ)
+    × GetsKey tries (drawn keys generator) old got rows mid
+    × Judged (drawn keys generator) known got rows told known'
+    × TellsOne told others fault more
     × (answered ≡ answers got + rest)
-    × Works tries keys more (drawn_on generator) rest mid new generator'
+    × Works tries keys more (drawn_on generator) rest known' others mid new generator'
+
+-- the fault of a worker's gets, where it isn't the want of memory before them
+abbrev pub of_gets : Option LoadFault → Option LoadFault
+of_gets None = None
+of_gets (Some faults.Memory) = None
+of_gets (Some faults.Thread) = Some faults.Thread
+of_gets (Some faults.Barred) = Some faults.Barred
+of_gets (Some faults.WrongRows) = Some faults.WrongRows

@@ -1,15 +1,14 @@
 //! The thread of the dataflow.
-ghost use Rattle.std.specs.Prelude.{◌≡◌, ◌≢◌, ◌<◌, ◌≤◌, ◌+◌, ℕ, Err};
+ghost use Rattle.std.specs.Prelude.{◌≡◌, ◌≢◌, ◌<◌, ◌≤◌, true, MatchOption, length, replicate};
 ghost use Rattle.nr_map.specs.SlotBounds.{HasRoomForAll};
-ghost use Rattle.nr_serve.specs.Hands.{capped};
-ghost use Rattle.nr_load.specs.Flowed.{Flows};
+ghost use Rattle.nr_load.specs.Flowed.{Changed, Flows, TurnsOnce};
 ghost use Rattle.nr_load.specs.Gained.{Gained};
 ghost use Rattle.nr_load.specs.Handed.{IsTakerOf};
 
 use crate::base::Base;
 use crate::fault::LoadFault;
 use crate::shared::Shared;
-use nr_map::{NoSlot, UpdateFault, Writer};
+use nr_map::{UpdateFault, Writer};
 use nr_serve::{Dataflow, Turn};
 use nr_trigger::Taker;
 use std::sync::Wait;
@@ -23,53 +22,58 @@ pub struct Flowed {
     pub fault: Option<LoadFault>,
 }
 
+/// What a turn came to.
 #[derive(Clone, Copy, Debug, PartialEq, Eq)]
-enum Turned {
+pub(crate) enum Turned {
+    /// Nothing was asked for.
     Idle,
+    /// A trigger was spent, and its key changed where that filled it.
     Went,
+    /// The map refused a change.
     Wrong,
 }
 
 // What becomes of a key after a fill: at each fourth one it is evicted, else its row is changed.
 fn change(flow: &mut Dataflow<'_, Base>, key: u32, fills: u64) -> Result<(), UpdateFault>
-    requires key { key < flow.old.map.shape.keys }
+    requires key { (key < flow.old.map.shape.keys) × (key < length flow.old.source) }
     requires room { HasRoomForAll flow.old.map }
-    ensures gained { Gained flow.old.map.shape.keys flow.old.writer flow.new.writer 0 0 }
+    ensures gained { (gained : Gained flow.old.map.shape.keys flow.old.writer flow.new.writer 0 0) × Changed result flow.old.writer.number fills key flow.old.source gained.entries flow.new.source }
     ensures places { (flow.new.map ≡ flow.old.map) × (flow.new.queue ≡ flow.old.queue) }
-    ensures found_slot { (counts : NoSlot) → result ≢ Err (UpdateFault.NoSlot counts) }
 {
     if fills % 4 == 0 {
         flow.evict(key);
         return Ok(());
     }
-    let Some(batch) = flow.source().step(key) else {
+    let Some(deltas) = flow.source().step(key) else {
         return Ok(());
     };
-    flow.apply(key, &batch)
+    flow.apply_rows(key, &deltas)
 }
 
 fn turn_once<R: Wait>(rt: &R, flow: &mut Dataflow<'_, Base>, fills: &mut u64) -> Turned
+    requires base { length flow.old.source ≡ flow.old.map.shape.keys }
     requires room { HasRoomForAll flow.old.map }
-    ensures gained { (count : ℕ) × Gained flow.old.map.shape.keys flow.old.writer flow.new.writer 0 count × (fills.new ≡ capped (fills.old + count)) }
+    ensures turns { TurnsOnce flow.old flow.new result fills.old fills.new }
     ensures places { (flow.new.map ≡ flow.old.map) × (flow.new.queue ≡ flow.old.queue) }
 {
     let before = *fills;
     match flow.turn_or_sleep(rt) {
         Turn::Idle => Turned::Idle,
         Turn::Passed(_) => Turned::Went,
-        Turn::Kept(_) => Turned::Went,
+        Turn::Kept(_) => unreachable!(),
         Turn::Filled(key) => {
             *fills = before.saturating_add(1);
-            if change(flow, key, *fills).is_ok() {
-                Turned::Went
-            } else {
-                Turned::Wrong
+            match change(flow, key, *fills) {
+                Ok(()) => Turned::Went,
+                Err(_) => Turned::Wrong,
             }
         }
     }
 }
 
-fn is_last(turned: Turned, is_closed: bool) -> bool {
+fn is_last(turned: Turned, is_closed: bool) -> bool
+    ensures { turned ≡ Turned.Wrong → result ≡ true }
+{
     match turned {
         Turned::Idle => is_closed,
         Turned::Went => false,
@@ -77,11 +81,12 @@ fn is_last(turned: Turned, is_closed: bool) -> bool {
     }
 }
 
-fn fault_of(turned: Turned) -> Option<LoadFault> {
-    if turned == Turned::Wrong {
-        Some(LoadFault::WrongRows)
-    } else {
-        None
+fn fault_of(turned: Turned) -> Option<LoadFault>
+    ensures { MatchOption result (turned ≢ Turned.Wrong) (λ fault. (fault ≡ LoadFault.WrongRows) × (turned ≡ Turned.Wrong)) }
+{
+    match turned {
+        Turned::Idle | Turned::Went => None,
+        Turned::Wrong => Some(LoadFault::WrongRows),
     }
 }
 
@@ -96,6 +101,7 @@ pub(crate) fn flow_on<R: Wait>(
 ) -> Flowed
     requires own { writer.table ≡ shared.now.map }
     requires queue { IsTakerOf shared.now.map shared.now.triggers taker }
+    requires base { base ≡ replicate shared.now.map.shape.keys 0 }
     ensures { Flows writer result }
 {
     let lobby = &shared.lobby;

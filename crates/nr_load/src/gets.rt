@@ -1,11 +1,12 @@
 //! A worker's gets.
-ghost use Rattle.std.specs.Prelude.{◌≡◌, ◌≤◌, MatchOption, None, false, true};
+ghost use Rattle.std.specs.Prelude.{◌≡◌, ◌≢◌, ◌≤◌, ◌<◌, ◌∷◌, [], ℕ, List, MatchBool, MatchOption, None, Some, false, length, replicate, true};
+ghost use Rattle.nr_model.specs.declared.rows.Row.{Row};
 ghost use Rattle.nr_load.specs.Drawn.{drawn, drawn_on};
-ghost use Rattle.nr_load.specs.Works.{answers, MayGoOn, GetsKey, Works};
+ghost use Rattle.nr_load.specs.Works.{AreNews, GetsKey, Judged, Works, answers, of_gets};
 
 use crate::draws::Draws;
 use crate::fault::LoadFault;
-use nr_model::RowSet;
+use nr_model::{Row, RowSet};
 use nr_serve::{Client, Gate, Got, Lobby};
 use std::alloc::Global;
 use std::sync::Wait;
@@ -29,7 +30,7 @@ impl Worked {
     // The lobby was found closed after that many gets.
     fn stopped(made: u32, answered: u32) -> Worked
         ensures made { (result.made ≡ made) × (result.answered ≡ answered) }
-        ensures stopped { result.stopped ≡ true }
+        ensures stopped { (result.stopped ≡ true) × (result.fault ≡ None) }
     {
         Worked {
             made,
@@ -53,18 +54,25 @@ impl Worked {
     }
 }
 
+// The row of a set that has just one.
+fn only_row(rows: &RowSet) -> Option<Row>
+    ensures { MatchOption result ((row : Row) → rows.now ≢ row ∷ []) (λ row. rows.now ≡ row ∷ []) }
+{
+    if rows.len() == 1 { rows.get(0) } else { None }
+}
+
 // Whether it is one row of the key, not below what was known of it; then that is known.
-fn is_news(rows: &RowSet, key: u32, known: &mut [u64]) -> bool {
-    let Some(row) = rows.get(0) else {
+fn is_news(rows: &RowSet, key: u32, known: &mut [u64]) -> bool
+    requires { key < length known.old }
+    ensures { MatchBool result (AreNews key known.old rows.now known.new) ((known.new ≡ known.old) × ((later : List ℕ) → AreNews key known.old rows.now later → ⊥)) }
+{
+    let Some(row) = only_row(rows) else {
         return false;
     };
-    let Some(last) = known.get_mut(key as usize) else {
-        return false;
-    };
-    if rows.len() != 1 || row.a != u64::from(key) || row.b < *last {
+    if row.a != u64::from(key) || row.b < known[key as usize] {
         return false;
     }
-    *last = row.b;
+    known[key as usize] = row.b;
     true
 }
 
@@ -77,40 +85,43 @@ fn answers_of(got: Got) -> u32
     }
 }
 
-// The fault of a get that ended so, with wrong rows or not.
-fn fault_of(got: Got, is_wrong: bool) -> Option<LoadFault>
-    ensures { MatchOption result (MayGoOn got) (λ _. Unit {0}) }
+// The fault that is told of a get, whose rows are noted where they are news.
+fn judge(got: Got, rows: &RowSet, key: u32, known: &mut [u64]) -> Option<LoadFault>
+    requires { key < length known.old }
+    ensures { Judged key known.old got rows.now result known.new }
 {
     match got {
         Got::Barred => Some(LoadFault::Barred),
         Got::GaveUp => None,
         Got::Rows => {
-            if is_wrong {
-                Some(LoadFault::WrongRows)
-            } else {
+            if is_news(rows, key, known) {
                 None
+            } else {
+                Some(LoadFault::WrongRows)
             }
         }
     }
 }
 
-// A get of the next drawn key, and whether its rows were wrong.
+// A get of the next drawn key, and the fault that is told of it.
 fn get_drawn<R: Wait, G: Gate>(
     rt: &R,
     client: &mut Client<'_, G>,
     draws: &mut Draws,
     rows: &mut RowSet,
     known: &mut [u64],
-) -> (Got, bool)
-    requires { draws.old.keys ≤ client.old.map.shape.keys }
+) -> (Got, Option<LoadFault>)
+    requires keys { draws.old.keys ≤ client.old.map.shape.keys }
+    requires known { length known.old ≡ draws.old.keys }
     ensures places { (client.new.map ≡ client.old.map) × (client.new.queue ≡ client.old.queue) × (client.new.opened ≡ client.old.opened) }
     ensures draws { (draws.new.keys ≡ draws.old.keys) × (draws.new.generator ≡ drawn_on draws.old.generator) }
-    ensures gets { GetsKey TRIES (drawn draws.old.keys draws.old.generator) client.old.hands result.0 client.new.hands }
+    ensures gets { GetsKey TRIES (drawn draws.old.keys draws.old.generator) client.old.hands result.0 rows.new client.new.hands }
+    ensures judged { Judged (drawn draws.old.keys draws.old.generator) known.old result.0 rows.new result.1 known.new }
 {
     let key = draws.next();
     let got = client.get(rt, key, TRIES, rows);
-    let is_wrong = got == Got::Rows && !is_news(rows, key, known);
-    (got, is_wrong)
+    let fault = judge(got, rows, key, known);
+    (got, fault)
 }
 
 /// A get of each of the next `gets` drawn keys, in order. Before each it looks whether the lobby is
@@ -126,7 +137,8 @@ pub fn load_gets<R: Wait, G: Gate>(
     lobby: &Lobby,
 ) -> Worked
     requires { draws.old.keys ≤ client.old.map.shape.keys }
-    ensures works { Works TRIES draws.old.keys result.made draws.old.generator result.answered client.old.hands client.new.hands draws.new.generator }
+    ensures works { Works TRIES draws.old.keys result.made draws.old.generator result.answered (replicate draws.old.keys 0) (of_gets result.fault) client.old.hands client.new.hands draws.new.generator }
+    ensures memory { result.fault ≡ Some LoadFault.Memory → result.made ≡ 0 }
     ensures few { (result.made ≤ gets) × (result.answered ≤ result.made) }
     ensures all { result.stopped ≡ false → result.fault ≡ None → result.made ≡ gets }
     ensures places { (client.new.map ≡ client.old.map) × (client.new.queue ≡ client.old.queue) × (client.new.opened ≡ client.old.opened) }
@@ -141,11 +153,10 @@ pub fn load_gets<R: Wait, G: Gate>(
         if lobby.is_closed(&mut guest) {
             return Worked::stopped(made, answered);
         }
-        let (got, is_wrong) = get_drawn(rt, client, draws, &mut rows, known.as_mut_slice());
+        let (got, fault) = get_drawn(rt, client, draws, &mut rows, known.as_mut_slice());
         answered += answers_of(got);
-        let fault = fault_of(got, is_wrong);
-        if fault.is_some() {
-            return Worked::ended(made + 1, answered, fault);
+        if let Some(fault) = fault {
+            return Worked::ended(made + 1, answered, Some(fault));
         }
     }
     Worked::ended(gets, answered, None)

@@ -1,5 +1,5 @@
 //! A run of load, and its report.
-ghost use Rattle.std.specs.Prelude.{◌≡◌, ◌==◌, ◌<◌, ◌≤◌, ◌+◌, ◌*◌, ◌^◌, ◌↔◌, IfOk, IsTrue, MatchResult, All, None, Some, map as each_of, vec_len, vec_capacity};
+ghost use Rattle.std.specs.Prelude.{◌≡◌, ◌==◌, ◌<◌, ◌≤◌, ◌+◌, ◌*◌, ◌^◌, ◌↔◌, IfOk, IsTrue, MatchResult, All, None, Some, map as each_of, replicate, vec_len, vec_capacity};
 ghost use Rattle.nr_map.specs.Rounds.{is_cancel, is_fill, is_sent};
 ghost use Rattle.nr_serve.specs.Hands.{capped};
 ghost use Rattle.nr_tally.specs.Balance.{of_all};
@@ -89,6 +89,7 @@ struct Room {
 
 impl Room {
     fn open(alloc: Global, keys: u32, readers: u32) -> Result<Room, AllocError>
+        ensures base { IfOk result (λ room. room.base ≡ replicate keys 0) }
         ensures lists { IfOk result (λ room. HasRoomFor readers room.lists) }
         ensures readers { IfOk result (λ room. (readers ≤ vec_capacity room.readers) × (vec_len room.readers ≡ 0)) }
     {
@@ -228,7 +229,8 @@ fn settle(
 /// makes `gets` gets, of keys that it draws. All memory but a worker's own is asked for before the
 /// first thread starts. A fault of one ends all, and each thread that was started is joined before
 /// the answer, of several faults the first named; `WrongRows` also where gets are missing and nothing
-/// tells why. Then all readers are gathered; the report is of one history that has all their calls.
+/// tells why. Then all readers are gathered; the report is of one history that has all their calls,
+/// and in which each find found the row that the base had then.
 pub fn run_load<R: Threads + Wait + Sync, G: Gate + Sync>(
     rt: &R,
     alloc: Global,

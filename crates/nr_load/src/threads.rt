@@ -1,5 +1,5 @@
 //! All threads of a load: one for each reader and one for the dataflow.
-ghost use Rattle.std.specs.Prelude.{◌≡◌, IfOk, vec_len};
+ghost use Rattle.std.specs.Prelude.{◌≡◌, IfOk, replicate, vec_len};
 ghost use Rattle.nr_load.specs.Ends.{Joins};
 ghost use Rattle.nr_load.specs.Flowed.{Flows};
 ghost use Rattle.nr_load.specs.Handed.{AreTokensOf, HasRoomFor, IsTakerOf};
@@ -73,6 +73,7 @@ fn start_flow<'s, E, R: Wait + Sync>(
 ) -> Result<PromisedHandle<Flowed, Flowing>, LoadFault>
     requires own { writer.table ≡ shared.now.map }
     requires queue { IsTakerOf shared.now.map shared.now.triggers taker }
+    requires base { base ≡ replicate shared.now.map.shape.keys 0 }
     ensures { IfOk result (λ handle. handle.promise.writer.value ≡ writer) }
 {
     let promise = promise_to_flow(&writer);
@@ -81,6 +82,7 @@ fn start_flow<'s, E, R: Wait + Sync>(
         move || -> Flowed
             requires own { writer.table ≡ shared.now.map }
             requires queue { IsTakerOf shared.now.map shared.now.triggers taker }
+            requires base { base ≡ replicate shared.now.map.shape.keys 0 }
             ensures { Flows writer result }
         { flow_on(rt, shared, writer, taker, base) },
     ) {
@@ -102,6 +104,7 @@ fn serve_within<'s, E, R: Threads + Wait + Sync, G: Gate + Sync>(
     lists: Lists,
 ) -> Result<Joined, LoadFault>
     requires tokens { AreTokensOf shared.now.map shared.now.triggers tokens }
+    requires base { base ≡ replicate shared.now.map.shape.keys 0 }
     requires room { HasRoomFor (vec_len tokens.readers) lists }
     ensures { IfOk result (Joins shared.now.plan.seed shared.now.plan.gets tokens) }
 {
@@ -135,6 +138,7 @@ pub(crate) fn serve_all<R: Threads + Wait + Sync, G: Gate + Sync>(
     lists: Lists,
 ) -> Result<Joined, LoadFault>
     requires tokens { AreTokensOf shared.now.map shared.now.triggers tokens }
+    requires base { base ≡ replicate shared.now.map.shape.keys 0 }
     requires room { HasRoomFor (vec_len tokens.readers) lists }
     ensures { IfOk result (Joins shared.now.plan.seed shared.now.plan.gets tokens) }
 {
@@ -143,6 +147,7 @@ pub(crate) fn serve_all<R: Threads + Wait + Sync, G: Gate + Sync>(
         rt,
         |scope| -> Result<Joined, LoadFault>
             requires tokens { AreTokensOf shared.now.map shared.now.triggers tokens }
+            requires base { base ≡ replicate shared.now.map.shape.keys 0 }
             requires room { HasRoomFor (vec_len tokens.readers) lists }
             ensures { IfOk result (Joins shared.entry.now.plan.seed shared.entry.now.plan.gets tokens) }
         { serve_within(scope, rt, gate, shared, tokens, base, lists) },

@@ -138,6 +138,43 @@ fn four_readers_share_eight_keys(rt: HostRuntime) -> Result<(), Fail> {
     Ok(())
 }
 
+/// Lets the dataflow run before each answer.
+#[derive(Drop)]
+struct Yielding;
+
+impl Gate for Yielding {
+    fn pass(&self, _worker: u32, _turn: u64) -> bool {
+        thread::yield_now();
+        true
+    }
+
+    fn answered(&self, _worker: u32, _turn: u64) {}
+}
+
+/// Each fourth of the fills is evicted again, so there are at most ten of eight keys: two evictions
+/// leave all eight filled. A load makes fewer where it ends before a key that was evicted is got once
+/// more, which not all of them do.
+#[test]
+fn ten_fills_of_eight_keys_have_two_evictions(rt: HostRuntime) -> Result<(), Fail> {
+    let mut has_all = false;
+    for seed in 0..100 {
+        let plan = Plan {
+            seed,
+            readers: 1,
+            keys: 8,
+            gets: 400,
+        };
+        let report = run_load(&rt, rt.alloc(), &plan, &Yielding)?;
+        assert!(rt; report.fills <= 10 && report.asked == 0);
+        if report.fills == 10 {
+            has_all = true;
+            break;
+        }
+    }
+    assert!(rt; has_all);
+    Ok(())
+}
+
 #[test]
 fn readers_that_make_no_gets(rt: HostRuntime) -> Result<(), Fail> {
     let plan = Plan {

@@ -1,20 +1,17 @@
 -- What one try adds.
-use Rattle.std.proofs.Common.{◌≡◌, ℕ, true, List, [], ◌∷◌, length, refl, sym, ◌*◌, ◌+◌, ◌∙◌, subst, arith, Option, is_some}
-use Rattle.std.proofs.lemmas.Bool.{and_from, and_parts}
+use Rattle.std.proofs.Common.{◌≡◌, ℕ, List, [], ◌∷◌, length, refl, sym, ap, ◌*◌, ◌+◌, ◌∙◌, subst, arith}
 use Rattle.nr_model.specs.declared.rows.Row.{Row}
 use Rattle.nr_model.specs.declared.calls.Call.TheVariants as call
 use Rattle.nr_model.specs.declared.calls.Reply.{Reply}
 use Rattle.nr_model.specs.declared.calls.Reply.TheVariants as reply
 use Rattle.nr_board.specs.Callers.{Caller, Gains, Rests}
 use Rattle.nr_map.specs.Pins.{Pinned}
-use Rattle.nr_map.specs.Tickets.{Request}
 use Rattle.nr_serve.specs.declared.hands.Hands.{Hands}
 use Rattle.nr_serve.specs.declared.answers.Got.{Got}
 use Rattle.nr_serve.specs.declared.answers.Got.TheVariants as got
 use Rattle.nr_serve.specs.declared.answers.Requested.{Requested}
-use Rattle.nr_serve.specs.declared.answers.Requested.TheVariants.{NotMade, Sent, Waiting, Filled}
 use Rattle.nr_serve.specs.declared.answers.Tried.TheVariants as tried
-use Rattle.nr_serve.specs.Gets.{AnswersPin, RequestsFit, TriesOnce, found, miss, requested}
+use Rattle.nr_serve.specs.Gets.{AnswersPin, LeavesKept, TriesOnce, found, kept_attempts, miss, requested, sent_attempts}
 use Rattle.nr_serve.specs.Hands.{Moves}
 use Rattle.nr_serve.proofs.Making.{makes_by_gains, makes_by_rests}
 use Rattle.nr_serve.proofs.Moving.{moves_both, posts_none}
@@ -36,23 +33,17 @@ misses_once key a b c reader request posted gains asked =
     moves_both 1 (length (requested a.reader.number key request)) _ a (found a.reader.number key reply.Hole ∷ []) (record b { reader = reader }) (requested a.reader.number key request) c (omega arith)
     (finds 1 key a b reply.Hole reader posted gains) asked'
 
--- a request fits the ticket that was kept before the post, too
-fits_once : (before mid after : Option Request) (request : Requested) → RequestsFit before [] mid → RequestsFit mid (request ∷ []) after → RequestsFit before (request ∷ []) after
-fits_once before mid after NotMade first then = record {
-  due = and_from (is_some before) true (first.kept (and_parts (is_some mid) true then.due).0) refl;
-  kept = λ some. first.kept (then.kept some);
-}
-fits_once before mid after (Sent number) first then = record { due = refl; kept = λ _. refl }
-fits_once before mid after Waiting first then = record { due = refl; kept = then.kept }
-fits_once before mid after Filled first then = record { due = refl; kept = then.kept }
-
 -- a try that finds a hole: the post, the find, and the request with what it came from
-pub tries_hole : (key : ℕ) (a b from c : Hands) (reader : Caller) (request : Requested) (rows : List Row) → Moves 0 a [] b → RequestsFit a.kept [] b.kept
+pub tries_hole : (key : ℕ) (a b from c : Hands) (reader : Caller) (request : Requested) (rows : List Row) → Moves 0 a [] b → b.poster.tries ≡ a.poster.tries + kept_attempts a.kept
     → Gains 1 b.reader (call.Find key) reply.Hole reader → from ≡ record b { reader = reader }
-    → Moves (length (requested from.reader.number key request)) from (requested from.reader.number key request) c → RequestsFit from.kept (request ∷ []) c.kept → TriesOnce key a rows (tried.Missed request) c rows
-tries_hole key a b from c reader request rows posted first gains is asked then = (
-  misses_once key a b c reader request posted gains (subst (λ (hands : Hands). Moves (length (requested hands.reader.number key request)) hands (requested hands.reader.number key request) c) is asked),
-  fits_once a.kept b.kept c.kept request first (subst (λ (hands : Hands). RequestsFit hands.kept (request ∷ []) c.kept) is then),
+    → Moves (length (requested from.reader.number key request)) from (requested from.reader.number key request) c → LeavesKept request c.kept → c.poster.tries ≡ from.poster.tries + sent_attempts request
+    → TriesOnce key a rows (tried.Missed request) c rows
+tries_hole key a b from c reader request rows posted first gains is asked leaves then = (
+  record {
+    moves = misses_once key a b c reader request posted gains (subst (λ (hands : Hands). Moves (length (requested hands.reader.number key request)) hands (requested hands.reader.number key request) c) is asked);
+    leaves = leaves;
+    attempts = omega (arith, first, then, ap (λ (hands : Hands). hands.poster.tries) is);
+  },
   refl,
 )
 
@@ -65,16 +56,22 @@ pinned_through steps key a b pin reader posted gains rests =
     (record { makes = makes_by_rests steps pin.reader reader rests; posts = posts_none b.kept b.poster; sends = omega (arith, posted.sends) })
 
 -- a try that finds rows: the post, the find, and what became of the pin
-pub tries_pin : (key : ℕ) (a b c : Hands) (pin : Pinned) (answer : Got) (reader : Caller) (before rows : List Row) → Moves 0 a [] b → RequestsFit a.kept [] b.kept → Gains 2 b.reader (call.Find key) (reply.Rows pin.rows) pin.reader
+pub tries_pin : (key : ℕ) (a b c : Hands) (pin : Pinned) (answer : Got) (reader : Caller) (before rows : List Row) → Moves 0 a [] b → b.poster.tries ≡ a.poster.tries + kept_attempts a.kept → Gains 2 b.reader (call.Find key) (reply.Rows pin.rows) pin.reader
     → AnswersPin pin before answer reader rows → c ≡ record b { reader = reader } → TriesOnce key a before (tried.Ended answer) c rows
 tries_pin key a b c pin got.Rows reader before rows posted first gains answers is =
     let count : 2 + (2 * length pin.rows + 1) ≡ 2 * length pin.rows + 3 = omega arith in
     let moved = subst (λ (n : ℕ). Moves n a (found a.reader.number key (reply.Rows pin.rows) ∷ []) (record b { reader = reader })) count (pinned_through (2 * length pin.rows + 1) key a b pin reader posted gains answers.0) in
     let told = subst (λ (set : List Row). Moves (2 * length set + 3) a (found a.reader.number key (reply.Rows set) ∷ []) (record b { reader = reader })) (sym answers.1) moved in
-    (subst (λ (hands : Hands). Moves (2 * length rows + 3) a (found a.reader.number key (reply.Rows rows) ∷ []) hands) (sym is) told, subst (λ (hands : Hands). RequestsFit a.kept [] hands.kept) (sym is) first)
+    record {
+      moves = subst (λ (hands : Hands). Moves (2 * length rows + 3) a (found a.reader.number key (reply.Rows rows) ∷ []) hands) (sym is) told;
+      attempts = ap (λ (hands : Hands). hands.poster.tries) is ∙ first;
+    }
 tries_pin key a b c pin got.GaveUp reader before rows posted first gains answers is = absurd answers
 tries_pin key a b c pin got.Barred reader before rows posted first gains answers is = (
-  (pin.rows, subst (λ (hands : Hands). Moves 3 a (found a.reader.number key (reply.Rows pin.rows) ∷ []) hands) (sym is) (pinned_through 1 key a b pin reader posted gains answers.0)),
-  subst (λ (hands : Hands). RequestsFit a.kept [] hands.kept) (sym is) first,
+  pin.rows,
+  record {
+    moves = subst (λ (hands : Hands). Moves 3 a (found a.reader.number key (reply.Rows pin.rows) ∷ []) hands) (sym is) (pinned_through 1 key a b pin reader posted gains answers.0);
+    attempts = ap (λ (hands : Hands). hands.poster.tries) is ∙ first;
+  },
   answers.1,
 )

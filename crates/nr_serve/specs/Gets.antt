@@ -1,5 +1,5 @@
 -- What a get does: tries that find a hole, and how it ends.
-use Rattle.std.specs.Prelude.{◌≡◌, ◌<◌, ◌+◌, ◌*◌, ◌&&◌, ℕ, Bool, true, false, List, [], ◌∷◌, ◌++◌, length, Option, is_some}
+use Rattle.std.specs.Prelude.{◌≡◌, ◌<◌, ◌+◌, ◌*◌, ℕ, true, List, [], ◌∷◌, ◌++◌, length, Option, None, Some, is_some}
 use Rattle.nr_model.specs.declared.rows.Row.{Row}
 use Rattle.nr_model.specs.declared.calls.Call.TheVariants as call
 use Rattle.nr_model.specs.declared.calls.Reply.{Reply}
@@ -36,30 +36,32 @@ abbrev pub misses : ℕ → ℕ → List Requested → List Entry
 misses by key [] = []
 misses by key (request ∷ requests) = miss by key request ++ misses by key requests
 
--- whether a ticket may be kept after a request, and after several ones
-abbrev pub may_keep : Bool → Requested → Bool
-may_keep kept NotMade = kept
-may_keep kept (Sent number) = true
-may_keep kept Waiting = false
-may_keep kept Filled = false
+-- the attempts to post the ticket that was kept, and that of a request that is to be sent
+abbrev pub kept_attempts : Option Request → ℕ
+kept_attempts None = 0
+kept_attempts (Some ticket) = 1
 
-abbrev pub may_keep_after : Bool → List Requested → Bool
-may_keep_after kept [] = kept
-may_keep_after kept (request ∷ requests) = may_keep_after (may_keep kept request) requests
+abbrev pub sent_attempts : Requested → ℕ
+sent_attempts (Sent number) = 1
+sent_attempts _ = 0
 
--- a request is left out only where a ticket may be kept
-abbrev pub is_due : Bool → Requested → Bool
-is_due kept NotMade = kept
-is_due kept _ = true
+-- what is kept after a request: it is left out only where a ticket is kept still, and its own may be kept
+abbrev pub LeavesKept : Requested → Option Request → Type 0
+LeavesKept NotMade kept = is_some kept ≡ true
+LeavesKept (Sent number) kept = Unit {0}
+LeavesKept Waiting kept = kept ≡ None
+LeavesKept Filled kept = kept ≡ None
 
-abbrev pub are_due : Bool → List Requested → Bool
-are_due kept [] = true
-are_due kept (request ∷ requests) = is_due kept request && are_due (may_keep kept request) requests
+-- one try that found a hole: the ticket that was kept is posted or kept still, and where none is kept a request is made, whose ticket is posted or kept
+pub record MissesOnce (key : ℕ) (old : Hands) (request : Requested) (new : Hands) : Type 0 where
+  pub moves : Moves (length (miss old.reader.number key request)) old (miss old.reader.number key request) new
+  pub leaves : LeavesKept request new.kept
+  pub attempts : new.poster.tries ≡ old.poster.tries + (kept_attempts old.kept + sent_attempts request)
 
--- so the requests fit the tickets kept before and after
-pub record RequestsFit (before : Option Request) (requests : List Requested) (after : Option Request) : Type 0 where
-  pub due : are_due (is_some before) requests ≡ true
-  pub kept : is_some after ≡ true → may_keep_after (is_some before) requests ≡ true
+-- tries that found a hole, one after the other
+abbrev pub MissesAll : ℕ → Hands → List Requested → Hands → Type 0
+MissesAll key old [] new = new ≡ old
+MissesAll key old (request ∷ requests) new = (mid : Hands) × MissesOnce key old request mid × MissesAll key mid requests new
 
 -- a pin is answered: the caller gets its rows, unless it is barred, and the reader is released
 abbrev pub AnswersPin : Pinned → List Row → Got → Caller → List Row → Type 0
@@ -67,12 +69,17 @@ AnswersPin pin before got.Rows reader rows = Rests (2 * length pin.rows + 1) pin
 AnswersPin pin before got.GaveUp reader rows = ⊥
 AnswersPin pin before got.Barred reader rows = Rests 1 pin.reader reader × (rows ≡ before)
 
+-- one try that found rows: the ticket that was kept is posted or kept still, and no other call is made
+pub record FindsOnce (key steps : ℕ) (old : Hands) (set : List Row) (new : Hands) : Type 0 where
+  pub moves : Moves steps old (found old.reader.number key (reply.Rows set) ∷ []) new
+  pub attempts : new.poster.tries ≡ old.poster.tries + kept_attempts old.kept
+
 -- one try: it finds a hole, or rows, which the caller gets unless it is barred
 abbrev pub TriesOnce : ℕ → Hands → List Row → Tried → Hands → List Row → Type 0
-TriesOnce key old before (tried.Missed request) new rows = Moves (length (miss old.reader.number key request)) old (miss old.reader.number key request) new × RequestsFit old.kept (request ∷ []) new.kept × (rows ≡ before)
-TriesOnce key old before (tried.Ended got.Rows) new rows = Moves (2 * length rows + 3) old (found old.reader.number key (reply.Rows rows) ∷ []) new × RequestsFit old.kept [] new.kept
+TriesOnce key old before (tried.Missed request) new rows = MissesOnce key old request new × (rows ≡ before)
+TriesOnce key old before (tried.Ended got.Rows) new rows = FindsOnce key (2 * length rows + 3) old rows new
 TriesOnce key old before (tried.Ended got.GaveUp) new rows = ⊥
-TriesOnce key old before (tried.Ended got.Barred) new rows = ((set : List Row) × Moves 3 old (found old.reader.number key (reply.Rows set) ∷ []) new) × RequestsFit old.kept [] new.kept × (rows ≡ before)
+TriesOnce key old before (tried.Ended got.Barred) new rows = (set : List Row) × FindsOnce key 3 old set new × (rows ≡ before)
 
 -- how a get ends after that many tries that found a hole: by one find more, or by none after as many as it may make
 abbrev pub Ends : ℕ → ℕ → ℕ → Got → ℕ → List Entry → ℕ → List Row → List Row → Type 0
@@ -80,11 +87,22 @@ Ends by key tries got.Rows missed last steps before rows = (missed < tries) × (
 Ends by key tries got.GaveUp missed last steps before rows = (missed ≡ tries) × (last ≡ []) × (steps ≡ 0) × (rows ≡ before)
 Ends by key tries got.Barred missed last steps before rows = (missed < tries) × ((set : List Row) × (last ≡ found by key (reply.Rows set) ∷ [])) × (steps ≡ 3) × (rows ≡ before)
 
+-- the attempts of a get's last try, which found rows, if there was one
+abbrev pub last_attempts : Got → Option Request → ℕ
+last_attempts got.Rows kept = kept_attempts kept
+last_attempts got.GaveUp kept = 0
+last_attempts got.Barred kept = kept_attempts kept
+
 -- a get of that many tries: those that found a hole, and how it ended
 pub record Gets (key tries : ℕ) (old : Hands) (before : List Row) (got : Got) (new : Hands) (rows : List Row) : Type 0 where
   pub requests : List Requested
-  pub fits : RequestsFit old.kept requests new.kept
+  -- what the client had in its hands after them
+  pub between : Hands
+  pub missed : MissesAll key old requests between
   pub last : List Entry
   pub last_steps : ℕ
   pub ends : Ends old.reader.number key tries got (length requests) last last_steps before rows
+  pub ended : Moves last_steps between last new
+  pub attempts : new.poster.tries ≡ between.poster.tries + last_attempts got between.kept
+  -- and all that together
   pub moves : Moves (length (misses old.reader.number key requests) + last_steps) old (misses old.reader.number key requests ++ last) new

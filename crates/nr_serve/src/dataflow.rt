@@ -1,6 +1,7 @@
 //! The dataflow's side: it fills the keys whose tickets were posted, and keeps the map's rows right.
 ghost use Rattle.std.specs.Prelude.{◌≡◌, ◌≢◌, ◌<◌, ◌≤◌, [], length, None, Some, Err};
 ghost use Rattle.std.specs.Borrow.{sem};
+ghost use Rattle.nr_model.specs.Batches.{IsBatch};
 ghost use Rattle.nr_board.specs.Callers.{KnowsOwn};
 ghost use Rattle.nr_board.specs.Meetings.{HearsNote, known_to, with_step};
 ghost use Rattle.nr_board.specs.WriterAnswers.{CancelsKey, EvictsKey, ReplacesKey, UpdatesKey};
@@ -11,7 +12,7 @@ use crate::source::Source;
 use nr_map::{
     Cancel, Evict, FillFault, NoSlot, Note, ReaderMap, ReplaceFault, UpdateFault, Writer, laws,
 };
-use nr_model::{Batch, RowSet};
+use nr_model::{Batch, Delta, RowSet};
 use nr_trigger::{Taker, Trigger, Triggers};
 use std::marker::Model;
 use std::sync::Wait;
@@ -40,6 +41,8 @@ pub struct Dataflow<'a, S> {
     taker: Taker,
     kept: Option<Trigger>,
     source: S,
+    /// Where the source puts its rows.
+    room: RowSet,
 }
 
 impl<'a, S> Model for Dataflow<'a, S> {
@@ -79,6 +82,7 @@ impl<'a, S: Source> Dataflow<'a, S> {
             taker,
             kept: None,
             source,
+            room: RowSet::new(),
         }
     }
 
@@ -157,9 +161,9 @@ impl<'a, S: Source> Dataflow<'a, S> {
     {
         laws::room_for_fills();
         let key = trigger.key();
-        let rows = self.source.rows(key, self.map.rows());
+        self.source.rows(key, self.map.rows(), &mut self.room);
         self.map
-            .fill(&mut self.writer, key, trigger.number(), &rows)
+            .fill(&mut self.writer, key, trigger.number(), &self.room)
     }
 
     fn keep(&mut self, trigger: Trigger)
@@ -181,8 +185,20 @@ impl<'a, S: Source> Dataflow<'a, S> {
         ensures rest { self.new ≡ record self.old { writer = self.new.writer } }
         ensures room { HasRoomForAll self.old.map → (counts : NoSlot) → result ≢ Err (UpdateFault.NoSlot counts) }
     {
+        self.apply_rows(key, batch.as_slice())
+    }
+
+    /// As `apply`, with one to sixty-four signed rows in place of a batch, so that those which stand
+    /// somewhere need no copy.
+    pub fn apply_rows(&mut self, key: u32, deltas: &[Delta]) -> Result<(), UpdateFault>
+        requires key { key < self.old.map.shape.keys }
+        requires batch { IsBatch deltas.now }
+        ensures updates { UpdatesKey self.old.map.shape.rows key deltas.now self.old.writer self.new.writer result }
+        ensures rest { self.new ≡ record self.old { writer = self.new.writer } }
+        ensures room { HasRoomForAll self.old.map → (counts : NoSlot) → result ≢ Err (UpdateFault.NoSlot counts) }
+    {
         laws::room_for_updates();
-        self.map.update(&mut self.writer, key, batch)
+        self.map.update_rows(&mut self.writer, key, deltas)
     }
 
     /// Puts a set whole in place of a filled key's, as the map's `replace` does. On a map with a slot
@@ -265,6 +281,7 @@ impl<'a, S: Source> Dataflow<'a, S> {
             taker,
             kept,
             source,
+            room: _,
         } = self;
         (writer, taker, kept, source)
     }

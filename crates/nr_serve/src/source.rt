@@ -13,9 +13,10 @@ pub trait Source {
     /// itself after. Nothing, unless it says so.
     ghost gives: { Self → ℕ → List Row → Self → Type 0 } = { λ _ _ _ _. Unit {0} };
 
-    /// The rows of a key, at most `bound` of them, a number from 1 to `MAX_ROWS`.
-    fn rows(&mut self, key: u32, bound: u32) -> RowSet
+    /// Puts the rows of a key, at most `bound` of them, a number from 1 to `MAX_ROWS`, into the room
+    /// that it is handed, in place of what an earlier call left there.
+    fn rows(&mut self, key: u32, bound: u32, room: &mut RowSet)
         requires bound { (0 < bound) × (bound ≤ MAX_ROWS) }
-        ensures few { length result ≤ bound }
-        ensures gives { gives self.old key result self.new };
+        ensures few { length room.new ≤ bound }
+        ensures gives { gives self.old key room.new self.new };
 }

@@ -1,7 +1,7 @@
 //! The tries of a get.
-ghost use Rattle.std.specs.Prelude.{◌≡◌, ◌<◌, ◌+◌, ◌*◌, [], ◌∷◌, length, None};
+ghost use Rattle.std.specs.Prelude.{◌≡◌, ◌<◌, ◌+◌, ◌*◌, [], length, None};
 ghost use Rattle.nr_board.specs.Callers.{Rests};
-ghost use Rattle.nr_serve.specs.Gets.{AnswersPin, RequestsFit, Gets, TriesOnce, requested};
+ghost use Rattle.nr_serve.specs.Gets.{AnswersPin, Gets, LeavesKept, TriesOnce, kept_attempts, requested, sent_attempts};
 ghost use Rattle.nr_serve.specs.Hands.{IsReady, Moves};
 
 use crate::answers::{Got, Requested, Tried};
@@ -30,7 +30,7 @@ fn post_kept<R: Wait>(
     requires { IsReady map.now triggers.now hands }
     ensures ready { IsReady map.now triggers.now result }
     ensures moves { Moves 0 hands [] result }
-    ensures fits { RequestsFit hands.kept [] result.kept }
+    ensures attempts { result.poster.tries ≡ hands.poster.tries + kept_attempts hands.kept }
 {
     let Hands {
         reader,
@@ -65,7 +65,8 @@ fn request<R: Wait>(
     requires key { key < map.now.shape.keys }
     ensures ready { IsReady map.now triggers.now result.1 }
     ensures moves { Moves (length (requested hands.reader.number key result.0)) hands (requested hands.reader.number key result.0) result.1 }
-    ensures fits { RequestsFit hands.kept (result.0 ∷ []) result.1.kept }
+    ensures leaves { LeavesKept result.0 result.1.kept }
+    ensures attempts { result.1.poster.tries ≡ hands.poster.tries + sent_attempts result.0 }
 {
     let Hands {
         mut reader,

@@ -28,9 +28,9 @@ pub(crate) fn one_row(a: u64, b: u64) -> RowSet
 }
 
 impl Source for Plain {
-    fn rows(&mut self, key: u32, _bound: u32) -> RowSet {
+    fn rows(&mut self, key: u32, _bound: u32, room: &mut RowSet) {
         self.asked = self.asked.saturating_add(1);
-        one_row(u64::from(key), self.b)
+        *room = one_row(u64::from(key), self.b);
     }
 }
 

@@ -2,6 +2,7 @@
 //! sleeps, so that one thread can make the calls of both.
 ghost use Rattle.std.specs.Prelude.{◌≡◌};
 
+use crate::calls::RISE;
 use crate::queue::{Server, opened_server};
 use crate::source::Shelf;
 use nr_map::{Cancel, Evict, ReplaceFault, UpdateFault};
@@ -24,6 +25,7 @@ struct Changed {
     rows: RowSet,
     replaced: Result<(), ReplaceFault>,
     evicted: Evict,
+    dropped: Result<(), UpdateFault>,
 }
 
 #[derive(Drop)]
@@ -62,12 +64,14 @@ fn change<R: Wait>(
     client.get(rt, 1, 1, &mut rows);
     let replaced = flow.replace(1, &RowSet::new());
     let evicted = flow.evict(1);
+    let dropped = flow.apply_rows(1, &RISE);
     Changed {
         filled,
         applied,
         rows,
         replaced,
         evicted,
+        dropped,
     }
 }
 
@@ -135,12 +139,18 @@ fn end(client: Client<'_, OpenGate>, flow: Dataflow<'_, Shelf>) {
 pub fn show<R: Print>(rt: &R, told: &Flowed) -> io::Result<()> {
     let Flowed { changed, given_up } = told;
     println!(rt;
-        "A dataflow\n  a turn: {:?}\n  a change: {:?}, to {:?}\n  a replacement by no rows: {:?}\n  an eviction: {:?}",
+        "A dataflow
+  a turn: {:?}
+  a change: {:?}, to {:?}
+  a replacement by no rows: {:?}
+  an eviction: {:?}
+  a change of the hole: {:?}",
         changed.filled,
         changed.applied,
         changed.rows.as_slice(),
         changed.replaced,
-        changed.evicted
+        changed.evicted,
+        changed.dropped
     )?;
     println!(rt;
         "  a get: {:?}\n  its request is taken back: {:?}\n  the next get: {:?}\n  two turns: {:?}, {:?}\n  a get: {:?}: {:?}\n  requests to be sent: {}",

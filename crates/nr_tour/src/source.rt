@@ -9,14 +9,14 @@ pub struct Shelf {
 }
 
 impl Source for Shelf {
-    fn rows(&mut self, key: u32, _bound: u32) -> RowSet {
+    fn rows(&mut self, key: u32, _bound: u32, room: &mut RowSet) {
         let row = Row {
             a: u64::from(key),
             b: self.b,
         };
-        match RowSet::of(&[row]) {
+        *room = match RowSet::of(&[row]) {
             Ok(rows) => rows,
             Err(_) => RowSet::new(),
-        }
+        };
     }
 }

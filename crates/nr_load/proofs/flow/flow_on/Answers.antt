@@ -1,21 +1,16 @@
-use Rattle.std.proofs.Common.{◌≡◌, ℕ, ◌+◌, refl, sym, ap, ◌∙◌, subst, arith}
-use Rattle.nr_board.specs.Callers.{Caller, Table}
+use Rattle.std.proofs.Common.{◌≡◌, ℕ, List, replicate, sym, ap, ◌∙◌, subst}
+use Rattle.nr_board.specs.Callers.{Table}
 use Rattle.nr_map.specs.SlotBounds.{HasRoomForAll}
-use Rattle.nr_serve.specs.Hands.{capped}
-use Rattle.nr_load.specs.Flowed.{Flows}
-use Rattle.nr_load.specs.Gained.{Gained}
-use Rattle.nr_load.specs.declared.fault.LoadFault.{LoadFault}
-use Rattle.std.proofs.Common.{Option}
-use Rattle.nr_load.proofs.Gaining.{gained_none, gained_then}
+use Rattle.nr_serve.specs.Flows.{FlowSeen}
+use Rattle.nr_load.proofs.Finding.{rounds_long}
+use Rattle.nr_load.proofs.Flowing.{flows_last, flows_so_far, not_both, so_far_more, so_far_none, tells_right}
 use Rattle.nr_load.proofs.flow.flow_on.Goals as goal
 use Rattle.nr_load.proofs.flow.flow_on.Goals.{in-None, in-Some+then-is_last}
 
-flows : (a w w' : Caller) (fills count : ℕ) (fault : Option LoadFault) → Gained a.table.shape.keys a w 0 count → fills ≡ capped count → w' ≡ w → Flows a (record { writer = w'; fills = fills; fault = fault })
-flows a w w' fills count fault gained counted same = record { count = count; gained = subst (λ (x : Caller). Gained a.table.shape.keys a x 0 count) (sym same) gained; fills = counted }
-
--- one turn more
-goes_on : (a w v : Caller) (t : Table) (n m : ℕ) → t ≡ a.table → Gained a.table.shape.keys a w 0 n → Gained t.shape.keys w v 0 m → Gained a.table.shape.keys a v 0 (n + m)
-goes_on a w v t n m own before turned = gained_then a.table.shape.keys a w v 0 n 0 m before (subst (λ (x : Table). Gained x.shape.keys w v 0 m) own turned)
+pub turn_once-turned-requires-clause-base : goal.turn_once-turned-requires-clause-base
+turn_once-turned-requires-clause-base g c =
+    let so_far = c.loop.invariant in
+    rounds_long _ _ _ _ _ _ so_far.far.rounds ∙ ap (λ (t : Table). t.shape.keys) (sym so_far.map)
 
 pub loop-init : goal.loop-init
 loop-init g c =
@@ -23,31 +18,27 @@ loop-init g c =
     record {
       map = ap (λ f. f.map) opened ∙ sym c.requires.own;
       room = subst HasRoomForAll (sym (ap (λ f. f.map) opened)) c.args.shared.now.slots;
-      count = 0;
-      gained = gained_none c.args.writer.table.shape.keys c.args.writer c.open-flow.result.writer (ap (λ f. f.writer) opened);
-      fills = refl;
+      far = so_far_none c.args.writer c.open-flow.result.writer c.open-flow.result.source (ap (λ f. f.writer) opened)
+          (ap (λ f. f.source) opened ∙ c.requires.base ∙ ap (λ (t : Table). replicate t.shape.keys 0) (sym c.requires.own));
       lobby = c.guest-guest.ensures.lobby;
     }
 
 pub loop-preserved : goal.loop-preserved
 loop-preserved g c =
-    let i = c.loop.invariant in let t = c.turn_once-turned.ensures in
+    let so_far = c.loop.invariant in let turned = c.turn_once-turned in
     record {
-      map = t.places.0 ∙ i.map;
-      room = subst HasRoomForAll (sym t.places.0) i.room;
-      count = i.count + t.gained.0;
-      gained = goes_on c.args.writer c.loop.flow.writer _ c.loop.flow.map i.count t.gained.0 i.map i.gained t.gained.1;
-      fills = omega (arith, i.fills, t.gained.2);
-      lobby = c.is_closed-is_closed.ensures.later.lobby ∙ i.lobby;
+      map = turned.ensures.places.0 ∙ so_far.map;
+      room = subst HasRoomForAll (sym turned.ensures.places.0) so_far.room;
+      far = so_far_more c.args.writer c.loop.flow turned.new.flow turned.result c.loop.fills turned.new.fills so_far.map so_far.far turned.ensures.turns (λ wrong. not_both c.is_last.result (c.is_last.ensures wrong) c.if-is_last.false);
+      lobby = c.is_closed-is_closed.ensures.later.lobby ∙ so_far.lobby;
     }
 
 pub returns : goal.returns
 returns g c =
-    let i = c.loop.invariant in
+    let so_far = c.loop.invariant in
     elim c.match-next.branch [
-      | in-None w ↦ flows c.args.writer c.loop.flow.writer c.end-writer.result.0 c.match-next.fills i.count _ i.gained (w.fills-is ∙ i.fills) (c.end-writer.ensures.writer ∙ ap (λ f. f.writer) w.flow-is)
-      | in-Some+then-is_last w ↦ let t = w.turn_once-turned.ensures in
-          flows c.args.writer w.turn_once-turned.new.flow.writer c.end-writer.result.0 c.match-next.fills (i.count + t.gained.0) _
-          (goes_on c.args.writer c.loop.flow.writer _ c.loop.flow.map i.count t.gained.0 i.map i.gained t.gained.1) (omega (arith, i.fills, t.gained.2, w.fills-is))
-          (c.end-writer.ensures.writer ∙ ap (λ f. f.writer) w.flow-is)
+      | in-None w ↦ flows_so_far c.args.writer c.end-writer.result.0 c.loop.flow.writer c.loop.fills c.match-next.fills c.loop.flow.source _ so_far.far w.fills-is (c.end-writer.ensures.writer ∙ ap (λ f. f.writer) w.flow-is)
+      | in-Some+then-is_last w ↦ let turned = w.turn_once-turned in
+          flows_last c.args.writer c.loop.flow turned.new.flow turned.result c.loop.fills turned.new.fills so_far.map so_far.far turned.ensures.turns c.end-writer.result.0 c.match-next.fills c.match-next.fault
+          (tells_right c.match-next.fault w.fault_of-fault.result turned.result w.fault-is w.fault_of-fault.ensures) w.fills-is (c.end-writer.ensures.writer ∙ ap (λ f. f.writer) w.flow-is)
     ]

@@ -1,23 +1,19 @@
-use Rattle.std.proofs.Common.{subst, arith}
-use Rattle.nr_board.specs.Callers.{Table}
-use Rattle.nr_serve.specs.declared.dataflow.Turn.TheVariants as turn
-use Rattle.nr_load.specs.Gained.{Gained}
-use Rattle.nr_load.proofs.Gaining.{gained_then, turns_gain}
+use Rattle.std.proofs.Common.{arith}
+use Rattle.nr_load.proofs.Flowing.{turn_fills, turn_idles, turn_is_refused, turn_passes}
 use Rattle.nr_load.proofs.flow.turn_once.Goals as goal
 
-pub returns-in-Passed-clause-gained : goal.returns-in-Passed-clause-gained
-returns-in-Passed-clause-gained g c = (0, turns_gain _ c.args.flow.now c.turn_or_sleep.new.self (turn.Passed c.in-Passed.field-0) c.in-Passed.ensures.turns, omega arith)
+pub returns-in-Idle-clause-turns : goal.returns-in-Idle-clause-turns
+returns-in-Idle-clause-turns g c = turn_idles c.args.flow.now c.turn_or_sleep.new.self c.args.fills.now (omega arith) c.in-Idle.ensures.turns
 
-pub returns-then-is_ok-clause-gained : goal.returns-then-is_ok-clause-gained
-returns-then-is_ok-clause-gained g c =
-    let filled = turns_gain _ c.args.flow.now c.turn_or_sleep.new.self (turn.Filled c.in-Filled.key) c.in-Filled.ensures.turns in
-    let changed : Gained c.args.flow.now.map.shape.keys c.turn_or_sleep.new.self.writer c.change.new.flow.writer 0 0 =
-    subst (λ (t : Table). Gained t.shape.keys c.turn_or_sleep.new.self.writer c.change.new.flow.writer 0 0) c.turn_or_sleep.ensures.places.0 c.change.ensures.gained in
-    (1, gained_then c.args.flow.now.map.shape.keys c.args.flow.now.writer c.turn_or_sleep.new.self.writer c.change.new.flow.writer 0 1 0 0 filled changed, omega (arith, c.saturating_add.ensures))
+pub returns-in-Passed-clause-turns : goal.returns-in-Passed-clause-turns
+returns-in-Passed-clause-turns g c = turn_passes c.args.flow.now c.turn_or_sleep.new.self c.in-Passed.field-0 c.args.fills.now c.requires.base (omega arith) c.in-Passed.ensures.turns
 
-pub returns-else-is_ok-clause-gained : goal.returns-else-is_ok-clause-gained
-returns-else-is_ok-clause-gained g c =
-    let filled = turns_gain _ c.args.flow.now c.turn_or_sleep.new.self (turn.Filled c.in-Filled.key) c.in-Filled.ensures.turns in
-    let changed : Gained c.args.flow.now.map.shape.keys c.turn_or_sleep.new.self.writer c.change.new.flow.writer 0 0 =
-    subst (λ (t : Table). Gained t.shape.keys c.turn_or_sleep.new.self.writer c.change.new.flow.writer 0 0) c.turn_or_sleep.ensures.places.0 c.change.ensures.gained in
-    (1, gained_then c.args.flow.now.map.shape.keys c.args.flow.now.writer c.turn_or_sleep.new.self.writer c.change.new.flow.writer 0 1 0 0 filled changed, omega (arith, c.saturating_add.ensures))
+pub returns-in-Ok-clause-turns : goal.returns-in-Ok-clause-turns
+returns-in-Ok-clause-turns g c =
+    turn_fills c.args.flow.now c.turn_or_sleep.new.self c.change.new.flow c.in-Filled.key c.args.fills.now c.saturating_add.result c.requires.base c.in-Filled.ensures.turns (omega (arith, c.saturating_add.ensures)) c.turn_or_sleep.ensures.places.0 _
+    c.in-Ok.ensures.gained
+
+pub returns-in-Err-clause-turns : goal.returns-in-Err-clause-turns
+returns-in-Err-clause-turns g c =
+    turn_is_refused c.args.flow.now c.turn_or_sleep.new.self c.change.new.flow c.in-Filled.key c.args.fills.now c.saturating_add.result c.requires.base c.in-Filled.ensures.turns (omega (arith, c.saturating_add.ensures)) c.turn_or_sleep.ensures.places.0 c.in-Err.field-0
+    c.in-Err.ensures.gained

@@ -1,41 +1,72 @@
-use Rattle.std.proofs.Common.{◌≡◌, ◌+◌, ℕ, sym, ap, ◌∙◌, subst, arith}
+use Rattle.std.proofs.Common.{◌≡◌, ◌+◌, ◌++◌, ℕ, List, length, take, drop, replicate, sym, ap, ◌∙◌, subst, arith, Option, None, Some}
+use Rattle.std.proofs.lemmas.List.{take_at}
 use Rattle.rand_pcg.specs.Lcg.{Lcg}
+use Rattle.nr_load.specs.declared.fault.LoadFault.{LoadFault}
 use Rattle.nr_load.specs.Drawn.{drawn, drawn_on}
-use Rattle.nr_load.specs.Works.{answers, MayGoOn, GetsKey, Works}
-use Rattle.nr_load.proofs.Working.{Begins, ends, goes_on, answers_one, faultless}
+use Rattle.nr_load.specs.Works.{GetsKey, Judged, Works, answers, of_gets}
+use Rattle.nr_load.proofs.Working.{Begins, answers_one, ends, ends_with, goes_on, judged_long, judged_told}
 use Rattle.nr_load.proofs.gets.load_gets.Goals as goal
 
 pub returns-then-is_closed-clause-works : goal.returns-then-is_closed-clause-works
 returns-then-is_closed-clause-works g c =
-    subst (λ (n : ℕ). Works 1000000 c.args.draws.now.keys n c.args.draws.now.generator c.stopped.result.answered c.args.client.now.hands c.loop-made.client.hands c.loop-made.draws.generator) (sym c.stopped.ensures.made.0)
-    (subst (λ (n : ℕ). Works 1000000 c.args.draws.now.keys c.loop-made.made c.args.draws.now.generator n c.args.client.now.hands c.loop-made.client.hands c.loop-made.draws.generator) (sym c.stopped.ensures.made.1)
-    (ends 1000000 _ _ _ _ _ _ _ c.loop-made.invariant.begun))
+    let none : List ℕ = replicate c.args.draws.now.keys 0 in
+    subst (λ (fault : Option LoadFault). Works 1000000 c.args.draws.now.keys c.stopped.result.made c.args.draws.now.generator c.stopped.result.answered none (of_gets fault) c.args.client.now.hands c.loop-made.client.hands c.loop-made.draws.generator) (sym c.stopped.ensures.stopped.1)
+    (subst (λ (n : ℕ). Works 1000000 c.args.draws.now.keys n c.args.draws.now.generator c.stopped.result.answered none None c.args.client.now.hands c.loop-made.client.hands c.loop-made.draws.generator) (sym c.stopped.ensures.made.0)
+    (subst (λ (n : ℕ). Works 1000000 c.args.draws.now.keys c.loop-made.made c.args.draws.now.generator n none None c.args.client.now.hands c.loop-made.client.hands c.loop-made.draws.generator) (sym c.stopped.ensures.made.1)
+    (ends 1000000 _ _ _ _ _ _ _ _ _ c.loop-made.invariant.begun)))
 
 pub returns-clause-works : goal.returns-clause-works
 returns-clause-works g c =
+    let none : List ℕ = replicate c.args.draws.now.keys 0 in
     let all : c.loop-made.made ≡ c.args.gets = omega arith in
-    subst (λ (n : ℕ). Works 1000000 c.args.draws.now.keys n c.args.draws.now.generator c.ended-2.result.answered c.args.client.now.hands c.loop-made.client.hands c.loop-made.draws.generator) (sym c.ended-2.ensures.made.0)
-    (subst (λ (n : ℕ). Works 1000000 c.args.draws.now.keys c.args.gets c.args.draws.now.generator n c.args.client.now.hands c.loop-made.client.hands c.loop-made.draws.generator) (sym c.ended-2.ensures.made.1)
-    (subst (λ (n : ℕ). Works 1000000 c.args.draws.now.keys n c.args.draws.now.generator c.loop-made.answered c.args.client.now.hands c.loop-made.client.hands c.loop-made.draws.generator) all
-    (ends 1000000 _ _ _ _ _ _ _ c.loop-made.invariant.begun)))
+    subst (λ (fault : Option LoadFault). Works 1000000 c.args.draws.now.keys c.ended-2.result.made c.args.draws.now.generator c.ended-2.result.answered none (of_gets fault) c.args.client.now.hands c.loop-made.client.hands c.loop-made.draws.generator) (sym c.ended-2.ensures.fault)
+    (subst (λ (n : ℕ). Works 1000000 c.args.draws.now.keys n c.args.draws.now.generator c.ended-2.result.answered none None c.args.client.now.hands c.loop-made.client.hands c.loop-made.draws.generator) (sym c.ended-2.ensures.made.0)
+    (subst (λ (n : ℕ). Works 1000000 c.args.draws.now.keys c.args.gets c.args.draws.now.generator n none None c.args.client.now.hands c.loop-made.client.hands c.loop-made.draws.generator) (sym c.ended-2.ensures.made.1)
+    (subst (λ (n : ℕ). Works 1000000 c.args.draws.now.keys n c.args.draws.now.generator c.loop-made.answered none None c.args.client.now.hands c.loop-made.client.hands c.loop-made.draws.generator) all
+    (ends 1000000 _ _ _ _ _ _ _ _ _ c.loop-made.invariant.begun))))
 
 pub loop-made-preserved : goal.loop-made-preserved
 loop-made-preserved g c =
-    let i = c.loop-made.invariant in let got = c.get_drawn-got in
-    let key : drawn c.loop-made.draws.keys c.loop-made.draws.generator ≡ drawn c.args.draws.now.keys c.loop-made.draws.generator = ap (λ (n : ℕ). drawn n c.loop-made.draws.generator) i.keys in
-    let gets : GetsKey 1000000 (drawn c.args.draws.now.keys c.loop-made.draws.generator) c.loop-made.client.hands got.result.0 got.new.client.hands =
-    subst (λ (k : ℕ). GetsKey 1000000 k c.loop-made.client.hands got.result.0 got.new.client.hands) key got.ensures.gets in
-    let on : MayGoOn got.result.0 = faultless c.fault_of-fault.result got.result.0 c.fault_of-fault.ensures (sym c.is_some.ensures ∙ c.if-is_some.false) in
-    let begun : Begins 1000000 c.args.draws.now.keys (c.loop-made.made + 1) c.args.draws.now.generator (c.loop-made.answered + answers got.result.0) c.args.client.now.hands got.new.client.hands
-    (drawn_on c.loop-made.draws.generator) = goes_on 1000000 _ _ _ _ _ _ _ _ got.result.0 i.begun gets on in
+    let so_far = c.loop-made.invariant in let got = c.get_drawn-got in let keys : ℕ = c.args.draws.now.keys in
+    let key : drawn c.loop-made.draws.keys c.loop-made.draws.generator ≡ drawn keys c.loop-made.draws.generator = ap (λ (n : ℕ). drawn n c.loop-made.draws.generator) so_far.keys in
+    let gets = subst (λ (k : ℕ). GetsKey 1000000 k c.loop-made.client.hands got.result.0 got.new.rows got.new.client.hands) key got.ensures.gets in
+    let told = subst (λ (known : List ℕ). Judged (drawn c.loop-made.draws.keys c.loop-made.draws.generator) known got.result.0 got.new.rows got.result.1 got.new.known) c.as_mut_slice.ensures.value got.ensures.judged in
+    let judged = subst (λ (k : ℕ). Judged k c.loop-made.known.items got.result.0 got.new.rows None got.new.known) key
+    (subst (λ (fault : Option LoadFault). Judged (drawn c.loop-made.draws.keys c.loop-made.draws.generator) c.loop-made.known.items got.result.0 got.new.rows fault got.new.known) c.in_default-fault.is told) in
+    let long : length got.new.known ≡ length c.loop-made.known.items = judged_long _ _ _ _ _ _ judged in
+    let items : take c.loop-made.known.len (got.new.known ++ drop (length got.new.known) c.loop-made.known.items) ≡ got.new.known =
+    take_at got.new.known (drop (length got.new.known) c.loop-made.known.items) c.loop-made.known.len (long ∙ sym (ap (λ (l : List ℕ). length l) c.as_mut_slice.ensures.value) ∙ c.as_mut_slice.ensures.len) in
+    let begun : Begins 1000000 keys (c.loop-made.made + 1) c.args.draws.now.generator (c.loop-made.answered + answers got.result.0) (replicate keys 0) c.args.client.now.hands got.new.known got.new.client.hands (drawn_on c.loop-made.draws.generator) =
+    goes_on 1000000 keys c.loop-made.made c.args.draws.now.generator c.loop-made.answered (replicate keys 0) c.args.client.now.hands c.loop-made.known.items c.loop-made.client.hands got.new.client.hands c.loop-made.draws.generator got.result.0 got.new.rows
+    got.new.known so_far.begun gets judged in
     record {
-      map = got.ensures.places.0 ∙ i.map;
-      queue = got.ensures.places.1 ∙ i.queue;
-      opened = got.ensures.places.2 ∙ i.opened;
-      keys = got.ensures.draws.0 ∙ i.keys;
-      lobby = c.is_closed.ensures.later.lobby ∙ i.lobby;
-      few = omega (arith, i.few, c.answers_of-answered.ensures, answers_one got.result.0);
-      begun = subst (λ (x : ℕ). Begins 1000000 c.args.draws.now.keys (c.loop-made.made + 1) c.args.draws.now.generator
-          (c.loop-made.answered + x) c.args.client.now.hands got.new.client.hands got.new.draws.generator) (sym c.answers_of-answered.ensures)
-          (subst (λ (x : Lcg). Begins 1000000 c.args.draws.now.keys (c.loop-made.made + 1) c.args.draws.now.generator (c.loop-made.answered + answers got.result.0) c.args.client.now.hands got.new.client.hands x) (sym got.ensures.draws.1) begun);
+      map = got.ensures.places.0 ∙ so_far.map;
+      queue = got.ensures.places.1 ∙ so_far.queue;
+      opened = got.ensures.places.2 ∙ so_far.opened;
+      keys = got.ensures.draws.0 ∙ so_far.keys;
+      lobby = c.is_closed.ensures.later.lobby ∙ so_far.lobby;
+      few = omega (arith, so_far.few, c.answers_of-answered.ensures, answers_one got.result.0);
+      long = ap (λ (l : List ℕ). length l) items ∙ long ∙ so_far.long;
+      begun = subst (λ (x : ℕ). Begins 1000000 keys (c.loop-made.made + 1) c.args.draws.now.generator (c.loop-made.answered + x) (replicate keys 0) c.args.client.now.hands (take c.loop-made.known.len (got.new.known ++ drop (length got.new.known) c.loop-made.known.items)) got.new.client.hands got.new.draws.generator) (sym c.answers_of-answered.ensures)
+          (subst (λ (x : Lcg). Begins 1000000 keys (c.loop-made.made + 1) c.args.draws.now.generator (c.loop-made.answered + answers got.result.0) (replicate keys 0) c.args.client.now.hands (take c.loop-made.known.len (got.new.known ++ drop (length got.new.known) c.loop-made.known.items)) got.new.client.hands x) (sym got.ensures.draws.1)
+          (subst (λ (known : List ℕ). Begins 1000000 keys (c.loop-made.made + 1) c.args.draws.now.generator (c.loop-made.answered + answers got.result.0) (replicate keys 0) c.args.client.now.hands known got.new.client.hands (drawn_on c.loop-made.draws.generator)) (sym items)
+          begun));
     }
+
+pub returns-in-Some-clause-works : goal.returns-in-Some-clause-works
+returns-in-Some-clause-works g c =
+    let so_far = c.loop-made.invariant in let got = c.get_drawn-got in let keys : ℕ = c.args.draws.now.keys in let end = c.ended-in-Some in
+    let key : drawn c.loop-made.draws.keys c.loop-made.draws.generator ≡ drawn keys c.loop-made.draws.generator = ap (λ (n : ℕ). drawn n c.loop-made.draws.generator) so_far.keys in
+    let gets = subst (λ (k : ℕ). GetsKey 1000000 k c.loop-made.client.hands got.result.0 got.new.rows got.new.client.hands) key got.ensures.gets in
+    let told = subst (λ (known : List ℕ). Judged (drawn c.loop-made.draws.keys c.loop-made.draws.generator) known got.result.0 got.new.rows got.result.1 got.new.known) c.as_mut_slice.ensures.value got.ensures.judged in
+    let judged = subst (λ (k : ℕ). Judged k c.loop-made.known.items got.result.0 got.new.rows (Some c.in-Some.fault) got.new.known) key
+    (subst (λ (fault : Option LoadFault). Judged (drawn c.loop-made.draws.keys c.loop-made.draws.generator) c.loop-made.known.items got.result.0 got.new.rows fault got.new.known) c.in-Some.is told) in
+    let works : Works 1000000 keys (c.loop-made.made + 1) c.args.draws.now.generator (c.loop-made.answered + answers got.result.0) (replicate keys 0) (Some c.in-Some.fault) c.args.client.now.hands got.new.client.hands (drawn_on c.loop-made.draws.generator) =
+    ends_with 1000000 keys c.loop-made.made c.args.draws.now.generator c.loop-made.answered (replicate keys 0) c.args.client.now.hands c.loop-made.known.items c.loop-made.client.hands got.new.client.hands c.loop-made.draws.generator got.result.0 got.new.rows
+    got.new.known so_far.begun gets c.in-Some.fault judged in
+    let fault : of_gets end.result.fault ≡ Some c.in-Some.fault = ap of_gets end.ensures.fault ∙ judged_told _ _ _ _ _ _ judged in
+    let answered : end.result.answered ≡ c.loop-made.answered + answers got.result.0 = end.ensures.made.1 ∙ ap (λ (n : ℕ). c.loop-made.answered + n) c.answers_of-answered.ensures in
+    subst (λ (n : ℕ). Works 1000000 keys n c.args.draws.now.generator end.result.answered (replicate keys 0) (of_gets end.result.fault) c.args.client.now.hands got.new.client.hands got.new.draws.generator) (sym end.ensures.made.0)
+    (subst (λ (n : ℕ). Works 1000000 keys (c.loop-made.made + 1) c.args.draws.now.generator n (replicate keys 0) (of_gets end.result.fault) c.args.client.now.hands got.new.client.hands got.new.draws.generator) (sym answered)
+    (subst (λ (it : Option LoadFault). Works 1000000 keys (c.loop-made.made + 1) c.args.draws.now.generator (c.loop-made.answered + answers got.result.0) (replicate keys 0) it c.args.client.now.hands got.new.client.hands got.new.draws.generator) (sym fault)
+    (subst (λ (x : Lcg). Works 1000000 keys (c.loop-made.made + 1) c.args.draws.now.generator (c.loop-made.answered + answers got.result.0) (replicate keys 0) (Some c.in-Some.fault) c.args.client.now.hands got.new.client.hands x) (sym got.ensures.draws.1) works)))

@@ -1,4 +1,4 @@
-use Rattle.std.proofs.Common.{◌≡◌, ◌≤◌}
+use Rattle.std.proofs.Common.{◌≡◌, ◌≤◌, length, replicate}
 use Rattle.nr_load.proofs.Working.{Begins}
 use Rattle.nr_load.proofs.gets.load_gets.Given as goal
 
@@ -10,5 +10,6 @@ invariant-loop-made g l = record {
   keys : l.draws.keys ≡ l.fn.draws.keys;
   lobby : l.guest.lobby ≡ l.fn.lobby;
   few : l.answered ≤ l.made;
-  begun : Begins 1000000 l.fn.draws.keys l.made l.fn.draws.generator l.answered l.fn.client.hands l.client.hands l.draws.generator;
+  long : length l.known.items ≡ l.fn.draws.keys;
+  begun : Begins 1000000 l.fn.draws.keys l.made l.fn.draws.generator l.answered (replicate l.fn.draws.keys 0) l.fn.client.hands l.known.items l.client.hands l.draws.generator;
 }

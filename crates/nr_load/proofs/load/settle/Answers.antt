@@ -73,6 +73,6 @@ returns-clause-report c =
     let gets : c.from.result * c.from-2.result ≡ c.args.plan.now.readers * c.args.plan.now.gets = ap (λ (n : ℕ). n * c.from-2.result) readers ∙ ap (λ (n : ℕ). c.args.plan.now.readers * n) each in
     comes c.args.map.now c.args.plan.now c.args.joined c.requires.ended c.requires.sizes _
     (subst (λ (rs : List Caller). IsAccount c.args.map.now c.args.joined.flowed.writer rs c.account-asked.result) c.collect-readers.ensures.readers c.account-asked.ensures.account)
-    all.0 (sym c.collect-readers.ensures.made ∙ eqb-true sums.made (c.from.result * c.from-2.result) all.1 ∙ gets) gets c.collect-readers.ensures.answered c.collect-readers.ensures.sends
+    all.0 (sym c.collect-readers.ensures.fault ∙ all.2) all.3 (sym c.collect-readers.ensures.made ∙ eqb-true sums.made (c.from.result * c.from-2.result) all.1 ∙ gets) gets c.collect-readers.ensures.answered c.collect-readers.ensures.sends
     (subst (λ (rs : List Caller). c.args.joined.flowed.fills ≡ of_all is_fill c.args.joined.flowed.writer rs) c.collect-readers.ensures.readers c.account-asked.ensures.fills)
     c.account-asked.ensures.balance

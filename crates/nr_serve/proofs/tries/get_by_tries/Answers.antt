@@ -22,6 +22,6 @@ loop-i-preserved g c =
     record {
       ready = c.try_once-tried.ensures.ready;
       missed = missed_more c.args.key c.loop-i.i c.args.hands c.loop-i.hands c.try_once-tried.result.1 c.loop-i.rows c.try_once-tried.new.rows c.in-Missed.requested so_far.missed once;
-      rows = once.2 ∙ so_far.rows;
+      rows = once.1 ∙ so_far.rows;
       at_once = λ none. absurd (omega (arith, none));
     }
