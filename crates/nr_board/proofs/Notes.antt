@@ -4,7 +4,7 @@ use mathlib.Core.List.{map-append}
 use mathlib.Core.Option.{none, some}
 use lib.ListN.{get_elem?}
 use lib.Seq.{map-set, set-get_or}
-use Rattle.atomic_table.specs.Table.{Allows, Joins, Me, Splits, State, keeps, step}
+use Rattle.atomic_table.specs.Table.{Allows, Joins, Me, State, keeps, step}
 use Rattle.atomic_table.proofs.Lists.{at_map, set_else}
 use Rattle.nr_model.specs.Histories.{Entry}
 use Rattle.nr_core.proofs.Seat.{notes}
@@ -13,19 +13,20 @@ use Rattle.nr_core.specs.Core.{Core}
 use Rattle.nr_core.specs.Roles.{is_reader, is_writer}
 use Rattle.nr_machine.specs.Sums.{total}
 use Rattle.nr_machine.specs.declared.roles.Role.{Role}
-use Rattle.nr_machine.specs.declared.roles.Role.TheVariants.{Note}
+use Rattle.nr_machine.specs.declared.roles.Role.TheVariants.{Note, Writer}
 use Rattle.nr_machine.specs.declared.shape.Shape.{Shape}
 use Rattle.nr_board.specs.Ahead.{has_loaded}
 use Rattle.nr_board.proofs.Tokens.{MapSeat}
 use Rattle.nr_board.specs.Callers.{caller_of, token}
 use Rattle.nr_board.specs.Meetings.{with_step}
-use Rattle.nr_board.specs.Notes.{has_noted, note_of, spent, with_note}
+use Rattle.nr_board.specs.Notes.{has_noted, note_of, retold, spent, with_note}
 use Rattle.nr_marks.proofs.Knowing.{knowing_set, knowing_snoc, told_since}
 use Rattle.nr_marks.proofs.ListPlaces.{no_places}
 use Rattle.nr_marks.proofs.SeatMarks.{alike_marked, evolves_alike, seats_marked}
 use Rattle.nr_marks.specs.Marked.{AllSince, Since}
+use Rattle.nr_marks.specs.Marks.{told_by}
 use Rattle.nr_board.specs.Rule.{Fits, Kept, StartsWith, counts, marks_of, pasts_of, role_of, told_pasts_of}
-use Rattle.nr_board.specs.Views.{View}
+use Rattle.nr_board.specs.Views.{View, no_desk}
 
 -- a number that is no caller's has no entries
 note_fits : (shape : Shape) (log : List Entry) (view note : View) → note.role ≡ Note → StartsWith log note.seen → note.told ≡ [] → Fits shape log note
@@ -67,16 +68,16 @@ module _ (shape : Shape) (state : State (Unit {0}) View) (id : ℕ) (view next :
       at_any : (P : View → Type 0) → P next → ((j : ℕ) (u : View) → get_elem? state.views j ≡ some u → P u) → (j : ℕ) (u : View) → get_elem? later j ≡ some u → P u
       at_any P of_next of_other j u there = ⊎_elim (λ (t : (j ≡ id) × (next ≡ u)). subst P t.1 of_next) (λ (t : (j ≢ id) × (get_elem? state.views j ≡ some u)). of_other j u t.1) (at_set state.views id j next u there)
 
--- a note stands beside the tokens that there are
-adds_note : (shape : Shape) (id : ℕ) (view : View) (state : State (Unit {0}) View) → Kept shape state → get_elem? state.views id ≡ some view → Kept shape (record { words = state.words; homes = state.homes; views = state.views ++ note_of view ∷ [] })
-adds_note shape id view state kept at =
-    let views = state.views in let note = note_of view in let views' = views ++ note ∷ [] in let roles = map role_of views in
+-- a note stands beside the tokens that there are: it says what begins the history, and of readers what is so
+adds_note : (shape : Shape) (source : View) (state : State (Unit {0}) View) (kept : Kept shape state) → StartsWith kept.log source.seen → AllSince role_of marks_of state.views (told_by source.role source.marks source.pasts) → Kept shape (record { words = state.words; homes = state.homes; views = state.views ++ note_of source ∷ [] })
+adds_note shape source state kept begins since =
+    let views = state.views in let note = note_of source in let views' = views ++ note ∷ [] in let roles = map role_of views in
     let more : map role_of views' ≡ roles ++ Note ∷ [] = map-append role_of views (note ∷ []) in
     let tally : (caller : ℕ) → total (counts caller) (map role_of views') ≡ total (counts caller) roles = λ caller. omega (arith, ap (total (counts caller)) more, total-append (counts caller) roles (Note ∷ [])) in
     record {
       log = kept.log;
       core = subst (λ (rs : List Role). Core shape state.words rs kept.log) (sym more) (notes shape state.words roles kept.log kept.core);
-      fits = λ j u there. ⊎_elim (λ (t : get_elem? views j ≡ some u). kept.fits j u t) (λ (t : note ≡ u). subst (Fits shape kept.log) t (note_fits shape kept.log view note refl (kept.fits id view at).begins refl)) (at_snoc views note u j there);
+      fits = λ j u there. ⊎_elim (λ (t : get_elem? views j ≡ some u). kept.fits j u t) (λ (t : note ≡ u). subst (Fits shape kept.log) t (note_fits shape kept.log source note refl begins refl)) (at_snoc views note u j there);
       callers = kept.callers;
       once = λ caller. omega (arith, kept.once caller, tally caller);
       made = kept.made;
@@ -86,17 +87,34 @@ adds_note shape id view state kept at =
       maker = λ j u there writes. ⊎_elim (λ (t : get_elem? views j ≡ some u). kept.maker j u t writes)
           (λ (t : note ≡ u). absurd (let none : is_writer Note ≡ is_writer u.role = ap (λ (y : View). is_writer y.role) t in omega arith)) (at_snoc views note u j there);
       marked = seats_marked role_of marks_of shape state.words views kept.log note (λ reader grip reads. absurd (cc)) kept.marked tt;
-      pasts = knowing_snoc role_of marks_of pasts_of views note (told_since role_of marks_of pasts_of views id view at (kept.pasts id view at)) kept.pasts;
+      pasts = knowing_snoc role_of marks_of pasts_of views note since kept.pasts;
       told_pasts = knowing_snoc role_of marks_of told_pasts_of views note (no_places (Since role_of marks_of views)) kept.told_pasts;
     }
 
--- the maker counts the step, and then its note is there
-pub splits_so : (shape : Shape) (id : ℕ) (view : View) → Splits (Kept shape) id view (has_noted view) (note_of view)
-splits_so shape id view state kept at =
-    let maker = has_noted view in let fits = kept.fits id view at in
-    let own : Fits shape kept.log maker = record { begins = fits.begins; told = fits.told; own = fits.own; knows_own = fits.knows_own; acts = fits.acts; sized = fits.sized } in
-    adds_note shape id maker (record { words = state.words; homes = state.homes; views = set state.views id maker })
-    (replaced shape state id view maker kept at refl (inl refl) own (kept.maker id view at) (kept.pasts id view at) (kept.told_pasts id view at)) (here_after state.views id view maker at)
+module _ (shape : Shape) (id : ℕ) (view : View) (state : State (Unit {0}) View) (kept : Kept shape state) (at : get_elem? state.views id ≡ some view) where
+  abbrev maker : View
+  maker = has_noted view
+
+  abbrev counted : State (Unit {0}) View
+  counted = record { words = state.words; homes = state.homes; views = set state.views id maker }
+
+  -- the maker counts the step
+  makes : Kept shape counted
+  makes =
+      let fits = kept.fits id view at in
+      let own : Fits shape kept.log maker = record { begins = fits.begins; told = fits.told; own = fits.own; knows_own = fits.knows_own; acts = fits.acts; sized = fits.sized } in
+      replaced shape state id view maker kept at refl (inl refl) own (kept.maker id view at) (kept.pasts id view at) (kept.told_pasts id view at)
+
+  there : get_elem? counted.views id ≡ some maker
+  there = here_after state.views id view maker at
+
+  -- and then the note of what it has seen is there
+  pub splits_so : Kept shape (record { words = state.words; homes = state.homes; views = set state.views id maker ++ note_of view ∷ [] })
+  splits_so = adds_note shape maker counted makes (makes.fits id maker there).begins (told_since role_of marks_of pasts_of counted.views id maker there (makes.pasts id maker there))
+
+  -- or the one that says again what it was told
+  pub retells_so : Kept shape (record { words = state.words; homes = state.homes; views = set state.views id maker ++ retold view ∷ [] })
+  retells_so = adds_note shape (record maker { role = Writer no_desk; seen = view.told; pasts = view.told_pasts }) counted makes (makes.fits id maker there).told (makes.told_pasts id maker there)
 
 -- a load that tells nothing leaves the words, and its token counts the step
 pub loads_so : (shape : Shape) (slots id : ℕ) (me : Me (Unit {0}) View) (place : ℕ) → Allows (Kept shape) slots id me place (λ word. word) (has_loaded (step slots place 0 0 none) me)

@@ -58,6 +58,10 @@ known_to caller = record { table = caller.table; seen = caller.seen }
 abbrev pub with_step : Caller → Caller
 with_step caller = record caller { steps = caller.steps + 1 }
 
+-- who makes that many steps which tell it nothing is else as it was
+abbrev pub with_steps : ℕ → Caller → Caller
+with_steps many caller = record caller { steps = caller.steps + many }
+
 -- the history begins with all that the note's maker had seen too
 pub record HearsNote (steps : ℕ) (old : Caller) (note : Known) (new : Caller) : Type 0 where
   pub learns : Learns steps old new

@@ -18,6 +18,10 @@ has_noted view = record view { steps = view.steps + 1 }
 abbrev pub note_of : View → View
 note_of view = record { role = Note; shape = view.shape; made = 0; seen = view.seen; told = []; mine = []; steps = 0; marks = no_marks; pasts = told_by view.role view.marks view.pasts; told_pasts = [] }
 
+-- a note that says again what the note told which the token took in last
+abbrev pub retold : View → View
+retold view = record { role = Note; shape = view.shape; made = 0; seen = view.told; told = []; mine = []; steps = 0; marks = no_marks; pasts = view.told_pasts; told_pasts = [] }
+
 -- the seat of a note that nobody has taken in
 abbrev pub IsNote : Seat (Unit {0}) View → Type 0
 IsNote seat = (seat.me.0.role ≡ Note) × (seat.me.1 ≡ [])

@@ -24,15 +24,15 @@ ghost use Rattle.nr_marks.specs.Marks.{acted, with_polls};
 ghost use Rattle.nr_marks.specs.MarkSteps.{found_again};
 ghost use Rattle.nr_marks.specs.Puts.{put_number};
 ghost use Rattle.nr_board.specs.Seats.{IdlesAt, HoldsAt, names_at};
-ghost use Rattle.nr_board.specs.Notes.{IsCaller, IsNote, has_noted, note_of, with_note};
+ghost use Rattle.nr_board.specs.Notes.{IsCaller, IsNote, has_noted, note_of, retold, with_note};
 ghost use Rattle.nr_board.specs.Kinds.{kind_of, kind_shown};
 ghost use Rattle.nr_board.specs.Learning.{Learned};
 ghost use Rattle.nr_board.specs.Meetings.{HasPut, Learns, with_step};
 ghost use Rattle.nr_board.specs.WriterSeats.{GoesOn, IsBetween, IsReading, IsPolling, IsPutting, IsPublishing, IsLeaving, IsWithdrawing, LeadsTo, PutsTo};
 
 use crate::rule::{
-    Arrives, Asks, Departs, FindsAgain, Given, Goes, Law, Looks, Nears, Notes, Puts, Reads, Seats,
-    Sees,
+    Arrives, Asks, Departs, FindsAgain, Given, Goes, Law, Looks, Nears, Notes, Puts, Reads,
+    Retells, Seats, Sees,
 };
 use crate::view::View;
 use atomic_table::Table;
@@ -349,6 +349,19 @@ impl Board {
         let words = &self.table.shared;
         let Note { seat: told } = note;
         words.join_seat::<Notes>(seat, told);
+    }
+
+    /// A note that says what the one said which the token took in last, in 1 step. Else the token
+    /// stays as it is.
+    pub fn retell(&self, seat: &mut Seat) -> Note
+        requires { seat.old.table_id ≡ self.now.id }
+        ensures maker { (seat.new.table_id ≡ seat.old.table_id) × (seat.new.me ≡ (has_noted seat.old.me.0, seat.old.me.1)) }
+        ensures note { (result.table_id ≡ seat.old.table_id) × (result.me ≡ (retold seat.old.me.0, [])) }
+    {
+        let words = &self.table.shared;
+        Note {
+            seat: words.split_seat::<Retells>(seat),
+        }
     }
 
     /// The token learns the history so far.

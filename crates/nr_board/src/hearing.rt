@@ -4,7 +4,7 @@ ghost use Rattle.nr_core.specs.Core.{AreNumbers};
 ghost use Rattle.nr_machine.specs.declared.roles.Desk.{Desk};
 ghost use Rattle.nr_machine.specs.declared.roles.Role.TheVariants.{Writer as writer_role};
 ghost use Rattle.nr_board.specs.Callers.{KnowsOwn, map_seen, token};
-ghost use Rattle.nr_board.specs.Meetings.{HearsNote, Meets, known_to};
+ghost use Rattle.nr_board.specs.Meetings.{HearsNote, Meets, known_to, with_steps};
 ghost use Rattle.nr_board.specs.Learning.{HearsOf};
 ghost use Rattle.nr_board.specs.Notes.{IsCaller, IsNote, has_noted, note_of};
 
@@ -24,6 +24,22 @@ impl Board {
     {
         self.take_note(seat, note);
         self.learn(seat);
+    }
+
+    /// Two notes of one: the token takes it in and says twice what it said, in 3 steps. It learns
+    /// nothing by that.
+    pub fn split_note(&self, seat: &mut Seat, note: Note) -> (Note, Note)
+        requires own { ((token seat.old).table ≡ self.now) × ((token note).table ≡ self.now) }
+        requires note { IsNote note }
+        ensures token { token seat.new ≡ with_steps 3 (token seat.old) }
+        ensures role { seat.new.me.0.role ≡ seat.old.me.0.role }
+        ensures one { IsNote result.0 × (known_to (token result.0) ≡ known_to (token note)) }
+        ensures other { IsNote result.1 × (known_to (token result.1) ≡ known_to (token note)) }
+    {
+        self.take_note(seat, note);
+        let one = self.retell(seat);
+        let other = self.retell(seat);
+        (one, other)
     }
 
     /// A token learns, in 2 steps, all that another has seen, which makes a note of it, in 1 step.

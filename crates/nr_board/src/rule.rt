@@ -135,6 +135,17 @@ impl Split<View> for Notes {
     ghost right = { note_of };
 }
 
+/// A token that took a note in makes another that says the same.
+pub struct Retells;
+
+impl Split<View> for Retells {
+    ghost use Rattle.nr_board.specs.Notes.{has_noted, retold};
+
+    ghost left = { λ view. has_noted view };
+
+    ghost right = { retold };
+}
+
 impl Join<View> for Notes {
     ghost use Rattle.nr_board.specs.Notes.{spent, with_note};
 

@@ -25,8 +25,8 @@ abbrev pub IsOf : Table → Cached → Type 0
 IsOf table cache = (cache.once.table ≡ table) × AreOf table cache.hands
 
 -- a key's place among that many hands
-abbrev pub place_of : ℕ → ℕ → ℕ
-place_of key many = key % many
+abbrev pub place_of_key : ℕ → ℕ → ℕ
+place_of_key key many = key % many
 
 abbrev pub is_key : ℕ → Option ℕ → Bool
 is_key key None = false
@@ -44,22 +44,22 @@ takes_key place key cache = is_key key (key_of_hand (slice_get cache.hands place
 pub record FindsAtPlace {Room : Type 0} (shows : Room → List Row → Type 0) (key : ℕ) (old : Cached) (before : Room) (new : Cached) (room : Room) (answer : Found) : Type 0 where
   pub hand : Handed
   pub found : Handed
-  pub at_place : slice_get old.hands (place_of key (length old.hands)) ≡ Some hand
+  pub at_place : slice_get old.hands (place_of_key key (length old.hands)) ≡ Some hand
   pub finds : FindsKept shows key hand before found room answer
-  pub rest : new ≡ record old { hands = slice_set old.hands (place_of key (length old.hands)) found }
+  pub rest : new ≡ record old { hands = slice_set old.hands (place_of_key key (length old.hands)) found }
 
 -- the reader that holds nothing makes the find, and the key has missed at its place
 pub record FindsOnce {Room : Type 0} (shows : Room → List Row → Type 0) (key : ℕ) (old : Cached) (before : Room) (new : Cached) (room : Room) (answer : Found) : Type 0 where
   pub finds : FindsIn shows key old.once before new.once room answer
   pub holds : new.once.holds ≡ None
   pub acts : new.once.marks.acts ≡ old.once.marks.acts + acts_of answer
-  pub rest : new ≡ record old { once = new.once; missed = slice_set old.missed (place_of key (length old.hands)) (Some key) }
+  pub rest : new ≡ record old { once = new.once; missed = slice_set old.missed (place_of_key key (length old.hands)) (Some key) }
 
 -- a find by the cache: by the key's hand where it takes the key, and else by the reader that holds nothing
 abbrev pub FindsByCache : {Room : Type 0} → (Room → List Row → Type 0) → ℕ → Cached → Room → Cached → Room → Found → Type 0
 FindsByCache shows key old before new room answer =
-    (takes_key (place_of key (length old.hands)) key old ≡ true → FindsAtPlace shows key old before new room answer)
-    × (takes_key (place_of key (length old.hands)) key old ≡ false → FindsOnce shows key old before new room answer)
+    (takes_key (place_of_key key (length old.hands)) key old ≡ true → FindsAtPlace shows key old before new room answer)
+    × (takes_key (place_of_key key (length old.hands)) key old ≡ false → FindsOnce shows key old before new room answer)
 
 -- those before that place were let go, and the others are as they were
 pub record LetGoBelow (below : ℕ) (old new : List Handed) : Type 0 where

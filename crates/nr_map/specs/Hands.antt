@@ -51,9 +51,9 @@ IsHand seat number None = (seat.me.0.role ≡ Reader number Nothing) × KnowsOwn
 IsHand seat number (Some held) = Pins seat number held.begin held.count
 
 -- a hand that holds a set lets it go by one step, an act; one that holds nothing makes none
-abbrev pub departures : Option ℕ → ℕ
-departures None = 0
-departures (Some key) = 1
+abbrev pub steps_to_depart : Option ℕ → ℕ
+steps_to_depart None = 0
+steps_to_depart (Some key) = 1
 
 abbrev pub departed : Option ℕ → Marks → Marks
 departed None marks = marks
@@ -63,7 +63,7 @@ pub record LetsGo (old new : Handed) : Type 0 where
   pub key_is : new.key ≡ None
   pub rows : new.rows ≡ []
   pub holds : new.reader.holds ≡ None
-  pub rests : Rests (departures old.key) old.reader new.reader
+  pub rests : Rests (steps_to_depart old.key) old.reader new.reader
   pub marks : new.reader.marks ≡ departed old.key old.reader.marks
 
 -- in that many steps the hand read of what it holds, and nothing else changed
@@ -89,13 +89,13 @@ pub record HoldsNothing (key : ℕ) (old new : Handed) : Type 0 where
 
 -- a pin by a hand is a find, before which it lets go what it held
 abbrev pub PinsByHand : ℕ → Handed → Handed → Bool → Type 0
-PinsByHand key old new true = Gains (departures old.key + 2) old.reader (model.Find key) (reply.Rows new.rows) new.reader × HoldsKey key old new
-PinsByHand key old new false = Gains (departures old.key + 1) old.reader (model.Find key) reply.Hole new.reader × HoldsNothing key old new
+PinsByHand key old new true = Gains (steps_to_depart old.key + 2) old.reader (model.Find key) (reply.Rows new.rows) new.reader × HoldsKey key old new
+PinsByHand key old new false = Gains (steps_to_depart old.key + 1) old.reader (model.Find key) reply.Hole new.reader × HoldsNothing key old new
 
--- whether the hand asks whether the key has its set still: where it holds a set of that key
-abbrev pub asks : ℕ → Option ℕ → ℕ
-asks key None = 0
-asks key (Some held) = (if held == key then 1 else 0)
+-- the hand asks whether the key has its set still by one step, where it holds a set of that key
+abbrev pub steps_to_ask : ℕ → Option ℕ → ℕ
+steps_to_ask key None = 0
+steps_to_ask key (Some held) = (if held == key then 1 else 0)
 
 -- the key has the set still that the hand holds, and the find is answered with its rows in that many steps; nothing is let go
 pub record FindsHeld (steps key : ℕ) (old new : Handed) : Type 0 where
@@ -128,7 +128,7 @@ FindsAnew shows begun key old before new room found.Hole = Gains (begun + 1) old
 
 -- such a find, after which nothing is held
 abbrev pub FindsAndLetsGo : {Room : Type 0} → (Room → List Row → Type 0) → ℕ → Handed → Room → Handed → Room → Found → Type 0
-FindsAndLetsGo shows key old before new room answer = (kept : Handed) × FindsAnew shows (departures old.key) key old before kept room answer × LetsGo kept new
+FindsAndLetsGo shows key old before new room answer = (kept : Handed) × FindsAnew shows (steps_to_depart old.key) key old before kept room answer × LetsGo kept new
 
 -- the hand asked in vain before it came to where it is
 abbrev pub AskedBefore : ℕ → Handed → Handed → Type 0
@@ -138,4 +138,4 @@ AskedBefore key old new = (asked : Handed) × AsksInVain key old asked × Starts
 abbrev pub FindsKept : {Room : Type 0} → (Room → List Row → Type 0) → ℕ → Handed → Room → Handed → Room → Found → Type 0
 FindsKept shows key old before new room answer =
     (FindsHeld (2 * length old.rows + 1) key old new × shows room old.rows × (answer ≡ found.Rows))
-    ⊎ ((old.key ≡ Some key → AskedBefore key old new) × FindsAnew shows (asks key old.key + departures old.key) key old before new room answer)
+    ⊎ ((old.key ≡ Some key → AskedBefore key old new) × FindsAnew shows (steps_to_ask key old.key + steps_to_depart old.key) key old before new room answer)

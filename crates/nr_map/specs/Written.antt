@@ -10,7 +10,9 @@ use Rattle.nr_model.specs.Histories.{Entry, IsLegal, after}
 use Rattle.nr_model.specs.Maps.{PartialMap, call_key, find_reply, next, state_of}
 use Rattle.nr_machine.specs.Story.{entry}
 use Rattle.nr_marks.specs.Puts.{puts_at}
-use Rattle.nr_board.specs.Callers.{Caller, Gains, KnowsOwn, map_at_opening}
+use Rattle.nr_board.specs.declared.answers.Found.{Found}
+use Rattle.nr_board.specs.declared.answers.Found.TheVariants as found
+use Rattle.nr_board.specs.Callers.{Caller, Gains, KnowsOwn, Table, map_at_opening}
 use Rattle.nr_board.specs.Meetings.{HearsNote, Known, Meets, known_to}
 use Rattle.nr_board.specs.Rule.{StartsWith}
 
@@ -71,6 +73,19 @@ FindsWhatItHeard =
     HeardBefore old note asking →
     Gains steps asking (model.Find key) found new →
     (more : List Entry) × (new.seen ≡ ((before ++ put ∷ []) ++ (since ++ more)) ++ entry asking.number (model.Find key) found ∷ []) × FindsPut (map_at_opening old.table) key (before ++ put ∷ []) (since ++ more) found
+
+-- a find's answer: the rows that it found, or a hole
+abbrev pub answered : Found → List Row → Reply
+answered found.Rows rows = reply.Rows rows
+answered found.Hole rows = reply.Hole
+
+-- of each put of the key in that history the find was answered with the rows of it or of a later one, or with a hole where the key was evicted since
+abbrev pub FindsAfter : Table → ℕ → List Entry → Reply → Type 0
+FindsAfter table key told found =
+    (before since : List Entry) (put : Entry) →
+    told ≡ (before ++ put ∷ []) ++ since →
+    puts_at key put ≡ true →
+    (more : List Entry) × FindsPut (map_at_opening table) key (before ++ put ∷ []) (since ++ more) found
 
 -- the find of who heard the note is answered by a history that begins with all that the note's maker had seen
 abbrev pub ReadsNoOlder : Type 0

@@ -1,7 +1,10 @@
 //! A reader that is idle or holds the set of a key, from call to call.
 ghost use Rattle.std.specs.Prelude.{◌≡◌, ◌<◌, ◌*◌, length, IsSome};
 ghost use Rattle.nr_map.specs.Hands.{AgainByHand, BecomesPin, LetsGo, PinsByHand, Reads, holding, idle};
+ghost use Rattle.nr_board.specs.Callers.{KnowsOwn};
+ghost use Rattle.nr_board.specs.Meetings.{HearsNote, known_to, with_step};
 
+use crate::notes::Note;
 use crate::pin::Pin;
 use crate::reader::Reader;
 use crate::reader_map::ReaderMap;
@@ -184,5 +187,27 @@ impl Hand {
             Some(held) if held.key == key => map.board.find_again(&mut self.seat, held.begin, key),
             _ => false,
         }
+    }
+
+    /// A note of what its reader has seen, in 1 step. Else the hand stays as it is.
+    pub fn note(&mut self, map: &ReaderMap) -> Note
+        requires own { self.old.reader.table ≡ map.now }
+        ensures reader { self.new.reader ≡ with_step self.old.reader }
+        ensures held { (self.new.key ≡ self.old.key) × (self.new.rows ≡ self.old.rows) }
+        ensures note { result ≡ known_to self.old.reader }
+        ensures knows { KnowsOwn self.old.reader }
+    {
+        Note {
+            told: map.board.note(&mut self.seat),
+        }
+    }
+
+    /// Its reader learns, in 2 steps, all that the note's maker had seen. What is held stays held.
+    pub fn hear(&mut self, map: &ReaderMap, note: Note)
+        requires own { (self.old.reader.table ≡ map.now) × (note.table ≡ map.now) }
+        ensures reader { HearsNote 2 self.old.reader note self.new.reader }
+        ensures held { (self.new.key ≡ self.old.key) × (self.new.rows ≡ self.old.rows) }
+    {
+        map.board.hear_note(&mut self.seat, note.told);
     }
 }

@@ -1,6 +1,6 @@
 //! Finds by a hand, which may keep what it found for the next one.
 ghost use Rattle.std.specs.Prelude.{◌≡◌, ◌<◌};
-ghost use Rattle.nr_map.specs.Hands.{FindsAndLetsGo, FindsAnew, FindsKept, departures};
+ghost use Rattle.nr_map.specs.Hands.{FindsAndLetsGo, FindsAnew, FindsKept, steps_to_depart};
 
 use crate::hand::Hand;
 use crate::reader_map::ReaderMap;
@@ -42,7 +42,7 @@ impl Hand {
         requires own { self.old.reader.table ≡ map.now }
         requires key { key < map.now.shape.keys }
         ensures own { self.new.reader.table ≡ map.now }
-        ensures finds { FindsAnew R.shows (departures self.old.key) key self.old rows.old self.new rows.new result }
+        ensures finds { FindsAnew R.shows (steps_to_depart self.old.key) key self.old rows.old self.new rows.new result }
     {
         if !self.pin(map, key) {
             return Found::Hole;

@@ -1,7 +1,7 @@
 //! Notes: what a token had seen goes with a message to another thread, whose token hears it there.
 ghost use Rattle.std.specs.Prelude.{◌≡◌};
 ghost use Rattle.nr_board.specs.Callers.{KnowsOwn};
-ghost use Rattle.nr_board.specs.Meetings.{HearsNote, known_to, with_step};
+ghost use Rattle.nr_board.specs.Meetings.{HearsNote, known_to, with_step, with_steps};
 
 use crate::pin::Pin;
 use crate::reader::Reader;
@@ -10,11 +10,12 @@ use crate::writer::Writer;
 use std::marker::Model;
 
 /// What its maker had seen when the note was made. It goes to any thread, by whatever the program
-/// sends messages, and any token of the map hears it there. One token hears one note: the maker makes
-/// one for each hearer. Its step is the maker's, so nothing is lost where a note is dropped.
+/// sends messages, and any token of the map hears it there. It is for one hearer: a maker makes one for
+/// each, or a reader splits the one that it was sent. Its step is the maker's, so nothing is lost where
+/// a note is dropped.
 #[derive(Drop)]
 pub struct Note {
-    told: nr_board::Note,
+    pub(crate) told: nr_board::Note,
 }
 
 impl Model for Note {
@@ -91,5 +92,16 @@ impl ReaderMap {
         ensures rows { pin.new.rows ≡ pin.old.rows }
     {
         self.board.hear_note(&mut pin.seat, note.told);
+    }
+
+    /// Two notes of one, for two hearers: each says what it said. Takes 3 steps of the reader's, which
+    /// learns nothing by that and else stays as it is.
+    pub fn split_note(&self, reader: &mut Reader, note: Note) -> (Note, Note)
+        requires own { (note.table ≡ self.now) × (reader.old.table ≡ self.now) }
+        ensures reader { reader.new ≡ with_steps 3 reader.old }
+        ensures notes { (result.0 ≡ note) × (result.1 ≡ note) }
+    {
+        let (one, other) = self.board.split_note(&mut reader.seat, note.told);
+        (Note { told: one }, Note { told: other })
     }
 }

@@ -27,5 +27,5 @@ line_of_misuse misuse.Keys = line (codes "nr: keys must be 1 to 65536")
 line_of_misuse misuse.Gets = line (codes "nr: gets must be 0 to 1000000")
 
 -- a line is written, all of it, or some where a write may fail
-abbrev pub Tells : Type 0 → Option (List ℕ) → Option (List ℕ) → List ℕ → Type 0
-Tells may_fail held holds line = Appends held holds line ⊎ (may_fail × AppendsSome held holds line)
+abbrev pub TellsLine : Type 0 → Option (List ℕ) → Option (List ℕ) → List ℕ → Type 0
+TellsLine may_fail held holds line = Appends held holds line ⊎ (may_fail × AppendsSome held holds line)

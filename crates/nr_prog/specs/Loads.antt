@@ -9,7 +9,7 @@ use Rattle.nr_load.specs.declared.fault.LoadFault.TheVariants as load_faults
 use Rattle.nr_load.specs.declared.load.LoadReport.{LoadReport}
 use Rattle.nr_load.specs.declared.load.Plan.{Plan}
 use Rattle.nr_load.specs.Reports.{ComesTo}
-use Rattle.nr_prog.specs.Faults.{Tells, line, line_of}
+use Rattle.nr_prog.specs.Faults.{TellsLine, line, line_of}
 
 -- each request that was sent was filled or is still pending
 abbrev pub is_balanced : LoadReport → Bool
@@ -42,8 +42,8 @@ MayComeTo plan (Err fault) = Unit {0}
 abbrev pub TellsLoad : Type 0 → Result LoadReport LoadFault → ℕ → Option (List ℕ) → Option (List ℕ) → Type 0
 TellsLoad may_fail (Ok report) status held holds =
     ((status ≡ report_status report) × Appends held holds (report_text report))
-    ⊎ (may_fail × (status ≡ 1) × (wrote : Option (List ℕ)) × AppendsSome held wrote (report_text report) × Tells may_fail wrote holds (line_of faults.Write))
-TellsLoad may_fail (Err fault) status held holds = (status ≡ 1) × Tells may_fail held holds (line_of_load fault)
+    ⊎ (may_fail × (status ≡ 1) × (wrote : Option (List ℕ)) × AppendsSome held wrote (report_text report) × TellsLine may_fail wrote holds (line_of faults.Write))
+TellsLoad may_fail (Err fault) status held holds = (status ≡ 1) × TellsLine may_fail held holds (line_of_load fault)
 
 -- a load of this plan is run, and what it came to is told
 abbrev pub EndsLoad : Type 0 → Plan → ℕ → Option (List ℕ) → Option (List ℕ) → Type 0

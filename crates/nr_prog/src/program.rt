@@ -2,7 +2,7 @@
 ghost use Rattle.std.specs.Prelude.{◌≡◌, ◌≤◌, map, drop, string_bytes, option_map, IfSome, Ok, MatchResult};
 ghost use Rattle.std.specs.Process.{exit_status};
 ghost use Rattle.std.specs.Vec.Iter.{into_iter_items};
-ghost use Rattle.nr_prog.specs.Faults.{Tells, line_of, line_of_misuse};
+ghost use Rattle.nr_prog.specs.Faults.{TellsLine, line_of, line_of_misuse};
 ghost use Rattle.nr_prog.specs.Loads.{line_of_load, report_text, TellsLoad};
 ghost use Rattle.nr_prog.specs.Program.{EndsTask, ReadsNothing};
 ghost use Rattle.nr_prog.specs.Tasks.{task, words_read};
@@ -51,14 +51,15 @@ fn words_of(alloc: Global, args: Args) -> Option<Vec<String>>
 }
 
 /// The exit code of what these words ask for, or of one empty word where there are none to read.
-fn exit_of<T: Threads + Wait + Sync, R: Read, W: Write>(
+fn exit_of<T: Threads + Wait + Sync, R: Read, O: Output>(
     rt: &T,
     alloc: Global,
     words: Option<Vec<String>>,
     reader: &mut R,
-    writer: &mut W,
+    output: &mut O,
 ) -> ExitCode
-    ensures ends { EndsTask (Unit {0}) (task (words_read (option_map (λ all. map string_bytes all.items) words))) (exit_status result) (R.remaining reader.old) (R.remaining reader.new) (W.contents writer.old) (W.contents writer.new) }
+    ensures ends { EndsTask O.may_fail (task (words_read (option_map (λ all. map string_bytes all.items) words))) (exit_status result) (R.remaining reader.old) (R.remaining reader.new) (O.contents output.old) (O.contents output.new) }
+    ensures unread { ReadsNothing (task (words_read (option_map (λ all. map string_bytes all.items) words))) → reader.new ≡ reader.old }
     ensures few { exit_status result ≤ 2 }
 {
     let wrong = [String::new(alloc)];
@@ -66,7 +67,7 @@ fn exit_of<T: Threads + Wait + Sync, R: Read, W: Write>(
         Some(all) => all.as_slice(),
         None => wrong.as_slice(),
     };
-    ExitCode::from(main_with(rt, alloc, args, reader, writer))
+    ExitCode::from(main_to(rt, alloc, args, reader, output))
 }
 
 /// Runs what the words after the program's name ask for, and answers the exit status.
@@ -119,7 +120,7 @@ fn main_to<T: Threads + Wait + Sync, R: Read, O: Output>(
 
 /// The end with this status, whose line is written as far as it can be.
 fn end_with_line<O: Output>(status: u8, line: &[u8], output: &mut O) -> u8
-    ensures { (result ≡ status) × Tells O.may_fail (O.contents output.old) (O.contents output.new) line.now }
+    ensures { (result ≡ status) × TellsLine O.may_fail (O.contents output.old) (O.contents output.new) line.now }
 {
     let _ = output.tell(line);
     status
@@ -129,7 +130,7 @@ fn end_with_line<O: Output>(status: u8, line: &[u8], output: &mut O) -> u8
 fn end_of_run<O: Output>(ran: Result<(), RunFault>, output: &mut O) -> u8
     ensures { MatchResult ran
         (λ _. (result ≡ 0) × (O.contents output.new ≡ O.contents output.old))
-        (λ fault. (result ≡ 1) × Tells O.may_fail (O.contents output.old) (O.contents output.new) (line_of fault)) }
+        (λ fault. (result ≡ 1) × TellsLine O.may_fail (O.contents output.old) (O.contents output.new) (line_of fault)) }
 {
     match ran {
         Ok(()) => 0,

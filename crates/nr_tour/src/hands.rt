@@ -33,6 +33,9 @@ fn keep_over_update(map: &ReaderMap, writer: &mut Writer, reader: Reader, change
     // The key has the set that the hand holds: one load finds it, and nothing is written.
     let second = hand.find_kept(map, 0, &mut before);
     map.update(writer, 0, change).ok();
+    // A hand hears notes and makes them too, whether it holds a set or not.
+    hand.hear(map, map.note_writer(writer));
+    map.hear_writer(writer, hand.note(map));
     // Now it has another: the hand lets the old one go, and holds the new one.
     let third = hand.find_kept(map, 0, &mut after);
     let held = hand.key();

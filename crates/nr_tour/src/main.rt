@@ -4,6 +4,7 @@
 #![tactic(auto)]
 
 mod attempts;
+mod caches;
 mod calls;
 mod cancels;
 mod clients;
@@ -42,6 +43,7 @@ fn show_map<R: AllocGlobal + Print + Threads + Sync>(rt: &R) -> anyhow::Result<(
     upkeep::show(rt, &upkeep::kept_up(alloc, &change)?)?;
     pins::show(rt, &pins::kept_over_update(alloc, &change)?)?;
     hands::show(rt, &hands::kept_in_hand(alloc, &change)?)?;
+    caches::show(rt, &caches::found_often(alloc)?)?;
     rooms::show(rt, &rooms::passed_over(alloc)?)?;
     slots::show(rt, &slots::short_of_slots(alloc, &change)?)?;
     let more = Batch::of(&MORE)?;

@@ -1,10 +1,11 @@
 //! A write that another thread reads once it was acknowledged: a note goes with the message.
 ghost use Rattle.std.specs.Prelude.{◌≡◌, ◌<◌};
-ghost use Rattle.nr_board.specs.Rule.{StartsWith};
+ghost use Rattle.nr_board.specs.Meetings.{HearsNote};
+ghost use Rattle.nr_map.specs.Written.{FindsAfter, answered};
 
 use crate::calls::{ask, fill};
 use crate::opening::opened;
-use nr_map::{FillFault, Found, Note, Reader, ReaderMap, Writer};
+use nr_map::{FillFault, Found, Note, Reader, ReaderMap, Writer, laws};
 use nr_model::{OpenFault, RowSet};
 use std::alloc::Global;
 use std::io::{self, Print};
@@ -31,18 +32,23 @@ fn acknowledge(map: &ReaderMap, writer: &mut Writer) -> Note
 fn hear(map: &ReaderMap, reader: &mut Reader, note: Note)
     requires own { (reader.old.table ≡ map.now) × (note.table ≡ map.now) }
     ensures own { reader.new.table ≡ map.now }
-    ensures seen { StartsWith reader.new.seen note.seen }
+    ensures hears { HearsNote 2 reader.old note reader.new }
 {
     map.hear(reader, note);
 }
 
-// What the other thread does: it hears the note, and finds the key.
-fn hear_and_find(map: &ReaderMap, mut reader: Reader, note: Note) -> Found
+// What the other thread does: it hears the note, and finds the key. A law says what it finds: the
+// rows of the write, or of a later one, and a hole only where the key was evicted since.
+fn hear_and_find(map: &ReaderMap, mut reader: Reader, note: Note) -> (Found, RowSet)
     requires own { (reader.table ≡ map.now) × (note.table ≡ map.now) }
     requires key { 0 < map.now.shape.keys }
+    ensures written { FindsAfter map.now 0 note.seen (answered result.0 result.1) }
 {
+    laws::finds_what_it_heard();
     hear(map, &mut reader, note);
-    map.find(&mut reader, 0, &mut RowSet::new())
+    let mut rows = RowSet::new();
+    let found = map.find(&mut reader, 0, &mut rows);
+    (found, rows)
 }
 
 // The writer goes on in this thread, and the reader hears the note in one of its own.
@@ -50,9 +56,9 @@ fn found_there<R: Threads + Sync>(rt: &R, map: &ReaderMap, reader: Reader, note:
     requires own { (reader.table ≡ map.now) × (note.table ≡ map.now) }
     requires key { 0 < map.now.shape.keys }
 {
-    let (found, ()) = join(
+    let ((found, _rows), ()) = join(
         rt,
-        move || -> Found
+        move || -> (Found, RowSet)
             requires { (reader.table ≡ map.now) × (note.table ≡ map.now) × (0 < map.now.shape.keys) }
         { hear_and_find(map, reader, note) },
         move || {},
@@ -60,12 +66,27 @@ fn found_there<R: Threads + Sync>(rt: &R, map: &ReaderMap, reader: Reader, note:
     found
 }
 
+// A message for two: a reader that passes it on splits its note for them.
+fn pass_on(map: &ReaderMap, reader: &mut Reader, note: Note) -> (Note, Note)
+    requires own { (reader.old.table ≡ map.now) × (note.table ≡ map.now) }
+    ensures own { reader.new.table ≡ map.now }
+    ensures notes { (result.0 ≡ note) × (result.1 ≡ note) }
+{
+    map.split_note(reader, note)
+}
+
 // Two that hold sets tell the writer, and it tells them: a pin makes a note and hears one as its
 // reader does, and keeps its set. None where the key was a hole.
-fn held_meanwhile(map: &ReaderMap, writer: &mut Writer, mut reader: Reader) -> Option<RowSet>
-    requires own { (reader.table ≡ map.now) × (writer.old.table ≡ map.now) }
+fn held_meanwhile(
+    map: &ReaderMap,
+    writer: &mut Writer,
+    mut reader: Reader,
+    note: Note,
+) -> Option<RowSet>
+    requires own { (reader.table ≡ map.now) × (writer.old.table ≡ map.now) × (note.table ≡ map.now) }
     requires key { 0 < map.now.shape.keys }
 {
+    hear(map, &mut reader, note);
     let before = map.note(&mut reader);
     map.hear_writer(writer, before);
     let mut pin = match map.pin(reader, 0) {
@@ -90,9 +111,9 @@ pub fn written_and_read<R: Threads + Sync>(
     let (map, mut writer, mut one, two) = opened(alloc, 2, 5)?;
     ask(&map, &mut one, 0);
     let filled = fill(&map, &mut writer, 0);
-    let note = acknowledge(&map, &mut writer);
+    let (note, other) = pass_on(&map, &mut one, acknowledge(&map, &mut writer));
     let found = found_there(rt, &map, two, note);
-    let held = held_meanwhile(&map, &mut writer, one);
+    let held = held_meanwhile(&map, &mut writer, one, other);
     Ok(Acknowledged {
         filled,
         found,

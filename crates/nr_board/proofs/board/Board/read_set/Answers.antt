@@ -1,5 +1,4 @@
-use Rattle.std.proofs.Common.{ap, arith, refl, rules, subst, sym, ◌≡◌, ◌∙◌}
-use Rattle.nr_board.specs.Callers.{Table}
+use Rattle.std.proofs.Common.{arith, refl, rules, subst, sym, ◌≡◌, ◌∙◌}
 use Rattle.nr_board.proofs.ReadingOn.{begins, reads_all}
 use Rattle.nr_board.specs.NamedRows.{ReadTo, ReadsAll, rows_named}
 use Rattle.nr_board.specs.WriterSeats.{MapSeat}

@@ -1,0 +1,100 @@
+//! A thread's cache of the sets that it found last.
+ghost use Rattle.std.specs.Prelude.{◌≡◌, ◌<◌, length, All, IfOk};
+ghost use Rattle.nr_held.specs.Caches.{AreOf, IsOf};
+
+use crate::calls::{ask, fill};
+use nr_held::Cache;
+use nr_map::{Found, Hand, Reader, ReaderMap, Writer};
+use nr_model::{OpenFault, RowSet};
+use std::alloc::Global;
+use std::io::{self, Print};
+
+#[derive(Drop)]
+pub struct Cached {
+    hands: usize,
+    found: [Found; 4],
+    rows: RowSet,
+}
+
+// A map of 2 keys with a reader that asks, one that finds what no hand keeps, and one for a hand.
+fn opened_for_cache(alloc: Global) -> Result<(ReaderMap, Writer, Vec<Reader>), OpenFault>
+    ensures keys { IfOk result (λ opened. opened.0.shape.keys ≡ 2) }
+    ensures writer { IfOk result (λ opened. opened.1.table ≡ opened.0) }
+    ensures readers { IfOk result (λ opened. (length opened.2.items ≡ 3) × All (λ reader. reader.table ≡ opened.0) opened.2.items) }
+{
+    ReaderMap::open(alloc, 2, 6, 3, 0)
+}
+
+// A cache of those readers, one hand for each of the list.
+fn cache_of(
+    alloc: Global,
+    map: &ReaderMap,
+    once: Reader,
+    readers: Vec<Reader>,
+) -> Result<Cache, OpenFault>
+    requires once { once.table ≡ map.now }
+    requires own { All (λ reader. reader.table ≡ map.now) readers.items }
+    requires some { 0 < length readers.items }
+    ensures { IfOk result (λ cache. IsOf map.now cache) }
+{
+    match Cache::of(alloc, once, readers) {
+        Ok(cache) => Ok(cache),
+        Err(_) => Err(OpenFault::Memory),
+    }
+}
+
+// Finds a key until its hand keeps it, and once more after the hand let it go.
+fn find_often(map: &ReaderMap, cache: &mut Cache) -> Cached
+    requires own { IsOf map.now cache.old }
+    requires key { 0 < map.now.shape.keys }
+    ensures own { IsOf map.now cache.new }
+{
+    let mut rows = RowSet::new();
+    // The key misses, and misses again: then its hand takes it, and holds its set.
+    let first = cache.find(map, 0, &mut rows);
+    let second = cache.find(map, 0, &mut rows);
+    // The key has the set that the hand holds: one load finds it, and nothing is written.
+    let third = cache.find(map, 0, &mut rows);
+    // A thread that finds nothing for a while lets go, so that no slot waits for it.
+    cache.let_go(map);
+    let fourth = cache.find(map, 0, &mut rows);
+    Cached {
+        hands: cache.len(),
+        found: [first, second, third, fourth],
+        rows,
+    }
+}
+
+// The hands come back with their readers, which hold nothing now. A hand can't be dropped.
+fn end(map: &ReaderMap, mut hands: Vec<Hand>)
+    requires own { AreOf map.now hands.items }
+{
+    while let Some(hand) = hands.pop() {
+        hand.into_reader(map);
+    }
+    hands.destroy_empty();
+}
+
+/// A cache of one hand finds key 0 four times.
+pub fn found_often(alloc: Global) -> Result<Cached, OpenFault> {
+    let (map, mut writer, mut readers) = opened_for_cache(alloc)?;
+    let (Some(mut asking), Some(once)) = (readers.pop(), readers.pop()) else {
+        unreachable!()
+    };
+    ask(&map, &mut asking, 0);
+    let _filled = fill(&map, &mut writer, 0);
+    let mut cache = cache_of(alloc, &map, once, readers)?;
+    let told = find_often(&map, &mut cache);
+    let (_once, hands) = cache.close(&map);
+    end(&map, hands);
+    Ok(told)
+}
+
+pub fn show<R: Print>(rt: &R, told: &Cached) -> io::Result<()> {
+    println!(rt;
+        "A cache\n  hands {}\n  it finds {:?}: {:?}",
+        told.hands,
+        told.found,
+        told.rows.as_slice()
+    )
+}
