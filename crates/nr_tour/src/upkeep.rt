@@ -1,7 +1,9 @@
 //! What the dataflow does to a filled key.
+ghost use Rattle.std.specs.Prelude.{◌≡◌, ◌<◌};
+
 use crate::calls::{ask, fill, set_of};
 use crate::opening::opened;
-use nr_map::{Evict, ReplaceFault, UpdateFault};
+use nr_map::{Evict, ReaderMap, ReplaceFault, UpdateFault, Writer};
 use nr_model::{Batch, OpenFault, Row, RowSet};
 use std::alloc::Global;
 use std::io::{self, Print};
@@ -17,6 +19,18 @@ pub struct Upkeep {
     dropped: Result<(), UpdateFault>,
 }
 
+// Replaces key 0's set, and looks what is there then.
+fn replace(map: &ReaderMap, writer: &mut Writer) -> (Result<(), ReplaceFault>, RowSet)
+    requires own { writer.old.table ≡ map.now }
+    requires key { 0 < map.now.shape.keys }
+    ensures own { writer.new.table ≡ map.now }
+{
+    let replaced = map.replace(writer, 0, &set_of(map, &[Row { a: 5, b: 5 }]));
+    let mut rows = RowSet::new();
+    map.look(writer, 0, &mut rows);
+    (replaced, rows)
+}
+
 /// The writer fills key 0, changes it, replaces its set and evicts it. The change is applied whole or not at all: the
 /// second time there is no row `7:1` to take away, and the third time no set.
 pub fn kept_up(alloc: Global, change: &Batch) -> Result<Upkeep, OpenFault> {
@@ -27,10 +41,7 @@ pub fn kept_up(alloc: Global, change: &Batch) -> Result<Upkeep, OpenFault> {
     let mut rows = RowSet::new();
     map.look(&mut writer, 0, &mut rows);
     let refused = map.update(&mut writer, 0, change);
-    let new = set_of(&map, &[Row { a: 5, b: 5 }]);
-    let replaced = map.replace(&mut writer, 0, &new);
-    let mut new_rows = RowSet::new();
-    map.look(&mut writer, 0, &mut new_rows);
+    let (replaced, new_rows) = replace(&map, &mut writer);
     let evicted = map.evict(&mut writer, 0);
     let dropped = map.update(&mut writer, 0, change);
     Ok(Upkeep {
