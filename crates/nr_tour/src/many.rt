@@ -39,11 +39,21 @@ fn find_together(map: &ReaderMap, writer: &mut Writer, reader: &mut Reader) -> M
     }
 }
 
+// What finds of both keys will need is loaded while there is something else to do.
+fn load(map: &ReaderMap, reader: &mut Reader)
+    requires own { reader.old.table ≡ map.now }
+    requires keys { 1 < map.now.shape.keys }
+    ensures own { reader.new.table ≡ map.now }
+{
+    map.load_ahead(reader, &[0, 1]);
+}
+
 /// Key 0 is filled, and key 1 is filled between two looks at both.
 pub fn found_together(alloc: Global) -> Result<Many, OpenFault> {
     let (map, mut writer, mut one, _two) = opened(alloc, 2, 5)?;
     ask(&map, &mut one, 0);
     ask(&map, &mut one, 1);
+    load(&map, &mut one);
     let _filled = fill(&map, &mut writer, 0);
     Ok(find_together(&map, &mut writer, &mut one))
 }
