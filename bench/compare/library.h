@@ -24,6 +24,7 @@ typedef struct {
   uint32_t (*evict)(nr_writer *, uint32_t);
   /* Where the library has them, and else none. */
   uint32_t (*pin)(nr_reader *, uint32_t, uint32_t *);
+  uint32_t (*copy)(nr_reader *, nr_rows *);
   uint32_t (*again)(nr_reader *, uint32_t);
   uint32_t (*release)(nr_reader *);
   uint32_t (*find_kept)(nr_reader *, uint32_t, nr_rows *);
@@ -68,6 +69,7 @@ static void load(library *l, const char *name, const char *path, nr_shape shape)
   *(void **)&l->update = function(l->from, "nr_update");
   *(void **)&l->evict = function(l->from, "nr_evict");
   *(void **)&l->pin = dlsym(l->from, "nr_pin");
+  *(void **)&l->copy = dlsym(l->from, "nr_copy");
   *(void **)&l->again = dlsym(l->from, "nr_again");
   *(void **)&l->release = dlsym(l->from, "nr_release");
   *(void **)&l->find_kept = dlsym(l->from, "nr_find_kept");

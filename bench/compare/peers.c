@@ -15,7 +15,8 @@ static const double WINDOW = 2e6;
 
 typedef enum {
   READ_1, READ_2, READ_3, READ_4, HOT_1, HOT_2, HOT_3, HOT_4, BESIDE_WRITER, UPDATE, HALF, LAST, HOT_WRITTEN, HOT_UPDATE, HOT_EACH_1, HOT_EACH_10, SKEWED_1,
-  SKEWED_3, STEEP_1, STEEP_3, FILL, EVICT, AGAIN, KEPT_1, KEPT_2, KEPT_3, KEPT_4, KEPT_WRITTEN, KEPT_EACH_1, KEPT_EACH_10, HELD,
+  SKEWED_3, STEEP_1, STEEP_3, FILL, EVICT, AGAIN, KEPT_1, KEPT_2, KEPT_3, KEPT_4, KEPT_WRITTEN, KEPT_EACH_1, KEPT_EACH_10,
+  AGAIN_3, AGAIN_WRITTEN, AGAIN_EACH_1, AGAIN_EACH_10, HELD,
   COLUMNS = HELD + 4 * 3
 } column;
 
@@ -27,7 +28,8 @@ static const char *const names[COLUMNS] = {"read by 1", "read by 2", "read by 3"
     "hot key by 3 beside its writer", "update of the hot key", "hot key by 3, written each 1 us",
     "hot key by 3, written each 10 us", "skew 0.99 by 1", "skew 0.99 by 3", "skew 1.2 by 1", "skew 1.2 by 3", "fill",
     "eviction", "again by 1", "kept: hot key by 1", "kept: hot key by 2", "kept: hot key by 3", "kept: hot key by 4", "kept: hot key by 3 beside its writer",
-    "kept: hot key by 3, written each 1 us", "kept: hot key by 3, written each 10 us", "skew 0.99 by 1, 32 hands",
+    "kept: hot key by 3, written each 1 us", "kept: hot key by 3, written each 10 us", "again: hot key by 3",
+    "again: hot key by 3 beside its writer", "again: hot key by 3, written each 1 us", "again: hot key by 3, written each 10 us", "skew 0.99 by 1, 32 hands",
     "skew 0.99 by 1, 128 hands", "skew 0.99 by 1, 255 hands", "skew 0.99 by 3, 32 hands", "skew 0.99 by 3, 128 hands",
     "skew 0.99 by 3, 255 hands", "skew 1.2 by 1, 32 hands", "skew 1.2 by 1, 128 hands", "skew 1.2 by 1, 255 hands",
     "skew 1.2 by 3, 32 hands", "skew 1.2 by 3, 128 hands", "skew 1.2 by 3, 255 hands"};
@@ -111,21 +113,27 @@ static void *reads(void *given) {
   return NULL;
 }
 
-/* Looks at one held set again and again. */
+/* Reads the hot key by a held set whose rows the thread has copied: asks whether the key has them still, and where it
+   hasn't, holds and copies them anew. */
 static void *looks_again(void *given) {
   job *j = given;
+  static _Thread_local nr_rows found;
+  nr_reader *hand = &j->map->hand[j->id * (MOST_HANDS / READERS)];
   uint32_t held;
-  if (j->map->pin(&j->map->hand[0], HOT_KEY, &held) != NR_ROWS) stop("a pin");
+  if (j->map->pin(hand, HOT_KEY, &held) != NR_ROWS || j->map->copy(hand, &found) != NR_ROWS) stop("a pin");
   wait_for_all();
   double began = now(), ended;
   int made = 0;
   do {
-    for (int i = 0; i < 64; i++, made++)
-      if (j->map->again(&j->map->hand[0], HOT_KEY) != NR_ROWS) stop("a second look");
+    for (int i = 0; i < 64; i++, made++) {
+      if (j->map->again(hand, HOT_KEY) == NR_ROWS) continue;
+      j->map->release(hand);
+      if (j->map->pin(hand, HOT_KEY, &held) != NR_ROWS || j->map->copy(hand, &found) != NR_ROWS) stop("a pin");
+    }
     ended = now();
   } while (ended - began < WINDOW);
   j->each = (ended - began) / made;
-  j->map->release(&j->map->hand[0]);
+  j->map->release(hand);
   atomic_fetch_sub(&running, 1);
   return NULL;
 }
@@ -221,6 +229,8 @@ static void measure_kept(int m, int r) {
   static const column skewed[] = {SKEWED_1, SKEWED_3, STEEP_1, STEEP_3};
   if (!maps[m].find_kept) {
     for (int i = 0; i < 8; i++) each[AGAIN + i][m][r] = each[plain[i]][m][r];
+    each[AGAIN_3][m][r] = each[HOT_3][m][r];
+    for (int i = 0; i < 3; i++) each[AGAIN_WRITTEN + i][m][r] = each[KEPT_WRITTEN + i][m][r];
     for (int i = 0; i < 12; i++) each[HELD + i][m][r] = each[skewed[i / 3]][m][r];
     return;
   }
@@ -230,6 +240,8 @@ static void measure_kept(int m, int r) {
   run_with(l, 1, 3, reads, HOT, ALWAYS, &each[KEPT_WRITTEN][m][r]);
   run_with(l, 1, 3, reads, HOT, 1e3, &each[KEPT_EACH_1][m][r]);
   run_with(l, 1, 3, reads, HOT, 1e4, &each[KEPT_EACH_10][m][r]);
+  static const double intervals[] = {NEVER, ALWAYS, 1e3, 1e4};
+  for (int i = 0; i < 4; i++) run(l, 3, looks_again, HOT, intervals[i], &each[AGAIN_3 + i][m][r]);
   for (int i = 0; i < 12; i++)
     run_with(l, hands[i % 3], i / 3 % 2 ? 3 : 1, reads, i / 6 ? STEEP : SKEWED, NEVER, &each[HELD + i][m][r]);
 }

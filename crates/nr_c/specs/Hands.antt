@@ -1,9 +1,10 @@
 -- A reader between two calls: whose it is, and how it ends.
-use Rattle.std.specs.Prelude.{◌≡◌, ℕ, Option, None, Some}
+use Rattle.std.specs.Prelude.{◌≡◌, ◌↔◌, ℕ, Bool, true, Option, None, Some}
 use Rattle.nr_marks.specs.Marks.{acted}
 use Rattle.nr_board.specs.Callers.{Caller, Rests, Table}
+use Rattle.nr_board.specs.Meetings.{HasPut}
 use Rattle.nr_map.specs.Hands.{Handed, holding, idle}
-use Rattle.nr_map.specs.Pins.{Pinned}
+use Rattle.nr_map.specs.Pins.{FindsByPin, Pinned}
 use Rattle.nr_c.specs.declared.hand.Hand.{Hand}
 use Rattle.nr_c.specs.declared.hand.Hand.TheVariants.{Idle, Holds, Taken}
 
@@ -37,3 +38,10 @@ abbrev pub InHand : Hand → Handed → Type 0
 InHand (Idle reader) hand = hand ≡ idle reader
 InHand (Holds pin) hand = (key : ℕ) × (hand ≡ holding key pin)
 InHand Taken hand = ⊥
+
+-- the pin finds a key again, and holds the same set
+abbrev pub AgainByPin : ℕ → Pinned → Pinned → Bool → Type 0
+AgainByPin key old new found = FindsByPin key old.reader old.rows new.reader found × ((found ≡ true) ↔ HasPut key old.reader.marks.put new.reader) × (new.rows ≡ old.rows)
+
+abbrev pub AgainInHand : ℕ → Hand → Hand → Bool → Type 0
+AgainInHand key before after found = (old new : Pinned) × (before ≡ Holds old) × (after ≡ Holds new) × AgainByPin key old new found

@@ -1,16 +1,15 @@
 -- A reader that holds a set, as C calls it.
-use Rattle.std.specs.Prelude.{ℕ, ◌*◌, ◌≡◌, ◌↔◌, ◌≤◌, ◌⊎◌, Bool, true, if◌then◌else◌, List, length, slice_get, Some, Ok, Err}
+use Rattle.std.specs.Prelude.{ℕ, ◌*◌, ◌≡◌, ◌≤◌, ◌⊎◌, Bool, if◌then◌else◌, List, length, slice_get, Some, Ok, Err}
 use Rattle.nr_model.specs.declared.rows.Row.{Row}
 use Rattle.nr_board.specs.Callers.{Caller, Rests}
-use Rattle.nr_board.specs.Meetings.{HasPut}
 use Rattle.nr_map.specs.Hands.{Handed, Reads}
-use Rattle.nr_map.specs.Pins.{FindsByPin, Pinned, PinsKey}
+use Rattle.nr_map.specs.Pins.{Pinned, PinsKey}
 use Rattle.nr_c.specs.Numbers.{answer_done, answer_hole, answer_no_row, answer_other, answer_rows}
 use Rattle.nr_c.specs.declared.hand.Hand.{Hand}
 use Rattle.nr_c.specs.declared.hand.Hand.TheVariants.{Holds, Idle}
 use Rattle.nr_c.specs.declared.reader_side.ReaderSide.{ReaderSide}
 use Rattle.nr_c.specs.declared.rows.NrRows.{NrRows}
-use Rattle.nr_c.specs.Hands.{InHand, LetsGo}
+use Rattle.nr_c.specs.Hands.{AgainByPin, InHand, LetsGo}
 use Rattle.nr_c.specs.Live.{TurnsHand}
 use Rattle.nr_c.specs.RowCells.{ShowsSet}
 
@@ -33,8 +32,7 @@ CopiesSet rows code before after =
 
 -- a find again by its code; the reader holds the same set
 abbrev pub FindsByHold : ℕ → ℕ → List ReaderSide → List ReaderSide → Type 0
-FindsByHold key code before after = (found : Bool) × (code ≡ (if found then answer_rows else answer_other)) × (old new : Pinned) × TurnsHand before after (Holds old) (Holds new)
-    × FindsByPin key old.reader old.rows new.reader found × ((found ≡ true) ↔ HasPut key old.reader.marks.put new.reader) × (new.rows ≡ old.rows)
+FindsByHold key code before after = (found : Bool) × (code ≡ (if found then answer_rows else answer_other)) × (old new : Pinned) × TurnsHand before after (Holds old) (Holds new) × AgainByPin key old new found
 
 -- the hold ends
 abbrev pub Releases : ℕ → List ReaderSide → List ReaderSide → Type 0

@@ -109,9 +109,7 @@ pub extern "C" fn nr_again(reader: &mut NrReader, key: u32) -> u32
     if !side.holds() {
         return NR_NOT_HOLDING;
     }
-    let mut pin = side.take_pin();
-    let found = pin.again(&side.map, key);
-    side.put(Hand::Holds(pin));
+    let found = side.again(key);
     if found { NR_ROWS } else { NR_OTHER }
 }
 

@@ -1,7 +1,7 @@
 //! What a reader's handle leads to.
 ghost use Rattle.std.specs.Prelude.{◌≡◌, ◌<◌, ◌≤◌, IfSome, IsSome, Some};
 ghost use Rattle.std.specs.Bool.{OnFalse, OnTrue};
-ghost use Rattle.nr_c.specs.Hands.{EndsHand, HoldsNone, HoldsSome, InHand, table_of};
+ghost use Rattle.nr_c.specs.Hands.{AgainInHand, EndsHand, HoldsNone, HoldsSome, InHand, table_of};
 ghost use Rattle.nr_board.specs.Callers.{Caller};
 ghost use Rattle.nr_map.specs.Hands.{Handed};
 ghost use Rattle.nr_map.specs.Pins.{Pinned};
@@ -113,6 +113,20 @@ impl ReaderSide {
     {
         match mem::replace(&mut self.hand, Hand::Taken) {
             Hand::Holds(pin) => pin,
+            Hand::Idle(_) | Hand::Taken => unreachable!(),
+        }
+    }
+
+    /// Finds a key again by the pin, which stays in its place: a pin that is taken out and put back is
+    /// waited for by the next call.
+    pub fn again(&mut self, key: u32) -> bool
+        requires holds { HoldsSome self.old.hand }
+        requires key { key < self.old.map.value.shape.keys }
+        ensures map { self.new.map ≡ self.old.map }
+        ensures hand { AgainInHand key self.old.hand self.new.hand result }
+    {
+        match &mut self.hand {
+            Hand::Holds(pin) => pin.again(&self.map, key),
             Hand::Idle(_) | Hand::Taken => unreachable!(),
         }
     }

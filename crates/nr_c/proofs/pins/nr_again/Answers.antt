@@ -14,12 +14,10 @@ returns-then-found c = inr (inr (
   inr ((
     c.again-found.result,
     ap (λ (b : Bool). cond {A = ℕ} b answer_rows answer_other) (sym c.if-found.true),
-    c.take_pin-pin.result,
-    c.again-found.new.self,
-    record { old = c.side-side.result.now; new = _; led = ap (λ handle. handle.live) (sym c.is_live.ensures.same) ∙ c.side-side.ensures.value; leads = refl; map = c.put.ensures.map ∙ c.take_pin-pin.ensures.map; old_hand = c.take_pin-pin.ensures.pin; new_hand = c.put.ensures.hand },
-    c.again-found.ensures.finds,
-    c.again-found.ensures.exact,
-    c.again-found.ensures.rows,
+    c.again-found.ensures.hand.0,
+    c.again-found.ensures.hand.1,
+    record { old = c.side-side.result.now; new = _; led = ap (λ handle. handle.live) (sym c.is_live.ensures.same) ∙ c.side-side.ensures.value; leads = refl; map = c.again-found.ensures.map; old_hand = c.again-found.ensures.hand.2; new_hand = c.again-found.ensures.hand.3 },
+    c.again-found.ensures.hand.4,
   )),
 ))
 
@@ -29,11 +27,9 @@ returns-else-found c = inr (inr (
   inr ((
     c.again-found.result,
     ap (λ (b : Bool). cond {A = ℕ} b answer_rows answer_other) (sym c.if-found.false),
-    c.take_pin-pin.result,
-    c.again-found.new.self,
-    record { old = c.side-side.result.now; new = _; led = ap (λ handle. handle.live) (sym c.is_live.ensures.same) ∙ c.side-side.ensures.value; leads = refl; map = c.put.ensures.map ∙ c.take_pin-pin.ensures.map; old_hand = c.take_pin-pin.ensures.pin; new_hand = c.put.ensures.hand },
-    c.again-found.ensures.finds,
-    c.again-found.ensures.exact,
-    c.again-found.ensures.rows,
+    c.again-found.ensures.hand.0,
+    c.again-found.ensures.hand.1,
+    record { old = c.side-side.result.now; new = _; led = ap (λ handle. handle.live) (sym c.is_live.ensures.same) ∙ c.side-side.ensures.value; leads = refl; map = c.again-found.ensures.map; old_hand = c.again-found.ensures.hand.2; new_hand = c.again-found.ensures.hand.3 },
+    c.again-found.ensures.hand.4,
   )),
 ))
