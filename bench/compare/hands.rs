@@ -103,8 +103,8 @@ fn filled(slots: u32) -> Handle<Writer> {
         nr_open_reader(&writer, &mut reader);
         for key in 0..KEYS {
             let mut number = 0;
-            nr_ask(&mut reader, key, &mut number);
-            nr_fill(&mut writer, key, number, rows.as_ptr(), rows.len());
+            nr_ask(Some(&mut reader), key, &mut number);
+            nr_fill(Some(&mut writer), key, number, rows.as_ptr(), rows.len());
         }
     }
     writer
