@@ -79,9 +79,8 @@ impl ReaderSide {
         ensures none { OnFalse result (HoldsNone self.now.hand) }
     {
         match &self.hand {
-            Hand::Idle(_) => false,
             Hand::Holds(_) => true,
-            Hand::Taken => unreachable!(),
+            Hand::Idle(_) | Hand::Taken => false,
         }
     }
 
