@@ -1,5 +1,7 @@
 //! Calls of the sequential map, sets and batches, with the answers that they must give.
 ghost use Rattle.std.specs.Prelude.{◌≡◌, ◌<◌, ◌≤◌, length, IfOk};
+ghost use Rattle.std.specs.Bool.{OnTrue};
+ghost use Rattle.nr_model.specs.Maps.{SetFits};
 ghost use Rattle.nr_model.specs.declared.rows.TheConstants.{MAX_ROWS};
 
 use nr_model::{
@@ -61,61 +63,62 @@ impl RowSource for Listed<'_> {
     ghost gave_more = { λ _ _ _ _ _ _. tt };
 }
 
+// The set has these rows, and no more.
+fn has_rows<R: Abort>(rt: &R, set: &RowSet, rows: &[Row]) {
+    assert_eq!(rt; set.len(), rows.len());
+    for (i, row) in rows.iter().enumerate() {
+        assert_eq!(rt; set.get(i), Some(*row), "at {i}");
+    }
+    assert_eq!(rt; set.get(rows.len()), None);
+}
+
 #[test]
 fn sets_are_in_order_and_keep_doubles(rt: HostRuntime) -> Result<(), Fail> {
     let set = set_of(&[row(7, 1), row(3, 9), row(7, 0), row(3, 9)])?;
-    assert_eq!(rt; set.len(), 4);
-    assert_eq!(rt; set.get(0), Some(row(3, 9)));
-    assert_eq!(rt; set.get(1), Some(row(3, 9)));
-    assert_eq!(rt; set.get(2), Some(row(7, 0)));
-    assert_eq!(rt; set.get(3), Some(row(7, 1)));
-    assert_eq!(rt; set.get(4), None);
-    assert_eq!(rt; RowSet::new().len(), 0);
+    has_rows(&rt, &set, &[row(3, 9), row(3, 9), row(7, 0), row(7, 1)]);
+    has_rows(&rt, &RowSet::new(), &[]);
+    Ok(())
+}
+
+// A set that is refilled from the set of the given rows has just these.
+fn refills<R: Abort>(rt: &R, set: &mut RowSet, given: &[Row], rows: &[Row]) -> Result<(), Fail> {
+    let given = set_of(given)?;
+    let mut source = Listed {
+        listed: given.as_slice(),
+    };
+    set.refill(given.len(), &mut source);
+    has_rows(rt, set, rows);
     Ok(())
 }
 
 #[test]
 fn a_set_is_refilled_over_more_rows_and_over_fewer(rt: HostRuntime) -> Result<(), Fail> {
     let mut set = set_of(&[row(9, 9), row(8, 8), row(7, 7)])?;
-    let one = set_of(&[row(3, 9)])?;
-    set.refill(
-        1,
-        &mut Listed {
-            listed: one.as_slice(),
-        },
-    );
-    assert_eq!(rt; set.len(), 1);
-    assert_eq!(rt; set.get(0), Some(row(3, 9)));
-    assert_eq!(rt; set.get(1), None);
-    let two = set_of(&[row(4, 4), row(1, 1)])?;
-    set.refill(
-        2,
-        &mut Listed {
-            listed: two.as_slice(),
-        },
-    );
-    assert_eq!(rt; set.len(), 2);
-    assert_eq!(rt; set.get(0), Some(row(1, 1)));
-    assert_eq!(rt; set.get(1), Some(row(4, 4)));
-    set.refill(0, &mut Listed { listed: &[] });
-    assert_eq!(rt; set.len(), 0);
-    Ok(())
+    refills(&rt, &mut set, &[row(3, 9)], &[row(3, 9)])?;
+    refills(
+        &rt,
+        &mut set,
+        &[row(4, 4), row(1, 1)],
+        &[row(1, 1), row(4, 4)],
+    )?;
+    refills(&rt, &mut set, &[], &[])
 }
 
 #[test]
 fn sets_and_batches_have_their_limits(rt: HostRuntime) -> Result<(), Fail> {
     assert_eq!(rt; set_of(&[row(1, 1); 255])?.len(), 255);
     assert_eq!(rt; RowSet::of(&[row(1, 1); 256]).err(), Some(TooMany));
-    assert_eq!(rt; Batch::of(&[]).err(), Some(BatchFault::Empty));
     let whole = batch_of(&[plus(1, 1); 64])?;
     assert_eq!(rt; whole.len(), 64);
-    assert_eq!(rt; whole.get(63), Some(plus(1, 1)));
-    assert_eq!(rt; whole.get(64), None);
-    assert_eq!(rt;
-        Batch::of(&[plus(1, 1); 65]).err(),
-        Some(BatchFault::TooLong)
-    );
+    assert_eq!(rt; (whole.get(63), whole.get(64)), (Some(plus(1, 1)), None));
     Ok(())
+}
+
+#[test]
+fn batches_have_one_to_sixty_four_rows(rt: HostRuntime) {
+    assert_eq!(rt; Batch::of(&[]).err(), Some(BatchFault::Empty));
+    let longer = [plus(1, 1); 65];
+    assert_eq!(rt; Batch::of(&longer).err(), Some(BatchFault::TooLong));
 }
 
 #[test]
@@ -130,37 +133,43 @@ fn rows_are_put_over_the_first_cells(rt: HostRuntime) -> Result<(), Fail> {
     Ok(())
 }
 
+// The rows after a batch, of which 15 may be left.
+fn applied(set: &RowSet, deltas: &[Delta]) -> Result<Result<RowSet, ApplyFault>, Fail> {
+    Ok(set.applied(&batch_of(deltas)?, 15))
+}
+
+// A batch that is applied leaves these rows.
+fn applies<R: Abort>(rt: &R, set: &[Row], deltas: &[Delta], rows: &[Row]) -> Result<(), Fail> {
+    match applied(&set_of(set)?, deltas)? {
+        Ok(left) => has_rows(rt, &left, rows),
+        Err(_) => return Err("not applied".into()),
+    }
+    Ok(())
+}
+
+// A batch is refused so.
+fn refuses<R: Abort>(rt: &R, set: &[Row], deltas: &[Delta], fault: ApplyFault) -> Result<(), Fail> {
+    assert_eq!(rt; applied(&set_of(set)?, deltas)?.err(), Some(fault));
+    Ok(())
+}
+
 #[test]
 fn batches_apply_whole_or_not_at_all(rt: HostRuntime) -> Result<(), Fail> {
-    let set = set_of(&[row(5, 5), row(5, 5)])?;
-    let left = set
-        .applied(&batch_of(&[minus(5, 5), plus(6, 0)])?, 15)
-        .map_err(|_| "not applied")?;
-    assert_eq!(rt; left.get(0), Some(row(5, 5)));
-    assert_eq!(rt; left.get(1), Some(row(6, 0)));
-    assert_eq!(rt; left.len(), 2);
-    let lacking = batch_of(&[plus(9, 9), minus(8, 8)])?;
-    assert_eq!(rt; left.applied(&lacking, 15).err(), Some(ApplyFault::NoRow));
-    Ok(())
+    let left = [row(5, 5), row(6, 0)];
+    applies(&rt, &[row(5, 5); 2], &[minus(5, 5), plus(6, 0)], &left)?;
+    refuses(&rt, &left, &[plus(9, 9), minus(8, 8)], ApplyFault::NoRow)
 }
 
 #[test]
 fn a_row_may_come_and_go_in_one_batch(rt: HostRuntime) -> Result<(), Fail> {
-    let left = RowSet::new()
-        .applied(&batch_of(&[minus(7, 7), plus(7, 7)])?, 15)
-        .map_err(|_| "not applied")?;
-    assert_eq!(rt; left.len(), 0);
-    Ok(())
+    applies(&rt, &[], &[minus(7, 7), plus(7, 7)], &[])
 }
 
 #[test]
 fn missing_rows_are_told_before_too_many(rt: HostRuntime) -> Result<(), Fail> {
-    let full = set_of(&[row(1, 1); 15])?;
-    let more = batch_of(&[plus(2, 2)])?;
-    assert_eq!(rt; full.applied(&more, 15).err(), Some(ApplyFault::TooMany));
-    let both = batch_of(&[plus(2, 2), minus(3, 3)])?;
-    assert_eq!(rt; full.applied(&both, 15).err(), Some(ApplyFault::NoRow));
-    Ok(())
+    let full = [row(1, 1); 15];
+    refuses(&rt, &full, &[plus(2, 2)], ApplyFault::TooMany)?;
+    refuses(&rt, &full, &[plus(2, 2), minus(3, 3)], ApplyFault::NoRow)
 }
 
 #[test]
@@ -182,172 +191,199 @@ fn a_pile_is_worked_on_in_place(rt: HostRuntime) -> Result<(), Fail> {
     Ok(())
 }
 
+// A map that has a key.
+fn opened(alloc: Global, keys: u32, first_number: u64, rows: u32) -> Result<SeqMap, Fail> {
+    Ok(SeqMap::open_with(alloc, keys, first_number, rows).map_err(|_| "not opened")?)
+}
+
+// Whether a map is refused by its sizes or its first number.
+fn is_bad(alloc: Global, keys: u32, first_number: u64, rows: u32) -> bool {
+    matches!(
+        SeqMap::open_with(alloc, keys, first_number, rows),
+        Err(OpenFault::BadSize)
+    )
+}
+
 #[test]
 fn sizes_have_their_limits(rt: HostRuntime) -> Result<(), Fail> {
-    assert!(rt; is_bad_size(3, 0));
-    assert!(rt; !is_bad_size(3, 1));
-    assert!(rt; !is_bad_size(3, 3));
-    assert!(rt; is_bad_size(3, 4));
-    assert!(rt; matches!(&SeqMap::open(rt.alloc(), 0), Err(OpenFault::BadSize)));
-    assert!(rt;
-        matches!(
-            &SeqMap::open(rt.alloc(), MAX_KEYS + 1),
-            Err(OpenFault::BadSize)
-        )
-    );
+    for (size, is_bad) in [(0, true), (1, false), (3, false), (4, true)] {
+        assert_eq!(rt; is_bad_size(3, size), is_bad);
+    }
+    for keys in [0, MAX_KEYS + 1] {
+        assert!(rt; matches!(&SeqMap::open(rt.alloc(), keys), Err(OpenFault::BadSize)));
+    }
     let map = SeqMap::open(rt.alloc(), MAX_KEYS).map_err(|_| "not opened")?;
-    assert_eq!(rt; map.keys(), 65_536);
-    assert_eq!(rt; map.rows(), 15);
-    assert_eq!(rt; DEFAULT_ROWS, 15);
-    assert!(rt; matches!(&map.state(65_535), KeyState::Hole(0)));
+    assert_eq!(rt; (map.keys(), map.rows(), DEFAULT_ROWS), (65_536, 15, 15));
+    assert!(rt; matches!(&state_of(&rt, &map, 65_535), KeyState::Hole(0)));
     Ok(())
 }
 
 #[test]
 fn first_numbers_have_their_limit(rt: HostRuntime) -> Result<(), Fail> {
     assert_eq!(rt; LAST_NUMBER, 4_194_303);
-    assert!(rt;
-        matches!(
-            &SeqMap::open_with(rt.alloc(), 1, 4_194_304, 15),
-            Err(OpenFault::BadSize)
-        )
-    );
-    assert!(rt;
-        matches!(
-            &SeqMap::open_with(rt.alloc(), 0, 4_194_303, 15),
-            Err(OpenFault::BadSize)
-        )
-    );
-    let map = SeqMap::open_with(rt.alloc(), 1, 4_194_303, 15).map_err(|_| "not opened")?;
-    assert!(rt; matches!(&map.state(0), KeyState::Hole(4_194_303)));
-    assert_eq!(rt; map.state(0).number(), 4_194_303);
+    assert!(rt; is_bad(rt.alloc(), 1, 4_194_304, 15));
+    assert!(rt; is_bad(rt.alloc(), 0, 4_194_303, 15));
+    let map = opened(rt.alloc(), 1, 4_194_303, 15)?;
+    assert!(rt; matches!(&state_of(&rt, &map, 0), KeyState::Hole(4_194_303)));
+    assert_eq!(rt; state_of(&rt, &map, 0).number(), 4_194_303);
     Ok(())
+}
+
+fn fits(call: &Call, rows: u32) -> bool
+    ensures { OnTrue result (SetFits rows call.now) }
+{
+    match call {
+        Call::Fill(_, _, set) | Call::Replace(_, set) => set.len() <= rows as usize,
+        _ => true,
+    }
+}
+
+// What the map replies to a call, which it takes.
+fn reply_of<R: Abort>(rt: &R, map: &mut SeqMap, call: &Call) -> Reply {
+    assert!(rt; call.key() < map.keys() && fits(call, map.rows()));
+    map.call(call)
+}
+
+// The map replies so to these calls, one after another: each reply stands beside its call, as `Debug` writes it.
+fn replies<R: Abort + AllocGlobal>(
+    rt: &R,
+    map: &mut SeqMap,
+    calls: &[(Call, &str)],
+) -> Result<(), Fail> {
+    for (call, wanted) in calls {
+        let reply = format!(in rt.alloc(); "{:?}", reply_of(rt, map, call))?;
+        assert_eq!(rt; reply.as_str(), *wanted, "to {call:?}");
+    }
+    Ok(())
+}
+
+// A find gives these rows.
+fn finds<R: Abort>(rt: &R, map: &mut SeqMap, key: u32, rows: &[Row]) -> Result<(), Fail> {
+    match reply_of(rt, map, &Call::Find(key)) {
+        Reply::Rows(found) => has_rows(rt, &found, rows),
+        _ => return Err("the key was not found".into()),
+    }
+    Ok(())
+}
+
+// What a key of the map is.
+fn state_of<R: Abort>(rt: &R, map: &SeqMap, key: u32) -> KeyState {
+    assert!(rt; key < map.keys());
+    map.state(key)
 }
 
 #[test]
 fn a_key_is_asked_filled_updated_and_evicted(rt: HostRuntime) -> Result<(), Fail> {
-    let mut map = SeqMap::open(rt.alloc(), 2).map_err(|_| "not opened")?;
+    let mut map = opened(rt.alloc(), 2, 0, 15)?;
     let set = set_of(&[row(1, 1)])?;
     let batch = batch_of(&[plus(2, 2)])?;
-    assert!(rt; matches!(&map.call(&Call::Fill(1, 0, set)), Reply::NotAsked));
-    assert!(rt; matches!(&map.call(&Call::Update(1, batch)), Reply::Dropped));
     assert_eq!(rt; Call::Fill(1, 0, set).key(), 1);
-    assert!(rt; matches!(&map.call(&Call::Ask(1)), Reply::Send(0)));
-    assert!(rt; !map.state(1).is_filled());
-    assert!(rt; matches!(&map.call(&Call::Ask(1)), Reply::Waiting));
-    assert!(rt; matches!(&map.call(&Call::Evict(1)), Reply::Nothing));
-    assert!(rt; matches!(&map.call(&Call::Find(1)), Reply::Hole));
-    assert!(rt; matches!(&map.call(&Call::Fill(1, 0, set)), Reply::Done));
-    assert!(rt; matches!(&map.call(&Call::Ask(1)), Reply::Filled));
-    assert!(rt; matches!(&map.call(&Call::Fill(1, 0, set)), Reply::Already));
-    assert!(rt; matches!(&map.call(&Call::Update(1, batch)), Reply::Done));
-    let Reply::Rows(rows) = map.call(&Call::Find(1)) else {
-        return Err("the key was not found".into());
-    };
-    assert_eq!(rt; rows.len(), 2);
-    assert!(rt; matches!(&map.state(1), KeyState::Rows(0, _)));
-    assert!(rt; map.state(1).is_filled());
-    assert!(rt; matches!(&map.state(0), KeyState::Hole(0)));
-    assert!(rt; matches!(&map.call(&Call::Evict(1)), Reply::Evicted));
-    assert!(rt; matches!(&map.call(&Call::Find(1)), Reply::Hole));
-    Ok(())
+    let calls = [
+        (Call::Fill(1, 0, set), "NotAsked"),
+        (Call::Update(1, batch), "Dropped"),
+        (Call::Ask(1), "Send(0)"),
+    ];
+    replies(&rt, &mut map, &calls)?;
+    assert!(rt; !state_of(&rt, &map, 1).is_filled());
+    let calls = [
+        (Call::Ask(1), "Waiting"),
+        (Call::Evict(1), "Nothing"),
+        (Call::Find(1), "Hole"),
+        (Call::Fill(1, 0, set), "Done"),
+        (Call::Ask(1), "Filled"),
+        (Call::Fill(1, 0, set), "Already"),
+        (Call::Update(1, batch), "Done"),
+    ];
+    replies(&rt, &mut map, &calls)?;
+    finds(&rt, &mut map, 1, &[row(1, 1), row(2, 2)])?;
+    assert!(rt; matches!(&state_of(&rt, &map, 1), KeyState::Rows(0, _)));
+    assert!(rt; state_of(&rt, &map, 1).is_filled());
+    assert!(rt; matches!(&state_of(&rt, &map, 0), KeyState::Hole(0)));
+    replies(
+        &rt,
+        &mut map,
+        &[(Call::Evict(1), "Evicted"), (Call::Find(1), "Hole")],
+    )
 }
 
 #[test]
 fn a_set_is_replaced_whole(rt: HostRuntime) -> Result<(), Fail> {
-    let mut map = SeqMap::open(rt.alloc(), 2).map_err(|_| "not opened")?;
+    let mut map = opened(rt.alloc(), 2, 0, 15)?;
     let few = Call::Replace(1, set_of(&[row(9, 9)])?);
     let many = Call::Replace(1, set_of(&[row(2, 2), row(1, 1), row(1, 1)])?);
+    let fill = Call::Fill(1, 0, set_of(&[row(5, 5)])?);
     assert_eq!(rt; few.key(), 1);
-    assert!(rt; matches!(&map.call(&few), Reply::Dropped));
-    assert!(rt; matches!(&map.call(&Call::Ask(1)), Reply::Send(0)));
-    assert!(rt; matches!(&map.call(&few), Reply::Dropped));
-    assert!(rt; matches!(&map.state(1), KeyState::Asked(0)));
-    assert!(rt;
-        matches!(
-            &map.call(&Call::Fill(1, 0, set_of(&[row(5, 5)])?)),
-            Reply::Done
-        )
-    );
-    assert!(rt; matches!(&map.call(&many), Reply::Done));
-    let Reply::Rows(rows) = map.call(&Call::Find(1)) else {
-        return Err("the key was not found".into());
-    };
-    assert_eq!(rt;
-        rows.as_slice(),
-        [row(1, 1), row(1, 1), row(2, 2)].as_slice()
-    );
-    assert!(rt; matches!(&map.call(&few), Reply::Done));
-    let Reply::Rows(rows) = map.call(&Call::Find(1)) else {
-        return Err("the key was not found".into());
-    };
-    assert_eq!(rt; rows.as_slice(), [row(9, 9)].as_slice());
-    assert!(rt; matches!(&map.call(&Call::Replace(1, RowSet::new())), Reply::Done));
-    assert!(rt; map.state(1).is_filled());
-    assert!(rt; matches!(&map.state(0), KeyState::Hole(0)));
+    replies(
+        &rt,
+        &mut map,
+        &[
+            (few, "Dropped"),
+            (Call::Ask(1), "Send(0)"),
+            (few, "Dropped"),
+        ],
+    )?;
+    assert!(rt; matches!(&state_of(&rt, &map, 1), KeyState::Asked(0)));
+    replies(&rt, &mut map, &[(fill, "Done"), (many, "Done")])?;
+    finds(&rt, &mut map, 1, &[row(1, 1), row(1, 1), row(2, 2)])?;
+    replies(&rt, &mut map, &[(few, "Done")])?;
+    finds(&rt, &mut map, 1, &[row(9, 9)])?;
+    replies(&rt, &mut map, &[(Call::Replace(1, RowSet::new()), "Done")])?;
+    assert!(rt; state_of(&rt, &map, 1).is_filled());
+    assert!(rt; matches!(&state_of(&rt, &map, 0), KeyState::Hole(0)));
     Ok(())
 }
 
 #[test]
 fn a_request_is_cancelled_until_its_number_is_worn(rt: HostRuntime) -> Result<(), Fail> {
-    let mut map = SeqMap::open_with(rt.alloc(), 1, 4_194_302, 15).map_err(|_| "not opened")?;
-    let late = Call::Fill(0, 4_194_302, set_of(&[row(1, 1)])?);
-    let answer = Call::Fill(0, 4_194_303, set_of(&[row(1, 1)])?);
-    assert!(rt; matches!(&map.call(&Call::Ask(0)), Reply::Send(4_194_302)));
-    assert!(rt; matches!(&map.call(&Call::Cancel(0)), Reply::Cancelled));
-    assert!(rt; matches!(&map.call(&Call::Cancel(0)), Reply::Nothing));
-    assert!(rt; matches!(&map.call(&Call::Ask(0)), Reply::Send(4_194_303)));
-    assert!(rt; matches!(&map.call(&late), Reply::Stale));
-    assert!(rt; matches!(&map.call(&Call::Cancel(0)), Reply::Worn));
-    assert!(rt; matches!(&map.call(&Call::Ask(0)), Reply::Waiting));
-    assert!(rt; matches!(&map.call(&answer), Reply::Done));
-    assert!(rt; matches!(&map.call(&Call::Cancel(0)), Reply::Nothing));
-    assert!(rt; matches!(&map.call(&Call::Evict(0)), Reply::Evicted));
-    assert!(rt; matches!(&map.call(&Call::Fill(0, 0, RowSet::new())), Reply::NotAsked));
-    assert!(rt; matches!(&map.call(&Call::Ask(0)), Reply::Send(4_194_303)));
-    assert!(rt; matches!(&map.call(&answer), Reply::Done));
-    Ok(())
+    let mut map = opened(rt.alloc(), 1, 4_194_302, 15)?;
+    let set = set_of(&[row(1, 1)])?;
+    let calls = [
+        (Call::Ask(0), "Send(4194302)"),
+        (Call::Cancel(0), "Cancelled"),
+        (Call::Cancel(0), "Nothing"),
+        (Call::Ask(0), "Send(4194303)"),
+        (Call::Fill(0, 4_194_302, set), "Stale"),
+        (Call::Cancel(0), "Worn"),
+        (Call::Ask(0), "Waiting"),
+        (Call::Fill(0, 4_194_303, set), "Done"),
+        (Call::Cancel(0), "Nothing"),
+        (Call::Evict(0), "Evicted"),
+        (Call::Fill(0, 0, RowSet::new()), "NotAsked"),
+        (Call::Ask(0), "Send(4194303)"),
+        (Call::Fill(0, 4_194_303, set), "Done"),
+    ];
+    replies(&rt, &mut map, &calls)
 }
 
 #[test]
 fn bounds_of_rows_have_their_limits(rt: HostRuntime) -> Result<(), Fail> {
-    assert!(rt;
-        matches!(
-            &SeqMap::open_with(rt.alloc(), 1, 0, 0),
-            Err(OpenFault::BadSize)
-        )
-    );
-    assert!(rt;
-        matches!(
-            &SeqMap::open_with(rt.alloc(), 1, 0, 256),
-            Err(OpenFault::BadSize)
-        )
-    );
-    takes_so_many_rows(&rt, rt.alloc(), 1)?;
-    takes_so_many_rows(&rt, rt.alloc(), 15)?;
-    takes_so_many_rows(&rt, rt.alloc(), 16)?;
-    takes_so_many_rows(&rt, rt.alloc(), 255)
+    assert!(rt; is_bad(rt.alloc(), 1, 0, 0) && is_bad(rt.alloc(), 1, 0, 256));
+    for rows in [1, 15, 16, 255] {
+        takes_so_many_rows(&rt, rows)?;
+    }
+    Ok(())
 }
 
 // Key 1 takes as many rows as it may have, and not one more. Key 0 beside it keeps nothing of that.
-fn takes_so_many_rows(rt: &impl Abort, alloc: Global, rows: u32) -> Result<(), Fail>
-    requires some { 0 < rows }
-    requires room { rows ≤ MAX_ROWS }
-{
-    let mut map = SeqMap::open_with(alloc, 2, 0, rows).map_err(|_| "not opened")?;
-    let set = set_of(&[row(2, 2); MAX_ROWS][..rows as usize])?;
-    let one_more = batch_of(&[plus(1, 1)])?;
-    let another = batch_of(&[plus(1, 1), minus(2, 2)])?;
-    assert!(rt; matches!(&map.call(&Call::Ask(1)), Reply::Send(0)));
-    assert!(rt; matches!(&map.call(&Call::Fill(1, 0, set)), Reply::Done));
-    assert!(rt; matches!(&map.call(&Call::Update(1, one_more)), Reply::TooMany));
-    assert!(rt; matches!(&map.call(&Call::Update(1, another)), Reply::Done));
-    let KeyState::Rows(_, left) = map.state(1) else {
+fn takes_so_many_rows<R: Abort + AllocGlobal>(rt: &R, rows: u32) -> Result<(), Fail> {
+    let mut map = opened(rt.alloc(), 2, 0, rows)?;
+    let set = set_of(&[row(2, 2); MAX_ROWS][..(rows as usize).min(MAX_ROWS)])?;
+    let calls = [
+        (Call::Ask(1), "Send(0)"),
+        (Call::Fill(1, 0, set), "Done"),
+        (Call::Update(1, batch_of(&[plus(1, 1)])?), "TooMany"),
+        (
+            Call::Update(1, batch_of(&[plus(1, 1), minus(2, 2)])?),
+            "Done",
+        ),
+    ];
+    replies(rt, &mut map, &calls)?;
+    let KeyState::Rows(_, left) = state_of(rt, &map, 1) else {
         return Err("the key is not filled".into());
     };
     assert_eq!(rt; left.len(), rows as usize);
     assert_eq!(rt; left.get(0), Some(row(1, 1)));
-    assert!(rt; matches!(&map.state(0), KeyState::Hole(0)));
+    assert!(rt; matches!(&state_of(rt, &map, 0), KeyState::Hole(0)));
     Ok(())
 }
 
@@ -371,20 +407,22 @@ fn is_numbered(set: &RowSet) -> bool {
 
 #[test]
 fn a_key_is_filled_with_255_rows(rt: HostRuntime) -> Result<(), Fail> {
-    let mut map = SeqMap::open_with(rt.alloc(), 1, 0, 255).map_err(|_| "not opened")?;
-    let set = set_of(&numbered())?;
-    let one_more = batch_of(&[plus(0, 0)])?;
-    assert!(rt; matches!(&map.call(&Call::Ask(0)), Reply::Send(0)));
-    assert!(rt; matches!(&map.call(&Call::Fill(0, 0, set)), Reply::Done));
-    assert!(rt; matches!(&map.call(&Call::Update(0, one_more)), Reply::TooMany));
-    let Reply::Rows(rows) = map.call(&Call::Find(0)) else {
+    let mut map = opened(rt.alloc(), 1, 0, 255)?;
+    let calls = [
+        (Call::Ask(0), "Send(0)"),
+        (Call::Fill(0, 0, set_of(&numbered())?), "Done"),
+        (Call::Update(0, batch_of(&[plus(0, 0)])?), "TooMany"),
+    ];
+    replies(&rt, &mut map, &calls)?;
+    let Reply::Rows(rows) = reply_of(&rt, &mut map, &Call::Find(0)) else {
         return Err("the key was not found".into());
     };
     assert!(rt; is_numbered(&rows));
     Ok(())
 }
 
-fn opened(alloc: Global) -> Result<SeqMap, OpenFault> {
+// Opens a map, and once more where it was refused for memory.
+fn opened_at_last(alloc: Global) -> Result<SeqMap, OpenFault> {
     match SeqMap::open(alloc, 2) {
         Err(OpenFault::Memory) => SeqMap::open(alloc, 2),
         opened => opened,
@@ -394,8 +432,8 @@ fn opened(alloc: Global) -> Result<SeqMap, OpenFault> {
 // An opening that was refused is made once more, so this passes whichever request is refused.
 #[test]
 fn a_map_opens_after_refused_memory(rt: HostRuntime) -> Result<(), Fail> {
-    let map = opened(rt.alloc()).map_err(|_| "refused twice")?;
+    let map = opened_at_last(rt.alloc()).map_err(|_| "refused twice")?;
     assert_eq!(rt; map.keys(), 2);
-    assert!(rt; matches!(&map.state(1), KeyState::Hole(0)));
+    assert!(rt; matches!(&state_of(&rt, &map, 1), KeyState::Hole(0)));
     Ok(())
 }
