@@ -1,5 +1,7 @@
-//! Tests of whole loads, by the public calls alone.
+//! Tests of whole loads and of a worker's gets, by the public calls alone.
 #![tactic(auto)]
 
+#[cfg(test)]
+mod gets;
 #[cfg(test)]
 mod loads;
