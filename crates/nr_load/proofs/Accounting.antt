@@ -7,8 +7,8 @@ use Rattle.nr_model.specs.Histories.{Entry}
 use Rattle.nr_board.specs.Callers.{Caller, Table}
 use Rattle.nr_map.specs.Rounds.{is_cancel, is_fill, is_sent}
 use Rattle.nr_serve.specs.Hands.{capped}
-use Rattle.nr_tally.specs.Balance.{of_all}
-use Rattle.nr_tally.specs.Rounds.{IsInOrder}
+use Rattle.nr_load.specs.Balance.{of_all}
+use Rattle.nr_load.specs.Gathers.{IsInOrder}
 use Rattle.nr_load.specs.declared.threads.Joined.{Joined}
 use Rattle.nr_load.specs.Ends.{Ended}
 use Rattle.nr_load.specs.Outcomes.{answered_in, reader_of, sends_in}

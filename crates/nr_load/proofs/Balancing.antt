@@ -8,8 +8,8 @@ use Rattle.nr_board.specs.Callers.{Caller, Table, map_at_opening}
 use Rattle.nr_board.specs.Entries.{AreCallers}
 use Rattle.nr_map.specs.Rounds.{EntriesAreCallers, is_cancel, is_fill, is_sent}
 use Rattle.nr_serve.specs.Hands.{capped}
-use Rattle.nr_tally.specs.Balance.{Balances, Stays, StaysEach, of_all}
-use Rattle.nr_tally.specs.Rounds.{IsTally}
+use Rattle.nr_load.specs.Balance.{Balances, Stays, StaysEach, of_all}
+use Rattle.nr_load.specs.Gathers.{IsTally}
 use Rattle.nr_load.specs.Reports.{IsAccount}
 
 total_stays : (test : Entry → Bool) (old new : List Caller) → StaysEach old new → total (λ (r : Caller). count_by test r.mine) new ≡ total (λ (r : Caller). count_by test r.mine) old

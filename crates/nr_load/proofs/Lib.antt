@@ -1,3 +1,6 @@
+pub mod Gathering
+pub mod CountingAsked
+pub mod Telling
 pub mod News
 pub mod Working
 pub mod Counting

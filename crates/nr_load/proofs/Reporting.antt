@@ -12,7 +12,7 @@ use Rattle.nr_marks.specs.Marks.{no_marks}
 use Rattle.nr_board.specs.Callers.{Caller, Table, map_at_opening}
 use Rattle.nr_map.specs.Opened.{newcomer}
 use Rattle.nr_map.specs.Rounds.{is_fill, is_sent}
-use Rattle.nr_tally.specs.Balance.{of_all}
+use Rattle.nr_load.specs.Balance.{of_all}
 use Rattle.nr_load.specs.declared.fault.LoadFault.{LoadFault}
 use Rattle.nr_load.specs.declared.load.LoadReport.{LoadReport}
 use Rattle.nr_load.specs.declared.load.Plan.{Plan}

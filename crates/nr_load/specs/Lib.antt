@@ -1,3 +1,5 @@
+pub mod Balance
+pub mod Gathers
 pub mod Faults
 pub mod Drawn
 pub mod Works

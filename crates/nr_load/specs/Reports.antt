@@ -12,7 +12,7 @@ use Rattle.nr_board.specs.Entries.{AreCallers}
 use Rattle.nr_map.specs.Opened.{newcomer}
 use Rattle.nr_map.specs.Rounds.{is_fill, is_sent}
 use Rattle.nr_serve.specs.declared.hands.Hands.{Hands}
-use Rattle.nr_tally.specs.Balance.{of_all}
+use Rattle.nr_load.specs.Balance.{of_all}
 use Rattle.nr_load.specs.declared.load.LoadReport.{LoadReport}
 use Rattle.nr_load.specs.declared.load.Plan.{Plan}
 use Rattle.nr_load.specs.Base.{FindsRows}

@@ -9,6 +9,7 @@ mod flow;
 mod gets;
 mod load;
 mod shared;
+mod tally;
 mod threads;
 mod workers;
 

@@ -1,6 +1,6 @@
 use Rattle.std.proofs.Common.{List, subst, arith}
 use Rattle.nr_board.specs.Callers.{Caller}
-use Rattle.nr_tally.specs.Balance.{StaysEach}
+use Rattle.nr_load.specs.Balance.{StaysEach}
 use Rattle.nr_load.proofs.Balancing.{accounts, balanced, exact}
 use Rattle.nr_load.proofs.load.account.Goals as goal
 

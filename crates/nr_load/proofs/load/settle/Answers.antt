@@ -4,8 +4,8 @@ use Rattle.nr_machine.specs.declared.shape.Shape.{Shape}
 use Rattle.nr_board.specs.Callers.{Caller}
 use Rattle.nr_map.specs.Rounds.{is_cancel, is_fill, is_sent}
 use Rattle.nr_serve.specs.Hands.{capped}
-use Rattle.nr_tally.specs.Balance.{of_all}
-use Rattle.nr_tally.specs.Rounds.{IsInOrder}
+use Rattle.nr_load.specs.Balance.{of_all}
+use Rattle.nr_load.specs.Gathers.{IsInOrder}
 use Rattle.nr_load.specs.Reports.{IsAccount}
 use Rattle.nr_load.proofs.Accounting.{all_cancelled, all_filled, all_sent, in_order, own_readers}
 use Rattle.nr_load.proofs.Reporting.{comes}

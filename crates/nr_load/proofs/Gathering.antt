@@ -7,8 +7,8 @@ use Rattle.nr_board.specs.Entries.{AreCallers}
 use Rattle.nr_board.specs.Meetings.{Gathers, Learns}
 use Rattle.nr_map.specs.Rounds.{CallsStay}
 use Rattle.nr_board.specs.Rule.{StartsWith}
-use Rattle.nr_tally.specs.Balance.{Stays}
-use Rattle.nr_tally.specs.Rounds.{Hears}
+use Rattle.nr_load.specs.Balance.{Stays}
+use Rattle.nr_load.specs.Gathers.{Hears}
 
 pub starts_then : (a b c : List Entry) → StartsWith b a → StartsWith c b → StartsWith c a
 starts_then a b c one two = record { rest = one.rest ++ two.rest; is = two.is ∙ ap (λ (l : List Entry). l ++ two.rest) one.is ∙ append_assoc a one.rest two.rest }

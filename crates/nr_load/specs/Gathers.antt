@@ -7,7 +7,7 @@ use Rattle.nr_board.specs.declared.answers.KeyKind.{KeyKind}
 use Rattle.nr_board.specs.declared.answers.KeyKind.TheVariants as kind
 use Rattle.nr_board.specs.Callers.{Caller, map_seen, IsSound}
 use Rattle.nr_map.specs.Rounds.{HasCalls, HasHeard, KnowsAll}
-use Rattle.nr_tally.specs.Balance.{Stays}
+use Rattle.nr_load.specs.Balance.{Stays}
 
 -- the readers of a map, in the order of their numbers
 pub record IsInOrder (count : ℕ) (readers : List Caller) : Type 0 where
@@ -20,7 +20,7 @@ pub record Hears (before after : List Entry) (old new : Caller) : Type 0 where
   pub calls : HasCalls after new
   pub heard : HasHeard before new
 
-pub record Rounds (writer : Caller) (readers : List Caller) (writer' : Caller) (readers' : List Caller) : Type 0 where
+pub record GathersAll (writer : Caller) (readers : List Caller) (writer' : Caller) (readers' : List Caller) : Type 0 where
   pub stays : Stays writer writer'
   pub sound : 0 < length readers → IsSound writer'
   pub count : length readers' ≡ length readers

@@ -1,9 +1,9 @@
 use Rattle.std.proofs.Common.{◌≡◌, ◌≤◌}
 use Rattle.nr_machine.specs.Sums.{below}
-use Rattle.nr_tally.specs.Balance.{Stays}
+use Rattle.nr_load.specs.Balance.{Stays}
 use Rattle.nr_board.specs.Callers.{IsSound}
-use Rattle.nr_tally.proofs.Counting.{pending_at}
-use Rattle.nr_tally.proofs.rounds.count_asked.Given as goal
+use Rattle.nr_load.proofs.CountingAsked.{pending_at}
+use Rattle.nr_load.proofs.tally.count_asked.Given as goal
 
 abbrev pub invariant-loop-key : goal.invariant-loop-key
 invariant-loop-key l = record {

@@ -1,9 +1,9 @@
 use Rattle.std.proofs.Common.{◌≡◌, ◌<◌, ◌∙◌, length, get_or, sym, subst, arith}
 use Rattle.nr_board.specs.Callers.{Table}
-use Rattle.nr_tally.specs.Rounds.{IsInOrder}
-use Rattle.nr_tally.proofs.Gathering.{stays_then}
-use Rattle.nr_tally.proofs.Telling.{balances, tallies}
-use Rattle.nr_tally.proofs.rounds.tally.Goals as goal
+use Rattle.nr_load.specs.Gathers.{IsInOrder}
+use Rattle.nr_load.proofs.Gathering.{stays_then}
+use Rattle.nr_load.proofs.Telling.{balances, tallies}
+use Rattle.nr_load.proofs.tally.tally.Goals as goal
 
 pub returns : goal.returns
 returns c =

@@ -1,7 +1,8 @@
-//! Rounds of gathers, and the keys that are asked.
+//! What all callers of a map did, once its writer has gathered them: two rounds of gathers, and between
+//! them a count of the keys that are asked. The count is exact, and that is proved.
 ghost use Rattle.std.specs.Prelude.{◌≡◌, ◌<◌, All};
-ghost use Rattle.nr_tally.specs.Rounds.{CountsAsked, IsInOrder, IsTally, Rounds, asked_one};
-ghost use Rattle.nr_tally.specs.Balance.{Balances, Stays, StaysEach};
+ghost use Rattle.nr_load.specs.Gathers.{CountsAsked, GathersAll, IsInOrder, IsTally, asked_one};
+ghost use Rattle.nr_load.specs.Balance.{Balances, Stays, StaysEach};
 
 use nr_map::{KeyKind, Reader, ReaderMap, Writer, laws};
 
@@ -9,7 +10,7 @@ use nr_map::{KeyKind, Reader, ReaderMap, Writer, laws};
 fn gather_all(map: &ReaderMap, writer: &mut Writer, readers: &mut [Reader])
     requires writer { writer.old.table ≡ map.now }
     requires readers { All (λ reader. reader.table ≡ map.now) readers.old }
-    ensures { Rounds writer.old readers.old writer.new readers.new }
+    ensures { GathersAll writer.old readers.old writer.new readers.new }
 {
     laws::calls_stay();
     for reader in readers.iter_mut() {
@@ -43,7 +44,7 @@ fn count_asked(map: &ReaderMap, writer: &mut Writer) -> u64
 /// and make no call meanwhile. All readers are gathered, the keys are counted, and all are gathered
 /// once more: the second round shows that nobody called in between. With r readers and k keys it
 /// takes 12r + k steps. No token makes a call.
-pub fn tally(map: &ReaderMap, writer: &mut Writer, readers: &mut [Reader]) -> u64
+pub(crate) fn tally(map: &ReaderMap, writer: &mut Writer, readers: &mut [Reader]) -> u64
     requires own { writer.old.table ≡ map.now }
     requires writer { writer.old.number ≡ 0 }
     requires tables { All (λ reader. reader.table ≡ map.now) readers.old }

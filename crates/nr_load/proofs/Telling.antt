@@ -9,9 +9,9 @@ use Rattle.nr_machine.specs.Sums.{total}
 use Rattle.nr_board.specs.Callers.{Caller, Table, map_seen, IsSound}
 use Rattle.nr_map.specs.Rounds.{CallsStay, EntriesAreCallers, HasCalls, HasHeard, HasJustCalls, KnowsAll, RoundsTellAll, SendsOfAllKeys, is_cancel, is_fill, is_sent}
 use Rattle.nr_board.specs.Rule.{StartsWith}
-use Rattle.nr_tally.specs.Balance.{Balances, Stays, of_all}
-use Rattle.nr_tally.specs.Rounds.{CountsAsked, IsInOrder, IsTally, Rounds}
-use Rattle.nr_tally.proofs.Gathering.{starts_then}
+use Rattle.nr_load.specs.Balance.{Balances, Stays, of_all}
+use Rattle.nr_load.specs.Gathers.{CountsAsked, GathersAll, IsInOrder, IsTally}
+use Rattle.nr_load.proofs.Gathering.{starts_then}
 
 count_all : (xs : List Entry) → count_by (λ (e : Entry). true) xs ≡ length xs
 count_all [] = refl
@@ -41,7 +41,7 @@ same_history entries one two rs knows1 knows2 stays =
     let none : length more.rest ≡ 0 = omega (arith, n1, n2, ap (λ (l : List Entry). length l) stays.mine, ap (λ (l : List Entry). length l) more.is, length-append one.seen more.rest) in
     more.is ∙ ap (λ (l : List Entry). one.seen ++ l) (nil_from_length more.rest none) ∙ append-nil one.seen
 
-pub tallies : RoundsTellAll → EntriesAreCallers → CallsStay → (w0 w1 w2 w3 : Caller) (rs0 rs1 rs2 : List Caller) (asked : ℕ) → Rounds w0 rs0 w1 rs1 → CountsAsked w1 w2 asked → Rounds w2 rs1 w3 rs2
+pub tallies : RoundsTellAll → EntriesAreCallers → CallsStay → (w0 w1 w2 w3 : Caller) (rs0 rs1 rs2 : List Caller) (asked : ℕ) → GathersAll w0 rs0 w1 rs1 → CountsAsked w1 w2 asked → GathersAll w2 rs1 w3 rs2
     → w0.number ≡ 0 → IsInOrder w0.table.shape.readers rs0 → 0 < w0.table.shape.readers → IsTally w3 rs2 asked
 tallies tell entries stay w0 w1 w2 w3 rs0 rs1 rs2 asked one counted two first order some =
     let size1 : length rs1 ≡ length rs0 = one.count in

@@ -1,8 +1,8 @@
 use Rattle.std.proofs.Common.{◌≡◌, ◌<◌, ◌≤◌, ℕ, get_or}
 use Rattle.nr_board.specs.Callers.{Caller, IsSound}
-use Rattle.nr_tally.specs.Balance.{Stays}
-use Rattle.nr_tally.specs.Rounds.{Hears}
-use Rattle.nr_tally.proofs.rounds.gather_all.Given as goal
+use Rattle.nr_load.specs.Balance.{Stays}
+use Rattle.nr_load.specs.Gathers.{Hears}
+use Rattle.nr_load.proofs.tally.gather_all.Given as goal
 
 abbrev pub invariant-loop-reader : goal.invariant-loop-reader
 invariant-loop-reader l = record {

@@ -15,8 +15,8 @@ use Rattle.nr_board.specs.Kinds.{kind_of}
 use Rattle.nr_board.specs.Meetings.{StatesKey}
 use Rattle.nr_map.specs.Rounds.{BeginningsMeet}
 use Rattle.nr_board.specs.Rule.{StartsWith}
-use Rattle.nr_tally.specs.Balance.{Stays}
-use Rattle.nr_tally.specs.Rounds.{asked_one}
+use Rattle.nr_load.specs.Balance.{Stays}
+use Rattle.nr_load.specs.Gathers.{asked_one}
 
 -- whether a key is asked, after what the caller has seen
 abbrev pub pending_at : Caller → ℕ → ℕ

@@ -2,8 +2,8 @@ use Rattle.std.proofs.Common.{◌≡◌, ◌<◌, ℕ, length, get_or, set, arit
 use Rattle.std.proofs.lemmas.List.{get_or-set_other}
 use Rattle.nr_board.specs.Callers.{Caller}
 use Rattle.nr_board.specs.Meetings.{Gathers}
-use Rattle.nr_tally.proofs.Gathering.{gathered, learns_sound, learns_stays, one_more, stays_then}
-use Rattle.nr_tally.proofs.rounds.gather_all.Goals as goal
+use Rattle.nr_load.proofs.Gathering.{gathered, learns_sound, learns_stays, one_more, stays_then}
+use Rattle.nr_load.proofs.tally.gather_all.Goals as goal
 
 pub loop-reader-preserved : goal.loop-reader-preserved
 loop-reader-preserved c =

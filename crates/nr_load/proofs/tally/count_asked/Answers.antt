@@ -1,9 +1,9 @@
 use Rattle.std.proofs.Common.{◌≡◌, ◌∙◌, sym, ap, arith}
 use Rattle.nr_machine.specs.Sums.{below}
 use Rattle.nr_board.specs.Callers.{Table}
-use Rattle.nr_tally.proofs.Counting.{all_keys, asked_small, counts_on, pending_at}
-use Rattle.nr_tally.proofs.Gathering.{learns_sound, learns_stays, stays_then}
-use Rattle.nr_tally.proofs.rounds.count_asked.Goals as goal
+use Rattle.nr_load.proofs.CountingAsked.{all_keys, asked_small, counts_on, pending_at}
+use Rattle.nr_load.proofs.Gathering.{learns_sound, learns_stays, stays_then}
+use Rattle.nr_load.proofs.tally.count_asked.Goals as goal
 
 pub loop-key-preserved : goal.loop-key-preserved
 loop-key-preserved c =
