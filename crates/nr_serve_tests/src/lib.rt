@@ -3,12 +3,12 @@
 #![tactic(auto)]
 
 #[cfg(test)]
-mod clients;
+mod gates;
 #[cfg(test)]
-mod flows;
-#[cfg(test)]
-mod notes;
+mod lobbies;
 #[cfg(test)]
 mod opened;
+#[cfg(test)]
+mod scenes;
 #[cfg(test)]
 mod threads;

@@ -1,0 +1,43 @@
+//! A gate that notes what it is asked.
+use nr_serve::Gate;
+use std::sync::atomic::{AtomicU64, Ordering};
+
+/// Lets worker 1 pass from its get of that number on, and notes how often it was asked, and told of an
+/// answer.
+#[derive(Drop)]
+pub(crate) struct Noting {
+    first: u64,
+    passes: AtomicU64,
+    answers: AtomicU64,
+}
+
+impl Noting {
+    pub(crate) fn from(first: u64) -> Noting {
+        Noting {
+            first,
+            passes: AtomicU64::new(0),
+            answers: AtomicU64::new(0),
+        }
+    }
+
+    // How often it was asked, and told of an answer.
+    pub(crate) fn noted(&self) -> (u64, u64) {
+        (
+            self.passes.load(Ordering::SeqCst),
+            self.answers.load(Ordering::SeqCst),
+        )
+    }
+}
+
+impl Gate for Noting {
+    fn pass(&self, worker: u32, turn: u64) -> bool {
+        self.passes.fetch_add(1, Ordering::SeqCst);
+        worker == 1 && turn >= self.first
+    }
+
+    fn answered(&self, worker: u32, turn: u64) {
+        if worker == 1 && turn >= self.first {
+            self.answers.fetch_add(1, Ordering::SeqCst);
+        }
+    }
+}

@@ -1,0 +1,206 @@
+//! What a client and a dataflow do between them, one call after another.
+ghost use Rattle.std.specs.Prelude.{◌≡◌};
+
+use crate::gates::Noting;
+use crate::opened::{Opened, Plain, end_client, end_flow, gets, misses, turns};
+use nr_map::{Cancel, Evict, NoSlot};
+use nr_model::{Delta, Row, RowSet};
+use nr_serve::{Client, Dataflow, Got, Lobby, Turn};
+use std::alloc::Global;
+use std::process::Abort;
+use std::sync::Wait;
+use std::test::Fail;
+
+#[derive(Clone, Copy, Debug)]
+enum Scene {
+    ClosedLobby,
+    ShutGate,
+    NoSlot,
+    StaleTrigger,
+    ToldOfAnApply,
+}
+
+// A get that would sleep, if the lobby were open.
+fn gives_up<R: Abort + Wait>(rt: &R, lobby: &Lobby, client: &mut Client<'_, Noting>)
+    requires { client.old.map.shape.keys ≡ 2 }
+{
+    lobby.close(&mut lobby.guest());
+    assert_eq!(rt; client.get(rt, 0, 3, &mut RowSet::new()), Got::GaveUp);
+}
+
+// The gate lets nobody pass, and then everybody.
+fn is_barred_and_passes<R: Abort + Wait>(
+    rt: &R,
+    gate: &Noting,
+    client: &mut Client<'_, Noting>,
+    flow: &mut Dataflow<'_, Plain>,
+)
+    requires { client.old.map.shape.keys ≡ 2 }
+{
+    misses(rt, client, 0);
+    turns(rt, flow, Turn::Filled(0));
+    gets(rt, client, 0, &mut RowSet::new(), Got::Barred);
+    assert_eq!(rt; gate.noted(), (1_000_000, 0));
+    gets(rt, client, 0, &mut RowSet::new(), Got::Rows);
+    assert_eq!(rt; gate.noted(), (1_000_001, 1));
+}
+
+// There is one slot, which key 0 has until it is evicted.
+fn keeps_its_trigger<R: Abort + Wait>(
+    rt: &R,
+    client: &mut Client<'_, Noting>,
+    flow: &mut Dataflow<'_, Plain>,
+)
+    requires client { client.old.map.shape.keys ≡ 2 }
+    requires flow { flow.old.map.shape.keys ≡ 2 }
+{
+    misses(rt, client, 0);
+    misses(rt, client, 1);
+    turns(rt, flow, Turn::Filled(0));
+    turns(rt, flow, Turn::Kept(NoSlot { live: 1, held: 0 }));
+    assert_eq!(rt; flow.evict(0), Evict::Evicted);
+    turns(rt, flow, Turn::Filled(1));
+}
+
+// The request is taken back, and the client asks anew: the first request's trigger is passed.
+fn passes_the_first<R: Abort + Wait>(
+    rt: &R,
+    client: &mut Client<'_, Noting>,
+    flow: &mut Dataflow<'_, Plain>,
+)
+    requires client { client.old.map.shape.keys ≡ 2 }
+    requires flow { flow.old.map.shape.keys ≡ 2 }
+{
+    misses(rt, client, 0);
+    assert_eq!(rt; flow.cancel(rt, 0), Cancel::Cancelled);
+    misses(rt, client, 0);
+    turns(rt, flow, Turn::Passed(0));
+    turns(rt, flow, Turn::Filled(0));
+    turns(rt, flow, Turn::Idle);
+}
+
+// The source was told the map's bound on rows, and a row is added.
+fn applies<R: Abort>(rt: &R, flow: &mut Dataflow<'_, Plain>)
+    requires { flow.old.map.shape.keys ≡ 2 }
+    ensures { flow.new.map ≡ flow.old.map }
+{
+    let more = Delta {
+        plus: true,
+        row: Row { a: 1, b: 7 },
+    };
+    let bound = flow.source().bound;
+    assert_eq!(rt; bound, 15);
+    assert!(rt; flow.apply_rows(0, &[more]).is_ok());
+}
+
+// A client that hears of an apply gets its rows.
+fn hears_of_an_apply<R: Abort + Wait>(
+    rt: &R,
+    client: &mut Client<'_, Noting>,
+    flow: &mut Dataflow<'_, Plain>,
+)
+    requires client { client.old.map.shape.keys ≡ 2 }
+    requires flow { (flow.old.map.shape.keys ≡ 2) × (flow.old.map ≡ client.old.map) }
+{
+    let mut rows = RowSet::new();
+    misses(rt, client, 0);
+    turns(rt, flow, Turn::Filled(0));
+    applies(rt, flow);
+    client.hear(flow.note());
+    gets(rt, client, 0, &mut rows, Got::Rows);
+    assert!(rt; has_both(&rows));
+}
+
+/// The rows `0:5` and `1:7`.
+fn has_both(rows: &RowSet) -> bool {
+    rows.len() == 2
+        && rows.get(0) == Some(Row { a: 0, b: 5 })
+        && rows.get(1) == Some(Row { a: 1, b: 7 })
+}
+
+impl Scene {
+    fn slots(self) -> u32 {
+        match self {
+            Scene::NoSlot => 1,
+            Scene::ClosedLobby | Scene::ShutGate | Scene::StaleTrigger | Scene::ToldOfAnApply => 4,
+        }
+    }
+
+    // The client's first get that may pass the gate.
+    fn first(self) -> u64 {
+        match self {
+            Scene::ShutGate => 3,
+            Scene::ClosedLobby | Scene::NoSlot | Scene::StaleTrigger | Scene::ToldOfAnApply => 1,
+        }
+    }
+
+    fn play<R: Abort + Wait>(
+        self,
+        rt: &R,
+        lobby: &Lobby,
+        gate: &Noting,
+        client: &mut Client<'_, Noting>,
+        flow: &mut Dataflow<'_, Plain>,
+    )
+        requires client { client.old.map.shape.keys ≡ 2 }
+        requires flow { (flow.old.map.shape.keys ≡ 2) × (flow.old.map ≡ client.old.map) }
+    {
+        match self {
+            Scene::ClosedLobby => gives_up(rt, lobby, client),
+            Scene::ShutGate => is_barred_and_passes(rt, gate, client, flow),
+            Scene::NoSlot => keeps_its_trigger(rt, client, flow),
+            Scene::StaleTrigger => passes_the_first(rt, client, flow),
+            Scene::ToldOfAnApply => hears_of_an_apply(rt, client, flow),
+        }
+    }
+}
+
+// Plays the scene with a client and a dataflow of what was opened.
+fn play_in<R: Abort + Wait>(rt: &R, scene: Scene, opened: Opened) {
+    let Opened {
+        map,
+        triggers,
+        writer,
+        taker,
+        reader,
+        poster,
+        lobby,
+    } = opened;
+    let gate = Noting::from(scene.first());
+    let source = Plain { bound: 0 };
+    let mut client = Client::open(&map, reader, &triggers, poster, &lobby, &gate);
+    let mut flow = Dataflow::open(&map, writer, &triggers, taker, source, &lobby);
+    scene.play(rt, &lobby, &gate, &mut client, &mut flow);
+    end_client(client);
+    end_flow(flow);
+}
+
+fn play<R: Abort + Wait>(rt: &R, alloc: Global, scene: Scene) -> Result<(), Fail> {
+    play_in(rt, scene, Opened::open(alloc, scene.slots())?);
+    Ok(())
+}
+
+#[test]
+fn nobody_sleeps_in_a_closed_lobby(rt: HostRuntime) -> Result<(), Fail> {
+    play(&rt, rt.alloc(), Scene::ClosedLobby)
+}
+
+#[test]
+fn a_gate_that_never_lets_pass_bars_a_get(rt: HostRuntime) -> Result<(), Fail> {
+    play(&rt, rt.alloc(), Scene::ShutGate)
+}
+
+#[test]
+fn a_turn_without_a_slot_keeps_its_trigger(rt: HostRuntime) -> Result<(), Fail> {
+    play(&rt, rt.alloc(), Scene::NoSlot)
+}
+
+#[test]
+fn a_stale_trigger_is_passed(rt: HostRuntime) -> Result<(), Fail> {
+    play(&rt, rt.alloc(), Scene::StaleTrigger)
+}
+
+#[test]
+fn who_is_told_of_an_apply_gets_its_rows(rt: HostRuntime) -> Result<(), Fail> {
+    play(&rt, rt.alloc(), Scene::ToldOfAnApply)
+}
