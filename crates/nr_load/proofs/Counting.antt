@@ -1,5 +1,5 @@
 -- What calls a list of entries has, counted.
-use Rattle.std.proofs.Common.{◌≡◌, ℕ, ◌+◌, ◌<◌, ◌==◌, Bool, true, false, ◌&&◌, cond, List, [], ◌∷◌, ◌++◌, length, refl, sym, ap, ◌∙◌, subst, arith, eq-eqb, length-append}
+use Rattle.std.proofs.Common.{◌≡◌, ℕ, ◌+◌, ◌<◌, ◌==◌, Bool, true, false, ◌&&◌, cond, List, [], ◌∷◌, ◌++◌, length, refl, ap, arith, eq-eqb, length-append}
 use Rattle.std.specs.List.{count_by}
 use Rattle.std.proofs.lemmas.List.Sums.{sum_by-append}
 use Rattle.nr_model.proofs.HistoryLemmas.{one, count_by-cons}
@@ -13,7 +13,6 @@ use Rattle.nr_model.specs.Histories.{Entry, is_done, is_send}
 use Rattle.nr_model.specs.Maps.{call_key}
 use Rattle.nr_machine.specs.Story.{entry}
 use Rattle.nr_map.specs.Rounds.{is_cancel, is_fill, is_sent}
-use Rattle.nr_trigger.specs.declared.post.Upquery.{Upquery}
 use Rattle.nr_serve.specs.Tickets.{sent, sent_by}
 use Rattle.nr_load.specs.Gained.{AreNear, Tells}
 

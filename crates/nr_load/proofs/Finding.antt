@@ -1,14 +1,12 @@
 -- In the history of a load each find finds the one row that the base has then: the writer's calls obey the base, and so each key that is filled has its row.
-use Rattle.std.proofs.Common.{◌≡◌, ◌≢◌, ℕ, zero, suc, ◌+◌, ◌<◌, ◌≤◌, ◌==◌, ◌%◌, nat_lt, Bool, true, false, if◌then◌else◌, cond, MatchBool, List, [], ◌∷◌, ◌++◌, length, replicate, slice_index, slice_index_or, slice_set, refl, sym, ap, ◌∙◌, subst, arith, eq-eqb, ne_eqb, ⊎_elim, length-set, Option, None, Some, Ok}
+use Rattle.std.proofs.Common.{◌≡◌, ◌≢◌, ℕ, zero, suc, ◌+◌, ◌<◌, ◌≤◌, ◌==◌, ◌%◌, nat_lt, Bool, true, false, if◌then◌else◌, cond, MatchBool, List, [], ◌∷◌, ◌++◌, length, replicate, slice_index, slice_index_or, refl, sym, ap, ◌∙◌, subst, arith, eq-eqb, ⊎_elim, length-set, Option, None, Some, Ok}
 use Rattle.std.proofs.lemmas.Bool.{cases_eq}
 use Rattle.std.proofs.lemmas.Bool.Decides.{nat_tests}
 use Rattle.std.proofs.lemmas.List.{get_or-set_same, get_or-set_other, length-replicate}
-use Rattle.nr_model.specs.declared.rows.Row.{Row}
 use Rattle.nr_model.specs.declared.batches.Delta.{Delta}
 use Rattle.nr_model.specs.declared.calls.Call.{Call}
 use Rattle.nr_model.specs.declared.calls.Call.TheVariants as call
 use Rattle.nr_model.specs.declared.calls.Reply.{Reply}
-use Rattle.nr_model.specs.declared.calls.Reply.TheVariants as reply
 use Rattle.nr_model.specs.declared.states.KeyState.{KeyState}
 use Rattle.nr_model.specs.declared.states.KeyState.TheVariants.{Hole, Asked, Rows}
 use Rattle.nr_model.specs.Batches.{applied}
@@ -18,7 +16,7 @@ use Rattle.nr_model.proofs.HistoryLemmas.{state_of-next_other, state_of-next_sam
 use Rattle.nr_machine.specs.declared.shape.Shape.{Shape}
 use Rattle.nr_board.specs.Callers.{Table, map_at_opening}
 use Rattle.nr_board.specs.Entries.{AreCallers, IsCallers, is_reading}
-use Rattle.nr_load.specs.Base.{Changes, FindsRow, FindsRows, Follows, IsRound, Rounds, StepsBase, applies, changed, row_of, step_of}
+use Rattle.nr_load.specs.Base.{FindsRow, FindsRows, Follows, IsRound, Rounds, StepsBase, applies, changed, row_of, step_of}
 
 -- a call of the writer is of the row that the base has
 abbrev Fits : List ℕ → Call → Type 0

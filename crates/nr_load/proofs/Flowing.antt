@@ -17,7 +17,6 @@ use Rattle.nr_board.specs.declared.answers.UpdateFault.{UpdateFault}
 use Rattle.nr_board.specs.declared.answers.UpdateFault.TheVariants as update
 use Rattle.nr_board.specs.Callers.{Caller, Table}
 use Rattle.nr_board.specs.WriterAnswers.{EvictsKey, UpdatesKey}
-use Rattle.nr_serve.specs.declared.dataflow.Turn.{Turn}
 use Rattle.nr_serve.specs.declared.dataflow.Turn.TheVariants as turn
 use Rattle.nr_serve.specs.Flows.{FlowSeen}
 use Rattle.nr_serve.specs.Hands.{capped}
@@ -26,7 +25,7 @@ use Rattle.nr_load.specs.declared.flow.Turned.{Turned}
 use Rattle.nr_load.specs.declared.flow.Turned.TheVariants as turned
 use Rattle.nr_load.specs.declared.fault.LoadFault.{LoadFault}
 use Rattle.nr_load.specs.declared.fault.LoadFault.TheVariants as faults
-use Rattle.nr_load.specs.Base.{Changes, Follows, GivesRow, IsRound, Rounds, StepsBase, applies, row_of}
+use Rattle.nr_load.specs.Base.{Changes, Follows, GivesRow, IsRound, Rounds, StepsBase}
 use Rattle.nr_load.specs.Flowed.{Changed, Flows, IsRefused, IsTurn, TurnsOnce}
 use Rattle.nr_load.specs.Gained.{Gained}
 use Rattle.nr_load.proofs.Gaining.{evicts_gain, gained_none, gained_of, gained_then, turns_gain, updates_gain}

@@ -1,5 +1,5 @@
 -- Sets of one row.
-use Rattle.std.proofs.Common.{◌≡◌, ◌≢◌, ℕ, List, [], ◌∷◌, length, sym, subst, refl, arith, Option}
+use Rattle.std.proofs.Common.{◌≡◌, ◌≢◌, List, [], ◌∷◌, length, sym, subst, refl, arith, Option}
 use Rattle.std.specs.Prelude.{MatchOption, slice_get}
 use Rattle.nr_model.specs.declared.rows.Row.{Row}
 

@@ -1,5 +1,5 @@
 -- What the outcomes of all readers come to.
-use Rattle.std.proofs.Common.{◌≡◌, ◌≤◌, ◌<◌, ℕ, suc, zero, ◌+◌, ◌*◌, Bool, true, false, if◌then◌else◌, List, [], ◌∷◌, ◌++◌, length, All, map, get_or, refl, sym, ap, ◌∙◌, subst, arith, Option, None, Some}
+use Rattle.std.proofs.Common.{◌≡◌, ◌≤◌, ◌<◌, ℕ, suc, zero, ◌+◌, ◌*◌, Bool, true, false, if◌then◌else◌, List, [], ◌∷◌, ◌++◌, length, All, map, get_or, refl, ap, ◌∙◌, arith, Option, None, Some}
 use Rattle.std.specs.List.{count_by, slice_get}
 use Rattle.std.proofs.Math.Nat.{mul-suc, mul-le-mul_left}
 use Rattle.std.proofs.lemmas.List.Elements.{All-cons, All-head, All-nil, All-tail}
@@ -8,7 +8,7 @@ use Rattle.nr_model.specs.Histories.{Entry}
 use Rattle.nr_machine.specs.Sums.{total}
 use Rattle.nr_marks.specs.Marks.{no_marks}
 use Rattle.nr_board.specs.Callers.{Caller, Table}
-use Rattle.nr_map.specs.Opened.{IsOpened, newcomer}
+use Rattle.nr_map.specs.Opened.{newcomer}
 use Rattle.nr_map.specs.Rounds.{is_cancel, is_fill, is_sent}
 use Rattle.nr_load.specs.declared.fault.LoadFault.{LoadFault}
 use Rattle.nr_load.specs.declared.fault.LoadFault.TheVariants as faults

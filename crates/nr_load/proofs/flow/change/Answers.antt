@@ -1,4 +1,4 @@
-use Rattle.std.proofs.Common.{◌≡◌, ℕ, ◌%◌, ◌==◌, List, Option, None, Some, refl, ap, arith, eq-eqb, ne_eqb, subst, sym}
+use Rattle.std.proofs.Common.{ℕ, ◌%◌, List, Option, None, Some, refl, ap, arith, eq-eqb, ne_eqb, subst, sym}
 use Rattle.nr_model.specs.declared.batches.Delta.{Delta}
 use Rattle.nr_serve.specs.Flows.{FlowSeen}
 use Rattle.nr_load.specs.Base.{StepsBase}

@@ -1,7 +1,6 @@
-use Rattle.std.proofs.Common.{◌≡◌, ℕ, List, replicate, sym, ap, ◌∙◌, subst}
+use Rattle.std.proofs.Common.{replicate, sym, ap, ◌∙◌, subst}
 use Rattle.nr_board.specs.Callers.{Table}
 use Rattle.nr_map.specs.SlotBounds.{HasRoomForAll}
-use Rattle.nr_serve.specs.Flows.{FlowSeen}
 use Rattle.nr_load.proofs.Finding.{rounds_long}
 use Rattle.nr_load.proofs.Flowing.{flows_last, flows_so_far, not_both, so_far_more, so_far_none, tells_right}
 use Rattle.nr_load.proofs.flow.flow_on.Goals as goal

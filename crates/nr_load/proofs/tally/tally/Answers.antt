@@ -1,4 +1,4 @@
-use Rattle.std.proofs.Common.{◌≡◌, ◌<◌, ◌∙◌, length, get_or, sym, subst, arith}
+use Rattle.std.proofs.Common.{◌≡◌, ◌<◌, ◌∙◌, get_or, sym, subst, arith}
 use Rattle.nr_board.specs.Callers.{Table}
 use Rattle.nr_load.specs.Gathers.{IsInOrder}
 use Rattle.nr_load.proofs.Gathering.{stays_then}
