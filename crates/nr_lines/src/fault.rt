@@ -1,4 +1,5 @@
-//! Why a run ends early.
+//! Why a run ends early, and why a line has no answer.
+use std::alloc::AllocError;
 use thiserror::Error;
 
 /// Why a run ended before its input did.
@@ -16,4 +17,23 @@ pub enum RunFault {
     /// The input goes on past its limit.
     #[error("the input is too long")]
     TooMuch,
+}
+
+/// Why a line, or a part of it, has no answer: a refusal, which is then its reply, or want of memory,
+/// which ends the run.
+#[derive(Clone, Copy)]
+pub enum LineError<R> {
+    Refused(R),
+    Memory,
+}
+
+impl<R> From<AllocError> for LineError<R> {
+    ghost use Rattle.std.specs.Prelude.{◌≡◌};
+    ghost use Rattle.nr_lines.specs.declared.fault.LineError.TheVariants.{Memory};
+
+    ghost from_gives = { λ _ error. error ≡ Memory };
+
+    fn from(_: AllocError) -> LineError<R> {
+        LineError::Memory
+    }
 }

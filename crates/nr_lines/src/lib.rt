@@ -9,7 +9,7 @@ mod line;
 mod machine;
 mod output;
 
-pub use fault::RunFault;
+pub use fault::{LineError, RunFault};
 pub use input::INPUT_LIMIT;
 pub use machine::{Machine, serve};
 pub use output::{set_text, write_all};

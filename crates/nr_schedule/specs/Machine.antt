@@ -1,5 +1,5 @@
 -- A schedule from its first line on: closed until it is opened; its reply to each line, and its text.
-use Rattle.std.specs.Prelude.{ℕ, if◌then◌else◌, List, Option, None, Some, Result, Ok, Err}
+use Rattle.std.specs.Prelude.{ℕ, if◌then◌else◌, Bool, false, List, Option, None, Some, Result, Ok, Err}
 use Rattle.nr_machine.specs.States as machine
 use Rattle.nr_lines.specs.Dialogue.{answer_command, in_words}
 use Rattle.nr_lines.specs.Plain.{or_bad}
@@ -34,6 +34,11 @@ answer_schedule_command = answer_command (Err refusals.Bad) answer_closed_schedu
 
 abbrev pub answer_schedule_line : ScheduleState → List ℕ → Result StepAnswer StepRefusal × ScheduleState
 answer_schedule_line state line = answer_schedule_command state (schedule_command (words line))
+
+-- the command opens the schedule, which takes memory
+abbrev pub opens_schedule : ScheduleState → Option Command → Bool
+opens_schedule None (Some (Open opening)) = is_in_limits opening
+opens_schedule state other = false
 
 -- the reply to a plain line, and the state after it
 abbrev pub schedule_reply : ScheduleState → List ℕ → List ℕ × ScheduleState

@@ -1,7 +1,6 @@
 -- An opened schedule: what each command does to the step machine, and what it is answered.
 use Rattle.std.specs.Prelude.{ℕ, ◌≤◌, if◌then◌else◌, List, Option, None, Some, Result, Ok, Err}
 use Rattle.nr_model.specs.declared.rows.Row.{Row}
-use Rattle.nr_model.specs.declared.rows.TooMany.{TooMany}
 use Rattle.nr_model.specs.declared.seq_map.TheConstants.{MAX_KEYS}
 use Rattle.nr_machine.specs.declared.shape.Shape.{Shape}
 use Rattle.nr_machine.specs.declared.shape.TheConstants.{MAX_READERS}
@@ -27,13 +26,13 @@ abbrev pub ScheduleOutcome : Type 0
 ScheduleOutcome = Result StepAnswer StepRefusal × machine.State
 
 -- an answer of the machine's, or its refusal
-abbrev pub answered : {A : Type 0} → (A → StepAnswer) → Result A Refusal → Result StepAnswer StepRefusal
-answered answer (Ok given) = Ok (answer given)
-answered answer (Err why) = Err (refusals.Refused why)
+abbrev pub by_machine : {A : Type 0} → (A → StepAnswer) → Result A Refusal → Result StepAnswer StepRefusal
+by_machine answer (Ok given) = Ok (answer given)
+by_machine answer (Err why) = Err (refusals.Refused why)
 
 -- the writer begins a call
 abbrev pub start : machine.State → WriterCall → ScheduleOutcome
-start state call = (answered answers.Writer (start_answer state call), next_state state (machine.Start call))
+start state call = (by_machine answers.Writer (start_answer state call), next_state state (machine.Start call))
 
 -- with too many rows it is no call
 abbrev pub start_with : machine.State → (List Row → WriterCall) → Option (List Row) → ScheduleOutcome
@@ -47,11 +46,11 @@ number_now state key = if has_key state.shape key then number_at state.desk key 
 -- each command at an opened machine
 abbrev pub answer_opened_schedule : machine.State → Command → ScheduleOutcome
 answer_opened_schedule state (Open opening) = (Err refusals.Bad, state)
-answer_opened_schedule state (Arrive reader key) = (answered answers.Arrived (arrive_answer state reader key), next_state state (machine.Arrive reader key))
-answer_opened_schedule state (Read reader index) = (answered answers.Word (read_answer state reader index), next_state state (machine.Read reader index))
-answer_opened_schedule state (Depart reader) = (answered (λ _. answers.Ok) (depart_answer state reader), next_state state (machine.Depart reader))
-answer_opened_schedule state (Ask reader key) = (answered answers.Asked (ask_answer state reader key), next_state state (machine.Ask reader key))
-answer_opened_schedule state (Again reader key) = (answered answers.Again (find_again_answer state reader key), next_state state (machine.FindAgain reader key))
+answer_opened_schedule state (Arrive reader key) = (by_machine answers.Arrived (arrive_answer state reader key), next_state state (machine.Arrive reader key))
+answer_opened_schedule state (Read reader index) = (by_machine answers.Word (read_answer state reader index), next_state state (machine.Read reader index))
+answer_opened_schedule state (Depart reader) = (by_machine (λ _. answers.Ok) (depart_answer state reader), next_state state (machine.Depart reader))
+answer_opened_schedule state (Ask reader key) = (by_machine answers.Asked (ask_answer state reader key), next_state state (machine.Ask reader key))
+answer_opened_schedule state (Again reader key) = (by_machine answers.Again (find_again_answer state reader key), next_state state (machine.FindAgain reader key))
 answer_opened_schedule state (Find key) = start state (calls.Find key)
 answer_opened_schedule state (Fill key rows) = start_with state (calls.Fill key (number_now state key)) (within state.shape.rows rows)
 answer_opened_schedule state (FillAs key number rows) = start_with state (calls.Fill key number) (within state.shape.rows rows)
@@ -59,7 +58,7 @@ answer_opened_schedule state (Update key batch) = start state (calls.Update key 
 answer_opened_schedule state (Replace key rows) = start_with state (calls.Replace key) (within state.shape.rows rows)
 answer_opened_schedule state (Evict key) = start state (calls.Evict key)
 answer_opened_schedule state (Cancel key) = start state (calls.Cancel key)
-answer_opened_schedule state Go = (answered answers.Writer (go_answer state), next_state state machine.Go)
+answer_opened_schedule state Go = (by_machine answers.Writer (go_answer state), next_state state machine.Go)
 
 abbrev pub opened_schedule : Opening → machine.State
 opened_schedule opening = machine.opening_state (shape_of_opening opening)

@@ -1,6 +1,6 @@
 //! What a line of a schedule is answered.
 use nr_core::{Arrived, AskReply, NoSlot, Refusal, Step, WReply};
-use nr_lines::RunFault;
+use nr_lines::LineError;
 use nr_text::ReplyWord;
 use std::fmt;
 use std::fmt::Write;
@@ -72,8 +72,16 @@ impl From<Refusal> for StepRefusal {
     }
 }
 
-/// What a line, or a part of it, comes to where the run goes on: what it asks for, or a refusal.
-pub(crate) type Tried<T> = Result<Result<T, StepRefusal>, RunFault>;
+impl From<StepRefusal> for LineError<StepRefusal> {
+    ghost use Rattle.std.specs.Prelude.{◌≡◌};
+    ghost use Rattle.nr_lines.specs.declared.fault.LineError.TheVariants.{Refused};
+
+    ghost from_gives = { λ refusal error. error ≡ Refused refusal };
+
+    fn from(refusal: StepRefusal) -> LineError<StepRefusal> {
+        LineError::Refused(refusal)
+    }
+}
 
 impl fmt::Display for StepAnswer<'_> {
     ghost use Rattle.std.specs.Prelude.{Some};

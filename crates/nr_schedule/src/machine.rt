@@ -1,12 +1,15 @@
 //! A schedule: closed until it is opened, and then the step machine.
-ghost use Rattle.std.specs.Prelude.{◌≡◌, None, IfOk, IfErr};
-ghost use Rattle.nr_schedule.specs.Machine.{answer_schedule_line, answer_closed_schedule};
+ghost use Rattle.std.specs.Prelude.{◌≡◌, None, Some};
+ghost use Rattle.nr_lines.specs.Dialogue.{IsOutcome};
+ghost use Rattle.nr_schedule.specs.Commands.{schedule_command};
+ghost use Rattle.nr_schedule.specs.Machine.{answer_schedule_line, answer_closed_schedule, opens_schedule};
+ghost use Rattle.nr_text.specs.Grammar.{words};
 
-use crate::answer::{StepAnswer, StepRefusal, Tried};
+use crate::answer::{StepAnswer, StepRefusal};
 use crate::command::{Command, parse};
 use crate::opened::Opened;
 use nr_core::{Refusal, Step};
-use nr_lines::{Machine, RunFault, set_text};
+use nr_lines::{LineError, Machine, RunFault, set_text};
 use nr_text::Given;
 use std::alloc::Global;
 
@@ -46,9 +49,9 @@ impl Machine for ScheduleMachine {
             &mut self.tried,
         );
         match said {
-            Ok(Ok(answer)) => set_text(reply, &answer),
-            Ok(Err(refusal)) => set_text(reply, &refusal),
-            Err(fault) => Err(fault),
+            Ok(answer) => set_text(reply, &answer),
+            Err(LineError::Refused(refusal)) => set_text(reply, &refusal),
+            Err(LineError::Memory) => Err(RunFault::Memory),
         }
     }
 }
@@ -74,15 +77,12 @@ fn answer_plain<'a>(
     line: &[u8],
     given: &mut Given,
     tried: &'a mut Result<Step, Refusal>,
-) -> Tried<StepAnswer<'a>>
-    ensures answer { IfOk result (λ said. answer_schedule_line opened.old line.now ≡ (said, opened.new)) }
-    ensures fault { IfErr result (λ fault. fault ≡ RunFault.Memory) }
+) -> Result<StepAnswer<'a>, LineError<StepRefusal>>
+    ensures { IsOutcome (answer_schedule_line opened.old line.now) (opens_schedule opened.old (schedule_command (words line.now))) result opened.new }
 {
-    let Some(command) = parse(line, given) else {
-        return Ok(Err(StepRefusal::Bad));
-    };
+    let command = parse(line, given).ok_or(StepRefusal::Bad)?;
     match opened {
-        Some(schedule) => Ok(schedule.answer(&command, tried)),
+        Some(schedule) => Ok(schedule.answer(&command, tried)?),
         None => open(opened, alloc, &command),
     }
 }
@@ -92,18 +92,17 @@ fn open(
     opened: &mut Option<Opened>,
     alloc: Global,
     command: &Command<'_>,
-) -> Tried<StepAnswer<'static>>
+) -> Result<StepAnswer<'static>, LineError<StepRefusal>>
     requires { opened.old ≡ None }
-    ensures answer { IfOk result (λ said. answer_closed_schedule command.now ≡ (said, opened.new)) }
-    ensures fault { IfErr result (λ fault. fault ≡ RunFault.Memory) }
+    ensures { IsOutcome (answer_closed_schedule command.now) (opens_schedule opened.old (Some command.now)) result opened.new }
 {
     let Command::Open(opening) = command else {
-        return Ok(Err(StepRefusal::Closed));
+        return Err(LineError::Refused(StepRefusal::Closed));
     };
     if !opening.is_in_limits() {
-        return Ok(Err(StepRefusal::Bad));
+        return Err(LineError::Refused(StepRefusal::Bad));
     }
     let schedule = Opened::open(alloc, opening)?;
     *opened = Some(schedule);
-    Ok(Ok(StepAnswer::Ok))
+    Ok(StepAnswer::Ok)
 }

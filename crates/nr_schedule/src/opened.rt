@@ -7,15 +7,14 @@ ghost use Rattle.nr_machine.specs.declared.calls.WriterCall.TheVariants as calls
 ghost use Rattle.nr_machine.specs.Refusals.{has_reader, has_key};
 ghost use Rattle.nr_text.specs.Grammar.{within};
 ghost use Rattle.nr_text.specs.Opening.{is_in_limits};
-ghost use Rattle.nr_schedule.specs.Opened.{answer_opened_schedule, answered, number_now, start, start_with, opened_schedule};
+ghost use Rattle.nr_schedule.specs.Opened.{answer_opened_schedule, by_machine, number_now, start, start_with, opened_schedule};
 ghost use Rattle.nr_schedule.specs.declared.answer.StepAnswer.TheVariants as answers;
 
 use crate::answer::{StepAnswer, StepRefusal, WriterStep};
 use crate::command::Command;
-use nr_core::{Arrived, AskReply, Core, Refusal, Shape, Step, WriterCall};
-use nr_lines::RunFault;
+use nr_core::{Arrived, AskReply, Core, Refusal, Step, WriterCall};
 use nr_text::{GivenBatch, GivenRows, Opening};
-use std::alloc::Global;
+use std::alloc::{AllocError, Global};
 use std::marker::Model;
 
 /// The step machine of an opened schedule.
@@ -41,23 +40,17 @@ impl Opened {
     ghost use Rattle.nr_machine.specs.States as machine;
 
     /// The machine that an opening within the limits opens.
-    pub(crate) fn open(alloc: Global, opening: &Opening) -> Result<Opened, RunFault>
+    pub(crate) fn open(alloc: Global, opening: &Opening) -> Result<Opened, AllocError>
         requires { is_in_limits opening.now ≡ true }
-        ensures ok { IfOk result (λ schedule. schedule ≡ opened_schedule opening.now) }
-        ensures fault { IfErr result (λ fault. fault ≡ RunFault.Memory) }
+        ensures { IfOk result (λ schedule. schedule ≡ opened_schedule opening.now) }
     {
-        let keys = opening.keys as u32;
-        let shape = Shape {
-            keys,
-            slots: opening.slots as u32,
-            readers: opening.readers as u32,
-            first_count: opening.first_count,
-            first_number: opening.first_number,
-            rows: opening.rows as u32,
-        };
+        let shape = opening.shape();
         match Core::open_with(alloc, &shape) {
-            Ok(core) => Ok(Opened { core, keys }),
-            Err(_) => Err(RunFault::Memory),
+            Ok(core) => Ok(Opened {
+                core,
+                keys: shape.keys,
+            }),
+            Err(_) => Err(AllocError),
         }
     }
 
@@ -246,7 +239,7 @@ impl Opened {
         &mut self,
         tried: &'a mut Result<Step, Refusal>,
     ) -> Result<StepAnswer<'a>, StepRefusal>
-        ensures answer { result ≡ answered answers.Writer (go_answer self.old) }
+        ensures answer { result ≡ by_machine answers.Writer (go_answer self.old) }
         ensures new { self.new ≡ next_state self.old machine.Go }
     {
         *tried = self.core.go();

@@ -9,6 +9,9 @@ use Rattle.nr_alone.specs.Answers.{Answer}
 use Rattle.nr_alone.specs.declared.answer.Refusal.{Refusal as MapRefusal}
 use Rattle.nr_alone.specs.declared.answer.Refusal.TheVariants as map_refusals
 use Rattle.nr_alone.specs.MapState.{MapState, MapOutcome, answer_again, answer_call, answer_of_reader, answer_pinning, answer_show, answer_unpin, opened_map}
+use Rattle.nr_lines.specs.Dialogue.{IsOutcome}
+use Rattle.nr_lines.specs.declared.fault.LineError.{LineError}
+use Rattle.nr_lines.specs.declared.fault.LineError.TheVariants as errors
 use Rattle.nr_names.specs.declared.faults.NameFault.{NameFault}
 use Rattle.nr_names.specs.declared.faults.NameFault.TheVariants as names
 use Rattle.nr_names.specs.declared.table.TheConstants.{LONGEST_NAME}
@@ -62,11 +65,19 @@ numbered_key count None = Err refusals.Bad
 numbered_key count (Some key) = if nat_lt key count then Ok key else Err refusals.NoKey
 
 -- a word is never empty, so nothing else comes of a name
+abbrev pub refused_name : NameFault → Refusal
+refused_name names.TooLong = refusals.TooLong
+refused_name names.Full = refusals.Full
+refused_name other = refusals.Bad
+
 abbrev pub named_key : Result ℕ NameFault → Result ℕ Refusal
 named_key (Ok key) = Ok key
-named_key (Err names.TooLong) = Err refusals.TooLong
-named_key (Err names.Full) = Err refusals.Full
-named_key (Err other) = Err refusals.Bad
+named_key (Err fault) = Err (refused_name fault)
+
+-- a name that is refused, or for which there is no memory
+abbrev pub name_error : NameFault → LineError Refusal
+name_error names.Memory = errors.Memory
+name_error other = errors.Refused (refused_name other)
 
 -- as many names as keys
 abbrev pub NamesFit : Keys → ℕ → Type 0
@@ -94,12 +105,14 @@ abbrev pub is_no_key : Keys → List ℕ → Bool
 is_no_key kinds.Numbered word = is_none (number word)
 is_no_key (kinds.Named naming) word = false
 
+-- the key of a word, where its line's reader is found: a word that cannot stand for a key is refused before the reader
+abbrev pub key_for_reader : Result (Unit {0}) Refusal → Keys → ℕ → List ℕ → Result ℕ Refusal × Keys
+key_for_reader (Ok _) keys count word = key_of_word keys count word
+key_for_reader (Err why) keys count word = (if is_no_key keys word then Err refusals.Bad else Err why, keys)
+
 -- a key, for a reader of the script
 abbrev pub found_by_reader : Opened → ℕ → List ℕ → Result ℕ Refusal × Opened
-found_by_reader script reader word =
-    if is_no_key script.keys word then (Err refusals.Bad, script)
-    else if script_has_reader script reader then found_key script word
-    else (Err refusals.NoReader, script)
+found_by_reader script reader word = with_keys script (key_for_reader (found_reader script reader) script.keys (key_count script.state.map) word)
 
 -- a set of no more rows than a key may have
 abbrev pub found_rows : Option (List Row) → Result (List Row) Refusal
@@ -151,6 +164,10 @@ adds_by script (Look word) = adds_key script.keys word
 adds_by script (PinKey reader word) = adds_key script.keys word
 adds_by script (Again reader word) = adds_key script.keys word
 adds_by script other = false
+
+-- an opened script answers a command, or refuses it
+abbrev pub AnswersCommand : Opened → Command → Result Answer (LineError Refusal) → Opened → Type 0
+AnswersCommand script command result after = IsOutcome (answer_opened_script script command) (adds_by script command) result after
 
 -- what stands for the keys when a script is opened
 abbrev pub keys_opened : Bool → ℕ → Keys

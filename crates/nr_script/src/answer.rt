@@ -1,6 +1,6 @@
 //! What a line is answered.
 use nr_alone::Said;
-use nr_lines::RunFault;
+use nr_lines::LineError;
 use nr_text::Rows;
 use std::fmt;
 use std::fmt::Write;
@@ -19,9 +19,6 @@ pub(crate) enum Refusal {
     NotHolding,
 }
 
-/// What a line, or a part of it, comes to where the run goes on: what it asks for, or a refusal.
-pub(crate) type Tried<T> = Result<Result<T, Refusal>, RunFault>;
-
 impl From<nr_alone::Refusal> for Refusal {
     ghost use Rattle.std.specs.Prelude.{◌≡◌};
     ghost use Rattle.nr_script.specs.Opened.{refused};
@@ -33,6 +30,17 @@ impl From<nr_alone::Refusal> for Refusal {
             nr_alone::Refusal::Holding => Refusal::Holding,
             nr_alone::Refusal::NotHolding => Refusal::NotHolding,
         }
+    }
+}
+
+impl From<Refusal> for LineError<Refusal> {
+    ghost use Rattle.std.specs.Prelude.{◌≡◌};
+    ghost use Rattle.nr_lines.specs.declared.fault.LineError.TheVariants.{Refused};
+
+    ghost from_gives = { λ refusal error. error ≡ Refused refusal };
+
+    fn from(refusal: Refusal) -> LineError<Refusal> {
+        LineError::Refused(refusal)
     }
 }
 

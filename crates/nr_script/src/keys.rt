@@ -1,13 +1,14 @@
 //! What stands for a key on the lines of a script.
-ghost use Rattle.std.specs.Prelude.{◌≡◌, ◌<◌, ◌≤◌, IsTrue, IfOk, IfErr, OnErr};
-ghost use Rattle.nr_script.specs.Opened.{NamesFit, adds_key, keys_opened, key_of_word, numbered_key, is_no_key};
+ghost use Rattle.std.specs.Prelude.{◌≡◌, ◌<◌, ◌≤◌, IfOk, OnOk, Ok, Some};
+ghost use Rattle.nr_lines.specs.Dialogue.{IsOutcome};
+ghost use Rattle.nr_script.specs.Opened.{NamesFit, adds_key, key_for_reader, keys_opened, name_error, numbered_key};
 
-use crate::answer::{Refusal, Tried};
+use crate::answer::Refusal;
 use crate::command::KeyWord;
-use nr_lines::RunFault;
+use nr_lines::LineError;
 use nr_model::MAX_KEYS;
 use nr_names::{NameFault, NameTable};
-use std::alloc::Global;
+use std::alloc::{AllocError, Global};
 
 /// Keys stand on lines by their numbers, or by names.
 #[derive(Drop)]
@@ -17,61 +18,68 @@ pub(crate) enum Keys {
 }
 
 impl Keys {
-    pub(crate) fn open(alloc: Global, named: bool, keys: u32) -> Result<Keys, RunFault>
+    pub(crate) fn open(alloc: Global, named: bool, keys: u32) -> Result<Keys, AllocError>
         requires { (0 < keys) × (keys ≤ MAX_KEYS) }
         ensures ok { IfOk result (λ opened. opened ≡ keys_opened named keys) }
         ensures fits { IfOk result (λ opened. NamesFit opened keys) }
-        ensures fault { IfErr result (λ fault. fault ≡ RunFault.Memory) }
     {
         if !named {
             return Ok(Keys::Numbered);
         }
         match NameTable::open(alloc, keys) {
             Ok(names) => Ok(Keys::Named(names)),
-            Err(_) => Err(RunFault::Memory),
+            Err(_) => Err(AllocError),
         }
     }
 
-    /// The key that a word stands for, of `count` keys. A name that is new gets the next number, and
-    /// nothing else takes memory.
-    pub(crate) fn key(&mut self, count: u32, word: &KeyWord<'_>) -> Tried<u32>
+    /// The key that a word stands for, of `count` keys, where the reader of its line is found. A word
+    /// that can't stand for a key is refused before the reader, and any other after it. A name that is
+    /// new gets the next number, and nothing else takes memory.
+    pub(crate) fn key(
+        &mut self,
+        count: u32,
+        word: &KeyWord<'_>,
+        reader: Result<(), Refusal>,
+    ) -> Result<u32, LineError<Refusal>>
         requires { NamesFit self.old count }
-        ensures found { IfOk result (λ found. key_of_word self.old count word.now ≡ (found, self.new)) }
-        ensures within { IfOk result (λ found. IfOk found (λ key. key < count)) }
+        ensures found { IsOutcome (key_for_reader reader self.old count word.now) (adds_key self.old word.now) result self.new }
+        ensures reader { OnOk result (reader ≡ Ok tt) }
+        ensures within { IfOk result (λ key. key < count) }
         ensures fits { NamesFit self.new count }
-        ensures fault { IfErr result (λ fault. fault ≡ RunFault.Memory) }
-        ensures memory { OnErr result (IsTrue (adds_key self.old word.now)) }
     {
         match self {
-            Keys::Numbered => Ok(numbered_key(count, word.number())),
-            Keys::Named(names) => match names.intern(word.name()) {
-                Ok(key) => Ok(Ok(key)),
-                Err(NameFault::TooLong) => Ok(Err(Refusal::TooLong)),
-                Err(NameFault::Full) => Ok(Err(Refusal::Full)),
-                Err(NameFault::Memory) => Err(RunFault::Memory),
-                Err(NameFault::Empty | NameFault::NoName) => Ok(Err(Refusal::Bad)),
-            },
-        }
-    }
-
-    /// Whether a word cannot stand for a key, whatever the number of keys.
-    pub(crate) fn refuses(&self, word: &KeyWord<'_>) -> bool
-        ensures { result ≡ is_no_key self.now word.now }
-    {
-        match self {
-            Keys::Numbered => word.number().is_none(),
-            Keys::Named(_) => false,
+            Keys::Numbered => {
+                let number = word.number().ok_or(Refusal::Bad)?;
+                reader?;
+                Ok(numbered_key(count, number)?)
+            }
+            Keys::Named(names) => {
+                reader?;
+                names.intern(word.name()).map_err(name_error)
+            }
         }
     }
 }
 
-fn numbered_key(count: u32, number: Option<u64>) -> Result<u32, Refusal>
-    ensures found { result ≡ numbered_key count number }
+fn numbered_key(count: u32, number: u64) -> Result<u32, Refusal>
+    ensures found { result ≡ numbered_key count (Some number) }
     ensures within { IfOk result (λ key. key < count) }
 {
-    match number {
-        None => Err(Refusal::Bad),
-        Some(key) if key < u64::from(count) => Ok(key as u32),
-        Some(_) => Err(Refusal::NoKey),
+    if number < u64::from(count) {
+        Ok(number as u32)
+    } else {
+        Err(Refusal::NoKey)
+    }
+}
+
+// A word is never empty, so nothing else comes of a name.
+fn name_error(fault: NameFault) -> LineError<Refusal>
+    ensures { result ≡ name_error fault }
+{
+    match fault {
+        NameFault::TooLong => LineError::Refused(Refusal::TooLong),
+        NameFault::Full => LineError::Refused(Refusal::Full),
+        NameFault::Memory => LineError::Memory,
+        NameFault::Empty | NameFault::NoName => LineError::Refused(Refusal::Bad),
     }
 }

@@ -1,14 +1,15 @@
 //! A script over a running map: closed until it is opened, and then a map.
-ghost use Rattle.std.specs.Prelude.{◌≡◌, ℕ, List, None, Some, IsTrue, IfOk, IfErr, OnErr};
+ghost use Rattle.std.specs.Prelude.{◌≡◌, None, Some};
+ghost use Rattle.nr_lines.specs.Dialogue.{IsOutcome};
 ghost use Rattle.nr_script.specs.Commands.{script_command};
 ghost use Rattle.nr_script.specs.Machine.{answer_script_line, answer_closed_script, takes_memory};
 ghost use Rattle.nr_text.specs.Grammar.{words};
 
-use crate::answer::{AnswerWord, Refusal, Tried};
+use crate::answer::{AnswerWord, Refusal};
 use crate::command::{Command, parse};
 use crate::opened::Opened;
 use nr_alone::Answer;
-use nr_lines::{Machine, RunFault, set_text};
+use nr_lines::{LineError, Machine, RunFault, set_text};
 use nr_model::RowSet;
 use nr_text::Given;
 use std::alloc::Global;
@@ -49,9 +50,9 @@ impl Machine for ScriptMachine {
             &mut self.found,
         );
         match said {
-            Ok(Ok(answer)) => set_text(reply, &AnswerWord(answer.said())),
-            Ok(Err(refusal)) => set_text(reply, &refusal),
-            Err(fault) => Err(fault),
+            Ok(answer) => set_text(reply, &AnswerWord(answer.said())),
+            Err(LineError::Refused(refusal)) => set_text(reply, &refusal),
+            Err(LineError::Memory) => Err(RunFault::Memory),
         }
     }
 }
@@ -90,14 +91,10 @@ fn answer_plain<'a>(
     line: &[u8],
     given: &mut Given,
     found: &'a mut RowSet,
-) -> Tried<Answer<'a>>
-    ensures answer { IfOk result (λ said. answer_script_line opened.old line.now ≡ (said, opened.new)) }
-    ensures fault { IfErr result (λ fault. fault ≡ RunFault.Memory) }
-    ensures memory { OnErr result (IsTrue (takes_memory opened.old (script_command (words line.now)))) }
+) -> Result<Answer<'a>, LineError<Refusal>>
+    ensures { IsOutcome (answer_script_line opened.old line.now) (takes_memory opened.old (script_command (words line.now))) result opened.new }
 {
-    let Some(command) = parse(line, given) else {
-        return Ok(Err(Refusal::Bad));
-    };
+    let command = parse(line, given).ok_or(Refusal::Bad)?;
     match opened {
         Some(script) => script.answer(&command, found),
         None => open(opened, alloc, &command),
@@ -105,22 +102,24 @@ fn answer_plain<'a>(
 }
 
 // The answer to a command before the script is opened.
-fn open(opened: &mut Option<Opened>, alloc: Global, command: &Command<'_>) -> Tried<Answer<'static>>
+fn open(
+    opened: &mut Option<Opened>,
+    alloc: Global,
+    command: &Command<'_>,
+) -> Result<Answer<'static>, LineError<Refusal>>
     requires { opened.old ≡ None }
-    ensures answer { IfOk result (λ said. answer_closed_script command.now ≡ (said, opened.new)) }
-    ensures fault { IfErr result (λ fault. fault ≡ RunFault.Memory) }
-    ensures memory { OnErr result (IsTrue (takes_memory opened.old (Some command.now))) }
+    ensures { IsOutcome (answer_closed_script command.now) (takes_memory opened.old (Some command.now)) result opened.new }
 {
     let Command::Open { named, sizes } = command else {
-        return Ok(Err(Refusal::Closed));
+        return Err(LineError::Refused(Refusal::Closed));
     };
     if !sizes.is_in_limits() {
-        return Ok(Err(Refusal::Bad));
+        return Err(LineError::Refused(Refusal::Bad));
     }
     let script = Opened::open(alloc, *named, sizes)?;
     match opened.replace(script) {
         None => {}
         Some(before) => before.close(),
     }
-    Ok(Ok(Answer::ok()))
+    Ok(Answer::ok())
 }

@@ -1,21 +1,21 @@
 //! A script that was opened: a map, and what stands for its keys on the script's lines.
-ghost use Rattle.std.specs.Prelude.{◌≡◌, ◌<◌, ◌≤◌, ◌-◌, length, IfOk, IfErr, OnOk, OnErr, IsTrue, Ok, Err};
-ghost use Rattle.nr_model.specs.Maps.{SetFits, key_count, last_number, state_of};
+ghost use Rattle.std.specs.Prelude.{◌≡◌, ◌<◌, ◌≤◌, ◌-◌, length, true, IfOk, OnOk, Ok};
+ghost use Rattle.nr_lines.specs.Dialogue.{IsOutcome};
+ghost use Rattle.nr_model.specs.Maps.{SetFits, key_count};
 ghost use Rattle.nr_model.specs.declared.calls.Call.TheVariants as model;
-ghost use Rattle.nr_alone.specs.MapState.{answer_again, answer_pinning, answer_show, answer_unpin};
 ghost use Rattle.nr_alone.specs.WriterCalls.{model_call, writer_key};
 ghost use Rattle.nr_script.specs.declared.command.Command.TheVariants as command;
-ghost use Rattle.nr_script.specs.Opened.{adds_by, adds_key, answer_opened_script, by_map, called, called_by, found_by_reader, found_key, found_reader, found_set, script_has_reader, with_found};
+ghost use Rattle.nr_text.specs.Opening.{is_in_limits};
+ghost use Rattle.nr_script.specs.Opened.{AnswersCommand, adds_key, answer_opened_script, called, found_by_reader, found_key, found_reader, found_set, script_has_reader, with_found};
 
-use crate::answer::{Refusal, Tried};
+use crate::answer::Refusal;
 use crate::command::{Command, KeyWord};
 use crate::keys::Keys;
 use nr_alone::{Alone, Answer, WriterCall};
-use nr_lines::RunFault;
-use nr_machine::{MAX_READERS, MAX_SLOTS, Shape};
-use nr_model::{MAX_KEYS, MAX_ROWS, RowSet};
+use nr_lines::LineError;
+use nr_model::RowSet;
 use nr_text::{GivenRows, Opening};
-use std::alloc::Global;
+use std::alloc::{AllocError, Global};
 use std::marker::Model;
 
 /// An opened script over a running map whose tokens it holds. It can't be dropped: it must be
@@ -42,27 +42,15 @@ impl Opened {
     ghost use Rattle.nr_script.specs.Opened as script;
 
     /// A map of holes, whose keys stand on lines by their names or by their numbers.
-    pub(crate) fn open(alloc: Global, named: bool, sizes: &Opening) -> Result<Opened, RunFault>
-        requires keys { (0 < sizes.now.keys) × (sizes.now.keys ≤ MAX_KEYS) }
-        requires slots { (0 < sizes.now.slots) × (sizes.now.slots ≤ MAX_SLOTS) }
-        requires readers { (0 < sizes.now.readers) × (sizes.now.readers ≤ MAX_READERS) }
-        requires number { sizes.now.first_number ≤ last_number }
-        requires rows { (0 < sizes.now.rows) × (sizes.now.rows ≤ MAX_ROWS) }
-        ensures ok { IfOk result (λ opened. opened ≡ script.opened_script named sizes.now) }
-        ensures fault { IfErr result (λ fault. fault ≡ RunFault.Memory) }
+    pub(crate) fn open(alloc: Global, named: bool, sizes: &Opening) -> Result<Opened, AllocError>
+        requires { is_in_limits sizes.now ≡ true }
+        ensures { IfOk result (λ opened. opened ≡ script.opened_script named sizes.now) }
     {
-        let shape = Shape {
-            keys: sizes.keys as u32,
-            slots: sizes.slots as u32,
-            readers: sizes.readers as u32,
-            first_count: sizes.first_count,
-            first_number: sizes.first_number,
-            rows: sizes.rows as u32,
-        };
+        let shape = sizes.shape();
         let keys = Keys::open(alloc, named, shape.keys)?;
         match Alone::open(alloc, &shape) {
             Ok(map) => Ok(Opened { keys, map }),
-            Err(_) => Err(RunFault::Memory),
+            Err(_) => Err(AllocError),
         }
     }
 
@@ -78,50 +66,36 @@ impl Opened {
         &mut self,
         command: &Command<'_>,
         found: &'a mut RowSet,
-    ) -> Tried<Answer<'a>>
-        ensures answer { IfOk result (λ said. answer_opened_script self.old command.now ≡ (said, self.new)) }
-        ensures fault { IfErr result (λ fault. fault ≡ RunFault.Memory) }
-        ensures memory { OnErr result (IsTrue (adds_by self.old command.now)) }
+    ) -> Result<Answer<'a>, LineError<Refusal>>
+        ensures { AnswersCommand self.old command.now result self.new }
     {
         match command {
-            Command::Open { .. } => Ok(Err(Refusal::Bad)),
-            Command::Find { reader, key } => match self.key_by_reader(*reader, key)? {
-                Ok(key) => Ok(self.find(*reader, key, found)),
-                Err(refusal) => Ok(Err(refusal)),
-            },
-            Command::Ask { reader, key } => match self.key_by_reader(*reader, key)? {
-                Ok(key) => Ok(self.ask(*reader, key)),
-                Err(refusal) => Ok(Err(refusal)),
-            },
+            Command::Open { .. } => Err(LineError::Refused(Refusal::Bad)),
+            Command::Find { reader, key } => self.find(*reader, key, found),
+            Command::Ask { reader, key } => self.ask(*reader, key),
             Command::Fill { key, rows } => self.fill_by_own(key, rows, found),
             Command::FillAs { key, number, rows } => self.fill_by(key, *number, rows, found),
-            Command::Update { key, batch } => match self.key(key)? {
-                Ok(key) => Ok(Ok(self.call(&WriterCall::Update(key, batch.batch()), found))),
-                Err(refusal) => Ok(Err(refusal)),
-            },
+            Command::Update { key, batch } => {
+                let key = self.key(key)?;
+                Ok(self.call(&WriterCall::Update(key, batch.batch()), found))
+            }
             Command::Replace { key, rows } => self.replace(key, rows, found),
-            Command::Evict { key } => match self.key(key)? {
-                Ok(key) => Ok(Ok(self.call(&WriterCall::Evict(key), found))),
-                Err(refusal) => Ok(Err(refusal)),
-            },
-            Command::Cancel { key } => match self.key(key)? {
-                Ok(key) => Ok(Ok(self.call(&WriterCall::Cancel(key), found))),
-                Err(refusal) => Ok(Err(refusal)),
-            },
-            Command::Look { key } => match self.key(key)? {
-                Ok(key) => Ok(Ok(self.call(&WriterCall::Find(key), found))),
-                Err(refusal) => Ok(Err(refusal)),
-            },
-            Command::Pin { reader, key } => match self.key_by_reader(*reader, key)? {
-                Ok(key) => Ok(self.pin(*reader, key)),
-                Err(refusal) => Ok(Err(refusal)),
-            },
-            Command::Show { reader } => Ok(self.show(*reader, found)),
-            Command::Again { reader, key } => match self.key_by_reader(*reader, key)? {
-                Ok(key) => Ok(self.again(*reader, key, found)),
-                Err(refusal) => Ok(Err(refusal)),
-            },
-            Command::Unpin { reader } => Ok(self.unpin(*reader)),
+            Command::Evict { key } => {
+                let key = self.key(key)?;
+                Ok(self.call(&WriterCall::Evict(key), found))
+            }
+            Command::Cancel { key } => {
+                let key = self.key(key)?;
+                Ok(self.call(&WriterCall::Cancel(key), found))
+            }
+            Command::Look { key } => {
+                let key = self.key(key)?;
+                Ok(self.call(&WriterCall::Find(key), found))
+            }
+            Command::Pin { reader, key } => self.pin(*reader, key),
+            Command::Show { reader } => Ok(self.show(*reader, found)?),
+            Command::Again { reader, key } => self.again(*reader, key, found),
+            Command::Unpin { reader } => Ok(self.unpin(*reader)?),
         }
     }
 
@@ -131,17 +105,12 @@ impl Opened {
         word: &KeyWord<'_>,
         rows: &GivenRows<'_>,
         found: &'a mut RowSet,
-    ) -> Tried<Answer<'a>>
-        ensures answer { IfOk result (λ said. answer_opened_script self.old (command.Fill word.now rows.now) ≡ (said, self.new)) }
-        ensures fault { IfErr result (λ fault. fault ≡ RunFault.Memory) }
-        ensures memory { OnErr result (IsTrue (adds_key self.old.keys word.now)) }
+    ) -> Result<Answer<'a>, LineError<Refusal>>
+        ensures { AnswersCommand self.old (command.Fill word.now rows.now) result self.new }
     {
-        let key = match self.key(word)? {
-            Ok(key) => key,
-            Err(refusal) => return Ok(Err(refusal)),
-        };
+        let key = self.key(word)?;
         let number = self.map.number(key);
-        Ok(self.fill(key, number, rows, found))
+        Ok(self.fill(key, number, rows, found)?)
     }
 
     /// A fill by a number that the line tells.
@@ -151,15 +120,11 @@ impl Opened {
         number: u64,
         rows: &GivenRows<'_>,
         found: &'a mut RowSet,
-    ) -> Tried<Answer<'a>>
-        ensures answer { IfOk result (λ said. answer_opened_script self.old (command.FillAs word.now number rows.now) ≡ (said, self.new)) }
-        ensures fault { IfErr result (λ fault. fault ≡ RunFault.Memory) }
-        ensures memory { OnErr result (IsTrue (adds_key self.old.keys word.now)) }
+    ) -> Result<Answer<'a>, LineError<Refusal>>
+        ensures { AnswersCommand self.old (command.FillAs word.now number rows.now) result self.new }
     {
-        match self.key(word)? {
-            Ok(key) => Ok(self.fill(key, number, rows, found)),
-            Err(refusal) => Ok(Err(refusal)),
-        }
+        let key = self.key(word)?;
+        Ok(self.fill(key, number, rows, found)?)
     }
 
     /// A fill that answers the request of that number, unless there are too many rows.
@@ -185,19 +150,14 @@ impl Opened {
         word: &KeyWord<'_>,
         rows: &GivenRows<'_>,
         found: &'a mut RowSet,
-    ) -> Tried<Answer<'a>>
-        ensures answer { IfOk result (λ said. answer_opened_script self.old (command.Replace word.now rows.now) ≡ (said, self.new)) }
-        ensures fault { IfErr result (λ fault. fault ≡ RunFault.Memory) }
-        ensures memory { OnErr result (IsTrue (adds_key self.old.keys word.now)) }
+    ) -> Result<Answer<'a>, LineError<Refusal>>
+        ensures { AnswersCommand self.old (command.Replace word.now rows.now) result self.new }
     {
-        let key = match self.key(word)? {
-            Ok(key) => key,
-            Err(refusal) => return Ok(Err(refusal)),
-        };
+        let key = self.key(word)?;
         let Some(rows) = rows.within(self.map.rows()) else {
-            return Ok(Err(Refusal::TooMany));
+            return Err(LineError::Refused(Refusal::TooMany));
         };
-        Ok(Ok(self.call(&WriterCall::Replace(key, rows), found)))
+        Ok(self.call(&WriterCall::Replace(key, rows), found))
     }
 
     /// A call of the writer's at one of the map's keys.
@@ -212,34 +172,43 @@ impl Opened {
     fn find<'a>(
         &mut self,
         reader: u64,
-        key: u32,
+        word: &KeyWord<'_>,
         found: &'a mut RowSet,
-    ) -> Result<Answer<'a>, Refusal>
-        requires reader { (0 < reader) × (reader ≤ length self.old.state.pins) }
-        requires key { key < key_count self.old.state.map }
-        ensures { called_by self.old reader (model.Find key) ≡ (result, self.new) }
+    ) -> Result<Answer<'a>, LineError<Refusal>>
+        ensures { AnswersCommand self.old (command.Find reader word.now) result self.new }
     {
-        Ok(self.map.find(place(reader), key, found)?)
+        let key = self.key_by_reader(reader, word)?;
+        Ok(
+            self.map
+                .find(place(reader), key, found)
+                .map_err(Refusal::from)?,
+        )
     }
 
-    fn ask(&mut self, reader: u64, key: u32) -> Result<Answer<'static>, Refusal>
-        requires reader { (0 < reader) × (reader ≤ length self.old.state.pins) }
-        requires key { key < key_count self.old.state.map }
-        ensures { called_by self.old reader (model.Ask key) ≡ (result, self.new) }
+    fn ask(
+        &mut self,
+        reader: u64,
+        word: &KeyWord<'_>,
+    ) -> Result<Answer<'static>, LineError<Refusal>>
+        ensures { AnswersCommand self.old (command.Ask reader word.now) result self.new }
     {
-        Ok(self.map.ask(place(reader), key)?)
+        let key = self.key_by_reader(reader, word)?;
+        Ok(self.map.ask(place(reader), key).map_err(Refusal::from)?)
     }
 
-    fn pin(&mut self, reader: u64, key: u32) -> Result<Answer<'static>, Refusal>
-        requires reader { (0 < reader) × (reader ≤ length self.old.state.pins) }
-        requires key { key < key_count self.old.state.map }
-        ensures { by_map self.old (answer_pinning self.old.state (reader - 1) key (state_of self.old.state.map key)) ≡ (result, self.new) }
+    fn pin(
+        &mut self,
+        reader: u64,
+        word: &KeyWord<'_>,
+    ) -> Result<Answer<'static>, LineError<Refusal>>
+        ensures { AnswersCommand self.old (command.Pin reader word.now) result self.new }
     {
-        Ok(self.map.pin(place(reader), key)?)
+        let key = self.key_by_reader(reader, word)?;
+        Ok(self.map.pin(place(reader), key).map_err(Refusal::from)?)
     }
 
     fn show<'a>(&mut self, reader: u64, found: &'a mut RowSet) -> Result<Answer<'a>, Refusal>
-        ensures { with_found (found_reader self.old reader, self.old) (λ _ of_reader. by_map of_reader (answer_show of_reader.state (reader - 1))) ≡ (result, self.new) }
+        ensures { answer_opened_script self.old (command.Show reader) ≡ (result, self.new) }
     {
         self.check_reader(reader)?;
         Ok(self.map.show(place(reader), found)?)
@@ -248,51 +217,46 @@ impl Opened {
     fn again<'a>(
         &mut self,
         reader: u64,
-        key: u32,
+        word: &KeyWord<'_>,
         found: &'a mut RowSet,
-    ) -> Result<Answer<'a>, Refusal>
-        requires reader { (0 < reader) × (reader ≤ length self.old.state.pins) }
-        requires key { key < key_count self.old.state.map }
-        ensures { by_map self.old (answer_again self.old.state (reader - 1) key) ≡ (result, self.new) }
+    ) -> Result<Answer<'a>, LineError<Refusal>>
+        ensures { AnswersCommand self.old (command.Again reader word.now) result self.new }
     {
-        Ok(self.map.again(place(reader), key, found)?)
+        let key = self.key_by_reader(reader, word)?;
+        Ok(
+            self.map
+                .again(place(reader), key, found)
+                .map_err(Refusal::from)?,
+        )
     }
 
     fn unpin(&mut self, reader: u64) -> Result<Answer<'static>, Refusal>
-        ensures { with_found (found_reader self.old reader, self.old) (λ _ of_reader. by_map of_reader (answer_unpin of_reader.state (reader - 1))) ≡ (result, self.new) }
+        ensures { answer_opened_script self.old (command.Unpin reader) ≡ (result, self.new) }
     {
         self.check_reader(reader)?;
         Ok(self.map.unpin(place(reader))?)
     }
 
     /// The key that a word stands for. A name that is new gets the next number.
-    fn key(&mut self, word: &KeyWord<'_>) -> Tried<u32>
-        ensures found { IfOk result (λ found. found_key self.old word.now ≡ (found, self.new)) }
-        ensures within { IfOk result (λ found. IfOk found (λ key. key < key_count self.new.state.map)) }
+    fn key(&mut self, word: &KeyWord<'_>) -> Result<u32, LineError<Refusal>>
+        ensures found { IsOutcome (found_key self.old word.now) (adds_key self.old.keys word.now) result self.new }
+        ensures within { IfOk result (λ key. key < key_count self.new.state.map) }
         ensures kept { self.new ≡ record self.old { keys = self.new.keys } }
-        ensures fault { IfErr result (λ fault. fault ≡ RunFault.Memory) }
-        ensures memory { OnErr result (IsTrue (adds_key self.old.keys word.now)) }
     {
         let count = self.map.keys();
-        self.keys.key(count, word)
+        self.keys.key(count, word, Ok(()))
     }
 
     /// The same, for a reader.
-    fn key_by_reader(&mut self, reader: u64, word: &KeyWord<'_>) -> Tried<u32>
-        ensures found { IfOk result (λ found. found_by_reader self.old reader word.now ≡ (found, self.new)) }
-        ensures key { IfOk result (λ found. IfOk found (λ key. key < key_count self.new.state.map)) }
-        ensures reader { IfOk result (λ found. OnOk found ((0 < reader) × (reader ≤ length self.new.state.pins))) }
+    fn key_by_reader(&mut self, reader: u64, word: &KeyWord<'_>) -> Result<u32, LineError<Refusal>>
+        ensures found { IsOutcome (found_by_reader self.old reader word.now) (adds_key self.old.keys word.now) result self.new }
+        ensures key { IfOk result (λ key. key < key_count self.new.state.map) }
+        ensures reader { OnOk result ((0 < reader) × (reader ≤ length self.new.state.pins)) }
         ensures kept { self.new ≡ record self.old { keys = self.new.keys } }
-        ensures fault { IfErr result (λ fault. fault ≡ RunFault.Memory) }
-        ensures memory { OnErr result (IsTrue (adds_key self.old.keys word.now)) }
     {
-        if self.keys.refuses(word) {
-            return Ok(Err(Refusal::Bad));
-        }
-        if !self.has_reader(reader) {
-            return Ok(Err(Refusal::NoReader));
-        }
-        self.key(word)
+        let count = self.map.keys();
+        let checked = self.check_reader(reader);
+        self.keys.key(count, word, checked)
     }
 
     fn has_reader(&self, reader: u64) -> bool

@@ -1,8 +1,8 @@
 //! What an opening line asks for.
-ghost use Rattle.std.specs.Prelude.{◌≡◌};
+ghost use Rattle.std.specs.Prelude.{◌≡◌, true};
 
 use crate::words::{Words, number};
-use nr_machine::{MAX_READERS, MAX_SLOTS};
+use nr_machine::{MAX_READERS, MAX_SLOTS, Shape};
 use nr_model::{DEFAULT_ROWS, LAST_NUMBER, MAX_KEYS, MAX_ROWS};
 
 /// How many keys, slots and readers a map is to have, the count at which each slot starts, the
@@ -18,7 +18,7 @@ pub struct Opening {
 }
 
 impl Opening {
-    ghost use Rattle.nr_text.specs.Opening.{opening_of_words, is_in_limits};
+    ghost use Rattle.nr_text.specs.Opening.{opening_of_words, is_in_limits, shape_of_opening};
     ghost use Rattle.nr_text.specs.Words.{words_left};
 
     /// The opening that three to six numbers spell. The first count and the first number are 0 and
@@ -54,7 +54,8 @@ impl Opening {
         })
     }
 
-    /// A map may have these sizes.
+    /// Whether a map may have these sizes. The limits of scripts and schedules are those of a map that
+    /// isn't opened as a large one, and so are its constants.
     pub fn is_in_limits(&self) -> bool
         ensures { result ≡ is_in_limits self.now }
     {
@@ -67,5 +68,20 @@ impl Opening {
             && self.first_number <= LAST_NUMBER
             && 0 < self.rows
             && self.rows <= MAX_ROWS as u64
+    }
+
+    /// The shape of the map.
+    pub fn shape(&self) -> Shape
+        requires { is_in_limits self.now ≡ true }
+        ensures { result ≡ shape_of_opening self.now }
+    {
+        Shape {
+            keys: self.keys as u32,
+            slots: self.slots as u32,
+            readers: self.readers as u32,
+            first_count: self.first_count,
+            first_number: self.first_number,
+            rows: self.rows as u32,
+        }
     }
 }
