@@ -1,8 +1,8 @@
 //! Rows, and the calls that several chapters make.
 ghost use Rattle.std.specs.Prelude.{◌≡◌, ◌<◌, ◌≤◌, length};
 
-use nr_map::{Asked, FillFault, Reader, ReaderMap, Writer};
-use nr_model::{Delta, Row, RowSet};
+use nr_map::{Asked, FillFault, Found, Reader, ReaderMap, UpdateFault, Writer};
+use nr_model::{Batch, Delta, Row, RowSet};
 
 /// A key's rows, as the source of an answer may have them: in any order.
 pub const ROWS: [Row; 2] = [Row { a: 7, b: 1 }, Row { a: 3, b: 9 }];
@@ -83,4 +83,27 @@ pub fn fill(map: &ReaderMap, writer: &mut Writer, key: u32) -> Result<(), FillFa
 {
     let number = map.number(writer, key);
     map.fill(writer, key, number, &set_of(map, &ROWS))
+}
+
+/// Changes a key's rows.
+pub fn update(
+    map: &ReaderMap,
+    writer: &mut Writer,
+    key: u32,
+    change: &Batch,
+) -> Result<(), UpdateFault>
+    requires own { writer.old.table ≡ map.now }
+    requires key { key < map.now.shape.keys }
+    ensures { writer.new.table ≡ map.now }
+{
+    map.update(writer, key, change)
+}
+
+/// Finds a key's rows.
+pub fn find(map: &ReaderMap, reader: &mut Reader, key: u32, rows: &mut RowSet) -> Found
+    requires own { reader.old.table ≡ map.now }
+    requires key { key < map.now.shape.keys }
+    ensures { reader.new.table ≡ map.now }
+{
+    map.find(reader, key, rows)
 }

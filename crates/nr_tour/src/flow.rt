@@ -40,6 +40,20 @@ struct GivenUp {
     sends: u64,
 }
 
+// One get of key 1, and one turn.
+fn get_once<R: Wait>(rt: &R, client: &mut Client<'_, OpenGate>, rows: &mut RowSet) -> Got
+    requires { client.old.map.shape.keys ≡ 2 }
+    ensures { client.new.map ≡ client.old.map }
+{
+    client.get(rt, 1, 1, rows)
+}
+
+fn take_turn<R: Wait>(rt: &R, flow: &mut Dataflow<'_, Shelf>) -> Turn
+    ensures { flow.new.map ≡ flow.old.map }
+{
+    flow.turn(rt)
+}
+
 // The client misses key 1 and the dataflow fills it. Then the rows change: the dataflow changes its
 // source, from which later turns have them, and applies the same change to the filled key. The
 // client hears the dataflow's note of that, so its next get comes after the change.
@@ -56,8 +70,8 @@ fn change<R: Wait>(
     ensures flow { flow.new.map ≡ flow.old.map }
 {
     let mut rows = RowSet::new();
-    client.get(rt, 1, 1, &mut rows);
-    let filled = flow.turn(rt);
+    get_once(rt, client, &mut rows);
+    let filled = take_turn(rt, flow);
     flow.source().b = 200;
     let applied = flow.apply(1, change);
     client.hear(flow.note());
@@ -86,12 +100,12 @@ fn give_up<R: Wait>(
     requires flow { flow.old.map.shape.keys ≡ 2 }
 {
     let mut rows = RowSet::new();
-    let missed = client.get(rt, 1, 1, &mut rows);
+    let missed = get_once(rt, client, &mut rows);
     let cancelled = flow.cancel(rt, 1);
-    let anew = client.get(rt, 1, 1, &mut rows);
-    let late = flow.turn(rt);
-    let filled = flow.turn(rt);
-    let got = client.get(rt, 1, 1, &mut rows);
+    let anew = get_once(rt, client, &mut rows);
+    let late = take_turn(rt, flow);
+    let filled = take_turn(rt, flow);
+    let got = get_once(rt, client, &mut rows);
     GivenUp {
         missed,
         cancelled,
@@ -106,6 +120,17 @@ fn give_up<R: Wait>(
 
 /// A client and a dataflow in one hand.
 pub fn in_one_hand<R: Wait>(rt: &R, alloc: Global, by: &Batch) -> Result<Flowed, OpenFault> {
+    let server = opened_server(alloc, 4)?;
+    let lobby = Lobby::open(alloc)?;
+    Ok(work(rt, server, &lobby, by))
+}
+
+// From here on there is no way out by a `?`.
+fn work<R: Wait>(rt: &R, server: Server, lobby: &Lobby, by: &Batch) -> Flowed
+    requires map { (server.writer.table ≡ server.map) × (server.reader.table ≡ server.map) × (server.map.shape.keys ≡ 2) }
+    requires poster { (server.poster.queue ≡ server.triggers.id) × (server.poster.keys ≡ 2) }
+    requires taker { (server.taker.queue ≡ server.triggers.id) × (server.taker.keys ≡ 2) }
+{
     let Server {
         map,
         writer,
@@ -113,15 +138,14 @@ pub fn in_one_hand<R: Wait>(rt: &R, alloc: Global, by: &Batch) -> Result<Flowed,
         triggers,
         poster,
         taker,
-    } = opened_server(alloc, 4)?;
-    let lobby = Lobby::open(alloc)?;
+    } = server;
     let source = Shelf { b: 100 };
-    let mut client = Client::open(&map, reader, &triggers, poster, &lobby, &OpenGate);
-    let mut flow = Dataflow::open(&map, writer, &triggers, taker, source, &lobby);
+    let mut client = Client::open(&map, reader, &triggers, poster, lobby, &OpenGate);
+    let mut flow = Dataflow::open(&map, writer, &triggers, taker, source, lobby);
     let changed = change(rt, &mut client, &mut flow, by);
     let given_up = give_up(rt, &mut client, &mut flow);
     end(client, flow);
-    Ok(Flowed { changed, given_up })
+    Flowed { changed, given_up }
 }
 
 // Neither can be dropped. What a client or a dataflow keeps is spent, or posted and filled by others.
@@ -137,7 +161,11 @@ fn end(client: Client<'_, OpenGate>, flow: Dataflow<'_, Shelf>) {
 }
 
 pub fn show<R: Print>(rt: &R, told: &Flowed) -> io::Result<()> {
-    let Flowed { changed, given_up } = told;
+    show_changed(rt, &told.changed)?;
+    show_given_up(rt, &told.given_up)
+}
+
+fn show_changed<R: Print>(rt: &R, changed: &Changed) -> io::Result<()> {
     println!(rt;
         "A dataflow
   a turn: {:?}
@@ -151,7 +179,10 @@ pub fn show<R: Print>(rt: &R, told: &Flowed) -> io::Result<()> {
         changed.replaced,
         changed.evicted,
         changed.dropped
-    )?;
+    )
+}
+
+fn show_given_up<R: Print>(rt: &R, given_up: &GivenUp) -> io::Result<()> {
     println!(rt;
         "  a get: {:?}\n  its request is taken back: {:?}\n  the next get: {:?}\n  two turns: {:?}, {:?}\n  a get: {:?}: {:?}\n  requests to be sent: {}",
         given_up.missed,

@@ -3,8 +3,10 @@ ghost use Rattle.std.specs.Prelude.{◌≡◌};
 
 use crate::calls::{ask, fill};
 use crate::queue::{Server, opened_server};
+use nr_map::{Reader, ReaderMap};
 use nr_model::{OpenFault, RowSet};
 use nr_serve::{Client, Gate, Got, Lobby};
+use nr_trigger::{Poster, Triggers};
 use std::alloc::Global;
 use std::io::{self, Print};
 use std::sync::Wait;
@@ -36,8 +38,33 @@ impl Gate for Second {
     }
 }
 
-/// A client finds key 0 filled, and has its rows once the gate lets it pass.
-pub fn held_back<R: Wait>(rt: &R, alloc: Global) -> Result<Gated, OpenFault> {
+// What a client gets that the gate lets pass.
+fn get_through<R: Wait>(
+    rt: &R,
+    map: &ReaderMap,
+    triggers: &Triggers,
+    lobby: &Lobby,
+    gate: &Second,
+    reader: Reader,
+    poster: Poster,
+) -> (Got, RowSet)
+    requires map { (reader.table ≡ map.now) × (map.now.shape.keys ≡ 2) }
+    requires queue { (poster.queue ≡ triggers.now.id) × (poster.keys ≡ 2) }
+{
+    let mut client = Client::open(map, reader, triggers, poster, lobby, gate);
+    let mut rows = RowSet::new();
+    let got = client.get(rt, 0, 1, &mut rows);
+    let (_reader, _poster, kept) = client.end();
+    if let Some(ticket) = kept {
+        ticket.into_key();
+    }
+    (got, rows)
+}
+
+fn get_filled<R: Wait>(rt: &R, server: Server, lobby: &Lobby) -> Gated
+    requires map { (server.writer.table ≡ server.map) × (server.reader.table ≡ server.map) × (server.map.shape.keys ≡ 2) }
+    requires queue { (server.poster.queue ≡ server.triggers.id) × (server.poster.keys ≡ 2) }
+{
     let Server {
         map,
         mut writer,
@@ -45,27 +72,27 @@ pub fn held_back<R: Wait>(rt: &R, alloc: Global) -> Result<Gated, OpenFault> {
         triggers,
         poster,
         taker: _,
-    } = opened_server(alloc, 1)?;
+    } = server;
     ask(&map, &mut reader, 0);
     let _filled = fill(&map, &mut writer, 0);
-    let lobby = Lobby::open(alloc)?;
     let gate = Second {
         asked: AtomicU64::new(0),
         answered: AtomicU64::new(0),
     };
-    let mut client = Client::open(&map, reader, &triggers, poster, &lobby, &gate);
-    let mut rows = RowSet::new();
-    let got = client.get(rt, 0, 1, &mut rows);
-    let (_reader, _poster, kept) = client.end();
-    if let Some(ticket) = kept {
-        ticket.into_key();
-    }
-    Ok(Gated {
+    let (got, rows) = get_through(rt, &map, &triggers, lobby, &gate, reader, poster);
+    Gated {
         got,
         rows,
         asked: gate.asked.load(Ordering::SeqCst),
         answered: gate.answered.load(Ordering::SeqCst),
-    })
+    }
+}
+
+/// A client finds key 0 filled, and has its rows once the gate lets it pass.
+pub fn held_back<R: Wait>(rt: &R, alloc: Global) -> Result<Gated, OpenFault> {
+    let server = opened_server(alloc, 1)?;
+    let lobby = Lobby::open(alloc)?;
+    Ok(get_filled(rt, server, &lobby))
 }
 
 pub fn show<R: Print>(rt: &R, told: &Gated) -> io::Result<()> {

@@ -9,11 +9,21 @@ use std::alloc::Global;
 use std::io::{self, Print};
 
 #[derive(Drop)]
-pub struct Kept {
+pub struct Told {
+    kept: Kept,
+    pinned: Pinned,
+}
+
+#[derive(Drop)]
+struct Kept {
     found: [Found; 3],
     before: RowSet,
     after: RowSet,
     held: Option<u32>,
+}
+
+#[derive(Drop)]
+struct Pinned {
     pinned: (bool, u32),
     again: bool,
     once: Found,
@@ -21,12 +31,12 @@ pub struct Kept {
     reader: u32,
 }
 
-fn keep_over_update(map: &ReaderMap, writer: &mut Writer, reader: Reader, change: &Batch) -> Kept
-    requires reader { reader.table ≡ map.now }
+fn keep_over_update(map: &ReaderMap, writer: &mut Writer, hand: &mut Hand, change: &Batch) -> Kept
+    requires hand { hand.old.reader.table ≡ map.now }
     requires writer { writer.old.table ≡ map.now }
     requires key { 0 < map.now.shape.keys }
+    ensures own { hand.new.reader.table ≡ map.now }
 {
-    let mut hand = Hand::of(reader);
     let mut before = RowSet::new();
     let mut after = RowSet::new();
     let first = hand.find_kept(map, 0, &mut before);
@@ -39,7 +49,20 @@ fn keep_over_update(map: &ReaderMap, writer: &mut Writer, reader: Reader, change
     // Now it has another: the hand lets the old one go, and holds the new one.
     let third = hand.find_kept(map, 0, &mut after);
     let held = hand.key();
-    // What it holds can be kept as a pin for a while, and be given back to a hand.
+    Kept {
+        found: [first, second, third],
+        before,
+        after,
+        held,
+    }
+}
+
+// What a hand holds can be kept as a pin for a while, and be given back to a hand.
+fn pin_anew(map: &ReaderMap, hand: Hand) -> Pinned
+    requires own { hand.reader.table ≡ map.now }
+    requires key { 0 < map.now.shape.keys }
+{
+    let mut after = RowSet::new();
     let mut hand = match hand.into_pin() {
         Ok(pin) => Hand::of_pin(pin, 0),
         Err(reader) => Hand::of(reader),
@@ -56,11 +79,7 @@ fn keep_over_update(map: &ReaderMap, writer: &mut Writer, reader: Reader, change
     let left = hand.key();
     let number = hand.number();
     let reader = hand.into_reader(map);
-    Kept {
-        found: [first, second, third],
-        before,
-        after,
-        held,
+    Pinned {
         pinned: (pinned, count),
         again,
         once,
@@ -70,24 +89,34 @@ fn keep_over_update(map: &ReaderMap, writer: &mut Writer, reader: Reader, change
 }
 
 /// One reader finds key 0 three times, with an update before the last.
-pub fn kept_in_hand(alloc: Global, change: &Batch) -> Result<Kept, OpenFault> {
+pub fn kept_in_hand(alloc: Global, change: &Batch) -> Result<Told, OpenFault> {
     let (map, mut writer, mut one, _two) = opened(alloc, 2, 5)?;
     ask(&map, &mut one, 0);
     let _filled = fill(&map, &mut writer, 0);
-    Ok(keep_over_update(&map, &mut writer, one, change))
+    let mut hand = Hand::of(one);
+    let kept = keep_over_update(&map, &mut writer, &mut hand, change);
+    let pinned = pin_anew(&map, hand);
+    Ok(Told { kept, pinned })
 }
 
-pub fn show<R: Print>(rt: &R, told: &Kept) -> io::Result<()> {
+pub fn show<R: Print>(rt: &R, told: &Told) -> io::Result<()> {
+    show_kept(rt, &told.kept)?;
+    show_pinned(rt, &told.pinned)
+}
+
+fn show_kept<R: Print>(rt: &R, kept: &Kept) -> io::Result<()> {
     println!(rt;
-        "A hand\n  it finds {:?}: {:?}\n  and after an update {:?}\n  it holds the set of {:?}\n  it pins the key anew, and its rows: {:?}\n  the key has this set still: {}\n  a find that keeps nothing: {:?}, {:?}\n  its reader: {}",
-        told.found,
-        told.before.as_slice(),
-        told.after.as_slice(),
-        told.held,
-        told.pinned,
-        told.again,
-        told.once,
-        told.left,
-        told.reader
+        "A hand\n  it finds {:?}: {:?}\n  and after an update {:?}\n  it holds the set of {:?}",
+        kept.found,
+        kept.before.as_slice(),
+        kept.after.as_slice(),
+        kept.held
+    )
+}
+
+fn show_pinned<R: Print>(rt: &R, pinned: &Pinned) -> io::Result<()> {
+    println!(rt;
+        "  it pins the key anew, and its rows: {:?}\n  the key has this set still: {}\n  a find that keeps nothing: {:?}, {:?}\n  its reader: {}",
+        pinned.pinned, pinned.again, pinned.once, pinned.left, pinned.reader
     )
 }

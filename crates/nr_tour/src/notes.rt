@@ -5,7 +5,7 @@ ghost use Rattle.nr_map.specs.Written.{FindsAfter, answered};
 
 use crate::calls::{ask, fill};
 use crate::opening::opened;
-use nr_map::{FillFault, Found, Note, Reader, ReaderMap, Writer, laws};
+use nr_map::{FillFault, Found, Note, Pin, Reader, ReaderMap, Writer, laws};
 use nr_model::{OpenFault, RowSet};
 use std::alloc::Global;
 use std::io::{self, Print};
@@ -75,8 +75,25 @@ fn pass_on(map: &ReaderMap, reader: &mut Reader, note: Note) -> (Note, Note)
     map.split_note(reader, note)
 }
 
-// Two that hold sets tell the writer, and it tells them: a pin makes a note and hears one as its
-// reader does, and keeps its set. None where the key was a hole.
+// A reader that was told tells the writer.
+fn hear_and_tell(map: &ReaderMap, writer: &mut Writer, reader: &mut Reader, note: Note)
+    requires own { (reader.old.table ≡ map.now) × (writer.old.table ≡ map.now) × (note.table ≡ map.now) }
+    ensures own { (reader.new.table ≡ map.now) × (writer.new.table ≡ map.now) }
+{
+    hear(map, reader, note);
+    map.hear_writer(writer, map.note(reader));
+}
+
+// A pin makes a note and hears one as its reader does, and keeps its set.
+fn tell_and_hear(map: &ReaderMap, writer: &mut Writer, pin: &mut Pin)
+    requires own { (pin.old.reader.table ≡ map.now) × (writer.old.table ≡ map.now) }
+    ensures own { pin.new.reader.table ≡ map.now }
+{
+    map.hear_writer(writer, map.note_pin(pin));
+    map.hear_pin(pin, acknowledge(map, writer));
+}
+
+// One that was told tells the writer, and it tells one that holds a set. None where the key was a hole.
 fn held_meanwhile(
     map: &ReaderMap,
     writer: &mut Writer,
@@ -86,17 +103,12 @@ fn held_meanwhile(
     requires own { (reader.table ≡ map.now) × (writer.old.table ≡ map.now) × (note.table ≡ map.now) }
     requires key { 0 < map.now.shape.keys }
 {
-    hear(map, &mut reader, note);
-    let before = map.note(&mut reader);
-    map.hear_writer(writer, before);
+    hear_and_tell(map, writer, &mut reader, note);
     let mut pin = match map.pin(reader, 0) {
         Ok(pin) => pin,
         Err(_) => return None,
     };
-    let held = map.note_pin(&mut pin);
-    map.hear_writer(writer, held);
-    let back = acknowledge(map, writer);
-    map.hear_pin(&mut pin, back);
+    tell_and_hear(map, writer, &mut pin);
     let mut rows = RowSet::new();
     pin.copy_to(map, &mut rows);
     pin.release(map);

@@ -1,9 +1,9 @@
 //! A set that a reader holds stays as it was.
 ghost use Rattle.std.specs.Prelude.{◌≡◌, ◌<◌};
 
-use crate::calls::{ask, fill};
+use crate::calls::{ask, fill, find};
 use crate::opening::opened;
-use nr_map::{Reader, ReaderMap, UpdateFault, Writer};
+use nr_map::{Pin, Reader, ReaderMap, UpdateFault, Writer};
 use nr_model::{Batch, OpenFault, Row, RowSet};
 use std::alloc::Global;
 use std::io::{self, Print};
@@ -17,6 +17,21 @@ pub struct Kept {
     found: RowSet,
     holder: u32,
     released: u32,
+}
+
+// The rows that a pin holds, and the first of them, which is read where it lies.
+fn held_by(map: &ReaderMap, pin: &mut Pin) -> (RowSet, Option<Row>)
+    requires own { pin.old.reader.table ≡ map.now }
+    ensures own { pin.new.reader.table ≡ map.now }
+{
+    let mut rows = RowSet::new();
+    pin.copy_to(map, &mut rows);
+    let first = if 0 < pin.len() {
+        Some(pin.row(map, 0))
+    } else {
+        None
+    };
+    (rows, first)
 }
 
 // None where the key is a hole: then the reader comes back in place of a pin, and ends here.
@@ -40,15 +55,9 @@ fn hold_over_update(
     let before = pin.again(map, 0);
     let updated = map.update(writer, 0, change);
     let after = pin.again(map, 0);
-    let mut pinned = RowSet::new();
-    pin.copy_to(map, &mut pinned);
-    let first = if 0 < pin.len() {
-        Some(pin.row(map, 0))
-    } else {
-        None
-    };
+    let (pinned, first) = held_by(map, &mut pin);
     let mut found = RowSet::new();
-    map.find(two, 0, &mut found);
+    find(map, two, 0, &mut found);
     let holder = pin.number();
     let released = pin.release(map);
     Some(Kept {
@@ -74,14 +83,21 @@ pub fn show<R: Print>(rt: &R, told: &Option<Kept>) -> io::Result<()> {
     let Some(told) = told else {
         return println!(rt; "A pin\n  the key was a hole");
     };
+    show_held(rt, told)?;
     println!(rt;
-        "A pin\n  an update beside it: {:?}\n  the key has its set before and after: {:?}\n  it has {:?}\n  its first row: {:?}\n  reader 2 finds {:?}\n  it was held by reader {}, which came back as {}",
-        told.updated,
-        told.again,
-        told.pinned.as_slice(),
-        told.first,
+        "  reader 2 finds {:?}\n  it was held by reader {}, which came back as {}",
         told.found.as_slice(),
         told.holder,
         told.released
+    )
+}
+
+fn show_held<R: Print>(rt: &R, told: &Kept) -> io::Result<()> {
+    println!(rt;
+        "A pin\n  an update beside it: {:?}\n  the key has its set before and after: {:?}\n  it has {:?}\n  its first row: {:?}",
+        told.updated,
+        told.again,
+        told.pinned.as_slice(),
+        told.first
     )
 }

@@ -1,7 +1,7 @@
 //! What to do where there is no slot.
 ghost use Rattle.std.specs.Prelude.{◌≡◌, ◌<◌};
 
-use crate::calls::{Told, ask, fill};
+use crate::calls::{Told, ask, fill, update};
 use crate::opening::opened;
 use nr_map::{Evict, FillFault, Reader, ReaderMap, UpdateFault, Writer};
 use nr_model::{Batch, OpenFault};
@@ -46,7 +46,7 @@ fn wait_for_pin(
         Ok(pin) => pin,
         Err(_) => return None,
     };
-    let _updated = map.update(writer, 0, change);
+    let _updated = update(map, writer, 0, change);
     ask(map, two, 1);
     let none = fill(map, writer, 1);
     let still = ask(map, two, 1);
@@ -64,9 +64,9 @@ fn evict_another(map: &ReaderMap, writer: &mut Writer, change: &Batch) -> Full
     requires writer { writer.old.table ≡ map.now }
     requires keys { 1 < map.now.shape.keys }
 {
-    let none = map.update(writer, 1, change);
+    let none = update(map, writer, 1, change);
     let evicted = map.evict(writer, 0);
-    let updated = map.update(writer, 1, change);
+    let updated = update(map, writer, 1, change);
     Full {
         none,
         evicted,

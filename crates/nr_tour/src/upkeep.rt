@@ -1,7 +1,7 @@
 //! What the dataflow does to a filled key.
 ghost use Rattle.std.specs.Prelude.{◌≡◌, ◌<◌};
 
-use crate::calls::{ask, fill, set_of};
+use crate::calls::{ask, fill, set_of, update};
 use crate::opening::opened;
 use nr_map::{Evict, ReaderMap, ReplaceFault, UpdateFault, Writer};
 use nr_model::{Batch, OpenFault, Row, RowSet};
@@ -37,13 +37,13 @@ pub fn kept_up(alloc: Global, change: &Batch) -> Result<Upkeep, OpenFault> {
     let (map, mut writer, mut one, _two) = opened(alloc, 2, 5)?;
     ask(&map, &mut one, 0);
     let _filled = fill(&map, &mut writer, 0);
-    let updated = map.update(&mut writer, 0, change);
+    let updated = update(&map, &mut writer, 0, change);
     let mut rows = RowSet::new();
     map.look(&mut writer, 0, &mut rows);
-    let refused = map.update(&mut writer, 0, change);
+    let refused = update(&map, &mut writer, 0, change);
     let (replaced, new_rows) = replace(&map, &mut writer);
     let evicted = map.evict(&mut writer, 0);
-    let dropped = map.update(&mut writer, 0, change);
+    let dropped = update(&map, &mut writer, 0, change);
     Ok(Upkeep {
         updated,
         rows,
@@ -56,11 +56,22 @@ pub fn kept_up(alloc: Global, change: &Batch) -> Result<Upkeep, OpenFault> {
 }
 
 pub fn show<R: Print>(rt: &R, told: &Upkeep) -> io::Result<()> {
+    show_updates(rt, told)?;
+    show_replacement(rt, told)
+}
+
+fn show_updates<R: Print>(rt: &R, told: &Upkeep) -> io::Result<()> {
     println!(rt;
-        "Upkeep\n  an update: {:?}, to {:?}\n  the same again: {:?}\n  a replacement: {:?}, by {:?}\n  an eviction: {:?}\n  an update of the hole: {:?}",
+        "Upkeep\n  an update: {:?}, to {:?}\n  the same again: {:?}",
         told.updated,
         told.rows.as_slice(),
-        told.refused,
+        told.refused
+    )
+}
+
+fn show_replacement<R: Print>(rt: &R, told: &Upkeep) -> io::Result<()> {
+    println!(rt;
+        "  a replacement: {:?}, by {:?}\n  an eviction: {:?}\n  an update of the hole: {:?}",
         told.replaced,
         told.new_rows.as_slice(),
         told.evicted,
