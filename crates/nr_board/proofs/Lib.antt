@@ -20,9 +20,11 @@ pub mod Polled
 pub mod WriterSeats
 pub mod Searching
 pub mod Publishing
+pub mod Recalling
 pub mod ReadingOn
 pub mod SetRooms
 pub mod KeySets
 pub mod Retiring
 pub mod Looks
 pub mod WriterCalls
+pub mod Waiting

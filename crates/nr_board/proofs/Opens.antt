@@ -5,7 +5,7 @@ use lib.ListN.{get_elem?}
 use Rattle.atomic_table.specs.Table.{opening}
 use Rattle.nr_model.specs.declared.states.KeyState.TheVariants as states
 use Rattle.std.proofs.lemmas.List.{get_or-replicate}
-use Rattle.nr_core.proofs.Opening.{core_opens}
+use Rattle.nr_core.proofs.Opening.{blank_at_opening, core_opens}
 use Rattle.nr_core.specs.Core.{AreNumbers, ShowsState}
 use Rattle.nr_core.specs.Roles.{is_by}
 use Rattle.nr_machine.specs.Sizes.{IsShape}
@@ -41,7 +41,7 @@ opens_so shape fits = let view = opener shape in
       readers = refl;
       fresh = λ caller later. let none : cond (is_by caller view.role) 1 0 ≡ 0 = ap (λ (y : Bool). cond {A = ℕ} y 1 0) (ne_eqb 0 caller (λ e. omega arith)) in omega arith;
       silent = λ _ _. refl;
-      marked = opens_marked role_of marks_of shape (words_at_opening shape) view refl refl (none_named shape fits);
+      marked = opens_marked role_of marks_of shape (words_at_opening shape) view refl refl (none_named shape fits) (blank_at_opening shape);
       pasts = λ place who there. subst (λ (v : View). AllSince role_of marks_of (view ∷ []) v.pasts) (only_one view place who there) (no_places (Since role_of marks_of (view ∷ [])));
       told_pasts = λ place who there. subst (λ (v : View). AllSince role_of marks_of (view ∷ []) v.told_pasts) (only_one view place who there) (no_places (Since role_of marks_of (view ∷ [])));
       maker = λ j u at w. ap (λ (y : View). y.made) (sym (only_one view j u at));

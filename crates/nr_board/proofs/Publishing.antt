@@ -51,32 +51,36 @@ module _ (table board : Table) (own : board ≡ table) (desk : Desk) (call : Wri
 -- the swap that publishes the set
 pub published : (table : Table) (call : WriterCall) (rows : List Row) (spare mid_spare after_spare : Spare) (slot departed polls : ℕ) (before mid after : MapSeat) (found : ℕ) → TookByPolls slot polls spare mid_spare → polls ≤ table.shape.readers + 1 → mid_spare.slots ≡ spare.slots → mid_spare.numbers ≡ spare.numbers → mid.me.0.marks ≡ with_polls before.me.0.marks mid.me.0.marks.polls
     → WritesAt table (desk_with mid_spare (Putting call rows slot departed (2 * length rows + 1))) mid → Grows (polls + (2 * length rows + 1)) (token before) [] (token mid) → GoesOn table found mid after
-    → after_spare ≡ record mid_spare { retired = mid_spare.retired ++ unnamed found } → PublishesSet table call rows spare after_spare before after
+    → after_spare ≡ record mid_spare { retired = mid_spare.retired ++ unnamed found } → (put : PublishesSet table call rows spare after_spare before after) × (put.slot ≡ slot)
 published table call rows spare mid_spare after_spare slot departed polls before mid after found took few slots numbers only_polls writes grows goes retires =
     let last : ℕ = 2 * length rows + 1 in let desk = desk_with mid_spare (Putting call rows slot departed last) in
     let told = goes desk writes.role in
     let outcome : put_on desk call rows slot departed last found ≡ (swapped desk found, ended reply.Done) = ap (λ (b : Bool). cond {A = Desk × Step} b (moved_to desk (Putting call rows slot departed (last + 1)), Going) (swapped desk found, ended reply.Done)) (lt-leb last (2 * length rows) (omega arith)) in
     let leads = subst (λ (o : Desk × Step). LeadsIn 1 table (call_of call) o mid after) outcome told.leads in
-    let marks = subst (λ (b : Bool). PutsMarks b mid.me.0.marks (key_of call) slot found after.me.0.role after.me.0.seen after.me.0.marks []) (lt-leb last (2 * length rows) (omega arith)) told.marks in
+    let marks = subst (λ (b : Bool). PutsMarks b mid.me.0.marks (key_of call) slot rows found after.me.0.role after.me.0.seen after.me.0.marks []) (lt-leb last (2 * length rows) (omega arith)) told.marks in
     let swaps = subst (λ (b : Bool). SwapsOrPuts b table.shape (key_of call) found told.log mid.me.0.marks) (lt-leb last (2 * length rows) (omega arith)) told.finds in
     let same_names : get_or before.me.0.marks.names (key_of call) 0 ≡ get_or mid.me.0.marks.names (key_of call) 0 = ap (λ (m : Marks). get_or m.names (key_of call) 0) (sym only_polls) in
-    let same_polls : after.me.0.marks.polls ≡ mid.me.0.marks.polls = ap (λ (m : Marks). m.polls) marks.3 in record {
-      slot = slot;
-      log = told.log;
-      seen = told.seen ∙ ap (λ (o : Desk × Step). told.log ++ ending (call_of call) o.1) outcome;
-      swaps = record { state = swaps.state; name = same_names ∙ swaps.name };
-      marks = marks.3 ∙ ap (λ (m : Marks). with_name m (key_of call) slot marks.0) only_polls ∙ ap (λ (l : List Past). with_name (with_polls before.me.0.marks l) (key_of call) slot marks.0) (sym same_polls);
-      number = marks.0;
-      count = marks.1;
-      put = marks.2;
-      polls = polls;
-      mid = mid_spare;
-      took = took;
-      few = few;
-      word = found;
-      retires = retires;
-      slots = ap (λ (s : Spare). s.slots) retires ∙ slots;
-      numbers = ap (λ (s : Spare). s.numbers) retires ∙ numbers;
-      writes = subst (λ (s : Spare). WritesAt table (desk_with s Idle) after) (sym retires) leads.writes;
-      grows = grows_both (polls + (2 * length rows + 1)) 1 (2 * length rows + 2 + polls) (token before) (token mid) _ (token after) (omega arith) grows leads.grows;
-    }
+    let same_polls : after.me.0.marks.polls ≡ mid.me.0.marks.polls = ap (λ (m : Marks). m.polls) marks.3 in (
+      record {
+        slot = slot;
+        inside = writes.room.place.0;
+        log = told.log;
+        seen = told.seen ∙ ap (λ (o : Desk × Step). told.log ++ ending (call_of call) o.1) outcome;
+        swaps = record { state = swaps.state; name = same_names ∙ swaps.name };
+        marks = marks.3 ∙ ap (λ (m : Marks). with_name m (key_of call) slot marks.0 rows) only_polls ∙ ap (λ (l : List Past). with_name (with_polls before.me.0.marks l) (key_of call) slot marks.0 rows) (sym same_polls);
+        number = marks.0;
+        count = marks.1;
+        put = marks.2;
+        polls = polls;
+        mid = mid_spare;
+        took = took;
+        few = few;
+        word = found;
+        retires = retires;
+        slots = ap (λ (s : Spare). s.slots) retires ∙ slots;
+        numbers = ap (λ (s : Spare). s.numbers) retires ∙ numbers;
+        writes = subst (λ (s : Spare). WritesAt table (desk_with s Idle) after) (sym retires) leads.writes;
+        grows = grows_both (polls + (2 * length rows + 1)) 1 (2 * length rows + 2 + polls) (token before) (token mid) _ (token after) (omega arith) grows leads.grows;
+      },
+      refl,
+    )

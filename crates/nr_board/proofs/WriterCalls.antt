@@ -37,19 +37,18 @@ use Rattle.nr_board.specs.NamedRows.{ReadsAll}
 use Rattle.nr_board.proofs.KeySets.{before_last, had_before, none_between}
 use Rattle.nr_board.proofs.Retiring.{evicted_one, retires_so}
 use Rattle.nr_board.proofs.Searching.{grows_from}
+use Rattle.nr_board.proofs.Waiting.{grows_with, set_later, spare_shown}
+use Rattle.nr_board.specs.Recalls.{later}
 use Rattle.nr_board.specs.Kinds.{kind_of}
 use Rattle.nr_board.specs.Polls.{HeldThen}
 use Rattle.nr_model.proofs.LawLemmas.{legal_goes_on_lem}
 use Rattle.nr_core.proofs.Settle.{key_same}
 use Rattle.nr_machine.specs.States.{key_of}
 use Rattle.nr_board.specs.Views.{desk_of, caller_number}
-use Rattle.nr_board.specs.WriterSeats.{GoesOn, KeyHas, LacksSlot, LeadsIn, MapSeat, PublishesSet, RestsAt, Settles, WritesAt}
+use Rattle.nr_board.specs.Begins.{HasRead, HasSet}
+use Rattle.nr_board.specs.WriterSeats.{GoesOn, LacksSlot, LeadsIn, MapSeat, PublishesSet, RestsAt, Settles, WritesAt, KeyHas}
 use Rattle.nr_machine.specs.Slots.{bound_of}
 use Rattle.nr_model.specs.Rows.{IsRowSet}
-
--- the slots that a resting token shows
-pub spare_shown : (table : Table) (spare : Spare) (seat : MapSeat) → RestsAt table spare seat → spare_of (token seat) ≡ spare
-spare_shown table spare seat rests = λ j. record { slots = (ap (λ (t : Table). t.shape.slots) rests.writes.own ∙ sym rests.slots) j; fresh = ap (λ r. (desk_of r).fresh) rests.writes.role j; retired = ap (λ r. (desk_of r).retired) rests.writes.role j; numbers = ap (λ r. (desk_of r).numbers) rests.writes.role j }
 
 module _ (table : Table) (spare : Spare) (before : MapSeat) (rests : RestsAt table spare before) where
   writer_number : (token before).number ≡ 0
@@ -77,7 +76,7 @@ module _ (table : Table) (spare : Spare) (before : MapSeat) (rests : RestsAt tab
     same_names = ap (λ (m : Marks). get_or m.names (key_of call) 0) (sym only_polls)
 
     -- the call put its set
-    pub publishes_so : PublishesSet table call rows spare after_spare mid after → RestsAt table after_spare after × Publishes steps (token before) (call_of call) rows (token after)
+    pub publishes_so : (published : PublishesSet table call rows spare after_spare mid after) → RestsAt table after_spare after × (put : Publishes steps (token before) (call_of call) rows (token after)) × (put.slot ≡ published.slot)
     publishes_so published =
         let all = grows_both steps (2 * length rows + 2 + published.polls) (steps + 2 * length rows + 2 + published.polls) (token before) (token mid) (entry 0 (call_of call) reply.Done ∷ []) (token after) (omega arith) grows published.grows in
         let rests_after : RestsAt table after_spare after = record { writes = published.writes; slots = published.slots ∙ rests.slots; own = all.own } in
@@ -88,6 +87,7 @@ module _ (table : Table) (spare : Spare) (before : MapSeat) (rests : RestsAt tab
           record {
             polls = published.polls;
             slot = published.slot;
+            inside = subst (λ (t : Table). published.slot < t.shape.slots) (sym rests.writes.own) published.inside;
             mid = published.mid;
             took = subst (λ (s : Spare). TookByPolls published.slot published.polls s published.mid) (sym (spare_shown table spare before rests)) published.took;
             few = subst (λ (t : Table). published.polls ≤ t.shape.readers + 1) (sym rests.writes.own) published.few;
@@ -98,9 +98,10 @@ module _ (table : Table) (spare : Spare) (before : MapSeat) (rests : RestsAt tab
             number = published.number;
             count = published.count;
             put = published.put;
-            marks = published.marks ∙ (λ j. with_name (with_polls (only_polls j) after.me.0.marks.polls) (sym (key_same call) j) published.slot published.number);
+            marks = published.marks ∙ (λ j. with_name (with_polls (only_polls j) after.me.0.marks.polls) (sym (key_same call) j) published.slot published.number rows);
             gains = subst (λ (n : ℕ). Grows (steps + 2 * length rows + 2 + published.polls) (token before) (entry n (call_of call) reply.Done ∷ []) (token after)) (sym writer_number) all;
           },
+          refl,
         )
 
     -- the call found no slot
@@ -137,13 +138,6 @@ look_ends {table = table} {spare = spare} {call = call} {before = before} {after
     let ended_so = ends table spare before looks.rests 1 (call_of call) answer spare after refl (subst (λ (o : Desk × Step). LeadsIn 1 table (call_of call) o before after) is looks.leads) in
     (rests_own table spare after ended_so.0, (ended_so.1, (same_slots table spare before looks.rests after ended_so.0, looks.marks)))
 
--- it has its set after that many steps: it looks for a slot
-pub record HasSet (table : Table) (spare : Spare) (steps : ℕ) (call : WriterCall) (rows : List Row) (before mid : MapSeat) : Type 0 where
-  pub rests : RestsAt table spare before
-  pub settles : Settles table call rows spare mid
-  pub grows : Grows steps (token before) [] (token mid)
-  pub marks : mid.me.0.marks ≡ with_polls before.me.0.marks []
-
 pub has_set : {table : Table} {spare : Spare} {steps : ℕ} {call : WriterCall} {rows : List Row} {before mid : MapSeat} → RestsAt table spare before → LeadsIn steps table (call_of call) (settled table.shape (desk_with spare Idle) call rows) before mid → mid.me.0.marks ≡ with_polls before.me.0.marks [] → HasSet table spare steps call rows before mid
 has_set {table = table} {spare = spare} {steps = steps} {call = call} {rows = rows} {before = before} {mid = mid} rests leads marks =
     let so = settles_so table spare before rests steps call rows mid leads (ap (λ (m : Marks). m.polls) marks) in record { rests = rests; settles = so.0; grows = so.1; marks = marks }
@@ -154,8 +148,10 @@ look_settles {table = table} {call = call} {before = before} {after = after} loo
 
 -- and it had the slot, and put the set there, or found none
 module _ {table : Table} {spare after_spare : Spare} {steps : ℕ} {call given : WriterCall} {rows : List Row} {before mid after : MapSeat} (set : HasSet table spare steps call rows before mid) (is : given ≡ call) where
-  pub has_published : PublishesSet table given rows spare after_spare mid after → RestsAt (token after).table after_spare after × Publishes steps (token before) (call_of call) rows (token after)
-  has_published published = let so = publishes_so table spare before set.rests steps call rows mid after set.grows set.marks after_spare (subst (λ (c : WriterCall). PublishesSet table c rows spare after_spare mid after) is published) in (rests_own table after_spare after so.0, so.1)
+  pub has_published : (published : PublishesSet table given rows spare after_spare mid after) → RestsAt (token after).table after_spare after × (put : Publishes steps (token before) (call_of call) rows (token after)) × (put.slot ≡ published.slot)
+  has_published published =
+      let put = subst (λ (c : WriterCall). (here : PublishesSet table c rows spare after_spare mid after) × (here.slot ≡ published.slot)) is (published, refl) in
+      let so = publishes_so table spare before set.rests steps call rows mid after set.grows set.marks after_spare put.0 in (rests_own table after_spare after so.0, so.1, so.2 ∙ put.1)
 
   pub has_lacked : {counts : NoSlot} → LacksSlot table given counts spare after_spare mid after → RestsAt (token after).table after_spare after × HasNoSlot steps (token before) (call_of call) counts (token after)
   has_lacked {counts = counts} lacking = let so = lacks_so table spare before set.rests steps call rows mid after set.grows set.marks after_spare counts (subst (λ (c : WriterCall). LacksSlot table c counts spare after_spare mid after) is lacking) in (rests_own table after_spare after so.0, so.1)
@@ -212,15 +208,6 @@ module _ {table : Table} {spare : Spare} {key word : ℕ} {before mid : MapSeat}
       )
 
 -- READS OF THE KEY'S SET
-
--- the call's look found the key filled, and the call has read the set
-pub record HasRead (table : Table) (spare : Spare) (call : WriterCall) (slot : ℕ) (rows : List Row) (before after : MapSeat) : Type 0 where
-  pub own : (token before).table ≡ table
-  pub rests : RestsAt table spare before
-  pub row_set : IsRowSet (bound_of table.shape) rows
-  pub leads : LeadsIn (2 * length rows + 2) table (call_of call) (decided table.shape (desk_with spare (Reading call slot [])) call rows) before after
-  pub had : KeyHas table call rows (decided table.shape (desk_with spare (Reading call slot [])) call rows).1 after
-  pub marks : after.me.0.marks ≡ with_polls before.me.0.marks []
 
 module _ {table : Table} {spare : Spare} {call given : WriterCall} {found : ℕ} {before mid : MapSeat} (looks : HasLooked table spare call found before mid) (reads : looked table.shape (desk_with spare Idle) call found ≡ (desk_with spare (Reading call (slot_of found) []), Going)) (is : given ≡ call) where
   leads_there : LeadsIn 1 table (call_of call) (desk_with spare (Reading call (slot_of found) []), Going) before mid
@@ -293,6 +280,13 @@ module _ {table : Table} {spare : Spare} {key slot : ℕ} {batch : List Delta} {
       has_updated {last = last} {after_spare = after_spare} put = let put_here = subst (λ (c : WriterCall). PublishesSet table c left spare after_spare after last) given_is put in
           let so = has_published has_renewed refl put_here in let then = put_here.grows in let all = so.1.gains in
           (so.0, (so.1, had_still near last _ _ _ _ then all refl (before_last ((token before).seen ++ all.between) ((token after).seen ++ then.between) _ _ (sym all.seen ∙ then.seen))))
+
+      -- where the writer made that many steps more before it published
+      pub has_updated_later : {last : MapSeat} {after_spare : Spare} (steps : ℕ) → (put : PublishesSet table given left spare after_spare (later steps after) last)
+          → RestsAt (token last).table after_spare last × ((published : Publishes (2 * length rows + 2 + steps) (token before) (model.Update key batch) left (token last)) × KeyHad key rows (token before) published.gains.between × (published.slot ≡ put.slot))
+      has_updated_later {last = last} {after_spare = after_spare} steps put = let here = subst (λ (c : WriterCall). (p : PublishesSet table c left spare after_spare (later steps after) last) × (p.slot ≡ put.slot)) given_is (put, refl) in
+          let so = has_published (set_later steps has_renewed) refl here.0 in let then = grows_with steps _ _ (token after) _ (token last) refl here.0.grows in let all = so.1.gains in
+          (so.0, (so.1, had_still near last _ _ _ _ then all refl (before_last ((token before).seen ++ all.between) ((token after).seen ++ then.between) _ _ (sym all.seen ∙ then.seen)), so.2 ∙ here.1))
 
       pub has_not_updated : {counts : NoSlot} {last : MapSeat} {after_spare : Spare} → LacksSlot table given counts spare after_spare after last
           → RestsAt (token last).table after_spare last × ((without : HasNoSlot (2 * length rows + 2) (token before) (model.Update key batch) counts (token last)) × KeyHad key rows (token before) without.grows.between)

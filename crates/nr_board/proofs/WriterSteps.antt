@@ -132,9 +132,9 @@ looks_so shape slots id me desk call is idle given near = let view = me.0 in let
     })))
 
 -- no later step of a call learns of readers
-put_quiet : (b : Bool) (marks : Marks) (at slot word : ℕ) (after : Role) (log : List Entry) (now : Marks) (news : List Past) → PutsMarks b marks at slot word after log now news → news ≡ []
-put_quiet true marks at slot word after log now news told = told.1
-put_quiet false marks at slot word after log now news told = told.4
+put_quiet : (b : Bool) (marks : Marks) (at slot : ℕ) (rows : List Row) (word : ℕ) (after : Role) (log : List Entry) (now : Marks) (news : List Past) → PutsMarks b marks at slot rows word after log now news → news ≡ []
+put_quiet true marks at slot rows word after log now news told = told.1
+put_quiet false marks at slot rows word after log now news told = told.4
 
 went_quiet : (shape : Shape) (marks : Marks) (known : List Past) (desk : Desk) (place : Place) (word : ℕ) (after : Role) (log : List Entry) (now : Marks) (news : List Past) → went_marks shape marks known desk place word after log now news → news ≡ []
 went_quiet shape marks known desk Idle word after log now news told = told.1
@@ -142,7 +142,7 @@ went_quiet shape marks known desk (Reading call slot got) word after log now new
 went_quiet shape marks known desk (Leaving key) word after log now news told = told.1
 went_quiet shape marks known desk (Withdrawing key) word after log now news told = told.1
 went_quiet shape marks known desk (Searching call rows poll) word after log now news told = told.0
-went_quiet shape marks known desk (Putting call rows slot departed index) word after log now news told = put_quiet (nat_le index (2 * length rows)) marks (key_of call) slot word after log now news told
+went_quiet shape marks known desk (Putting call rows slot departed index) word after log now news told = put_quiet (nat_le index (2 * length rows)) marks (key_of call) slot rows word after log now news told
 
 -- what the call of a place ends with
 ending_there : (place : Place) (step : Step) → if_not_busy place ≡ None → ending_at place step ≡ ending (call_at place) step
@@ -240,7 +240,7 @@ put_leads desk call rows slot departed index found old new is low went_so =
       advances = subst (λ (s : Step). Advances old (ending (call_at desk.place) s) new) (ap (λ (o : Desk × Step). o.1) outcome) leads.advances;
       room = subst (Room old.shape) (ap (λ (o : Desk × Step). o.0) outcome ∙ sym next) leads.room;
       numbers = subst (λ (o : Desk × Step). AreNumbers old.shape (map_after old.shape new.seen) o.0.numbers) outcome leads.numbers;
-      marks = (subst (λ (b : Bool). PutsMarks b old.marks (key_of call) slot found new.role new.seen new.marks []) (le-leb index (2 * length rows) low) (subst (λ (p : Place). went_marks old.shape old.marks old.pasts desk p found new.role new.seen new.marks []) is went_so.marks)).0;
+      marks = (subst (λ (b : Bool). PutsMarks b old.marks (key_of call) slot rows found new.role new.seen new.marks []) (le-leb index (2 * length rows) low) (subst (λ (p : Place). went_marks old.shape old.marks old.pasts desk p found new.role new.seen new.marks []) is went_so.marks)).0;
     }
 
 pub puts_so : (shape : Shape) (slots id : ℕ) (me : Me (Unit {0}) View) (desk : Desk) (call : WriterCall) (rows : List Row) (slot departed index : ℕ) → me.0.role ≡ Writer desk → desk.place ≡ Putting call rows slot departed index → index ≤ 2 * length rows

@@ -14,5 +14,9 @@ pub mod Polls
 pub mod WriterSeats
 pub mod Searches
 pub mod WriterAnswers
+pub mod Begins
+pub mod Reclaiming
 pub mod HeldRows
 pub mod NamedRows
+pub mod Recalls
+pub mod RecalledRows

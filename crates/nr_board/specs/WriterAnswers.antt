@@ -1,5 +1,5 @@
 -- What a call of the writer says of its token, by its answer.
-use Rattle.std.specs.Prelude.{◌≡◌, ℕ, suc, ◌+◌, ◌*◌, ◌≤◌, List, [], ◌∷◌, ◌++◌, length, slice_index, slice_set, Result, Ok, Err}
+use Rattle.std.specs.Prelude.{◌≡◌, ℕ, suc, ◌+◌, ◌*◌, ◌<◌, ◌≤◌, List, [], ◌∷◌, ◌++◌, length, slice_index, slice_set, Result, Ok, Err}
 use Rattle.nr_model.specs.declared.rows.Row.{Row}
 use Rattle.nr_model.specs.Rows.{IsRowSet}
 use Rattle.nr_model.specs.declared.batches.ApplyFault.TheVariants as fault
@@ -73,6 +73,7 @@ LooksIn shows key old before new room found.Hole = Gains 1 old (model.Find key) 
 pub record Publishes (steps : ℕ) (old : Caller) (call : Call) (rows : List Row) (new : Caller) : Type 0 where
   pub polls : ℕ
   pub slot : ℕ
+  pub inside : slot < old.table.shape.slots
   pub mid : Spare
   pub took : TookByPolls slot polls (spare_of old) mid
   pub few : polls ≤ old.table.shape.readers + 1
@@ -82,7 +83,7 @@ pub record Publishes (steps : ℕ) (old : Caller) (call : Call) (rows : List Row
   pub number : ℕ
   pub count : put_count new.seen ≡ suc number
   pub put : slice_index new.marks.puts slot ≡ number
-  pub marks : new.marks ≡ with_name (with_polls old.marks new.marks.polls) (call_key call) slot number
+  pub marks : new.marks ≡ with_name (with_polls old.marks new.marks.polls) (call_key call) slot number rows
   pub gains : Gains (steps + 2 * length rows + 2 + polls) old call reply.Done new
 
 -- A call that found no slot, after that many other steps and a poll of each retired slot. It is no entry: the writer has learnt readers' entries alone.

@@ -1,5 +1,5 @@
 -- Where the writer's seat stands between two steps, and where a step leads it.
-use Rattle.std.specs.Prelude.{◌≡◌, ℕ, suc, ◌+◌, ◌*◌, ◌≤◌, nat_lt, if◌then◌else◌, List, [], ◌∷◌, ◌++◌, length, slice_index}
+use Rattle.std.specs.Prelude.{◌≡◌, ℕ, suc, ◌+◌, ◌*◌, ◌<◌, ◌≤◌, nat_lt, if◌then◌else◌, List, [], ◌∷◌, ◌++◌, length, slice_index}
 use Rattle.atomic_table.specs.declared.shared.Seat.{Seat}
 use Rattle.nr_model.specs.declared.rows.Row.{Row}
 use Rattle.nr_model.specs.declared.calls.Call.{Call}
@@ -177,6 +177,7 @@ pub record LacksSlot (table : Table) (call : WriterCall) (counts : NoSlot) (spar
 pub record PublishesSet (table : Table) (call : WriterCall) (rows : List Row) (spare after : Spare) (old new : MapSeat) : Type 0 where
   pub polls : ℕ
   pub slot : ℕ
+  pub inside : slot < table.shape.slots
   pub mid : Spare
   pub took : TookByPolls slot polls spare mid
   -- the word that the key had
@@ -192,7 +193,7 @@ pub record PublishesSet (table : Table) (call : WriterCall) (rows : List Row) (s
   pub number : ℕ
   pub count : put_count new.me.0.seen ≡ suc number
   pub put : slice_index new.me.0.marks.puts slot ≡ number
-  pub marks : new.me.0.marks ≡ with_name (with_polls old.me.0.marks new.me.0.marks.polls) (key_of call) slot number
+  pub marks : new.me.0.marks ≡ with_name (with_polls old.me.0.marks new.me.0.marks.polls) (key_of call) slot number rows
   pub writes : WritesAt table (desk_with after Idle) new
   pub grows : Grows (2 * length rows + 2 + polls) (token old) (entry 0 (call_of call) reply.Done ∷ []) (token new)
 

@@ -50,6 +50,15 @@ pub enum ReplaceFault {
     NoSlot(NoSlot),
 }
 
+/// What a call gives out of the slot that it took.
+#[derive(Clone, Copy, Debug, PartialEq, Eq)]
+pub enum Reclaimed {
+    /// The set that the slot had before, which nobody holds; the caller's room has its rows.
+    Set,
+    /// The slot was never taken before.
+    Nothing,
+}
+
 /// The answer to an eviction.
 #[derive(Clone, Copy, Debug, PartialEq, Eq)]
 pub enum Evict {

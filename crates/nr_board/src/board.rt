@@ -15,12 +15,12 @@ ghost use Rattle.nr_machine.specs.States.{key_of};
 ghost use Rattle.nr_core.specs.Steps.{ask_word};
 ghost use Rattle.nr_machine.specs.Story.{call_of};
 ghost use Rattle.nr_machine.specs.Writer.{looked};
-ghost use Rattle.nr_machine.specs.Slots.{bound_of, content, layout};
+ghost use Rattle.nr_machine.specs.Slots.{bound_of, content, layout, slot_room};
 ghost use Rattle.nr_core.specs.Roles.{is_writer};
 ghost use Rattle.nr_machine.specs.Sizes.{IsShape};
 ghost use Rattle.nr_board.specs.Views.{rows_held, with_reader, next_reader, opener};
 ghost use Rattle.nr_board.specs.Callers.{Gains, Grows, Rests, map_seen, token};
-ghost use Rattle.nr_marks.specs.Marks.{acted, with_polls};
+ghost use Rattle.nr_marks.specs.Marks.{acted, set_in, with_polls};
 ghost use Rattle.nr_marks.specs.MarkSteps.{found_again};
 ghost use Rattle.nr_marks.specs.Puts.{put_number};
 ghost use Rattle.nr_board.specs.Seats.{IdlesAt, HoldsAt, names_at};
@@ -28,11 +28,12 @@ ghost use Rattle.nr_board.specs.Notes.{IsCaller, IsNote, has_noted, note_of, ret
 ghost use Rattle.nr_board.specs.Kinds.{kind_of, kind_shown};
 ghost use Rattle.nr_board.specs.Learning.{Learned};
 ghost use Rattle.nr_board.specs.Meetings.{HasPut, Learns, with_step};
+ghost use Rattle.nr_board.specs.Recalls.{IsWordOf, RecallsAt};
 ghost use Rattle.nr_board.specs.WriterSeats.{GoesOn, IsBetween, IsReading, IsPolling, IsPutting, IsPublishing, IsLeaving, IsWithdrawing, LeadsTo, PutsTo};
 
 use crate::rule::{
     Arrives, Asks, Departs, FindsAgain, Given, Goes, Law, Looks, Nears, Notes, Puts, Reads,
-    Retells, Seats, Sees,
+    Recalls, Retells, Seats, Sees,
 };
 use crate::view::View;
 use atomic_table::Table;
@@ -283,6 +284,20 @@ impl Board {
         let words = &self.table.shared;
         let place = self.layout().departures(slot);
         words.load::<Goes>(seat, place as usize)
+    }
+
+    /// The writer reads a content word of a slot into which its call has put none: a word of the set
+    /// that was put there last.
+    pub fn recall(&self, seat: &mut Seat, slot: u32, index: u64) -> u64
+        requires recalls { RecallsAt self.now slot seat.old }
+        requires index { index < slot_room self.now.shape }
+        ensures word { IsWordOf self.now.shape.rows (set_in seat.old.me.0.marks slot) index result }
+        ensures own { seat.new.table_id ≡ seat.old.table_id }
+        ensures step { seat.new.me.0 ≡ has_noted seat.old.me.0 }
+    {
+        let words = &self.table.shared;
+        let place = self.content(slot) + index;
+        words.load::<Recalls>(seat, place as usize)
     }
 
     /// The writer puts a content word into the slot that it took, whose first one stands at

@@ -4,6 +4,7 @@
 #![tactic(auto)]
 
 mod answers;
+mod begins;
 mod board;
 mod hearing;
 mod held_rows;
@@ -11,10 +12,12 @@ mod named_rows;
 mod only_proved;
 mod publish;
 mod read_through;
+mod recalls;
+mod reclaiming;
 mod rule;
 mod view;
 mod writer_calls;
 
-pub use answers::{Cancel, Evict, FillFault, Found, KeyKind, ReplaceFault, UpdateFault};
+pub use answers::{Cancel, Evict, FillFault, Found, KeyKind, Reclaimed, ReplaceFault, UpdateFault};
 pub use board::{Board, Note, Seat};
 pub use rule::Given;

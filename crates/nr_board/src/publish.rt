@@ -7,11 +7,12 @@ ghost use Rattle.nr_board.specs.Views.{desk_of};
 ghost use Rattle.nr_board.specs.Callers.{Grows, token, IsSound};
 ghost use Rattle.nr_board.specs.WriterSeats.{Settles, WritesAt};
 
+use crate::answers::Reclaimed;
 use crate::board::{Board, Seat};
 use crate::only_proved::only_proved;
 use crate::rule::Given;
 use nr_core::{NoSlot, Spare};
-use nr_model::Row;
+use nr_model::{Row, RowRoom};
 use nr_words::same_count;
 
 /// A slot that a call took, and its departures.
@@ -22,6 +23,7 @@ pub struct Taken {
 }
 
 impl Board {
+    ghost use Rattle.nr_board.specs.Reclaiming.{PublishesReclaiming, TakesReclaiming};
     ghost use Rattle.nr_board.specs.Searches.{PublishesFor, TakesFor};
 
     /// Takes a slot for the set of a call, puts the set there, and names the slot at the call's
@@ -101,6 +103,50 @@ impl Board {
             }
         }
         Err(spare.counts())
+    }
+
+    /// As `publish_set`, and writes the set that the slot had before over the rows of `had`, if the
+    /// slot was retired, by one read of each of its words; else `had` stays as it is.
+    #[inline(always)]
+    pub(crate) fn publish_reclaiming<G: Given, R: RowRoom>(
+        &self,
+        seat: &mut Seat,
+        spare: &mut Spare,
+        key: u32,
+        rows: &[Row],
+        had: &mut R,
+    ) -> Result<Reclaimed, NoSlot>
+        requires settles { Settles self.now G.call rows.now spare.old seat.old }
+        requires call { key ≡ key_of G.call }
+        requires key { key < self.now.shape.keys }
+        ensures { PublishesReclaiming R.shows self.now G.call rows.now spare.old spare.new seat.old seat.new had.old had.new result }
+    {
+        let (taken, given) = self.take_reclaiming::<G, R>(seat, spare, rows, had)?;
+        self.put_rows::<G>(seat, rows, taken);
+        let old_word = self.publish(seat, key, taken.slot, taken.departures);
+        spare.retire(old_word);
+        Ok(given)
+    }
+
+    // As `take_slot`. A slot that was never taken has no set to give.
+    #[inline(always)]
+    fn take_reclaiming<G: Given, R: RowRoom>(
+        &self,
+        seat: &mut Seat,
+        spare: &mut Spare,
+        rows: &[Row],
+        had: &mut R,
+    ) -> Result<(Taken, Reclaimed), NoSlot>
+        requires { Settles self.now G.call rows.now spare.old seat.old }
+        ensures { TakesReclaiming R.shows self.now G.call rows.now spare.old spare.new seat.old seat.new had.old had.new result }
+    {
+        if let Some(slot) = spare.take_fresh() {
+            let departures = self.shape().first_count;
+            return Ok((Taken { slot, departures }, Reclaimed::Nothing));
+        }
+        let taken = self.poll_retired::<G>(seat, spare, rows)?;
+        self.recall_set::<R>(seat, taken.slot, had);
+        Ok((taken, Reclaimed::Set))
     }
 
     fn put_rows<G: Given>(&self, seat: &mut Seat, rows: &[Row], taken: Taken)

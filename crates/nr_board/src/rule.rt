@@ -124,6 +124,15 @@ impl Play<(), View> for Nears {
     ghost then = { has_loaded };
 }
 
+/// A load of a word of the set that was put into a slot last.
+pub struct Recalls;
+
+impl Play<(), View> for Recalls {
+    ghost use Rattle.nr_board.specs.Recalls.{has_recalled};
+
+    ghost then = { has_recalled };
+}
+
 /// A note is made of what a token has seen, and taken in by another.
 pub struct Notes;
 

@@ -11,7 +11,7 @@ use crate::board::{Board, Seat};
 use crate::only_proved::only_proved;
 use crate::rule::Given;
 use nr_core::Spare;
-use nr_model::{ApplyFault, Delta, LAST_NUMBER, Pile, Row, RowRoom};
+use nr_model::{Delta, LAST_NUMBER, Pile, Row, RowRoom};
 use nr_words::parts;
 
 impl Board {
@@ -56,16 +56,7 @@ impl Board {
         ensures rests { RestsAt (token seat.new).table spare.new seat.new }
         ensures fills { FillsKey key number rows.now (token seat.old) (token seat.new) result }
     {
-        let found = parts(self.look::<G>(seat, key));
-        if found.filled {
-            return Err(FillFault::Already);
-        }
-        if !found.ask {
-            return Err(FillFault::NotAsked);
-        }
-        if u64::from(found.slot) != number {
-            return Err(FillFault::Stale);
-        }
+        self.begin_fill::<G>(seat, spare, key, number, rows)?;
         if let Err(counts) = self.publish_set::<G>(seat, spare, key, rows) {
             return Err(FillFault::NoSlot(counts));
         }
@@ -88,16 +79,7 @@ impl Board {
         ensures rests { RestsAt (token seat.new).table spare.new seat.new }
         ensures updates { UpdatesKey self.now.shape.rows key deltas.now (token seat.old) (token seat.new) result }
     {
-        let found = parts(self.look::<G>(seat, key));
-        if !found.filled {
-            return Err(UpdateFault::Dropped);
-        }
-        self.read_set::<G, Pile>(seat, found.slot, pile);
-        match pile.apply_deltas(deltas, self.rows()) {
-            Ok(()) => {}
-            Err(ApplyFault::NoRow) => return Err(UpdateFault::NoRow),
-            Err(ApplyFault::TooMany) => return Err(UpdateFault::TooMany),
-        }
+        self.begin_update::<G>(seat, spare, pile, key, deltas)?;
         if let Err(counts) = self.publish_set::<G>(seat, spare, key, pile.as_slice()) {
             return Err(UpdateFault::NoSlot(counts));
         }
@@ -119,10 +101,7 @@ impl Board {
         ensures rests { RestsAt (token seat.new).table spare.new seat.new }
         ensures replaces { ReplacesKey key rows.now (token seat.old) (token seat.new) result }
     {
-        let found = parts(self.look::<G>(seat, key));
-        if !found.filled {
-            return Err(ReplaceFault::Dropped);
-        }
+        self.begin_replace::<G>(seat, spare, key, rows)?;
         if let Err(counts) = self.publish_set::<G>(seat, spare, key, rows) {
             return Err(ReplaceFault::NoSlot(counts));
         }

@@ -15,7 +15,7 @@ use Rattle.nr_core.specs.Core.{AreNumbers, Core, Knows, ShowsState}
 use Rattle.nr_core.specs.Roles.{held, holds, is_reader, is_writer, keeps, readers_from}
 use Rattle.nr_machine.specs.Sizes.{IsShape}
 use Rattle.nr_words.specs.Opening.{repeated}
-use Rattle.nr_machine.specs.Slots.{departures, layout, name_number, words_at_opening, slot_room}
+use Rattle.nr_machine.specs.Slots.{departures, layout, name_number, words_at_opening, slot_room, bound_of, content}
 use Rattle.nr_machine.specs.States.{opening_state, opening_desk}
 use Rattle.nr_machine.specs.Story.{map_after, opening_map}
 use Rattle.nr_machine.specs.Sums.{below, only, total}
@@ -59,6 +59,26 @@ each_slot room zero s x b i size low e = absurd (omega arith)
 each_slot room (suc n) zero x b zero size low e = refl
 each_slot room (suc n) zero x b (suc i) size low e = absurd (omega arith)
 each_slot room (suc n) (suc s) x b i size low e = past (x ∷ b) (repeated n (x ∷ b)) i (suc room * s) (omega arith) ∙ each_slot room n s x b (suc room * s) size (omega arith) refl
+
+-- and its second word
+each_second : (room n s x y : ℕ) (b : List ℕ) (i : ℕ) → suc (length b) ≡ room → s < n → i ≡ suc room * s + 1 → get_or (repeated n (x ∷ y ∷ b)) i 0 ≡ y
+each_second room zero s x y b i size low e = absurd (omega arith)
+each_second room (suc n) zero x y b zero size low e = absurd (omega arith)
+each_second room (suc n) zero x y b (suc zero) size low e = refl
+each_second room (suc n) zero x y b (suc (suc i)) size low e = absurd (omega arith)
+each_second room (suc n) (suc s) x y b i size low e = past (x ∷ y ∷ b) (repeated n (x ∷ y ∷ b)) i (suc room * s + 1) (omega arith) ∙ each_second room n s x y b (suc room * s + 1) size (omega arith) refl
+
+-- at the opening the first content word of each slot is 0
+pub blank_at_opening : (shape : Shape) (slot : ℕ) → slot < shape.slots → get_or (words_at_opening shape) (content shape slot 0) 0 ≡ 0
+blank_at_opening shape slot near =
+    let hole : ℕ = hole_word shape.first_number false in let room : ℕ = slot_room shape in let rest : List ℕ = replicate (2 * bound_of shape) 0 in
+    let block : shape.first_count ∷ replicate room 0 ≡ shape.first_count ∷ 0 ∷ rest = ap (λ (n : ℕ). shape.first_count ∷ replicate n 0) (plus_one (2 * bound_of shape)) in
+    past (replicate shape.keys hole) (repeated shape.slots (shape.first_count ∷ replicate room 0)) (content shape slot 0) (suc room * slot + 1) (omega (arith, length-replicate {A = ℕ} shape.keys hole))
+    ∙ ap (λ (b : List ℕ). get_or (repeated shape.slots b) (suc room * slot + 1) 0) block
+    ∙ each_second room shape.slots slot shape.first_count 0 rest (suc room * slot + 1) (ap suc (length-replicate (2 * bound_of shape) 0) ∙ sym (plus_one (2 * bound_of shape))) near refl
+  where
+    plus_one : (n : ℕ) → n + 1 ≡ suc n
+    plus_one n = omega arith
 
 length-repeated : (room n : ℕ) (b : List ℕ) → length b ≡ suc room → length (repeated n b) ≡ suc room * n
 length-repeated room zero b size = omega arith

@@ -1,5 +1,5 @@
 -- What a writer's step leaves of its lists: where they go along with its step, all marks do.
-use Rattle.std.proofs.Common.{List, [], ap, arith, get_or, length, map, set, subst, suc, sym, ℕ, ◌++◌, ◌<◌, ◌∙◌, ◌≡◌, ◌≤◌}
+use Rattle.std.proofs.Common.{List, [], ap, arith, get_or, length, map, set, subst, suc, sym, ℕ, ◌++◌, ◌<◌, ◌∙◌, ◌≡◌, ◌≤◌, ◌*◌}
 use lib.ListN.{get_elem?}
 use mathlib.Core.Logic.{dite}
 use mathlib.Core.Option.{some}
@@ -14,7 +14,8 @@ use Rattle.nr_core.specs.Core.{Core}
 use Rattle.nr_core.specs.Roles.{held, retirements, taken}
 use Rattle.nr_machine.specs.Operations.{becomes, target_of}
 use Rattle.nr_machine.specs.declared.operation.Operation.{Operation}
-use Rattle.nr_machine.specs.Slots.{name_number, bound_of}
+use Rattle.nr_core.proofs.Frames.{spells_more}
+use Rattle.nr_machine.specs.Slots.{bound_of, content, name_number}
 use Rattle.nr_machine.specs.States.{key_of}
 use Rattle.nr_core.specs.Steps.{Telling}
 use Rattle.nr_machine.specs.Story.{call_of, ending_at, map_after}
@@ -29,11 +30,15 @@ use Rattle.nr_machine.specs.declared.roles.Role.TheVariants.{Writer}
 use Rattle.nr_machine.specs.declared.shape.Shape.{Shape}
 use Rattle.nr_model.specs.declared.calls.Reply.TheVariants as reply
 use Rattle.nr_marks.specs.Puts.{put_count, put_number}
-use Rattle.nr_marks.specs.Marks.{Marks, Past, with_polls}
+use Rattle.nr_marks.specs.Marks.{Marks, Past, set_in, with_polls}
 use Rattle.nr_marks.specs.PollNotes.{AllHeld, NoRoom}
-use Rattle.nr_marks.specs.Marked.{AllSince, Desked, KnowsMarks, MarkTelling, Marked, NotesPresent, Remarked, Sweeping, lives}
+use Rattle.nr_marks.specs.Marked.{AllSince, Desked, KnowsMarks, MarkTelling, Marked, NotesPresent, Remarked, Sweeping, Untouched, lives}
 use Rattle.nr_marks.proofs.MarksSince.{evolves_writer, marked_writer}
 use Rattle.nr_marks.proofs.PutNumbers.{nil_count, nil_number}
+
+-- a slot that is untouched after a step was so before it, and its content words stay
+abbrev pub Leaves : Shape → List ℕ → List ℕ → Place → Place → Type 0
+Leaves shape words words' place place' = (slot : ℕ) → slot < shape.slots → Untouched slot place' → Untouched slot place × ((index : ℕ) → index ≤ 2 * bound_of shape → get_or words' (content shape slot index) 0 ≡ get_or words (content shape slot index) 0)
 
 -- what the core tells of the writer's step from a place
 abbrev pub Went : Shape → Desk → Place → Telling
@@ -84,15 +89,17 @@ module _ {A : Type 0} (role : A → Role) (marks : A → Marks) where
   pub desk_keep : (shape : Shape) (words words' : List ℕ) (callers : List A) (log log' : List Entry) (desk desk' : Desk) (mine : Marks) (names : List ℕ) (polls : List Past) → Desked role marks shape words callers log desk mine
       → length names ≡ shape.keys → ((i : ℕ) → i < shape.keys → get_or names i 0 ≡ name_number (get_or words' i 0)) → ((i s : ℕ) → i < shape.keys → name_number (get_or words' i 0) ≡ suc s → name_number (get_or words i 0) ≡ suc s)
       → ((i : ℕ) → put_number log' i ≡ put_number log i) → put_count log' ≡ put_count log → ((s : ℕ) → s < shape.slots → 0 < lives shape words' desk' s → 0 < lives shape words desk s)
-      → AllSince role marks callers polls → Sweeping role marks callers desk' polls desk'.place
-      → Desked role marks shape words' callers log' desk' (record { acts = mine.acts; put = mine.put; names = names; puts = mine.puts; polls = polls })
-  desk_keep shape words words' callers log log' desk desk' mine names polls t long named_so older numbers many live noted sweep = record {
+      → AllSince role marks callers polls → Sweeping role marks callers desk' polls desk'.place → Leaves shape words words' desk.place desk'.place
+      → Desked role marks shape words' callers log' desk' (record { acts = mine.acts; put = mine.put; names = names; puts = mine.puts; sets = mine.sets; polls = polls })
+  desk_keep shape words words' callers log log' desk desk' mine names polls t long named_so older numbers many live noted sweep leaves = record {
     wide = (long, t.wide.1);
     names = named_so;
     puts = λ i s l e. t.puts i s l (older i s l e) ∙ sym (numbers i);
     held = t.held;
     fresh = λ s l on. let f = t.fresh s l (live s l on) in omega arith;
     apart = λ s a l b on one e. t.apart s a l b (live s l on) (live a b one) e;
+    sets = λ s l untouched. let left = leaves s l untouched in spells_more shape words words' s (set_in mine s) left.1 (t.sets s l left.0);
+    many = t.many;
     noted = noted;
     sweep = sweep;
   }
@@ -100,9 +107,9 @@ module _ {A : Type 0} (role : A → Role) (marks : A → Marks) where
   -- the words of the keys stay, and the retired slots are fewer or the same
   pub desk_stay : (shape : Shape) (words words' : List ℕ) (callers : List A) (log entries : List Entry) (desk desk' : Desk) (mine : Marks) (polls : List Past) → Desked role marks shape words callers log desk mine → ((i : ℕ) → i < shape.keys → get_or words' i 0 ≡ get_or words i 0)
       → QuietEnd log entries → ((s : ℕ) → retirements s desk'.retired ≤ retirements s desk.retired)
-      → AllSince role marks callers polls → Sweeping role marks callers desk' polls desk'.place
+      → AllSince role marks callers polls → Sweeping role marks callers desk' polls desk'.place → Leaves shape words words' desk.place desk'.place
       → Desked role marks shape words' callers (log ++ entries) desk' (with_polls mine polls)
-  desk_stay shape words words' callers log entries desk desk' mine polls t same quiet fewer noted sweep =
+  desk_stay shape words words' callers log entries desk desk' mine polls t same quiet fewer noted sweep leaves =
       desk_keep shape words words' callers log (log ++ entries) desk desk' mine mine.names polls t t.wide.0 (λ i l. t.names i l ∙ sym (ap name_number (same i l))) (λ i s l e. ap name_number (sym (same i l)) ∙ e) quiet.0 quiet.1
       (λ s l on. let b = below-same (λ j. only (suc s) (name_number (get_or words' j 0))) (λ j. only (suc s) (name_number (get_or words j 0))) shape.keys (λ j near. ap (λ (y : ℕ). only (suc s) (name_number y)) (same j near)) in let f = fewer s in omega arith)
-      noted sweep
+      noted sweep leaves

@@ -33,7 +33,7 @@ use Rattle.nr_marks.proofs.DeskMarks.{desk_of}
 use Rattle.nr_marks.proofs.LearnMarks.{grip_near, not_taken}
 use Rattle.nr_marks.proofs.ListPlaces.{at_maps}
 use Rattle.nr_marks.proofs.PutNumbers.{nil_count, nil_number, quiet_count, quiet_number}
-use Rattle.nr_marks.proofs.ReaderMarks.{reader_step}
+use Rattle.nr_marks.proofs.ReaderMarks.{reader_step, contents_loaded}
 
 module _ {A : Type 0} (role : A → Role) (marks : A → Marks) where
   -- a slot that a reader holds is named or retired
@@ -61,7 +61,7 @@ module _ {A : Type 0} (role : A → Role) (marks : A → Marks) where
         = λ b told b_is is_entries numbers many moves same_put same_polls compares. let now = found_again b (marks me) in let kept : (k : ℕ) → put_number (log ++ entries) k ≡ put_number log k = λ k. ap (λ l. put_number (log ++ l) k) is_entries ∙ numbers k in
         reader_step role marks shape id me known (Load key) (FindsAgain shape reader slot rows sized key) tells words callers log m at reader grip grip was after entries ans.0 (λ k _. names k) kept (ap (λ l. put_count (log ++ l)) is_entries ∙ many) now same_polls
         (⊎_elim (λ (t : ((marks me).acts < now.acts) × (b ≡ true)). inr t.0) (λ (t : (now ≡ marks me) × (b ≡ false)). inl (refl, ap (λ (k : Marks). k.acts) t.0, ap (λ (k : Marks). k.put) t.0)) moves)
-        (λ j held u desk there writes t on. (t.held id reader held me grip at was on ∙ sym same_put, λ _. on))
+        (λ j held u desk there writes t on. (t.held id reader held me grip at was on ∙ sym same_put, λ _. on)) (contents_loaded shape words key)
         (ap (λ (c : Bool). found_again c (marks me)) (sym b_is), refl, subst (λ (p : Bool × ℕ). ComparesPuts p.0 word (marks me).put p.1) (λ i. (sym b_is i, sym (kept key) i)) compares) in
         by_cases (λ _. Remarked role marks shape words callers log id me (Load key) after entries tells) (names_slot slot word)
         (λ yes. let same : name_number word ≡ suc slot = eqb-true (name_number word) (suc slot) yes in

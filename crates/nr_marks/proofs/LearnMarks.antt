@@ -36,7 +36,7 @@ use Rattle.nr_marks.specs.MarkSteps.{ReaderLearns, WriterLearns}
 use Rattle.nr_marks.proofs.ListPlaces.{at_maps, no_places, some_is}
 use Rattle.nr_marks.proofs.PollMarks.{grip_in, same_caller}
 use Rattle.nr_marks.proofs.PutNumbers.{nil_count, nil_number}
-use Rattle.nr_marks.proofs.ReaderMarks.{reader_step}
+use Rattle.nr_marks.proofs.ReaderMarks.{reader_step, contents_loaded}
 use Rattle.nr_marks.proofs.SwapMarks.{grips_it}
 use Rattle.nr_marks.proofs.Tidy.{listed}
 use Rattle.nr_marks.proofs.DeskMarks.{QuietEnd, desk_of, desk_stay, nothing_ends, writer_step}
@@ -104,7 +104,7 @@ module _ {A : Type 0} (role : A → Role) (marks : A → Marks) where
         let own = desk_of role marks shape words callers log id me desk m at was in let words' = set words place (get_or words place 0) in
         let t = refreshed shape words callers log core once id me desk at was own told since in
         writer_step role marks shape id me (Load place) (WriterLearns shape (marks me) desk told) words callers log core m at desk desk was after entries (ans.0 ∙ was) (marks me) t.0 t.1 (λ place note here. inl here)
-        (desk_stay role marks shape words words' callers log entries desk desk (marks me) (marks me).polls own (λ j _. ap (λ l. get_or l j 0) (set-get_or words place 0)) (subst (QuietEnd log) (sym ans.1) (nothing_ends log)) (λ s. omega arith) own.noted own.sweep)
+        (desk_stay role marks shape words words' callers log entries desk desk (marks me) (marks me).polls own (λ j _. ap (λ l. get_or l j 0) (set-get_or words place 0)) (subst (QuietEnd log) (sym ans.1) (nothing_ends log)) (λ s. omega arith) own.noted own.sweep (λ s _ untouched. (untouched, contents_loaded shape words place s)))
         (refl, t.2, subst (λ (l : List Entry). Lists desk (marks me) shape (log ++ l)) (sym ans.1) (subst (Lists desk (marks me) shape) (sym (append-nil log)) (listed role marks shape words callers log id me desk core at was own)))
 
     -- a reader compares itself with what it was told of itself
@@ -112,7 +112,7 @@ module _ {A : Type 0} (role : A → Role) (marks : A → Marks) where
     learns_reader reader grip was words callers log core m once at since after entries ans =
         reader_step role marks shape id me told (Load place) (LoadsWord (role me)) (ReaderLearns reader grip (marks me) told) words callers log m at reader grip grip was after entries (ans.0 ∙ was)
         (λ j _. ap (λ l. name_number (get_or l j 0)) (set-get_or words place 0)) (λ k. ap (λ l. put_number (log ++ l) k) ans.1 ∙ nil_number log k) (ap (λ l. put_count (log ++ l)) ans.1 ∙ nil_count log) (marks me) refl (inl (refl, refl, refl))
-        (λ j slot u desk there writes t e. (t.held id reader slot me grip at was e, λ _. e)) (
+        (λ j slot u desk there writes t e. (t.held id reader slot me grip at was e, λ _. e)) (contents_loaded shape words place) (
           refl,
           refl,
           λ n o e same. let w = since n o e in let z = same_caller role marks callers once w.place id reader w.who me w.grip grip w.there at (w.is ∙ ap (λ (b : ℕ). Reader b w.grip) same) was in

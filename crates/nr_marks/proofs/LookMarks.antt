@@ -41,11 +41,12 @@ use Rattle.nr_model.specs.declared.calls.Reply.TheVariants as reply
 use Rattle.nr_model.specs.declared.states.KeyState.TheVariants as key
 use Rattle.nr_marks.specs.Marks.{Marks, Past, with_polls}
 use Rattle.nr_marks.specs.PollNotes.{AllHeld, NoRoom}
-use Rattle.nr_marks.specs.Marked.{CanMark, Since, Sweeping, Sweeps}
+use Rattle.nr_marks.specs.Marked.{CanMark, Since, Sweeping, Sweeps, Untouched}
 use Rattle.nr_marks.specs.MarkSteps.{LooksMarks, ReadsOnMarks}
 use Rattle.nr_marks.proofs.ListPlaces.{at_maps, inside, no_places}
 use Rattle.nr_marks.proofs.PutNumbers.{quiet_count, quiet_number}
 use Rattle.nr_marks.proofs.DeskMarks.{QuietEnd, Went, desk_of, desk_stay, no_room_left, nothing_ends, writer_step}
+use Rattle.nr_marks.proofs.ReaderMarks.{contents_loaded}
 
 -- whether a step puts a set
 abbrev step_puts : Step → Bool
@@ -133,7 +134,7 @@ module _ {A : Type 0} (role : A → Role) (marks : A → Marks) (shape : Shape) 
       let there : get_elem? (map role callers) id ≡ some (Writer desk) = at_maps role callers id me at ∙ ap some was in
       let quiet : QuietEnd log entries = subst (QuietEnd log) (sym ans.1) (quiet_end log (call_of call) o.1 calm.2) in
       writer_step role marks shape id me (Load k) (LooksMarks shape (marks me) desk call) words callers log core m at desk o.0 was after entries ans.0 (with_polls (marks me) []) [] (no_places (Since role marks callers)) (λ place note here. absurd (some-ne-none note (sym here)))
-      (desk_stay role marks shape words (set words k word) callers log entries desk o.0 (marks me) [] own (λ i _. ap (λ l. get_or l i 0) (set-get_or words k 0)) quiet (λ s. let e = ap (retirements s) calm.0 in omega arith) (no_places (Since role marks callers)) calm.1) (
+      (desk_stay role marks shape words (set words k word) callers log entries desk o.0 (marks me) [] own (λ i _. ap (λ l. get_or l i 0) (set-get_or words k 0)) quiet (λ s. let e = ap (retirements s) calm.0 in omega arith) (no_places (Since role marks callers)) calm.1 (λ s _ _. (subst (Untouched s) (sym idle) tt, contents_loaded shape words k s))) (
         refl,
         refl,
         λ t. let n = look_none shape desk t.0 call word t.1 in
@@ -157,7 +158,7 @@ module _ {A : Type 0} (role : A → Role) (marks : A → Marks) (shape : Shape) 
       (λ _ e. absurd (let z : 0 ≡ 1 = ap without e in omega arith)) in
       writer_step role marks shape id me (Load i) (ReadsOnMarks shape (marks me) desk call slot got) words callers log core m at desk o.0 was after entries ans.0 (marks me) [] (no_places (Since role marks callers)) (λ place note here. inl here)
       (desk_stay role marks shape words (set words i word) callers log entries desk o.0 (marks me) (marks me).polls own (λ j _. ap (λ l. get_or l j 0) (set-get_or words i 0)) quiet (λ s. let e = ap (retirements s) calm.0 in omega arith) own.noted
-      (subst (λ l. Sweeping role marks callers o.0 l o.0.place) (sym none) calm.1)) (
+      (subst (λ l. Sweeping role marks callers o.0 l o.0.place) (sym none) calm.1) (λ s _ _. (subst (Untouched s) (sym is_at) tt, contents_loaded shape words i s))) (
         refl,
         refl,
         λ t. let n = left t.0 t.1 in

@@ -1,5 +1,5 @@
 -- What a step leaves of the notes of readers and of the writer's lists: of what was known since then (since), of a desk whose callers change (desk_frame), and of all marks after a writer's or a reader's step.
-use Rattle.std.proofs.Common.{List, [], ap, arith, get_or, map, refl, set, subst, suc, sym, ℕ, ⊎_elim, ◌++◌, ◌<◌, ◌∙◌, ◌∷◌, ◌≡◌, ◌≢◌}
+use Rattle.std.proofs.Common.{List, [], ap, arith, get_or, map, refl, set, subst, suc, sym, ℕ, ⊎_elim, ◌++◌, ◌<◌, ◌∙◌, ◌∷◌, ◌≡◌, ◌≢◌, ◌≤◌, ◌*◌}
 use Rattle.std.specs.Prelude.{Some}
 use lib.ListN.{get_elem?}
 use mathlib.Core.Logic.{dite}
@@ -9,7 +9,8 @@ use Rattle.nr_model.specs.Histories.{Entry}
 use Rattle.nr_core.proofs.Sums.{at_set, below-same, here_after, only-is, some_term, term_le, terms_le}
 use Rattle.nr_core.specs.Core.{Core}
 use Rattle.nr_core.specs.Roles.{is_reader, is_writer, keeps, retirements}
-use Rattle.nr_machine.specs.Slots.{name_number, named}
+use Rattle.nr_core.proofs.Frames.{spells_more}
+use Rattle.nr_machine.specs.Slots.{bound_of, content, name_number, named}
 use Rattle.nr_machine.specs.Sums.{only}
 use Rattle.nr_machine.specs.declared.places.Place.{Place}
 use Rattle.nr_machine.specs.declared.places.Place.TheVariants.{Idle, Leaving, Putting, Reading, Searching, Withdrawing}
@@ -20,9 +21,13 @@ use Rattle.nr_machine.specs.declared.roles.Role.{Role}
 use Rattle.nr_machine.specs.declared.roles.Role.TheVariants.{Note, Reader, Writer}
 use Rattle.nr_machine.specs.declared.shape.Shape.{Shape}
 use Rattle.nr_marks.specs.Puts.{put_count, put_number}
-use Rattle.nr_marks.specs.Marks.{Marks, Past, gripped}
+use Rattle.nr_marks.specs.Marks.{Marks, Past, gripped, set_in}
 use Rattle.nr_marks.specs.Marked.{Desked, Evolves, HasWriter, KnowsMarks, Marked, Since, Sweeping, lives}
 use Rattle.nr_marks.proofs.ListPlaces.{at_left, at_maps, set_other}
+
+-- the content words of the slots stay
+abbrev pub SameContents : Shape → List ℕ → List ℕ → Type 0
+SameContents shape words words' = (slot index : ℕ) → index ≤ 2 * bound_of shape → get_or words' (content shape slot index) 0 ≡ get_or words (content shape slot index) 0
 
 module _ {A : Type 0} (role : A → Role) (marks : A → Marks) where
   pub since_set : (callers : List A) (id : ℕ) (before after : A) (old : Past) → get_elem? callers id ≡ some before → Evolves role marks before after → Since role marks callers old → Since role marks (set callers id after) old
@@ -78,15 +83,17 @@ module _ {A : Type 0} (role : A → Role) (marks : A → Marks) where
 
   pub desk_frame : (shape : Shape) (words words' : List ℕ) (callers callers' : List A) (log log' : List Entry) (desk : Desk) (mine : Marks)
       → ((key : ℕ) → key < shape.keys → name_number (get_or words' key 0) ≡ name_number (get_or words key 0)) → ((key : ℕ) → put_number log' key ≡ put_number log key) → put_count log' ≡ put_count log
-      → ((old : Past) → Since role marks callers old → Since role marks callers' old) → HoldersStay callers callers' desk mine
+      → ((old : Past) → Since role marks callers old → Since role marks callers' old) → HoldersStay callers callers' desk mine → SameContents shape words words'
       → Desked role marks shape words callers log desk mine → Desked role marks shape words' callers' log' desk mine
-  desk_frame shape words words' callers callers' log log' desk mine names puts many since stay t = record {
+  desk_frame shape words words' callers callers' log log' desk mine names puts many since stay contents t = record {
     wide = t.wide;
     names = λ key l. t.names key l ∙ sym (names key l);
     puts = λ key slot l e. t.puts key slot l (sym (names key l) ∙ e) ∙ sym (puts key);
     held = λ place reader slot who grip there is holds. (stay place reader slot who grip there is holds).0;
     fresh = λ slot l on. let f = t.fresh slot l (let e = lives_same slot in omega arith) in omega arith;
     apart = λ slot other l b on one e. t.apart slot other l b (let g = lives_same slot in omega arith) (let g = lives_same other in omega arith) e;
+    sets = λ slot l untouched. spells_more shape words words' slot (set_in mine slot) (contents slot) (t.sets slot l untouched);
+    many = t.many;
     noted = λ at old e. since old (t.noted at old e);
     sweep = sweeping_frame callers callers' desk mine stay mine.polls desk.place t.sweep;
   }
@@ -129,7 +136,7 @@ module _ {A : Type 0} (role : A → Role) (marks : A → Marks) where
       (desk_frame shape words' words' callers (set callers id next) log' log' desk' (marks next) (λ _ _. refl) (λ _. refl) refl (λ old. since_set callers id me next old at (evolves_writer me next desk was))
       (λ place reader slot who grip there reads holds. ⊎_elim (λ (z : (place ≡ id) × (next ≡ who)). absurd (not_both (role next) desk' reader grip is (ap role z.1 ∙ reads)))
       (λ (z : (place ≢ id) × (get_elem? callers place ≡ some who)). (own.held place reader slot who grip z.1 reads holds, λ _. (place, who, grip, z.1, reads, holds))) (at_set callers id place next who there))
-      own))
+      (λ _ _ _. refl) own))
       (λ j u desk'' ne there writes _. absurd (omega (arith, terms_le is_writer (map role callers) id j (Writer desk) (Writer desk'') ne (at_maps role callers id me at ∙ ap some was) (at_maps role callers j u there ∙ ap some writes), core.one)))
 
   -- a reader's step
@@ -137,8 +144,8 @@ module _ {A : Type 0} (role : A → Role) (marks : A → Marks) where
       → ((key : ℕ) → key < shape.keys → name_number (get_or words' key 0) ≡ name_number (get_or words key 0)) → ((key : ℕ) → put_number log' key ≡ put_number log key) → put_count log' ≡ put_count log
       → ((j slot : ℕ) (u : A) (desk : Desk) → get_elem? callers j ≡ some u → role u ≡ Writer desk → Desked role marks shape words callers log desk (marks u) → gripped y ≡ Some slot
       → (get_or (marks u).puts slot 0 ≡ (marks next).put) × (0 < retirements slot desk.retired → gripped x ≡ Some slot))
-      → Marked role marks shape words callers log → Marked role marks shape words' (set callers id next) log'
-  marked_reader shape words words' callers log log' id me next c x y at was is step names puts many holds m = set_marked shape words words' callers log log' id next m
+      → SameContents shape words words' → Marked role marks shape words callers log → Marked role marks shape words' (set callers id next) log'
+  marked_reader shape words words' callers log log' id me next c x y at was is step names puts many holds contents m = set_marked shape words words' callers log log' id next m
       (let w = m.writer in let apart : w.place ≢ id = λ e. not_both (role me) w.desk c x (ap role (some-injective me w.who (sym at ∙ ap (get_elem? callers) (sym e) ∙ w.there)) ∙ w.is) was in
       record { place = w.place; who = w.who; desk = w.desk; there = set_other callers id w.place next w.who apart w.there; is = w.is })
       (subst (λ r. KnowsMarks role marks shape words' (set callers id next) log' r (marks next)) (sym is) (subst (λ r. KnowsMarks role marks shape words callers log r (marks me)) was (m.each id me at)))
@@ -147,7 +154,7 @@ module _ {A : Type 0} (role : A → Role) (marks : A → Marks) where
       (λ (z : (place ≡ id) × (next ≡ who)). let both : Reader c y ≡ Reader reader grip = sym is ∙ ap role z.1 ∙ reads in let h = holds j slot u desk there writes t (ap (λ r. gripped (grip_of r)) both ∙ on) in
       (h.0 ∙ ap (λ (b : A). (marks b).put) z.1, λ l. (id, me, x, at, was ∙ ap (λ (b : ℕ). Reader b x) (ap number_of both), h.1 l)))
       (λ (z : (place ≢ id) × (get_elem? callers place ≡ some who)). (t.held place reader slot who grip z.1 reads on, λ _. (place, who, grip, z.1, reads, on)))
-      (at_set callers id place next who here)) t)
+      (at_set callers id place next who here)) contents t)
     where
       grip_of : Role → Grip
       grip_of (Writer e) = x

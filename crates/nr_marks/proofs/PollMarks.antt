@@ -33,12 +33,13 @@ use Rattle.nr_machine.specs.declared.roles.Role.TheVariants.{Note, Reader, Write
 use Rattle.nr_machine.specs.declared.shape.Shape.{Shape}
 use Rattle.nr_marks.specs.Marks.{Marks, Past, gripped, past, with_polls}
 use Rattle.nr_marks.specs.PollNotes.{Missed, NoRoom}
-use Rattle.nr_marks.specs.Marked.{AllSince, CanMark, IsPresent, KnowsMarks, NotesPresent, Once, Remarked, Since, Sweeping, Sweeps, is_caller}
+use Rattle.nr_marks.specs.Marked.{AllSince, CanMark, IsPresent, KnowsMarks, NotesPresent, Once, Remarked, Since, Sweeping, Sweeps, is_caller, Untouched}
 use Rattle.nr_marks.specs.MarkSteps.{PollTells, PollsMarks}
 use Rattle.nr_marks.proofs.Different.{few_of}
 use Rattle.nr_marks.proofs.ListPlaces.{at_last, at_maps, at_unmap, before, inside, no_places, some_is}
 use Rattle.nr_marks.proofs.MarksSince.{rests}
 use Rattle.nr_marks.proofs.DeskMarks.{QuietEnd, Went, desk_of, desk_stay, no_room_left, nothing_ends, writer_step}
+use Rattle.nr_marks.proofs.ReaderMarks.{contents_loaded}
 
 reader_of : (s : ℕ) (r : Role) → 0 < holds s r → (c : ℕ) × (x : Grip) × (r ≡ Reader c x) × (gripped x ≡ Some s)
 reader_of s (Writer desk) l = absurd (omega arith)
@@ -103,7 +104,7 @@ module _ {A : Type 0} (role : A → Role) (marks : A → Marks) where
         let finish : (desk' : Desk) (polls : List Past) → after ≡ Writer desk' → entries ≡ [] → ((s : ℕ) → retirements s desk'.retired ≤ retirements s desk.retired) → AllSince role marks callers polls → NotesPresent role marks callers (marks me).polls polls → Sweeping role marks callers desk' polls desk'.place
         → tells word after (log ++ entries) (with_polls (marks me) polls) [] → Goal
         = λ desk' polls is none fewer since noted sweep told. writer_step role marks shape id me (Load i) tells words callers log core m at desk desk' was after entries is (with_polls (marks me) polls) [] (no_places (Since role marks callers)) noted
-        (desk_stay role marks shape words words' callers log entries desk desk' (marks me) polls own stays (subst (QuietEnd log) (sym none) (nothing_ends log)) fewer since sweep) told in
+        (desk_stay role marks shape words words' callers log entries desk desk' (marks me) polls own stays (subst (QuietEnd log) (sym none) (nothing_ends log)) fewer since sweep (λ s _ _. (subst (Untouched s) (sym is_at) tt, contents_loaded shape words i s))) told in
         let misses : same_count word entry.arrivals ≡ false → (desk' : Desk) → desk'.retired ≡ desk.retired → ((polls : List Past) → Sweeps role marks callers desk' polls (poll + 1) → Sweeping role marks callers desk' polls desk'.place) → after ≡ Writer desk' → entries ≡ [] → Goal
         = λ miss desk' same sweeping is none.
         let differs : word % 2 ^ 40 ≢ entry.arrivals % 2 ^ 40 = eqb-false (word % 2 ^ 40) (entry.arrivals % 2 ^ 40) miss in

@@ -1,7 +1,7 @@
 -- The marks of the first caller, of one more caller, and of one whose view changes beside its role.
 use Rattle.std.proofs.Common.{List, [], ap, arith, get_or, inl, refl, set, subst, suc, sym, zero, ℕ, ⊎_elim, ◌++◌, ◌<◌, ◌∙◌, ◌∷◌, ◌≡◌, ◌≢◌, ◌⊎◌}
 use Rattle.std.proofs.lemmas.List.{length-replicate}
-use Rattle.std.specs.Prelude.{None, Some, replicate}
+use Rattle.std.specs.Prelude.{None, Some, replicate, length}
 use lib.ListN.{get_elem?}
 use mathlib.Core.Logic.{dite}
 use native.Mathlib.Decide.{ℕ_discrete}
@@ -9,7 +9,7 @@ use mathlib.Core.Option.{some, some-injective, some-ne-none}
 use Rattle.nr_model.specs.Histories.{Entry}
 use Rattle.nr_core.proofs.Sums.{at_set, at_snoc, here_after, below-same, below-zero, only-zero}
 use Rattle.nr_core.specs.Roles.{is_reader}
-use Rattle.nr_machine.specs.Slots.{name_number, named}
+use Rattle.nr_machine.specs.Slots.{name_number, named, content, SlotSpells}
 use Rattle.nr_machine.specs.States.{opening_desk}
 use Rattle.nr_machine.specs.Sums.{only}
 use Rattle.nr_machine.specs.declared.roles.Desk.{Desk}
@@ -21,11 +21,25 @@ use Rattle.nr_marks.specs.Marks.{Marks, gripped, opening_marks}
 use Rattle.nr_marks.specs.Marked.{Desked, Evolves, KnowsMarks, Marked, Since}
 use Rattle.nr_marks.proofs.ListPlaces.{at_left, no_places, set_other}
 use Rattle.nr_marks.proofs.MarksSince.{desk_frame, knows_frame, since_set, since_snoc}
+use Rattle.nr_model.specs.declared.rows.Row.{Row}
 
 zeros : (n i : ℕ) → let none : ℕ = 0 in get_or (replicate n none) i 0 ≡ none
 zeros zero i = refl
 zeros (suc n) zero = refl
 zeros (suc n) (suc i) = zeros n i
+
+empties : (n i : ℕ) → let none : List Row = [] in get_or (replicate n none) i none ≡ none
+empties zero i = refl
+empties (suc n) zero = refl
+empties (suc n) (suc i) = empties n i
+
+-- a slot whose first word is 0 spells the empty set
+blank_spells : (shape : Shape) (words : List ℕ) (slot : ℕ) → get_or words (content shape slot 0) 0 ≡ 0 → SlotSpells shape words slot []
+blank_spells shape words slot blank = ((refl, omega arith), λ index low. by_index index low)
+  where
+    by_index : (index : ℕ) → index < 1 → get_or words (content shape slot index) 0 ≡ get_or (0 ∷ []) index 0
+    by_index zero low = blank
+    by_index (suc index) low = absurd (omega arith)
 
 none_named : (shape : Shape) (words : List ℕ) (slot : ℕ) → ((key : ℕ) → key < shape.keys → name_number (get_or words key 0) ≡ 0) → named shape words slot ≡ 0
 none_named shape words slot none = below-same (λ key. only (suc slot) (name_number (get_or words key 0))) (λ _. 0) shape.keys (λ key l. ap (only (suc slot)) (none key l) ∙ only-zero slot) ∙ below-zero shape.keys
@@ -35,8 +49,9 @@ module _ {A : Type 0} (role : A → Role) (marks : A → Marks) where
   not_reader me r reader grip none is reads = absurd (let z : is_reader r ≡ 1 = ap is_reader (sym is) ∙ ap is_reader reads in omega arith)
 
   -- the writer is alone, and no key names a slot
-  pub opens_marked : (shape : Shape) (words : List ℕ) (me : A) → role me ≡ Writer (opening_desk shape) → marks me ≡ opening_marks shape → ((key : ℕ) → key < shape.keys → name_number (get_or words key 0) ≡ 0) → Marked role marks shape words (me ∷ []) []
-  opens_marked shape words me is are none = record { each = each; writer = record { place = 0; who = me; desk = opening_desk shape; there = refl; is = is } }
+  pub opens_marked : (shape : Shape) (words : List ℕ) (me : A) → role me ≡ Writer (opening_desk shape) → marks me ≡ opening_marks shape → ((key : ℕ) → key < shape.keys → name_number (get_or words key 0) ≡ 0)
+      → ((slot : ℕ) → slot < shape.slots → get_or words (content shape slot 0) 0 ≡ 0) → Marked role marks shape words (me ∷ []) []
+  opens_marked shape words me is are none blank = record { each = each; writer = record { place = 0; who = me; desk = opening_desk shape; there = refl; is = is } }
     where
       alone : (place : ℕ) (who : A) → get_elem? (me ∷ []) place ≡ some who → me ≡ who
       alone zero who e = some-injective me who e
@@ -50,6 +65,8 @@ module _ {A : Type 0} (role : A → Role) (marks : A → Marks) where
         held = λ place reader slot who grip there reads _. absurd (not_reader who (Writer (opening_desk shape)) reader grip refl (ap role (sym (alone place who there)) ∙ is) reads);
         fresh = λ slot l on. absurd (let z = none_named shape words slot none in omega arith);
         apart = λ slot other l m on _ _. absurd (let z = none_named shape words slot none in omega arith);
+        sets = λ slot l _. subst (SlotSpells shape words slot) (sym (empties shape.slots slot)) (blank_spells shape words slot (blank slot l));
+        many = length-replicate shape.slots [];
         noted = no_places (Since role marks (me ∷ []));
         sweep = tt;
       }
@@ -71,7 +88,7 @@ module _ {A : Type 0} (role : A → Role) (marks : A → Marks) where
       more : (desk : Desk) (mine : Marks) → Desked role marks shape words callers log desk mine → Desked role marks shape words (callers ++ next ∷ []) log desk mine
       more desk mine t = desk_frame role marks shape words words callers (callers ++ next ∷ []) log log desk mine (λ _ _. refl) (λ _. refl) refl (since_snoc role marks callers next)
           (λ place reader slot who grip there reads on. ⊎_elim (λ (z : get_elem? callers place ≡ some who). (t.held place reader slot who grip z reads on, λ _. (place, who, grip, z, reads, on)))
-          (λ (z : next ≡ who). absurd (let none : None ≡ Some slot = sym (idle reader grip (ap role z ∙ reads)) ∙ on in cc)) (at_snoc callers next who place there)) t
+          (λ (z : next ≡ who). absurd (let none : None ≡ Some slot = sym (idle reader grip (ap role z ∙ reads)) ∙ on in cc)) (at_snoc callers next who place there)) (λ _ _ _. refl) t
 
   module _ (shape : Shape) (words : List ℕ) (callers : List A) (log : List Entry) (id : ℕ) (me next : A) (at : get_elem? callers id ≡ some me) (same : role next ≡ role me) (alike : (marks next ≡ marks me) ⊎ (role me ≡ Note)) where
     reader_marks : (reader : ℕ) (grip : Grip) → role me ≡ Reader reader grip → marks next ≡ marks me
@@ -95,7 +112,7 @@ module _ {A : Type 0} (role : A → Role) (marks : A → Marks) where
             (λ place reader slot who grip there reads on. ⊎_elim
             (λ (z : (place ≡ id) × (next ≡ who)). let before : role me ≡ Reader reader grip = sym same ∙ ap role z.1 ∙ reads in
             (t.held id reader slot me grip at before on ∙ ap (λ (b : Marks). b.put) (sym (reader_marks reader grip before)) ∙ ap (λ (b : A). (marks b).put) z.1, λ _. (id, me, grip, at, before, on)))
-            (λ (z : (place ≢ id) × (get_elem? callers place ≡ some who)). (t.held place reader slot who grip z.1 reads on, λ _. (place, who, grip, z.1, reads, on))) (at_set callers id place next who there)) t
+            (λ (z : (place ≢ id) × (get_elem? callers place ≡ some who)). (t.held place reader slot who grip z.1 reads on, λ _. (place, who, grip, z.1, reads, on))) (at_set callers id place next who there)) (λ _ _ _. refl) t
 
         knows : (r : Role) (mine : Marks) → KnowsMarks role marks shape words callers log r mine → KnowsMarks role marks shape words (set callers id next) log r mine
         knows r mine = knows_frame role marks shape words words callers (set callers id next) log log r mine (λ desk is. desk_alike desk mine)

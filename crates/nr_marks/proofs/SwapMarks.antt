@@ -1,5 +1,5 @@
 -- The writer puts a word, publishes, unpublishes and withdraws: a published slot has the next put number.
-use Rattle.std.proofs.Common.{List, [], ap, arith, cond, eq-eqb, false, get_or, get_or-set_other, get_or-set_same, inl, inr, length-set, map, ne_eqb, refl, set, subst, suc, sym, true, ℕ, ⊎_elim, ◌++◌, ◌+◌, ◌<◌, ◌∙◌, ◌∷◌, ◌≡◌, ◌≢◌, ◌⊎◌}
+use Rattle.std.proofs.Common.{List, [], ap, arith, cond, eq-eqb, false, get_or, get_or-set_other, get_or-set_same, inl, inr, length-set, map, ne_eqb, refl, set, subst, suc, sym, true, ℕ, ⊎_elim, ◌++◌, ◌+◌, ◌<◌, ◌∙◌, ◌∷◌, ◌≡◌, ◌≢◌, ◌⊎◌, ◌≤◌, ◌*◌, length}
 use Rattle.std.specs.Prelude.{Some}
 use lib.ListN.{get_elem?}
 use mathlib.Core.Logic.{dite}
@@ -19,7 +19,7 @@ use Rattle.nr_core.specs.Core.{AtPlace, Puts, ShowsState, Withdraws}
 use Rattle.nr_core.specs.Roles.{grips, held, holds, retirements, taken}
 use Rattle.nr_machine.specs.declared.operation.Operation.TheVariants.{Store, Swap}
 use Rattle.nr_words.specs.KeyWords.{naming}
-use Rattle.nr_machine.specs.Slots.{content, name_number}
+use Rattle.nr_machine.specs.Slots.{content, name_number, SlotSpells}
 use Rattle.nr_machine.specs.States.{key_of, number_at}
 use Rattle.nr_machine.specs.Story.{call_of, entry, map_after}
 use Rattle.nr_machine.specs.Sums.{only, total}
@@ -37,13 +37,17 @@ use Rattle.nr_model.specs.declared.calls.Call.TheVariants as model
 use Rattle.nr_model.specs.declared.states.KeyState.TheVariants as key
 use Rattle.nr_model.specs.declared.calls.Reply.TheVariants as reply
 use Rattle.nr_marks.specs.Puts.{put_count, put_number, puts_at}
-use Rattle.nr_marks.specs.Marks.{Marks, Past, gripped, with_name, without_name}
-use Rattle.nr_marks.specs.Marked.{CanMark, Desked, Since, Sweeping, lives}
+use Rattle.nr_marks.specs.Marks.{Marks, Past, gripped, with_name, without_name, set_in}
+use Rattle.nr_marks.specs.Marked.{CanMark, Desked, Since, Sweeping, lives, Untouched}
 use Rattle.nr_marks.specs.MarkSteps.{KeepsMarks, PublishesMarks, UnpublishesMarks}
 use Rattle.nr_marks.proofs.ListPlaces.{at_maps, no_places, some_is}
 use Rattle.nr_marks.proofs.PutNumbers.{count_more, put_more, quiet_count, quiet_number}
-use Rattle.nr_marks.proofs.ReaderMarks.{names_behind, names_kept}
+use Rattle.nr_marks.proofs.ReaderMarks.{names_behind, names_kept, contents_behind}
 use Rattle.nr_marks.proofs.DeskMarks.{QuietEnd, desk_keep, desk_of, desk_stay, nothing_ends, writer_step}
+use Rattle.nr_marks.proofs.MarksSince.{SameContents}
+use Rattle.nr_core.proofs.Frames.{spells_more}
+use Rattle.nr_core.proofs.WordPlaces.{same_content}
+use Rattle.nr_words.proofs.SetWordLemmas.{length-row_words}
 
 unnamed_sum : (s w : ℕ) → retirements s (unnamed w) ≡ only (suc s) (name_number w)
 unnamed_sum s w = by_cases (λ b. total (λ (x : Retired). only s x.slot) (cond b (record { slot = slot_of w; arrivals = arrivals_of w } ∷ []) []) ≡ only (suc s) (cond b (slot_of w + 1) 0)) (is_filled w)
@@ -72,8 +76,9 @@ module _ {A : Type 0} (role : A → Role) (marks : A → Marks) where
       → ((place reader : ℕ) (who : A) (grip : Grip) → get_elem? callers place ≡ some who → role who ≡ Reader reader grip → gripped grip ≡ Some t → ⊥)
       → put_number log' n ≡ put_count log → ((i : ℕ) → i ≢ n → put_number log' i ≡ put_number log i) → put_count log' ≡ suc (put_count log)
       → ((s : ℕ) → s < shape.slots → 0 < lives shape words' desk' s → (s ≡ t) ⊎ (0 < lives shape words desk s)) → Sweeping role marks callers desk' mine.polls desk'.place
-      → Desked role marks shape words' callers log' desk' (with_name mine n t (put_count log))
-  desk_put shape words words' callers log log' desk desk' mine n t own near in_range here others dead nobody number numbers many live sweep =
+      → (rows : List Row) → SlotSpells shape words' t rows → ((s : ℕ) → s ≢ t → Untouched s desk.place) → SameContents shape words words'
+      → Desked role marks shape words' callers log' desk' (with_name mine n t (put_count log) rows)
+  desk_put shape words words' callers log log' desk desk' mine n t own near in_range here others dead nobody number numbers many live sweep rows spelled before contents =
       let wide = own.wide.0 in let wide' = own.wide.1 in
       let puts' = set mine.puts t (put_count log) in
       let put_here : get_or puts' t 0 ≡ put_count log = get_or-set_same mine.puts t (put_count log) 0 (omega arith) in
@@ -95,22 +100,32 @@ module _ {A : Type 0} (role : A → Role) (marks : A → Marks) where
             (λ z. let p : get_or puts' s 0 ≡ put_count log = ap (index puts') z ∙ put_here in dite (ℕ_discrete a t) (λ y. z ∙ sym y) (λ ne. absurd (let f = own.fresh a b (old a b ne one) in let g = put_other a ne in omega arith)))
             (λ ne. let g = put_other s ne in dite (ℕ_discrete a t) (λ y. absurd (let p : get_or puts' a 0 ≡ put_count log = ap (index puts') y ∙ put_here in let f = own.fresh s l (old s l ne on) in omega arith))
             (λ na. own.apart s a l b (old s l ne on) (old a b na one) (sym g ∙ e ∙ put_other a na)));
+        sets = λ s l _. dite (ℕ_discrete s t)
+            (λ z. subst (SlotSpells shape words' s) (ap (λ (i : ℕ). get_or (set mine.sets t rows) i []) (sym z)) (subst (λ (i : ℕ). SlotSpells shape words' i (get_or (set mine.sets t rows) t [])) (sym z) (subst (SlotSpells shape words' t) (sym (get_or-set_same mine.sets t rows [] (omega (arith, own.many)))) spelled)))
+            (λ ne. subst (SlotSpells shape words' s) (sym (get_or-set_other mine.sets t s rows [] ne)) (spells_more shape words words' s (set_in mine s) (contents s) (own.sets s l (before s ne))));
+        many = length-set mine.sets t rows ∙ own.many;
         noted = own.noted;
         sweep = sweep;
       }
 
   module _ (shape : Shape) (id : ℕ) (me : A) (known : List Past) (desk : Desk) where
-    pub puts_marked : (call : WriterCall) (rows : List Row) (slot departed at : ℕ) → role me ≡ Writer desk
+    pub puts_marked : (call : WriterCall) (rows : List Row) (slot departed at : ℕ) → desk.place ≡ Putting call rows slot departed at → at ≤ 2 * length rows → role me ≡ Writer desk
         → CanMark role marks shape id me known (Store (content shape slot at) (get_or (encode rows) at 0)) (λ word after entries. (after ≡ Writer (moved_to desk (Putting call rows slot departed (at + 1)))) × (entries ≡ [])) (KeepsMarks (marks me))
-    puts_marked call rows slot departed at was words callers log core m once there since after entries ans =
+    puts_marked call rows slot departed at is_at more was words callers log core m once there since after entries ans =
         let i : ℕ = content shape slot at in let x : ℕ = get_or (encode rows) at 0 in let desk' = moved_to desk (Putting call rows slot departed (at + 1)) in let own = desk_of role marks shape words callers log id me desk m there was in
+        let roles = map role callers in let there' : get_elem? roles id ≡ some (Writer desk) = at_maps role callers id me there ∙ ap some was in
+        let p : Puts shape words (map_after shape log) (held roles) call rows slot departed at = subst (AtPlace shape words (map_after shape log) (held roles) desk.fresh desk.retired) is_at (core.knows id (Writer desk) there').place in let short = p.wants.row_set.1 in
         writer_step role marks shape id me (Store i x) (KeepsMarks (marks me)) words callers log core m there desk desk' was after entries ans.0 (marks me) [] (no_places (Since role marks callers)) (λ place note here. inl here)
-        (desk_stay role marks shape words (set words i x) callers log entries desk desk' (marks me) (marks me).polls own (names_behind words shape.keys i x (omega arith)) (subst (QuietEnd log) (sym ans.1) (nothing_ends log)) (λ s. omega arith) own.noted tt)
+        (desk_stay role marks shape words (set words i x) callers log entries desk desk' (marks me) (marks me).polls own (names_behind words shape.keys i x (omega arith)) (subst (QuietEnd log) (sym ans.1) (nothing_ends log)) (λ s. omega arith) own.noted tt
+        (λ s _ untouched. (
+          subst (Untouched s) (sym is_at) (λ e. absurd (let none = untouched e in omega arith)),
+          λ index low. get_or-set_other words i (content shape s index) x 0 (λ e. absurd (let none = untouched (sym (same_content shape s index slot at (omega arith) (omega arith) e)) in omega arith)),
+        )))
         (refl, refl)
 
-    pub publishes_marked : (call : WriterCall) (rows : List Row) (slot departed at : ℕ) → desk.place ≡ Putting call rows slot departed at → role me ≡ Writer desk
-        → CanMark role marks shape id me known (Swap (key_of call) (naming slot departed)) (λ word after entries. (after ≡ Writer (swapped desk word)) × (entries ≡ entry 0 (call_of call) reply.Done ∷ [])) (PublishesMarks (marks me) (key_of call) slot)
-    publishes_marked call rows slot departed at is_at was words callers log core m once there since after entries ans =
+    pub publishes_marked : (call : WriterCall) (rows : List Row) (slot departed at : ℕ) → desk.place ≡ Putting call rows slot departed at → 2 * length rows < at → role me ≡ Writer desk
+        → CanMark role marks shape id me known (Swap (key_of call) (naming slot departed)) (λ word after entries. (after ≡ Writer (swapped desk word)) × (entries ≡ entry 0 (call_of call) reply.Done ∷ [])) (PublishesMarks (marks me) (key_of call) slot rows)
+    publishes_marked call rows slot departed at is_at whole was words callers log core m once there since after entries ans =
         let k : ℕ = key_of call in let word : ℕ = get_or words k 0 in let x : ℕ = naming slot departed in let words' = set words k x in let desk' = swapped desk word in let e = entry 0 (call_of call) reply.Done in
         let own = desk_of role marks shape words callers log id me desk m there was in let roles = map role callers in
         let at' : get_elem? roles id ≡ some (Writer desk) = at_maps role callers id me there ∙ ap some was in
@@ -120,12 +135,14 @@ module _ {A : Type 0} (role : A → Role) (marks : A → Marks) where
         let once_there = retired_once shape words roles log core id desk at' slot in_range in
         let here : get_or words' k 0 ≡ x = get_or-set_same words k x 0 (omega arith) in
         let other : (i : ℕ) → i ≢ k → get_or words' i 0 ≡ get_or words i 0 = λ i ne. get_or-set_other words k i x 0 ne in
+        let contents = contents_behind shape words k x near in let size = length-row_words rows in let short = p.wants.row_set.1 in
+        let spells : SlotSpells shape words' slot rows = spells_more shape words words' slot rows (contents slot) (p.wants.row_set, λ index low. p.put index (omega arith)) in
         let yes : puts_at k e ≡ true = eq-eqb (call_key (call_of call)) k (key_same call) in
         let no : (i : ℕ) → i ≢ k → puts_at i e ≡ false = λ i ne. ne_eqb (call_key (call_of call)) i (λ z. ne (sym z ∙ key_same call)) in
         let n : ℕ = put_count log in
         let many : put_count (log ++ e ∷ []) ≡ suc n = let z = count_more log e in omega arith in
-        writer_step role marks shape id me (Swap k x) (PublishesMarks (marks me) k slot) words callers log core m there desk desk' was after entries ans.0 (with_name (marks me) k slot n) [] (no_places (Since role marks callers)) (λ place note here. inl here)
-        (subst (λ l. Desked role marks shape words' callers (log ++ l) desk' (with_name (marks me) k slot n)) (sym ans.1)
+        writer_step role marks shape id me (Swap k x) (PublishesMarks (marks me) k slot rows) words callers log core m there desk desk' was after entries ans.0 (with_name (marks me) k slot n rows) [] (no_places (Since role marks callers)) (λ place note here. inl here)
+        (subst (λ l. Desked role marks shape words' callers (log ++ l) desk' (with_name (marks me) k slot n rows)) (sym ans.1)
         (desk_put shape words words' callers log (log ++ e ∷ []) desk desk' (marks me) k slot own near in_range (ap name_number here ∙ name) (λ i ne. ap name_number (other i ne)) (omega arith)
         (λ place reader who grip is_there is on. let l = term_le (holds slot) roles place (Reader reader grip) (at_maps role callers place who is_there ∙ ap some is) in let g = grips_it grip slot on in absurd (omega arith))
         (put_more log e k ∙ ap (λ b. cond b n (put_number log k)) yes)
@@ -135,7 +152,7 @@ module _ {A : Type 0} (role : A → Role) (marks : A → Marks) where
         let at_k : only (suc s) (name_number (get_or words' k 0)) ≡ only s slot = ap (only (suc s)) (ap name_number here ∙ name) ∙ only-suc s slot in
         let more = total-append (λ (y : Retired). only s y.slot) desk.retired (unnamed word) in let gone = unnamed_sum s word in
         dite (ℕ_discrete s slot) (λ z. inl z) (λ ne. let none = only-other s slot (λ z. ne (sym z)) in inr (omega arith)))
-        tt))
+        tt rows spells (λ s ne. subst (Untouched s) (sym is_at) (λ e. absurd (ne (sym e)))) contents))
         (n, ap (λ l. put_count (log ++ l)) ans.1 ∙ many, get_or-set_same (marks me).puts slot n 0 (omega arith), refl, refl)
 
     pub unpublishes_marked : (k : ℕ) → desk.place ≡ Leaving k → role me ≡ Writer desk
@@ -158,7 +175,7 @@ module _ {A : Type 0} (role : A → Role) (marks : A → Marks) where
         (λ s l on. let change = below-change (λ j. only (suc s) (name_number (get_or words' j 0))) (λ j. only (suc s) (name_number (get_or words j 0))) shape.keys k near (λ j ne. ap (λ (y : ℕ). only (suc s) (name_number y)) (other j ne)) in
         let at_k : only (suc s) (name_number (get_or words' k 0)) ≡ 0 = ap (only (suc s)) here ∙ only-zero s in
         let more = total-append (λ (y : Retired). only s y.slot) desk.retired (unnamed word) in let gone = unnamed_sum s word in omega arith)
-        own.noted tt))
+        own.noted tt (λ s _ _. (subst (Untouched s) (sym is_at) tt, contents_behind shape words k x near s))))
         (refl, refl)
 
     -- an asked key named no slot, and names none after
@@ -176,5 +193,5 @@ module _ {A : Type 0} (role : A → Role) (marks : A → Marks) where
         (desk_keep role marks shape words words' callers log (log ++ e ∷ []) desk desk' (marks me) (marks me).names (marks me).polls own own.wide.0
         (λ i l. own.names i l ∙ sym (same i)) (λ i s l z. sym (same i) ∙ z) (λ i. quiet_number log e i refl) (quiet_count log e refl)
         (λ s l on. let b = below-same (λ j. only (suc s) (name_number (get_or words' j 0))) (λ j. only (suc s) (name_number (get_or words j 0))) shape.keys (λ j _. ap (only (suc s)) (same j)) in omega arith)
-        own.noted tt))
+        own.noted tt (λ s _ _. (subst (Untouched s) (sym is_at) tt, contents_behind shape words k x near s))))
         (refl, refl)

@@ -1,6 +1,7 @@
 -- What each kind of step tells of the marks.
 use Rattle.std.specs.Prelude.{◌≡◌, ◌≢◌, ℕ, suc, ◌+◌, ◌<◌, ◌≤◌, List, [], ◌∷◌, ◌++◌, length, slice_index, ◌*◌, nat_le, Bool, true, false}
 use Rattle.nr_model.specs.Histories.{Entry}
+use Rattle.nr_model.specs.declared.rows.Row.{Row}
 use Rattle.nr_machine.specs.declared.shape.Shape.{Shape}
 use Rattle.nr_machine.specs.declared.calls.WriterCall.{WriterCall}
 use Rattle.nr_machine.specs.declared.roles.Grip.{Grip}
@@ -68,14 +69,14 @@ PollTells false shape marks known desk call poll log now =
 abbrev pub PollsMarks : Shape → Marks → List Past → Desk → WriterCall → ℕ → MarkTelling
 PollsMarks shape marks known desk call poll word after log now news = (news ≡ []) × PollTells (same_count word (retired_at desk poll).arrivals) shape marks known desk call poll log now
 
--- a publish gives the slot the next put number
-abbrev pub PublishesMarks : Marks → ℕ → ℕ → MarkTelling
-PublishesMarks marks at slot word after log now news = (number : ℕ) × (put_count log ≡ suc number) × (slice_index now.puts slot ≡ number) × (now ≡ with_name marks at slot number) × (news ≡ [])
+-- a publish gives the slot the next put number, and the set
+abbrev pub PublishesMarks : Marks → ℕ → ℕ → List Row → MarkTelling
+PublishesMarks marks at slot rows word after log now news = (number : ℕ) × (put_count log ≡ suc number) × (slice_index now.puts slot ≡ number) × (now ≡ with_name marks at slot number rows) × (news ≡ [])
 
 -- a put, or after the last put the publish
-abbrev pub PutsMarks : Bool → Marks → ℕ → ℕ → MarkTelling
-PutsMarks true marks at slot = KeepsMarks marks
-PutsMarks false marks at slot = PublishesMarks marks at slot
+abbrev pub PutsMarks : Bool → Marks → ℕ → ℕ → List Row → MarkTelling
+PutsMarks true marks at slot rows = KeepsMarks marks
+PutsMarks false marks at slot rows = PublishesMarks marks at slot rows
 
 abbrev pub UnpublishesMarks : Marks → ℕ → MarkTelling
 UnpublishesMarks marks at word after log now news = (now ≡ without_name marks at) × (news ≡ [])
@@ -87,7 +88,7 @@ went_marks shape marks known desk (Reading call slot got) = ReadsOnMarks shape m
 went_marks shape marks known desk (Leaving at) = UnpublishesMarks marks at
 went_marks shape marks known desk (Withdrawing at) = KeepsMarks marks
 went_marks shape marks known desk (Searching call rows poll) = PollsMarks shape marks known desk call poll
-went_marks shape marks known desk (Putting call rows slot departed index) = PutsMarks (nat_le index (2 * length rows)) marks (key_of call) slot
+went_marks shape marks known desk (Putting call rows slot departed index) = PutsMarks (nat_le index (2 * length rows)) marks (key_of call) slot rows
 
 abbrev pub GoesMarks : Shape → Marks → List Past → Desk → MarkTelling
 GoesMarks shape marks known desk = went_marks shape marks known desk desk.place

@@ -12,14 +12,14 @@ use Rattle.nr_machine.specs.declared.places.Retired.{Retired}
 use Rattle.nr_machine.specs.declared.places.Place.{Place}
 use Rattle.nr_machine.specs.declared.places.Place.TheVariants.{Idle, Reading, Leaving, Withdrawing, Searching, Putting}
 use Rattle.nr_machine.specs.Sums.{total, only}
-use Rattle.nr_machine.specs.Slots.{name_number, named}
+use Rattle.nr_machine.specs.Slots.{SlotSpells, name_number, named}
 use Rattle.nr_core.specs.Core.{Core}
 use Rattle.nr_core.specs.Roles.{is_by, retirements}
 use Rattle.nr_machine.specs.Operations.{target_of, becomes}
 use Rattle.nr_machine.specs.declared.operation.Operation.{Operation}
 use Rattle.nr_core.specs.Steps.{Telling}
 use Rattle.nr_marks.specs.Puts.{put_count, put_number}
-use Rattle.nr_marks.specs.Marks.{Past, Marks, gripped, past}
+use Rattle.nr_marks.specs.Marks.{Past, Marks, gripped, past, set_in}
 
 -- 1 where the role is that caller's
 abbrev pub is_caller : ℕ → Role → ℕ
@@ -28,6 +28,15 @@ is_caller caller role = cond (is_by caller role) 1 0
 -- how often the slot is named by a key or retired
 abbrev pub lives : Shape → List ℕ → Desk → ℕ → ℕ
 lives shape words desk slot = named shape words slot + retirements slot desk.retired
+
+-- no call has put a word into the slot that it doesn't have yet
+abbrev pub Untouched : ℕ → Place → Type 0
+Untouched slot Idle = Unit {0}
+Untouched slot (Reading call read got) = Unit {0}
+Untouched slot (Leaving at) = Unit {0}
+Untouched slot (Withdrawing at) = Unit {0}
+Untouched slot (Searching call rows poll) = Unit {0}
+Untouched slot (Putting call rows taken departed index) = taken ≡ slot → index ≡ 0
 
 -- what a step tells: of the word that it found, the role, the history and the marks after it, and of what the caller learnt of readers
 abbrev pub MarkTelling : Type 1
@@ -84,7 +93,7 @@ module _ {A : Type 0} (role : A → Role) (marks : A → Marks) where
   Sweeping callers desk polls (Searching call rows poll) = Sweeps callers desk polls poll
   Sweeping callers desk polls (Putting call rows slot departed index) = Unit {0}
 
-  -- the writer's lists are the words' and the history's; put numbers of named or retired slots are different, and a hold has its slot's
+  -- the writer's lists are the words' and the history's; put numbers of named or retired slots are different, a hold has its slot's, and slots spell their sets
   pub record Desked (shape : Shape) (words : List ℕ) (callers : List A) (log : List Entry) (desk : Desk) (mine : Marks) : Type 0 where
     pub wide : (length mine.names ≡ shape.keys) × (length mine.puts ≡ shape.slots)
     pub names : (key : ℕ) → key < shape.keys → slice_index mine.names key ≡ name_number (slice_index words key)
@@ -92,6 +101,9 @@ module _ {A : Type 0} (role : A → Role) (marks : A → Marks) where
     pub held : (place reader slot : ℕ) (who : A) (grip : Grip) → get_elem? callers place ≡ some who → role who ≡ Reader reader grip → gripped grip ≡ Some slot → slice_index mine.puts slot ≡ (marks who).put
     pub fresh : (slot : ℕ) → slot < shape.slots → 0 < lives shape words desk slot → slice_index mine.puts slot < put_count log
     pub apart : (slot other : ℕ) → slot < shape.slots → other < shape.slots → 0 < lives shape words desk slot → 0 < lives shape words desk other → slice_index mine.puts slot ≡ slice_index mine.puts other → slot ≡ other
+    -- each slot spells the set that was put there last, until the next one is being put
+    pub sets : (slot : ℕ) → slot < shape.slots → Untouched slot desk.place → SlotSpells shape words slot (set_in mine slot)
+    pub many : length mine.sets ≡ shape.slots
     pub noted : AllSince callers mine.polls
     pub sweep : Sweeping callers desk mine.polls desk.place
 

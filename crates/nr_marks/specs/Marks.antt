@@ -1,5 +1,6 @@
--- Marks, which contracts alone see beside a caller's role: a reader's count of acts and the put number of its hold; the writer's names, put numbers and polls.
-use Rattle.std.specs.Prelude.{ℕ, suc, List, [], ◌∷◌, slice_set, Option, Some, None, replicate}
+-- Marks, which contracts alone see beside a caller's role: a reader's count of acts and the put number of its hold; the writer's names, put numbers, sets and polls.
+use Rattle.std.specs.Prelude.{ℕ, suc, List, [], ◌∷◌, slice_index_or, slice_set, Option, Some, None, replicate}
+use Rattle.nr_model.specs.declared.rows.Row.{Row}
 use Rattle.nr_machine.specs.declared.shape.Shape.{Shape}
 use Rattle.nr_machine.specs.declared.roles.Role.{Role}
 use Rattle.nr_machine.specs.declared.roles.Role.TheVariants.{Writer, Reader, Note}
@@ -22,6 +23,8 @@ pub record Marks : Type 0 where
   pub names : List ℕ
   -- for each slot the put number of the set that was put into it last
   pub puts : List ℕ
+  -- and that set; a slot that was never taken has the empty one
+  pub sets : List (List Row)
   -- the polls of this call that found their slots held
   pub polls : List Past
 
@@ -36,10 +39,10 @@ past reader grip marks = record { reader = reader; count = marks.acts; slot = gr
 
 -- the writer's marks at the opening: no key names a slot; who has no marks yet
 abbrev pub opening_marks : Shape → Marks
-opening_marks shape = record { acts = 0; put = 0; names = replicate shape.keys 0; puts = replicate shape.slots 0; polls = [] }
+opening_marks shape = record { acts = 0; put = 0; names = replicate shape.keys 0; puts = replicate shape.slots 0; sets = replicate shape.slots []; polls = [] }
 
 abbrev pub no_marks : Marks
-no_marks = record { acts = 0; put = 0; names = []; puts = []; polls = [] }
+no_marks = record { acts = 0; put = 0; names = []; puts = []; sets = []; polls = [] }
 
 -- what a note tells of readers: a reader's of itself, the writer's all that it knows
 abbrev pub told_by : Role → Marks → List Past → List Past
@@ -54,9 +57,13 @@ acted marks put = record marks { acts = suc marks.acts; put = put }
 abbrev pub with_polls : Marks → List Past → Marks
 with_polls marks polls = record marks { polls = polls }
 
--- the key names the slot, into which the set of that number was put
-abbrev pub with_name : Marks → ℕ → ℕ → ℕ → Marks
-with_name marks key slot number = record marks { names = slice_set marks.names key (suc slot); puts = slice_set marks.puts slot number }
+-- the set that was put into the slot last
+abbrev pub set_in : Marks → ℕ → List Row
+set_in marks slot = slice_index_or marks.sets slot []
+
+-- the key names the slot, into which that set was put, with that number
+abbrev pub with_name : Marks → ℕ → ℕ → ℕ → List Row → Marks
+with_name marks key slot number rows = record marks { names = slice_set marks.names key (suc slot); puts = slice_set marks.puts slot number; sets = slice_set marks.sets slot rows }
 
 abbrev pub without_name : Marks → ℕ → Marks
 without_name marks key = record marks { names = slice_set marks.names key 0 }

@@ -1,55 +1,12 @@
-use Rattle.std.proofs.Common.{ap, arith, false, subst, sym, true, ◌≡◌, refl}
-use Rattle.nr_model.specs.declared.calls.Reply.TheVariants as reply
-use Rattle.nr_words.specs.KeyWords.{slot_of}
-use Rattle.nr_machine.specs.Given.{IsGivenCall}
-use Rattle.nr_machine.specs.Slots.{bound_of}
+use Rattle.std.proofs.Common.{ap, subst, sym}
 use Rattle.nr_machine.specs.States.{key_of}
 use Rattle.nr_machine.specs.declared.calls.WriterCall.{WriterCall}
-use Rattle.nr_machine.specs.declared.places.Place.TheVariants.{Idle}
-use Rattle.nr_board.proofs.Looks.{asked_so, fill_already, fill_not_asked, fill_settles, fill_stale, filled_so, has_looked, slot_so, unasked_so}
-use Rattle.nr_board.proofs.WriterCalls.{has_lacked, has_published, look_ends, look_settles}
-use Rattle.nr_board.specs.Spares.{desk_with}
+use Rattle.nr_board.proofs.WriterCalls.{has_lacked, has_published}
 use Rattle.nr_board.specs.WriterSeats.{Settles}
 use Rattle.nr_board.proofs.board.Board.fill_key.Goals as goal
 
-pub look-requires-clause-given : goal.look-requires-clause-given
-look-requires-clause-given g c = subst (λ (call : WriterCall). IsGivenCall (bound_of c.args.self.now.shape) call) (sym c.requires.call) c.requires.row_set
-
-pub returns-then-found : goal.returns-then-found
-returns-then-found g c = let looks = has_looked {before = c.args.seat.now} refl c.requires.own c.requires.rests c.requires.call c.look.ensures.leads c.look.ensures.marks in let word = c.look.result in let parts = c.parts-found.ensures.parts in
-    let told = look_ends looks reply.Already (fill_already c.args.self.now.shape (desk_with c.args.spare.now Idle) c.args.key c.look.result c.args.number c.args.rows.now (filled_so word parts true c.if-found.true)) in
-    record { rests = told.0; fills = told.1 }
-
-pub returns-then-not-found : goal.returns-then-not-found
-returns-then-not-found g c = let looks = has_looked {before = c.args.seat.now} refl c.requires.own c.requires.rests c.requires.call c.look.ensures.leads c.look.ensures.marks in let word = c.look.result in let parts = c.parts-found.ensures.parts in
-    let told = look_ends looks reply.NotAsked (fill_not_asked c.args.self.now.shape (desk_with c.args.spare.now Idle) c.args.key c.look.result c.args.number c.args.rows.now (filled_so word parts false c.if-found.false) (unasked_so word parts c.if-not-found.true)) in
-    record { rests = told.0; fills = told.1 }
-
-pub returns-then-from-number : goal.returns-then-from-number
-returns-then-from-number g c = let looks = has_looked {before = c.args.seat.now} refl c.requires.own c.requires.rests c.requires.call c.look.ensures.leads c.look.ensures.marks in let word = c.look.result in let parts = c.parts-found.ensures.parts in
-    let stale = λ (own : slot_of word ≡ c.args.number). absurd (omega (arith, own, slot_so word parts, c.from.ensures, c.if-from-number.true)) in
-    let told = look_ends looks reply.Stale (fill_stale c.args.self.now.shape (desk_with c.args.spare.now Idle) c.args.key c.look.result c.args.number c.args.rows.now (filled_so word parts false c.if-found.false) (asked_so word parts c.if-not-found.false) stale) in
-    record { rests = told.0; fills = told.1 }
-
-pub publish_set-requires : goal.publish_set-requires
-publish_set-requires g c = let looks = has_looked {before = c.args.seat.now} refl c.requires.own c.requires.rests c.requires.call c.look.ensures.leads c.look.ensures.marks in let word = c.look.result in let parts = c.parts-found.ensures.parts in
-    let own : slot_of word ≡ c.args.number = omega (arith, slot_so word parts, c.from.ensures, c.if-from-number.false) in
-    let set = look_settles looks (fill_settles c.args.self.now.shape (desk_with c.args.spare.now Idle) c.args.key c.look.result c.args.number c.args.rows.now (filled_so word parts false c.if-found.false) (asked_so word parts c.if-not-found.false) own) in record {
-      settles = subst (λ (call : WriterCall). Settles c.args.self.now call c.args.rows.now c.args.spare.now c.look.new.seat) (sym c.requires.call) set.settles;
-      call = ap key_of (sym c.requires.call);
-      key = c.requires.key;
-    }
-
 pub returns-in-Err : goal.returns-in-Err
-returns-in-Err g c = let looks = has_looked {before = c.args.seat.now} refl c.requires.own c.requires.rests c.requires.call c.look.ensures.leads c.look.ensures.marks in let word = c.look.result in let parts = c.parts-found.ensures.parts in
-    let own : slot_of word ≡ c.args.number = omega (arith, slot_so word parts, c.from.ensures, c.if-from-number.false) in
-    let set = look_settles looks (fill_settles c.args.self.now.shape (desk_with c.args.spare.now Idle) c.args.key c.look.result c.args.number c.args.rows.now (filled_so word parts false c.if-found.false) (asked_so word parts c.if-not-found.false) own) in
-    let told = has_lacked set c.requires.call c.in-Err.ensures in
-    record { rests = told.0; fills = told.1 }
+returns-in-Err g c = let told = has_lacked c.in_ok-begin_fill.ensures c.requires.call c.in-Err.ensures in record { rests = told.0; fills = told.1 }
 
 pub returns : goal.returns
-returns g c = let looks = has_looked {before = c.args.seat.now} refl c.requires.own c.requires.rests c.requires.call c.look.ensures.leads c.look.ensures.marks in let word = c.look.result in let parts = c.parts-found.ensures.parts in
-    let own : slot_of word ≡ c.args.number = omega (arith, slot_so word parts, c.from.ensures, c.if-from-number.false) in
-    let set = look_settles looks (fill_settles c.args.self.now.shape (desk_with c.args.spare.now Idle) c.args.key c.look.result c.args.number c.args.rows.now (filled_so word parts false c.if-found.false) (asked_so word parts c.if-not-found.false) own) in
-    let told = has_published set c.requires.call c.in_default.ensures in
-    record { rests = told.0; fills = told.1 }
+returns g c = let told = has_published c.in_ok-begin_fill.ensures c.requires.call c.in_default.ensures in record { rests = told.0; fills = told.1 }

@@ -15,5 +15,5 @@ returns g c = let map = c.args.self.now in let call = g.G.Given.call in let rows
     let before = c.args.seat.now in let at = c.take_slot.new.seat in let mid = c.put_rows.new.seat in let last : ℕ = 2 * length rows + 1 in
     let writes = subst (λ (desk : Desk). WritesAt map (moved_to desk (Putting call rows slot departed last)) mid) (ap desk_of took.writes.role) c.put_rows.ensures.writer in
     let goes = subst (λ (table : Table). GoesOn table c.publish-old_word.result mid c.publish-old_word.new.seat) refl c.publish-old_word.ensures in
-    published map call rows c.args.spare.now c.take_slot.new.spare c.retire.new.self slot departed took.polls before mid c.publish-old_word.new.seat c.publish-old_word.result took.took took.few took.slots took.numbers (c.put_rows.ensures.marks ∙ took.marks ∙ ap (λ (m : Marks). with_polls before.me.0.marks m.polls) (sym c.put_rows.ensures.marks)) writes
-    (grows_both took.polls last (took.polls + last) (token before) (token at) [] (token mid) refl took.grows c.put_rows.ensures.grows) goes c.retire.ensures
+    (published map call rows c.args.spare.now c.take_slot.new.spare c.retire.new.self slot departed took.polls before mid c.publish-old_word.new.seat c.publish-old_word.result took.took took.few took.slots took.numbers (c.put_rows.ensures.marks ∙ took.marks ∙ ap (λ (m : Marks). with_polls before.me.0.marks m.polls) (sym c.put_rows.ensures.marks)) writes
+    (grows_both took.polls last (took.polls + last) (token before) (token at) [] (token mid) refl took.grows c.put_rows.ensures.grows) goes c.retire.ensures).0

@@ -1,85 +1,21 @@
-use Rattle.std.proofs.Common.{ℕ, ap, subst, sym, ◌<◌, ◌∙◌, ◌≡◌, Ok, Err, refl}
-use Rattle.nr_model.specs.Batches.{applied}
-use Rattle.nr_model.specs.declared.batches.ApplyFault.TheVariants as fault
-use Rattle.nr_model.specs.declared.calls.Reply.TheVariants as reply
-use Rattle.nr_machine.specs.Slots.{bound_of}
+use Rattle.std.proofs.Common.{Ok, ap, subst, sym, ◌∙◌}
 use Rattle.nr_machine.specs.States.{key_of}
 use Rattle.nr_machine.specs.declared.calls.WriterCall.{WriterCall}
-use Rattle.nr_machine.specs.declared.places.Place.TheVariants.{Idle}
-use Rattle.nr_board.proofs.Looks.{has_looked, is_empty, is_full, slot_so, update_dropped, update_reads}
-use Rattle.nr_board.proofs.SetRooms.{reads_set}
-use Rattle.nr_board.proofs.WriterCalls.{about_to_read, has_not_updated, has_read, has_refused, has_renewed, has_updated, look_ends}
-use Rattle.nr_board.specs.Spares.{desk_with}
+use Rattle.nr_board.proofs.WriterCalls.{has_not_updated, has_renewed, has_updated}
 use Rattle.nr_board.specs.WriterSeats.{Settles}
 use Rattle.nr_board.proofs.board.Board.update_key.Goals as goal
 
-pub returns-then-not-found : goal.returns-then-not-found
-returns-then-not-found g c =
-    let looks = has_looked {before = c.args.seat.now} refl c.requires.own c.requires.rests c.requires.call c.look.ensures.leads c.look.ensures.marks in
-    let told = look_ends looks reply.Dropped (update_dropped c.args.self.now.shape (desk_with c.args.spare.now Idle) c.args.key c.look.result c.args.deltas.now (is_empty c.look.result c.parts-found.ensures.parts c.if-not-found.true)) in
-    record { rests = told.0; updates = told.1 }
-
-pub read_set-requires : goal.read_set-requires
-read_set-requires g c =
-    let looks = has_looked {before = c.args.seat.now} refl c.requires.own c.requires.rests c.requires.call c.look.ensures.leads c.look.ensures.marks in
-    let full = is_full c.look.result c.parts-found.ensures.parts c.if-not-found.false in
-    let desk = desk_with c.args.spare.now Idle in
-    let reads = about_to_read looks (update_reads c.args.self.now.shape desk c.args.key c.look.result c.args.deltas.now full) c.requires.call (slot_so c.look.result c.parts-found.ensures.parts) in
-    record { writer = reads.0; slot = reads.1; key = subst (λ (call : WriterCall). key_of call < c.args.self.now.shape.keys) (sym c.requires.call) c.requires.key }
-
-pub returns-in-Err-NoRow : goal.returns-in-Err-NoRow
-returns-in-Err-NoRow g c =
-    let looks = has_looked {before = c.args.seat.now} refl c.requires.own c.requires.rests c.requires.call c.look.ensures.leads c.look.ensures.marks in
-    let full = is_full c.look.result c.parts-found.ensures.parts c.if-not-found.false in
-    let desk = desk_with c.args.spare.now Idle in
-    let read = has_read looks (update_reads c.args.self.now.shape desk c.args.key c.look.result c.args.deltas.now full) c.requires.call (reads_set c.read_set.ensures) in
-    let is : applied (bound_of c.args.self.now.shape) c.read_set.new.rows c.args.deltas.now ≡ Err fault.NoRow =
-    ap (λ (bound : ℕ). applied bound c.read_set.new.rows c.args.deltas.now) (sym c.rows.ensures.value) ∙ c.in-Err-NoRow.ensures.fault ∙ ap Err c.in-Err-NoRow.field-0-is in
-    let told = has_refused read fault.NoRow is in
-    record { rests = told.0; updates = (c.read_set.new.rows, is, told.1.0, told.1.1, told.1.2) }
-
-pub returns-in-Err-TooMany : goal.returns-in-Err-TooMany
-returns-in-Err-TooMany g c =
-    let looks = has_looked {before = c.args.seat.now} refl c.requires.own c.requires.rests c.requires.call c.look.ensures.leads c.look.ensures.marks in
-    let full = is_full c.look.result c.parts-found.ensures.parts c.if-not-found.false in
-    let desk = desk_with c.args.spare.now Idle in
-    let read = has_read looks (update_reads c.args.self.now.shape desk c.args.key c.look.result c.args.deltas.now full) c.requires.call (reads_set c.read_set.ensures) in
-    let is : applied (bound_of c.args.self.now.shape) c.read_set.new.rows c.args.deltas.now ≡ Err fault.TooMany =
-    ap (λ (bound : ℕ). applied bound c.read_set.new.rows c.args.deltas.now) (sym c.rows.ensures.value) ∙ c.in-Err-TooMany.ensures.fault ∙ ap Err c.in-Err-TooMany.field-0-is in
-    let told = has_refused read fault.TooMany is in
-    record { rests = told.0; updates = (c.read_set.new.rows, is, told.1.0, told.1.1, told.1.2) }
-
 pub publish_set-requires : goal.publish_set-requires
-publish_set-requires g c =
-    let looks = has_looked {before = c.args.seat.now} refl c.requires.own c.requires.rests c.requires.call c.look.ensures.leads c.look.ensures.marks in
-    let full = is_full c.look.result c.parts-found.ensures.parts c.if-not-found.false in
-    let desk = desk_with c.args.spare.now Idle in
-    let read = has_read looks (update_reads c.args.self.now.shape desk c.args.key c.look.result c.args.deltas.now full) c.requires.call (reads_set c.read_set.ensures) in
-    let set = has_renewed read (ap (λ (bound : ℕ). applied bound c.read_set.new.rows c.args.deltas.now) (sym c.rows.ensures.value) ∙ c.in-Ok.ensures.ok ∙ ap Ok (sym c.as_slice.ensures.value)) in
-    record {
-      settles = subst (λ (call : WriterCall). Settles c.args.self.now call c.as_slice.result.now c.args.spare.now c.read_set.new.seat) (sym c.requires.call) set.settles;
-      call = ap key_of (sym c.requires.call);
-      key = c.requires.key;
-    }
+publish_set-requires g c = let begun = c.in_ok-begin_update.ensures in let is = begun.3 ∙ ap Ok (sym c.as_slice.ensures.value) in record {
+  settles = subst (λ (call : WriterCall). Settles c.args.self.now call c.as_slice.result.now c.args.spare.now c.begin_update.new.seat) (sym c.requires.call) (has_renewed begun.2 is).settles;
+  call = ap key_of (sym c.requires.call);
+  key = c.requires.key;
+}
 
 pub returns-in-Err : goal.returns-in-Err
-returns-in-Err g c =
-    let looks = has_looked {before = c.args.seat.now} refl c.requires.own c.requires.rests c.requires.call c.look.ensures.leads c.look.ensures.marks in
-    let full = is_full c.look.result c.parts-found.ensures.parts c.if-not-found.false in
-    let desk = desk_with c.args.spare.now Idle in
-    let read = has_read looks (update_reads c.args.self.now.shape desk c.args.key c.look.result c.args.deltas.now full) c.requires.call (reads_set c.read_set.ensures) in
-    let is : applied (bound_of c.args.self.now.shape) c.read_set.new.rows c.args.deltas.now ≡ Ok c.as_slice.result.now =
-    ap (λ (bound : ℕ). applied bound c.read_set.new.rows c.args.deltas.now) (sym c.rows.ensures.value) ∙ c.in-Ok.ensures.ok ∙ ap Ok (sym c.as_slice.ensures.value) in
-    let told = has_not_updated read is c.requires.call c.requires.key c.in-Err.ensures in
-    record { rests = told.0; updates = (c.read_set.new.rows, c.as_slice.result.now, is, told.1.0, told.1.1) }
+returns-in-Err g c = let begun = c.in_ok-begin_update.ensures in let is = begun.3 ∙ ap Ok (sym c.as_slice.ensures.value) in
+    let told = has_not_updated begun.2 is c.requires.call c.requires.key c.in-Err.ensures in record { rests = told.0; updates = (begun.1, c.as_slice.result.now, is, told.1.0, told.1.1) }
 
 pub returns : goal.returns
-returns g c =
-    let looks = has_looked {before = c.args.seat.now} refl c.requires.own c.requires.rests c.requires.call c.look.ensures.leads c.look.ensures.marks in
-    let full = is_full c.look.result c.parts-found.ensures.parts c.if-not-found.false in
-    let desk = desk_with c.args.spare.now Idle in
-    let read = has_read looks (update_reads c.args.self.now.shape desk c.args.key c.look.result c.args.deltas.now full) c.requires.call (reads_set c.read_set.ensures) in
-    let is : applied (bound_of c.args.self.now.shape) c.read_set.new.rows c.args.deltas.now ≡ Ok c.as_slice.result.now =
-    ap (λ (bound : ℕ). applied bound c.read_set.new.rows c.args.deltas.now) (sym c.rows.ensures.value) ∙ c.in-Ok.ensures.ok ∙ ap Ok (sym c.as_slice.ensures.value) in
-    let told = has_updated read is c.requires.call c.requires.key c.in_default.ensures in
-    record { rests = told.0; updates = (c.read_set.new.rows, c.as_slice.result.now, is, told.1.0, told.1.1) }
+returns g c = let begun = c.in_ok-begin_update.ensures in let is = begun.3 ∙ ap Ok (sym c.as_slice.ensures.value) in
+    let told = has_updated begun.2 is c.requires.call c.requires.key c.in_default.ensures in record { rests = told.0; updates = (begun.1, c.as_slice.result.now, is, told.1.0, told.1.1) }

@@ -1,0 +1,61 @@
+-- The writer reads the set that was put into a slot last: the words spell it, until the writer's next set is put there.
+use Rattle.std.proofs.Common.{◌≡◌, ℕ, ◌+◌, ◌*◌, ◌<◌, ◌∙◌, List, inl, refl, sym, ap, subst, arith, get_or, length, set}
+use Rattle.std.specs.Prelude.{slice_get, Some}
+use lib.Seq.{set-get_or}
+use mathlib.Core.Option.{none}
+use Rattle.atomic_table.specs.Table.{Allows, Me, keeps, step}
+use Rattle.nr_model.specs.Rows.{IsRowSet}
+use Rattle.nr_model.specs.declared.rows.Row.{Row}
+use Rattle.nr_words.specs.SetWords.{encode}
+use Rattle.nr_core.specs.Roles.{is_reader, is_writer}
+use Rattle.nr_machine.specs.Slots.{bound_of, content}
+use Rattle.nr_machine.specs.declared.roles.Desk.{Desk}
+use Rattle.nr_machine.specs.declared.roles.Role.{Role}
+use Rattle.nr_machine.specs.declared.roles.Role.TheVariants.{Writer}
+use Rattle.nr_machine.specs.declared.shape.Shape.{Shape}
+use Rattle.nr_marks.specs.Marked.{KnowsMarks, Untouched}
+use Rattle.nr_marks.specs.Marks.{set_in}
+use Rattle.nr_board.proofs.Notes.{replaced}
+use Rattle.nr_board.proofs.Rows.{encoded_row, length-encode}
+use Rattle.nr_board.specs.Callers.{Table, token}
+use Rattle.nr_board.specs.Notes.{has_noted}
+use Rattle.nr_board.specs.Recalls.{IsWordOf, Recalled, RecallsAt, RecallsRows, has_recalled, later, waited}
+use Rattle.nr_board.specs.Rule.{Fits, Kept, marks_of, role_of}
+use Rattle.nr_board.specs.Views.{View}
+use Rattle.nr_board.specs.WriterSeats.{MapSeat}
+
+pub recalls_so : (shape : Shape) (slots id : ℕ) (me : Me (Unit {0}) View) (place : ℕ) → Allows (Kept shape) slots id me place (λ word. word) (has_recalled (step slots place 0 0 none) me)
+recalls_so shape slots id me place state kept homes at bounded =
+    let view = me.0 in let next = has_noted view in let fits = kept.fits id view at in
+    let own : Fits shape kept.log next = record { begins = fits.begins; told = fits.told; own = fits.own; knows_own = fits.knows_own; acts = fits.acts; sized = fits.sized } in
+    let rests = replaced shape state id view next kept at refl (inl refl) own (kept.maker id view at) (kept.pasts id view at) (kept.told_pasts id view at) in
+    let found : ℕ = get_or state.words place 0 in (
+      next,
+      keeps,
+      tt,
+      subst (λ (words : List ℕ). Kept shape (record { words = words; homes = state.homes; views = set state.views id next })) (sym (set-get_or state.words place 0)) rests,
+      record {
+        step = refl;
+        finds = λ desk slot index is near untouched there.
+            let mine = subst (λ (r : Role). KnowsMarks role_of marks_of shape state.words state.views kept.log r view.marks) is (kept.marked.each id view at) in
+            let size : view.shape ≡ shape = fits.sized (let one : is_writer view.role ≡ 1 = ap is_writer is in omega arith) in
+            subst (λ (s : Shape). slot < s.slots → place ≡ content s slot index → IsWordOf (bound_of s) (set_in view.marks slot) index found) (sym size)
+            (λ low place_is. let spelled = mine.sets slot low untouched in (spelled.0, λ short. ap (λ (p : ℕ). get_or state.words p 0) place_is ∙ spelled.1 index short)) near there;
+      },
+    )
+
+-- the seat can recall the slot after steps that tell it nothing
+pub recalls_later : (table : Table) (slot : ℕ) (before after : MapSeat) (steps : ℕ) → after.table_id ≡ before.table_id → after.me.0 ≡ waited steps before.me.0 → RecallsAt table slot before → RecallsAt table slot after
+recalls_later table slot before after steps same waits at = record {
+  own = (λ j. record { id = same j; shape = (waits j).shape }) ∙ at.own;
+  desk = at.desk;
+  role = ap (λ (v : View). v.role) waits ∙ at.role;
+  inside = at.inside;
+  untouched = at.untouched;
+}
+
+pub rows_later : (table : Table) (slot : ℕ) (before after : MapSeat) (steps : ℕ) → after.table_id ≡ before.table_id → after.me.0 ≡ waited steps before.me.0 → RecallsRows table slot before → RecallsRows table slot after
+rows_later table slot before after steps same waits ready = record {
+  at = recalls_later table slot before after steps same waits ready.at;
+  row_set = subst (λ (v : View). IsRowSet (bound_of table.shape) (set_in v.marks slot)) (sym waits) ready.row_set;
+}

@@ -1,0 +1,13 @@
+use Rattle.std.proofs.Common.{ap, refl, subst, sym}
+use Rattle.nr_machine.specs.States.{key_of}
+use Rattle.nr_machine.specs.declared.calls.WriterCall.{WriterCall}
+use Rattle.nr_board.proofs.Waiting.{given_out, set_later}
+use Rattle.nr_board.proofs.WriterCalls.{has_lacked, has_published}
+use Rattle.nr_board.proofs.board.Board.replace_reclaiming.Goals as goal
+
+pub returns-in-Ok : goal.returns-in-Ok
+returns-in-Ok g c = let begun = c.in_ok-begin_replace.ensures in let put = c.in-Ok.ensures in let told = has_published (set_later put.0 begun) c.requires.call put.1 in
+    record { rests = told.0; replaces = (put.0, told.1, given_out g.R.RowRoom.shows _ put.1.slot _ _ put.0 c.in-Ok.given begun c.requires.own told.2 put.2) }
+
+pub returns-in-Err : goal.returns-in-Err
+returns-in-Err g c = let told = has_lacked c.in_ok-begin_replace.ensures c.requires.call c.in-Err.ensures.0 in record { rests = told.0; replaces = (told.1, c.in-Err.ensures.1) }

@@ -1,0 +1,51 @@
+-- What a call of the writer has made when it turns to a slot for its set, or has answered before.
+use Rattle.std.specs.Prelude.{◌≡◌, ℕ, ◌+◌, ◌*◌, List, [], length, Result, Ok, Err}
+use Rattle.nr_model.specs.Batches.{applied}
+use Rattle.nr_model.specs.Rows.{IsRowSet}
+use Rattle.nr_model.specs.declared.batches.Delta.{Delta}
+use Rattle.nr_model.specs.declared.rows.Row.{Row}
+use Rattle.nr_machine.specs.Slots.{bound_of}
+use Rattle.nr_machine.specs.Spares.{Spare}
+use Rattle.nr_machine.specs.Story.{call_of}
+use Rattle.nr_machine.specs.Writer.{decided}
+use Rattle.nr_machine.specs.declared.calls.WriterCall.{WriterCall}
+use Rattle.nr_machine.specs.declared.calls.WriterCall.TheVariants.{Fill, Replace, Update}
+use Rattle.nr_machine.specs.declared.places.Place.TheVariants.{Reading}
+use Rattle.nr_marks.specs.Marks.{with_polls}
+use Rattle.nr_board.specs.declared.answers.FillFault.{FillFault}
+use Rattle.nr_board.specs.declared.answers.ReplaceFault.{ReplaceFault}
+use Rattle.nr_board.specs.declared.answers.UpdateFault.{UpdateFault}
+use Rattle.nr_board.specs.Callers.{Grows, Table, token}
+use Rattle.nr_board.specs.Spares.{desk_with}
+use Rattle.nr_board.specs.WriterAnswers.{FillsKey, ReplacesKey, UpdatesKey}
+use Rattle.nr_board.specs.WriterSeats.{KeyHas, LeadsIn, MapSeat, RestsAt, Settles}
+
+-- it has its set after that many steps: it looks for a slot
+pub record HasSet (table : Table) (spare : Spare) (steps : ℕ) (call : WriterCall) (rows : List Row) (before mid : MapSeat) : Type 0 where
+  pub rests : RestsAt table spare before
+  pub settles : Settles table call rows spare mid
+  pub grows : Grows steps (token before) [] (token mid)
+  pub marks : mid.me.0.marks ≡ with_polls before.me.0.marks []
+
+-- the call's look found the key filled, and the call has read the set
+pub record HasRead (table : Table) (spare : Spare) (call : WriterCall) (slot : ℕ) (rows : List Row) (before after : MapSeat) : Type 0 where
+  pub own : (token before).table ≡ table
+  pub rests : RestsAt table spare before
+  pub row_set : IsRowSet (bound_of table.shape) rows
+  pub leads : LeadsIn (2 * length rows + 2) table (call_of call) (decided table.shape (desk_with spare (Reading call slot [])) call rows) before after
+  pub had : KeyHas table call rows (decided table.shape (desk_with spare (Reading call slot [])) call rows).1 after
+  pub marks : after.me.0.marks ≡ with_polls before.me.0.marks []
+
+-- a fill and a replacement have their set by their look
+abbrev pub BeginsFill : Table → Spare → ℕ → ℕ → List Row → MapSeat → MapSeat → Result (Unit {0}) FillFault → Type 0
+BeginsFill table spare key number rows old new (Ok done) = HasSet table spare 1 (Fill key number rows) rows old new
+BeginsFill table spare key number rows old new (Err fault) = RestsAt (token new).table spare new × FillsKey key number rows (token old) (token new) (Err fault)
+
+abbrev pub BeginsReplace : Table → Spare → ℕ → List Row → MapSeat → MapSeat → Result (Unit {0}) ReplaceFault → Type 0
+BeginsReplace table spare key rows old new (Ok done) = HasSet table spare 1 (Replace key rows) rows old new
+BeginsReplace table spare key rows old new (Err fault) = RestsAt (token new).table spare new × ReplacesKey key rows (token old) (token new) (Err fault)
+
+-- an update has read the key's set, and applied the batch to it
+abbrev pub BeginsUpdate : Table → Spare → ℕ → List Delta → List Row → MapSeat → MapSeat → Result (Unit {0}) UpdateFault → Type 0
+BeginsUpdate table spare key batch left old new (Ok done) = (slot : ℕ) × (rows : List Row) × HasRead table spare (Update key batch) slot rows old new × (applied (bound_of table.shape) rows batch ≡ Ok left)
+BeginsUpdate table spare key batch left old new (Err fault) = RestsAt (token new).table spare new × UpdatesKey (bound_of table.shape) key batch (token old) (token new) (Err fault)

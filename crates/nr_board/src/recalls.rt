@@ -1,0 +1,63 @@
+//! How the writer reads the set that was put into a slot last.
+ghost use Rattle.std.specs.Prelude.{◌≡◌, ◌<◌, ◌+◌, ◌*◌, length};
+ghost use Rattle.nr_model.specs.Rows.{IsRowSet};
+ghost use Rattle.nr_marks.specs.Marks.{set_in};
+ghost use Rattle.nr_board.specs.Recalls.{RecallsAt, waited};
+
+use crate::board::{Board, Seat};
+use crate::only_proved::only_proved;
+use nr_model::{Row, RowRoom, RowSource};
+
+/// The writer's seat, which has read how many rows the slot's set has.
+#[derive(Drop)]
+pub struct Recalled<'a> {
+    pub board: &'a Board,
+    pub seat: &'a mut Seat,
+    pub slot: u32,
+}
+
+impl RowSource for Recalled<'_> {
+    ghost use Rattle.nr_marks.specs.Marks.{set_in};
+    ghost use Rattle.nr_board.specs.RecalledRows.{Gave, gives_more, gives_none};
+    ghost use Rattle.nr_board.specs.Recalls.{RecallsRows};
+
+    ghost rows = { λ source. set_in source.seat.now.me.0.marks source.slot };
+
+    ghost is_ready = { λ source _. RecallsRows source.board.now source.slot source.seat.now };
+
+    ghost gave = { Gave };
+
+    fn give(&mut self, place: usize) -> Row {
+        let board = self.board;
+        only_proved(board.rows());
+        let index = 2 * place as u64 + 1;
+        let a = board.recall(self.seat, self.slot, index);
+        let b = board.recall(self.seat, self.slot, index + 1);
+        Row { a, b }
+    }
+
+    ghost gave_none = { gives_none };
+
+    ghost gave_more = { gives_more };
+}
+
+impl Board {
+    /// Writes the set that was put into a slot last over the rows of the caller's, by one read of
+    /// each of its words.
+    pub fn recall_set<R: RowRoom>(&self, seat: &mut Seat, slot: u32, rows: &mut R)
+        requires recalls { RecallsAt self.now slot seat.old }
+        ensures rows { R.shows rows.new (set_in seat.old.me.0.marks slot) }
+        ensures row_set { IsRowSet self.now.shape.rows (set_in seat.old.me.0.marks slot) }
+        ensures own { seat.new.table_id ≡ seat.old.table_id }
+        ensures waits { seat.new.me.0 ≡ waited (2 * length (set_in seat.old.me.0.marks slot) + 1) seat.old.me.0 }
+    {
+        only_proved(self.rows());
+        let count = self.recall(seat, slot, 0);
+        let mut source = Recalled {
+            board: self,
+            seat,
+            slot,
+        };
+        rows.refill(count as usize, &mut source);
+    }
+}

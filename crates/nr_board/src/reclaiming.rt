@@ -1,0 +1,87 @@
+//! The writer's calls that also give out what the slot had that they took.
+ghost use Rattle.std.specs.Prelude.{◌≡◌, ◌<◌};
+ghost use Rattle.nr_model.specs.Batches.{IsBatch};
+ghost use Rattle.nr_model.specs.Rows.{IsRowSet};
+ghost use Rattle.nr_machine.specs.declared.calls.WriterCall.TheVariants as writer;
+ghost use Rattle.nr_board.specs.Callers.{token};
+ghost use Rattle.nr_board.specs.Reclaiming.{FillsReclaiming, ReplacesReclaiming, UpdatesReclaiming};
+ghost use Rattle.nr_board.specs.WriterSeats.{RestsAt};
+
+use crate::answers::{FillFault, Reclaimed, ReplaceFault, UpdateFault};
+use crate::board::{Board, Seat};
+use crate::rule::Given;
+use nr_core::Spare;
+use nr_model::{Delta, Pile, Row, RowRoom};
+
+impl Board {
+    pub fn fill_reclaiming<G: Given, R: RowRoom>(
+        &self,
+        seat: &mut Seat,
+        spare: &mut Spare,
+        key: u32,
+        number: u64,
+        rows: &[Row],
+        had: &mut R,
+    ) -> Result<Reclaimed, FillFault>
+        requires call { G.call ≡ writer.Fill key number rows.now }
+        requires row_set { IsRowSet self.now.shape.rows rows.now }
+        requires own { (token seat.old).table ≡ self.now }
+        requires rests { RestsAt (token seat.old).table spare.old seat.old }
+        requires key { key < self.now.shape.keys }
+        ensures rests { RestsAt (token seat.new).table spare.new seat.new }
+        ensures fills { FillsReclaiming R.shows key number rows.now (token seat.old) had.old (token seat.new) had.new result }
+    {
+        self.begin_fill::<G>(seat, spare, key, number, rows)?;
+        match self.publish_reclaiming::<G, R>(seat, spare, key, rows, had) {
+            Ok(given) => Ok(given),
+            Err(counts) => Err(FillFault::NoSlot(counts)),
+        }
+    }
+
+    pub fn update_reclaiming<G: Given, R: RowRoom>(
+        &self,
+        seat: &mut Seat,
+        spare: &mut Spare,
+        pile: &mut Pile,
+        key: u32,
+        deltas: &[Delta],
+        had: &mut R,
+    ) -> Result<Reclaimed, UpdateFault>
+        requires call { G.call ≡ writer.Update key deltas.now }
+        requires batch { IsBatch deltas.now }
+        requires own { (token seat.old).table ≡ self.now }
+        requires rests { RestsAt (token seat.old).table spare.old seat.old }
+        requires key { key < self.now.shape.keys }
+        ensures rests { RestsAt (token seat.new).table spare.new seat.new }
+        ensures updates { UpdatesReclaiming R.shows self.now.shape.rows key deltas.now (token seat.old) had.old (token seat.new) had.new result }
+    {
+        self.begin_update::<G>(seat, spare, pile, key, deltas)?;
+        match self.publish_reclaiming::<G, R>(seat, spare, key, pile.as_slice(), had) {
+            Ok(given) => Ok(given),
+            Err(counts) => Err(UpdateFault::NoSlot(counts)),
+        }
+    }
+
+    pub fn replace_reclaiming<G: Given, R: RowRoom>(
+        &self,
+        seat: &mut Seat,
+        spare: &mut Spare,
+        key: u32,
+        rows: &[Row],
+        had: &mut R,
+    ) -> Result<Reclaimed, ReplaceFault>
+        requires call { G.call ≡ writer.Replace key rows.now }
+        requires row_set { IsRowSet self.now.shape.rows rows.now }
+        requires own { (token seat.old).table ≡ self.now }
+        requires rests { RestsAt (token seat.old).table spare.old seat.old }
+        requires key { key < self.now.shape.keys }
+        ensures rests { RestsAt (token seat.new).table spare.new seat.new }
+        ensures replaces { ReplacesReclaiming R.shows key rows.now (token seat.old) had.old (token seat.new) had.new result }
+    {
+        self.begin_replace::<G>(seat, spare, key, rows)?;
+        match self.publish_reclaiming::<G, R>(seat, spare, key, rows, had) {
+            Ok(given) => Ok(given),
+            Err(counts) => Err(ReplaceFault::NoSlot(counts)),
+        }
+    }
+}

@@ -1,0 +1,90 @@
+//! The writer's calls that also give out the set which the slot had that they take.
+ghost use Rattle.std.specs.Prelude.{◌≡◌, ◌<◌};
+ghost use Rattle.nr_model.specs.Batches.{IsBatch};
+ghost use Rattle.nr_model.specs.Rows.{IsRowSet};
+
+use crate::reader_map::ReaderMap;
+use crate::writer::Writer;
+use nr_board::{FillFault, Reclaimed, ReplaceFault, UpdateFault};
+use nr_model::{Delta, Row, RowRoom};
+use std::marker::Brand;
+
+// A call takes the next slot that was never taken, and once there is none the first retired one that
+// no reader holds. The set that stands in such a slot is one that no key has, nobody holds, and nobody
+// can find: it is given out before the call's own set is put over it.
+impl ReaderMap {
+    ghost use Rattle.nr_board.specs.Reclaiming.{FillsReclaiming, ReplacesReclaiming, UpdatesReclaiming};
+
+    /// As `fill_rows`, and writes the set that the taken slot had before into `had`, which stays as it
+    /// is where the slot was never taken, and where the fill is refused. Takes 2m + 1 steps more for
+    /// a set of m rows.
+    pub fn fill_reclaiming<R: RowRoom>(
+        &self,
+        writer: &mut Writer,
+        key: u32,
+        number: u64,
+        rows: &[Row],
+        had: &mut R,
+    ) -> Result<Reclaimed, FillFault>
+        requires own { writer.old.table ≡ self.now }
+        requires key { key < self.now.shape.keys }
+        requires row_set { IsRowSet self.now.shape.rows rows.now }
+        ensures { FillsReclaiming R.shows key number rows.now writer.old had.old writer.new had.new result }
+    {
+        self.board.fill_reclaiming::<Brand, R>(
+            &mut writer.seat,
+            &mut writer.spare,
+            key,
+            number,
+            rows,
+            had,
+        )
+    }
+
+    /// As `update_rows`, and writes the set that the taken slot had before into `had`, as
+    /// `fill_reclaiming`. The set that the update replaces comes out once its own slot is taken.
+    pub fn update_reclaiming<R: RowRoom>(
+        &self,
+        writer: &mut Writer,
+        key: u32,
+        deltas: &[Delta],
+        had: &mut R,
+    ) -> Result<Reclaimed, UpdateFault>
+        requires own { writer.old.table ≡ self.now }
+        requires key { key < self.now.shape.keys }
+        requires batch { IsBatch deltas.now }
+        ensures { UpdatesReclaiming R.shows self.now.shape.rows key deltas.now writer.old had.old writer.new had.new result }
+    {
+        self.board.update_reclaiming::<Brand, R>(
+            &mut writer.seat,
+            &mut writer.spare,
+            &mut writer.pile,
+            key,
+            deltas,
+            had,
+        )
+    }
+
+    /// As `replace_rows`, and writes the set that the taken slot had before into `had`, as
+    /// `fill_reclaiming`.
+    pub fn replace_reclaiming<R: RowRoom>(
+        &self,
+        writer: &mut Writer,
+        key: u32,
+        rows: &[Row],
+        had: &mut R,
+    ) -> Result<Reclaimed, ReplaceFault>
+        requires own { writer.old.table ≡ self.now }
+        requires key { key < self.now.shape.keys }
+        requires row_set { IsRowSet self.now.shape.rows rows.now }
+        ensures { ReplacesReclaiming R.shows key rows.now writer.old had.old writer.new had.new result }
+    {
+        self.board.replace_reclaiming::<Brand, R>(
+            &mut writer.seat,
+            &mut writer.spare,
+            key,
+            rows,
+            had,
+        )
+    }
+}
