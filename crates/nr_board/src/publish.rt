@@ -123,8 +123,8 @@ impl Board {
     {
         let (taken, given) = self.take_reclaiming::<G, R>(seat, spare, rows, had)?;
         self.put_rows::<G>(seat, rows, taken);
-        let old_word = self.publish(seat, key, taken.slot, taken.departures);
-        spare.retire(old_word);
+        let named = self.publish(seat, key, taken.slot, taken.departures);
+        spare.retire(named);
         Ok(given)
     }
 

@@ -9,3 +9,4 @@ pub mod HandSteps
 pub mod FindsEach
 pub mod FindsGroups
 pub mod RowBounds
+pub mod Ledgers

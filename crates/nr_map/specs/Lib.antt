@@ -9,3 +9,4 @@ pub mod FindsEach
 pub mod ExactPlaces
 pub mod SlotBounds
 pub mod RowBounds
+pub mod Reclaims

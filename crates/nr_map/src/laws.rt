@@ -2,6 +2,7 @@
 ghost use Rattle.nr_map.specs.ExactPlaces.{DoneMeansFewerInUse, NoSlotMeansAllInUse};
 ghost use Rattle.nr_map.specs.Written.{FindsWhatItHeard, FindsWritten, HearsAllCalls, ReadsNoOlder};
 ghost use Rattle.nr_map.specs.SlotBounds.{NoSlotIsRare, PollsAreFew, RoomForFills, RoomForReplacements, RoomForUpdates};
+ghost use Rattle.nr_map.specs.Reclaims.{HandedOutOnce, LedgerStays, NobodyHoldsIt};
 ghost use Rattle.nr_map.specs.RowBounds.{RowsFitTheMap};
 ghost use Rattle.nr_map.specs.Rounds.{BeginningsMeet, CallsStay, EntriesAreCallers, RoundsTellAll, SendsOfAll, SendsOfAllKeys};
 
@@ -103,6 +104,23 @@ pub fn reads_no_older()
 /// Who hears a note has all calls that its maker had made.
 pub fn hears_all_calls()
     ensures { HearsAllCalls }
+{}
+
+/// Each set that was put is let go at most once: by the call that takes its slot again, which gives
+/// it out if it is a reclaiming one. Those that no call let go stand in the slots that were taken,
+/// one in each. A caller carries the ledger along, from an opening on.
+pub fn handed_out_once()
+    ensures { HandedOutOnce }
+{}
+
+/// A call that puts nothing, takes no slot and names none leaves the ledger as it was.
+pub fn ledger_stays()
+    ensures { LedgerStays }
+{}
+
+/// A reader that was gathered holds a set that stands in a slot, and so none that was let go.
+pub fn nobody_holds_it()
+    ensures { NobodyHoldsIt }
 {}
 
 /// In the history that a token has seen, each filled key has at most as many rows as a key of its

@@ -79,12 +79,7 @@ impl ReaderMap {
         requires row_set { IsRowSet self.now.shape.rows rows.now }
         ensures { ReplacesReclaiming R.shows key rows.now writer.old had.old writer.new had.new result }
     {
-        self.board.replace_reclaiming::<Brand, R>(
-            &mut writer.seat,
-            &mut writer.spare,
-            key,
-            rows,
-            had,
-        )
+        self.board
+            .replace_reclaiming::<Brand, R>(&mut writer.seat, &mut writer.spare, key, rows, had)
     }
 }

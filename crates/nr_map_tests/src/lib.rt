@@ -17,6 +17,8 @@ mod notes;
 #[cfg(test)]
 mod pins;
 #[cfg(test)]
+mod reclaiming;
+#[cfg(test)]
 mod replaces;
 #[cfg(test)]
 mod rows;

@@ -20,6 +20,7 @@ mod notes;
 mod opening;
 mod pins;
 mod queue;
+mod reclaiming;
 mod rooms;
 mod sizes;
 mod slots;
@@ -58,6 +59,7 @@ fn show_sizes<R: AllocGlobal + Print>(rt: &R) -> anyhow::Result<()> {
     let alloc = rt.alloc();
     let change = Batch::of(&CHANGE)?;
     rooms::show(rt, &rooms::passed_over(alloc)?)?;
+    reclaiming::show(rt, &reclaiming::given_back(alloc)?)?;
     slots::show(rt, &slots::short_of_slots(alloc, &change)?)?;
     let more = Batch::of(&MORE)?;
     sizes::show(rt, &sizes::kept_small(alloc, &change, &more)?)?;
