@@ -32,6 +32,11 @@ uint32_t nr_find(nr_reader *reader, uint32_t key, nr_rows *rows) {
   return reader ? proved_nr_find(reader, key, rows) : NR_CLOSED;
 }
 
+uint32_t proved_nr_find_each(nr_reader *reader, nr_wanted *wanted, size_t n);
+uint32_t nr_find_each(nr_reader *reader, nr_wanted *wanted, size_t n) {
+  return reader ? proved_nr_find_each(reader, wanted, n) : NR_CLOSED;
+}
+
 uint32_t proved_nr_ask(nr_reader *reader, uint32_t key, uint64_t *number);
 uint32_t nr_ask(nr_reader *reader, uint32_t key, uint64_t *number) {
   return reader ? proved_nr_ask(reader, key, number) : NR_CLOSED;
@@ -85,6 +90,11 @@ uint32_t nr_fill(nr_writer *writer, uint32_t key, uint64_t number, const nr_row 
 uint32_t proved_nr_update(nr_writer *writer, uint32_t key, const nr_delta *deltas, size_t n);
 uint32_t nr_update(nr_writer *writer, uint32_t key, const nr_delta *deltas, size_t n) {
   return writer ? proved_nr_update(writer, key, deltas, n) : NR_CLOSED;
+}
+
+uint32_t proved_nr_replace(nr_writer *writer, uint32_t key, const nr_row *rows, size_t n);
+uint32_t nr_replace(nr_writer *writer, uint32_t key, const nr_row *rows, size_t n) {
+  return writer ? proved_nr_replace(writer, key, rows, n) : NR_CLOSED;
 }
 
 uint32_t proved_nr_evict(nr_writer *writer, uint32_t key);

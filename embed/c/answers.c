@@ -1,5 +1,5 @@
-/* Each answer of each function but NR_NO_MEMORY, which refused.c has, and what a call leaves as it was where it tells
-   nothing. */
+/* Each answer of each function but NR_NO_MEMORY, which refused.c has, and NR_IN_THE_WAY, for which another thread has to
+   be in the midst of a post; and what a call leaves as it was where it tells nothing. */
 #include "../../include/nr.h"
 #include <stdio.h>
 #include <stdlib.h>
@@ -27,6 +27,7 @@ static void test_writer(nr_writer *writer, nr_reader *reader) {
   WANTS(NR_NOTHING, nr_cancel(writer, 0));
   WANTS(NR_NOT_ASKED, nr_fill(writer, 0, 0, &one, 1));
   WANTS(NR_DROPPED, nr_update(writer, 0, &more, 1));
+  WANTS(NR_DROPPED, nr_replace(writer, 0, &one, 1));
   wants("rows that stay", 99, (uint32_t)rows.count);
 
   WANTS(NR_SEND, nr_ask(reader, 0, &number));
@@ -43,6 +44,9 @@ static void test_writer(nr_writer *writer, nr_reader *reader) {
   WANTS(NR_BAD_BATCH, nr_update(writer, 0, many, 65));
   WANTS(NR_NO_ROW, nr_update(writer, 0, &less, 1));
   WANTS(NR_ALL_FILLED, nr_update(writer, 0, &more, 1));
+  WANTS(NR_ALL_FILLED, nr_replace(writer, 0, &two, 1));
+  WANTS(NR_TOO_MANY, nr_replace(writer, 0, three, 3));
+  WANTS(NR_NOT_SORTED, nr_replace(writer, 0, down, 2));
   WANTS(NR_TOO_MANY, nr_update(writer, 0, many, 2));
   WANTS(NR_SEND, nr_ask(reader, 1, &number));
   WANTS(NR_ALL_FILLED, nr_fill(writer, 1, number, &one, 1));
@@ -76,6 +80,7 @@ static void test_reader(nr_writer *writer, nr_reader *reader) {
   WANTS(NR_DONE, nr_fill(writer, 0, 4194303, &one, 1));
   WANTS(NR_FILLED, nr_ask(reader, 0, &number));
   wants("a number that stays", 88, (uint32_t)number);
+  WANTS(NR_SEND, nr_ask(reader, 1, &number));
 
   WANTS(NR_ROWS, nr_find(reader, 0, &rows));
   WANTS(NR_ROWS, nr_pin(reader, 0, &count));
@@ -91,7 +96,28 @@ static void test_reader(nr_writer *writer, nr_reader *reader) {
   WANTS(NR_OTHER, nr_again(reader, 0));
   WANTS(NR_ROWS, nr_find_kept(reader, 0, &rows));
   wants("the rows after an update", 2, (uint32_t)rows.count);
+  WANTS(NR_DONE, nr_replace(writer, 0, &two, 1));
+  WANTS(NR_DONE, nr_fill(writer, 1, 4194303, &one, 1));
+  WANTS(NR_NO_SLOT, nr_replace(writer, 0, &two, 1));
+  WANTS(NR_EVICTED, nr_evict(writer, 1));
   nr_release(reader);
+  WANTS(NR_ROWS, nr_find(reader, 0, &rows));
+  wants("the rows after a replacement", 1, (uint32_t)rows.count);
+  const nr_row both[2] = {one, two};
+  WANTS(NR_DONE, nr_replace(writer, 0, both, 2));
+}
+
+/* Finds of many keys, of which one is a hole. */
+static void test_each(nr_reader *reader) {
+  static nr_wanted wanted[3];
+  wanted[1].key = 1;
+  wanted[1].rows.count = 99;
+  WANTS(NR_DONE, nr_find_each(reader, wanted, 3));
+  WANTS(NR_ROWS, wanted[0].answer);
+  WANTS(NR_HOLE, wanted[1].answer);
+  WANTS(NR_ROWS, wanted[2].answer);
+  wants("rows that stay", 99, (uint32_t)wanted[1].rows.count);
+  wants("rows that were found", 2, (uint32_t)wanted[2].rows.count);
 }
 
 /* Who gives a key that the map and the queue haven't. */
@@ -102,11 +128,17 @@ static void test_no_key(nr_writer *writer, nr_reader *reader, nr_poster *poster)
   static nr_rows rows;
   WANTS(NR_NO_KEY, nr_find(reader, 2, &rows));
   WANTS(NR_NO_KEY, nr_find_kept(reader, 2, &rows));
+  static nr_wanted wanted[2];
+  wanted[1].key = 2;
+  wanted[0].answer = 66;
+  WANTS(NR_NO_KEY, nr_find_each(reader, wanted, 2));
+  wants("an answer that stays", 66, wanted[0].answer);
   WANTS(NR_NO_KEY, nr_ask(reader, 2, &number));
   WANTS(NR_NO_KEY, nr_pin(reader, 2, &count));
   WANTS(NR_NO_KEY, nr_look(writer, 2, &rows));
   WANTS(NR_NO_KEY, nr_fill(writer, 2, 0, &one, 1));
   WANTS(NR_NO_KEY, nr_update(writer, 2, &more, 1));
+  WANTS(NR_NO_KEY, nr_replace(writer, 2, &one, 1));
   WANTS(NR_NO_KEY, nr_evict(writer, 2));
   WANTS(NR_NO_KEY, nr_cancel(writer, 2));
   WANTS(NR_NO_KEY, nr_state(writer, 2));
@@ -136,6 +168,8 @@ static void test_holding(nr_writer *writer, nr_reader *reader) {
   count = 77;
   WANTS(NR_HOLDING, nr_pin(reader, 0, &count));
   WANTS(NR_HOLDING, nr_find(reader, 0, &rows));
+  static nr_wanted wanted;
+  WANTS(NR_HOLDING, nr_find_each(reader, &wanted, 1));
   WANTS(NR_HOLDING, nr_ask(reader, 1, &number));
   WANTS(NR_HOLDING, nr_meet(reader, writer));
   WANTS(NR_HOLDING, nr_gather(writer, reader));
@@ -155,11 +189,11 @@ static void test_queue(nr_taker *taker, nr_poster *poster) {
   nr_taker no_room = {0};
   WANTS(NR_NO_POSTER, nr_open_poster(taker, &none));
   WANTS(NR_BAD_SIZE, nr_open_queue(2, 0, 1, &no_room));
-  WANTS(NR_NOT_TAKEN, nr_take(taker, &key, &number));
+  WANTS(NR_EMPTY, nr_take(taker, &key, &number));
   wants("a key that stays", 77, key);
   wants("a number that stays", 88, (uint32_t)number);
   WANTS(NR_DONE, nr_post(poster, 1, 3));
-  WANTS(NR_NOT_POSTED, nr_post(poster, 0, 4));
+  WANTS(NR_FULL, nr_post(poster, 0, 4));
   WANTS(NR_DONE, nr_take(taker, &key, &number));
   wants("the key that was posted", 1, key);
   wants("the number that was posted", 3, (uint32_t)number);
@@ -180,6 +214,8 @@ static void test_closed(nr_writer *writer, nr_reader *reader, nr_taker *taker, n
   WANTS(NR_CLOSED, nr_return_reader(writer, reader));
   WANTS(NR_CLOSED, nr_find(reader, 0, &rows));
   WANTS(NR_CLOSED, nr_find_kept(reader, 0, &rows));
+  static nr_wanted wanted;
+  WANTS(NR_CLOSED, nr_find_each(reader, &wanted, 1));
   WANTS(NR_CLOSED, nr_ask(reader, 0, &number));
   WANTS(NR_CLOSED, nr_pin(reader, 0, &count));
   WANTS(NR_CLOSED, nr_row_at(reader, 0, &row));
@@ -190,6 +226,7 @@ static void test_closed(nr_writer *writer, nr_reader *reader, nr_taker *taker, n
   WANTS(NR_CLOSED, nr_look(writer, 0, &rows));
   WANTS(NR_CLOSED, nr_fill(writer, 0, 0, &one, 1));
   WANTS(NR_CLOSED, nr_update(writer, 0, &more, 1));
+  WANTS(NR_CLOSED, nr_replace(writer, 0, &one, 1));
   WANTS(NR_CLOSED, nr_evict(writer, 0));
   WANTS(NR_CLOSED, nr_cancel(writer, 0));
   WANTS(NR_CLOSED, nr_state(writer, 0));
@@ -267,6 +304,7 @@ int main(void) {
   WANTS(NR_LIVE, nr_open_poster(&taker, &poster));
   test_writer(&writer, &reader);
   test_reader(&worn, &other);
+  test_each(&other);
   test_no_key(&worn, &other, &poster);
   test_holding(&worn, &other);
   test_other_closed(&worn, &other);

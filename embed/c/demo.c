@@ -51,16 +51,16 @@ static void *reads(void *given) {
 static void test_queue(nr_taker *taker, nr_poster *poster) {
   uint32_t key = 77;
   uint64_t number = 88;
-  if (nr_take(taker, &key, &number) != NR_NOT_TAKEN || key != 77 || number != 88) stop("a take of nothing");
+  if (nr_take(taker, &key, &number) != NR_EMPTY || key != 77 || number != 88) stop("a take of nothing");
   for (uint32_t i = 0; i < KEYS; i++)
     if (nr_post(poster, i, i + 5) != NR_DONE) stop("a post");
-  if (nr_post(poster, 1, 1) != NR_NOT_POSTED) stop("a post too many");
+  if (nr_post(poster, 1, 1) != NR_FULL) stop("a post too many");
   for (uint32_t i = 0; i < KEYS; i++)
     if (nr_take(taker, &key, &number) != NR_DONE || key != i || number != i + 5) stop("a take");
-  if (nr_take(taker, &key, &number) != NR_NOT_TAKEN) stop("a take too many");
+  if (nr_take(taker, &key, &number) != NR_EMPTY) stop("a take too many");
   nr_taker small = {0};
   if (nr_open_queue(KEYS, 0, 1, &small) != NR_BAD_SIZE) stop("a queue without room");
-  if (nr_open_queue(KEYS, 1, 1025, &small) != NR_BAD_SIZE) stop("1,025 posters");
+  if (nr_open_queue(KEYS, 1, 65536, &small) != NR_BAD_SIZE) stop("65,536 posters");
 }
 
 /* A reader that holds nothing keeps what it finds: it finds the same set again, another one after an update, another key's,
@@ -182,7 +182,7 @@ int main(void) {
   test_no_key(&writer, &clients[1].reader, &clients[0].poster, UINT32_MAX);
   uint32_t key = 0;
   uint64_t number = 0;
-  if (nr_take(&taker, &key, &number) != NR_NOT_TAKEN) stop("a take of no key");
+  if (nr_take(&taker, &key, &number) != NR_EMPTY) stop("a take of no key");
   test_calls(&writer, &clients[0].reader, &clients[1].reader);
   for (int i = 0; i < READERS; i++) {
     nr_close_reader(&clients[i].reader);

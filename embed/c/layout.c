@@ -16,6 +16,10 @@ LIES(nr_row, b, 8);
 TAKES(nr_rows, 8 + 255 * 16);
 LIES(nr_rows, count, 0);
 LIES(nr_rows, row, 8);
+TAKES(nr_wanted, 8 + 8 + 255 * 16);
+LIES(nr_wanted, key, 0);
+LIES(nr_wanted, answer, 4);
+LIES(nr_wanted, rows, 8);
 TAKES(nr_delta, 24);
 LIES(nr_delta, row, 0);
 LIES(nr_delta, plus, 16);
@@ -149,7 +153,7 @@ static void test_closing(void) {
 
 /* Each answer has words of its own, and the library is of this header's version. */
 static void test_words(void) {
-  const uint32_t answers = NR_LIVE + 1;
+  const uint32_t answers = NR_IN_THE_WAY + 1;
   for (uint32_t one = 0; one < answers; one++)
     for (uint32_t other = one + 1; other <= answers; other++)
       wants("two answers in the same words", 1, strcmp(nr_strerror(one), nr_strerror(other)) != 0);

@@ -59,6 +59,11 @@ static void call_all(nr_writer *writer, nr_reader *reader, nr_reader *other, nr_
   want(nr_update(writer, key, &batch, 1) == NR_DONE, "an update");
   want(nr_look(writer, key, &found) == NR_ROWS && nr_state(writer, key) == NR_ROWS, "a look");
   want(nr_find(reader, key, &found) == NR_ROWS && found.count == 3, "a find");
+  want(nr_replace(writer, key, rows, 1) == NR_DONE && nr_replace(writer, key, rows, 2) == NR_DONE, "a replacement");
+  want(nr_update(writer, key, &batch, 1) == NR_DONE, "an update of what was replaced");
+  static nr_wanted wanted;
+  wanted.key = key;
+  want(nr_find_each(reader, &wanted, 1) == NR_DONE && wanted.answer == NR_ROWS, "finds by one call");
   nr_meet(reader, writer);
   nr_meet_readers(reader, other);
   nr_gather(writer, reader);

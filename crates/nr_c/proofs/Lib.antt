@@ -3,3 +3,4 @@ pub mod AsWriterBox
 pub mod AsPosterBox
 pub mod AsTakerBox
 pub mod Ending
+pub mod FindsMade

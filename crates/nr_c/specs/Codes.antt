@@ -1,6 +1,6 @@
 -- The number that stands for each answer.
 use Rattle.std.specs.Prelude.{ℕ, ◌==◌, if◌then◌else◌, Result, Ok, Err}
-use Rattle.nr_c.specs.Numbers.{answer_already, answer_asked, answer_cancelled, answer_done, answer_dropped, answer_evicted, answer_filled, answer_hole, answer_no_row, answer_all_filled, answer_no_slot, answer_not_asked, answer_nothing, answer_rows, answer_send, answer_stale, answer_too_many, answer_waiting, answer_worn}
+use Rattle.nr_c.specs.Numbers.{answer_already, answer_asked, answer_cancelled, answer_done, answer_dropped, answer_empty, answer_evicted, answer_filled, answer_full, answer_hole, answer_in_the_way, answer_no_row, answer_all_filled, answer_no_slot, answer_not_asked, answer_nothing, answer_rows, answer_send, answer_stale, answer_too_many, answer_waiting, answer_worn}
 use Rattle.nr_machine.specs.declared.calls.NoSlot.{NoSlot}
 use Rattle.nr_map.specs.declared.answers.Asked.{Asked}
 use Rattle.nr_map.specs.declared.answers.Asked.TheVariants as asked
@@ -10,12 +10,18 @@ use Rattle.nr_board.specs.declared.answers.Evict.{Evict}
 use Rattle.nr_board.specs.declared.answers.Evict.TheVariants as evict
 use Rattle.nr_board.specs.declared.answers.FillFault.{FillFault}
 use Rattle.nr_board.specs.declared.answers.FillFault.TheVariants as fill
+use Rattle.nr_board.specs.declared.answers.ReplaceFault.{ReplaceFault}
+use Rattle.nr_board.specs.declared.answers.ReplaceFault.TheVariants as replace
 use Rattle.nr_board.specs.declared.answers.UpdateFault.{UpdateFault}
 use Rattle.nr_board.specs.declared.answers.UpdateFault.TheVariants as update
 use Rattle.nr_board.specs.declared.answers.Found.{Found}
 use Rattle.nr_board.specs.declared.answers.Found.TheVariants as found
 use Rattle.nr_board.specs.declared.answers.KeyKind.{KeyKind}
 use Rattle.nr_board.specs.declared.answers.KeyKind.TheVariants as kind
+use Rattle.nr_trigger.specs.declared.faults.PostFault.{PostFault}
+use Rattle.nr_trigger.specs.declared.faults.PostFault.TheVariants as post
+use Rattle.nr_trigger.specs.declared.faults.TakeFault.{TakeFault}
+use Rattle.nr_trigger.specs.declared.faults.TakeFault.TheVariants as take
 
 abbrev pub found_code : Found → ℕ
 found_code found.Rows = answer_rows
@@ -44,6 +50,11 @@ update_code (Err update.NoRow) = answer_no_row
 update_code (Err update.TooMany) = answer_too_many
 update_code (Err (update.NoSlot counts)) = no_slot_code counts
 
+abbrev pub replace_code : Result (Unit {0}) ReplaceFault → ℕ
+replace_code (Ok done) = answer_done
+replace_code (Err replace.Dropped) = answer_dropped
+replace_code (Err (replace.NoSlot counts)) = no_slot_code counts
+
 abbrev pub evict_code : Evict → ℕ
 evict_code evict.Evicted = answer_evicted
 evict_code evict.Nothing = answer_nothing
@@ -57,3 +68,12 @@ abbrev pub kind_code : KeyKind → ℕ
 kind_code kind.Hole = answer_hole
 kind_code kind.Asked = answer_asked
 kind_code kind.Rows = answer_rows
+
+abbrev pub post_code : Result (Unit {0}) PostFault → ℕ
+post_code (Ok done) = answer_done
+post_code (Err post.Full) = answer_full
+post_code (Err post.InTheWay) = answer_in_the_way
+
+abbrev pub take_code : TakeFault → ℕ
+take_code take.Empty = answer_empty
+take_code take.InTheWay = answer_in_the_way

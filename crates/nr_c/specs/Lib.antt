@@ -1,6 +1,7 @@
 pub mod Numbers
 pub mod Codes
 pub mod RowCells
+pub mod Rows
 pub mod Hands
 pub mod Sizes
 pub mod ReaderHandles
@@ -12,6 +13,7 @@ pub mod Live
 pub mod Meets
 pub mod Pins
 pub mod Kept
+pub mod Many
 pub mod Writes
 pub mod PosterHandles
 pub mod PosterFollows

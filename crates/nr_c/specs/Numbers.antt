@@ -73,11 +73,11 @@ answer_no_reader = 22
 abbrev pub answer_no_poster : ℕ
 answer_no_poster = 23
 
-abbrev pub answer_not_posted : ℕ
-answer_not_posted = 24
+abbrev pub answer_full : ℕ
+answer_full = 24
 
-abbrev pub answer_not_taken : ℕ
-answer_not_taken = 25
+abbrev pub answer_empty : ℕ
+answer_empty = 25
 
 abbrev pub answer_other : ℕ
 answer_other = 26
@@ -99,6 +99,9 @@ answer_closed = 31
 
 abbrev pub answer_live : ℕ
 answer_live = 32
+
+abbrev pub answer_in_the_way : ℕ
+answer_in_the_way = 33
 
 -- the version 0.1.0, whose numbers have 8 bits each
 abbrev pub version : ℕ

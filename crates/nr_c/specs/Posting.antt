@@ -1,9 +1,14 @@
 -- What a post and a take say of their tokens, by their codes.
-use Rattle.std.specs.Prelude.{ℕ, ◌≡◌, ◌<◌, ◌+◌, ◌⊎◌, List, [], ◌∷◌, ◌++◌}
+use Rattle.std.specs.Prelude.{ℕ, ◌≡◌, ◌<◌, ◌+◌, ◌⊎◌, List, [], ◌∷◌, ◌++◌, MatchResult, Result}
+use Rattle.nr_trigger.specs.declared.faults.PostFault.{PostFault}
+use Rattle.nr_trigger.specs.declared.faults.PostFault.TheVariants as post
+use Rattle.nr_trigger.specs.declared.faults.TakeFault.{TakeFault}
+use Rattle.nr_trigger.specs.declared.faults.TakeFault.TheVariants as take
 use Rattle.nr_trigger.specs.declared.post.Post.{Post}
 use Rattle.nr_trigger.specs.declared.post.Upquery.{Upquery}
-use Rattle.nr_trigger.specs.Tokens.{IsSamePoster, IsSameTaker, PosterSeen, TakerSeen, poster_tried, taker_tried}
-use Rattle.nr_c.specs.Numbers.{answer_done, answer_not_posted, answer_not_taken}
+use Rattle.nr_trigger.specs.Tokens.{IsSamePoster, IsSameTaker, PosterSeen, TakerSeen, WasEmpty, WasFull, poster_tried, taker_tried}
+use Rattle.nr_c.specs.Codes.{post_code, take_code}
+use Rattle.nr_c.specs.Numbers.{answer_done}
 use Rattle.nr_c.specs.declared.poster_side.PosterSide.{PosterSide}
 use Rattle.nr_c.specs.declared.taker_side.TakerSide.{TakerSide}
 
@@ -33,13 +38,19 @@ poster_keys side = side.poster.keys
 abbrev pub request_of : ℕ → ℕ → Upquery
 request_of key number = record { key = key; number = number }
 
--- a post by its code: the poster has posted the request, or nothing
-abbrev pub PostsByCode : ℕ → ℕ → ℕ → PosterSeen → PosterSeen → Type 0
-PostsByCode key number code old new =
-    IsSamePoster old new × (new.tries ≡ old.tries + 1) × (((code ≡ answer_done) × (new.posted ≡ old.posted ++ request_of key number ∷ [])) ⊎ ((code ≡ answer_not_posted) × (new ≡ poster_tried old)))
+-- a post by its code: the poster has posted the request; or nothing, and where the queue was full it was so at one moment of the call
+abbrev pub PostsByCode : ℕ → ℕ → ℕ → ℕ → PosterSeen → PosterSeen → Type 0
+PostsByCode capacity key number code old new =
+    IsSamePoster old new × (new.tries ≡ old.tries + 1) × (answer : Result (Unit {0}) PostFault) × (code ≡ post_code answer)
+    × MatchResult answer (λ _. new.posted ≡ old.posted ++ request_of key number ∷ []) (λ fault. (new ≡ poster_tried old) × (fault ≡ post.Full → WasFull capacity old))
 
--- a take by its code: the taker has taken a request of a key below the number, which is told, or nothing, and what stood there stays
+-- by a poster's handle
+abbrev pub PostsOn : ℕ → ℕ → ℕ → List PosterSide → List PosterSide → Type 0
+PostsOn key number code before after = (held : PosterSide) × (before ≡ held ∷ []) × PosterCalls (PostsByCode held.queue.value.capacity key number code) before after
+
+-- a take by its code: the taker has taken a request of a key below the number, which is told; or nothing, what stood there stays, and where the queue was empty it was so at one moment of the call
 abbrev pub TakesByCode : ℕ → ℕ → ℕ → ℕ → ℕ → TakerSeen → TakerSeen → Type 0
 TakesByCode key number key' number' code old new =
     IsSameTaker old new × (new.tries ≡ old.tries + 1)
-    × (((code ≡ answer_done) × (post : Post) × (new.taken ≡ old.taken ++ post ∷ []) × (post.upquery ≡ request_of key' number') × (key' < old.keys)) ⊎ ((code ≡ answer_not_taken) × (new ≡ taker_tried old) × (key' ≡ key) × (number' ≡ number)))
+    × (((code ≡ answer_done) × (post : Post) × (new.taken ≡ old.taken ++ post ∷ []) × (post.upquery ≡ request_of key' number') × (key' < old.keys))
+    ⊎ ((fault : TakeFault) × (code ≡ take_code fault) × (new ≡ taker_tried old) × (fault ≡ take.Empty → WasEmpty old) × (key' ≡ key) × (number' ≡ number)))

@@ -1,33 +1,34 @@
 -- What each call of the writer says of its token, by its code.
-use Rattle.std.specs.Prelude.{ℕ, ◌≡◌, ◌<◌, ◌≤◌, ◌⊎◌, List, length, false, Result}
+use Rattle.std.specs.Prelude.{ℕ, ◌≡◌, ◌<◌, ◌⊎◌, List, length, Result}
 use Rattle.nr_model.specs.declared.batches.Delta.{Delta}
 use Rattle.nr_model.specs.declared.batches.TheConstants.{MAX_DELTAS}
 use Rattle.nr_model.specs.declared.rows.Row.{Row}
 use Rattle.nr_model.specs.Maps.{number_of, state_of}
 use Rattle.nr_model.specs.Batches.{IsBatch}
-use Rattle.nr_model.specs.Rows.{IsRowSet, is_ascending}
+use Rattle.nr_model.specs.Rows.{IsRowSet}
 use Rattle.nr_board.specs.declared.answers.Cancel.{Cancel}
 use Rattle.nr_board.specs.declared.answers.Evict.{Evict}
 use Rattle.nr_board.specs.declared.answers.FillFault.{FillFault}
 use Rattle.nr_board.specs.declared.answers.Found.{Found}
 use Rattle.nr_board.specs.declared.answers.KeyKind.{KeyKind}
+use Rattle.nr_board.specs.declared.answers.ReplaceFault.{ReplaceFault}
 use Rattle.nr_board.specs.declared.answers.UpdateFault.{UpdateFault}
-use Rattle.nr_board.specs.WriterAnswers.{CancelsKey, EvictsKey, FillsKey, LooksIn, UpdatesKey}
+use Rattle.nr_board.specs.WriterAnswers.{CancelsKey, EvictsKey, FillsKey, LooksIn, ReplacesKey, UpdatesKey}
 use Rattle.nr_board.specs.Callers.{Caller, map_seen}
 use Rattle.nr_board.specs.Meetings.{StatesKey}
-use Rattle.nr_c.specs.Numbers.{answer_bad_batch, answer_done, answer_not_sorted, answer_too_many}
+use Rattle.nr_c.specs.Numbers.{answer_bad_batch, answer_done}
 use Rattle.nr_c.specs.declared.rows.NrRows.{NrRows}
-use Rattle.nr_c.specs.Codes.{cancel_code, evict_code, fill_code, found_code, kind_code, update_code}
+use Rattle.nr_c.specs.Codes.{cancel_code, evict_code, fill_code, found_code, kind_code, replace_code, update_code}
 use Rattle.nr_c.specs.RowCells.{ShowsSet}
+use Rattle.nr_c.specs.Rows.{AreRefused}
 
 -- a find of the writer's own: the caller's cells show the rows of the reply, and stay as they are on a hole
 abbrev pub LooksByCode : ℕ → NrRows → NrRows → ℕ → Caller → Caller → Type 0
 LooksByCode key before after code old new = (found : Found) × (code ≡ found_code found) × LooksIn ShowsSet key old before new after found
 
--- rows that no fill takes: more than a key may have, and else out of order
+-- rows that are no key's change nothing
 abbrev pub RefusesRows : List Row → ℕ → Caller → Caller → Type 0
-RefusesRows rows code old new =
-    let bound = old.table.shape.rows in (((code ≡ answer_too_many) × (bound < length rows)) ⊎ ((code ≡ answer_not_sorted) × (length rows ≤ bound) × (is_ascending rows ≡ false))) × (new ≡ old)
+RefusesRows rows code old new = AreRefused old.table.shape.rows rows code × (new ≡ old)
 
 -- any others are the map's fill
 abbrev pub MapFills : ℕ → ℕ → List Row → ℕ → Caller → Caller → Type 0
@@ -35,6 +36,13 @@ MapFills key number rows code old new = IsRowSet old.table.shape.rows rows × (a
 
 abbrev pub FillsByCode : ℕ → ℕ → List Row → ℕ → Caller → Caller → Type 0
 FillsByCode key number rows code old new = RefusesRows rows code old new ⊎ MapFills key number rows code old new
+
+-- and for a replacement
+abbrev pub MapReplaces : ℕ → List Row → ℕ → Caller → Caller → Type 0
+MapReplaces key rows code old new = IsRowSet old.table.shape.rows rows × (answer : Result (Unit {0}) ReplaceFault) × (code ≡ replace_code answer) × ReplacesKey key rows old new answer
+
+abbrev pub ReplacesByCode : ℕ → List Row → ℕ → Caller → Caller → Type 0
+ReplacesByCode key rows code old new = RefusesRows rows code old new ⊎ MapReplaces key rows code old new
 
 -- signed rows that are none or too many, and any others
 abbrev pub RefusesBatch : List Delta → ℕ → Caller → Caller → Type 0

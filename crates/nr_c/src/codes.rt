@@ -1,9 +1,10 @@
 //! The numbers that stand for answers. C has them as constants of the same names, and each answer
 //! has one of its own, whichever call it answers.
 ghost use Rattle.std.specs.Prelude.{◌≡◌};
-ghost use Rattle.nr_c.specs.Codes.{cancel_code, evict_code, fill_code, found_code, kind_code, no_slot_code, update_code};
+ghost use Rattle.nr_c.specs.Codes.{cancel_code, evict_code, fill_code, found_code, kind_code, no_slot_code, post_code, replace_code, take_code, update_code};
 
-use nr_map::{Cancel, Evict, FillFault, Found, KeyKind, NoSlot, UpdateFault};
+use nr_map::{Cancel, Evict, FillFault, Found, KeyKind, NoSlot, ReplaceFault, UpdateFault};
+use nr_trigger::{PostFault, TakeFault};
 
 /// To a find: the rows of a filled key.
 pub const NR_ROWS: u32 = 0;
@@ -20,7 +21,7 @@ pub const NR_WAITING: u32 = 3;
 /// To a request: the key is filled.
 pub const NR_FILLED: u32 = 4;
 
-/// To a fill or an update: the rows stand. To what opens: the handle is live.
+/// To a fill, an update or a replacement: the rows stand. To what opens: the handle is live.
 pub const NR_DONE: u32 = 5;
 
 /// To a fill: nobody asked for the key.
@@ -32,16 +33,16 @@ pub const NR_ALREADY: u32 = 7;
 /// To a fill: the request that it answers was taken back.
 pub const NR_STALE: u32 = 8;
 
-/// To an update: the key is not filled.
+/// To an update or a replacement: the key is not filled.
 pub const NR_DROPPED: u32 = 9;
 
 /// To an update: a row to be taken away is not there.
 pub const NR_NO_ROW: u32 = 10;
 
-/// To a fill or an update: more rows than a key may have.
+/// To a fill, an update or a replacement: more rows than a key may have.
 pub const NR_TOO_MANY: u32 = 11;
 
-/// To a fill or an update: there is no slot, and readers hold some.
+/// To a fill, an update or a replacement: there is no slot, and readers hold some.
 pub const NR_NO_SLOT: u32 = 12;
 
 /// To an eviction: the key was filled and is a hole now.
@@ -62,7 +63,7 @@ pub const NR_ASKED: u32 = 17;
 /// To an update: its batch has no rows, or more than 64.
 pub const NR_BAD_BATCH: u32 = 18;
 
-/// To a fill: its rows are not in ascending order.
+/// To a fill or a replacement: its rows are not in ascending order.
 pub const NR_NOT_SORTED: u32 = 19;
 
 /// To an opening: a size is out of its limits.
@@ -77,11 +78,11 @@ pub const NR_NO_READER: u32 = 22;
 /// To an opening of a poster: each poster had a handle already.
 pub const NR_NO_POSTER: u32 = 23;
 
-/// To a post: the queue is full, or another thread is in the way.
-pub const NR_NOT_POSTED: u32 = 24;
+/// To a post: the queue is full.
+pub const NR_FULL: u32 = 24;
 
-/// To a take: the queue is empty, or another thread is in the way.
-pub const NR_NOT_TAKEN: u32 = 25;
+/// To a take: the queue is empty.
+pub const NR_EMPTY: u32 = 25;
 
 /// To a find again: the key has not, or no more, the set that the reader holds.
 pub const NR_OTHER: u32 = 26;
@@ -95,7 +96,7 @@ pub const NR_HOLDING: u32 = 28;
 /// To a call of a reader that holds a set: it holds nothing.
 pub const NR_NOT_HOLDING: u32 = 29;
 
-/// To a fill or an update: there is no slot, since each is a filled key's.
+/// To a fill, an update or a replacement: there is no slot, since each is a filled key's.
 pub const NR_ALL_FILLED: u32 = 30;
 
 /// To a call whose handle leads nowhere: it was closed, or never opened.
@@ -103,6 +104,9 @@ pub const NR_CLOSED: u32 = 31;
 
 /// To an opening: the handle leads somewhere already.
 pub const NR_LIVE: u32 = 32;
+
+/// To a post or a take: another thread is within a call of its own.
+pub const NR_IN_THE_WAY: u32 = 33;
 
 pub fn of_found(found: Found) -> u32
     ensures { result ≡ found_code found }
@@ -147,6 +151,16 @@ pub fn of_update(answer: Result<(), UpdateFault>) -> u32
     }
 }
 
+pub fn of_replace(answer: Result<(), ReplaceFault>) -> u32
+    ensures { result ≡ replace_code answer }
+{
+    match answer {
+        Ok(()) => NR_DONE,
+        Err(ReplaceFault::Dropped) => NR_DROPPED,
+        Err(ReplaceFault::NoSlot(counts)) => of_no_slot(counts),
+    }
+}
+
 pub fn of_evict(answer: Evict) -> u32
     ensures { result ≡ evict_code answer }
 {
@@ -173,5 +187,24 @@ pub fn of_kind(kind: KeyKind) -> u32
         KeyKind::Hole => NR_HOLE,
         KeyKind::Asked => NR_ASKED,
         KeyKind::Rows => NR_ROWS,
+    }
+}
+
+pub fn of_post(answer: Result<(), PostFault>) -> u32
+    ensures { result ≡ post_code answer }
+{
+    match answer {
+        Ok(()) => NR_DONE,
+        Err(PostFault::Full) => NR_FULL,
+        Err(PostFault::InTheWay) => NR_IN_THE_WAY,
+    }
+}
+
+pub fn of_take_fault(fault: TakeFault) -> u32
+    ensures { result ≡ take_code fault }
+{
+    match fault {
+        TakeFault::Empty => NR_EMPTY,
+        TakeFault::InTheWay => NR_IN_THE_WAY,
     }
 }

@@ -1,5 +1,6 @@
 //! What C's header says of its values in memory. The fields of each lie in their order there, which
 //! the C test shows.
+use crate::many::NrWanted;
 use crate::poster_handle::NrPoster;
 use crate::reader_handle::NrReader;
 use crate::rows::NrRows;
@@ -14,6 +15,8 @@ const _: () = prove!(size_of::<Row>() == 16);
 const _: () = prove!(size_of::<Delta>() == 24);
 
 const _: () = prove!(size_of::<NrRows>() == 8 + 255 * 16);
+
+const _: () = prove!(size_of::<NrWanted>() == 8 + 8 + 255 * 16);
 
 const _: () = prove!(size_of::<NrShape>() == 32);
 

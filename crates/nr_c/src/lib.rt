@@ -14,6 +14,7 @@ mod codes;
 mod hand;
 mod kept;
 mod layout;
+mod many;
 mod meets;
 mod open;
 mod parts;

@@ -1,7 +1,7 @@
 //! What opens a queue of requests and its handles, and what ends them.
 ghost use Rattle.std.specs.Prelude.{◌≡◌, ◌↔◌, ◌⊎◌, ℕ, [], Err, IfOk, IfErr};
 ghost use Rattle.nr_model.specs.Sizes.{IsBadSize};
-ghost use Rattle.nr_trigger.specs.declared.triggers.TheConstants.{MAX_CAPACITY, MAX_POSTERS};
+ghost use Rattle.nr_machine.specs.declared.shape.TheConstants.{MOST_READERS, MOST_SLOTS};
 ghost use Rattle.nr_c.specs.Live.{WhenEmpty, WhenOther};
 ghost use Rattle.nr_c.specs.Queues.{IsNewQueue, OpensQueue, TakesPoster};
 
@@ -16,8 +16,9 @@ use std::alloc::Global;
 use std::sync::Arc;
 
 /// Opens a queue for requests of keys below a number, and makes the taker's handle live. Answers
-/// `NR_DONE`; `NR_LIVE` where the handle is live already; `NR_BAD_SIZE` where a size is out of its limits, a capacity of 1 to 65,536 requests
-/// and 1 to 1,024 posters; or `NR_NO_MEMORY`. The handle stays as it was where it isn't done.
+/// `NR_DONE`; `NR_LIVE` where the handle is live already; `NR_BAD_SIZE` where a size is out of its
+/// limits, a capacity of 1 to 4,194,303 requests and 1 to 65,535 posters; or `NR_NO_MEMORY`. The handle
+/// stays as it was where it isn't done.
 #[unsafe(no_mangle)]
 pub extern "C" fn nr_open_queue(
     alloc: Global,
@@ -50,10 +51,10 @@ fn opened_queue(
 ) -> Result<Box<TakerSide, Global>, OpenFault>
     ghost below: { ℕ }
     requires told { below ≡ keys }
-    ensures bad_size { (result ≡ Err OpenFault.BadSize) ↔ (IsBadSize MAX_CAPACITY capacity ⊎ IsBadSize MAX_POSTERS posters) }
+    ensures bad_size { (result ≡ Err OpenFault.BadSize) ↔ (IsBadSize MOST_SLOTS capacity ⊎ IsBadSize MOST_READERS posters) }
     ensures ok { IfOk result (λ side. IsNewQueue capacity posters keys side.value) }
 {
-    let (queue, spare, taker) = Triggers::open(alloc, capacity, posters)?;
+    let (queue, spare, taker) = Triggers::open_large(alloc, capacity, posters)?;
     let queue = Arc::new(alloc, queue).map_err(|_| OpenFault::Memory)?;
     let side = TakerSide {
         queue,

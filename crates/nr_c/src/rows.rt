@@ -1,10 +1,12 @@
 //! Rows as C has them. A row, and a signed one, is the model's own.
-ghost use Rattle.std.specs.Prelude.{◌≡◌, ◌<◌, ◌⊎◌, length};
+ghost use Rattle.std.specs.Prelude.{◌≡◌, ◌<◌, ◌⊎◌, MatchOption, length};
 ghost use Rattle.std.specs.Bool.{OnFalse, OnTrue};
 ghost use Rattle.nr_model.specs.Batches.{IsBatch};
-ghost use Rattle.nr_model.specs.Rows.{is_ascending};
+ghost use Rattle.nr_model.specs.Rows.{IsRowSet, is_ascending};
 ghost use Rattle.nr_model.specs.declared.batches.TheConstants.{MAX_DELTAS};
+ghost use Rattle.nr_c.specs.Rows.{AreRefused};
 
+use crate::codes::{NR_NOT_SORTED, NR_TOO_MANY};
 use nr_model::{Delta, MAX_DELTAS, MAX_ROWS, Row, RowRoom, RowSource, put_over};
 
 /// Room for the rows of a key. The first `count` of them are in use, in ascending order.
@@ -43,4 +45,17 @@ pub fn ascends(rows: &[Row]) -> bool
         }
     }
     true
+}
+
+/// By which answer those rows are refused as a key's, of which a map allows so many, if they are.
+pub fn refusal(bound: u32, rows: &[Row]) -> Option<u32>
+    ensures { MatchOption result (IsRowSet bound rows.now) (λ code. AreRefused bound rows.now code) }
+{
+    if rows.len() > bound as usize {
+        return Some(NR_TOO_MANY);
+    }
+    if !ascends(rows) {
+        return Some(NR_NOT_SORTED);
+    }
+    None
 }

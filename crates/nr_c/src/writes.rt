@@ -1,13 +1,13 @@
 //! What the writer calls.
 ghost use Rattle.std.specs.Prelude.{◌≡◌, ⊤};
 ghost use Rattle.nr_c.specs.Live.{WhenLive, WithKey, WriterCalls, writer_keys};
-ghost use Rattle.nr_c.specs.Writes.{CancelsByCode, EvictsByCode, FillsByCode, IsNumber, LooksByCode, StatesByCode, UpdatesByCode};
+ghost use Rattle.nr_c.specs.Writes.{CancelsByCode, EvictsByCode, FillsByCode, IsNumber, LooksByCode, ReplacesByCode, StatesByCode, UpdatesByCode};
 
 use crate::codes::{
-    NR_BAD_BATCH, NR_CLOSED, NR_DONE, NR_NO_KEY, NR_NOT_SORTED, NR_TOO_MANY, of_cancel, of_evict,
-    of_fill, of_found, of_kind, of_update,
+    NR_BAD_BATCH, NR_CLOSED, NR_DONE, NR_NO_KEY, of_cancel, of_evict, of_fill, of_found, of_kind,
+    of_replace, of_update,
 };
-use crate::rows::{NrRows, are_batch, ascends};
+use crate::rows::{NrRows, are_batch, refusal};
 use crate::writer_handle::NrWriter;
 use nr_model::{Delta, Row};
 
@@ -44,11 +44,8 @@ pub extern "C" fn nr_fill(writer: &mut NrWriter, key: u32, number: u64, rows: &[
     if !side.has_key(key) {
         return NR_NO_KEY;
     }
-    if rows.len() > side.map.rows() as usize {
-        return NR_TOO_MANY;
-    }
-    if !ascends(rows) {
-        return NR_NOT_SORTED;
+    if let Some(code) = refusal(side.map.rows(), rows) {
+        return code;
     }
     of_fill(side.map.fill_rows(&mut side.writer, key, number, rows))
 }
@@ -72,6 +69,27 @@ pub extern "C" fn nr_update(writer: &mut NrWriter, key: u32, deltas: &[Delta]) -
         return NR_BAD_BATCH;
     }
     of_update(side.map.update_rows(&mut side.writer, key, deltas))
+}
+
+/// Puts rows in ascending order whole in place of a filled key's, by one publication and without a
+/// read of the old ones. Answers `NR_NO_KEY`, `NR_TOO_MANY` and `NR_NOT_SORTED` as a fill does, with
+/// no step; and else as the map's replacement does: `NR_DONE`, `NR_DROPPED`; or `NR_NO_SLOT` where
+/// readers hold slots, and else `NR_ALL_FILLED`.
+#[unsafe(no_mangle)]
+pub extern "C" fn nr_replace(writer: &mut NrWriter, key: u32, rows: &[Row]) -> u32
+    ensures { WhenLive result ⊤ (WithKey writer_keys key result ⊤ (WriterCalls (ReplacesByCode key rows.now result))) writer.old.live writer.new.live }
+{
+    if !writer.is_live() {
+        return NR_CLOSED;
+    }
+    let side = writer.side();
+    if !side.has_key(key) {
+        return NR_NO_KEY;
+    }
+    if let Some(code) = refusal(side.map.rows(), rows) {
+        return code;
+    }
+    of_replace(side.map.replace_rows(&mut side.writer, key, rows))
 }
 
 /// Makes a filled key a hole, in 2 steps, and 1 where it is not filled. Answers `NR_EVICTED` or

@@ -5,7 +5,7 @@ use crate::calls::{ROWS, set_of};
 use crate::queue::{Server, opened_server};
 use nr_map::{Asked, FillFault, Reader, ReaderMap, Writer};
 use nr_model::OpenFault;
-use nr_trigger::{Poster, Taker, Triggers, Upquery};
+use nr_trigger::{PostFault, Poster, Taker, Triggers, Upquery};
 use std::alloc::Global;
 use std::io::{self, Print};
 
@@ -37,18 +37,22 @@ fn request(map: &ReaderMap, reader: &mut Reader, key: u32) -> Option<Upquery>
     }
 }
 
-// One attempt to post a request. It comes back where the queue is full, and also where another thread
-// is in the way: so try again later, and don't take it for a full queue.
+// One attempt to post a request. It is still to be posted where the queue is full, and where another
+// thread is in the way.
 fn try_post(triggers: &Triggers, poster: &mut Poster, upquery: Option<Upquery>) -> Option<Upquery>
     requires queue { poster.old.queue ≡ triggers.now.id }
     requires key { MatchOption upquery (Unit {0}) (λ upquery. upquery.key < poster.old.keys) }
     ensures queue { (poster.new.queue ≡ triggers.now.id) × (poster.new.keys ≡ poster.old.keys) }
     ensures key { MatchOption result (Unit {0}) (λ upquery. upquery.key < poster.new.keys) }
 {
-    triggers.try_post(poster, upquery?).err()
+    let upquery = upquery?;
+    match triggers.try_post(poster, upquery) {
+        Ok(()) => None,
+        Err(PostFault::Full | PostFault::InTheWay) => Some(upquery),
+    }
 }
 
-// One attempt to take a trigger, which is answered and spent. None doesn't say that nothing was posted.
+// One attempt to take a trigger, which is answered and spent.
 fn try_answer(
     map: &ReaderMap,
     triggers: &Triggers,
@@ -60,7 +64,7 @@ fn try_answer(
     ensures own { writer.new.table ≡ map.now }
     ensures queue { (taker.new.queue ≡ triggers.now.id) × (taker.new.keys ≡ taker.old.keys) }
 {
-    let trigger = triggers.try_take(taker)?;
+    let trigger = triggers.try_take(taker).ok()?;
     let filled = map.fill(writer, trigger.key(), trigger.number(), &set_of(map, &ROWS));
     Some((trigger.into_key(), filled))
 }

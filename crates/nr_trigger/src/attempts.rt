@@ -1,7 +1,10 @@
 //! The attempts on the queue, each of which its token counts.
 ghost use Rattle.std.specs.Prelude.{◌≡◌, ◌<◌, ◌+◌, ◌++◌, ◌∷◌, ℕ, [], IfErr, MatchOption, MatchResult};
+ghost use Rattle.nr_trigger.specs.declared.faults.PostFault.TheVariants.{Full as full};
+ghost use Rattle.nr_trigger.specs.declared.faults.TakeFault.TheVariants.{Empty as empty};
 ghost use Rattle.nr_trigger.specs.Tokens.{IsSamePoster, IsSameTaker, WasEmpty, WasFull, poster_tried, taker_tried};
 
+use crate::faults::{PostFault, TakeFault};
 use crate::post::{Post, Upquery};
 use crate::rule::{Pops, Pushes};
 use crate::tokens::{Poster, Taker};
@@ -76,29 +79,61 @@ impl Triggers {
     }
 
     /// Puts it at the back as this poster's, if one attempt does.
-    pub(crate) fn try_push(&self, poster: &mut Poster, upquery: Upquery) -> Result<(), Post>
+    pub(crate) fn try_push(&self, poster: &mut Poster, upquery: Upquery) -> Result<(), PostFault>
         requires own { poster.old.queue ≡ self.now.id }
         requires key { upquery.key < poster.old.keys }
         ensures own { IsSamePoster poster.old poster.new }
         ensures tries { poster.new.tries ≡ poster.old.tries + 1 }
-        ensures posted { MatchResult result (λ _. poster.new.posted ≡ poster.old.posted ++ upquery ∷ []) (λ back. (back.upquery ≡ upquery) × (poster.new ≡ poster_tried poster.old)) }
+        ensures posted { MatchResult result (λ _. poster.new.posted ≡ poster.old.posted ++ upquery ∷ []) (λ _. poster.new ≡ poster_tried poster.old) }
+        ensures full { IfErr result (λ fault. fault ≡ full → WasFull self.now.capacity poster.old) }
     {
         let post = Post {
             poster: poster.number,
             upquery,
         };
         poster.tries = poster.tries.then();
-        self.queue.try_push_as::<Pushes>(&mut poster.seat, post)
+        match self.queue.try_push_as::<Pushes>(&mut poster.seat, post) {
+            Ok(()) => Ok(()),
+            Err(_) => Err(self.obstacle_to_push(poster)),
+        }
+    }
+
+    // Why an attempt to push failed that was made just now.
+    fn obstacle_to_push(&self, poster: &mut Poster) -> PostFault
+        requires own { poster.old.queue ≡ self.now.id }
+        ensures same { poster.new ≡ poster.old }
+        ensures full { result ≡ full → WasFull self.now.capacity poster.old }
+    {
+        if self.queue.is_full_as::<Pushes>(&mut poster.seat) {
+            return PostFault::Full;
+        }
+        PostFault::InTheWay
     }
 
     /// Takes what is at the front, if one attempt does.
-    pub(crate) fn try_pop(&self, taker: &mut Taker) -> Option<Post>
+    pub(crate) fn try_pop(&self, taker: &mut Taker) -> Result<Post, TakeFault>
         requires own { taker.old.queue ≡ self.now.id }
         ensures own { IsSameTaker taker.old taker.new }
         ensures tries { taker.new.tries ≡ taker.old.tries + 1 }
-        ensures taken { MatchOption result (taker.new ≡ taker_tried taker.old) (λ post. (taker.new.taken ≡ taker.old.taken ++ post ∷ []) × (post.upquery.key < taker.old.keys)) }
+        ensures taken { MatchResult result (λ post. (taker.new.taken ≡ taker.old.taken ++ post ∷ []) × (post.upquery.key < taker.old.keys)) (λ _. taker.new ≡ taker_tried taker.old) }
+        ensures empty { IfErr result (λ fault. fault ≡ empty → WasEmpty taker.old) }
     {
         taker.tries = taker.tries.then();
-        self.queue.try_pop_as::<Pops>(&mut taker.seat)
+        match self.queue.try_pop_as::<Pops>(&mut taker.seat) {
+            Some(post) => Ok(post),
+            None => Err(self.obstacle_to_pop(taker)),
+        }
+    }
+
+    // Why an attempt to pop failed that was made just now.
+    fn obstacle_to_pop(&self, taker: &mut Taker) -> TakeFault
+        requires own { taker.old.queue ≡ self.now.id }
+        ensures same { taker.new ≡ taker.old }
+        ensures empty { result ≡ empty → WasEmpty taker.old }
+    {
+        if self.queue.is_empty_as::<Pops>(&mut taker.seat) {
+            return TakeFault::Empty;
+        }
+        TakeFault::InTheWay
     }
 }

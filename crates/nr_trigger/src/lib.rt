@@ -8,6 +8,7 @@
 #![tactic(auto)]
 
 mod attempts;
+mod faults;
 pub mod laws;
 mod post;
 mod rule;
@@ -16,6 +17,7 @@ mod trigger;
 mod triggers;
 mod view;
 
+pub use faults::{PostFault, TakeFault};
 pub use post::{Post, Upquery};
 pub use tokens::{Poster, Taker};
 pub use trigger::Trigger;

@@ -2,10 +2,13 @@
 ghost use Rattle.std.specs.Prelude.{◌≡◌, ◌<◌, ◌+◌, ◌⊎◌, ◌↔◌, ℕ, length, [], ◌++◌, ◌∷◌, Err, IfOk, IfErr, IsTrue, MatchOption, MatchResult};
 ghost use Rattle.nr_model.specs.Sizes.{IsBadSize};
 ghost use Rattle.nr_trigger.specs.Posts.{upquery_of};
+ghost use Rattle.nr_trigger.specs.declared.faults.PostFault.TheVariants.{Full as full};
+ghost use Rattle.nr_trigger.specs.declared.faults.TakeFault.TheVariants.{Empty as empty};
 ghost use Rattle.nr_trigger.specs.Tokens.{IsOpenedQueue, IsSeated, IsSamePoster, IsSameTaker, WasEmpty, WasFull, new_poster, new_taker, poster_tried, taker_tried};
 ghost use Rattle.nr_trigger.specs.Views.{Opener};
 
 use crate::attempts::Attempts;
+use crate::faults::{PostFault, TakeFault};
 use crate::post::{Post, Upquery};
 use crate::rule::{Begins, Law, Limit, Seats};
 use crate::tokens::{Poster, Seat, Taker};
@@ -107,30 +110,30 @@ impl Triggers {
     }
 
     /// One attempt to put a request at the back, for callers that may not wait; theirs is the ticket's
-    /// end too. The request comes back where the queue is full, where another thread is in the way
-    /// within a call of its own, and where the queue has carried 2^62 of them. Waits for nobody.
-    pub fn try_post(&self, poster: &mut Poster, upquery: Upquery) -> Result<(), Upquery>
+    /// end too. Nothing is posted where the queue is full, where another thread is in the way within a
+    /// call of its own, and where the queue has carried 2^62 requests. Waits for nobody.
+    pub fn try_post(&self, poster: &mut Poster, upquery: Upquery) -> Result<(), PostFault>
         requires own { poster.old.queue ≡ self.now.id }
         requires key { upquery.key < poster.old.keys }
         ensures own { IsSamePoster poster.old poster.new }
         ensures tries { poster.new.tries ≡ poster.old.tries + 1 }
-        ensures posted { MatchResult result (λ _. poster.new.posted ≡ poster.old.posted ++ upquery ∷ []) (λ back. (back ≡ upquery) × (poster.new ≡ poster_tried poster.old)) }
+        ensures posted { MatchResult result (λ _. poster.new.posted ≡ poster.old.posted ++ upquery ∷ []) (λ _. poster.new ≡ poster_tried poster.old) }
+        ensures full { IfErr result (λ fault. fault ≡ full → WasFull self.now.capacity poster.old) }
     {
-        match self.try_push(poster, upquery) {
-            Ok(()) => Ok(()),
-            Err(back) => Err(back.upquery),
-        }
+        self.try_push(poster, upquery)
     }
 
-    /// One attempt to take what is at the front. None where the queue is empty, and where another
-    /// thread is in the way within a call of its own. Waits for nobody.
-    pub fn try_take(&self, taker: &mut Taker) -> Option<Trigger>
+    /// One attempt to take what is at the front. Nothing is taken where the queue is empty, where
+    /// another thread is in the way within a call of its own, and where the queue has carried 2^62
+    /// requests. Waits for nobody.
+    pub fn try_take(&self, taker: &mut Taker) -> Result<Trigger, TakeFault>
         requires own { taker.old.queue ≡ self.now.id }
         ensures own { IsSameTaker taker.old taker.new }
         ensures tries { taker.new.tries ≡ taker.old.tries + 1 }
-        ensures taken { MatchOption result (taker.new ≡ taker_tried taker.old) (λ trigger. (taker.new.taken ≡ taker.old.taken ++ trigger ∷ []) × (trigger.upquery.key < taker.old.keys)) }
+        ensures taken { MatchResult result (λ trigger. (taker.new.taken ≡ taker.old.taken ++ trigger ∷ []) × (trigger.upquery.key < taker.old.keys)) (λ _. taker.new ≡ taker_tried taker.old) }
+        ensures empty { IfErr result (λ fault. fault ≡ empty → WasEmpty taker.old) }
     {
-        Some(Trigger::of(self.try_pop(taker)?))
+        Ok(Trigger::of(self.try_pop(taker)?))
     }
 
     // The taker, whose pass is the queue's first.

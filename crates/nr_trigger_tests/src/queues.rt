@@ -5,7 +5,7 @@ ghost use Rattle.std.specs.Prelude.{◌≡◌, ◌<◌, ◌≤◌, ◌+◌, All,
 
 use nr_map::{Asked, Reader, ReaderMap, Shape, Ticket, Writer};
 use nr_model::OpenFault;
-use nr_trigger::{Poster, Taker, Triggers, Upquery};
+use nr_trigger::{PostFault, Poster, TakeFault, Taker, Triggers, Upquery};
 use std::alloc::Global;
 use std::process::Abort;
 use std::sync::Wait;
@@ -127,23 +127,23 @@ fn a_full_queue_hands_the_ticket_back(rt: HostRuntime) -> Result<(), Fail> {
     Ok(())
 }
 
-// Whether one attempt posted it.
-fn try_now(triggers: &Triggers, poster: &mut Poster, upquery: Upquery) -> bool
+// What one attempt to post was answered.
+fn try_now(triggers: &Triggers, poster: &mut Poster, upquery: Upquery) -> Result<(), PostFault>
     requires own { poster.old.queue ≡ triggers.now.id }
     requires key { upquery.key < poster.old.keys }
     ensures own { (poster.new.queue ≡ triggers.now.id) × (poster.new.keys ≡ poster.old.keys) }
 {
-    triggers.try_post(poster, upquery).is_ok()
+    triggers.try_post(poster, upquery)
 }
 
 /// What one attempt took from the front.
-fn taken_at_once(triggers: &Triggers, taker: &mut Taker) -> Option<(u32, u64)>
+fn taken_at_once(triggers: &Triggers, taker: &mut Taker) -> Result<(u32, u64), TakeFault>
     requires own { taker.old.queue ≡ triggers.now.id }
     ensures own { taker.new.queue ≡ triggers.now.id }
 {
     let trigger = triggers.try_take(taker)?;
     let number = trigger.number();
-    Some((trigger.into_key(), number))
+    Ok((trigger.into_key(), number))
 }
 
 fn try_a_queue_of_one(rt: &impl Abort, triggers: &Triggers, poster: &mut Poster, taker: &mut Taker)
@@ -152,12 +152,12 @@ fn try_a_queue_of_one(rt: &impl Abort, triggers: &Triggers, poster: &mut Poster,
 {
     let first = Upquery { key: 3, number: 5 };
     let second = Upquery { key: 4, number: 6 };
-    assert_eq!(rt; taken_at_once(triggers, taker), None);
-    assert!(rt; try_now(triggers, poster, first));
-    assert!(rt; !try_now(triggers, poster, second));
-    assert_eq!(rt; taken_at_once(triggers, taker), Some((3, 5)));
-    assert!(rt; try_now(triggers, poster, second));
-    assert_eq!(rt; taken_at_once(triggers, taker), Some((4, 6)));
+    assert_eq!(rt; taken_at_once(triggers, taker), Err(TakeFault::Empty));
+    assert_eq!(rt; try_now(triggers, poster, first), Ok(()));
+    assert_eq!(rt; try_now(triggers, poster, second), Err(PostFault::Full));
+    assert_eq!(rt; taken_at_once(triggers, taker), Ok((3, 5)));
+    assert_eq!(rt; try_now(triggers, poster, second), Ok(()));
+    assert_eq!(rt; taken_at_once(triggers, taker), Ok((4, 6)));
 }
 
 #[test]

@@ -1,4 +1,4 @@
 use Rattle.nr_c.proofs.queues.opened_queue.Given as goal
 
-abbrev pub ghost-open : goal.ghost-open
-ghost-open g a = g.below
+abbrev pub ghost-open_large : goal.ghost-open_large
+ghost-open_large g a = g.below

@@ -1,0 +1,20 @@
+use Rattle.std.proofs.Common.{◌∙◌, ap, inl, inr, refl, sym}
+use Rattle.nr_c.proofs.many.nr_find_each.Goals as goal
+
+pub returns-then-not-has_keys : goal.returns-then-not-has_keys
+returns-then-not-has_keys c =
+    inr (inl (record { code_is = refl; stay = refl; held = c.side-side.result.now; was = ap (λ handle. handle.live) (sym c.is_live.ensures.same) ∙ c.side-side.ensures.value; is = refl; lacks = c.if-not-has_keys.ensures.not_all }))
+
+pub returns-then-holds : goal.returns-then-holds
+returns-then-holds c =
+    let was = ap (λ handle. handle.live) (sym c.is_live.ensures.same) ∙ c.side-side.ensures.value in
+    inr (inr (record { held = c.side-side.result.now; was = was; has = c.if-not-has_keys.ensures.all }, inl (record { code_is = refl; stay = refl; held = c.side-side.result.now; was = was; is = refl; hand = c.if-holds.ensures.some })))
+
+pub returns : goal.returns
+returns c =
+    let was = ap (λ handle. handle.live) (sym c.is_live.ensures.same) ∙ c.side-side.ensures.value in
+    let (old, new, had, is, finds) = c.find_each_idle.ensures.finds in
+    inr (inr (
+      record { held = c.side-side.result.now; was = was; has = c.if-not-has_keys.ensures.all },
+      inr (refl, (old, new, record { old = c.side-side.result.now; new = _; led = was; leads = refl; map = refl; old_hand = had; new_hand = is }, finds)),
+    ))

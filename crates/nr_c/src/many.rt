@@ -1,0 +1,128 @@
+//! Finds of many keys by one call.
+ghost use Rattle.std.specs.Prelude.{◌≡◌, ◌<◌, ◌≤◌, ℕ, All, length, take};
+ghost use Rattle.std.specs.Bool.{OnFalse, OnTrue};
+ghost use Rattle.nr_board.specs.Callers.{Caller};
+ghost use Rattle.nr_c.specs.declared.hand.Hand.TheVariants as hands;
+ghost use Rattle.nr_map.specs.FindsEach.{loads_at, with_loads};
+ghost use Rattle.nr_c.specs.Hands.{table_of};
+ghost use Rattle.nr_c.specs.Live.{MayRead, WhenIdle, WhenLive};
+ghost use Rattle.nr_c.specs.Many.{AreKeysOf, FindsEachByCode, FindsOneByCode, FindsSome, WithKeys};
+
+use crate::codes::{NR_CLOSED, NR_DONE, NR_HOLDING, NR_NO_KEY, of_found};
+use crate::hand::Hand;
+use crate::reader_handle::NrReader;
+use crate::reader_side::ReaderSide;
+use crate::rows::NrRows;
+use nr_map::{Reader, ReaderMap};
+
+// How many keys' words are loaded ahead at a time.
+const GROUP: usize = 16;
+
+/// A key to be found, what its find was answered, and the room for its rows.
+#[repr(C)]
+pub struct NrWanted {
+    pub key: u32,
+    pub answer: u32,
+    pub rows: NrRows,
+}
+
+/// Looks each of the keys up, in their order, as `nr_find` does one: a find of each is an entry of its
+/// own, also of a key that is wanted twice. Each has its answer beside it, `NR_ROWS` or `NR_HOLE`, and
+/// its rows in its own room, which stays as it is where the key is a hole. Takes the steps of all the
+/// finds, and 2 loads for each key, which are made for 16 keys at a time before these are found.
+/// Answers `NR_DONE`; or, with no step, `NR_NO_KEY` where there is no such key as one of them, or
+/// `NR_HOLDING` where the reader holds a set.
+#[unsafe(no_mangle)]
+pub extern "C" fn nr_find_each(reader: &mut NrReader, wanted: &mut [NrWanted]) -> u32
+    requires rests { MayRead reader.old.live }
+    ensures { WhenLive result (wanted.new ≡ wanted.old) (WithKeys wanted.old result (wanted.new ≡ wanted.old) (WhenIdle result (wanted.new ≡ wanted.old) (FindsSome wanted.old wanted.new result))) reader.old.live reader.new.live }
+{
+    if !reader.is_live() {
+        return NR_CLOSED;
+    }
+    let side = reader.side();
+    if !side.has_keys(wanted) {
+        return NR_NO_KEY;
+    }
+    if side.holds() {
+        return NR_HOLDING;
+    }
+    find_each_idle(&side.map, &mut side.hand, wanted);
+    NR_DONE
+}
+
+impl ReaderSide {
+    // Whether its map has each of the keys.
+    fn has_keys(&self, wanted: &[NrWanted]) -> bool
+        ensures all { OnTrue result (AreKeysOf self.now wanted.now) }
+        ensures not_all { OnFalse result (¬ (AreKeysOf self.now wanted.now)) }
+    {
+        let keys = self.map.keys();
+        for one in wanted {
+            if one.key >= keys {
+                return false;
+            }
+        }
+        true
+    }
+}
+
+// Finds by a reader that stays where it is.
+fn find_each_idle(map: &ReaderMap, hand: &mut Hand, wanted: &mut [NrWanted])
+    requires idle { (idle : Caller) × (hand.old ≡ hands.Idle idle) }
+    requires own { table_of hand.old map.now ≡ map.now }
+    requires keys { All (λ one. one.key < map.now.shape.keys) wanted.old }
+    ensures own { table_of hand.new map.now ≡ map.now }
+    ensures finds { (old new : Caller) × (hand.old ≡ hands.Idle old) × (hand.new ≡ hands.Idle new) × FindsEachByCode wanted.old wanted.new old new }
+{
+    match hand {
+        Hand::Idle(reader) => find_all(map, reader, wanted),
+        Hand::Holds(_) | Hand::Taken => unreachable!(),
+    }
+}
+
+fn find_all(map: &ReaderMap, reader: &mut Reader, wanted: &mut [NrWanted])
+    requires own { reader.old.table ≡ map.now }
+    requires keys { All (λ one. one.key < map.now.shape.keys) wanted.old }
+    ensures own { reader.new.table ≡ map.now }
+    ensures finds { FindsEachByCode wanted.old wanted.new reader.old reader.new }
+{
+    for place in 0..wanted.len() {
+        load_from(map, reader, place, &wanted[place..]);
+        find_one(map, reader, &mut wanted[place]);
+    }
+}
+
+// Before the first of sixteen keys, the loads for all of them. These are the keys from that place on.
+fn load_from(map: &ReaderMap, reader: &mut Reader, place: usize, left: &[NrWanted])
+    requires own { reader.old.table ≡ map.now }
+    requires keys { All (λ one. one.key < map.now.shape.keys) left.now }
+    ensures { reader.new ≡ with_loads (loads_at place (length left.now)) reader.old }
+{
+    if place % GROUP == 0 {
+        let group = &left[..left.len().min(GROUP)];
+        let keys = keys_of(group);
+        map.load_ahead(reader, &keys[..group.len()]);
+    }
+}
+
+// The keys of a group, and zeros after them.
+fn keys_of(group: &[NrWanted]) -> [u32; GROUP]
+    requires few { length group.now ≤ 16 }
+    ensures { (bound : ℕ) → All (λ one. one.key < bound) group.now → All (λ key. key < bound) (take (length group.now) result) }
+{
+    let mut keys = [0; GROUP];
+    for place in 0..group.len() {
+        keys[place] = group[place].key;
+    }
+    keys
+}
+
+fn find_one(map: &ReaderMap, reader: &mut Reader, one: &mut NrWanted)
+    requires own { reader.old.table ≡ map.now }
+    requires key { one.old.key < map.now.shape.keys }
+    ensures own { reader.new.table ≡ map.now }
+    ensures finds { FindsOneByCode one.old one.new reader.old reader.new }
+{
+    one.answer = of_found(map.find_into(reader, one.key, &mut one.rows));
+}
