@@ -19,17 +19,20 @@ S = State (Unit {0}) Visit
 abbrev pub raised_at : ℕ → Visit → ℕ
 raised_at place visit = how_often place visit.raised
 
--- a guest that saw all numbers now, and raised these counts
-abbrev pub after : List ℕ → Visit → List ℕ → Visit
-after words visit more = record { seen = words; raised = visit.raised ++ more }
+abbrev pub closes_of : Visit → ℕ
+closes_of visit = visit.closes
 
--- the number at a place goes up, and the guest raises these counts
-module _ (state : S) (are : AreCounts state) (i n id : ℕ) (me : Me (Unit {0}) Visit) (more : List ℕ) (there : get_elem? state.views id ≡ some me.0) (inside : i < 528) (up : slice_index state.words i ≤ n) where
+-- a guest that saw all numbers now, raised these counts, and closed the lobby that often
+abbrev pub after : List ℕ → Visit → List ℕ → ℕ → Visit
+after words visit more closings = record { seen = words; raised = visit.raised ++ more; closes = visit.closes + closings }
+
+-- the number at a place goes up, and the guest raises these counts and closes the lobby that often
+module _ (state : S) (are : AreCounts state) (i n id : ℕ) (me : Me (Unit {0}) Visit) (more : List ℕ) (closings : ℕ) (there : get_elem? state.views id ≡ some me.0) (inside : i < 528) (up : slice_index state.words i ≤ n) where
   abbrev pub words : List ℕ
   words = set state.words i n
 
   abbrev pub visit : Visit
-  visit = after words me.0 more
+  visit = after words me.0 more closings
 
   here : slice_index words i ≡ n
   here = get_or-set_same state.words i n 0 (omega (arith, are.size))
@@ -43,11 +46,15 @@ module _ (state : S) (are : AreCounts state) (i n id : ℕ) (me : Me (Unit {0}) 
   more_raised : (place : ℕ) → total (raised_at place) (set state.views id visit) ≡ total (raised_at place) state.views + how_often place more
   more_raised place = omega (arith, total-set (raised_at place) state.views id me.0 visit there, how_often-append place me.0.raised more)
 
+  more_closed : total closes_of (set state.views id visit) ≡ total closes_of state.views + closings
+  more_closed = omega (arith, total-set closes_of state.views id me.0 visit there)
+
   pub still_counts : (i ≢ closed_at → n ≡ capped (total (raised_at i) state.views + how_often i more))
       → ((place : ℕ) → place ≢ i → place ≢ closed_at → how_often place more ≡ 0)
       → (i ≢ closed_at → n ≡ last_count → 0 < slice_index state.words closed_at)
+      → (i ≡ closed_at → 0 < n → 0 < total closes_of state.views + closings)
       → AreCounts (stepped state i n id me.1 visit keeps)
-  still_counts counts none_else closes = record {
+  still_counts counts none_else closes closed_by = record {
     size = length-set state.words i n ∙ are.size;
     counted = λ place count. dite (ℕ_discrete place i)
         (λ same. subst (λ (at : ℕ). slice_index words at ≡ capped (total (raised_at at) (set state.views id visit))) (sym same)
@@ -58,6 +65,9 @@ module _ (state : S) (are : AreCounts state) (i n id : ℕ) (me : Me (Unit {0}) 
         (λ same. closes (λ closed. count (same ∙ closed)) (sym here ∙ ap (λ (at : ℕ). slice_index words at) (sym same) ∙ at_last))
         (λ other. are.last place count (sym (elsewhere place other) ∙ at_last)) in
         let kept = later closed_at in omega (arith, closed, kept);
+    closed = λ now. dite (ℕ_discrete closed_at i)
+        (λ same. let by = closed_by (sym same) (subst (λ (m : ℕ). 0 < m) (ap (λ (at : ℕ). slice_index words at) same ∙ here) now) in omega (arith, by, more_closed))
+        (λ other. let by = are.closed (subst (λ (m : ℕ). 0 < m) (elsewhere closed_at other) now) in omega (arith, by, more_closed));
     seen = λ other known at. ⊎_elim
         (λ mine. subst (λ (v : Visit). IsLater v.seen words) mine.1 (λ place. le_refl (slice_index words place)))
         (λ was. λ place. le_trans (are.seen other known was.1 place) (later place))
@@ -67,15 +77,19 @@ module _ (state : S) (are : AreCounts state) (i n id : ℕ) (me : Me (Unit {0}) 
   pub sees_more : IsLater me.0.seen words
   sees_more place = le_trans (are.seen id me.0 there place) (later place)
 
+-- a number that stays closes nothing
+still_closed : (state : S) → AreCounts state → (place : ℕ) → place ≡ closed_at → 0 < slice_index state.words place → 0 < total closes_of state.views + 0
+still_closed state are place same above = let by = are.closed (subst (λ (at : ℕ). 0 < slice_index state.words at) same above) in omega (arith, by)
+
 module _ (id : ℕ) (me : Me (Unit {0}) Visit) where
   -- a load
   pub looks : (slots place : ℕ) → place < 528 → Allows AreCounts slots id me place (λ n. n) (has_looked (step slots place 0 0 none) me)
   looks slots place inside state are _ there _ = let n : ℕ = slice_index state.words place in (
-    after (set state.words place n) me.0 [],
+    after (set state.words place n) me.0 [] 0,
     keeps,
     tt,
-    still_counts state are place n id me [] there inside (le_refl n) (λ count. let is = are.counted place count in omega (arith, is)) (λ other _ _. refl) (λ count. are.last place count),
-    (sees_more state are place n id me [] there inside (le_refl n), append-nil me.0.raised, here state are place n id me [] there inside (le_refl n)),
+    still_counts state are place n id me [] 0 there inside (le_refl n) (λ count. let is = are.counted place count in omega (arith, is)) (λ other _ _. refl) (λ count. are.last place count) (still_closed state are place),
+    (sees_more state are place n id me [] 0 there inside (le_refl n), append-nil me.0.raised, omega arith, here state are place n id me [] 0 there inside (le_refl n)),
   )
 
   -- the lobby is closed
@@ -84,11 +98,11 @@ module _ (id : ℕ) (me : Me (Unit {0}) Visit) where
       let n : ℕ = max (slice_index state.words closed_at) 1 in
       let up : slice_index state.words closed_at ≤ n = omega arith in
       let inside : closed_at < 528 = omega arith in (
-        after (set state.words closed_at n) me.0 [],
+        after (set state.words closed_at n) me.0 [] 1,
         keeps,
         tt,
-        still_counts state are closed_at n id me [] there inside up (λ count. absurd (count refl)) (λ other _ _. refl) (λ count. absurd (count refl)),
-        (sees_more state are closed_at n id me [] there inside up, append-nil me.0.raised, let is = here state are closed_at n id me [] there inside up in omega (arith, is)),
+        still_counts state are closed_at n id me [] 1 there inside up (λ count. absurd (count refl)) (λ other _ _. refl) (λ count. absurd (count refl)) (λ _ _. omega arith),
+        (sees_more state are closed_at n id me [] 1 there inside up, append-nil me.0.raised, refl, let is = here state are closed_at n id me [] 1 there inside up in omega (arith, is)),
       )
 
   -- a compare-exchange, which raises a count if it finds the number that was expected
@@ -101,34 +115,35 @@ module _ (id : ℕ) (me : Me (Unit {0}) Visit) where
       let one : how_often place (place ∷ []) ≡ 1 = ap (λ (b : _). cond b 1 0 + 0) (eq-eqb place place refl) in
       let sum = are.counted place is_count in
       let known = are.seen id me.0 there closed_at in (
-        after (set state.words place next) me.0 (place ∷ []),
+        after (set state.words place next) me.0 (place ∷ []) 0,
         keeps,
         tt,
-        subst (λ (b : _). AreCounts (stepped state place (either b next n) id me.1 (after (set state.words place next) me.0 (place ∷ [])) keeps)) (sym (eq-eqb n count hit))
-            (still_counts state are place next id me (place ∷ []) there inside up (λ _. omega (arith, hit, next_is, one, sum)) (λ other not _. ap (λ (b : _). cond b 1 0 + 0) (ne_eqb place other (λ same. not (sym same)))) (λ _ at_last. let seen = closed at_last in omega (arith, seen, known))),
-        (sees_more state are place next id me (place ∷ []) there inside up, subst (λ (b : _). MatchBool b (me.0.raised ++ place ∷ [] ≡ me.0.raised ++ place ∷ []) (me.0.raised ++ place ∷ [] ≡ me.0.raised)) (sym (eq-eqb n count hit)) refl),
+        subst (λ (b : _). AreCounts (stepped state place (either b next n) id me.1 (after (set state.words place next) me.0 (place ∷ []) 0) keeps)) (sym (eq-eqb n count hit))
+            (still_counts state are place next id me (place ∷ []) 0 there inside up (λ _. omega (arith, hit, next_is, one, sum)) (λ other not _. ap (λ (b : _). cond b 1 0 + 0) (ne_eqb place other (λ same. not (sym same)))) (λ _ at_last. let seen = closed at_last in omega (arith, seen, known)) (λ same. absurd (is_count same))),
+        (sees_more state are place next id me (place ∷ []) 0 there inside up, omega arith, subst (λ (b : _). MatchBool b (me.0.raised ++ place ∷ [] ≡ me.0.raised ++ place ∷ []) (me.0.raised ++ place ∷ [] ≡ me.0.raised)) (sym (eq-eqb n count hit)) refl),
       ))
       (λ miss. (
-        after (set state.words place n) me.0 [],
+        after (set state.words place n) me.0 [] 0,
         keeps,
         tt,
-        subst (λ (b : _). AreCounts (stepped state place (either b next n) id me.1 (after (set state.words place n) me.0 []) keeps)) (sym (ne_eqb n count miss))
-            (still_counts state are place n id me [] there inside (le_refl n) (λ is. let sum = are.counted place is in omega (arith, sum)) (λ other _ _. refl) (λ is. are.last place is)),
-        (sees_more state are place n id me [] there inside (le_refl n), subst (λ (b : _). MatchBool b (me.0.raised ++ [] ≡ me.0.raised ++ place ∷ []) (me.0.raised ++ [] ≡ me.0.raised)) (sym (ne_eqb n count miss)) (append-nil me.0.raised)),
+        subst (λ (b : _). AreCounts (stepped state place (either b next n) id me.1 (after (set state.words place n) me.0 [] 0) keeps)) (sym (ne_eqb n count miss))
+            (still_counts state are place n id me [] 0 there inside (le_refl n) (λ is. let sum = are.counted place is in omega (arith, sum)) (λ other _ _. refl) (λ is. are.last place is) (still_closed state are place)),
+        (sees_more state are place n id me [] 0 there inside (le_refl n), omega arith, subst (λ (b : _). MatchBool b (me.0.raised ++ [] ≡ me.0.raised ++ place ∷ []) (me.0.raised ++ [] ≡ me.0.raised)) (sym (ne_eqb n count miss)) (append-nil me.0.raised)),
       ))
 
 -- a new guest
 pub enters : (slots place : ℕ) → Enters AreCounts slots place (λ n visit. has_looked (step slots place 0 0 none) (newcomer, []) n (visit, []))
 enters slots place state are _ _ =
-    let visit : Visit = record { seen = state.words; raised = [] } in (
+    let visit : Visit = record { seen = state.words; raised = []; closes = 0 } in (
       visit,
       record {
         size = are.size;
         counted = λ at count. let is = are.counted at count in let sum = total-snoc (raised_at at) state.views visit in omega (arith, is, sum);
         last = are.last;
+        closed = λ now. let by = are.closed now in let sum = total-snoc closes_of state.views visit in omega (arith, by, sum);
         seen = λ id known at. ⊎_elim (λ was. are.seen id known was) (λ mine. subst (λ (v : Visit). IsLater v.seen state.words) mine (λ other. le_refl (slice_index state.words other))) (at_snoc state.views visit known id at);
       },
-      ((λ other. zero-le), refl, refl),
+      ((λ other. zero-le), refl, refl, refl),
     )
 
 zeros : (n place : ℕ) → slice_index (replicate n 0) place ≡ 0
@@ -142,6 +157,7 @@ opens = record {
   size = length-replicate {A = ℕ} 528 0;
   counted = λ place _. zeros 528 place;
   last = λ place _ at_last. let is = zeros 528 place in absurd (omega (arith, is, at_last));
+  closed = λ now. let is = zeros 528 closed_at in absurd (omega (arith, is, now));
   seen = λ id known at. subst (λ (v : Visit). IsLater v.seen (replicate 528 0)) (only_first id known at) (λ place. zero-le);
 }
   where

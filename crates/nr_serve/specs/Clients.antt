@@ -4,6 +4,7 @@ use Rattle.nr_model.specs.Histories.{Entry}
 use Rattle.nr_board.specs.Callers.{Table}
 use Rattle.nr_trigger.specs.Tokens.{Queue}
 use Rattle.nr_serve.specs.declared.hands.Hands.{Hands}
+use Rattle.nr_serve.specs.Counts.{GuestSeen}
 use Rattle.nr_serve.specs.Hands.{IsReady, capped}
 use Rattle.nr_serve.specs.Tickets.{sent}
 
@@ -13,6 +14,8 @@ pub record ClientSeen : Type 0 where
   -- what it was opened with
   pub opened : Hands
   pub hands : Hands
+  -- what it has seen of the lobby, and did there
+  pub guest : GuestSeen
   -- how many gets it has made, up to the last number
   pub turns : ℕ
 

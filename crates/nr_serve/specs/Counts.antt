@@ -7,19 +7,21 @@ use Rattle.atomic_table.specs.Table.{Me, State, Step}
 use Rattle.nr_machine.specs.Sums.{only, total}
 use Rattle.nr_serve.specs.Hands.{capped, last_count}
 
--- what a guest knows: each number as it last saw them all, and the places of the counts that it raised, oldest first
+-- what a guest knows and did: each number as it last saw them all, the places of the counts that it raised, oldest first, and how often it closed the lobby
 pub record Visit : Type 0 where
   pub seen : List ℕ
   pub raised : List ℕ
+  pub closes : ℕ
 
 pub record GuestSeen : Type 0 where
   -- its lobby
   pub lobby : TableId
   pub seen : List ℕ
   pub raised : List ℕ
+  pub closes : ℕ
 
 abbrev pub newcomer : Visit
-newcomer = record { seen = []; raised = [] }
+newcomer = record { seen = []; raised = []; closes = 0 }
 
 -- the place of the number that is above 0 once the lobby is closed; at each other place is a count
 abbrev pub closed_at : ℕ
@@ -37,6 +39,16 @@ IsLater old new = (place : ℕ) → slice_index old place ≤ slice_index new pl
 pub record IsLaterOf (old new : GuestSeen) : Type 0 where
   pub lobby : new.lobby ≡ old.lobby
   pub seen : IsLater old.seen new.seen
+
+-- it looked, and neither raised a count nor closed the lobby
+pub record OnlyLooks (old new : GuestSeen) : Type 0 where
+  pub later : IsLaterOf old new
+  pub raised : new.raised ≡ old.raised
+  pub closes : new.closes ≡ old.closes
+
+-- a guest that did nothing
+abbrev pub IsNew : GuestSeen → Type 0
+IsNew guest = (guest.raised ≡ []) × (guest.closes ≡ 0)
 
 -- the place of the count of a key's group, and of the count of the whole lobby
 abbrev pub group_at : ℕ → ℕ
@@ -60,16 +72,18 @@ pub record AreCounts (state : State (Unit {0}) Visit) : Type 0 where
   pub counted : (place : ℕ) → place ≢ closed_at → slice_index state.words place ≡ capped (total (λ visit. how_often place visit.raised) state.views)
   -- a count that has reached the last number closed the lobby
   pub last : (place : ℕ) → place ≢ closed_at → slice_index state.words place ≡ last_count → 0 < slice_index state.words closed_at
+  -- it was closed by a guest
+  pub closed : 0 < slice_index state.words closed_at → 0 < total (λ visit. visit.closes) state.views
   pub seen : (id : ℕ) (visit : Visit) → get_elem? state.views id ≡ some visit → IsLater visit.seen state.words
 
 -- a step that raises nothing, and finds this number
 abbrev pub has_looked : Step (Unit {0}) → Me (Unit {0}) Visit → ℕ → Me (Unit {0}) Visit → Type 0
-has_looked step old found new = IsLater old.0.seen new.0.seen × (new.0.raised ≡ old.0.raised) × (slice_index new.0.seen step.word ≡ found)
+has_looked step old found new = IsLater old.0.seen new.0.seen × (new.0.raised ≡ old.0.raised) × (new.0.closes ≡ old.0.closes) × (slice_index new.0.seen step.word ≡ found)
 
 -- a step that closes the lobby
 abbrev pub has_closed : Step (Unit {0}) → Me (Unit {0}) Visit → ℕ → Me (Unit {0}) Visit → Type 0
-has_closed step old found new = IsLater old.0.seen new.0.seen × (new.0.raised ≡ old.0.raised) × (0 < slice_index new.0.seen step.word)
+has_closed step old found new = IsLater old.0.seen new.0.seen × (new.0.raised ≡ old.0.raised) × (new.0.closes ≡ old.0.closes + 1) × (0 < slice_index new.0.seen step.word)
 
 -- a step that raises the count if it finds the number that it expects
 abbrev pub has_raised : Step (Unit {0}) → Me (Unit {0}) Visit → ℕ → Me (Unit {0}) Visit → Type 0
-has_raised step old found new = IsLater old.0.seen new.0.seen × MatchBool (found == step.first) (new.0.raised ≡ old.0.raised ++ step.word ∷ []) (new.0.raised ≡ old.0.raised)
+has_raised step old found new = IsLater old.0.seen new.0.seen × (new.0.closes ≡ old.0.closes) × MatchBool (found == step.first) (new.0.raised ≡ old.0.raised ++ step.word ∷ []) (new.0.raised ≡ old.0.raised)

@@ -3,6 +3,7 @@ ghost use Rattle.std.specs.Prelude.{◌≡◌, ◌<◌, ◌≤◌, ◌+◌, leng
 ghost use Rattle.nr_board.specs.Callers.{KnowsOwn};
 ghost use Rattle.nr_board.specs.Meetings.{HearsNote, known_to, with_step};
 ghost use Rattle.nr_serve.specs.Clients.{since};
+ghost use Rattle.nr_serve.specs.Counts.{IsNew, OnlyLooks};
 ghost use Rattle.nr_serve.specs.Gets.{Gets};
 ghost use Rattle.nr_serve.specs.Hands.{capped, with_reader};
 ghost use Rattle.nr_serve.specs.Tickets.{sent};
@@ -25,6 +26,7 @@ use std::sync::Wait;
 /// a ticket: it must be ended.
 pub struct Client<'a, G> {
     places: Places<'a, G>,
+    lobby: Watched<'a>,
     hands: Option<Hands>,
     turns: u64,
     opened: Snapshot<Hands>,
@@ -36,7 +38,7 @@ impl<'a, G> Model for Client<'a, G> {
 
     ghost Value = { ClientSeen };
 
-    ghost view = { λ client. record { map = client.places.map.now; queue = client.places.triggers.now; opened = client.opened.value; hands = unwrap_or client.hands client.opened.value; turns = client.turns } };
+    ghost view = { λ client. record { map = client.places.map.now; queue = client.places.triggers.now; opened = client.opened.value; hands = unwrap_or client.hands client.opened.value; guest = client.lobby; turns = client.turns } };
 
     ghost invariant = { λ client. IsSome client.hands × IsServing client.places.map.now client.places.triggers.now client.opened.value (unwrap_or client.hands client.opened.value) };
 }
@@ -58,6 +60,7 @@ impl<'a, G: Gate> Client<'a, G> {
         ensures places { (result.map ≡ map.now) × (result.queue ≡ triggers.now) }
         ensures hands { result.hands ≡ record { reader = reader; poster = poster; kept = None; sends = 0 } }
         ensures opened { result.opened ≡ result.hands }
+        ensures guest { IsNew result.guest }
         ensures turns { result.turns ≡ 0 }
     {
         let worker = reader.number();
@@ -67,10 +70,10 @@ impl<'a, G: Gate> Client<'a, G> {
             places: Places {
                 map,
                 triggers,
-                lobby: Watched::of(lobby),
                 gate,
                 worker,
             },
+            lobby: Watched::of(lobby),
             hands: Some(hands),
             turns: 0,
             opened,
@@ -84,12 +87,13 @@ impl<'a, G: Gate> Client<'a, G> {
     /// still kept, and a ticket of that is posted, or kept where the queue is full; before the
     /// next try the client sleeps in the lobby, unless it keeps a ticket or the key was filled
     /// meanwhile. After the last try it ends with `GaveUp`. The set is unchanged unless it ends
-    /// with `Rows`.
+    /// with `Rows`. The client's guest neither raises the lobby nor closes it.
     pub fn get<R: Wait>(&mut self, rt: &R, key: u32, tries: u32, rows: &mut RowSet) -> Got
         requires { key < self.old.map.shape.keys }
         ensures gets { Gets key tries self.old.hands rows.old result self.new.hands rows.new }
         ensures released { self.new.hands.reader.holds ≡ None }
         ensures at_once { tries ≡ 0 → self.new.hands ≡ self.old.hands }
+        ensures looks { OnlyLooks self.old.guest self.new.guest }
         ensures turns { self.new.turns ≡ capped (self.old.turns + 1) }
         ensures places { (self.new.map ≡ self.old.map) × (self.new.queue ≡ self.old.queue) }
         ensures opened { self.new.opened ≡ self.old.opened }
@@ -98,7 +102,16 @@ impl<'a, G: Gate> Client<'a, G> {
             unreachable!()
         };
         self.turns = self.turns.saturating_add(1);
-        let (got, hands) = get_by_tries(rt, &self.places, self.turns, key, tries, hands, rows);
+        let (got, hands) = get_by_tries(
+            rt,
+            &self.places,
+            &mut self.lobby,
+            self.turns,
+            key,
+            tries,
+            hands,
+            rows,
+        );
         match self.hands.replace(hands) {
             None => got,
             Some(_) => unreachable!(),
@@ -148,6 +161,7 @@ impl<'a, G: Gate> Client<'a, G> {
     {
         let Client {
             places: _,
+            lobby: _,
             hands,
             turns: _,
             opened: _,

@@ -1,7 +1,7 @@
 //! The counts of a lobby. Their table is private to this module, whose functions make one step each.
 ghost use Rattle.std.specs.Prelude.{◌≡◌, ◌≢◌, ◌<◌, ◌++◌, ◌∷◌, ◌+◌, [], IfOk, MatchBool, slice_index};
 ghost use Rattle.nr_serve.specs.Hands.{capped, last_count};
-ghost use Rattle.nr_serve.specs.Counts.{IsLaterOf, closed_at};
+ghost use Rattle.nr_serve.specs.Counts.{IsLaterOf, IsNew, OnlyLooks, closed_at};
 
 use atomic_table::{Play, Seat, Table, TableRule};
 use std::alloc::{AllocError, Global};
@@ -58,7 +58,7 @@ impl Play<(), View> for Raises {
     ghost then = { has_raised };
 }
 
-/// What a thread has seen of a lobby, and what it raised there. It has no bytes.
+/// What a thread has seen of a lobby, and what it did there. It has no bytes.
 #[derive(Drop)]
 pub struct Guest {
     seat: Seat<(), View>,
@@ -69,7 +69,7 @@ impl Model for Guest {
 
     ghost Value = { GuestSeen };
 
-    ghost view = { λ guest. record { lobby = guest.seat.table_id; seen = guest.seat.me.0.seen; raised = guest.seat.me.0.raised } };
+    ghost view = { λ guest. record { lobby = guest.seat.table_id; seen = guest.seat.me.0.seen; raised = guest.seat.me.0.raised; closes = guest.seat.me.0.closes } };
 }
 
 /// The numbers that the guests of a lobby share.
@@ -100,7 +100,7 @@ impl Counts {
     pub(crate) fn enter(&self, place: usize) -> (u64, Guest)
         requires { place < 528 }
         ensures lobby { result.1.lobby ≡ self.now }
-        ensures raised { result.1.raised ≡ [] }
+        ensures new { IsNew result.1 }
         ensures found { slice_index result.1.seen place ≡ result.0 }
     {
         let (found, seat) = self.table.shared.load_new_seat::<Looks>(place);
@@ -111,8 +111,7 @@ impl Counts {
     pub(crate) fn at(&self, guest: &mut Guest, place: usize) -> u64
         requires lobby { guest.old.lobby ≡ self.now }
         requires place { place < 528 }
-        ensures raised { guest.new.raised ≡ guest.old.raised }
-        ensures later { IsLaterOf guest.old guest.new }
+        ensures looks { OnlyLooks guest.old guest.new }
         ensures found { slice_index guest.new.seen place ≡ result }
     {
         self.table.shared.load::<Looks>(&mut guest.seat, place)
@@ -121,6 +120,7 @@ impl Counts {
     pub(crate) fn close(&self, guest: &mut Guest)
         requires lobby { guest.old.lobby ≡ self.now }
         ensures raised { guest.new.raised ≡ guest.old.raised }
+        ensures closes { guest.new.closes ≡ guest.old.closes + 1 }
         ensures later { IsLaterOf guest.old guest.new }
         ensures closed { 0 < slice_index guest.new.seen closed_at }
     {
@@ -137,6 +137,7 @@ impl Counts {
         requires next { next ≡ capped (count + 1) }
         requires last { next ≡ last_count → 0 < slice_index guest.old.seen closed_at }
         ensures raised { MatchBool result (guest.new.raised ≡ guest.old.raised ++ place ∷ []) (guest.new.raised ≡ guest.old.raised) }
+        ensures closes { guest.new.closes ≡ guest.old.closes }
         ensures later { IsLaterOf guest.old guest.new }
     {
         let shared = &self.table.shared;

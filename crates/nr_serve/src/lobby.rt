@@ -1,7 +1,7 @@
 //! Where clients sleep until the dataflow has done something, and the dataflow until something was
 //! posted.
-ghost use Rattle.std.specs.Prelude.{◌≡◌, ◌≢◌, ◌<◌, ◌≤◌, ◌⊎◌, ◌++◌, ◌∷◌, ◌↔◌, [], IfErr, IsTrue, slice_index};
-ghost use Rattle.nr_serve.specs.Counts.{IsLaterOf, closed_at, group_at, groups_below, raises_for, whole_at};
+ghost use Rattle.std.specs.Prelude.{◌≡◌, ◌≢◌, ◌<◌, ◌≤◌, ◌+◌, ◌⊎◌, ◌++◌, ◌∷◌, ◌↔◌, [], IfErr, IsTrue, slice_index};
+ghost use Rattle.nr_serve.specs.Counts.{IsLaterOf, IsNew, OnlyLooks, closed_at, group_at, groups_below, raises_for, whole_at};
 
 use crate::counts::{CLOSED_AT, Counts, Guest};
 use crossbeam_utils::CachePadded;
@@ -62,40 +62,29 @@ impl Lobby {
         })
     }
 
-    /// A guest, which has raised nothing.
+    /// A guest, which has done nothing.
     pub fn guest(&self) -> Guest
         ensures lobby { result.lobby ≡ self.now }
-        ensures raised { result.raised ≡ [] }
+        ensures new { IsNew result }
     {
         self.counts.enter(CLOSED_AT).1
-    }
-
-    // The count of this key's group, found by a new guest.
-    #[inline(always)]
-    pub(crate) fn enter(&self, key: u32) -> (u64, Guest)
-        ensures lobby { result.1.lobby ≡ self.now }
-        ensures raised { result.1.raised ≡ [] }
-        ensures found { slice_index result.1.seen (group_at key) ≡ result.0 }
-    {
-        self.counts.enter(group_at(key))
     }
 
     /// How often the whole lobby was raised, up to 2^64 - 1.
     pub fn count(&self, guest: &mut Guest) -> u64
         requires { guest.old.lobby ≡ self.now }
-        ensures later { IsLaterOf guest.old guest.new }
+        ensures looks { OnlyLooks guest.old guest.new }
         ensures found { slice_index guest.new.seen whole_at ≡ result }
-        ensures raised { guest.new.raised ≡ guest.old.raised }
     {
         self.counts.at(guest, WHOLE_AT)
     }
 
     /// How often it was raised for the keys of this one's group, up to 2^64 - 1.
+    #[inline(always)]
     pub fn count_for(&self, guest: &mut Guest, key: u32) -> u64
         requires { guest.old.lobby ≡ self.now }
-        ensures later { IsLaterOf guest.old guest.new }
+        ensures looks { OnlyLooks guest.old guest.new }
         ensures found { slice_index guest.new.seen (group_at key) ≡ result }
-        ensures raised { guest.new.raised ≡ guest.old.raised }
     {
         self.counts.at(guest, group_at(key))
     }
@@ -133,10 +122,9 @@ impl Lobby {
     /// count.
     pub fn wait_past<R: Wait>(&self, rt: &R, guest: &mut Guest, n: u64) -> u64
         requires { guest.old.lobby ≡ self.now }
-        ensures later { IsLaterOf guest.old guest.new }
+        ensures looks { OnlyLooks guest.old guest.new }
         ensures past { (n < result) ⊎ (0 < slice_index guest.new.seen closed_at) }
         ensures between { (slice_index guest.old.seen whole_at ≤ result) × (result ≤ slice_index guest.new.seen whole_at) }
-        ensures raised { guest.new.raised ≡ guest.old.raised }
     {
         self.wait_at(rt, guest, WHOLE_AT, &self.whole, n)
     }
@@ -145,10 +133,9 @@ impl Lobby {
     /// tells the count.
     pub fn wait_past_for<R: Wait>(&self, rt: &R, guest: &mut Guest, key: u32, n: u64) -> u64
         requires { guest.old.lobby ≡ self.now }
-        ensures later { IsLaterOf guest.old guest.new }
+        ensures looks { OnlyLooks guest.old guest.new }
         ensures past { (n < result) ⊎ (0 < slice_index guest.new.seen closed_at) }
         ensures between { (slice_index guest.old.seen (group_at key) ≤ result) × (result ≤ slice_index guest.new.seen (group_at key)) }
-        ensures raised { guest.new.raised ≡ guest.old.raised }
     {
         let changed = &self.groups[(key % GROUPS) as usize];
         self.wait_at(rt, guest, group_at(key), changed, n)
@@ -160,6 +147,7 @@ impl Lobby {
         ensures later { IsLaterOf guest.old guest.new }
         ensures closed { 0 < slice_index guest.new.seen closed_at }
         ensures raised { guest.new.raised ≡ guest.old.raised }
+        ensures closes { guest.new.closes ≡ guest.old.closes + 1 }
     {
         self.counts.close(guest);
         self.wake_all();
@@ -167,9 +155,8 @@ impl Lobby {
 
     pub fn is_closed(&self, guest: &mut Guest) -> bool
         requires { guest.old.lobby ≡ self.now }
-        ensures later { IsLaterOf guest.old guest.new }
+        ensures looks { OnlyLooks guest.old guest.new }
         ensures closed { IsTrue result ↔ (0 < slice_index guest.new.seen closed_at) }
-        ensures raised { guest.new.raised ≡ guest.old.raised }
     {
         self.counts.at(guest, CLOSED_AT) > 0
     }
@@ -187,11 +174,10 @@ impl Lobby {
     }
 
     // Sleeps until the bell was rung since it had been rung so often, or the lobby is closed.
-    #[tactic(auto, using(crate::proofs::Later::later_none, crate::proofs::Later::later_both))]
+    #[tactic(auto, using(crate::proofs::Later::looks_none, crate::proofs::Later::looks_both))]
     pub(crate) fn wait_for_ring<R: Wait>(&self, rt: &R, guest: &mut Guest, rings: u64)
         requires { guest.old.lobby ≡ self.now }
-        ensures later { IsLaterOf guest.old guest.new }
-        ensures raised { guest.new.raised ≡ guest.old.raised }
+        ensures { OnlyLooks guest.old guest.new }
     {
         for _ in rt.forever() {
             let wait = self.rung.prepare_wait();
@@ -225,7 +211,7 @@ impl Lobby {
     }
 
     // The wait is announced before the count is read, so no raise is missed.
-    #[tactic(auto, using(crate::proofs::Later::later_none, crate::proofs::Later::later_both))]
+    #[tactic(auto, using(crate::proofs::Later::looks_none, crate::proofs::Later::looks_both))]
     fn wait_at<R: Wait>(
         &self,
         rt: &R,
@@ -236,10 +222,9 @@ impl Lobby {
     ) -> u64
         requires lobby { guest.old.lobby ≡ self.now }
         requires place { place < 528 }
-        ensures later { IsLaterOf guest.old guest.new }
+        ensures looks { OnlyLooks guest.old guest.new }
         ensures past { (n < result) ⊎ (0 < slice_index guest.new.seen closed_at) }
         ensures between { (slice_index guest.old.seen place ≤ result) × (result ≤ slice_index guest.new.seen place) }
-        ensures raised { guest.new.raised ≡ guest.old.raised }
     {
         for _ in rt.forever() {
             let wait = changed.prepare_wait();

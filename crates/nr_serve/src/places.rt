@@ -1,13 +1,11 @@
 //! What a client stands on.
-use crate::watched::Watched;
 use nr_map::ReaderMap;
 use nr_trigger::Triggers;
 
-/// The map, the queue, the lobby and the gate that clients share, and this one's worker number.
+/// The map, the queue and the gate that clients share, and this one's worker number.
 pub(crate) struct Places<'a, G> {
     pub(crate) map: &'a ReaderMap,
     pub(crate) triggers: &'a Triggers,
-    pub(crate) lobby: Watched<'a>,
     pub(crate) gate: &'a G,
     pub(crate) worker: u32,
 }
@@ -17,7 +15,6 @@ impl<G> Drop for Places<'_, G> {
         let Places {
             map: _,
             triggers: _,
-            lobby: _,
             gate: _,
             worker: _,
         } = self;

@@ -1,6 +1,7 @@
 //! The tries of a get.
 ghost use Rattle.std.specs.Prelude.{◌≡◌, ◌<◌, ◌+◌, ◌*◌, [], length, None};
 ghost use Rattle.nr_board.specs.Callers.{Rests};
+ghost use Rattle.nr_serve.specs.Counts.{OnlyLooks};
 ghost use Rattle.nr_serve.specs.Gets.{AnswersPin, Gets, LeavesKept, TriesOnce, kept_attempts, requested, sent_attempts};
 ghost use Rattle.nr_serve.specs.Hands.{IsReady, Moves};
 
@@ -127,6 +128,7 @@ fn answer<G: Gate>(places: &Places<'_, G>, turn: u64, pin: Pin, rows: &mut RowSe
 fn try_once<G: Gate, R: Wait>(
     rt: &R,
     places: &Places<'_, G>,
+    lobby: &Watched<'_>,
     turn: u64,
     key: u32,
     hands: Hands,
@@ -142,7 +144,7 @@ fn try_once<G: Gate, R: Wait>(
         poster,
         kept,
         sends,
-    } = post_kept(rt, places.map, places.triggers, &places.lobby, hands);
+    } = post_kept(rt, places.map, places.triggers, lobby, hands);
     match places.map.pin(reader, key) {
         Ok(pin) => {
             let (got, reader) = answer(places, turn, pin, rows);
@@ -150,24 +152,29 @@ fn try_once<G: Gate, R: Wait>(
         }
         Err(reader) => {
             let hands = Hands::of(reader, poster, kept, sends);
-            let (requested, hands) = request(
-                rt,
-                places.map,
-                places.triggers,
-                &places.lobby,
-                key,
-                hands,
-            );
+            let (requested, hands) = request(rt, places.map, places.triggers, lobby, key, hands);
             (Tried::Missed(requested), hands)
         }
     }
 }
 
+// Sleeps until the count of the key's group has gone past that, if a fill is to come.
+#[tactic(auto, using(crate::proofs::Later::looks_none))]
+fn sleep_if<R: Wait>(rt: &R, lobby: &mut Watched<'_>, is_to_come: bool, key: u32, count: u64)
+    ensures { OnlyLooks lobby.old lobby.new }
+{
+    if is_to_come {
+        lobby.wait_past_for(rt, key, count);
+    }
+}
+
 /// Tries to get the rows of a key, and sleeps in the lobby between two tries where an upquery is
 /// under way, until the count of the key's group has gone past what it was before the try.
+#[tactic(auto, using(crate::proofs::Later::looks_none, crate::proofs::Later::looks_both))]
 pub(crate) fn get_by_tries<G: Gate, R: Wait>(
     rt: &R,
     places: &Places<'_, G>,
+    lobby: &mut Watched<'_>,
     turn: u64,
     key: u32,
     tries: u32,
@@ -179,19 +186,19 @@ pub(crate) fn get_by_tries<G: Gate, R: Wait>(
     ensures ready { IsReady places.now.map.now places.now.triggers.now result.1 }
     ensures gets { Gets key tries hands rows.old result.0 result.1 rows.new }
     ensures at_once { tries ≡ 0 → result.1 ≡ hands }
+    ensures looks { OnlyLooks lobby.old lobby.new }
 {
     let mut hands = hands;
     for i in 0..tries {
-        let (count, mut guest) = places.lobby.enter(key);
-        let (tried, left) = try_once(rt, places, turn, key, hands, rows);
+        let count = lobby.count_for(key);
+        let (tried, left) = try_once(rt, places, lobby, turn, key, hands, rows);
         hands = left;
         let requested = match tried {
             Tried::Ended(got) => return (got, hands),
             Tried::Missed(requested) => requested,
         };
-        if i + 1 < tries && requested.is_pending() && hands.kept.is_none() {
-            places.lobby.wait_past_for(rt, &mut guest, key, count);
-        }
+        let is_to_come = i + 1 < tries && requested.is_pending() && hands.kept.is_none();
+        sleep_if(rt, lobby, is_to_come, key, count);
     }
     (Got::GaveUp, hands)
 }

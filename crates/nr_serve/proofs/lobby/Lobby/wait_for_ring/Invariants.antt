@@ -1,9 +1,5 @@
-use Rattle.std.proofs.Common.{◌≡◌}
-use Rattle.nr_serve.specs.Counts.{IsLaterOf}
+use Rattle.nr_serve.specs.Counts.{OnlyLooks}
 use Rattle.nr_serve.proofs.lobby.Lobby.wait_for_ring.Given as goal
 
 abbrev pub invariant-loop : goal.invariant-loop
-invariant-loop g l = record {
-  later : IsLaterOf l.fn.guest l.guest;
-  raised : l.guest.raised ≡ l.fn.guest.raised;
-}
+invariant-loop g l = OnlyLooks l.fn.guest l.guest
