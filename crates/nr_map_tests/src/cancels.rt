@@ -4,14 +4,14 @@ ghost use Rattle.std.specs.Prelude.{◌≡◌, ◌<◌, IfOk};
 ghost use Rattle.std.specs.Bool.{OnTrue};
 ghost use Rattle.nr_model.specs.Maps.{SetFits, key_count, call_key};
 
-use crate::calls::{Told, ask, cancel, evict, find, look, rows_of, state};
+use crate::calls::{Told, ask, cancel, evict, fill, find, look, replace, rows_of, state, update};
 use crate::worked::Worked;
 use nr_map::{
     Cancel, Evict, FillFault, Found, KeyKind, Reader, ReaderMap, ReplaceFault, Shape, UpdateFault,
     Writer,
 };
 use nr_model::{
-    Batch, Call, DEFAULT_ROWS, Delta, KeyState, LAST_NUMBER, OpenFault, Reply, Row, RowSet, SeqMap,
+    Batch, Call, DEFAULT_ROWS, Delta, KeyState, LAST_NUMBER, Reply, Row, RowSet, SeqMap,
 };
 use std::alloc::Global;
 use std::process::Abort;
@@ -46,16 +46,21 @@ fn a_late_answer_is_stale_and_the_last_number_is_worn(rt: HostRuntime) -> Result
     worked.has_number(&rt, 0, 4_194_303);
     worked.asks(&rt, 0, Told::Send(0, 4_194_303));
     worked.fills(&rt, 0, 4_194_302, &[(1, 1)], Err(FillFault::Stale));
-    worked.cancels(&rt, 0, Cancel::Worn);
-    worked.asks(&rt, 0, Told::Waiting);
-    worked.fills(&rt, 0, 4_194_303, &[(1, 1)], Ok(()));
-    worked.cancels(&rt, 0, Cancel::Nothing);
-    worked.evicts(&rt, 0, Evict::Evicted);
-    worked.fills(&rt, 0, 0, &[], Err(FillFault::NotAsked));
-    worked.asks(&rt, 0, Told::Send(0, 4_194_303));
-    let number = worked.number(&rt, 0);
-    worked.fills(&rt, 0, number, &[(2, 2)], Ok(()));
+    is_worn(&rt, &mut worked);
     Ok(())
+}
+
+// The request has the last number, which the key keeps.
+fn is_worn<R: Abort>(rt: &R, worked: &mut Worked) {
+    worked.cancels(rt, 0, Cancel::Worn);
+    worked.asks(rt, 0, Told::Waiting);
+    worked.fills(rt, 0, 4_194_303, &[(1, 1)], Ok(()));
+    worked.cancels(rt, 0, Cancel::Nothing);
+    worked.evicts(rt, 0, Evict::Evicted);
+    worked.fills(rt, 0, 0, &[], Err(FillFault::NotAsked));
+    worked.asks(rt, 0, Told::Send(0, 4_194_303));
+    let number = worked.number(rt, 0);
+    worked.fills(rt, 0, number, &[(2, 2)], Ok(()));
 }
 
 #[test]
@@ -73,13 +78,6 @@ fn a_worn_request_is_ended_by_its_own_fill_alone(rt: HostRuntime) -> Result<(), 
     worked.fills(&rt, 0, 4_194_303, &[], Ok(()));
     worked.stands(&rt, 0, KeyKind::Rows);
     Ok(())
-}
-
-#[test]
-fn first_numbers_have_their_limit(rt: HostRuntime) {
-    let opened = ReaderMap::open_with(rt.alloc(), &one_key(4_194_304));
-    assert!(rt; matches!(opened, Err(OpenFault::BadSize)));
-    assert!(rt; ReaderMap::open_with(rt.alloc(), &one_key(4_194_303)).is_ok());
 }
 
 const TURNS: u64 = 20_000;
@@ -244,48 +242,100 @@ fn answers(
 ) -> bool
     requires own { (writer.old.table ≡ map.now) × (reader.old.table ≡ map.now) }
     requires key { call_key call.now < map.now.shape.keys }
-    requires fits { SetFits map.now.shape.rows call.now }
     ensures own { (writer.new.table ≡ map.now) × (reader.new.table ≡ map.now) }
 {
     match call {
         Call::Find(key) => finds(map, reader, *key, reply),
-        Call::Ask(key) => {
-            let told = ask(map, reader, *key);
-            match reply {
-                Reply::Send(number) => told == Told::Send(*key, *number),
-                Reply::Waiting => told == Told::Waiting,
-                Reply::Filled => told == Told::Filled,
-                _ => false,
-            }
-        }
-        Call::Fill(key, number, rows) => match map.fill(writer, *key, *number, rows) {
-            Ok(()) => matches!(reply, Reply::Done),
-            Err(FillFault::NotAsked) => matches!(reply, Reply::NotAsked),
-            Err(FillFault::Already) => matches!(reply, Reply::Already),
-            Err(FillFault::Stale) => matches!(reply, Reply::Stale),
-            Err(FillFault::NoSlot(_)) => false,
-        },
-        Call::Update(key, batch) => match map.update(writer, *key, batch) {
-            Ok(()) => matches!(reply, Reply::Done),
-            Err(UpdateFault::Dropped) => matches!(reply, Reply::Dropped),
-            Err(UpdateFault::NoRow) => matches!(reply, Reply::NoRow),
-            Err(UpdateFault::TooMany) => matches!(reply, Reply::TooMany),
-            Err(UpdateFault::NoSlot(_)) => false,
-        },
-        Call::Replace(key, rows) => match map.replace(writer, *key, rows) {
-            Ok(()) => matches!(reply, Reply::Done),
-            Err(ReplaceFault::Dropped) => matches!(reply, Reply::Dropped),
-            Err(ReplaceFault::NoSlot(_)) => false,
-        },
-        Call::Evict(key) => match evict(map, writer, *key) {
-            Evict::Evicted => matches!(reply, Reply::Evicted),
-            Evict::Nothing => matches!(reply, Reply::Nothing),
-        },
-        Call::Cancel(key) => match cancel(map, writer, *key) {
-            Cancel::Cancelled => matches!(reply, Reply::Cancelled),
-            Cancel::Nothing => matches!(reply, Reply::Nothing),
-            Cancel::Worn => matches!(reply, Reply::Worn),
-        },
+        Call::Ask(key) => asks(map, reader, *key, reply),
+        Call::Fill(key, number, rows) => fills(map, writer, *key, *number, rows, reply),
+        Call::Update(key, batch) => updates(map, writer, *key, batch, reply),
+        Call::Replace(key, rows) => replaces(map, writer, *key, rows, reply),
+        Call::Evict(key) => evicts(map, writer, *key, reply),
+        Call::Cancel(key) => cancels(map, writer, *key, reply),
+    }
+}
+
+fn asks(map: &ReaderMap, reader: &mut Reader, key: u32, reply: &Reply) -> bool
+    requires own { reader.old.table ≡ map.now }
+    requires key { key < map.now.shape.keys }
+    ensures own { reader.new.table ≡ map.now }
+{
+    let told = ask(map, reader, key);
+    match reply {
+        Reply::Send(number) => told == Told::Send(key, *number),
+        Reply::Waiting => told == Told::Waiting,
+        Reply::Filled => told == Told::Filled,
+        _ => false,
+    }
+}
+
+fn fills(
+    map: &ReaderMap,
+    writer: &mut Writer,
+    key: u32,
+    number: u64,
+    rows: &RowSet,
+    reply: &Reply,
+) -> bool
+    requires own { writer.old.table ≡ map.now }
+    requires key { key < map.now.shape.keys }
+    ensures own { writer.new.table ≡ map.now }
+{
+    match fill(map, writer, key, number, rows) {
+        Some(Ok(())) => matches!(reply, Reply::Done),
+        Some(Err(FillFault::NotAsked)) => matches!(reply, Reply::NotAsked),
+        Some(Err(FillFault::Already)) => matches!(reply, Reply::Already),
+        Some(Err(FillFault::Stale)) => matches!(reply, Reply::Stale),
+        Some(Err(FillFault::NoSlot(_))) | None => false,
+    }
+}
+
+fn updates(map: &ReaderMap, writer: &mut Writer, key: u32, batch: &Batch, reply: &Reply) -> bool
+    requires own { writer.old.table ≡ map.now }
+    requires key { key < map.now.shape.keys }
+    ensures own { writer.new.table ≡ map.now }
+{
+    match update(map, writer, key, batch.as_slice()) {
+        Some(Ok(())) => matches!(reply, Reply::Done),
+        Some(Err(UpdateFault::Dropped)) => matches!(reply, Reply::Dropped),
+        Some(Err(UpdateFault::NoRow)) => matches!(reply, Reply::NoRow),
+        Some(Err(UpdateFault::TooMany)) => matches!(reply, Reply::TooMany),
+        Some(Err(UpdateFault::NoSlot(_))) | None => false,
+    }
+}
+
+fn replaces(map: &ReaderMap, writer: &mut Writer, key: u32, rows: &RowSet, reply: &Reply) -> bool
+    requires own { writer.old.table ≡ map.now }
+    requires key { key < map.now.shape.keys }
+    ensures own { writer.new.table ≡ map.now }
+{
+    match replace(map, writer, key, rows) {
+        Some(Ok(())) => matches!(reply, Reply::Done),
+        Some(Err(ReplaceFault::Dropped)) => matches!(reply, Reply::Dropped),
+        Some(Err(ReplaceFault::NoSlot(_))) | None => false,
+    }
+}
+
+fn evicts(map: &ReaderMap, writer: &mut Writer, key: u32, reply: &Reply) -> bool
+    requires own { writer.old.table ≡ map.now }
+    requires key { key < map.now.shape.keys }
+    ensures own { writer.new.table ≡ map.now }
+{
+    match evict(map, writer, key) {
+        Evict::Evicted => matches!(reply, Reply::Evicted),
+        Evict::Nothing => matches!(reply, Reply::Nothing),
+    }
+}
+
+fn cancels(map: &ReaderMap, writer: &mut Writer, key: u32, reply: &Reply) -> bool
+    requires own { writer.old.table ≡ map.now }
+    requires key { key < map.now.shape.keys }
+    ensures own { writer.new.table ≡ map.now }
+{
+    match cancel(map, writer, key) {
+        Cancel::Cancelled => matches!(reply, Reply::Cancelled),
+        Cancel::Nothing => matches!(reply, Reply::Nothing),
+        Cancel::Worn => matches!(reply, Reply::Worn),
     }
 }
 
@@ -350,7 +400,7 @@ fn agrees(
         return Ok(false);
     }
     let call = dice.call(model)?;
-    if !fits(&call, model.rows()) || !fits(&call, map.rows()) {
+    if !fits(&call, model.rows()) {
         return Ok(false);
     }
     let reply = model.call(&call);

@@ -25,14 +25,18 @@ fn is_bad(alloc: Global, shape: &Shape) -> bool {
 
 #[test]
 fn large_sizes_have_their_limits(rt: HostRuntime) {
-    assert!(rt; is_bad(rt.alloc(), &of_sizes(0, 1, 1, 1)));
-    assert!(rt; is_bad(rt.alloc(), &of_sizes(1, 0, 1, 1)));
-    assert!(rt; is_bad(rt.alloc(), &of_sizes(2, 1, 1, 1)));
-    assert!(rt; is_bad(rt.alloc(), &of_sizes(1, 1, 0, 1)));
-    assert!(rt; is_bad(rt.alloc(), &of_sizes(1, 1, 1, 0)));
-    assert!(rt; is_bad(rt.alloc(), &of_sizes(1, 1, 1, 256)));
-    assert!(rt; is_bad(rt.alloc(), &of_sizes(1, MOST_SLOTS + 1, 1, 1)));
-    assert!(rt; is_bad(rt.alloc(), &of_sizes(1, 1, MOST_READERS + 1, 1)));
+    for (keys, slots, readers, rows) in [
+        (0, 1, 1, 1),
+        (1, 0, 1, 1),
+        (2, 1, 1, 1),
+        (1, 1, 0, 1),
+        (1, 1, 1, 0),
+        (1, 1, 1, 256),
+        (1, MOST_SLOTS + 1, 1, 1),
+        (1, 1, MOST_READERS + 1, 1),
+    ] {
+        assert!(rt; is_bad(rt.alloc(), &of_sizes(keys, slots, readers, rows)));
+    }
     assert!(rt; !is_bad(rt.alloc(), &of_sizes(2, 2, MOST_READERS, 255)));
 }
 

@@ -2,8 +2,9 @@
 
 use crate::calls::{Told, rows_of};
 use crate::worked::Worked;
-use nr_map::{Evict, Found, KeyKind, NoSlot, ReplaceFault, Shape};
+use nr_map::{Evict, Found, KeyKind, ReplaceFault, Shape};
 use nr_model::{MAX_ROWS, Row, RowSet};
+use std::process::Abort;
 use std::test::Fail;
 
 #[test]
@@ -17,30 +18,19 @@ fn a_set_is_put_in_place_of_the_old_one(rt: HostRuntime) -> Result<(), Fail> {
     worked.replaces(&rt, 0, &[(2, 2), (1, 1)], Ok(()));
     worked.finds(&rt, 0, &[(1, 1), (2, 2)]);
     worked.looks(&rt, 0, &[(1, 1), (2, 2)]);
-    worked.replaces(&rt, 0, &[], Ok(()));
-    worked.finds(&rt, 0, &[]);
-    worked.replaces(&rt, 1, &[(3, 3)], Err(ReplaceFault::Dropped));
-    worked.evicts(&rt, 0, Evict::Evicted);
-    worked.replaces(&rt, 0, &[(4, 4)], Err(ReplaceFault::Dropped));
-    worked.stands(&rt, 0, KeyKind::Hole);
-    worked.has_number(&rt, 0, 0);
+    is_emptied_and_evicted(&rt, &mut worked);
     Ok(())
 }
 
-#[test]
-fn a_replacement_takes_the_last_slot_or_none(rt: HostRuntime) -> Result<(), Fail> {
-    let mut worked = Worked::open(rt.alloc(), 2, 2, 1, 0)?;
-    worked.asks(&rt, 0, Told::Send(0, 0));
-    worked.asks(&rt, 1, Told::Send(1, 0));
-    worked.fills(&rt, 0, 0, &[(1, 1)], Ok(()));
-    worked.replaces(&rt, 0, &[(2, 2)], Ok(()));
-    worked.replaces(&rt, 0, &[(3, 3)], Ok(()));
-    worked.fills(&rt, 1, 0, &[(9, 9)], Ok(()));
-    let none = NoSlot { live: 2, held: 0 };
-    worked.replaces(&rt, 0, &[(4, 4)], Err(ReplaceFault::NoSlot(none)));
-    worked.finds(&rt, 0, &[(3, 3)]);
-    worked.finds(&rt, 1, &[(9, 9)]);
-    Ok(())
+// Key 0 is filled, and key 1 is a hole.
+fn is_emptied_and_evicted<R: Abort>(rt: &R, worked: &mut Worked) {
+    worked.replaces(rt, 0, &[], Ok(()));
+    worked.finds(rt, 0, &[]);
+    worked.replaces(rt, 1, &[(3, 3)], Err(ReplaceFault::Dropped));
+    worked.evicts(rt, 0, Evict::Evicted);
+    worked.replaces(rt, 0, &[(4, 4)], Err(ReplaceFault::Dropped));
+    worked.stands(rt, 0, KeyKind::Hole);
+    worked.has_number(rt, 0, 0);
 }
 
 /// The rows `first:0` on, as many as a set has room for.

@@ -2,8 +2,8 @@
 
 use crate::calls::{Told, minus, pairs_are, plus, rows_of};
 use crate::worked::Worked;
-use nr_map::{FillFault, Found, MAX_READERS, MAX_SLOTS, ReaderMap, Shape, UpdateFault};
-use nr_model::{MAX_KEYS, MAX_ROWS, OpenFault, Pile, Row, RowSet};
+use nr_map::{FillFault, Found, MAX_READERS, MAX_SLOTS, Shape, UpdateFault};
+use nr_model::{MAX_KEYS, MAX_ROWS, Pile, Row, RowSet};
 use std::alloc::Global;
 use std::process::Abort;
 use std::test::Fail;
@@ -38,21 +38,6 @@ fn is_numbered(rows: &RowSet, first: u64, count: u32) -> bool {
                 a: first.wrapping_add(i as u64),
                 b: 0,
             }))
-}
-
-/// Whether a map whose keys may have that many rows is refused by its size.
-fn is_bad(alloc: Global, rows: u32) -> bool {
-    matches!(
-        ReaderMap::open_with(alloc, &with_rows(rows)),
-        Err(OpenFault::BadSize)
-    )
-}
-
-#[test]
-fn a_key_may_have_1_to_255_rows(rt: HostRuntime) {
-    assert!(rt; is_bad(rt.alloc(), 0));
-    assert!(rt; is_bad(rt.alloc(), 256));
-    assert!(rt; is_bad(rt.alloc(), u32::MAX));
 }
 
 /// A find of a key writes just the rows from `first:0` on, that many, over the set's old ones.
@@ -147,11 +132,16 @@ fn rows_go_from_a_slice_into_any_room(rt: HostRuntime) -> Result<(), Fail> {
     assert_eq!(rt; worked.look_into(&rt, 2, &mut pile), Found::Hole);
     assert_eq!(rt; pile.as_slice(), numbered(1).as_slice());
     piles(&rt, &mut worked, 0, &mut pile, &numbered(16));
-    worked.updates_rows(&rt, 1, &[minus(1, 0), plus(5, 0)], Ok(()));
-    worked.updates_rows(&rt, 1, &[minus(1, 0)], Err(UpdateFault::NoRow));
-    worked.updates_rows(&rt, 2, &[plus(5, 0)], Err(UpdateFault::Dropped));
-    piles(&rt, &mut worked, 1, &mut pile, &rows_of(&[(5, 0)]));
+    changes_where_they_stand(&rt, &mut worked, &mut pile);
     Ok(())
+}
+
+// Key 1 has the row `1:0`, and key 2 is a hole.
+fn changes_where_they_stand<R: Abort>(rt: &R, worked: &mut Worked, pile: &mut Pile) {
+    worked.updates_rows(rt, 1, &[minus(1, 0), plus(5, 0)], Ok(()));
+    worked.updates_rows(rt, 1, &[minus(1, 0)], Err(UpdateFault::NoRow));
+    worked.updates_rows(rt, 2, &[plus(5, 0)], Err(UpdateFault::Dropped));
+    piles(rt, worked, 1, pile, &rows_of(&[(5, 0)]));
 }
 
 const LARGEST: Shape = Shape {

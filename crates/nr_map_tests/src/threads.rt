@@ -3,7 +3,7 @@ ghost use Rattle.std.specs.Prelude.{◌≡◌, ◌<◌};
 
 use crate::calls::{Told, ask, evict, fill, find, look, minus, pairs_are, plus, rows_of, update};
 use crate::worked::Worked;
-use nr_map::{Evict, FillFault, Found, NoSlot, Reader, ReaderMap, UpdateFault, Writer};
+use nr_map::{Evict, FillFault, Found, Reader, ReaderMap, Writer};
 use nr_model::{Delta, OpenFault, RowSet};
 use std::alloc::Global;
 use std::process::Abort;
@@ -89,52 +89,6 @@ fn updates_use_slots_again(rt: HostRuntime) -> Result<(), Fail> {
     worked.updates(&rt, 0, &[plus(2, 2)], Ok(()));
     worked.updates(&rt, 0, &[plus(3, 3)], Ok(()));
     worked.looks(&rt, 0, &[(1, 1), (2, 2), (3, 3)]);
-    Ok(())
-}
-
-/// That many keys, slots and readers.
-fn has_sizes<R: Abort>(rt: &R, map: &ReaderMap, sizes: (u32, u32, u32)) {
-    assert_eq!(rt; (map.keys(), map.slots(), map.readers()), sizes);
-}
-
-#[test]
-fn only_a_requested_key_is_filled(rt: HostRuntime) -> Result<(), Fail> {
-    let mut worked = Worked::open(rt.alloc(), 2, 1, 1, 1_099_511_627_775)?;
-    assert_eq!(rt; worked.reader.number(), 1);
-    has_sizes(&rt, &worked.map, (2, 1, 1));
-    worked.fills(&rt, 0, 0, &[(1, 1)], Err(FillFault::NotAsked));
-    worked.updates(&rt, 0, &[plus(2, 2)], Err(UpdateFault::Dropped));
-    worked.evicts(&rt, 0, Evict::Nothing);
-    worked.asks(&rt, 0, Told::Send(0, 0));
-    worked.updates(&rt, 0, &[plus(2, 2)], Err(UpdateFault::Dropped));
-    worked.evicts(&rt, 0, Evict::Nothing);
-    Ok(())
-}
-
-#[test]
-fn a_filled_key_is_refused(rt: HostRuntime) -> Result<(), Fail> {
-    let mut worked = Worked::open(rt.alloc(), 1, 1, 1, 0)?;
-    worked.asks(&rt, 0, Told::Send(0, 0));
-    worked.fills(&rt, 0, 0, &[(1, 1)], Ok(()));
-    worked.fills(&rt, 0, 0, &[(1, 1)], Err(FillFault::Already));
-    worked.asks(&rt, 0, Told::Filled);
-    worked.updates(&rt, 0, &[minus(9, 9)], Err(UpdateFault::NoRow));
-    worked.updates(&rt, 0, &[plus(2, 2); 15], Err(UpdateFault::TooMany));
-    Ok(())
-}
-
-#[test]
-fn a_slot_is_free_again_once_its_key_is_evicted(rt: HostRuntime) -> Result<(), Fail> {
-    let mut worked = Worked::open(rt.alloc(), 2, 1, 1, 0)?;
-    let none = NoSlot { live: 1, held: 0 };
-    worked.asks(&rt, 0, Told::Send(0, 0));
-    worked.asks(&rt, 1, Told::Send(1, 0));
-    worked.fills(&rt, 0, 0, &[(1, 1)], Ok(()));
-    worked.updates(&rt, 0, &[plus(2, 2)], Err(UpdateFault::NoSlot(none)));
-    worked.fills(&rt, 1, 0, &[(1, 1)], Err(FillFault::NoSlot(none)));
-    worked.evicts(&rt, 0, Evict::Evicted);
-    worked.fills(&rt, 1, 0, &[(1, 1)], Ok(()));
-    worked.looks(&rt, 1, &[(1, 1)]);
     Ok(())
 }
 
