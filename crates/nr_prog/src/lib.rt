@@ -10,4 +10,5 @@ mod task;
 pub use nr_lines::RunFault;
 pub use nr_schedule::{laws, run_steps};
 pub use nr_script::{replies, run};
+pub use output::Output;
 pub use program::{main_of, main_with};

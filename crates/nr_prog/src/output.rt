@@ -5,8 +5,8 @@ ghost use Rattle.nr_lines.specs.Output.{Sends};
 use nr_lines::{RunFault, write_all};
 use std::io::Write;
 
-/// A writer of lines. Only where a write may fail is a line cut short.
-pub(crate) trait Output: Write {
+/// Where lines and reports go: any writer. Only where a write may fail is one cut short.
+pub trait Output: Write {
     // A write may fail. What tells lines to any such writer must tell them whole where this is never so.
     ghost may_fail: { Type 0 };
 

@@ -67,31 +67,17 @@ fn exit_of<T: Threads + Wait + Sync, R: Read, O: Output>(
         Some(all) => all.as_slice(),
         None => wrong.as_slice(),
     };
-    ExitCode::from(main_to(rt, alloc, args, reader, output))
+    ExitCode::from(main_with(rt, alloc, args, reader, output))
 }
 
 /// Runs what the words after the program's name ask for, and answers the exit status.
 ///
-/// Without words a script from the reader to the writer, with the word `steps` a schedule: 0, or 1
+/// Without words a script from the reader to the output, with the word `steps` a schedule: 0, or 1
 /// after a fault, whose line it then writes as far as it can. With `load` and a seed, readers, keys
 /// and gets it runs a load with an open gate, and writes its report: 0 where each get was answered
 /// and the account balances, else 1. With any other words it writes the line on its usage, or on the
 /// first number of a load that is none or out of its limits: 2. A load and other words read nothing.
-pub fn main_with<T: Threads + Wait + Sync, R: Read, W: Write>(
-    rt: &T,
-    alloc: Global,
-    args: &[String],
-    reader: &mut R,
-    writer: &mut W,
-) -> u8
-    ensures ends { EndsTask (Unit {0}) (task (map string_bytes args.now)) result (R.remaining reader.old) (R.remaining reader.new) (W.contents writer.old) (W.contents writer.new) }
-    ensures unread { ReadsNothing (task (map string_bytes args.now)) → reader.new ≡ reader.old }
-{
-    main_to(rt, alloc, args, reader, writer)
-}
-
-/// The same, to a writer of which it is told whether a write may fail.
-fn main_to<T: Threads + Wait + Sync, R: Read, O: Output>(
+pub fn main_with<T: Threads + Wait + Sync, R: Read, O: Output>(
     rt: &T,
     alloc: Global,
     args: &[String],

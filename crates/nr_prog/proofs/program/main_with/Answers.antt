@@ -1,7 +1,7 @@
 use Rattle.std.proofs.Common.{Ok, Err}
 use Rattle.nr_prog.specs.declared.task.Task.TheVariants.{Load}
 use Rattle.nr_prog.proofs.ProgramLemmas.{asked_ends, tells_line}
-use Rattle.nr_prog.proofs.program.main_to.Goals as goal
+use Rattle.nr_prog.proofs.program.main_with.Goals as goal
 
 pub returns-in-Ok-clause-ends : goal.returns-in-Ok-clause-ends
 returns-in-Ok-clause-ends g c =
