@@ -17,6 +17,8 @@ use nr_words::parts;
 impl Board {
     ghost use Rattle.nr_board.specs.WriterAnswers.{LooksIn, FillsKey, UpdatesKey, ReplacesKey, EvictsKey, CancelsKey};
 
+    /// The writer's find: loads the key's word, and where that is filled the count and the rows of the
+    /// slot that it names. No reference count is written, since the writer alone puts slots anew.
     pub fn look_up<G: Given, R: RowRoom>(
         &self,
         seat: &mut Seat,
@@ -40,6 +42,10 @@ impl Board {
         Found::Rows
     }
 
+    /// Answers a request: loads the key's word, which refuses a key that is filled or wasn't asked for,
+    /// and another number than the request's. Then it searches for a slot that nobody holds, stores the
+    /// rows there, where no reader can come yet, and swaps in the word that names it: the linearization
+    /// point.
     pub fn fill_key<G: Given>(
         &self,
         seat: &mut Seat,
@@ -63,6 +69,9 @@ impl Board {
         Ok(())
     }
 
+    /// Loads the key's word and the set that it names, applies the batch to a copy, and stores the copy
+    /// in a slot that nobody holds. The swap that names the new slot is the linearization point, and
+    /// what it took out says how many readers arrived at the old slot, which is retired.
     pub fn update_key<G: Given>(
         &self,
         seat: &mut Seat,
@@ -86,6 +95,7 @@ impl Board {
         Ok(())
     }
 
+    /// Puts a set in place of the one that a filled key has, as an update does, but reads nothing of it.
     pub fn replace_key<G: Given>(
         &self,
         seat: &mut Seat,
@@ -108,6 +118,8 @@ impl Board {
         Ok(())
     }
 
+    /// Swaps in the word of a hole with the key's ticket number: the linearization point. What it took
+    /// out says which slot is retired, and how many readers have arrived there.
     pub fn evict_key<G: Given>(&self, seat: &mut Seat, spare: &mut Spare, key: u32) -> Evict
         requires call { G.call ≡ writer.Evict key }
         requires own { (token seat.old).table ≡ self.now }
@@ -125,6 +137,8 @@ impl Board {
         Evict::Evicted
     }
 
+    /// Takes a request back: swaps in a hole whose ticket number is one higher, so that an answer to the
+    /// request is stale. Refused where the key has no request, or its number is the last.
     pub fn cancel_key<G: Given>(&self, seat: &mut Seat, spare: &mut Spare, key: u32) -> Cancel
         requires call { G.call ≡ writer.Cancel key }
         requires own { (token seat.old).table ≡ self.now }

@@ -15,7 +15,7 @@ table_of (Holds pin) table = pin.reader.table
 table_of Taken table = table
 
 -- the reader lets its set go, in one step and by one act more, and then holds nothing
-pub record LetsGo (pin : Pinned) (reader : Caller) : Type 0 where
+pub record ReleasesPin (pin : Pinned) (reader : Caller) : Type 0 where
   pub rests : Rests 1 pin.reader reader
   pub holds : reader.holds ≡ None
   pub marks : reader.marks ≡ acted pin.reader.marks pin.reader.marks.put
@@ -23,7 +23,7 @@ pub record LetsGo (pin : Pinned) (reader : Caller) : Type 0 where
 -- the reader that is left holds nothing: it is the one that held nothing, or it let its set go
 abbrev pub EndsHand : Hand → Option Caller → Type 0
 EndsHand (Idle reader) left = left ≡ Some reader
-EndsHand (Holds pin) left = (reader : Caller) × (left ≡ Some reader) × LetsGo pin reader
+EndsHand (Holds pin) left = (reader : Caller) × (left ≡ Some reader) × ReleasesPin pin reader
 EndsHand Taken left = left ≡ None
 
 -- the reader holds nothing, and it holds a set

@@ -9,7 +9,7 @@ use Rattle.nr_c.specs.declared.hand.Hand.{Hand}
 use Rattle.nr_c.specs.declared.hand.Hand.TheVariants.{Holds, Idle}
 use Rattle.nr_c.specs.declared.reader_side.ReaderSide.{ReaderSide}
 use Rattle.nr_c.specs.declared.rows.NrRows.{NrRows}
-use Rattle.nr_c.specs.Hands.{AgainByPin, InHand, LetsGo}
+use Rattle.nr_c.specs.Hands.{AgainByPin, InHand, ReleasesPin}
 use Rattle.nr_c.specs.Live.{TurnsHand}
 use Rattle.nr_c.specs.RowCells.{ShowsSet}
 
@@ -36,4 +36,4 @@ FindsByHold key code before after = (found : Bool) × (code ≡ (if found then a
 
 -- the hold ends
 abbrev pub Releases : ℕ → List ReaderSide → List ReaderSide → Type 0
-Releases code before after = (code ≡ answer_done) × (old : Pinned) × (new : Caller) × TurnsHand before after (Holds old) (Idle new) × LetsGo old new
+Releases code before after = (code ≡ answer_done) × (old : Pinned) × (new : Caller) × TurnsHand before after (Holds old) (Idle new) × ReleasesPin old new

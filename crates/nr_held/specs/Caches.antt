@@ -49,7 +49,7 @@ pub record FindsAtPlace {Room : Type 0} (shows : Room → List Row → Type 0) (
   pub rest : new ≡ record old { hands = slice_set old.hands (place_of_key key (length old.hands)) found }
 
 -- the reader that holds nothing makes the find, and the key has missed at its place
-pub record FindsOnce {Room : Type 0} (shows : Room → List Row → Type 0) (key : ℕ) (old : Cached) (before : Room) (new : Cached) (room : Room) (answer : Found) : Type 0 where
+pub record FindsByHand {Room : Type 0} (shows : Room → List Row → Type 0) (key : ℕ) (old : Cached) (before : Room) (new : Cached) (room : Room) (answer : Found) : Type 0 where
   pub finds : FindsIn shows key old.once before new.once room answer
   pub holds : new.once.holds ≡ None
   pub acts : new.once.marks.acts ≡ old.once.marks.acts + acts_of answer
@@ -59,7 +59,7 @@ pub record FindsOnce {Room : Type 0} (shows : Room → List Row → Type 0) (key
 abbrev pub FindsByCache : {Room : Type 0} → (Room → List Row → Type 0) → ℕ → Cached → Room → Cached → Room → Found → Type 0
 FindsByCache shows key old before new room answer =
     (takes_key (place_of_key key (length old.hands)) key old ≡ true → FindsAtPlace shows key old before new room answer)
-    × (takes_key (place_of_key key (length old.hands)) key old ≡ false → FindsOnce shows key old before new room answer)
+    × (takes_key (place_of_key key (length old.hands)) key old ≡ false → FindsByHand shows key old before new room answer)
 
 -- those before that place were let go, and the others are as they were
 pub record LetGoBelow (below : ℕ) (old new : List Handed) : Type 0 where

@@ -16,14 +16,14 @@ use Rattle.nr_model.proofs.HistoryLemmas.{state_of-next_other, state_of-next_sam
 use Rattle.nr_machine.specs.declared.shape.Shape.{Shape}
 use Rattle.nr_board.specs.Callers.{Table, map_at_opening}
 use Rattle.nr_board.specs.Entries.{AreCallers, IsCallers, is_reading}
-use Rattle.nr_load.specs.Base.{FindsRow, FindsRows, Follows, IsRound, Rounds, StepsBase, applies, changed, row_of, step_of}
+use Rattle.nr_load.specs.Base.{FindsRow, FindsRows, FollowsBase, IsRound, Rounds, StepsBase, applies, changed, row_of, base_deltas}
 
 -- a call of the writer is of the row that the base has
 abbrev Fits : List ℕ → Call → Type 0
 Fits base (call.Find key) = Unit {0}
 Fits base (call.Ask key) = Unit {0}
 Fits base (call.Fill key number rows) = rows ≡ row_of key (slice_index base key) ∷ []
-Fits base (call.Update key batch) = batch ≡ step_of key (slice_index base key)
+Fits base (call.Update key batch) = batch ≡ base_deltas key (slice_index base key)
 Fits base (call.Replace key rows) = rows ≡ row_of key (slice_index base key) ∷ []
 Fits base (call.Evict key) = Unit {0}
 Fits base (call.Cancel key) = Unit {0}
@@ -58,7 +58,7 @@ changes_lead : (fourth : Bool) (by key : ℕ) (base base' : List ℕ) (later : L
 changes_lead true by key base base' later is = subst (λ (l : List Entry). Leads base l base') (sym is.0.1) ((tt, tt), sym is.1)
 changes_lead false by key base base' later is = steps_lead by key base base' is.0 later is.1 is.2
 
-follows_lead : (by fills key : ℕ) (base : List ℕ) (done : Bool) (later : List Entry) (fills' : ℕ) (base' : List ℕ) → Follows by fills key base done later fills' base' → Leads base later base'
+follows_lead : (by fills key : ℕ) (base : List ℕ) (done : Bool) (later : List Entry) (fills' : ℕ) (base' : List ℕ) → FollowsBase by fills key base done later fills' base' → Leads base later base'
 follows_lead by fills key base true later fills' base' follows = changes_lead (fills' % 4 == 0) by key base base' later follows.1
 follows_lead by fills key base false later fills' base' follows = subst (λ (l : List Entry). Leads base l base') (sym follows.1) (tt, sym follows.2)
 
@@ -86,7 +86,7 @@ HasRow key x (Rows n rows) = rows ≡ row_of key x ∷ []
 abbrev pub HasBase : List ℕ → PartialMap → Type 0
 HasBase base map = (key : ℕ) → HasRow key (slice_index base key) (state_of map key)
 
-step_applies : (bound key x : ℕ) → 1 ≤ bound → applied bound (row_of key x ∷ []) (step_of key x) ≡ Ok (row_of key (x + 1) ∷ [])
+step_applies : (bound key x : ℕ) → 1 ≤ bound → applied bound (row_of key x ∷ []) (base_deltas key x) ≡ Ok (row_of key (x + 1) ∷ [])
 unfolding applied
 step_applies bound key x some = grind (arith, nat_tests)
 

@@ -25,8 +25,8 @@ use Rattle.nr_load.specs.declared.flow.Turned.{Turned}
 use Rattle.nr_load.specs.declared.flow.Turned.TheVariants as turned
 use Rattle.nr_load.specs.declared.fault.LoadFault.{LoadFault}
 use Rattle.nr_load.specs.declared.fault.LoadFault.TheVariants as faults
-use Rattle.nr_load.specs.Base.{Changes, Follows, GivesRow, IsRound, Rounds, StepsBase}
-use Rattle.nr_load.specs.Flowed.{Changed, Flows, IsRefused, IsTurn, TurnsOnce}
+use Rattle.nr_load.specs.Base.{Changes, FollowsBase, GivesRow, IsRound, Rounds, StepsBase}
+use Rattle.nr_load.specs.Flowed.{Changed, Flows, RefusesUpdate, IsTurn, TurnsOnce}
 use Rattle.nr_load.specs.Gained.{Gained}
 use Rattle.nr_load.proofs.Gaining.{evicts_gain, gained_none, gained_of, gained_then, turns_gain, updates_gain}
 
@@ -64,7 +64,7 @@ passed_by old new key fills answer told long not_done spends =
       answer = told;
       later = [];
       is = ap (λ (rows : List Row). entry old.writer.number (call.Fill spends.post.upquery.key spends.post.upquery.number rows) told ∷ []) (spends.answers.gave.1 near);
-      follows = subst (λ (done : Bool). Follows old.writer.number fills spends.post.upquery.key old.source done [] fills new.source) (sym not_done) (refl, refl, spends.answers.gave.0);
+      follows = subst (λ (done : Bool). FollowsBase old.writer.number fills spends.post.upquery.key old.source done [] fills new.source) (sym not_done) (refl, refl, spends.answers.gave.0);
     }
 
 passed_round : (old new : FlowSeen (List ℕ)) (key fills : ℕ) (fault : FillFault) → length old.source ≡ old.map.shape.keys → (past : IsPast fault) → (spends : SpendsOne GivesRow old key (Err fault) new)
@@ -125,7 +125,7 @@ module _ (old mid new : FlowSeen (List ℕ)) (key fills fills' : ℕ) (long : le
     count = 1;
     gained = with_change (Err fault) change;
     fills_are = counted;
-    turn = (_, change.0.entries, refl, subst (λ (by : ℕ). IsRefused by change.0.entries) filled.number change.1);
+    turn = (_, change.0.entries, refl, subst (λ (by : ℕ). RefusesUpdate by change.0.entries) filled.number change.1);
   }
 
 -- what the turns so far came to

@@ -14,8 +14,8 @@ use Rattle.nr_serve.specs.Hands.{capped, last_count}
 abbrev pub row_of : ℕ → ℕ → Row
 row_of key x = record { a = key; b = x }
 
-abbrev pub step_of : ℕ → ℕ → List Delta
-step_of key x = record { plus = false; row = row_of key x } ∷ record { plus = true; row = row_of key (x + 1) } ∷ []
+abbrev pub base_deltas : ℕ → ℕ → List Delta
+base_deltas key x = record { plus = false; row = row_of key x } ∷ record { plus = true; row = row_of key (x + 1) } ∷ []
 
 -- a base with these numbers gives the one row of a key, and stays as it is
 abbrev pub GivesRow : List ℕ → ℕ → List Row → List ℕ → Type 0
@@ -24,7 +24,7 @@ GivesRow base key rows base' = (base' ≡ base) × (key < length base → rows �
 -- a step adds one to the key's number, unless that is the last one
 abbrev pub StepsBase : List ℕ → ℕ → Option (List Delta) → List ℕ → Type 0
 StepsBase base key None base' = (slice_index base key ≡ last_count) × (base' ≡ base)
-StepsBase base key (Some batch) base' = (slice_index base key < last_count) × (batch ≡ step_of key (slice_index base key)) × (base' ≡ slice_set base key (slice_index base key + 1))
+StepsBase base key (Some batch) base' = (slice_index base key < last_count) × (batch ≡ base_deltas key (slice_index base key)) × (base' ≡ slice_set base key (slice_index base key + 1))
 
 abbrev pub applies : ℕ → ℕ → Option (List Delta) → List Entry
 applies by key None = []
@@ -37,9 +37,9 @@ Changes by fills key base later base' = MatchBool (fills % 4 == 0)
     ((batch : Option (List Delta)) × StepsBase base key batch base' × (later ≡ applies by key batch))
 
 -- what follows a fill that was done, and one that wasn't
-abbrev pub Follows : (by fills key : ℕ) → List ℕ → Bool → List Entry → ℕ → List ℕ → Type 0
-Follows by fills key base true later fills' base' = (fills' ≡ capped (fills + 1)) × Changes by fills' key base later base'
-Follows by fills key base false later fills' base' = (fills' ≡ fills) × (later ≡ []) × (base' ≡ base)
+abbrev pub FollowsBase : (by fills key : ℕ) → List ℕ → Bool → List Entry → ℕ → List ℕ → Type 0
+FollowsBase by fills key base true later fills' base' = (fills' ≡ capped (fills + 1)) × Changes by fills' key base later base'
+FollowsBase by fills key base false later fills' base' = (fills' ≡ fills) × (later ≡ []) × (base' ≡ base)
 
 -- one trigger: the key is filled with the row that the base has, and where that is done, something becomes of the key
 pub record IsRound (by fills : ℕ) (base : List ℕ) (round : List Entry) (fills' : ℕ) (base' : List ℕ) : Type 0 where
@@ -49,7 +49,7 @@ pub record IsRound (by fills : ℕ) (base : List ℕ) (round : List Entry) (fill
   pub answer : Reply
   pub later : List Entry
   pub is : round ≡ entry by (call.Fill key number (row_of key (slice_index base key) ∷ [])) answer ∷ later
-  pub follows : Follows by fills key base (is_done answer) later fills' base'
+  pub follows : FollowsBase by fills key base (is_done answer) later fills' base'
 
 -- that many triggers, of a base that began with the number 0 for each key
 abbrev pub Rounds : (by keys count : ℕ) → List Entry → ℕ → List ℕ → Type 0

@@ -17,19 +17,19 @@ use Rattle.nr_load.specs.Base.{Changes, IsRound, Rounds}
 use Rattle.nr_load.specs.Gained.{Gained}
 
 -- the one call is a change of a row that was refused
-abbrev pub IsRefused : ℕ → List Entry → Type 0
-IsRefused by later = (key : ℕ) × (batch : List Delta) × (answer : Reply) × (later ≡ entry by (call.Update key batch) answer ∷ []) × (answer ≢ reply.Done)
+abbrev pub RefusesUpdate : ℕ → List Entry → Type 0
+RefusesUpdate by later = (key : ℕ) × (batch : List Delta) × (answer : Reply) × (later ≡ entry by (call.Update key batch) answer ∷ []) × (answer ≢ reply.Done)
 
 -- what became of a key after a fill, unless the map refused the change of its row
 abbrev pub Changed : Result (Unit {0}) UpdateFault → (by fills key : ℕ) → List ℕ → List Entry → List ℕ → Type 0
 Changed (Ok done) by fills key base later base' = Changes by fills key base later base'
-Changed (Err fault) by fills key base later base' = IsRefused by later
+Changed (Err fault) by fills key base later base' = RefusesUpdate by later
 
 -- a turn: nothing was asked for, or one trigger, or the map refused a change
 abbrev pub IsTurn : Turned → (by fills : ℕ) → List ℕ → List Entry → ℕ → List ℕ → Type 0
 IsTurn turned.Idle by fills base entries fills' base' = (entries ≡ []) × (fills' ≡ fills) × (base' ≡ base)
 IsTurn turned.Went by fills base entries fills' base' = IsRound by fills base entries fills' base'
-IsTurn turned.Wrong by fills base entries fills' base' = (filled : Entry) × (later : List Entry) × (entries ≡ filled ∷ later) × IsRefused by later
+IsTurn turned.Wrong by fills base entries fills' base' = (filled : Entry) × (later : List Entry) × (entries ≡ filled ∷ later) × RefusesUpdate by later
 
 -- what one turn gained: it asked for nothing, and its fills are counted
 pub record TurnsOnce (old new : FlowSeen (List ℕ)) (turned : Turned) (fills fills' : ℕ) : Type 0 where

@@ -10,7 +10,7 @@ use Rattle.atomic_table.specs.Table.{Allows, Enters, Me, State, keeps, step, ste
 use Rattle.atomic_table.proofs.Lists.{at_set, at_snoc}
 use Rattle.nr_machine.specs.Sums.{total}
 use Rattle.nr_serve.specs.Hands.{capped, last_count}
-use Rattle.nr_serve.specs.Counts.{AreCounts, IsLater, Visit, closed_at, has_closed, has_looked, has_raised, how_often, newcomer}
+use Rattle.nr_serve.specs.Counts.{AreCounts, IsLater, Visit, closed_at, has_closed, has_read_count, has_raised, how_often, new_guest}
 use Rattle.nr_serve.proofs.Totals.{how_often-append, total-set, total-snoc}
 
 abbrev pub S : Type 0
@@ -83,7 +83,7 @@ still_closed state are place same above = let by = are.closed (subst (λ (at : �
 
 module _ (id : ℕ) (me : Me (Unit {0}) Visit) where
   -- a load
-  pub looks : (slots place : ℕ) → place < 528 → Allows AreCounts slots id me place (λ n. n) (has_looked (step slots place 0 0 none) me)
+  pub looks : (slots place : ℕ) → place < 528 → Allows AreCounts slots id me place (λ n. n) (has_read_count (step slots place 0 0 none) me)
   looks slots place inside state are _ there _ = let n : ℕ = slice_index state.words place in (
     after (set state.words place n) me.0 [] 0,
     keeps,
@@ -132,7 +132,7 @@ module _ (id : ℕ) (me : Me (Unit {0}) Visit) where
       ))
 
 -- a new guest
-pub enters : (slots place : ℕ) → Enters AreCounts slots place (λ n visit. has_looked (step slots place 0 0 none) (newcomer, []) n (visit, []))
+pub enters : (slots place : ℕ) → Enters AreCounts slots place (λ n visit. has_read_count (step slots place 0 0 none) (new_guest, []) n (visit, []))
 enters slots place state are _ _ =
     let visit : Visit = record { seen = state.words; raised = []; closes = 0 } in (
       visit,
@@ -152,7 +152,7 @@ zeros (suc n) zero = refl
 zeros (suc n) (suc place) = zeros n place
 
 -- all counts are 0 in a new lobby
-pub opens : AreCounts (opening (replicate 528 0) [] newcomer)
+pub opens : AreCounts (opening (replicate 528 0) [] new_guest)
 opens = record {
   size = length-replicate {A = ℕ} 528 0;
   counted = λ place _. zeros 528 place;
@@ -161,6 +161,6 @@ opens = record {
   seen = λ id known at. subst (λ (v : Visit). IsLater v.seen (replicate 528 0)) (only_first id known at) (λ place. zero-le);
 }
   where
-    only_first : (id : ℕ) (known : Visit) → get_elem? (newcomer ∷ []) id ≡ some known → newcomer ≡ known
-    only_first zero known at = some-injective newcomer known at
+    only_first : (id : ℕ) (known : Visit) → get_elem? (new_guest ∷ []) id ≡ some known → new_guest ≡ known
+    only_first zero known at = some-injective new_guest known at
     only_first (suc id) known at = absurd (some-ne-none known (sym at))

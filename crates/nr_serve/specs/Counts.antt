@@ -20,8 +20,8 @@ pub record GuestSeen : Type 0 where
   pub raised : List ℕ
   pub closes : ℕ
 
-abbrev pub newcomer : Visit
-newcomer = record { seen = []; raised = []; closes = 0 }
+abbrev pub new_guest : Visit
+new_guest = record { seen = []; raised = []; closes = 0 }
 
 -- the place of the number that is above 0 once the lobby is closed; at each other place is a count
 abbrev pub closed_at : ℕ
@@ -77,8 +77,8 @@ pub record AreCounts (state : State (Unit {0}) Visit) : Type 0 where
   pub seen : (id : ℕ) (visit : Visit) → get_elem? state.views id ≡ some visit → IsLater visit.seen state.words
 
 -- a step that raises nothing, and finds this number
-abbrev pub has_looked : Step (Unit {0}) → Me (Unit {0}) Visit → ℕ → Me (Unit {0}) Visit → Type 0
-has_looked step old found new = IsLater old.0.seen new.0.seen × (new.0.raised ≡ old.0.raised) × (new.0.closes ≡ old.0.closes) × (slice_index new.0.seen step.word ≡ found)
+abbrev pub has_read_count : Step (Unit {0}) → Me (Unit {0}) Visit → ℕ → Me (Unit {0}) Visit → Type 0
+has_read_count step old found new = IsLater old.0.seen new.0.seen × (new.0.raised ≡ old.0.raised) × (new.0.closes ≡ old.0.closes) × (slice_index new.0.seen step.word ≡ found)
 
 -- a step that closes the lobby
 abbrev pub has_closed : Step (Unit {0}) → Me (Unit {0}) Visit → ℕ → Me (Unit {0}) Visit → Type 0

@@ -15,8 +15,8 @@ abbrev pub capped : ℕ → ℕ
 capped count = min count last_count
 
 -- the same with another reader
-abbrev pub with_reader : Hands → Caller → Hands
-with_reader hands reader = record hands { reader = reader }
+abbrev pub with_idle_reader : Hands → Caller → Hands
+with_idle_reader hands reader = record hands { reader = reader }
 
 -- the reader is the map's and the poster the queue's, which takes every key of the map
 pub record IsReady (map : Table) (queue : Queue) (hands : Hands) : Type 0 where

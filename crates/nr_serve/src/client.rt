@@ -5,7 +5,7 @@ ghost use Rattle.nr_board.specs.Meetings.{HearsNote, known_to, with_step};
 ghost use Rattle.nr_serve.specs.Clients.{since};
 ghost use Rattle.nr_serve.specs.Counts.{IsNew, OnlyLooks};
 ghost use Rattle.nr_serve.specs.Gets.{Gets};
-ghost use Rattle.nr_serve.specs.Hands.{capped, with_reader};
+ghost use Rattle.nr_serve.specs.Hands.{capped, with_idle_reader};
 ghost use Rattle.nr_serve.specs.Tickets.{sent};
 
 use crate::answers::Got;
@@ -123,7 +123,7 @@ impl<'a, G: Gate> Client<'a, G> {
         ensures own { result.table ≡ self.old.map }
         ensures note { result ≡ known_to self.old.hands.reader }
         ensures knows { KnowsOwn self.old.hands.reader }
-        ensures rest { self.new ≡ record self.old { hands = with_reader self.old.hands (with_step self.old.hands.reader) } }
+        ensures rest { self.new ≡ record self.old { hands = with_idle_reader self.old.hands (with_step self.old.hands.reader) } }
     {
         match &mut self.hands {
             Some(hands) => self.places.map.note(&mut hands.reader),
@@ -135,7 +135,7 @@ impl<'a, G: Gate> Client<'a, G> {
     pub fn hear(&mut self, note: Note)
         requires { note.table ≡ self.old.map }
         ensures hears { HearsNote 2 self.old.hands.reader note self.new.hands.reader }
-        ensures rest { self.new ≡ record self.old { hands = with_reader self.old.hands self.new.hands.reader } }
+        ensures rest { self.new ≡ record self.old { hands = with_idle_reader self.old.hands self.new.hands.reader } }
     {
         match &mut self.hands {
             Some(hands) => self.places.map.hear(&mut hands.reader, note),

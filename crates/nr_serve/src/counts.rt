@@ -17,29 +17,29 @@ pub(crate) const CLOSED_AT: usize = 520;
 pub struct View {}
 
 impl Model for View {
-    ghost use Rattle.nr_serve.specs.Counts.{Visit, newcomer};
+    ghost use Rattle.nr_serve.specs.Counts.{Visit, new_guest};
 
     ghost Value = { Visit };
 
-    ghost view = { λ _. newcomer };
+    ghost view = { λ _. new_guest };
 }
 
 pub struct Law;
 
 impl TableRule<(), View, ()> for Law {
-    ghost use Rattle.nr_serve.specs.Counts.{AreCounts, newcomer};
+    ghost use Rattle.nr_serve.specs.Counts.{AreCounts, new_guest};
 
     ghost holds = { λ _. AreCounts };
 
-    ghost first = { λ _. newcomer };
+    ghost first = { λ _. new_guest };
 }
 
 struct Looks;
 
 impl Play<(), View> for Looks {
-    ghost use Rattle.nr_serve.specs.Counts.{has_looked};
+    ghost use Rattle.nr_serve.specs.Counts.{has_read_count};
 
-    ghost then = { has_looked };
+    ghost then = { has_read_count };
 }
 
 struct Closes;
