@@ -28,7 +28,7 @@ typedef struct {
   uint32_t (*again)(nr_reader *, uint32_t);
   uint32_t (*release)(nr_reader *);
   uint32_t (*find_kept)(nr_reader *, uint32_t, nr_rows *);
-  uint32_t (*find_each)(nr_reader *, const uint32_t *, size_t, nr_rows *, uint32_t *);
+  uint32_t (*find_each)(nr_reader *, nr_wanted *, size_t);
   void *from;
   nr_writer writer;
   struct {

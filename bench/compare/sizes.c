@@ -41,25 +41,24 @@ static void *finds(void *given) {
 }
 
 /* Sixteen keys by one call, and by sixteen where the library has no such call. */
-static void find_group(job *j, const uint32_t *wanted, nr_rows *found) {
+static void find_group(job *j, nr_wanted *wanted) {
   nr_reader *reader = &j->map->reader[j->id].handle;
-  uint32_t answers[GROUP];
-  if (j->map->find_each)
-    j->map->find_each(reader, wanted, GROUP, found, answers);
-  else
-    for (int i = 0; i < GROUP; i++) answers[i] = j->map->find(reader, wanted[i], &found[i]);
+  if (j->map->find_each) {
+    if (j->map->find_each(reader, wanted, GROUP) != NR_DONE) stop("finds");
+  } else {
+    for (int i = 0; i < GROUP; i++) wanted[i].answer = j->map->find(reader, wanted[i].key, &wanted[i].rows);
+  }
   for (int i = 0; i < GROUP; i++)
-    if (answers[i] != NR_ROWS) stop("a find");
+    if (wanted[i].answer != NR_ROWS) stop("a find");
 }
 
 static void *finds_of_16(void *given) {
   job *j = given;
-  static _Thread_local nr_rows found[GROUP];
-  uint32_t wanted[GROUP];
+  static _Thread_local nr_wanted wanted[GROUP];
   double began = now();
   for (int i = 0; i < CALLS; i += GROUP) {
-    for (int at = 0; at < GROUP; at++) wanted[at] = drawn(&j->seed);
-    find_group(j, wanted, found);
+    for (int at = 0; at < GROUP; at++) wanted[at].key = drawn(&j->seed);
+    find_group(j, wanted);
   }
   j->each = (now() - began) / CALLS;
   return NULL;
