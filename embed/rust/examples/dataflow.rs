@@ -33,7 +33,7 @@ fn read(mut reader: Reader, mut poster: Poster, lobby: &Lobby<Thread>, dataflow:
 fn fill(writer: &mut Writer, taker: &mut Taker, lobby: &Lobby<Thread>) -> Result<(), Box<dyn Error>> {
     let mut filled = 0;
     while filled < KEYS {
-        let Some(ticket) = taker.take() else {
+        let Ok(ticket) = taker.take() else {
             thread::park();
             continue;
         };
@@ -55,7 +55,7 @@ fn main() -> Result<(), Box<dyn Error>> {
         }
         fill(&mut writer, &mut taker, lobby)
     })?;
-    assert!(taker.take().is_none());
+    assert!(taker.take().is_err());
     println!("each key was sent and filled once");
     Ok(())
 }

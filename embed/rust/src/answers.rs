@@ -30,6 +30,12 @@ pub enum Fault {
     NoMemory,
     /// Each reader of the map is open, or was dropped.
     NoReader,
+    /// The queue was full at one moment of the call.
+    Full,
+    /// The queue was empty at one moment of the call.
+    Empty,
+    /// Another thread was in the midst of a call of its own: the same call may be made again at once.
+    InTheWay,
 }
 
 impl fmt::Display for Fault {
@@ -47,6 +53,9 @@ impl fmt::Display for Fault {
             Fault::BadSize => "a size is out of its limits",
             Fault::NoMemory => "there is no memory",
             Fault::NoReader => "each reader is open or was dropped",
+            Fault::Full => "the queue is full",
+            Fault::Empty => "the queue is empty",
+            Fault::InTheWay => "another thread is in the way",
         })
     }
 }
@@ -68,11 +77,14 @@ pub(crate) fn done(code: u32) -> Result<(), Fault> {
         ffi::NR_BAD_SIZE => Fault::BadSize,
         ffi::NR_NO_MEMORY => Fault::NoMemory,
         ffi::NR_NO_READER => Fault::NoReader,
+        ffi::NR_FULL => Fault::Full,
+        ffi::NR_EMPTY => Fault::Empty,
+        ffi::NR_IN_THE_WAY => Fault::InTheWay,
         _ => unreachable!("an answer of another call"),
     })
 }
 
-/// What became of an update.
+/// What became of an update or a replacement.
 #[derive(Clone, Copy, Debug, PartialEq, Eq)]
 pub enum Updated {
     /// The key has the new rows.

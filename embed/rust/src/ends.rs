@@ -27,10 +27,10 @@ pub(crate) fn open(keys: u32, capacity: u32, posters: u32) -> Result<(Out, Vec<I
 }
 
 impl In {
-    /// Whether it was posted. The key is below those that the queue was opened with.
-    pub fn post(&mut self, key: u32, number: u64) -> bool {
+    /// Refused with `Full` or `InTheWay`. The key is below those that the queue was opened with.
+    pub fn post(&mut self, key: u32, number: u64) -> Result<(), Fault> {
         // SAFETY: the handle is live, and the key is the caller's.
-        unsafe { ffi::nr_post(&mut self.0, key, number) == ffi::NR_DONE }
+        done(unsafe { ffi::nr_post(&mut self.0, key, number) })
     }
 }
 
@@ -42,12 +42,12 @@ impl Drop for In {
 }
 
 impl Out {
-    /// The key and the number at the front.
-    pub fn take(&mut self) -> Option<(u32, u64)> {
+    /// The key and the number at the front. Refused with `Empty` or `InTheWay`.
+    pub fn take(&mut self) -> Result<(u32, u64), Fault> {
         let (mut key, mut number) = (0, 0);
         // SAFETY: the handle is live.
-        let taken = unsafe { ffi::nr_take(&mut self.0, &mut key, &mut number) } == ffi::NR_DONE;
-        taken.then_some((key, number))
+        done(unsafe { ffi::nr_take(&mut self.0, &mut key, &mut number) })?;
+        Ok((key, number))
     }
 
     fn open_poster(&mut self) -> Result<In, Fault> {

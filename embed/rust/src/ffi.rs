@@ -1,5 +1,5 @@
 //! The functions of `include/nr.h`.
-use crate::{Delta, Row, Rows, Shape, Sizes};
+use crate::{Delta, Row, Rows, Shape, Sizes, Wanted};
 use std::ffi::c_void;
 
 /// A handle of any kind. Each token of this crate opens one as it is made, so that it is live, and closes it as it is
@@ -35,7 +35,10 @@ pub const NR_NOT_SORTED: u32 = 19;
 pub const NR_BAD_SIZE: u32 = 20;
 pub const NR_NO_MEMORY: u32 = 21;
 pub const NR_NO_READER: u32 = 22;
+pub const NR_FULL: u32 = 24;
+pub const NR_EMPTY: u32 = 25;
 pub const NR_ALL_FILLED: u32 = 30;
+pub const NR_IN_THE_WAY: u32 = 33;
 
 extern "C" {
     pub fn nr_open(shape: *const Shape, writer: *mut Handle) -> u32;
@@ -44,6 +47,7 @@ extern "C" {
     pub fn nr_close_reader(reader: *mut Handle);
     pub fn nr_close_writer(writer: *mut Handle);
     pub fn nr_find(reader: *mut Handle, key: u32, rows: *mut Rows) -> u32;
+    pub fn nr_find_each(reader: *mut Handle, wanted: *mut Wanted, n: usize) -> u32;
     pub fn nr_ask(reader: *mut Handle, key: u32, number: *mut u64) -> u32;
     pub fn nr_pin(reader: *mut Handle, key: u32, count: *mut u32) -> u32;
     pub fn nr_row_at(reader: *mut Handle, place: u32, row: *mut Row) -> u32;
@@ -54,6 +58,7 @@ extern "C" {
     pub fn nr_look(writer: *mut Handle, key: u32, rows: *mut Rows) -> u32;
     pub fn nr_fill(writer: *mut Handle, key: u32, number: u64, rows: *const Row, n: usize) -> u32;
     pub fn nr_update(writer: *mut Handle, key: u32, deltas: *const Delta, n: usize) -> u32;
+    pub fn nr_replace(writer: *mut Handle, key: u32, rows: *const Row, n: usize) -> u32;
     pub fn nr_evict(writer: *mut Handle, key: u32) -> u32;
     pub fn nr_cancel(writer: *mut Handle, key: u32) -> u32;
     pub fn nr_state(writer: *mut Handle, key: u32) -> u32;

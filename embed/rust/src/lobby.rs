@@ -41,8 +41,8 @@ const GROUPS: u32 = 64;
 ///     });
 ///     let ticket = loop {
 ///         match taker.take() {
-///             Some(ticket) => break ticket,
-///             None => thread::park(),
+///             Ok(ticket) => break ticket,
+///             Err(_) => thread::park(),
 ///         }
 ///     };
 ///     let key = ticket.key();

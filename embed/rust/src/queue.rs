@@ -1,7 +1,7 @@
 //! Requests of one map on their way to the writer.
 use crate::ends::{self, In, Out};
 use crate::map::Map;
-use crate::{Fault, Ticket, Writer};
+use crate::{Fault, Ticket, Unposted, Writer};
 use std::thread;
 
 /// A queue's tokens as they come: its taker, and its posters, which share its memory. It goes with the last of
@@ -15,7 +15,7 @@ pub struct Queue {
 }
 
 impl Queue {
-    /// Opens a queue for 1 to 65,536 tickets of the writer's map, with 1 to 1,024 posters. A map's tickets fit into as
+    /// Opens a queue for 1 to 4,194,303 tickets of the writer's map, with 1 to 65,535 posters. A map's tickets fit into as
     /// many places as it has keys, where none is taken back. Refused with [`Fault::BadSize`] or [`Fault::NoMemory`].
     pub fn open(writer: &Writer, capacity: u32, posters: u32) -> Result<Queue, Fault> {
         let map = writer.map;
@@ -33,22 +33,18 @@ pub struct Poster {
 }
 
 impl Poster {
-    /// Puts a ticket at the back. It comes back where the queue is full, or another thread is in the way. Panics where
-    /// it is another map's.
-    pub fn post(&mut self, ticket: Ticket) -> Result<(), Ticket> {
+    /// Puts a ticket at the back. It comes back with [`Fault::Full`] or [`Fault::InTheWay`]. Panics where it is another
+    /// map's.
+    pub fn post(&mut self, ticket: Ticket) -> Result<(), Unposted> {
         assert!(ticket.map() == self.map.id, "the ticket is another map's");
-        if self.end.post(ticket.key(), ticket.number()) {
-            Ok(())
-        } else {
-            Err(ticket)
-        }
+        self.end.post(ticket.key(), ticket.number()).map_err(|fault| Unposted { fault, ticket })
     }
 
     /// Puts a ticket at the back, and lets other threads go on until it is there: while the queue is full, or another
     /// thread is in the way. Panics where the ticket is another map's.
     pub fn post_waiting(&mut self, mut ticket: Ticket) {
         while let Err(back) = self.post(ticket) {
-            ticket = back;
+            ticket = back.ticket;
             thread::yield_now();
         }
     }
@@ -62,9 +58,9 @@ pub struct Taker {
 }
 
 impl Taker {
-    /// Takes the ticket at the front. None where the queue is empty, or another thread is in the way.
-    pub fn take(&mut self) -> Option<Ticket> {
+    /// Takes the ticket at the front. Refused with [`Fault::Empty`] or [`Fault::InTheWay`].
+    pub fn take(&mut self) -> Result<Ticket, Fault> {
         let (key, number) = self.end.take()?;
-        Some(Ticket::of(self.map.id, key, number))
+        Ok(Ticket::of(self.map.id, key, number))
     }
 }

@@ -1,7 +1,7 @@
 //! What threads look keys up with.
 use crate::ffi::{self, Handle};
 use crate::map::Map;
-use crate::{Asked, Row, Rows, Sizes, Ticket, Writer};
+use crate::{Asked, Row, Rows, Sizes, Ticket, Wanted, Writer};
 
 /// A reader of a map. Each call that takes a key panics where the map has no such key. One that is dropped is not opened
 /// again; [`Writer::return_reader`] gives it back.
@@ -29,6 +29,33 @@ impl Reader {
         // SAFETY: the handle is live and holds nothing, the key was checked, and the rows are laid out as the header's.
         let found = unsafe { ffi::nr_find(&mut self.handle, key, rows) } == ffi::NR_ROWS;
         found.then(|| rows.as_slice())
+    }
+
+    /// Finds each of the keys, in their order, as [`Reader::find`] does one, also a key that is wanted twice. The words
+    /// that sixteen finds need are loaded before them, which in large maps is faster than single finds. Panics where the
+    /// map lacks one of the keys, and then none is found.
+    ///
+    /// ```
+    /// use nr::{Asked, ReaderMap, Row, Shape, Wanted};
+    ///
+    /// let ReaderMap { mut writer, mut readers } = ReaderMap::open(&Shape::new(3, 5, 1))?;
+    /// let Asked::Send(ticket) = readers[0].ask(2) else { panic!() };
+    /// writer.fill(ticket, &[Row { a: 3, b: 9 }])?;
+    /// let mut wanted = [2, 0, 2].map(Wanted::new);
+    /// readers[0].find_each(&mut wanted);
+    /// assert_eq!(wanted[0].rows(), Some(&[Row { a: 3, b: 9 }][..]));
+    /// assert_eq!(wanted[1].rows(), None);
+    /// assert_eq!(wanted[2].rows(), wanted[0].rows());
+    /// # Ok::<(), Box<dyn std::error::Error>>(())
+    /// ```
+    pub fn find_each(&mut self, wanted: &mut [Wanted]) {
+        self.release();
+        for one in wanted.iter() {
+            self.map.checked(one.key());
+        }
+        // SAFETY: the handle is live and holds nothing, the keys were checked, and there are as many of the header's
+        // layout as it is told.
+        unsafe { ffi::nr_find_each(&mut self.handle, wanted.as_mut_ptr(), wanted.len()) };
     }
 
     /// As [`Reader::find`], and the reader holds the set until it finds another or makes another call. While the key keeps

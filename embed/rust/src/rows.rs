@@ -1,4 +1,5 @@
 //! Rows, and what a map is opened with.
+use crate::ffi;
 use std::fmt;
 
 /// Two numbers, ordered by the first and then by the second.
@@ -34,6 +35,38 @@ impl Rows {
 impl Default for Rows {
     fn default() -> Rows {
         Rows::new()
+    }
+}
+
+/// A key to be found by [`Reader::find_each`](crate::Reader::find_each), and the room for its rows.
+#[repr(C)]
+#[derive(Clone, Debug)]
+pub struct Wanted {
+    key: u32,
+    answer: u32,
+    rows: Rows,
+}
+
+impl Wanted {
+    /// A key that is yet to be found, and has no rows until then.
+    pub fn new(key: u32) -> Wanted {
+        Wanted { key, answer: ffi::NR_HOLE, rows: Rows::new() }
+    }
+
+    /// Another key in the same room, yet to be found.
+    pub fn set(&mut self, key: u32) {
+        self.key = key;
+        self.answer = ffi::NR_HOLE;
+    }
+
+    /// The key.
+    pub fn key(&self) -> u32 {
+        self.key
+    }
+
+    /// What the last find wrote, or none where the key was a hole.
+    pub fn rows(&self) -> Option<&[Row]> {
+        (self.answer == ffi::NR_ROWS).then(|| self.rows.as_slice())
     }
 }
 

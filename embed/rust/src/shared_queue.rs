@@ -1,7 +1,7 @@
 //! Requests of several maps on their way to their writers.
 use crate::ends::{self, In, Out};
 use crate::map::MapId;
-use crate::{Fault, Ticket, Writer};
+use crate::{Fault, Ticket, Unposted, Writer};
 use std::sync::Arc;
 use std::thread;
 
@@ -15,7 +15,7 @@ pub struct SharedQueue {
 }
 
 impl SharedQueue {
-    /// Opens a queue for 1 to 65,536 tickets of the writers' maps, with 1 to 1,024 posters. Refused with
+    /// Opens a queue for 1 to 4,194,303 tickets of the writers' maps, with 1 to 65,535 posters. Refused with
     /// [`Fault::BadSize`], as where the maps have 2^32 keys together, or with [`Fault::NoMemory`]. Panics where two
     /// of the writers are of one map.
     pub fn open(writers: &[&Writer], capacity: u32, posters: u32) -> Result<SharedQueue, Fault> {
@@ -66,23 +66,19 @@ pub struct SharedPoster {
 }
 
 impl SharedPoster {
-    /// Puts a ticket at the back. It comes back where the queue is full, or another thread is in the way. Panics where
-    /// it is of a map that the queue isn't for.
-    pub fn post(&mut self, ticket: Ticket) -> Result<(), Ticket> {
+    /// Puts a ticket at the back. It comes back with [`Fault::Full`] or [`Fault::InTheWay`]. Panics where it is of a map
+    /// that the queue isn't for.
+    pub fn post(&mut self, ticket: Ticket) -> Result<(), Unposted> {
         let Some(first) = self.maps.first_key(ticket.map()) else {
             panic!("the ticket is of none of the queue's maps");
         };
-        if self.end.post(first + ticket.key(), ticket.number()) {
-            Ok(())
-        } else {
-            Err(ticket)
-        }
+        self.end.post(first + ticket.key(), ticket.number()).map_err(|fault| Unposted { fault, ticket })
     }
 
     /// The same, and lets other threads go on until the ticket is there.
     pub fn post_waiting(&mut self, mut ticket: Ticket) {
         while let Err(back) = self.post(ticket) {
-            ticket = back;
+            ticket = back.ticket;
             thread::yield_now();
         }
     }
@@ -96,10 +92,10 @@ pub struct SharedTaker {
 }
 
 impl SharedTaker {
-    /// Takes the ticket at the front, with the place of its map among the writers that the queue was opened with. None
-    /// where the queue is empty, or another thread is in the way.
-    pub fn take(&mut self) -> Option<(usize, Ticket)> {
+    /// Takes the ticket at the front, with the place of its map among the writers that the queue was opened with. Refused
+    /// with [`Fault::Empty`] or [`Fault::InTheWay`].
+    pub fn take(&mut self) -> Result<(usize, Ticket), Fault> {
         let (key, number) = self.end.take()?;
-        Some(self.maps.ticket(key, number))
+        Ok(self.maps.ticket(key, number))
     }
 }

@@ -277,16 +277,16 @@ fn a_queue_gives_tickets_in_their_order_and_back_where_it_is_full() {
     let ReaderMap { mut writer, mut readers } = ReaderMap::open(&Shape::new(3, 4, 1)).unwrap();
     let Queue { mut taker, mut posters } = Queue::open(&writer, 2, 1).unwrap();
     let [two, zero, one] = [2, 0, 1].map(|key| asked(&mut readers[0], key));
-    assert_eq!(taker.take(), None);
+    assert_eq!(taker.take(), Err(Fault::Empty));
     assert_eq!((posters[0].post(two), posters[0].post(zero)), (Ok(()), Ok(())));
-    let one = posters[0].post(one).expect_err("the queue is full");
-    assert_eq!(one.key(), 1);
+    let Unposted { fault, ticket: one } = posters[0].post(one).expect_err("the queue is full");
+    assert_eq!((fault, one.key()), (Fault::Full, 1));
     for wanted in [2, 0] {
         let ticket = taker.take().expect("a ticket was posted");
         assert_eq!(ticket.key(), wanted);
         assert_eq!(writer.fill(ticket, &[]), Ok(()));
     }
-    assert_eq!(taker.take(), None);
+    assert_eq!(taker.take(), Err(Fault::Empty));
     assert_eq!(Queue::open(&writer, 0, 1).err(), Some(Fault::BadSize));
 }
 
@@ -301,7 +301,9 @@ fn a_shared_queue_tells_whose_each_ticket_is() {
         assert_eq!(posters[0].post(asked(&mut maps[map].readers[0], key)), Ok(()));
     }
     let ticket = asked(&mut maps[0].readers[0], 0);
-    let ticket = posters[0].post(ticket).expect_err("the queue is full");
+    let Unposted { fault: Fault::Full, ticket } = posters[0].post(ticket).expect_err("the queue is full") else {
+        panic!()
+    };
     assert_eq!((ticket.key(), ticket.number()), (0, 2));
     for (map, key) in asked_for {
         let (place, ticket) = taker.take().expect("a ticket was posted");
@@ -309,9 +311,9 @@ fn a_shared_queue_tells_whose_each_ticket_is() {
         assert_eq!(maps[place].writer.fill(ticket, &[Row { a: u64::from(key), b: 0 }]), Ok(()));
         assert_eq!(maps[map].readers[0].find(key, &mut Rows::new()), Some(&[Row { a: u64::from(key), b: 0 }][..]));
     }
-    assert_eq!(taker.take(), None);
+    assert_eq!(taker.take(), Err(Fault::Empty));
     posters[0].post_waiting(ticket);
-    assert_eq!(taker.take().map(|(place, ticket)| (place, ticket.key())), Some((0, 0)));
+    assert_eq!(taker.take().map(|(place, ticket)| (place, ticket.key())), Ok((0, 0)));
 }
 
 #[test]
@@ -362,4 +364,49 @@ fn a_kept_find_holds_its_set_until_it_is_let_go() {
     readers[0].let_go();
     writer.update(0, &[Delta::plus(two)]).unwrap();
     assert_eq!(readers[1].find(0, &mut rows), Some(&[ONE, two][..]));
+}
+
+#[test]
+fn a_replacement_puts_a_whole_set() {
+    // One key and two slots: a replacement needs the slot that isn't the key's.
+    let ReaderMap { mut writer, mut readers } = ReaderMap::open(&Shape::new(1, 2, 1)).unwrap();
+    let two = Row { a: 2, b: 2 };
+    assert_eq!(writer.replace(0, &[ONE]), Ok(Updated::Dropped));
+    let ticket = asked(&mut readers[0], 0);
+    writer.fill(ticket, &[ONE]).unwrap();
+    assert_eq!(writer.replace(0, &[two, ONE]), Err(Fault::NotSorted));
+    assert_eq!(writer.replace(0, &[ONE; 16]), Err(Fault::TooMany));
+    assert_eq!(writer.replace(0, &[ONE, two]), Ok(Updated::Done));
+    let pin = readers[0].pin(0).expect("the key is filled");
+    assert_eq!(writer.replace(0, &[]), Ok(Updated::Done));
+    assert_eq!(writer.replace(0, &[two]), Err(Fault::NoSlot));
+    drop(pin);
+    assert_eq!(writer.replace(0, &[two]), Ok(Updated::Done));
+    assert_eq!(readers[0].find(0, &mut Rows::new()), Some(&[two][..]));
+}
+
+#[test]
+fn many_keys_are_found_by_one_call() {
+    let ReaderMap { mut writer, mut readers } = ReaderMap::open(&Shape::new(40, 42, 1)).unwrap();
+    for key in (0..40).step_by(2) {
+        let ticket = asked(&mut readers[0], key);
+        writer.fill(ticket, &[Row { a: u64::from(key), b: 0 }]).unwrap();
+    }
+    let mut wanted: Vec<Wanted> = (0..40).rev().chain([4, 4, 5]).map(Wanted::new).collect();
+    readers[0].find_each(&mut wanted);
+    for one in &wanted {
+        let row = Row { a: u64::from(one.key()), b: 0 };
+        assert_eq!(one.rows(), (one.key() % 2 == 0).then_some(&[row][..]));
+    }
+    wanted[0].set(6);
+    assert_eq!(wanted[0].rows(), None);
+    readers[0].find_each(&mut wanted[..1]);
+    assert_eq!(wanted[0].rows(), Some(&[Row { a: 6, b: 0 }][..]));
+}
+
+#[test]
+#[should_panic(expected = "the map has 2 keys, and the key is 2")]
+fn many_keys_of_which_one_is_too_large_panic() {
+    let mut map = ReaderMap::open(&Shape::new(2, 4, 1)).unwrap();
+    map.readers[0].find_each(&mut [0, 2].map(Wanted::new));
 }

@@ -58,3 +58,21 @@ impl fmt::Display for Unfilled {
 }
 
 impl std::error::Error for Unfilled {}
+
+/// A post that was refused. Its ticket is as good as before, and is to be posted again.
+#[derive(Debug, PartialEq, Eq)]
+#[must_use = "its ticket is to be posted again, or given to `Writer::cancel_ticket`"]
+pub struct Unposted {
+    /// Why: [`Fault::Full`] or [`Fault::InTheWay`].
+    pub fault: Fault,
+    /// The ticket.
+    pub ticket: Ticket,
+}
+
+impl fmt::Display for Unposted {
+    fn fmt(&self, f: &mut fmt::Formatter<'_>) -> fmt::Result {
+        write!(f, "the request of key {} is not posted: {}", self.ticket.key, self.fault)
+    }
+}
+
+impl std::error::Error for Unposted {}

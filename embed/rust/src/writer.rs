@@ -68,6 +68,18 @@ impl Writer {
         }
     }
 
+    /// Puts rows in ascending order whole in place of a key's; of a key that isn't filled they are [`Updated::Dropped`].
+    /// Refused with [`Fault::TooMany`], [`Fault::NotSorted`], [`Fault::NoSlot`] or [`Fault::AllFilled`]; then nothing has
+    /// changed.
+    pub fn replace(&mut self, key: u32, rows: &[Row]) -> Result<Updated, Fault> {
+        let key = self.map.checked(key);
+        // SAFETY: the handle is live, the key was checked, and there are as many rows as it is told.
+        match unsafe { ffi::nr_replace(&mut self.handle, key, rows.as_ptr(), rows.len()) } {
+            ffi::NR_DROPPED => Ok(Updated::Dropped),
+            code => done(code).map(|()| Updated::Done),
+        }
+    }
+
     /// Makes a filled key a hole; whether it was filled.
     pub fn evict(&mut self, key: u32) -> bool {
         let key = self.map.checked(key);

@@ -29,7 +29,7 @@ impl Dataflow<'_> {
     /// thread that brings one calls `unpark` after it, which ends the sleep, or keeps the next one from beginning.
     pub fn run(mut self) {
         loop {
-            let sent = self.taker.take().inspect(|_| self.shared.work.up(Count::Upqueries));
+            let sent = self.taker.take().ok().inspect(|_| self.shared.work.up(Count::Upqueries));
             let is_awaited = |ticket: &mut Ticket| self.shared.lobby.is_awaited(ticket.key());
             let ticket = sent.or_else(|| self.worn.extract_if(.., is_awaited).next());
             let is_idle = ticket.map(|ticket| self.upquery(ticket)).is_none();

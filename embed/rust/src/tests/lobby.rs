@@ -74,8 +74,8 @@ fn nobody_comes_onto_a_list_after_the_fill() {
         for _ in 0..ALL {
             let ticket = loop {
                 match taker.take() {
-                    Some(ticket) => break ticket,
-                    None => thread::yield_now(),
+                    Ok(ticket) => break ticket,
+                    Err(_) => thread::yield_now(),
                 }
             };
             let key = ticket.key();
@@ -139,7 +139,7 @@ fn nobody_waits_in_vain_where_each_key_is_evicted_at_once() {
         };
         let clients: Vec<_> = clients.map(start).collect();
         while left.load(SeqCst) > 0 {
-            let Some(ticket) = taker.take() else {
+            let Ok(ticket) = taker.take() else {
                 thread::park();
                 continue;
             };
