@@ -145,9 +145,9 @@ typedef struct nr_delta {
 /* What a map is opened with: 1 to 65,536 keys, 1 to 131,072 slots and 1 to 1,024 readers; or 1 to 4,194,303
    slots, 1 to as many keys and 1 to 65,535 readers; 1 to 255 rows a key; any count at which the slots'
    departures begin, and a first number of requests up to 4,194,303.
-   With a slot for each key, each reader and one more no fill, update or replacement answers NR_NO_SLOT or NR_ALL_FILLED. The map's
-   words take 8 bytes a key and 16 * rows + 16 a slot, and as much again while it is opened; the writer's
-   lists take 8 bytes a key and 16 a slot beside them. */
+   With a slot for each key, each reader and one more no fill, update or replacement answers NR_NO_SLOT or
+   NR_ALL_FILLED. The map's words take 8 bytes a key and 16 * rows + 16 a slot, and as much again while it is
+   opened; the writer's lists take 8 bytes a key and 16 a slot beside them. */
 typedef struct nr_shape {
   uint32_t keys;
   uint32_t slots;

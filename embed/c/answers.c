@@ -1,5 +1,5 @@
-/* Each answer of each function but NR_NO_MEMORY, which refused.c has, and NR_IN_THE_WAY, for which another thread has to
-   be in the midst of a post; and what a call leaves as it was where it tells nothing. */
+/* Each answer of each function, and what a call leaves as it was where it tells nothing. NR_NO_MEMORY is refused.c's,
+   and for NR_IN_THE_WAY another thread has to be in the midst of a call. */
 #include "../../include/nr.h"
 #include <stdio.h>
 #include <stdlib.h>
