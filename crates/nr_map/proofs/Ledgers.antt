@@ -31,6 +31,7 @@ use Rattle.nr_board.specs.Callers.{Caller, Table, map_at_opening}
 use Rattle.nr_board.specs.Entries.{AreCallers, is_reading}
 use Rattle.nr_board.specs.Spares.{spare_of}
 use Rattle.nr_board.specs.WriterAnswers.{Publishes, Retires, RetiresOne}
+use Rattle.nr_map.specs.Remains.{RestComesOutOnce}
 use Rattle.nr_map.specs.Reclaims.{HandedOutOnce, Ledger, LedgerStays, NobodyHoldsIt, had_number, standing}
 
 -- THE WRITER'S PUTS ARE ITS OWN ENTRIES'
@@ -137,6 +138,11 @@ ledger_stays_lem old new gone table fresh puts living many ledger =
       put = λ number low. let one = ledger.put number (omega arith) in omega (arith, counts number);
       later = λ number high. let none = ledger.later number (omega arith) in omega (arith, counts number);
     }
+
+pub rest_comes_out_once_lem : RestComesOutOnce
+rest_comes_out_once_lem writer gone left number ledger apart low =
+    let count_is : left.count ≡ writer.fresh = ⊎_elim (λ some_left. some_left.1) (λ none_left. omega (arith, none_left.0, none_left.1, ledger.slots.1)) apart.count in
+    ap (λ (n : ℕ). count_of_put (take n writer.marks.puts) number + count_of_put gone number) count_is ∙ ledger.put number low
 
 pub nobody_holds_it_lem : NobodyHoldsIt
 nobody_holds_it_lem writer gone reader slot number ledger current holds let_go same =

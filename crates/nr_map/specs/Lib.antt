@@ -10,3 +10,4 @@ pub mod ExactPlaces
 pub mod SlotBounds
 pub mod RowBounds
 pub mod Reclaims
+pub mod Remains

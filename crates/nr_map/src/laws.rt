@@ -3,6 +3,7 @@ ghost use Rattle.nr_map.specs.ExactPlaces.{DoneMeansFewerInUse, NoSlotMeansAllIn
 ghost use Rattle.nr_map.specs.Written.{FindsWhatItHeard, FindsWritten, HearsAllCalls, ReadsNoOlder};
 ghost use Rattle.nr_map.specs.SlotBounds.{NoSlotIsRare, PollsAreFew, RoomForFills, RoomForReplacements, RoomForUpdates};
 ghost use Rattle.nr_map.specs.Reclaims.{HandedOutOnce, LedgerStays, NobodyHoldsIt};
+ghost use Rattle.nr_map.specs.Remains.{RestComesOutOnce};
 ghost use Rattle.nr_map.specs.RowBounds.{RowsFitTheMap};
 ghost use Rattle.nr_map.specs.Rounds.{BeginningsMeet, CallsStay, EntriesAreCallers, RoundsTellAll, SendsOfAll, SendsOfAllKeys};
 
@@ -116,6 +117,12 @@ pub fn handed_out_once()
 /// A call that puts nothing, takes no slot and names none leaves the ledger as it was.
 pub fn ledger_stays()
     ensures { LedgerStays }
+{}
+
+/// Once the map was taken apart, each set that was put has come out exactly once: by a call that let
+/// it go, or of what remained.
+pub fn rest_comes_out_once()
+    ensures { RestComesOutOnce }
 {}
 
 /// A reader that was gathered holds a set that stands in a slot, and so none that was let go.

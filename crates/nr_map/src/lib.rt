@@ -30,6 +30,7 @@ mod pin;
 mod reader;
 mod reader_map;
 mod reclaiming;
+mod remains;
 mod ticket;
 mod wanted;
 mod writer;
@@ -45,6 +46,7 @@ pub use nr_core::{MAX_READERS, MAX_SLOTS, MOST_READERS, MOST_SLOTS, NoSlot, Shap
 pub use pin::Pin;
 pub use reader::Reader;
 pub use reader_map::ReaderMap;
+pub use remains::Remains;
 pub use ticket::Ticket;
 pub use wanted::Wanted;
 pub use writer::Writer;

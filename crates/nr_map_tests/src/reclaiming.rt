@@ -1,9 +1,9 @@
 //! Sets that come back once the slots in which they stood are taken again.
 ghost use Rattle.std.specs.Prelude.{◌≡◌, ◌<◌};
 
-use crate::calls::{Told, pairs_are, plus, rows_of};
+use crate::calls::{Told, ask, pairs_are, plus, rows_of};
 use crate::worked::Worked;
-use nr_map::{Evict, Reader, ReaderMap, Reclaimed, Writer};
+use nr_map::{Evict, Reader, ReaderMap, Reclaimed, Remains, Writer};
 use nr_model::{Batch, RowSet};
 use std::process::Abort;
 use std::test::Fail;
@@ -116,5 +116,37 @@ fn a_held_set_comes_back_after_its_reader_let_go(rt: HostRuntime) -> Result<(), 
         reader,
     } = worked;
     replace_beside_a_pin(&rt, &map, &mut writer, reader);
+    Ok(())
+}
+
+/// Asserts that the next set which remains has these rows.
+fn comes_out<R: Abort>(rt: &R, remains: &mut Remains, pairs: &[(u64, u64)]) {
+    let mut rows = RowSet::new();
+    assert!(rt; remains.next_into(&mut rows));
+    assert!(rt; pairs_are(&rows, pairs));
+}
+
+// The second set was let go by a plain call, so it never comes out.
+#[test]
+fn what_remains_of_a_map_comes_out_once(rt: HostRuntime) -> Result<(), Fail> {
+    let (map, mut writer, mut readers) = ReaderMap::open(rt.alloc(), 1, 3, 1, 0)?;
+    let Some(mut reader) = readers.pop() else {
+        return Err(Fail::from("no reader"));
+    };
+    let mut had = RowSet::new();
+    let _told = ask(&map, &mut reader, 0);
+    let _filled = fill(&map, &mut writer, 1, &mut had);
+    let _second = replace(&map, &mut writer, 2, &mut had);
+    let _third = replace(&map, &mut writer, 3, &mut had);
+    let fourth = replace(&map, &mut writer, 4, &mut had);
+    assert_eq!(rt; fourth, Some(Reclaimed::Set));
+    let _fifth = map.replace(&mut writer, 0, &RowSet::new());
+    readers.push(reader)?;
+    let mut remains = map.take_apart(writer, readers);
+    comes_out(&rt, &mut remains, &[(4, 4)]);
+    comes_out(&rt, &mut remains, &[]);
+    comes_out(&rt, &mut remains, &[(3, 3)]);
+    assert!(rt; !remains.next_into(&mut had));
+    assert!(rt; pairs_are(&had, &[(1, 1), (1, 1)]));
     Ok(())
 }
