@@ -2,8 +2,7 @@
 ghost use Rattle.std.specs.Prelude.{◌≡◌, ◌<◌};
 
 use crate::calls::{CHANGE, ask};
-use crate::opening::opened;
-use nr_map::{FillFault, ReaderMap, Reclaimed, ReplaceFault, UpdateFault, Writer};
+use nr_map::{FillFault, ReaderMap, Reclaimed, Remains, ReplaceFault, UpdateFault, Writer};
 use nr_model::{OpenFault, Pile, Row};
 use std::alloc::Global;
 use std::io::{self, Print};
@@ -11,11 +10,27 @@ use std::io::{self, Print};
 const ONE: [Row; 1] = [Row { a: 7, b: 1 }];
 
 #[derive(Drop)]
-pub struct Given {
+pub struct GivenBack {
+    given: Option<Given>,
+    came: [bool; 3],
+    last: Pile,
+}
+
+#[derive(Drop)]
+struct Given {
     filled: Result<Reclaimed, FillFault>,
     changed: Result<Reclaimed, UpdateFault>,
     replaced: Result<Reclaimed, ReplaceFault>,
     had: Pile,
+}
+
+// At the end of a map its sets come out, each that no call gave out: here those of two slots.
+fn take_out(mut remains: Remains) -> ([bool; 3], Pile) {
+    let mut rows = Pile::new();
+    let first = remains.next_into(&mut rows);
+    let second = remains.next_into(&mut rows);
+    let third = remains.next_into(&mut rows);
+    ([first, second, third], rows)
 }
 
 // Two calls take slots that were never taken. The third takes the fill's, whose set the update replaced:
@@ -23,6 +38,7 @@ pub struct Given {
 fn put_three(map: &ReaderMap, writer: &mut Writer) -> Option<Given>
     requires own { writer.old.table ≡ map.now }
     requires key { 0 < map.now.shape.keys }
+    ensures { writer.new.table ≡ map.now }
 {
     if ONE.len() > map.rows() as usize {
         return None;
@@ -41,21 +57,29 @@ fn put_three(map: &ReaderMap, writer: &mut Writer) -> Option<Given>
 }
 
 /// A key whose set is put three times, in a map of two slots.
-pub fn given_back(alloc: Global) -> Result<Option<Given>, OpenFault> {
-    let (map, mut writer, mut one, _two) = opened(alloc, 1, 2)?;
+pub fn given_back(alloc: Global) -> Result<GivenBack, OpenFault> {
+    let (map, mut writer, mut readers) = ReaderMap::open(alloc, 1, 2, 1, 0)?;
+    let Some(mut one) = readers.pop() else {
+        unreachable!()
+    };
     ask(&map, &mut one, 0);
-    Ok(put_three(&map, &mut writer))
+    let given = put_three(&map, &mut writer);
+    readers.push(one).map_err(|_| OpenFault::Memory)?;
+    let (came, last) = take_out(map.take_apart(writer, readers));
+    Ok(GivenBack { given, came, last })
 }
 
-pub fn show<R: Print>(rt: &R, told: &Option<Given>) -> io::Result<()> {
-    let Some(told) = told else {
+pub fn show<R: Print>(rt: &R, told: &GivenBack) -> io::Result<()> {
+    let Some(given) = &told.given else {
         return Ok(());
     };
     println!(rt;
-        "Given back\n  a fill: {:?}\n  an update: {:?}\n  a replacement: {:?}: {:?}",
-        told.filled,
-        told.changed,
-        told.replaced,
-        told.had.as_slice()
+        "Given back\n  a fill: {:?}\n  an update: {:?}\n  a replacement: {:?}: {:?}\n  at the end: {:?}, the last {:?}",
+        given.filled,
+        given.changed,
+        given.replaced,
+        given.had.as_slice(),
+        told.came,
+        told.last.as_slice()
     )
 }
