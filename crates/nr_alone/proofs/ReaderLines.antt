@@ -23,7 +23,7 @@ use Rattle.nr_alone.specs.Answers as answers
 use Rattle.nr_alone.specs.declared.answer.Refusal.TheVariants as refusals
 use Rattle.nr_alone.specs.declared.seat.Seat.{Seat}
 use Rattle.nr_alone.specs.MapState.{MapOutcome, Pin, MapState, answer_again, answer_call, answer_pin, find_again, pin_at, pins_after, with_pin, without_pin}
-use Rattle.nr_alone.specs.Seats.{Calls, FindsAgain, KeepsPin, SeatHoldsItsPin, HoldsItsPin, MakesCall, MakesPin, ShowsPin, Unpins, caller_in, mine_of, pin_of}
+use Rattle.nr_alone.specs.Seats.{Calls, AgainBySeat, KeepsPin, SeatHoldsItsPin, HoldsItsPin, MakesCall, MakesPin, ShowsPin, Unpins, caller_in, mine_of, pin_of}
 use Rattle.nr_alone.specs.Rounds.{Gathered}
 use Rattle.nr_alone.specs.Alone.{IsAlone, Laws, log_of, shown_by, shown_after}
 use Rattle.nr_alone.specs.Lines.{SettlesLine}
@@ -236,7 +236,7 @@ module _ (laws : Laws) (table : Table) (w0 : Caller) (seats0 : List Seat) (alone
       let most : StartsWith log (caller_in x).seen = subst (λ (l : List Entry). StartsWith l (caller_in x).seen) (s.mid_log ∙ append-nil log) mid in
       starts_both (caller_in x).seen log (starts_then log (caller_in old).seen (caller_in x).seen least later) most
 
-  pub says_again : (key : ℕ) (answer : Answer) → key < table.shape.keys → FindsAgain key old x (Ok answer) → Says (answer_again stood at key) answer
+  pub says_again : (key : ℕ) (answer : Answer) → key < table.shape.keys → AgainBySeat key old x (Ok answer) → Says (answer_again stood at key) answer
   says_again key (answers.Reply r) inside (pin, before, is, called, has, keeps) =
       let fits = still_fits keeps in let heard = (caller_in old).seen in
       let made : Calls heard (model.Find key) (reply.Rows pin.rows) (caller_in old) (caller_in x) = subst (λ (k : Reply). Calls heard (model.Find key) k (caller_in old) (caller_in x)) is called in

@@ -108,11 +108,11 @@ ShowsPin old new (Err refusals.Holding) = ⊥
 ShowsPin old new (Err refusals.NotHolding) = (new ≡ old) × (pin_of old ≡ None)
 
 -- a find by the pin: where the key has the set of its put it is the reader's call, answered with the pinned rows; else the reader learns the history so far
-abbrev pub FindsAgain : ℕ → Seat → Seat → Result Answer Refusal → Type 0
-FindsAgain key old new (Ok (answers.Reply reply')) = (pin : Pin) × (pin_of old ≡ Some pin) × (reply' ≡ reply.Rows pin.rows)
+abbrev pub AgainBySeat : ℕ → Seat → Seat → Result Answer Refusal → Type 0
+AgainBySeat key old new (Ok (answers.Reply reply')) = (pin : Pin) × (pin_of old ≡ Some pin) × (reply' ≡ reply.Rows pin.rows)
     × Calls (caller_in old).seen (model.Find key) reply' (caller_in old) (caller_in new) × HasPut key pin.put (caller_in new) × KeepsPin old new
-FindsAgain key old new (Ok answers.Other) = (pin : Pin) × (pin_of old ≡ Some pin) × Grows 1 (caller_in old) [] (caller_in new) × (HasPut key pin.put (caller_in new) → ⊥) × KeepsPin old new
-FindsAgain key old new (Ok answers.Ok) = ⊥
-FindsAgain key old new (Ok answers.NoSlot) = ⊥
-FindsAgain key old new (Err refusals.Holding) = ⊥
-FindsAgain key old new (Err refusals.NotHolding) = (new ≡ old) × (pin_of old ≡ None)
+AgainBySeat key old new (Ok answers.Other) = (pin : Pin) × (pin_of old ≡ Some pin) × Grows 1 (caller_in old) [] (caller_in new) × (HasPut key pin.put (caller_in new) → ⊥) × KeepsPin old new
+AgainBySeat key old new (Ok answers.Ok) = ⊥
+AgainBySeat key old new (Ok answers.NoSlot) = ⊥
+AgainBySeat key old new (Err refusals.Holding) = ⊥
+AgainBySeat key old new (Err refusals.NotHolding) = (new ≡ old) × (pin_of old ≡ None)

@@ -1,7 +1,7 @@
 //! The calls of one reader.
 ghost use Rattle.std.specs.Prelude.{◌≡◌, ◌<◌};
 ghost use Rattle.nr_model.specs.declared.calls.Call.TheVariants as model;
-ghost use Rattle.nr_alone.specs.Seats.{caller_in, FindsAgain, GainsFind, MakesCall, MakesPin, NotesFor, PinsBy, ShowsPin, Unpins};
+ghost use Rattle.nr_alone.specs.Seats.{caller_in, AgainBySeat, GainsFind, MakesCall, MakesPin, NotesFor, PinsBy, ShowsPin, Unpins};
 
 use crate::answer::{Answer, Refusal, Said};
 use crate::seat::Seat;
@@ -124,7 +124,7 @@ pub(crate) fn again_at<'a>(
 ) -> Result<Answer<'a>, Refusal>
     requires own { (caller_in seat.old).table ≡ map.now }
     requires key { key < map.now.shape.keys }
-    ensures { FindsAgain key seat.old seat.new result }
+    ensures { AgainBySeat key seat.old seat.new result }
 {
     let Seat::Pinned(pin, _) = seat else {
         return Err(Refusal::NotHolding);

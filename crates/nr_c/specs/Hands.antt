@@ -3,7 +3,7 @@ use Rattle.std.specs.Prelude.{◌≡◌, ◌↔◌, ℕ, Bool, true, Option, Non
 use Rattle.nr_marks.specs.Marks.{acted}
 use Rattle.nr_board.specs.Callers.{Caller, Rests, Table}
 use Rattle.nr_board.specs.Meetings.{HasPut}
-use Rattle.nr_map.specs.Hands.{Handed, holding, idle}
+use Rattle.nr_map.specs.Hands.{Handed, in_hand, idle}
 use Rattle.nr_map.specs.Pins.{FindsByPin, Pinned}
 use Rattle.nr_c.specs.declared.hand.Hand.{Hand}
 use Rattle.nr_c.specs.declared.hand.Hand.TheVariants.{Idle, Holds, Taken}
@@ -36,7 +36,7 @@ HoldsSome hand = (pin : Pinned) × (hand ≡ Holds pin)
 -- the reader as one of the map's hands, which takes a held set for that of some key
 abbrev pub InHand : Hand → Handed → Type 0
 InHand (Idle reader) hand = hand ≡ idle reader
-InHand (Holds pin) hand = (key : ℕ) × (hand ≡ holding key pin)
+InHand (Holds pin) hand = (key : ℕ) × (hand ≡ in_hand key pin)
 InHand Taken hand = ⊥
 
 -- the pin finds a key again, and holds the same set

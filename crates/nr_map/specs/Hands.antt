@@ -30,12 +30,12 @@ abbrev pub idle : Caller → Handed
 idle reader = record { reader = reader; key = None; rows = [] }
 
 -- what a pin holds, taken for a set of that key
-abbrev pub holding : ℕ → Pinned → Handed
-holding key pin = record { reader = pin.reader; key = Some key; rows = pin.rows }
+abbrev pub in_hand : ℕ → Pinned → Handed
+in_hand key pin = record { reader = pin.reader; key = Some key; rows = pin.rows }
 
 -- what a hand holds is a pin, of whichever key; or it is a reader that holds nothing
 abbrev pub BecomesPin : Handed → Result Pinned Caller → Type 0
-BecomesPin hand (Ok pin) = (key : ℕ) × (hand ≡ holding key pin)
+BecomesPin hand (Ok pin) = (key : ℕ) × (hand ≡ in_hand key pin)
 BecomesPin hand (Err reader) = hand ≡ idle reader
 
 abbrev pub key_held : Option Held → Option ℕ
@@ -67,7 +67,7 @@ pub record LetsGo (old new : Handed) : Type 0 where
   pub marks : new.reader.marks ≡ departed old.key old.reader.marks
 
 -- in that many steps the hand read of what it holds, and nothing else changed
-pub record Reads (steps : ℕ) (old new : Handed) : Type 0 where
+pub record ReadsHeld (steps : ℕ) (old new : Handed) : Type 0 where
   pub key_is : new.key ≡ old.key
   pub rows : new.rows ≡ old.rows
   pub rests : Rests steps old.reader new.reader

@@ -19,7 +19,7 @@ pub struct Upkeep {
     dropped: Result<(), UpdateFault>,
 }
 
-// Replaces key 0's set, and looks what is there then.
+// Replaces key 0's set, and looks up what is there then.
 fn replace(map: &ReaderMap, writer: &mut Writer) -> (Result<(), ReplaceFault>, RowSet)
     requires own { writer.old.table ≡ map.now }
     requires key { 0 < map.now.shape.keys }
