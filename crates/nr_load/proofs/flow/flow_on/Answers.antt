@@ -29,7 +29,7 @@ loop-preserved g c =
       map = turned.ensures.places.0 ∙ so_far.map;
       room = subst HasRoomForAll (sym turned.ensures.places.0) so_far.room;
       far = so_far_more c.args.writer c.loop.flow turned.new.flow turned.result c.loop.fills turned.new.fills so_far.map so_far.far turned.ensures.turns (λ wrong. not_both c.is_last.result (c.is_last.ensures wrong) c.if-is_last.false);
-      lobby = c.is_closed-is_closed.ensures.later.lobby ∙ so_far.lobby;
+      lobby = c.is_closed-is_closed.ensures.looks.later.lobby ∙ so_far.lobby;
     }
 
 pub returns : goal.returns
