@@ -2,11 +2,13 @@
 #![tactic(auto)]
 
 mod faults;
+mod keys;
 mod lent;
 mod opening;
 mod shared;
 mod table;
 
 pub use faults::NameFault;
+pub use keys::Keys;
 pub use shared::Names;
 pub use table::NameTable;

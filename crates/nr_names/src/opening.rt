@@ -1,24 +1,26 @@
 //! How a table comes under a lock. No other file of the type has an allocator, so the table that
 //! it gets is the only one there.
-ghost use Rattle.std.specs.Prelude.{◌≡◌, ◌≤◌, ◌<◌, IfOk, IfErr};
+ghost use Rattle.std.specs.Prelude.{◌≡◌, ◌≤◌, ◌<◌, IfErr};
 ghost use Rattle.nr_names.specs.declared.table.TheConstants.{MAX_KEYS};
 
 use crate::faults::NameFault;
+use crate::keys::Keys;
+use crate::lent::LentTable;
 use crate::shared::Names;
 use crate::table::NameTable;
 use std::alloc::Global;
 
-impl Names {
+impl<K: Keys> Names<K> {
     /// Opens a table for as many names as there are keys, from 1 to 65,536, with none interned.
     ///
     /// Refused with `Memory` where the room for the names' places can't be had.
-    pub fn open(alloc: Global, keys: u32) -> Result<Names, NameFault>
+    pub fn open(alloc: Global, keys: u32) -> Result<Names<K>, NameFault>
         requires some { 0 < keys }
         requires within { keys ≤ MAX_KEYS }
-        ensures keys { IfOk result (λ names. names ≡ keys) }
+        requires typed { keys ≡ K.keys }
         ensures refusal { IfErr result (λ fault. fault ≡ NameFault.Memory) }
     {
         let table = NameTable::open(alloc, keys)?;
-        Ok(Names::of(table))
+        Ok(Names::of(LentTable::of(table)))
     }
 }

@@ -54,13 +54,6 @@ impl NameTable {
         })
     }
 
-    // As many names as there may be.
-    pub(crate) fn keys(&self) -> u32
-        ensures { result ≡ self.now.keys }
-    {
-        self.keys
-    }
-
     /// The number of a name: the one that it has, or else the next one, from 0, which it keeps.
     ///
     /// A name of no bytes is refused with `Empty`, and one of over 255 with `TooLong`. A name that

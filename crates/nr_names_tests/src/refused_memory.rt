@@ -1,14 +1,15 @@
 //! Each call that takes memory is made once more where it was refused, so these tests pass as well
 //! where any one request for memory is refused (tests/refused_memory refuses each in turn).
-ghost use Rattle.std.specs.Prelude.{◌<◌, ◌≤◌};
+ghost use Rattle.std.specs.Prelude.{◌≡◌, ◌<◌, ◌≤◌};
 ghost use Rattle.nr_names.specs.declared.table.TheConstants.{MAX_KEYS};
 
-use nr_names::{NameFault, NameTable, Names};
+use nr_names::{Keys, NameFault, NameTable, Names};
 use std::alloc::Global;
+use std::marker::Brand;
 use std::process::Abort;
 use std::sync::Wait;
 use std::test::Fail;
-use std::thread::join;
+use std::thread::{Threads, join};
 
 fn opened(alloc: Global) -> Result<NameTable, NameFault> {
     match NameTable::open(alloc, 2) {
@@ -70,8 +71,8 @@ fn names_have_at_most_255_bytes(rt: HostRuntime) -> Result<(), Fail> {
     Ok(())
 }
 
-fn opened_shared(alloc: Global, keys: u32) -> Result<Names, NameFault>
-    requires { (0 < keys) × (keys ≤ MAX_KEYS) }
+fn opened_shared<K: Keys>(alloc: Global, keys: u32) -> Result<Names<K>, NameFault>
+    requires { (0 < keys) × (keys ≤ MAX_KEYS) × (keys ≡ K.keys) }
 {
     match Names::open(alloc, keys) {
         Err(NameFault::Memory) => Names::open(alloc, keys),
@@ -79,7 +80,11 @@ fn opened_shared(alloc: Global, keys: u32) -> Result<Names, NameFault>
     }
 }
 
-fn interned_shared(rt: &impl Wait, names: &Names, name: &str) -> Result<u32, NameFault> {
+fn interned_shared<K: Keys>(
+    rt: &impl Wait,
+    names: &Names<K>,
+    name: &str,
+) -> Result<u32, NameFault> {
     match names.intern(rt, name) {
         Err(NameFault::Memory) => names.intern(rt, name),
         reply => reply,
@@ -87,9 +92,9 @@ fn interned_shared(rt: &impl Wait, names: &Names, name: &str) -> Result<u32, Nam
 }
 
 // Reads a name that has the number over a text that is another.
-fn read_shared_over(
+fn read_shared_over<K: Keys>(
     rt: &(impl Wait + Abort),
-    names: &Names,
+    names: &Names<K>,
     number: u32,
     text: &mut String,
     before: &str,
@@ -102,29 +107,37 @@ fn read_shared_over(
     assert_eq!(rt; reply, Ok(()));
 }
 
-#[test]
-fn a_shared_table_gives_numbers(rt: HostRuntime) -> Result<(), Fail> {
-    let names = opened_shared(rt.alloc(), 2)?;
+fn gives_two_numbers<K: Keys, R: Threads + Wait + Abort + AllocGlobal + Sync>(
+    rt: &R,
+) -> Result<(), Fail>
+    requires { K.keys ≡ 2 }
+{
+    let names: Names<K> = opened_shared(rt.alloc(), 2)?;
     let mut text = String::new(rt.alloc());
     let (here, there) = join(
-        &rt,
-        || interned_shared(&rt, &names, "a"),
-        || interned_shared(&rt, &names, "a"),
+        rt,
+        || interned_shared(rt, &names, "a"),
+        || interned_shared(rt, &names, "a"),
     );
     assert_eq!(rt; here, Ok(0));
     assert_eq!(rt; there, Ok(0));
-    assert_eq!(rt; names.name(&rt, 1, &mut text), Err(NameFault::NoName));
-    assert_eq!(rt; interned_shared(&rt, &names, "b"), Ok(1));
-    assert_eq!(rt; names.intern(&rt, "c"), Err(NameFault::Full));
-    assert_eq!(rt; names.intern(&rt, "a"), Ok(0));
-    read_shared_over(&rt, &names, 0, &mut text, "");
+    assert_eq!(rt; names.name(rt, 1, &mut text), Err(NameFault::NoName));
+    assert_eq!(rt; interned_shared(rt, &names, "b"), Ok(1));
+    assert_eq!(rt; names.intern(rt, "c"), Err(NameFault::Full));
+    assert_eq!(rt; names.intern(rt, "a"), Ok(0));
+    read_shared_over(rt, &names, 0, &mut text, "");
     assert_eq!(rt; text.as_str(), "a");
-    read_shared_over(&rt, &names, 1, &mut text, "a");
+    read_shared_over(rt, &names, 1, &mut text, "a");
     assert_eq!(rt; text.as_str(), "b");
-    assert_eq!(rt; names.name(&rt, 2, &mut text), Err(NameFault::NoName));
+    assert_eq!(rt; names.name(rt, 2, &mut text), Err(NameFault::NoName));
     assert_eq!(rt; text.as_str(), "b");
-    assert_eq!(rt; names.intern(&rt, ""), Err(NameFault::Empty));
+    assert_eq!(rt; names.intern(rt, ""), Err(NameFault::Empty));
     Ok(())
+}
+
+#[test]
+fn a_shared_table_gives_numbers(rt: HostRuntime) -> Result<(), Fail> {
+    gives_two_numbers::<Brand, _>(&rt)
 }
 
 const WORDS: [&str; 5] = ["ant", "bee", "cow", "dog", "elk"];
@@ -132,7 +145,7 @@ const WORDS: [&str; 5] = ["ant", "bee", "cow", "dog", "elk"];
 // What each word was answered, in the order of the words.
 type Answers = [Result<u32, NameFault>; 5];
 
-fn forwards(rt: &impl Wait, names: &Names) -> Answers {
+fn forwards<K: Keys>(rt: &impl Wait, names: &Names<K>) -> Answers {
     let mut answers = [Err(NameFault::NoName); 5];
     for i in 0..5 {
         answers[i] = interned_shared(rt, names, WORDS[i]);
@@ -140,7 +153,7 @@ fn forwards(rt: &impl Wait, names: &Names) -> Answers {
     answers
 }
 
-fn backwards(rt: &impl Wait, names: &Names) -> Answers {
+fn backwards<K: Keys>(rt: &impl Wait, names: &Names<K>) -> Answers {
     let mut answers = [Err(NameFault::NoName); 5];
     for i in 0..5 {
         answers[4 - i] = interned_shared(rt, names, WORDS[4 - i]);
@@ -149,24 +162,32 @@ fn backwards(rt: &impl Wait, names: &Names) -> Answers {
 }
 
 // Two threads intern the same words, one of them from the end, so either may find a word new.
-#[test]
-fn threads_agree_on_names_and_numbers(rt: HostRuntime) -> Result<(), Fail> {
-    let names = opened_shared(rt.alloc(), 5)?;
-    let (here, there) = join(&rt, || forwards(&rt, &names), || backwards(&rt, &names));
+fn agrees_on_five_words<K: Keys, R: Threads + Wait + Abort + AllocGlobal + Sync>(
+    rt: &R,
+) -> Result<(), Fail>
+    requires { K.keys ≡ 5 }
+{
+    let names: Names<K> = opened_shared(rt.alloc(), 5)?;
+    let (here, there) = join(rt, || forwards(rt, &names), || backwards(rt, &names));
     assert_eq!(rt; here, there);
     let mut text = String::new(rt.alloc());
     let mut named = [false; 5];
     for i in 0..5 {
-        let number = here[i].expect(&rt, "a word that fits has a number");
+        let number = here[i].expect(rt, "a word that fits has a number");
         assert!(rt; number < 5, "numbers have no gaps");
         assert!(rt; !named[number as usize], "no two words share a number");
         named[number as usize] = true;
         let before = if i == 0 { "" } else { WORDS[i - 1] };
-        read_shared_over(&rt, &names, number, &mut text, before);
+        read_shared_over(rt, &names, number, &mut text, before);
         assert_eq!(rt; text.as_str(), WORDS[i]);
-        assert_eq!(rt; names.intern(&rt, WORDS[i]), Ok(number));
+        assert_eq!(rt; names.intern(rt, WORDS[i]), Ok(number));
     }
-    assert_eq!(rt; names.intern(&rt, "fox"), Err(NameFault::Full));
-    assert_eq!(rt; names.name(&rt, 5, &mut text), Err(NameFault::NoName));
+    assert_eq!(rt; names.intern(rt, "fox"), Err(NameFault::Full));
+    assert_eq!(rt; names.name(rt, 5, &mut text), Err(NameFault::NoName));
     Ok(())
+}
+
+#[test]
+fn threads_agree_on_names_and_numbers(rt: HostRuntime) -> Result<(), Fail> {
+    agrees_on_five_words::<Brand, _>(&rt)
 }
