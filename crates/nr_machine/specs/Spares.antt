@@ -1,5 +1,5 @@
--- What the writer keeps beside the words: the slots that no key names, those that were never taken and the retired ones, and the number of each key.
-use Rattle.std.specs.Prelude.{◌≡◌, ℕ, ◌+◌, ◌-◌, ◌<◌, ◌≤◌, List, [], ◌∷◌, length, Option, Some, None}
+-- What the writer keeps beside the words: the slots that no key names, those that were never taken and the retired ones, the number of each key, and which slots were reaped.
+use Rattle.std.specs.Prelude.{◌≡◌, ℕ, ◌+◌, ◌-◌, ◌<◌, ◌≤◌, Bool, List, [], ◌∷◌, length, Option, Some, None}
 use Rattle.nr_machine.specs.declared.calls.NoSlot.{NoSlot}
 use Rattle.nr_machine.specs.declared.places.Retired.{Retired}
 
@@ -10,6 +10,8 @@ pub record Spare : Type 0 where
   pub retired : List Retired
   -- the number of each key
   pub numbers : List ℕ
+  -- for each slot whether the set in it was given out already
+  pub reaped : List Bool
 
 -- every slot is retired, or named by a key
 abbrev pub none_spare : Spare → NoSlot

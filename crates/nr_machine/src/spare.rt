@@ -1,5 +1,6 @@
-//! What the writer keeps beside the words: the slots that no key names, and each key's number.
-ghost use Rattle.std.specs.Prelude.{◌≡◌, ◌<◌, ◌≤◌, ◌++◌, [], ◌∷◌, length, remove, replicate, slice_index, slice_index_or, slice_set, IfOk};
+//! What the writer keeps beside the words: the slots that no key names, each key's number, and which
+//! slots were reaped.
+ghost use Rattle.std.specs.Prelude.{◌≡◌, ◌<◌, ◌≤◌, ◌++◌, [], ◌∷◌, false, length, remove, replicate, slice_index, slice_index_or, slice_set, IfOk};
 ghost use Rattle.nr_machine.specs.States.{no_retired};
 ghost use Rattle.nr_machine.specs.Writer.{unnamed};
 ghost use Rattle.nr_machine.specs.Spares.{TakesFresh, TakesOldest, none_spare};
@@ -15,40 +16,44 @@ use std::marker::Model;
 /// Those from `fresh` on were never taken; the retired ones, oldest first, wait until their readers
 /// have departed. They are a queue, so that to take the oldest costs the same whatever their number,
 /// and it has room to retire all slots. A filled key's word has its slot, so its number stands here
-/// alone.
+/// alone. The set in a reaped slot was given out, and a call that takes the slot gives out none.
 #[derive(Drop)]
 pub struct Spare {
     slots: u32,
     fresh: u32,
     retired: VecDeque<Retired>,
     numbers: Vec<u64>,
+    reaped: Vec<bool>,
 }
 
 impl Model for Spare {
-    ghost use Rattle.std.specs.Prelude.{◌≤◌};
+    ghost use Rattle.std.specs.Prelude.{◌≡◌, ◌≤◌, length};
     ghost use Rattle.std.specs.VecDeque.{deque_capacity};
     ghost use Rattle.nr_machine.specs.Spares.{Spare as Slots};
 
     ghost Value = { Slots };
 
-    ghost view = { λ spare. record { slots = spare.slots; fresh = spare.fresh; retired = spare.retired.items; numbers = spare.numbers.items } };
+    ghost view = { λ spare. record { slots = spare.slots; fresh = spare.fresh; retired = spare.retired.items; numbers = spare.numbers.items; reaped = spare.reaped.items } };
 
-    ghost invariant = { λ spare. spare.slots ≤ deque_capacity spare.retired };
+    ghost invariant = { λ spare. (spare.slots ≤ deque_capacity spare.retired) × (length spare.reaped.items ≡ spare.slots) };
 }
 
 impl Spare {
     /// All the slots of a new map, and the first number for each key.
     pub fn open(alloc: Global, shape: &Shape) -> Result<Spare, AllocError>
-        ensures { IfOk result (λ spare. spare ≡ record { slots = shape.now.slots; fresh = 0; retired = []; numbers = replicate shape.now.keys shape.now.first_number }) }
+        ensures { IfOk result (λ spare. spare ≡ record { slots = shape.now.slots; fresh = 0; retired = []; numbers = replicate shape.now.keys shape.now.first_number; reaped = replicate shape.now.slots false }) }
     {
         let retired = VecDeque::with_capacity(alloc, shape.slots as usize)?;
         let mut numbers = Vec::with_capacity(alloc, shape.keys as usize)?;
         numbers.resize(shape.keys as usize, shape.first_number)?;
+        let mut reaped = Vec::with_capacity(alloc, shape.slots as usize)?;
+        reaped.resize(shape.slots as usize, false)?;
         Ok(Spare {
             slots: shape.slots,
             fresh: 0,
             retired,
             numbers,
+            reaped,
         })
     }
 
@@ -130,6 +135,22 @@ impl Spare {
         ensures { self.new ≡ record self.old { numbers = slice_set self.old.numbers key number } }
     {
         self.numbers[key as usize] = number;
+    }
+
+    /// Whether the set in the slot was given out already.
+    pub fn is_reaped(&self, slot: u32) -> bool
+        requires { slot < self.now.slots }
+        ensures { result ≡ slice_index_or self.now.reaped slot false }
+    {
+        self.reaped[slot as usize]
+    }
+
+    /// Notes whether the set in the slot was given out.
+    pub fn set_reaped(&mut self, slot: u32, reaped: bool)
+        requires { slot < self.old.slots }
+        ensures { self.new ≡ record self.old { reaped = slice_set self.old.reaped slot reaped } }
+    {
+        self.reaped[slot as usize] = reaped;
     }
 
     /// How many slots are named and how many retired, where every slot was taken.

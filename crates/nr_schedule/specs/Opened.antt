@@ -1,9 +1,7 @@
 -- An opened schedule: what each command does to the step machine, and what it is answered.
 use Rattle.std.specs.Prelude.{ℕ, ◌≤◌, if◌then◌else◌, List, Option, None, Some, Result, Ok, Err}
 use Rattle.nr_model.specs.declared.rows.Row.{Row}
-use Rattle.nr_model.specs.declared.seq_map.TheConstants.{MAX_KEYS}
 use Rattle.nr_machine.specs.declared.shape.Shape.{Shape}
-use Rattle.nr_machine.specs.declared.shape.TheConstants.{MAX_READERS}
 use Rattle.nr_machine.specs.declared.calls.Refusal.{Refusal}
 use Rattle.nr_machine.specs.declared.calls.WriterCall.{WriterCall}
 use Rattle.nr_machine.specs.declared.calls.WriterCall.TheVariants as calls
@@ -13,6 +11,7 @@ use Rattle.nr_machine.specs.States.{number_at}
 use Rattle.nr_machine.specs.Machine.{next_state, arrive_answer, read_answer, depart_answer, ask_answer, find_again_answer, start_answer, go_answer}
 use Rattle.nr_text.specs.Opening.{shape_of_opening}
 use Rattle.nr_text.specs.Grammar.{within}
+use Rattle.nr_text.specs.declared.limits.TheConstants.{MAX_KEYS, MAX_READERS}
 use Rattle.nr_text.specs.declared.opening.Opening.{Opening}
 use Rattle.nr_schedule.specs.declared.command.Command.{Command}
 use Rattle.nr_schedule.specs.declared.command.Command.TheVariants.{Open, Arrive, Read, Depart, Ask, Again, Find, Fill, FillAs, Update, Replace, Evict, Cancel, Go}

@@ -13,6 +13,7 @@ ghost use Rattle.nr_schedule.specs.declared.answer.StepAnswer.TheVariants as ans
 use crate::answer::{StepAnswer, StepRefusal, WriterStep};
 use crate::command::Command;
 use nr_core::{Arrived, AskReply, Core, Refusal, Step, WriterCall};
+use nr_model::OpenFault;
 use nr_text::{GivenBatch, GivenRows, Opening};
 use std::alloc::{AllocError, Global};
 use std::marker::Model;
@@ -50,7 +51,8 @@ impl Opened {
                 core,
                 keys: shape.keys,
             }),
-            Err(_) => Err(AllocError),
+            Err(OpenFault::Memory) => Err(AllocError),
+            Err(OpenFault::BadSize) => unreachable!(),
         }
     }
 

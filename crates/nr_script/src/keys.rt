@@ -6,8 +6,8 @@ ghost use Rattle.nr_script.specs.Opened.{NamesFit, adds_key, key_for_reader, key
 use crate::answer::Refusal;
 use crate::command::KeyWord;
 use nr_lines::LineError;
-use nr_model::MAX_KEYS;
 use nr_names::{NameFault, NameTable};
+use nr_text::MAX_KEYS;
 use std::alloc::{AllocError, Global};
 
 /// Keys stand on lines by their numbers, or by names.

@@ -13,7 +13,7 @@ use crate::command::{Command, KeyWord};
 use crate::keys::Keys;
 use nr_alone::{Alone, Answer, WriterCall};
 use nr_lines::LineError;
-use nr_model::RowSet;
+use nr_model::{OpenFault, RowSet};
 use nr_text::{GivenRows, Opening};
 use std::alloc::{AllocError, Global};
 use std::marker::Model;
@@ -50,7 +50,8 @@ impl Opened {
         let keys = Keys::open(alloc, named, shape.keys)?;
         match Alone::open(alloc, &shape) {
             Ok(map) => Ok(Opened { keys, map }),
-            Err(_) => Err(AllocError),
+            Err(OpenFault::Memory) => Err(AllocError),
+            Err(OpenFault::BadSize) => unreachable!(),
         }
     }
 

@@ -1,10 +1,8 @@
 -- Openings: the sizes that an opening line gives, and which of them a map may have.
 use Rattle.std.specs.Prelude.{ℕ, ◌&&◌, nat_lt, nat_le, Bool, List, [], ◌∷◌, Option, Some, None, option_and_then, option_map}
-use Rattle.nr_model.specs.declared.rows.TheConstants.{DEFAULT_ROWS, MAX_ROWS}
-use Rattle.nr_model.specs.declared.seq_map.TheConstants.{MAX_KEYS}
-use Rattle.nr_model.specs.Maps.{last_number}
+use Rattle.nr_model.specs.declared.rows.TheConstants.{DEFAULT_ROWS}
 use Rattle.nr_machine.specs.declared.shape.Shape.{Shape}
-use Rattle.nr_machine.specs.declared.shape.TheConstants.{MAX_SLOTS, MAX_READERS}
+use Rattle.nr_text.specs.declared.limits.TheConstants.{MAX_KEYS, MAX_NUMBER, MAX_READERS, MAX_ROWS, MAX_SLOTS}
 use Rattle.nr_text.specs.declared.opening.Opening.{Opening}
 use Rattle.nr_text.specs.Grammar.{number}
 
@@ -28,8 +26,12 @@ abbrev pub shape_of_opening : Opening → Shape
 shape_of_opening opening =
     record { keys = opening.keys; slots = opening.slots; readers = opening.readers; first_count = opening.first_count; first_number = opening.first_number; rows = opening.rows }
 
+-- as many as there may be, and at least one
+abbrev pub is_some_of : ℕ → ℕ → Bool
+is_some_of most n = nat_lt 0 n && nat_le n most
+
 -- keys, slots, readers, the first number and the rows of a key are within their limits
 abbrev pub is_in_limits : Opening → Bool
 is_in_limits opening =
-    nat_lt 0 opening.keys && (nat_le opening.keys MAX_KEYS && (nat_lt 0 opening.slots && (nat_le opening.slots MAX_SLOTS
-    && (nat_lt 0 opening.readers && (nat_le opening.readers MAX_READERS && (nat_le opening.first_number last_number && (nat_lt 0 opening.rows && nat_le opening.rows MAX_ROWS)))))))
+    is_some_of MAX_KEYS opening.keys && (is_some_of MAX_SLOTS opening.slots && (is_some_of MAX_READERS opening.readers
+    && (nat_le opening.first_number MAX_NUMBER && is_some_of MAX_ROWS opening.rows)))

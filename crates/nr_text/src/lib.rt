@@ -3,12 +3,14 @@
 #![tactic(auto)]
 
 mod given;
+mod limits;
 mod opening;
 mod rows;
 mod spelling;
 mod words;
 
 pub use given::{Given, GivenBatch, GivenRows};
+pub use limits::{MAX_KEYS, MAX_NUMBER, MAX_READERS, MAX_ROWS, MAX_SLOTS};
 pub use opening::Opening;
 pub use rows::{batch, set, within};
 pub use spelling::{ReplyWord, Rows};

@@ -1,9 +1,11 @@
 //! What an opening line asks for.
 ghost use Rattle.std.specs.Prelude.{◌≡◌, true};
+ghost use Rattle.nr_machine.specs.Sizes.{IsBadShape};
 
+use crate::limits::{MAX_KEYS, MAX_NUMBER, MAX_READERS, MAX_ROWS, MAX_SLOTS};
 use crate::words::{Words, number};
-use nr_machine::{MAX_READERS, MAX_SLOTS, Shape};
-use nr_model::{DEFAULT_ROWS, LAST_NUMBER, MAX_KEYS, MAX_ROWS};
+use nr_machine::Shape;
+use nr_model::DEFAULT_ROWS;
 
 /// How many keys, slots and readers a map is to have, the count at which each slot starts, the
 /// number at which each key's requests start, and how many rows a key may have.
@@ -54,8 +56,7 @@ impl Opening {
         })
     }
 
-    /// Whether a map may have these sizes. The limits of scripts and schedules are those of a map that
-    /// isn't opened as a large one, and so are its constants.
+    /// Whether a script or a schedule may open a map of these sizes.
     pub fn is_in_limits(&self) -> bool
         ensures { result ≡ is_in_limits self.now }
     {
@@ -65,15 +66,16 @@ impl Opening {
             && self.slots <= u64::from(MAX_SLOTS)
             && 0 < self.readers
             && self.readers <= u64::from(MAX_READERS)
-            && self.first_number <= LAST_NUMBER
+            && self.first_number <= MAX_NUMBER
             && 0 < self.rows
-            && self.rows <= MAX_ROWS as u64
+            && self.rows <= u64::from(MAX_ROWS)
     }
 
-    /// The shape of the map.
+    /// The shape of the map, which no opening refuses for its sizes.
     pub fn shape(&self) -> Shape
         requires { is_in_limits self.now ≡ true }
-        ensures { result ≡ shape_of_opening self.now }
+        ensures shape { result ≡ shape_of_opening self.now }
+        ensures opens { IsBadShape result → ⊥ }
     {
         Shape {
             keys: self.keys as u32,
