@@ -27,4 +27,5 @@ pub mod KeySets
 pub mod Retiring
 pub mod Looks
 pub mod WriterCalls
+pub mod Sweeps
 pub mod Waiting

@@ -1,5 +1,6 @@
 -- A set is put word by word, and published.
-use Rattle.std.proofs.Common.{◌≡◌, ℕ, ◌+◌, ◌*◌, ◌≤◌, List, [], ◌++◌, Bool, cond, get_or, length, refl, sym, ap, ◌∙◌, subst, arith}
+use Rattle.std.proofs.Common.{◌≡◌, ℕ, ◌+◌, ◌*◌, ◌≤◌, List, [], ◌++◌, Bool, cond, false, get_or, length, refl, sym, ap, ◌∙◌, subst, arith}
+use Rattle.std.specs.Prelude.{slice_set}
 use Rattle.std.proofs.lemmas.Bool.{lt-leb}
 use Rattle.nr_model.specs.declared.calls.Reply.TheVariants as reply
 use Rattle.nr_model.specs.declared.rows.Row.{Row}
@@ -49,10 +50,10 @@ module _ (table board : Table) (own : board ≡ table) (desk : Desk) (call : Wri
   }
 
 -- the swap that publishes the set
-pub published : (table : Table) (call : WriterCall) (rows : List Row) (spare mid_spare after_spare : Spare) (slot departed polls : ℕ) (before mid after : MapSeat) (found : ℕ) → TookByPolls slot polls spare mid_spare → polls ≤ table.shape.readers + 1 → mid_spare.slots ≡ spare.slots → mid_spare.numbers ≡ spare.numbers → mid.me.0.marks ≡ with_polls before.me.0.marks mid.me.0.marks.polls
+pub published : (table : Table) (call : WriterCall) (rows : List Row) (spare mid_spare after_spare : Spare) (slot departed polls : ℕ) (before mid after : MapSeat) (found : ℕ) → TookByPolls slot polls spare mid_spare → polls ≤ table.shape.readers + 1 → mid_spare.slots ≡ spare.slots → mid_spare.numbers ≡ spare.numbers → mid_spare.reaped ≡ spare.reaped → mid.me.0.marks ≡ with_polls before.me.0.marks mid.me.0.marks.polls
     → WritesAt table (desk_with mid_spare (Putting call rows slot departed (2 * length rows + 1))) mid → Grows (polls + (2 * length rows + 1)) (token before) [] (token mid) → GoesOn table found mid after
-    → after_spare ≡ record mid_spare { retired = mid_spare.retired ++ unnamed found } → (put : PublishesSet table call rows spare after_spare before after) × (put.slot ≡ slot)
-published table call rows spare mid_spare after_spare slot departed polls before mid after found took few slots numbers only_polls writes grows goes retires =
+    → after_spare ≡ record mid_spare { retired = mid_spare.retired ++ unnamed found; reaped = slice_set mid_spare.reaped slot false } → (put : PublishesSet table call rows spare after_spare before after) × (put.slot ≡ slot)
+published table call rows spare mid_spare after_spare slot departed polls before mid after found took few slots numbers flags only_polls writes grows goes retires =
     let last : ℕ = 2 * length rows + 1 in let desk = desk_with mid_spare (Putting call rows slot departed last) in
     let told = goes desk writes.role in
     let outcome : put_on desk call rows slot departed last found ≡ (swapped desk found, ended reply.Done) = ap (λ (b : Bool). cond {A = Desk × Step} b (moved_to desk (Putting call rows slot departed (last + 1)), Going) (swapped desk found, ended reply.Done)) (lt-leb last (2 * length rows) (omega arith)) in
@@ -76,7 +77,7 @@ published table call rows spare mid_spare after_spare slot departed polls before
         took = took;
         few = few;
         word = found;
-        retires = retires;
+        retires = retires ∙ ap (λ (l : List Bool). record mid_spare { retired = mid_spare.retired ++ unnamed found; reaped = slice_set l slot false }) flags;
         slots = ap (λ (s : Spare). s.slots) retires ∙ slots;
         numbers = ap (λ (s : Spare). s.numbers) retires ∙ numbers;
         writes = subst (λ (s : Spare). WritesAt table (desk_with s Idle) after) (sym retires) leads.writes;

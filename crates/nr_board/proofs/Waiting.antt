@@ -23,7 +23,7 @@ use Rattle.nr_machine.specs.declared.places.Place.TheVariants.{Idle}
 
 -- the slots that a resting token shows
 pub spare_shown : (table : Table) (spare : Spare) (seat : MapSeat) → RestsAt table spare seat → spare_of (token seat) ≡ spare
-spare_shown table spare seat rests = λ j. record { slots = (ap (λ (t : Table). t.shape.slots) rests.writes.own ∙ sym rests.slots) j; fresh = ap (λ r. (desk_of r).fresh) rests.writes.role j; retired = ap (λ r. (desk_of r).retired) rests.writes.role j; numbers = ap (λ r. (desk_of r).numbers) rests.writes.role j }
+spare_shown table spare seat rests = λ j. record { slots = (ap (λ (t : Table). t.shape.slots) rests.writes.own ∙ sym rests.slots) j; fresh = ap (λ r. (desk_of r).fresh) rests.writes.role j; retired = ap (λ r. (desk_of r).retired) rests.writes.role j; numbers = ap (λ r. (desk_of r).numbers) rests.writes.role j; reaped = sym rests.reaped j }
 
 -- no steps
 pub later_none : (seat : MapSeat) → later 0 seat ≡ seat
@@ -82,6 +82,7 @@ takes_later table call rows slot departed spare after old mid new steps takes sa
   few = takes.few;
   slots = takes.slots;
   numbers = takes.numbers;
+  reaped = takes.reaped;
   writes = writes_later table _ mid new steps same waits takes.writes;
   grows = subst (λ (caller : Caller). Grows takes.polls (token (later steps old)) [] caller) (sym (waited_token mid new steps same waits)) (grows_later steps takes.polls (token old) (token mid) [] takes.grows);
   marks = ap (λ (v : View). v.marks) waits ∙ takes.marks ∙ ap (λ (v : View). with_polls old.me.0.marks v.marks.polls) (sym waits);
@@ -89,9 +90,9 @@ takes_later table call rows slot departed spare after old mid new steps takes sa
 
 -- what the call gives out, as contracts see it
 pub given_out : {Room : Type 0} (shows : Room → List Row → Type 0) {table : Table} {spare : Spare} {made : ℕ} {call : WriterCall} {rows : List Row} {before mid : MapSeat} (slot taken : ℕ) (room then : Room) (steps : ℕ) (given : Reclaimed) → HasSet table spare made call rows before mid → (token before).table ≡ table → slot ≡ taken
-    → HandsOut shows table.shape.rows spare (set_in mid.me.0.marks taken) room then steps given → HandsOut shows (token before).table.shape.rows (spare_of (token before)) (set_in before.me.0.marks slot) room then steps given
+    → HandsOut shows table.shape.rows spare taken (set_in mid.me.0.marks taken) room then steps given → HandsOut shows (token before).table.shape.rows (spare_of (token before)) slot (set_in before.me.0.marks slot) room then steps given
 given_out shows {table = table} {spare = spare} {before = before} {mid = mid} slot taken room then steps given set own same out =
-    subst (λ (p : ℕ × Spare × List Row). HandsOut shows p.0 p.1 p.2 room then steps given) (λ j. ((sym own j).shape.rows, sym (spare_shown table spare before set.rests) j, set_in (set.marks j) (sym same j))) out
+    subst (λ (p : ℕ × Spare × ℕ × List Row). HandsOut shows p.0 p.1 p.2 p.3 room then steps given) (λ j. ((sym own j).shape.rows, sym (spare_shown table spare before set.rests) j, sym same j, set_in (set.marks j) (sym same j))) out
 
 lacks_later : (call : Call) (counts : NoSlot) (caller : Caller) (steps : ℕ) → Lacks call counts caller → Lacks call counts (with_steps steps caller)
 lacks_later call counts caller steps lacks = record { would_be_done = lacks.would_be_done; live = lacks.live; held = lacks.held; all = lacks.all; full = lacks.full; apart = lacks.apart; polled = lacks.polled; few = lacks.few }

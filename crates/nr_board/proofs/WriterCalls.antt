@@ -1,5 +1,5 @@
 -- The writer's calls, put together of their steps.
-use Rattle.std.proofs.Common.{List, [], ap, append-nil, append_assoc, arith, get_or, length, refl, slice_index, subst, sym, ℕ, ◌*◌, ◌++◌, ◌+◌, ◌<◌, ◌∙◌, ◌∷◌, ◌≡◌, ◌≤◌}
+use Rattle.std.proofs.Common.{Bool, false, List, [], ap, append-nil, append_assoc, arith, get_or, length, refl, slice_index, subst, sym, ℕ, ◌*◌, ◌++◌, ◌+◌, ◌<◌, ◌∙◌, ◌∷◌, ◌≡◌, ◌≤◌}
 use Rattle.std.specs.Prelude.{Result, Ok, Err, slice_set}
 use Rattle.nr_model.specs.declared.calls.Call.{Call}
 use Rattle.nr_model.specs.declared.calls.Call.TheVariants as model
@@ -55,9 +55,9 @@ module _ (table : Table) (spare : Spare) (before : MapSeat) (rests : RestsAt tab
   writer_number = ap caller_number rests.writes.role
 
   -- a call that ends with a reply
-  pub ends : (steps : ℕ) (call : Call) (answer : Reply) (after_spare : Spare) (after : MapSeat) → after_spare.slots ≡ spare.slots → LeadsIn steps table call (desk_with after_spare Idle, ended answer) before after → RestsAt table after_spare after × Gains steps (token before) call answer (token after)
-  ends steps call answer after_spare after slots leads = (
-    record { writes = leads.writes; slots = slots ∙ rests.slots; own = leads.grows.own },
+  pub ends : (steps : ℕ) (call : Call) (answer : Reply) (after_spare : Spare) (after : MapSeat) → after_spare.slots ≡ spare.slots → after_spare.reaped ≡ spare.reaped → after.me.0.marks.reaped ≡ before.me.0.marks.reaped → LeadsIn steps table call (desk_with after_spare Idle, ended answer) before after → RestsAt table after_spare after × Gains steps (token before) call answer (token after)
+  ends steps call answer after_spare after slots same_reaped same_marks leads = (
+    record { writes = leads.writes; slots = slots ∙ rests.slots; reaped = same_reaped ∙ rests.reaped ∙ sym same_marks; own = leads.grows.own },
     subst (λ (n : ℕ). Grows steps (token before) (entry n call answer ∷ []) (token after)) (sym writer_number) leads.grows,
   )
 
@@ -79,7 +79,8 @@ module _ (table : Table) (spare : Spare) (before : MapSeat) (rests : RestsAt tab
     pub publishes_so : (published : PublishesSet table call rows spare after_spare mid after) → RestsAt table after_spare after × (put : Publishes steps (token before) (call_of call) rows (token after)) × (put.slot ≡ published.slot)
     publishes_so published =
         let all = grows_both steps (2 * length rows + 2 + published.polls) (steps + 2 * length rows + 2 + published.polls) (token before) (token mid) (entry 0 (call_of call) reply.Done ∷ []) (token after) (omega arith) grows published.grows in
-        let rests_after : RestsAt table after_spare after = record { writes = published.writes; slots = published.slots ∙ rests.slots; own = all.own } in
+        let reaped_after : after_spare.reaped ≡ after.me.0.marks.reaped = ap (λ (s : Spare). s.reaped) published.retires ∙ ap (λ (l : List Bool). slice_set l published.slot false) (rests.reaped ∙ ap (λ (m : Marks). m.reaped) (sym only_polls)) ∙ ap (λ (m : Marks). m.reaped) (sym published.marks) in
+        let rests_after : RestsAt table after_spare after = record { writes = published.writes; slots = published.slots ∙ rests.slots; reaped = reaped_after; own = all.own } in
         let spare_after = spare_shown table after_spare after rests_after ∙ published.retires in
         let map_then = map_after before.me.0.shape published.log in
         let done_then = (legal_goes_on_lem (map_at_opening (token before).table) published.log (entry 0 (call_of call) reply.Done)).1.1 (subst (IsLegal (map_at_opening (token before).table)) published.seen all.legal) in (
@@ -109,7 +110,7 @@ module _ (table : Table) (spare : Spare) (before : MapSeat) (rests : RestsAt tab
     lacks_so counts lacking =
         let retired_is : (token before).retired ≡ spare.retired = ap (λ (s : Spare). s.retired) (spare_shown table spare before rests) in
         let all = grows_both steps (length spare.retired) (steps + length (token before).retired) (token before) (token mid) [] (token after) (omega (arith, ap length retired_is)) grows lacking.grows in
-        let rests_spare : RestsAt table spare after = record { writes = lacking.writes; slots = rests.slots; own = all.own } in
+        let rests_spare : RestsAt table spare after = record { writes = lacking.writes; slots = rests.slots; reaped = rests.reaped ∙ ap (λ (m : Marks). m.reaped) (sym only_polls) ∙ ap (λ (m : Marks). m.reaped) (sym lacking.marks); own = all.own } in
         let noted = lacking.noted in (
           subst (λ (s : Spare). RestsAt table s after) (sym lacking.same) rests_spare,
           record {
@@ -135,7 +136,7 @@ module _ (table : Table) (spare : Spare) (before : MapSeat) (rests : RestsAt tab
 pub look_ends : {table : Table} {spare : Spare} {call : WriterCall} {found : ℕ} {before after : MapSeat} → HasLooked table spare call found before after → (answer : Reply) → looked table.shape (desk_with spare Idle) call found ≡ (desk_with spare Idle, ended answer)
     → RestsAt (token after).table spare after × (Gains 1 (token before) (call_of call) answer (token after) × SlotsStay (token before) (token after))
 look_ends {table = table} {spare = spare} {call = call} {before = before} {after = after} looks answer is =
-    let ended_so = ends table spare before looks.rests 1 (call_of call) answer spare after refl (subst (λ (o : Desk × Step). LeadsIn 1 table (call_of call) o before after) is looks.leads) in
+    let ended_so = ends table spare before looks.rests 1 (call_of call) answer spare after refl refl (ap (λ (m : Marks). m.reaped) looks.marks) (subst (λ (o : Desk × Step). LeadsIn 1 table (call_of call) o before after) is looks.leads) in
     (rests_own table spare after ended_so.0, (ended_so.1, (same_slots table spare before looks.rests after ended_so.0, looks.marks)))
 
 pub has_set : {table : Table} {spare : Spare} {steps : ℕ} {call : WriterCall} {rows : List Row} {before mid : MapSeat} → RestsAt table spare before → LeadsIn steps table (call_of call) (settled table.shape (desk_with spare Idle) call rows) before mid → mid.me.0.marks ≡ with_polls before.me.0.marks [] → HasSet table spare steps call rows before mid
@@ -170,7 +171,7 @@ module _ {table : Table} {spare : Spare} {key word : ℕ} {before mid : MapSeat}
         grows = grows_both 1 1 2 (token before) (token mid) _ (token after) (omega arith) about_to_leave.grows told.grows;
         short = λ counts without. absurd (not_reply counts reply.Evicted without);
       } in
-      let ended_so = ends table spare before looks.rests 2 (model.Evict key) reply.Evicted after_spare after (ap (λ (s : Spare). s.slots) retires) all in
+      let ended_so = ends table spare before looks.rests 2 (model.Evict key) reply.Evicted after_spare after (ap (λ (s : Spare). s.slots) retires) (ap (λ (s : Spare). s.reaped) retires) (ap (λ (m : Marks). m.reaped) gone.marks.0 ∙ ap (λ (m : Marks). m.reaped) looks.marks) all in
       let slots = spare_shown table after_spare after ended_so.0 ∙ retires ∙ ap (λ (s : Spare). record s { retired = s.retired ++ unnamed found }) (sym (spare_shown table spare before looks.rests)) in
       let legal = (legal_goes_on_lem (map_at_opening (token before).table) gone.log (entry 0 (model.Evict key) reply.Evicted)).1.1 (subst (IsLegal (map_at_opening (token before).table)) gone.seen all.grows.legal) in (
         rests_own table after_spare after ended_so.0,
@@ -198,7 +199,7 @@ module _ {table : Table} {spare : Spare} {key word : ℕ} {before mid : MapSeat}
         grows = grows_both 1 1 2 (token before) (token mid) _ (token after) (omega arith) about_to_withdraw.grows told.grows;
         short = λ counts without. absurd (not_reply counts reply.Cancelled without);
       } in
-      let ended_so = ends table spare before looks.rests 2 (model.Cancel key) reply.Cancelled after_spare after (ap (λ (s : Spare). s.slots) renumbers) all in (
+      let ended_so = ends table spare before looks.rests 2 (model.Cancel key) reply.Cancelled after_spare after (ap (λ (s : Spare). s.slots) renumbers) (ap (λ (s : Spare). s.reaped) renumbers) (ap (λ (m : Marks). m.reaped) gone.marks.0 ∙ ap (λ (m : Marks). m.reaped) looks.marks) all in (
         rests_own table after_spare after ended_so.0,
         (
           ended_so.1,
@@ -235,7 +236,7 @@ module _ {table : Table} {spare : Spare} {call given : WriterCall} {found : ℕ}
 pub has_found : {table : Table} {spare : Spare} {key slot : ℕ} {rows : List Row} {before after : MapSeat} → HasRead table spare (Find key) slot rows before after
     → RestsAt (token after).table spare after × (Gains (2 * length rows + 2) (token before) (model.Find key) (reply.Rows rows) (token after) × SlotsStay (token before) (token after))
 has_found {table = table} {spare = spare} {key = key} {rows = rows} {before = before} {after = after} read =
-    let ended_so = ends table spare before read.rests (2 * length rows + 2) (model.Find key) (reply.Rows rows) spare after refl read.leads in
+    let ended_so = ends table spare before read.rests (2 * length rows + 2) (model.Find key) (reply.Rows rows) spare after refl refl (ap (λ (m : Marks). m.reaped) read.marks) read.leads in
     (rests_own table spare after ended_so.0, (ended_so.1, (same_slots table spare before read.rests after ended_so.0, read.marks)))
 
 -- an update whose batch is refused, or gives a new set
@@ -256,7 +257,7 @@ module _ {table : Table} {spare : Spare} {key slot : ℕ} {batch : List Delta} {
   pub has_refused : (why : ApplyFault) → applied (bound_of table.shape) rows batch ≡ Err why
       → RestsAt (token after).table spare after × ((gains : Gains (2 * length rows + 2) (token before) (model.Update key batch) (applied_reply (Err why)) (token after)) × KeyHad key rows (token before) gains.between × SlotsStay (token before) (token after))
   has_refused why is =
-      let ended_so = ends table spare before read.rests (2 * length rows + 2) (model.Update key batch) (applied_reply (Err why)) spare after refl (leads_by (Err why) is) in
+      let ended_so = ends table spare before read.rests (2 * length rows + 2) (model.Update key batch) (applied_reply (Err why)) spare after refl refl (ap (λ (m : Marks). m.reaped) read.marks) (leads_by (Err why) is) in
       let log_is = before_last ((token before).seen ++ ended_so.1.between) read.had.log _ _ (sym ended_so.1.seen ∙ seen_by (Err why) is) in
       let had = ap (λ (l : List Entry). state_of (map_after before.me.0.shape l) key) log_is ∙ own_map read.had.log read.had.number read.had.state in
       (rests_own table spare after ended_so.0, (ended_so.1, (read.had.number, had), (same_slots table spare before read.rests after ended_so.0, read.marks)))

@@ -16,6 +16,7 @@ pub mod Searches
 pub mod WriterAnswers
 pub mod Begins
 pub mod Reclaiming
+pub mod Reaping
 pub mod HeldRows
 pub mod NamedRows
 pub mod Recalls

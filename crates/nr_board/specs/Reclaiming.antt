@@ -1,5 +1,5 @@
--- What a call gives out of the slot that it took: the set that was put there last, or nothing where the slot was never taken.
-use Rattle.std.specs.Prelude.{◌≡◌, ℕ, ◌+◌, ◌*◌, ◌<◌, ◌≤◌, List, length, Result, Ok, Err}
+-- What a call gives out of the slot that it took: the set that was put there last, or nothing where the slot was never taken or was reaped.
+use Rattle.std.specs.Prelude.{◌≡◌, ℕ, ◌+◌, ◌*◌, ◌<◌, ◌≤◌, ◌⊎◌, true, false, List, length, slice_index_or, Result, Ok, Err}
 use Rattle.nr_model.specs.Batches.{applied}
 use Rattle.nr_model.specs.Rows.{IsRowSet}
 use Rattle.nr_model.specs.declared.batches.Delta.{Delta}
@@ -22,29 +22,29 @@ use Rattle.nr_board.specs.WriterAnswers.{FillsKey, KeyHad, Publishes, ReplacesKe
 use Rattle.nr_board.specs.WriterSeats.{LacksSlot, MapSeat, PublishesSet, TakesSlot}
 
 module _ {Room : Type 0} (shows : Room → List Row → Type 0) where
-  -- By that many steps the room has the set that was put into the slot last, since no slot was left that was never taken. Else the slot is such a one.
-  abbrev pub HandsOut : ℕ → Spare → List Row → Room → Room → ℕ → Reclaimed → Type 0
-  HandsOut bound spare set before after steps reclaimed.Set = (spare.slots ≤ spare.fresh) × (steps ≡ 2 * length set + 1) × shows after set × IsRowSet bound set
-  HandsOut bound spare set before after steps reclaimed.Nothing = (spare.fresh < spare.slots) × (steps ≡ 0) × (after ≡ before)
+  -- By that many steps the room has the set that was put into the slot last, since no slot was left that was never taken, and the slot was not reaped. Else it is such a one.
+  abbrev pub HandsOut : ℕ → Spare → ℕ → List Row → Room → Room → ℕ → Reclaimed → Type 0
+  HandsOut bound spare slot set before after steps reclaimed.Set = (spare.slots ≤ spare.fresh) × (slice_index_or spare.reaped slot false ≡ false) × (steps ≡ 2 * length set + 1) × shows after set × IsRowSet bound set
+  HandsOut bound spare slot set before after steps reclaimed.Nothing = ((spare.fresh < spare.slots) ⊎ (slice_index_or spare.reaped slot false ≡ true)) × (steps ≡ 0) × (after ≡ before)
 
   -- the search for a slot, as it stands after those steps
   abbrev pub TakesReclaiming : Table → WriterCall → List Row → Spare → Spare → MapSeat → MapSeat → Room → Room → Result (Taken × Reclaimed) NoSlot → Type 0
-  TakesReclaiming table call rows spare after old new room then (Ok taken) = (steps : ℕ) × TakesSlot table call rows taken.0.slot taken.0.departures spare after (later steps old) new × HandsOut table.shape.rows spare (set_in old.me.0.marks taken.0.slot) room then steps taken.1
+  TakesReclaiming table call rows spare after old new room then (Ok taken) = (steps : ℕ) × TakesSlot table call rows taken.0.slot taken.0.departures spare after (later steps old) new × HandsOut table.shape.rows spare taken.0.slot (set_in old.me.0.marks taken.0.slot) room then steps taken.1
   TakesReclaiming table call rows spare after old new room then (Err counts) = LacksSlot table call counts spare after old new × (then ≡ room)
 
   abbrev pub PublishesReclaiming : Table → WriterCall → List Row → Spare → Spare → MapSeat → MapSeat → Room → Room → Result Reclaimed NoSlot → Type 0
-  PublishesReclaiming table call rows spare after old new room then (Ok given) = (steps : ℕ) × (published : PublishesSet table call rows spare after (later steps old) new) × HandsOut table.shape.rows spare (set_in old.me.0.marks published.slot) room then steps given
+  PublishesReclaiming table call rows spare after old new room then (Ok given) = (steps : ℕ) × (published : PublishesSet table call rows spare after (later steps old) new) × HandsOut table.shape.rows spare published.slot (set_in old.me.0.marks published.slot) room then steps given
   PublishesReclaiming table call rows spare after old new room then (Err counts) = LacksSlot table call counts spare after old new × (then ≡ room)
 
   -- A call that put its set and gave out what the slot had. A call that did not leaves the room as it was.
   abbrev pub FillsReclaiming : ℕ → ℕ → List Row → Caller → Room → Caller → Room → Result Reclaimed FillFault → Type 0
-  FillsReclaiming key number rows old room new then (Ok given) = (steps : ℕ) × (published : Publishes (1 + steps) old (model.Fill key number rows) rows new) × HandsOut old.table.shape.rows (spare_of old) (set_in old.marks published.slot) room then steps given
+  FillsReclaiming key number rows old room new then (Ok given) = (steps : ℕ) × (published : Publishes (1 + steps) old (model.Fill key number rows) rows new) × HandsOut old.table.shape.rows (spare_of old) published.slot (set_in old.marks published.slot) room then steps given
   FillsReclaiming key number rows old room new then (Err fault) = FillsKey key number rows old new (Err fault) × (then ≡ room)
 
   abbrev pub ReplacesReclaiming : ℕ → List Row → Caller → Room → Caller → Room → Result Reclaimed ReplaceFault → Type 0
-  ReplacesReclaiming key rows old room new then (Ok given) = (steps : ℕ) × (published : Publishes (1 + steps) old (model.Replace key rows) rows new) × HandsOut old.table.shape.rows (spare_of old) (set_in old.marks published.slot) room then steps given
+  ReplacesReclaiming key rows old room new then (Ok given) = (steps : ℕ) × (published : Publishes (1 + steps) old (model.Replace key rows) rows new) × HandsOut old.table.shape.rows (spare_of old) published.slot (set_in old.marks published.slot) room then steps given
   ReplacesReclaiming key rows old room new then (Err fault) = ReplacesKey key rows old new (Err fault) × (then ≡ room)
 
   abbrev pub UpdatesReclaiming : ℕ → ℕ → List Delta → Caller → Room → Caller → Room → Result Reclaimed UpdateFault → Type 0
-  UpdatesReclaiming bound key batch old room new then (Ok given) = (set left : List Row) × (applied bound set batch ≡ Ok left) × (steps : ℕ) × (published : Publishes (2 * length set + 2 + steps) old (model.Update key batch) left new) × KeyHad key set old published.gains.between × HandsOut old.table.shape.rows (spare_of old) (set_in old.marks published.slot) room then steps given
+  UpdatesReclaiming bound key batch old room new then (Ok given) = (set left : List Row) × (applied bound set batch ≡ Ok left) × (steps : ℕ) × (published : Publishes (2 * length set + 2 + steps) old (model.Update key batch) left new) × KeyHad key set old published.gains.between × HandsOut old.table.shape.rows (spare_of old) published.slot (set_in old.marks published.slot) room then steps given
   UpdatesReclaiming bound key batch old room new then (Err fault) = UpdatesKey bound key batch old new (Err fault) × (then ≡ room)

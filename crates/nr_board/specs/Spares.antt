@@ -1,4 +1,4 @@
--- What the writer keeps beside the words: the slots that no key names, those that were never taken and the retired ones, and the number of each key.
+-- What the writer keeps beside the words: the slots that no key names, those that were never taken and the retired ones, the number of each key, and which slots were reaped.
 use Rattle.std.specs.Prelude.{◌≡◌, ℕ, ◌+◌, ◌<◌, ◌≤◌, ◌⊎◌, remove}
 use mathlib.Core.Option.{some}
 use lib.ListN.{get_elem?}
@@ -14,7 +14,7 @@ desk_with spare place = record { place = place; fresh = spare.fresh; retired = s
 
 -- those of a writer's token
 abbrev pub spare_of : Caller → Spare
-spare_of caller = record { slots = caller.table.shape.slots; fresh = caller.fresh; retired = caller.retired; numbers = caller.numbers }
+spare_of caller = record { slots = caller.table.shape.slots; fresh = caller.fresh; retired = caller.retired; numbers = caller.numbers; reaped = caller.marks.reaped }
 
 -- a slot was taken, by that many polls: the next that was never taken, or else the retired one at which the last poll was made
 abbrev pub TookByPolls : ℕ → ℕ → Spare → Spare → Type 0

@@ -1,5 +1,5 @@
 -- Where the writer's seat stands between two steps, and where a step leads it.
-use Rattle.std.specs.Prelude.{◌≡◌, ℕ, suc, ◌+◌, ◌*◌, ◌<◌, ◌≤◌, nat_lt, if◌then◌else◌, List, [], ◌∷◌, ◌++◌, length, slice_index}
+use Rattle.std.specs.Prelude.{◌≡◌, ℕ, suc, ◌+◌, ◌*◌, ◌<◌, ◌≤◌, nat_lt, if◌then◌else◌, false, List, [], ◌∷◌, ◌++◌, length, slice_index, slice_set}
 use Rattle.atomic_table.specs.declared.shared.Seat.{Seat}
 use Rattle.nr_model.specs.declared.rows.Row.{Row}
 use Rattle.nr_model.specs.declared.calls.Call.{Call}
@@ -160,6 +160,7 @@ pub record TakesSlot (table : Table) (call : WriterCall) (rows : List Row) (slot
   pub few : polls ≤ table.shape.readers + 1
   pub slots : after.slots ≡ spare.slots
   pub numbers : after.numbers ≡ spare.numbers
+  pub reaped : after.reaped ≡ spare.reaped
   pub writes : WritesAt table (desk_with after (Putting call rows slot departed 0)) new
   pub grows : Grows polls (token old) [] (token new)
   pub marks : new.me.0.marks ≡ with_polls old.me.0.marks new.me.0.marks.polls
@@ -185,7 +186,8 @@ pub record PublishesSet (table : Table) (call : WriterCall) (rows : List Row) (s
   pub log : List Entry
   pub seen : new.me.0.seen ≡ log ++ entry 0 (call_of call) reply.Done ∷ []
   pub swaps : SwapsAt table.shape (key_of call) word log old.me.0.marks
-  pub retires : after ≡ record mid { retired = mid.retired ++ unnamed word }
+  -- the slot's new set is not reaped
+  pub retires : after ≡ record mid { retired = mid.retired ++ unnamed word; reaped = slice_set spare.reaped slot false }
   pub few : polls ≤ table.shape.readers + 1
   pub slots : after.slots ≡ spare.slots
   pub numbers : after.numbers ≡ spare.numbers
@@ -201,4 +203,5 @@ pub record PublishesSet (table : Table) (call : WriterCall) (rows : List Row) (s
 pub record RestsAt (table : Table) (spare : Spare) (seat : MapSeat) : Type 0 where
   pub writes : WritesAt table (desk_with spare Idle) seat
   pub slots : spare.slots ≡ table.shape.slots
+  pub reaped : spare.reaped ≡ seat.me.0.marks.reaped
   pub own : KnowsOwn (token seat)

@@ -55,7 +55,18 @@ pub enum ReplaceFault {
 pub enum Reclaimed {
     /// The set that the slot had before, which nobody holds; the caller's room has its rows.
     Set,
-    /// The slot was never taken before.
+    /// The slot was never taken before, or its set was reaped.
+    Nothing,
+}
+
+/// What a reap gives out.
+#[derive(Clone, Copy, Debug, PartialEq, Eq)]
+pub enum Reaped {
+    /// The oldest set that waited and that nobody holds; the caller's room has its rows.
+    Set,
+    /// Sets wait, and at its poll each was held by a reader.
+    Held,
+    /// No set waits: no slot is retired but such as were reaped.
     Nothing,
 }
 

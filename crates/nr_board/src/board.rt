@@ -28,16 +28,17 @@ ghost use Rattle.nr_board.specs.Notes.{IsCaller, IsNote, has_noted, note_of, ret
 ghost use Rattle.nr_board.specs.Kinds.{kind_of, kind_shown};
 ghost use Rattle.nr_board.specs.Learning.{Learned};
 ghost use Rattle.nr_board.specs.Meetings.{HasPut, Learns, with_step};
+ghost use Rattle.nr_board.specs.Reaping.{ProbesAt, ProbesTo};
 ghost use Rattle.nr_board.specs.Recalls.{IsWordOf, RecallsAt};
 ghost use Rattle.nr_board.specs.WriterSeats.{GoesOn, IsBetween, IsReading, IsPolling, IsPutting, IsPublishing, IsLeaving, IsWithdrawing, LeadsTo, PutsTo};
 
 use crate::rule::{
-    Arrives, Asks, Departs, FindsAgain, Given, Goes, Law, Looks, Nears, Notes, Puts, Reads,
+    Arrives, Asks, Departs, FindsAgain, Given, Goes, Law, Looks, Nears, Notes, Probes, Puts, Reads,
     Recalls, Retells, Seats, Sees,
 };
 use crate::view::View;
 use atomic_table::Table;
-use nr_core::Shape;
+use nr_core::{Retired, Shape};
 use nr_words::{ARRIVE, Layout, hole_word, naming, opening_words, parts};
 use std::alloc::{AllocError, Global};
 use std::marker::Model;
@@ -284,6 +285,18 @@ impl Board {
         let words = &self.table.shared;
         let place = self.layout().departures(slot);
         words.load::<Goes>(seat, place as usize)
+    }
+
+    /// The writer polls a retired slot between two calls: its departures. Where they are the arrivals,
+    /// nobody holds the slot, and its set is reaped.
+    pub fn probe(&self, seat: &mut Seat, entry: Retired) -> u64
+        requires { ProbesAt self.now entry seat.old }
+        ensures own { seat.new.table_id ≡ seat.old.table_id }
+        ensures tells { ProbesTo self.now.shape entry result seat.old.me.0 seat.new.me.0 }
+    {
+        let words = &self.table.shared;
+        let place = self.layout().departures(entry.slot);
+        words.load::<Probes>(seat, place as usize)
     }
 
     /// The writer reads a content word of a slot into which its call has put none: a word of the set

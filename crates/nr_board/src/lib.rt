@@ -12,12 +12,15 @@ mod named_rows;
 mod only_proved;
 mod publish;
 mod read_through;
+mod reaping;
 mod recalls;
 mod reclaiming;
 mod rule;
 mod view;
 mod writer_calls;
 
-pub use answers::{Cancel, Evict, FillFault, Found, KeyKind, Reclaimed, ReplaceFault, UpdateFault};
+pub use answers::{
+    Cancel, Evict, FillFault, Found, KeyKind, Reaped, Reclaimed, ReplaceFault, UpdateFault,
+};
 pub use board::{Board, Note, Seat};
 pub use rule::Given;

@@ -46,6 +46,7 @@ impl Board {
         self.put_rows::<G>(seat, rows, taken);
         let old_word = self.publish(seat, key, taken.slot, taken.departures);
         spare.retire(old_word);
+        spare.set_reaped(taken.slot, false);
         Ok(())
     }
 
@@ -106,7 +107,7 @@ impl Board {
     }
 
     /// As `publish_set`, and writes the set that the slot had before over the rows of `had`, if the
-    /// slot was retired, by one read of each of its words; else `had` stays as it is.
+    /// slot was retired and not reaped, by one read of each of its words; else `had` stays as it is.
     #[inline(always)]
     pub(crate) fn publish_reclaiming<G: Given, R: RowRoom>(
         &self,
@@ -125,10 +126,11 @@ impl Board {
         self.put_rows::<G>(seat, rows, taken);
         let named = self.publish(seat, key, taken.slot, taken.departures);
         spare.retire(named);
+        spare.set_reaped(taken.slot, false);
         Ok(given)
     }
 
-    // As `take_slot`. A slot that was never taken has no set to give.
+    // As `take_slot`. A slot that was never taken has no set to give, and a reaped one gave it.
     #[inline(always)]
     fn take_reclaiming<G: Given, R: RowRoom>(
         &self,
@@ -145,6 +147,9 @@ impl Board {
             return Ok((Taken { slot, departures }, Reclaimed::Nothing));
         }
         let taken = self.poll_retired::<G>(seat, spare, rows)?;
+        if spare.is_reaped(taken.slot) {
+            return Ok((taken, Reclaimed::Nothing));
+        }
         self.recall_set::<R>(seat, taken.slot, had);
         Ok((taken, Reclaimed::Set))
     }

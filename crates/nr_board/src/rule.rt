@@ -133,6 +133,15 @@ impl Play<(), View> for Recalls {
     ghost then = { has_recalled };
 }
 
+/// A poll of a retired slot by a writer between two calls.
+pub struct Probes;
+
+impl Play<(), View> for Probes {
+    ghost use Rattle.nr_board.specs.Reaping.{has_probed};
+
+    ghost then = { has_probed };
+}
+
 /// A note is made of what a token has seen, and taken in by another.
 pub struct Notes;
 

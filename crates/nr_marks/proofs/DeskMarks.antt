@@ -90,11 +90,11 @@ module _ {A : Type 0} (role : A → Role) (marks : A → Marks) where
       → length names ≡ shape.keys → ((i : ℕ) → i < shape.keys → get_or names i 0 ≡ name_number (get_or words' i 0)) → ((i s : ℕ) → i < shape.keys → name_number (get_or words' i 0) ≡ suc s → name_number (get_or words i 0) ≡ suc s)
       → ((i : ℕ) → put_number log' i ≡ put_number log i) → put_count log' ≡ put_count log → ((s : ℕ) → s < shape.slots → 0 < lives shape words' desk' s → 0 < lives shape words desk s)
       → AllSince role marks callers polls → Sweeping role marks callers desk' polls desk'.place → Leaves shape words words' desk.place desk'.place
-      → Desked role marks shape words' callers log' desk' (record { acts = mine.acts; put = mine.put; names = names; puts = mine.puts; sets = mine.sets; polls = polls })
+      → Desked role marks shape words' callers log' desk' (record { acts = mine.acts; put = mine.put; names = names; puts = mine.puts; sets = mine.sets; reaped = mine.reaped; polls = polls })
   desk_keep shape words words' callers log log' desk desk' mine names polls t long named_so older numbers many live noted sweep leaves = record {
     wide = (long, t.wide.1);
     names = named_so;
-    puts = λ i s l e. t.puts i s l (older i s l e) ∙ sym (numbers i);
+    puts = λ i s l e. let kept = t.puts i s l (older i s l e) in (kept.0 ∙ sym (numbers i), kept.1);
     held = t.held;
     fresh = λ s l on. let f = t.fresh s l (live s l on) in omega arith;
     apart = λ s a l b on one e. t.apart s a l b (live s l on) (live a b one) e;

@@ -63,7 +63,8 @@ module _ {A : Type 0} (role : A → Role) (marks : A → Marks) where
     -- what the writer's lists say of a reader as it is
     current : (place reader : ℕ) (who : A) (grip : Grip) → get_elem? callers place ≡ some who → role who ≡ Reader reader grip → Current desk.retired (marks me) (past reader grip (marks who))
     current place reader who grip there is = record {
-      placed = λ slot on. (own.held place reader slot who grip there is on, living slot on);
+      placed = λ slot on. ((own.held place reader slot who grip there is on).0, living slot on);
+      kept = λ slot on. (own.held place reader slot who grip there is on).1;
       polled = λ i y e same. let w = own.noted i y e in let z : w.who ≡ who = same_caller role marks callers once w.place place reader w.who who w.grip grip w.there there (w.is ∙ ap (λ (b : ℕ). Reader b w.grip) same) is in
           let a : (marks w.who).acts ≡ (marks who).acts = ap (λ (b : A). (marks b).acts) z in let l = w.least in (omega arith, λ e'. ap (λ (r : Role). gripped (grip_in r)) (sym is ∙ ap role (sym z) ∙ w.is) ∙ (w.same (a ∙ e')).0);
     }

@@ -9,6 +9,7 @@ pub mod LookMarks
 pub mod SwapMarks
 pub mod Different
 pub mod PollMarks
+pub mod ReapMarks
 pub mod GoMarks
 pub mod HowOften
 pub mod Tidy

@@ -72,7 +72,7 @@ module _ {A : Type 0} (role : A → Role) (marks : A → Marks) where
     many = refl;
     slots = λ at entry note _ g. absurd (some-ne-none note (sym g));
     different = λ reader. omega arith;
-    other = λ at place slot note who grip g _ _ _ _. absurd (some-ne-none note (sym g));
+    other = λ at note g _ _ _ _ _ _ _ _. absurd (some-ne-none note (sym g));
   }
 
   -- an outcome that leaves the retired slots and puts nothing, where no poll was made yet

@@ -22,7 +22,7 @@ use Rattle.nr_machine.specs.declared.roles.Role.TheVariants.{Note, Reader, Write
 use Rattle.nr_machine.specs.declared.shape.Shape.{Shape}
 use Rattle.nr_marks.specs.Puts.{put_count, put_number}
 use Rattle.nr_marks.specs.Marks.{Marks, Past, gripped, set_in}
-use Rattle.nr_marks.specs.Marked.{Desked, Evolves, HasWriter, KnowsMarks, Marked, Since, Sweeping, lives}
+use Rattle.nr_marks.specs.Marked.{Keeps, Desked, Evolves, HasWriter, KnowsMarks, Marked, Since, Sweeping, lives}
 use Rattle.nr_marks.proofs.ListPlaces.{at_left, at_maps, set_other}
 
 -- the content words of the slots stay
@@ -66,7 +66,7 @@ module _ {A : Type 0} (role : A → Role) (marks : A → Marks) where
   -- who holds has the slot's put number, and held a retired slot before
   abbrev pub HoldersStay : List A → List A → Desk → Marks → Type 0
   HoldersStay callers callers' desk mine = (place reader slot : ℕ) (who : A) (grip : Grip) → get_elem? callers' place ≡ some who → role who ≡ Reader reader grip → gripped grip ≡ Some slot
-      → (get_or mine.puts slot 0 ≡ (marks who).put) × (0 < retirements slot desk.retired → HasHolder callers reader slot)
+      → Keeps mine slot (marks who).put × (0 < retirements slot desk.retired → HasHolder callers reader slot)
 
   sweeping_frame : (callers callers' : List A) (desk : Desk) (mine : Marks) → HoldersStay callers callers' desk mine → (polls : List Past) (p : Place) → Sweeping role marks callers desk polls p → Sweeping role marks callers' desk polls p
   sweeping_frame callers callers' desk mine stay polls Idle t = t
@@ -77,7 +77,7 @@ module _ {A : Type 0} (role : A → Role) (marks : A → Marks) where
     many = t.many;
     slots = t.slots;
     different = t.different;
-    other = λ at place slot note who grip here there is holds rests. let h = (stay place note.reader slot who grip there is holds).1 rests in t.other at h.0 slot note h.1 h.2 here h.3 h.4 h.5 rests;
+    other = λ at note here place slot who grip there is holds rests. let h = (stay place note.reader slot who grip there is holds).1 rests in t.other at note here h.0 slot h.1 h.2 h.3 h.4 h.5 rests;
   }
   sweeping_frame callers callers' desk mine stay polls (Putting a b c d e) t = t
 
@@ -88,7 +88,7 @@ module _ {A : Type 0} (role : A → Role) (marks : A → Marks) where
   desk_frame shape words words' callers callers' log log' desk mine names puts many since stay contents t = record {
     wide = t.wide;
     names = λ key l. t.names key l ∙ sym (names key l);
-    puts = λ key slot l e. t.puts key slot l (sym (names key l) ∙ e) ∙ sym (puts key);
+    puts = λ key slot l e. let kept = t.puts key slot l (sym (names key l) ∙ e) in (kept.0 ∙ sym (puts key), kept.1);
     held = λ place reader slot who grip there is holds. (stay place reader slot who grip there is holds).0;
     fresh = λ slot l on. let f = t.fresh slot l (let e = lives_same slot in omega arith) in omega arith;
     apart = λ slot other l b on one e. t.apart slot other l b (let g = lives_same slot in omega arith) (let g = lives_same other in omega arith) e;
@@ -143,7 +143,7 @@ module _ {A : Type 0} (role : A → Role) (marks : A → Marks) where
   pub marked_reader : (shape : Shape) (words words' : List ℕ) (callers : List A) (log log' : List Entry) (id : ℕ) (me next : A) (c : ℕ) (x y : Grip) → get_elem? callers id ≡ some me → role me ≡ Reader c x → role next ≡ Reader c y → Evolves role marks me next
       → ((key : ℕ) → key < shape.keys → name_number (get_or words' key 0) ≡ name_number (get_or words key 0)) → ((key : ℕ) → put_number log' key ≡ put_number log key) → put_count log' ≡ put_count log
       → ((j slot : ℕ) (u : A) (desk : Desk) → get_elem? callers j ≡ some u → role u ≡ Writer desk → Desked role marks shape words callers log desk (marks u) → gripped y ≡ Some slot
-      → (get_or (marks u).puts slot 0 ≡ (marks next).put) × (0 < retirements slot desk.retired → gripped x ≡ Some slot))
+      → Keeps (marks u) slot (marks next).put × (0 < retirements slot desk.retired → gripped x ≡ Some slot))
       → SameContents shape words words' → Marked role marks shape words callers log → Marked role marks shape words' (set callers id next) log'
   marked_reader shape words words' callers log log' id me next c x y at was is step names puts many holds contents m = set_marked shape words words' callers log log' id next m
       (let w = m.writer in let apart : w.place ≢ id = λ e. not_both (role me) w.desk c x (ap role (some-injective me w.who (sym at ∙ ap (get_elem? callers) (sym e) ∙ w.there)) ∙ w.is) was in
@@ -152,7 +152,7 @@ module _ {A : Type 0} (role : A → Role) (marks : A → Marks) where
       (λ j u desk ne there writes t. desk_frame shape words words' callers (set callers id next) log log' desk (marks u) names puts many (λ old. since_set callers id me next old at step)
       (λ place reader slot who grip here reads on. ⊎_elim
       (λ (z : (place ≡ id) × (next ≡ who)). let both : Reader c y ≡ Reader reader grip = sym is ∙ ap role z.1 ∙ reads in let h = holds j slot u desk there writes t (ap (λ r. gripped (grip_of r)) both ∙ on) in
-      (h.0 ∙ ap (λ (b : A). (marks b).put) z.1, λ l. (id, me, x, at, was ∙ ap (λ (b : ℕ). Reader b x) (ap number_of both), h.1 l)))
+      ((h.0.0 ∙ ap (λ (b : A). (marks b).put) z.1, h.0.1), λ l. (id, me, x, at, was ∙ ap (λ (b : ℕ). Reader b x) (ap number_of both), h.1 l)))
       (λ (z : (place ≢ id) × (get_elem? callers place ≡ some who)). (t.held place reader slot who grip z.1 reads on, λ _. (place, who, grip, z.1, reads, on)))
       (at_set callers id place next who here)) contents t)
     where

@@ -41,7 +41,7 @@ use Rattle.nr_marks.proofs.MarksSince.{rests}
 use Rattle.nr_marks.proofs.DeskMarks.{QuietEnd, Went, desk_of, desk_stay, no_room_left, nothing_ends, writer_step}
 use Rattle.nr_marks.proofs.ReaderMarks.{contents_loaded}
 
-reader_of : (s : ℕ) (r : Role) → 0 < holds s r → (c : ℕ) × (x : Grip) × (r ≡ Reader c x) × (gripped x ≡ Some s)
+pub reader_of : (s : ℕ) (r : Role) → 0 < holds s r → (c : ℕ) × (x : Grip) × (r ≡ Reader c x) × (gripped x ≡ Some s)
 reader_of s (Writer desk) l = absurd (omega arith)
 reader_of s (Reader c Nothing) l = absurd (omega arith)
 reader_of s (Reader c (On t rows sized)) l = (c, On t rows sized, refl, ap (λ (y : ℕ). Some y) (only-is s t l))
@@ -75,14 +75,14 @@ module _ {A : Type 0} (role : A → Role) (marks : A → Marks) where
           different = λ b. let more = total-append (λ (y : Past). only b y.reader) polls (note ∷ []) in dite (ℕ_discrete reader b)
               (λ e. let none : total (λ (y : Past). only b y.reader) polls ≡ 0 = dite (ℕ_discrete (total (λ (y : Past). only b y.reader) polls) 0) (λ z. z) (λ nz.
               let t = some_term (λ (y : Past). only b y.reader) polls (omega arith) in let same_reader : t.1.reader ≡ b = only-is b t.1.reader t.3 in
-              let on' = old.other t.0 place slot t.1 who grip t.2 there (is ∙ ap (λ (y : ℕ). Reader y grip) (e ∙ sym same_reader)) on (omega arith) in
+              let on' = old.other t.0 t.1 t.2 place slot who grip there (is ∙ ap (λ (y : ℕ). Reader y grip) (e ∙ sym same_reader)) on (omega arith) in
               let low = inside polls t.0 t.1 t.2 in let low' = inside desk.retired poll entry here in let r = before desk.retired t.0 (omega arith) in
               let z : r.0.slot ≡ slot = some_is r.0.slot slot (sym (old.slots t.0 r.0 t.1 r.1 t.2) ∙ on') in
               let two = terms_le (λ (y : Retired). only slot y.slot) desk.retired t.0 poll r.0 entry (λ y. let y' : poll ≡ t.0 = y in omega arith) r.1 here in
               let one' : only slot r.0.slot ≡ 1 = ap (only slot) z ∙ one in absurd (omega arith)) in
               let le = only-le b reader in omega arith)
               (λ ne. let z = only-other b reader ne in let le = old.different b in omega arith);
-          other = λ i n s o w y e g is' on' rest. let rest' : 0 < retirements s desk.retired = subst (λ (l : List Retired). 0 < retirements s l) same rest in ⊎_elim (λ (z : get_elem? polls i ≡ some o). old.other i n s o w y z g is' on' rest')
+          other = λ i o e n s w y g is' on' rest. let rest' : 0 < retirements s desk.retired = subst (λ (l : List Retired). 0 < retirements s l) same rest in ⊎_elim (λ (z : get_elem? polls i ≡ some o). old.other i o z n s w y g is' on' rest')
               (λ (z : (i ≡ length polls) × (note ≡ o)). let same_reader : reader ≡ o.reader = ap (λ (b : Past). b.reader) z.1 in let is'' : role w ≡ Reader reader y = is' ∙ ap (λ (b : ℕ). Reader b y) (sym same_reader) in
               let uw = same_caller callers once place n reader who w grip y there g is is'' in
               let xy : grip ≡ y = ap grip_in (sym is ∙ ap role uw ∙ is'') in ap (λ (b : Past). b.slot) (sym z.1) ∙ ap gripped xy ∙ on') (at_last polls note o i e);

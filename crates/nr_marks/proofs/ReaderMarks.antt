@@ -35,7 +35,7 @@ use Rattle.nr_model.specs.declared.calls.Call.TheVariants as model
 use Rattle.nr_model.specs.declared.calls.Reply.TheVariants as reply
 use Rattle.nr_marks.specs.Puts.{put_count, put_number}
 use Rattle.nr_marks.specs.Marks.{Marks, Past, acted, gripped}
-use Rattle.nr_marks.specs.Marked.{CanMark, Desked, Evolves, MarkTelling, Marked, Remarked, Since}
+use Rattle.nr_marks.specs.Marked.{Keeps, CanMark, Desked, Evolves, MarkTelling, Marked, Remarked, Since}
 use Rattle.nr_marks.specs.MarkSteps.{ArrivesMarks, DepartsMarks, KeepsMarks}
 use Rattle.nr_marks.proofs.ListPlaces.{no_places, some_is}
 use Rattle.nr_marks.proofs.MarksSince.{SameContents, marked_reader, rests}
@@ -83,7 +83,7 @@ module _ {A : Type 0} (role : A → Role) (marks : A → Marks) (shape : Shape) 
       → ((key : ℕ) → put_number (log ++ entries) key ≡ put_number log key) → put_count (log ++ entries) ≡ put_count log
       → (now : Marks) → now.polls ≡ (marks me).polls → ((gripped y ≡ gripped x) × (now.acts ≡ (marks me).acts) × (now.put ≡ (marks me).put)) ⊎ ((marks me).acts < now.acts)
       → ((j slot : ℕ) (u : A) (desk : Desk) → get_elem? callers j ≡ some u → role u ≡ Writer desk → Desked role marks shape words callers log desk (marks u) → gripped y ≡ Some slot
-      → (get_or (marks u).puts slot 0 ≡ now.put) × (0 < retirements slot desk.retired → gripped x ≡ Some slot))
+      → Keeps (marks u) slot now.put × (0 < retirements slot desk.retired → gripped x ≡ Some slot))
       → SameContents shape words (set words (target_of operation) (becomes operation (get_or words (target_of operation) 0)))
       → tells (get_or words (target_of operation) 0) after (log ++ entries) now [] → Remarked role marks shape words callers log id me operation after entries tells
   reader_step operation answers tells words callers log m at reader x y was after entries is names puts many now same_polls moves holds contents told =
@@ -99,7 +99,7 @@ module _ {A : Type 0} (role : A → Role) (marks : A → Marks) (shape : Shape) 
         since = no_places (Since role marks callers);
         evolves = evolves;
         marked = λ who is_role is_marks. marked_reader role marks shape words (set words (target_of operation) (becomes operation (get_or words (target_of operation) 0))) callers log (log ++ entries) id me who reader x y at was (is_role ∙ is) (evolves who is_role is_marks) names puts many
-            (λ j slot u desk there writes t e. let h = holds j slot u desk there writes t e in (h.0 ∙ ap (λ (k : Marks). k.put) (sym is_marks), h.1)) contents m;
+            (λ j slot u desk there writes t e. let h = holds j slot u desk there writes t e in ((h.0.0 ∙ ap (λ (k : Marks). k.put) (sym is_marks), h.0.1), h.1)) contents m;
         noted = λ place note there. inl (ap (λ (l : List Past). get_elem? l place) (sym same_polls) ∙ there);
         told = told;
       }
@@ -143,8 +143,8 @@ module _ {A : Type 0} (role : A → Role) (marks : A → Marks) (shape : Shape) 
       = λ y r quiet is is_entries holds. let e = entry reader (model.Find key) r in let numbers : (k : ℕ) → put_number (log ++ entries) k ≡ put_number log k = λ k. ap (λ l. put_number (log ++ l) k) is_entries ∙ quiet_number log e k quiet in
       reader_step (Add key ARRIVE) (Arrives shape reader key) (ArrivesMarks (marks me) key) words callers log m at reader Nothing y was after entries is (λ k _. names_kept words key x (omega arith) (name-bumped word) k)
       numbers (ap (λ l. put_count (log ++ l)) is_entries ∙ quiet_count log e quiet) now refl (inr (omega arith))
-      (λ j slot u desk there writes t on. let names = holds slot on in (
-        t.puts key slot near names ∙ sym (numbers key),
+      (λ j slot u desk there writes t on. let names = holds slot on in let kept = t.puts key slot near names in (
+        (kept.0 ∙ sym (numbers key), kept.1),
         λ l. absurd (let r = rests role marks shape words callers log j u desk slot core there writes l in let b = below-term (λ k. only (suc slot) (name_number (get_or words k 0))) shape.keys key near in
             let one : only (suc slot) (name_number word) ≡ 1 = ap (only (suc slot)) names ∙ only-same (suc slot) in let z = r.1 in omega arith),
       ))

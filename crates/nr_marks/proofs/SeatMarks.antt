@@ -111,7 +111,7 @@ module _ {A : Type 0} (role : A → Role) (marks : A → Marks) where
         desk_alike desk mine t = desk_frame role marks shape words words callers (set callers id next) log log desk mine (λ _ _. refl) (λ _. refl) refl (λ old. since_set role marks callers id me next old at evolves_alike)
             (λ place reader slot who grip there reads on. ⊎_elim
             (λ (z : (place ≡ id) × (next ≡ who)). let before : role me ≡ Reader reader grip = sym same ∙ ap role z.1 ∙ reads in
-            (t.held id reader slot me grip at before on ∙ ap (λ (b : Marks). b.put) (sym (reader_marks reader grip before)) ∙ ap (λ (b : A). (marks b).put) z.1, λ _. (id, me, grip, at, before, on)))
+            let kept = t.held id reader slot me grip at before on in ((kept.0 ∙ ap (λ (b : Marks). b.put) (sym (reader_marks reader grip before)) ∙ ap (λ (b : A). (marks b).put) z.1, kept.1), λ _. (id, me, grip, at, before, on)))
             (λ (z : (place ≢ id) × (get_elem? callers place ≡ some who)). (t.held place reader slot who grip z.1 reads on, λ _. (place, who, grip, z.1, reads, on))) (at_set callers id place next who there)) (λ _ _ _. refl) t
 
         knows : (r : Role) (mine : Marks) → KnowsMarks role marks shape words callers log r mine → KnowsMarks role marks shape words (set callers id next) log r mine

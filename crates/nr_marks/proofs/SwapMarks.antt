@@ -1,5 +1,5 @@
 -- The writer puts a word, publishes, unpublishes and withdraws: a published slot has the next put number.
-use Rattle.std.proofs.Common.{List, [], ap, arith, cond, eq-eqb, false, get_or, get_or-set_other, get_or-set_same, inl, inr, length-set, map, ne_eqb, refl, set, subst, suc, sym, true, ℕ, ⊎_elim, ◌++◌, ◌+◌, ◌<◌, ◌∙◌, ◌∷◌, ◌≡◌, ◌≢◌, ◌⊎◌, ◌≤◌, ◌*◌, length}
+use Rattle.std.proofs.Common.{Bool, zero, List, [], ap, arith, cond, eq-eqb, false, get_or, get_or-set_other, get_or-set_same, inl, inr, length-set, map, ne_eqb, refl, set, subst, suc, sym, true, ℕ, ⊎_elim, ◌++◌, ◌+◌, ◌<◌, ◌∙◌, ◌∷◌, ◌≡◌, ◌≢◌, ◌⊎◌, ◌≤◌, ◌*◌, length}
 use Rattle.std.specs.Prelude.{Some}
 use lib.ListN.{get_elem?}
 use mathlib.Core.Logic.{dite}
@@ -69,6 +69,15 @@ hole_names_none number = name_low (hole_word number false) (λ z. omega arith)
 abbrev index : List ℕ → ℕ → ℕ
 index l i = get_or l i 0
 
+abbrev flag : List Bool → ℕ → Bool
+flag l i = get_or l i false
+
+-- a slot into which a set was put has one that was not reaped
+cleared : (l : List Bool) (i : ℕ) → flag (set l i false) i ≡ false
+cleared [] i = refl
+cleared (b ∷ l) zero = refl
+cleared (b ∷ l) (suc i) = cleared l i
+
 module _ {A : Type 0} (role : A → Role) (marks : A → Marks) where
   -- the key n names the slot t, which has the next put number
   desk_put : (shape : Shape) (words words' : List ℕ) (callers : List A) (log log' : List Entry) (desk desk' : Desk) (mine : Marks) (n t : ℕ) → Desked role marks shape words callers log desk mine → n < shape.keys → t < shape.slots
@@ -90,11 +99,11 @@ module _ {A : Type 0} (role : A → Role) (marks : A → Marks) where
             (λ e. ap (index (set mine.names n (suc t))) e ∙ get_or-set_same mine.names n (suc t) 0 (omega arith) ∙ sym here ∙ ap (λ (y : ℕ). name_number (get_or words' y 0)) (sym e))
             (λ ne. get_or-set_other mine.names n i (suc t) 0 ne ∙ own.names i l ∙ sym (others i ne));
         puts = λ i s l e. dite (ℕ_discrete i n)
-            (λ z. let same : s ≡ t = let e' : name_number (get_or words' n 0) ≡ suc s = ap (λ (y : ℕ). name_number (get_or words' y 0)) (sym z) ∙ e in omega arith in ap (index puts') same ∙ put_here ∙ sym number ∙ ap (put_number log') (sym z))
+            (λ z. let same : s ≡ t = let e' : name_number (get_or words' n 0) ≡ suc s = ap (λ (y : ℕ). name_number (get_or words' y 0)) (sym z) ∙ e in omega arith in (ap (index puts') same ∙ put_here ∙ sym number ∙ ap (put_number log') (sym z), ap (flag (set mine.reaped t false)) same ∙ cleared mine.reaped t))
             (λ ne. let e' : name_number (get_or words i 0) ≡ suc s = sym (others i ne) ∙ e in
             let apart : s ≢ t = λ z. let b = below-term (λ j. only (suc t) (name_number (get_or words j 0))) shape.keys i l in let one : only (suc t) (name_number (get_or words i 0)) ≡ 1 = ap (only (suc t)) (e' ∙ ap suc z) ∙ only-same (suc t) in absurd (omega arith) in
-            put_other s apart ∙ own.puts i s l e' ∙ sym (numbers i ne));
-        held = λ place reader s who grip there is on. dite (ℕ_discrete s t) (λ z. absurd (nobody place reader who grip there is (on ∙ ap (λ (y : ℕ). Some y) z))) (λ ne. put_other s ne ∙ own.held place reader s who grip there is on);
+            let kept = own.puts i s l e' in (put_other s apart ∙ kept.0 ∙ sym (numbers i ne), get_or-set_other mine.reaped t s false false apart ∙ kept.1));
+        held = λ place reader s who grip there is on. dite (ℕ_discrete s t) (λ z. absurd (nobody place reader who grip there is (on ∙ ap (λ (y : ℕ). Some y) z))) (λ ne. let kept = own.held place reader s who grip there is on in (put_other s ne ∙ kept.0, get_or-set_other mine.reaped t s false false ne ∙ kept.1));
         fresh = λ s l on. dite (ℕ_discrete s t) (λ z. let p : get_or puts' s 0 ≡ put_count log = ap (index puts') z ∙ put_here in omega arith) (λ ne. let f = own.fresh s l (old s l ne on) in let p = put_other s ne in omega arith);
         apart = λ s a l b on one e. dite (ℕ_discrete s t)
             (λ z. let p : get_or puts' s 0 ≡ put_count log = ap (index puts') z ∙ put_here in dite (ℕ_discrete a t) (λ y. z ∙ sym y) (λ ne. absurd (let f = own.fresh a b (old a b ne one) in let g = put_other a ne in omega arith)))

@@ -132,5 +132,5 @@ module _ {A : Type 0} (role : A → Role) (marks : A → Marks) (shape : Shape) 
     room = (core.knows id (Writer desk) there).room;
     slots = λ free. taken_are shape words (map role callers) log id desk core there free;
     empty = λ i l e. shown_empty shape words (get_or words i 0) (state_of (map_after shape log) i) (core.shows i l) (sym (own.names i l) ∙ e);
-    full = λ i s l e. let n : name_number (get_or words i 0) ≡ suc s = sym (own.names i l) ∙ e in (shown_full shape words (get_or words i 0) (state_of (map_after shape log) i) s (core.shows i l) n, own.puts i s l n);
+    full = λ i s l e. let n : name_number (get_or words i 0) ≡ suc s = sym (own.names i l) ∙ e in (shown_full shape words (get_or words i 0) (state_of (map_after shape log) i) s (core.shows i l) n, (own.puts i s l n).0);
   }

@@ -1,5 +1,5 @@
 -- What each kind of step tells of the marks.
-use Rattle.std.specs.Prelude.{◌≡◌, ◌≢◌, ℕ, suc, ◌+◌, ◌<◌, ◌≤◌, List, [], ◌∷◌, ◌++◌, length, slice_index, ◌*◌, nat_le, Bool, true, false}
+use Rattle.std.specs.Prelude.{◌≡◌, ◌≢◌, ℕ, suc, ◌+◌, ◌<◌, ◌≤◌, List, [], ◌∷◌, ◌++◌, length, slice_index, ◌*◌, nat_le, Bool, true, false, Some}
 use Rattle.nr_model.specs.Histories.{Entry}
 use Rattle.nr_model.specs.declared.rows.Row.{Row}
 use Rattle.nr_machine.specs.declared.shape.Shape.{Shape}
@@ -7,6 +7,7 @@ use Rattle.nr_machine.specs.declared.calls.WriterCall.{WriterCall}
 use Rattle.nr_machine.specs.declared.roles.Grip.{Grip}
 use Rattle.nr_machine.specs.declared.roles.Desk.{Desk}
 use Rattle.nr_machine.specs.declared.places.Place.{Place}
+use Rattle.nr_machine.specs.declared.places.Retired.{Retired}
 use Rattle.nr_machine.specs.declared.places.Place.TheVariants.{Idle, Reading, Leaving, Withdrawing, Searching, Putting}
 use Rattle.nr_machine.specs.declared.calls.NoSlot.{NoSlot}
 use Rattle.nr_machine.specs.declared.calls.Step.{Step}
@@ -17,7 +18,7 @@ use Rattle.nr_machine.specs.States.{retired_at, key_of}
 use Rattle.nr_machine.specs.Writer.{looked, read_on}
 use Rattle.nr_machine.specs.declared.calls.WReply.TheVariants as writer
 use Rattle.nr_marks.specs.Puts.{put_count, put_number}
-use Rattle.nr_marks.specs.Marks.{Past, Marks, acted, with_polls, with_name, without_name}
+use Rattle.nr_marks.specs.Marks.{Past, Marks, acted, with_polls, with_name, with_reaped, without_name}
 use Rattle.nr_marks.specs.PollNotes.{NoRoom, Missed}
 use Rattle.nr_marks.specs.Pasts.{Refreshed, Compared}
 use Rattle.nr_marks.specs.Marked.{MarkTelling}
@@ -92,6 +93,14 @@ went_marks shape marks known desk (Putting call rows slot departed index) = Puts
 
 abbrev pub GoesMarks : Shape → Marks → List Past → Desk → MarkTelling
 GoesMarks shape marks known desk = went_marks shape marks known desk desk.place
+
+-- a poll by a reap: where no reader holds the slot its set is reaped; else a reader that holds it is noted
+abbrev pub ProbeTells : Bool → Shape → Marks → ℕ → Marks → Type 0
+ProbeTells true shape marks slot now = now ≡ with_reaped marks slot
+ProbeTells false shape marks slot now = (note : Past) × (now ≡ with_polls marks (marks.polls ++ note ∷ [])) × (note.slot ≡ Some slot) × (0 < note.reader) × (note.reader ≤ shape.readers)
+
+abbrev pub ProbesMarks : Shape → Marks → Retired → MarkTelling
+ProbesMarks shape marks entry word after log now news = (news ≡ []) × ProbeTells (same_count word entry.arrivals) shape marks entry.slot now
 
 -- the writer learns how the readers are that it was told of, and what its lists say of the history so far
 abbrev pub WriterLearns : Shape → Marks → Desk → List Past → MarkTelling

@@ -1,5 +1,5 @@
 -- What stands of the marks between any two steps. It is said of any list of callers that have a role and marks.
-use Rattle.std.specs.Prelude.{◌≡◌, ℕ, suc, ◌+◌, ◌<◌, ◌≤◌, ◌⊎◌, List, [], ◌++◌, length, map, slice_index, slice_set, cond, Some}
+use Rattle.std.specs.Prelude.{◌≡◌, ℕ, suc, ◌+◌, ◌<◌, ◌≤◌, ◌⊎◌, List, [], ◌++◌, length, map, slice_index, slice_set, cond, Some, false}
 use mathlib.Core.Option.{some}
 use lib.ListN.{get_elem?}
 use Rattle.nr_model.specs.Histories.{Entry}
@@ -19,7 +19,7 @@ use Rattle.nr_machine.specs.Operations.{target_of, becomes}
 use Rattle.nr_machine.specs.declared.operation.Operation.{Operation}
 use Rattle.nr_core.specs.Steps.{Telling}
 use Rattle.nr_marks.specs.Puts.{put_count, put_number}
-use Rattle.nr_marks.specs.Marks.{Past, Marks, gripped, past, set_in}
+use Rattle.nr_marks.specs.Marks.{Past, Marks, gripped, is_reaped, past, set_in}
 
 -- 1 where the role is that caller's
 abbrev pub is_caller : ℕ → Role → ℕ
@@ -28,6 +28,10 @@ is_caller caller role = cond (is_by caller role) 1 0
 -- how often the slot is named by a key or retired
 abbrev pub lives : Shape → List ℕ → Desk → ℕ → ℕ
 lives shape words desk slot = named shape words slot + retirements slot desk.retired
+
+-- the slot has that put number, and its set was not reaped
+abbrev pub Keeps : Marks → ℕ → ℕ → Type 0
+Keeps mine slot number = (slice_index mine.puts slot ≡ number) × (is_reaped mine slot ≡ false)
 
 -- no call has put a word into the slot that it doesn't have yet
 abbrev pub Untouched : ℕ → Place → Type 0
@@ -77,12 +81,18 @@ module _ {A : Type 0} (role : A → Role) (marks : A → Marks) where
   Evolves before after = (reader : ℕ) (grip : Grip) → role before ≡ Reader reader grip → (now : Grip) × (role after ≡ Reader reader now)
       × (((gripped now ≡ gripped grip) × ((marks after).acts ≡ (marks before).acts) × ((marks after).put ≡ (marks before).put)) ⊎ ((marks before).acts < (marks after).acts))
 
+  -- the reader that the note tells of holds no retired slot but the note's
+  abbrev pub HoldsNoOther : List A → Desk → Past → Type 0
+  HoldsNoOther callers desk note =
+      (place slot : ℕ) (who : A) (grip : Grip) → get_elem? callers place ≡ some who → role who ≡ Reader note.reader grip → gripped grip ≡ Some slot
+      → 0 < retirements slot desk.retired → note.slot ≡ Some slot
+
   -- the notes of a call's polls: one for each slot polled, each of another reader, which holds no other retired slot
   pub record Sweeps (callers : List A) (desk : Desk) (polls : List Past) (poll : ℕ) : Type 0 where
     pub many : length polls ≡ poll
     pub slots : (at : ℕ) (entry : Retired) (note : Past) → get_elem? desk.retired at ≡ some entry → get_elem? polls at ≡ some note → note.slot ≡ Some entry.slot
     pub different : (reader : ℕ) → total (λ note. only reader note.reader) polls ≤ 1
-    pub other : (at place slot : ℕ) (note : Past) (who : A) (grip : Grip) → get_elem? polls at ≡ some note → get_elem? callers place ≡ some who → role who ≡ Reader note.reader grip → gripped grip ≡ Some slot → 0 < retirements slot desk.retired → note.slot ≡ Some slot
+    pub other : (at : ℕ) (note : Past) → get_elem? polls at ≡ some note → HoldsNoOther callers desk note
 
   -- a call polls after it has read
   abbrev pub Sweeping : List A → Desk → List Past → Place → Type 0
@@ -93,12 +103,12 @@ module _ {A : Type 0} (role : A → Role) (marks : A → Marks) where
   Sweeping callers desk polls (Searching call rows poll) = Sweeps callers desk polls poll
   Sweeping callers desk polls (Putting call rows slot departed index) = Unit {0}
 
-  -- the writer's lists are the words' and the history's; put numbers of named or retired slots are different, a hold has its slot's, and slots spell their sets
+  -- the writer's lists are the words' and the history's; put numbers of named or retired slots are different, a hold has its slot's, slots spell their sets, and no set that a key names or a reader holds was reaped
   pub record Desked (shape : Shape) (words : List ℕ) (callers : List A) (log : List Entry) (desk : Desk) (mine : Marks) : Type 0 where
     pub wide : (length mine.names ≡ shape.keys) × (length mine.puts ≡ shape.slots)
     pub names : (key : ℕ) → key < shape.keys → slice_index mine.names key ≡ name_number (slice_index words key)
-    pub puts : (key slot : ℕ) → key < shape.keys → name_number (slice_index words key) ≡ suc slot → slice_index mine.puts slot ≡ put_number log key
-    pub held : (place reader slot : ℕ) (who : A) (grip : Grip) → get_elem? callers place ≡ some who → role who ≡ Reader reader grip → gripped grip ≡ Some slot → slice_index mine.puts slot ≡ (marks who).put
+    pub puts : (key slot : ℕ) → key < shape.keys → name_number (slice_index words key) ≡ suc slot → Keeps mine slot (put_number log key)
+    pub held : (place reader slot : ℕ) (who : A) (grip : Grip) → get_elem? callers place ≡ some who → role who ≡ Reader reader grip → gripped grip ≡ Some slot → Keeps mine slot (marks who).put
     pub fresh : (slot : ℕ) → slot < shape.slots → 0 < lives shape words desk slot → slice_index mine.puts slot < put_count log
     pub apart : (slot other : ℕ) → slot < shape.slots → other < shape.slots → 0 < lives shape words desk slot → 0 < lives shape words desk other → slice_index mine.puts slot ≡ slice_index mine.puts other → slot ≡ other
     -- each slot spells the set that was put there last, until the next one is being put

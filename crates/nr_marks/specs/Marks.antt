@@ -1,5 +1,5 @@
--- Marks, which contracts alone see beside a caller's role: a reader's count of acts and the put number of its hold; the writer's names, put numbers, sets and polls.
-use Rattle.std.specs.Prelude.{ℕ, suc, List, [], ◌∷◌, slice_index_or, slice_set, Option, Some, None, replicate}
+-- Marks, which contracts alone see beside a caller's role: a reader's count of acts and the put number of its hold; the writer's names, put numbers, sets, reaped slots and polls.
+use Rattle.std.specs.Prelude.{ℕ, suc, Bool, true, false, List, [], ◌∷◌, slice_index_or, slice_set, Option, Some, None, replicate}
 use Rattle.nr_model.specs.declared.rows.Row.{Row}
 use Rattle.nr_machine.specs.declared.shape.Shape.{Shape}
 use Rattle.nr_machine.specs.declared.roles.Role.{Role}
@@ -25,7 +25,9 @@ pub record Marks : Type 0 where
   pub puts : List ℕ
   -- and that set; a slot that was never taken has the empty one
   pub sets : List (List Row)
-  -- the polls of this call that found their slots held
+  -- whether that set was reaped: given out before its slot is taken again
+  pub reaped : List Bool
+  -- the polls that found their slots held, of the last call and of the reaps since
   pub polls : List Past
 
 -- the slot that a reader holds
@@ -39,10 +41,10 @@ past reader grip marks = record { reader = reader; count = marks.acts; slot = gr
 
 -- the writer's marks at the opening: no key names a slot; who has no marks yet
 abbrev pub opening_marks : Shape → Marks
-opening_marks shape = record { acts = 0; put = 0; names = replicate shape.keys 0; puts = replicate shape.slots 0; sets = replicate shape.slots []; polls = [] }
+opening_marks shape = record { acts = 0; put = 0; names = replicate shape.keys 0; puts = replicate shape.slots 0; sets = replicate shape.slots []; reaped = replicate shape.slots false; polls = [] }
 
 abbrev pub no_marks : Marks
-no_marks = record { acts = 0; put = 0; names = []; puts = []; sets = []; polls = [] }
+no_marks = record { acts = 0; put = 0; names = []; puts = []; sets = []; reaped = []; polls = [] }
 
 -- what a note tells of readers: a reader's of itself, the writer's all that it knows
 abbrev pub told_by : Role → Marks → List Past → List Past
@@ -61,9 +63,16 @@ with_polls marks polls = record marks { polls = polls }
 abbrev pub set_in : Marks → ℕ → List Row
 set_in marks slot = slice_index_or marks.sets slot []
 
+-- whether that set was reaped
+abbrev pub is_reaped : Marks → ℕ → Bool
+is_reaped marks slot = slice_index_or marks.reaped slot false
+
+abbrev pub with_reaped : Marks → ℕ → Marks
+with_reaped marks slot = record marks { reaped = slice_set marks.reaped slot true }
+
 -- the key names the slot, into which that set was put, with that number
 abbrev pub with_name : Marks → ℕ → ℕ → ℕ → List Row → Marks
-with_name marks key slot number rows = record marks { names = slice_set marks.names key (suc slot); puts = slice_set marks.puts slot number; sets = slice_set marks.sets slot rows }
+with_name marks key slot number rows = record marks { names = slice_set marks.names key (suc slot); puts = slice_set marks.puts slot number; sets = slice_set marks.sets slot rows; reaped = slice_set marks.reaped slot false }
 
 abbrev pub without_name : Marks → ℕ → Marks
 without_name marks key = record marks { names = slice_set marks.names key 0 }

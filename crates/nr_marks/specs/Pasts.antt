@@ -1,10 +1,10 @@
 -- What the writer and a reader learn of each other when they meet.
-use Rattle.std.specs.Prelude.{◌≡◌, ℕ, suc, ◌<◌, ◌≤◌, ◌⊎◌, List, length, slice_index, Some}
+use Rattle.std.specs.Prelude.{◌≡◌, ℕ, suc, ◌<◌, ◌≤◌, ◌⊎◌, false, List, length, slice_index, Some}
 use mathlib.Core.Option.{some}
 use lib.ListN.{get_elem?}
 use Rattle.nr_machine.specs.declared.roles.Grip.{Grip}
 use Rattle.nr_machine.specs.declared.places.Retired.{Retired}
-use Rattle.nr_marks.specs.Marks.{Past, Marks, gripped}
+use Rattle.nr_marks.specs.Marks.{Past, Marks, gripped, is_reaped}
 
 -- the slot is named or retired, as the writer's lists say
 abbrev pub Living : List Retired → Marks → ℕ → Type 0
@@ -12,9 +12,10 @@ Living retired marks slot =
     ((key : ℕ) × (key < length marks.names) × (slice_index marks.names key ≡ suc slot))
     ⊎ ((at : ℕ) × (entry : Retired) × (get_elem? retired at ≡ some entry) × (entry.slot ≡ slot))
 
--- a reader as it was when the writer compared it with its lists: its slot is named or retired and has its put number; where it has made no act since a poll noted it, it holds the noted slot
+-- a reader as it was when the writer compared it with its lists: its slot is named or retired and has its put number, and the set there was not reaped; where it has made no act since a poll noted it, it holds the noted slot
 pub record Current (retired : List Retired) (marks : Marks) (reader : Past) : Type 0 where
   pub placed : (slot : ℕ) → reader.slot ≡ Some slot → (slice_index marks.puts slot ≡ reader.put) × Living retired marks slot
+  pub kept : (slot : ℕ) → reader.slot ≡ Some slot → is_reaped marks slot ≡ false
   pub polled : (at : ℕ) (poll : Past) → get_elem? marks.polls at ≡ some poll → poll.reader ≡ reader.reader → (poll.count ≤ reader.count) × (reader.count ≡ poll.count → reader.slot ≡ poll.slot)
 
 -- for each reader that was told of, how it is now

@@ -22,6 +22,7 @@ takes_at map call rows spare before mid place so_far low full found after goes a
   few = let few = so_far.few in omega arith;
   slots = refl;
   numbers = refl;
+  reaped = refl;
   writes = took.0;
   grows = took.1;
   marks = took.2;

@@ -1,0 +1,227 @@
+-- A reap, poll by poll: the slots whose sets wait are split into those that were found held and those that are still to be polled.
+use Rattle.std.proofs.Common.{◌≡◌, ◌∙◌, ℕ, zero, suc, ◌+◌, ◌*◌, ◌<◌, ◌≤◌, Bool, true, false, cond, List, [], ◌∷◌, ◌++◌, ap, append-nil, append_assoc, arith, drop, get_or, length, length-append, map, refl, subst, sym}
+use Rattle.std.proofs.lemmas.Bool.{le-ltb, lt-ltb, ltb-true}
+use Rattle.std.specs.Prelude.{Some, nat_lt}
+use lib.ListN.{get_elem?}
+use mathlib.Core.Option.{some, some-injective}
+use Rattle.atomic_table.specs.Table.{Allows, Me}
+use Rattle.atomic_table.specs.Seated.{TableId}
+use Rattle.nr_model.specs.Histories.{entries_of}
+use Rattle.nr_words.specs.KeyWords.{same_count}
+use Rattle.nr_core.proofs.Learn.{learns}
+use Rattle.nr_core.proofs.WordPlaces.{same_departures}
+use Rattle.nr_core.specs.Core.{AreNumbers}
+use Rattle.nr_core.specs.Roles.{is_reader, is_writer}
+use Rattle.nr_core.specs.Steps.{LoadsWord}
+use Rattle.nr_machine.specs.Slots.{departures}
+use Rattle.nr_machine.specs.Spares.{Spare}
+use Rattle.nr_machine.specs.States.{no_retired}
+use Rattle.nr_machine.specs.declared.operation.Operation.TheVariants.{Load}
+use Rattle.nr_machine.specs.declared.places.Place.TheVariants.{Idle}
+use Rattle.nr_machine.specs.declared.places.Retired.{Retired}
+use Rattle.nr_machine.specs.declared.roles.Desk.{Desk}
+use Rattle.nr_machine.specs.declared.roles.Role.TheVariants.{Writer}
+use Rattle.nr_machine.specs.declared.shape.Shape.{Shape}
+use Rattle.nr_marks.proofs.ReapMarks.{probes_marked}
+use Rattle.nr_marks.specs.Marks.{Marks, Past, with_polls, with_reaped}
+use Rattle.nr_marks.specs.MarkSteps.{ProbeTells, ProbesMarks}
+use Rattle.nr_board.proofs.Lift.{knows_pasts, lifts}
+use Rattle.nr_board.proofs.Moves.{ActsGo, waited, waiting as learns_nothing}
+use Rattle.nr_board.proofs.PollNotes.{at_get}
+use Rattle.nr_board.specs.Callers.{Caller, Table, caller_of, map_seen, token}
+use Rattle.nr_board.specs.Entries.{AreCallers}
+use Rattle.nr_board.specs.Plays.{Room}
+use Rattle.nr_board.specs.Recalls.{RecallsAt}
+use Rattle.nr_board.specs.Reaping.{HeldEach, ProbesAt, ProbesTo, SweepsFor, SweptTo, probed, reaping, waiting}
+use Rattle.nr_board.specs.Rule.{Kept, marks_of, role_of}
+use Rattle.nr_board.specs.Spares.{desk_with}
+use Rattle.nr_board.specs.Views.{View, caller_number, desk_of}
+use Rattle.nr_board.specs.WriterSeats.{MapSeat, RestsAt}
+use Rattle.nr_board.specs.declared.reaping.Sweep.TheVariants as sweep
+
+-- THE POLL
+
+pub probes_so : (shape : Shape) (slots id : ℕ) (me : Me (Unit {0}) View) (desk : Desk) (poll : ℕ) (entry : Retired) → me.0.role ≡ Writer desk → desk.place ≡ Idle → get_elem? desk.retired poll ≡ some entry
+    → Allows (Kept shape) slots id me (departures shape entry.slot) (λ word. word)
+    (λ found after. (other : Desk) (place : ℕ) (named : Retired) → me.0.role ≡ Writer other → other.place ≡ Idle → Room me.0.shape other → get_elem? other.retired place ≡ some named → departures shape entry.slot ≡ departures me.0.shape named.slot → ProbesTo me.0.shape named found me.0 after.0)
+probes_so shape slots id me desk poll entry is idle here = let view = me.0 in let at_word : ℕ = departures shape entry.slot in let tells = LoadsWord view.role in let notes = ProbesMarks shape view.marks entry in
+    lifts shape id view (Load at_word) tells notes slots me.1
+    (λ found next. (other : Desk) (place : ℕ) (named : Retired) → view.role ≡ Writer other → other.place ≡ Idle → Room view.shape other → get_elem? other.retired place ≡ some named → at_word ≡ departures view.shape named.slot → ProbesTo view.shape named found view next)
+    view.pasts (learns shape id view.role at_word) (probes_marked role_of marks_of shape id view view.pasts desk poll entry here idle is) (knows_pasts shape id view)
+    (λ state kept there step marked. let found : ℕ = get_or state.words at_word 0 in
+    let sized : view.shape ≡ shape = (kept.fits id view there).sized (let one : is_writer view.role ≡ 1 = ap is_writer is in omega arith) in
+    let callers : AreCallers shape step.entries = subst (AreCallers shape) (sym step.told.1) tt in
+    let acts : ActsGo view step.after step.entries marked.now = λ reads. absurd (let none : is_reader step.after ≡ 0 = ap is_reader (step.told.0 ∙ is) in omega arith) in
+    let next = waited view step.after marked.now marked.news in
+    learns_nothing shape id view (Load at_word) tells notes state kept there step marked (ap caller_number step.told.0) sized callers acts
+    (λ next. (other : Desk) (place : ℕ) (named : Retired) → view.role ≡ Writer other → other.place ≡ Idle → Room view.shape other → get_elem? other.retired place ≡ some named → at_word ≡ departures view.shape named.slot → ProbesTo view.shape named found view next)
+    marked.told.0 step.told.1
+    (λ _ other place named also still room here' at_word'.
+    let one_desk : desk ≡ other = sym (ap desk_of is) ∙ ap desk_of also in
+    let one_slot : entry.slot ≡ named.slot = same_departures shape entry.slot named.slot (at_word' ∙ ap (λ (s : Shape). departures s named.slot) sized) in
+    let there' : get_elem? other.retired poll ≡ some entry = ap (λ (d : Desk). get_elem? d.retired poll) (sym one_desk) ∙ here in
+    let one_place = room.apart poll place entry named there' here' one_slot in
+    let one_entry : entry ≡ named = some-injective entry named (sym there' ∙ ap (get_elem? other.retired) one_place ∙ here') in
+    let next_is : next ≡ record view { steps = view.steps + 1; marks = marked.now } = λ j. record view { role = step.told.0 j; steps = view.steps + 1; marks = marked.now; pasts = marked.told.0 j ++ view.pasts } in
+    subst (λ (p : Shape × Retired). ProbesTo p.0 p.1 found view next) (λ j. (sym sized j, one_entry j)) (next_is, marked.told.1)))
+
+-- THE SLOTS THAT WAIT
+
+drop_at : (l : List Retired) (place : ℕ) → place < length l → drop place l ≡ get_or l place no_retired ∷ drop (suc place) l
+drop_at [] place low = absurd (omega arith)
+drop_at (x ∷ l) zero low = refl
+drop_at (x ∷ l) (suc place) low = drop_at l place (omega arith)
+
+drop_all : (l : List Retired) (place : ℕ) → length l ≤ place → drop place l ≡ []
+drop_all [] zero all = refl
+drop_all [] (suc place) all = refl
+drop_all (x ∷ l) zero all = absurd (omega arith)
+drop_all (x ∷ l) (suc place) all = drop_all l place (omega arith)
+
+abbrev flag : List Bool → ℕ → Bool
+flag flags slot = get_or flags slot false
+
+-- what waits from a place of the list on, where the slot there was reaped, and where it waits
+module _ (flags : List Bool) (l : List Retired) (place : ℕ) (low : place < length l) where
+  abbrev entry_there : Retired
+  entry_there = get_or l place no_retired
+
+  drop_next : drop place l ≡ entry_there ∷ drop (place + 1) l
+  drop_next = let e : suc place ≡ place + 1 = omega arith in drop_at l place low ∙ ap (λ (n : ℕ). entry_there ∷ drop n l) e
+
+  waits_not : flag flags entry_there.slot ≡ true → waiting flags (drop place l) ≡ waiting flags (drop (place + 1) l)
+  waits_not gone = ap (waiting flags) drop_next ∙ ap (λ (b : Bool). cond {A = List Retired} b (waiting flags (drop (place + 1) l)) (entry_there ∷ waiting flags (drop (place + 1) l))) gone
+
+  waits_there : flag flags entry_there.slot ≡ false → waiting flags (drop place l) ≡ entry_there ∷ waiting flags (drop (place + 1) l)
+  waits_there stays = ap (waiting flags) drop_next ∙ ap (λ (b : Bool). cond {A = List Retired} b (waiting flags (drop (place + 1) l)) (entry_there ∷ waiting flags (drop (place + 1) l))) stays
+
+held_more : (slots : List Retired) (notes : List Past) (entry : Retired) (note : Past) → HeldEach slots notes → note.slot ≡ Some entry.slot → HeldEach (slots ++ entry ∷ []) (notes ++ note ∷ [])
+held_more slots notes entry note each on = map_more (λ (n : Past). n.slot) notes note ∙ (λ j. each j ++ on j ∷ []) ∙ sym (map_more (λ (e : Retired). Some e.slot) slots entry)
+  where
+    map_more : {A B : Type 0} (f : A → B) (l : List A) (x : A) → map f (l ++ x ∷ []) ≡ map f l ++ f x ∷ []
+    map_more f [] x = refl
+    map_more f (y ∷ l) x = ap (λ t. f y ∷ t) (map_more f l x)
+
+none_polled : (slots : List Retired) (notes : List Past) → HeldEach slots notes → false ≡ nat_lt 0 (length notes) → (slots ≡ []) × (notes ≡ [])
+none_polled [] [] each none = (refl, refl)
+none_polled (x ∷ slots) [] each none = absurd (let z = ap length each in omega arith)
+none_polled slots (n ∷ notes) each none = absurd (let gone = lt-ltb 0 (length (n ∷ notes)) (omega arith) in let clash : false ≡ true = none ∙ gone in cc)
+
+-- THE SWEEP
+
+probed_none : (view : View) → probed [] 0 view ≡ view
+probed_none view = λ j. record view { steps = same j; marks = with_polls view.marks (append-nil view.marks.polls j) }
+  where
+    same : view.steps + (0 + 0) ≡ view.steps
+    same = omega arith
+
+pub swept_none : (spare : Spare) (seat : MapSeat) → SweptTo spare seat seat 0 false
+swept_none spare seat = record { held = []; notes = []; split = refl; each = refl; own = refl; view = sym (probed_none seat.me.0); flag = refl }
+
+module _ (spare : Spare) (before mid : MapSeat) (place : ℕ) (polled : Bool) (so_far : SweptTo spare before mid place polled) (low : place < length spare.retired) where
+  abbrev this : Retired
+  this = get_or spare.retired place no_retired
+
+  pub swept_past : flag spare.reaped this.slot ≡ true → SweptTo spare before mid (place + 1) polled
+  swept_past gone = record {
+    held = so_far.held;
+    notes = so_far.notes;
+    split = so_far.split ∙ ap (λ (l : List Retired). so_far.held ++ l) (waits_not spare.reaped spare.retired place low gone);
+    each = so_far.each;
+    own = so_far.own;
+    view = so_far.view;
+    flag = so_far.flag;
+  }
+
+  module _ (shape : Shape) (found : ℕ) (after : MapSeat) (own : after.table_id ≡ mid.table_id) (tells : ProbesTo shape this found mid.me.0 after.me.0) (stays : flag spare.reaped this.slot ≡ false) where
+    split_here : waiting spare.reaped spare.retired ≡ so_far.held ++ this ∷ waiting spare.reaped (drop (place + 1) spare.retired)
+    split_here = so_far.split ∙ ap (λ (l : List Retired). so_far.held ++ l) (waits_there spare.reaped spare.retired place low stays)
+
+    pub swept_more : same_count found this.arrivals ≡ false → SweptTo spare before after (place + 1) true
+    swept_more apart = let told = subst (λ (b : Bool). ProbeTells b shape mid.me.0.marks this.slot after.me.0.marks) apart tells.1 in
+        let note : Past = told.0 in let notes = so_far.notes ++ note ∷ [] in let longer = length-append so_far.notes (note ∷ []) in
+        let steps : before.me.0.steps + (length so_far.notes + 0) + 1 ≡ before.me.0.steps + (length notes + 0) = omega (arith, longer) in record {
+          held = so_far.held ++ this ∷ [];
+          notes = notes;
+          split = split_here ∙ sym (append_assoc so_far.held (this ∷ []) (waiting spare.reaped (drop (place + 1) spare.retired)));
+          each = held_more so_far.held so_far.notes this note so_far.each told.2;
+          own = own ∙ so_far.own;
+          view = tells.0 ∙ (λ j. record mid.me.0 { steps = mid.me.0.steps + 1; marks = told.1 j })
+              ∙ ap (λ (v : View). record v { steps = v.steps + 1; marks = with_polls v.marks (v.marks.polls ++ note ∷ []) }) so_far.view
+              ∙ (λ j. record before.me.0 { steps = steps j; marks = with_polls before.me.0.marks (append_assoc before.me.0.marks.polls so_far.notes (note ∷ []) j) });
+          flag = sym (lt-ltb 0 (length notes) (omega (arith, longer)));
+        }
+
+    pub sweeps_free : same_count found this.arrivals ≡ true → this.slot < spare.slots → SweepsFor spare before after (sweep.Free this.slot)
+    sweeps_free agree near = let told = subst (λ (b : Bool). ProbeTells b shape mid.me.0.marks this.slot after.me.0.marks) agree tells.1 in
+        let steps : before.me.0.steps + (length so_far.notes + 0) + 1 ≡ before.me.0.steps + (length so_far.notes + 1) = omega arith in (
+          so_far.held,
+          waiting spare.reaped (drop (place + 1) spare.retired),
+          this,
+          so_far.notes,
+          split_here,
+          so_far.each,
+          refl,
+          near,
+          tells.0 ∙ (λ j. record mid.me.0 { steps = mid.me.0.steps + 1; marks = told j })
+              ∙ ap (λ (v : View). record v { steps = v.steps + 1; marks = with_reaped v.marks this.slot }) so_far.view
+              ∙ (λ j. record before.me.0 { steps = steps j; marks = with_reaped (with_polls before.me.0.marks (before.me.0.marks.polls ++ so_far.notes)) this.slot }),
+        )
+
+-- all that wait were polled
+module _ (spare : Spare) (before after : MapSeat) (place : ℕ) (all : length spare.retired ≤ place) where
+  all_held : (polled : Bool) (so_far : SweptTo spare before after place polled) → waiting spare.reaped spare.retired ≡ so_far.held
+  all_held polled so_far = so_far.split ∙ ap (λ (l : List Retired). so_far.held ++ waiting spare.reaped l) (drop_all spare.retired place all) ∙ append-nil so_far.held
+
+  pub sweeps_held : SweptTo spare before after place true → SweepsFor spare before after sweep.Held
+  sweeps_held so_far = (so_far.notes, ltb-true 0 (length so_far.notes) (sym so_far.flag), subst (λ (l : List Retired). HeldEach l so_far.notes) (sym (all_held true so_far)) so_far.each, so_far.view)
+
+  pub sweeps_nothing : SweptTo spare before after place false → SweepsFor spare before after sweep.Nothing
+  sweeps_nothing so_far = let none = none_polled so_far.held so_far.notes so_far.each so_far.flag in
+      (all_held false so_far ∙ none.0, so_far.view ∙ ap (λ (l : List Past). probed l 0 before.me.0) none.1 ∙ probed_none before.me.0)
+
+-- THE SEAT
+
+-- the seat rests with its slots after steps that leave all but its marks
+module _ (table : Table) (spare : Spare) (before after : MapSeat) (steps : ℕ) (marks : Marks) (rests : RestsAt table spare before) (own : after.table_id ≡ before.table_id) (view : after.me.0 ≡ record before.me.0 { steps = steps; marks = marks }) where
+  pub token_after : token after ≡ record (token before) { steps = steps; marks = marks }
+  token_after = λ j. caller_of (own j) (view j)
+
+  pub rests_after : (spare' : Spare) → spare' ≡ record spare { reaped = marks.reaped } → RestsAt table spare' after
+  rests_after spare' is = subst (λ (s : Spare). RestsAt table s after) (sym is) (record {
+    writes = record {
+      own = ap (λ (c : Caller). c.table) token_after ∙ rests.writes.own;
+      role = ap (λ (v : View). v.role) view ∙ rests.writes.role;
+      room = rests.writes.room;
+      numbers = subst (λ (c : Caller). AreNumbers table.shape (map_seen c) spare.numbers) (sym token_after) rests.writes.numbers;
+    };
+    slots = rests.slots;
+    reaped = sym (ap (λ (v : View). v.marks.reaped) view);
+    own = subst (λ (c : Caller). entries_of c.seen c.number ≡ c.mine) (sym token_after) rests.own;
+  })
+
+-- a retired slot can be polled
+pub probes_at : (table : Table) (spare : Spare) (before now : MapSeat) (place : ℕ) (polled : Bool) → RestsAt table spare before → SweptTo spare before now place polled → place < length spare.retired → ProbesAt table (get_or spare.retired place no_retired) now
+probes_at table spare before now place polled rests so_far low = record {
+  own = (λ j. record { id = so_far.own j; shape = (so_far.view j).shape }) ∙ rests.writes.own;
+  desk = desk_with spare Idle;
+  role = ap (λ (v : View). v.role) so_far.view ∙ rests.writes.role;
+  idle = refl;
+  room = rests.writes.room;
+  poll = place;
+  here = at_get spare.retired place low;
+}
+
+-- and is one of the map's
+pub retired_near : (table : Table) (spare : Spare) (seat : MapSeat) (place : ℕ) → RestsAt table spare seat → place < length spare.retired → (get_or spare.retired place no_retired).slot < spare.slots
+retired_near table spare seat place rests low = let near = rests.writes.room.inside place (get_or spare.retired place no_retired) (at_get spare.retired place low) in omega (arith, near, rests.slots)
+
+-- the slot whose set is reaped can be read
+pub recalls_reaped : (table : Table) (spare : Spare) (before after : MapSeat) (slot : ℕ) → (token before).table ≡ table → RestsAt (token before).table spare before → after.table_id ≡ before.table_id → SweepsFor spare before after (sweep.Free slot) → RecallsAt table slot after
+recalls_reaped table spare before after slot own rests same swept = let view = swept.8 in record {
+  own = (λ j. record { id = same j; shape = (view j).shape }) ∙ own;
+  desk = desk_with spare Idle;
+  role = ap (λ (v : View). v.role) view ∙ rests.writes.role;
+  inside = let near = swept.7 in omega (arith, near, rests.slots, ap (λ (t : Table). t.shape.slots) own);
+  untouched = tt;
+}

@@ -1,0 +1,48 @@
+use Rattle.std.proofs.Common.{ap, arith, subst, sym, ℕ, ◌<◌, ◌∙◌, ◌≡◌}
+use mathlib.Core.Option.{some}
+use lib.ListN.{get_elem?}
+use Rattle.atomic_table.specs.Table.{Allows}
+use Rattle.nr_machine.specs.Slots.{departures}
+use Rattle.nr_words.specs.declared.layout.Layout.{Layout}
+use Rattle.nr_words.specs.Places.{Departures, place_of}
+use Rattle.nr_machine.specs.declared.places.Place.TheVariants.{Idle}
+use Rattle.nr_machine.specs.declared.places.Retired.{Retired}
+use Rattle.nr_machine.specs.declared.roles.Desk.{Desk}
+use Rattle.nr_machine.specs.declared.roles.Role.TheVariants.{Writer}
+use Rattle.nr_machine.specs.declared.shape.Shape.{Shape}
+use Rattle.nr_board.proofs.BoardPlaces.{departures_at, departures_in, stands}
+use Rattle.nr_board.proofs.Sweeps.{probes_so}
+use Rattle.nr_board.specs.Callers.{Table}
+use Rattle.nr_board.specs.Plays.{Room}
+use Rattle.nr_board.specs.Reaping.{ProbesAt, ProbesTo}
+use Rattle.nr_board.specs.Rule.{Kept}
+use Rattle.nr_board.specs.WriterSeats.{MapSeat}
+use Rattle.nr_board.proofs.board.Board.probe.Goals as goal
+
+near : (table : Table) (entry : Retired) (seat : MapSeat) → ProbesAt table entry seat → entry.slot < table.shape.slots
+near table entry seat probes = probes.room.inside probes.poll entry probes.here
+
+pub departures-place-requires-clause-has : goal.departures-place-requires-clause-has
+departures-place-requires-clause-has c = let low = near c.args.self.now c.args.entry c.args.seat.now c.requires in omega (arith, low, ap (λ (l : Layout). l.slots) c.layout.ensures.value)
+
+pub load-requires : goal.load-requires
+load-requires c = let shared = c.self.inside.table.shared in let board = stands c.self.view_is c.self.invariant in let seat = c.args.seat.now in let probes = c.requires in let entry = c.args.entry in
+    let low = near c.args.self.now entry seat probes in
+    let is : c.departures-place.result ≡ departures c.args.self.now.shape entry.slot = c.departures-place.ensures.place ∙ ap (λ (l : Layout). place_of l (Departures entry.slot)) c.layout.ensures.value in
+    let n : ℕ = shared.table_id.slots in let place = departures_at board entry.slot low is in (
+      ap (λ (t : Table). t.id) (probes.own ∙ sym c.self.view_is),
+      departures_in board entry.slot low is,
+      subst (λ (p : ℕ). Allows (Kept shared.key) n seat.id seat.me p (λ w. w)
+          (λ found after. (other : Desk) (at : ℕ) (named : Retired) → seat.me.0.role ≡ Writer other → other.place ≡ Idle → Room seat.me.0.shape other → get_elem? other.retired at ≡ some named → p ≡ departures seat.me.0.shape named.slot → ProbesTo seat.me.0.shape named found seat.me.0 after.0)) (sym place)
+          (probes_so shared.key n seat.id seat.me probes.desk probes.poll entry probes.role probes.idle probes.here),
+    )
+
+pub returns-clause-own : goal.returns-clause-own
+returns-clause-own c = c.load.ensures.0
+
+pub returns-clause-tells : goal.returns-clause-tells
+returns-clause-tells c = let seat = c.args.seat.now in let probes = c.requires in let entry = c.args.entry in
+    let size = ap (λ (t : Table). t.shape) probes.own in
+    let is : c.departures-place.result ≡ departures c.args.self.now.shape entry.slot = c.departures-place.ensures.place ∙ ap (λ (l : Layout). place_of l (Departures entry.slot)) c.layout.ensures.value in
+    subst (λ (s : Shape). ProbesTo s entry c.load.result seat.me.0 c.load.new.seat.me.0) size
+    (c.load.ensures.2 probes.desk probes.poll entry probes.role probes.idle (subst (λ (s : Shape). Room s probes.desk) (sym size) probes.room) probes.here (is ∙ ap (λ (s : Shape). departures s entry.slot) (sym size)))

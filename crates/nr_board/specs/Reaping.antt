@@ -1,0 +1,97 @@
+-- A reap: the writer polls the retired slots whose sets wait, oldest first, and gives out the set of the first that no reader holds. The slot stays retired, and its set is reaped.
+use Rattle.std.specs.Prelude.{◌≡◌, ℕ, ◌+◌, ◌*◌, ◌<◌, if◌then◌else◌, Bool, false, List, [], ◌∷◌, ◌++◌, drop, length, map, nat_lt, slice_index_or, Some}
+use mathlib.Core.Option.{some}
+use lib.ListN.{get_elem?}
+use Rattle.nr_model.specs.Rows.{IsRowSet}
+use Rattle.nr_model.specs.declared.rows.Row.{Row}
+use Rattle.nr_words.specs.KeyWords.{same_count}
+use Rattle.nr_machine.specs.Slots.{departures}
+use Rattle.nr_machine.specs.Spares.{Spare}
+use Rattle.nr_machine.specs.declared.places.Place.TheVariants.{Idle}
+use Rattle.nr_machine.specs.declared.places.Retired.{Retired}
+use Rattle.nr_machine.specs.declared.roles.Desk.{Desk}
+use Rattle.nr_machine.specs.declared.roles.Role.TheVariants.{Writer}
+use Rattle.nr_machine.specs.declared.shape.Shape.{Shape}
+use Rattle.nr_marks.specs.Marks.{Marks, Past, set_in, with_polls, with_reaped}
+use Rattle.nr_marks.specs.MarkSteps.{ProbeTells}
+use Rattle.nr_board.specs.declared.answers.Reaped.{Reaped}
+use Rattle.nr_board.specs.declared.answers.Reaped.TheVariants as reaped
+use Rattle.nr_board.specs.declared.reaping.Sweep.{Sweep}
+use Rattle.nr_board.specs.declared.reaping.Sweep.TheVariants as sweep
+use Rattle.nr_board.specs.Callers.{Caller, Table, token}
+use Rattle.nr_board.specs.Plays.{Room, Then}
+use Rattle.nr_board.specs.Views.{View}
+use Rattle.nr_board.specs.WriterSeats.{MapSeat}
+
+-- THE POLL
+
+-- the token counts the step, and its marks tell what the poll of that retired slot found
+abbrev pub ProbesTo : Shape → Retired → ℕ → View → View → Type 0
+ProbesTo shape entry found old new = (new ≡ record old { steps = old.steps + 1; marks = new.marks }) × ProbeTells (same_count found entry.arrivals) shape old.marks entry.slot new.marks
+
+-- a load of a retired slot's departures by a writer between two calls
+abbrev pub has_probed : Then
+has_probed step before found after =
+    (desk : Desk) (poll : ℕ) (entry : Retired) → before.0.role ≡ Writer desk → desk.place ≡ Idle → Room before.0.shape desk → get_elem? desk.retired poll ≡ some entry → step.word ≡ departures before.0.shape entry.slot
+    → ProbesTo before.0.shape entry found before.0 after.0
+
+-- the writer's seat between two calls, which has that slot retired
+pub record ProbesAt (table : Table) (entry : Retired) (seat : MapSeat) : Type 0 where
+  pub own : (token seat).table ≡ table
+  pub desk : Desk
+  pub role : seat.me.0.role ≡ Writer desk
+  pub idle : desk.place ≡ Idle
+  pub room : Room table.shape desk
+  pub poll : ℕ
+  pub here : get_elem? desk.retired poll ≡ some entry
+
+-- THE SWEEP
+
+-- the retired slots whose sets wait: those that were not reaped
+abbrev pub waiting : List Bool → List Retired → List Retired
+waiting flags [] = []
+waiting flags (entry ∷ retired) = (if slice_index_or flags entry.slot false then waiting flags retired else entry ∷ waiting flags retired)
+
+-- each of these slots was polled, in their order, and held by a reader
+abbrev pub HeldEach : List Retired → List Past → Type 0
+HeldEach slots notes = map (λ (note : Past). note.slot) notes ≡ map (λ (entry : Retired). Some entry.slot) slots
+
+-- after those polls, and that many steps more
+abbrev pub probed : List Past → ℕ → View → View
+probed notes more view = record view { steps = view.steps + (length notes + more); marks = with_polls view.marks (view.marks.polls ++ notes) }
+
+abbrev pub reaping : ℕ → View → View
+reaping slot view = record view { marks = with_reaped view.marks slot }
+
+abbrev pub SweepsFor : Spare → MapSeat → MapSeat → Sweep → Type 0
+SweepsFor spare old new (sweep.Free slot) = (held later : List Retired) × (entry : Retired) × (notes : List Past) × (waiting spare.reaped spare.retired ≡ held ++ entry ∷ later) × HeldEach held notes
+    × (slot ≡ entry.slot) × (slot < spare.slots) × (new.me.0 ≡ reaping slot (probed notes 1 old.me.0))
+SweepsFor spare old new sweep.Held = (notes : List Past) × (0 < length notes) × HeldEach (waiting spare.reaped spare.retired) notes × (new.me.0 ≡ probed notes 0 old.me.0)
+SweepsFor spare old new sweep.Nothing = (waiting spare.reaped spare.retired ≡ []) × (new.me.0 ≡ old.me.0)
+
+-- the sweep so far
+pub record SweptTo (spare : Spare) (before now : MapSeat) (place : ℕ) (polled : Bool) : Type 0 where
+  pub held : List Retired
+  pub notes : List Past
+  pub split : waiting spare.reaped spare.retired ≡ held ++ waiting spare.reaped (drop place spare.retired)
+  pub each : HeldEach held notes
+  pub own : now.table_id ≡ before.table_id
+  pub view : now.me.0 ≡ probed notes 0 before.me.0
+  pub flag : polled ≡ nat_lt 0 (length notes)
+
+-- THE CALL
+
+-- the caller after those polls, and that many steps more
+abbrev pub after_polls : List Past → ℕ → Caller → Caller
+after_polls notes more caller = record caller { steps = caller.steps + (length notes + more); marks = with_polls caller.marks (caller.marks.polls ++ notes) }
+
+abbrev pub with_reap : ℕ → Caller → Caller
+with_reap slot caller = record caller { marks = with_reaped caller.marks slot }
+
+-- A reap gives out the oldest set that waits and that nobody holds, by a poll of each up to it and a load of each word; or each that waits was held at its poll, or none waits. Else the token is as it was.
+abbrev pub ReapsIn : {Room : Type 0} → (Room → List Row → Type 0) → Caller → Room → Caller → Room → Reaped → Type 0
+ReapsIn shows old before new after reaped.Set = (held later : List Retired) × (entry : Retired) × (notes : List Past) × (waiting old.marks.reaped old.retired ≡ held ++ entry ∷ later) × HeldEach held notes
+    × shows after (set_in old.marks entry.slot) × IsRowSet old.table.shape.rows (set_in old.marks entry.slot)
+    × (new ≡ with_reap entry.slot (after_polls notes (1 + (2 * length (set_in old.marks entry.slot) + 1)) old))
+ReapsIn shows old before new after reaped.Held = (notes : List Past) × (0 < length notes) × HeldEach (waiting old.marks.reaped old.retired) notes × (new ≡ after_polls notes 0 old) × (after ≡ before)
+ReapsIn shows old before new after reaped.Nothing = (waiting old.marks.reaped old.retired ≡ []) × (new ≡ old) × (after ≡ before)

@@ -1,0 +1,62 @@
+//! How the writer gives out a retired set before its slot is taken again.
+ghost use Rattle.std.specs.Prelude.{◌≡◌};
+ghost use Rattle.nr_board.specs.Callers.{token};
+ghost use Rattle.nr_board.specs.Reaping.{ReapsIn, SweepsFor};
+ghost use Rattle.nr_board.specs.WriterSeats.{RestsAt};
+
+use crate::answers::Reaped;
+use crate::board::{Board, Seat};
+use nr_core::Spare;
+use nr_model::RowRoom;
+use nr_words::same_count;
+
+/// What a sweep over the retired slots finds.
+#[derive(Clone, Copy)]
+pub enum Sweep {
+    /// This slot's set waited, and nobody holds it.
+    Free(u32),
+    /// Each set that waits is held.
+    Held,
+    Nothing,
+}
+
+impl Board {
+    /// Writes the oldest retired set that waits and that nobody holds over the rows of the caller's.
+    /// The slot stays retired; whatever takes it gives out no set of it.
+    pub fn reap<R: RowRoom>(&self, seat: &mut Seat, spare: &mut Spare, had: &mut R) -> Reaped
+        requires own { (token seat.old).table ≡ self.now }
+        requires rests { RestsAt (token seat.old).table spare.old seat.old }
+        ensures rests { RestsAt (token seat.new).table spare.new seat.new }
+        ensures reaps { ReapsIn R.shows (token seat.old) had.old (token seat.new) had.new result }
+    {
+        match self.sweep(seat, spare) {
+            Sweep::Free(slot) => {
+                spare.set_reaped(slot, true);
+                self.recall_set::<R>(seat, slot, had);
+                Reaped::Set
+            }
+            Sweep::Held => Reaped::Held,
+            Sweep::Nothing => Reaped::Nothing,
+        }
+    }
+
+    // Polls the retired slots whose sets wait, oldest first, up to the first that nobody holds.
+    fn sweep(&self, seat: &mut Seat, spare: &Spare) -> Sweep
+        requires rests { RestsAt self.now spare.now seat.old }
+        ensures own { seat.new.table_id ≡ seat.old.table_id }
+        ensures sweeps { SweepsFor spare.now seat.old seat.new result }
+    {
+        let mut polled = false;
+        for place in 0..spare.retired_len() {
+            let entry = spare.retired_at(place);
+            if !spare.is_reaped(entry.slot) {
+                let departures = self.probe(seat, entry);
+                if same_count(departures, entry.arrivals) {
+                    return Sweep::Free(entry.slot);
+                }
+                polled = true;
+            }
+        }
+        if polled { Sweep::Held } else { Sweep::Nothing }
+    }
+}
