@@ -1,11 +1,11 @@
--- The sets that stand in slots and those that were let go, call by call: a call that puts a set lets go of the one that its slot had.
-use Rattle.std.proofs.Common.{Bool, List, [], ap, arith, cond, eq-eqb, false, get_or, get_or-set_other, get_or-set_same, inl, inr, length, length-set, nat_eq, nat_lt, refl, set, subst, suc, sym, take, true, zero, ℕ, ⊎_elim, ◌++◌, ◌+◌, ◌<◌, ◌∙◌, ◌∷◌, ◌≡◌, ◌≤◌, ◌≢◌, ◌⊎◌}
-use Rattle.std.specs.Prelude.{Some}
+-- The sets that stand in slots and those that were let go, call by call: a call that puts a set lets go of the one that its slot had, and a reap of the one that it gives out.
+use Rattle.std.proofs.Common.{Bool, List, [], ap, arith, cond, drop, eq-eqb, false, get_or, get_or-set_other, get_or-set_same, inl, inr, length, length-append, length-set, nat_eq, nat_lt, refl, set, subst, suc, sym, take, true, zero, ℕ, ⊎_elim, ◌++◌, ◌+◌, ◌<◌, ◌∙◌, ◌∷◌, ◌≡◌, ◌≤◌, ◌≢◌, ◌⊎◌}
+use Rattle.std.specs.Prelude.{Some, replicate}
 use Rattle.std.proofs.lemmas.Bool.{eqb-false, le-ltb, lt-ltb, ne_eqb}
-use Rattle.std.proofs.lemmas.List.{take_all}
+use Rattle.std.proofs.lemmas.List.{length-replicate, take_all}
 use lib.ListN.{get_elem?}
 use mathlib.Core.Logic.{dite}
-use mathlib.Core.Option.{none, some}
+use mathlib.Core.Option.{none, some, some-injective, some-ne-none}
 use native.Mathlib.Decide.{dec_le, ℕ_discrete}
 use Rattle.nr_core.proofs.Choices.{by_cases}
 use Rattle.nr_core.proofs.Sums.{at_remove, at_snoc, total-append}
@@ -24,15 +24,20 @@ use Rattle.nr_model.specs.declared.rows.Row.{Row}
 use Rattle.nr_model.specs.declared.states.KeyState.{KeyState}
 use Rattle.nr_model.specs.declared.states.KeyState.TheVariants.{Asked, Hole, Rows}
 use Rattle.nr_machine.specs.Story.{entry}
-use Rattle.nr_marks.specs.Marks.{Marks, Past}
+use Rattle.nr_marks.specs.Marks.{Marks, Past, opening_marks, with_polls}
 use Rattle.nr_marks.specs.Pasts.{Current, Living}
 use Rattle.nr_marks.specs.Puts.{put_count, puts_set}
-use Rattle.nr_board.specs.Callers.{Caller, Table, map_at_opening}
+use Rattle.nr_board.specs.declared.answers.Cancel.TheVariants as cancel
+use Rattle.nr_board.specs.declared.answers.Evict.TheVariants as evict
+use Rattle.nr_board.specs.Callers.{Caller, Gains, Grows, Table, map_at_opening}
 use Rattle.nr_board.specs.Entries.{AreCallers, is_reading}
+use Rattle.nr_machine.specs.Spares.{Spare}
 use Rattle.nr_board.specs.Spares.{spare_of}
-use Rattle.nr_board.specs.WriterAnswers.{Publishes, Retires, RetiresOne}
+use Rattle.nr_board.specs.Reaping.{after_polls, waiting, with_reap}
+use Rattle.nr_board.specs.WriterAnswers.{CancelsKey, EvictsKey, HasNoSlot, Publishes, Retires, RetiresOne, SlotsStay}
 use Rattle.nr_map.specs.Remains.{RestComesOutOnce}
-use Rattle.nr_map.specs.Reclaims.{HandedOutOnce, Ledger, LedgerStays, NobodyHoldsIt, had_number, standing}
+use Rattle.nr_map.specs.Opened.{IsOpened, newcomer}
+use Rattle.nr_map.specs.Reclaims.{CancelLeaves, EvictionLeaves, HandedOutOnce, Ledger, LedgerStays, NobodyHoldsIt, NoSlotLeaves, OpeningBegins, QuietLeaves, ReapedOnce, had_number, standing, unreaped}
 
 -- THE WRITER'S PUTS ARE ITS OWN ENTRIES'
 
@@ -70,6 +75,12 @@ own_puts shape map (e ∷ log) legal callers =
 abbrev one_if : ℕ → ℕ → ℕ
 one_if number other = cond (nat_eq other number) 1 0
 
+one_if_same : (number other : ℕ) → other ≡ number → one_if number other ≡ 1
+one_if_same number other same = ap (λ (b : Bool). cond {A = ℕ} b 1 0) (eq-eqb other number same)
+
+one_if_other : (number other : ℕ) → other ≢ number → one_if number other ≡ 0
+one_if_other number other apart = ap (λ (b : Bool). cond {A = ℕ} b 1 0) (ne_eqb other number apart)
+
 count_cons : (number x : ℕ) (l : List ℕ) → count_of_put (x ∷ l) number ≡ one_if number x + count_of_put l number
 count_cons number x l = count_by-cons (λ other. nat_eq other number) x l
 
@@ -77,27 +88,68 @@ count_both : (number : ℕ) (l m : List ℕ) → count_of_put (l ++ m) number �
 count_both number [] m = omega arith
 count_both number (x ∷ l) m = omega (arith, count_cons number x (l ++ m), count_cons number x l, count_both number l m)
 
-count_set : (number : ℕ) (l : List ℕ) (i x : ℕ) → i < length l → count_of_put (set l i x) number + one_if number (get_or l i 0) ≡ count_of_put l number + one_if number x
-count_set number [] i x low = absurd (omega arith)
-count_set number (y ∷ l) zero x low = omega (arith, count_cons number y l, count_cons number x l)
-count_set number (y ∷ l) (suc i) x low = omega (arith, count_cons number y l, count_cons number y (set l i x), count_set number l i x (omega arith))
-
 take_put : (l : List ℕ) (n x : ℕ) → n < length l → take (suc n) (set l n x) ≡ take n l ++ x ∷ []
 take_put [] n x low = absurd (omega arith)
 take_put (y ∷ l) zero x low = refl
 take_put (y ∷ l) (suc n) x low = ap (λ (t : List ℕ). y ∷ t) (take_put l n x (omega arith))
 
-count_at : (number : ℕ) (l : List ℕ) (n i : ℕ) → i < n → i < length l → get_or l i 0 ≡ number → 0 < count_of_put (take n l) number
-count_at number [] n i low short is = absurd (omega arith)
-count_at number (y ∷ l) zero i low short is = absurd (omega arith)
-count_at number (y ∷ l) (suc n) zero low short is = let one : one_if number y ≡ 1 = ap (λ (b : Bool). cond {A = ℕ} b 1 0) (eq-eqb y number is) in omega (arith, count_cons number y (take n l))
-count_at number (y ∷ l) (suc n) (suc i) low short is = omega (arith, count_cons number y (take n l), count_at number l n i (omega arith) (omega arith) is)
+take_zero : (l : List ℕ) → take 0 l ≡ []
+take_zero [] = refl
+take_zero (y ∷ l) = refl
 
-one_if_same : (number other : ℕ) → other ≡ number → one_if number other ≡ 1
-one_if_same number other same = ap (λ (b : Bool). cond {A = ℕ} b 1 0) (eq-eqb other number same)
+length_take : (l : List ℕ) (n : ℕ) → n ≤ length l → length (take n l) ≡ n
+length_take l zero low = ap length (take_zero l)
+length_take [] (suc n) low = absurd (omega arith)
+length_take (y ∷ l) (suc n) low = let rest = length_take l n (omega arith) in omega arith
 
-one_if_other : (number other : ℕ) → other ≢ number → one_if number other ≡ 0
-one_if_other number other apart = ap (λ (b : Bool). cond {A = ℕ} b 1 0) (ne_eqb other number apart)
+get_take : (l : List ℕ) (n i : ℕ) → i < n → get_or (take n l) i 0 ≡ get_or l i 0
+get_take l zero i low = absurd (omega arith)
+get_take [] (suc n) i low = refl
+get_take (y ∷ l) (suc n) zero low = refl
+get_take (y ∷ l) (suc n) (suc i) low = get_take l n i (omega arith)
+
+-- COUNTS OF WHAT WAS NOT REAPED
+
+-- a slot that was not reaped counts
+count_at : (number : ℕ) (l : List ℕ) (flags : List Bool) (i : ℕ) → i < length l → get_or l i 0 ≡ number → get_or flags i false ≡ false → 0 < count_of_put (unreaped l flags) number
+count_at number [] flags i short is kept = absurd (omega arith)
+count_at number (y ∷ l) [] zero short is kept = omega (arith, one_if_same number y is, count_cons number y (unreaped l []))
+count_at number (y ∷ l) [] (suc i) short is kept = omega (arith, count_cons number y (unreaped l []), count_at number l [] i (omega arith) is refl)
+count_at number (y ∷ l) (true ∷ flags) zero short is kept = absurd (cc)
+count_at number (y ∷ l) (false ∷ flags) zero short is kept = omega (arith, one_if_same number y is, count_cons number y (unreaped l flags))
+count_at number (y ∷ l) (true ∷ flags) (suc i) short is kept = count_at number l flags i (omega arith) is kept
+count_at number (y ∷ l) (false ∷ flags) (suc i) short is kept = omega (arith, count_cons number y (unreaped l flags), count_at number l flags i (omega arith) is kept)
+
+-- a set put into a slot takes the place of the one that stood there, if it was not reaped
+count_put : (number : ℕ) (l : List ℕ) (flags : List Bool) (i x : ℕ) → i < length l → count_of_put (unreaped (set l i x) (set flags i false)) number + cond (get_or flags i false) 0 (one_if number (get_or l i 0)) ≡ count_of_put (unreaped l flags) number + one_if number x
+count_put number [] flags i x low = absurd (omega arith)
+count_put number (y ∷ l) [] zero x low = omega (arith, count_cons number y (unreaped l []), count_cons number x (unreaped l []))
+count_put number (y ∷ l) [] (suc i) x low = omega (arith, count_cons number y (unreaped l []), count_cons number y (unreaped (set l i x) []), count_put number l [] i x (omega arith))
+count_put number (y ∷ l) (true ∷ flags) zero x low = omega (arith, count_cons number x (unreaped l flags))
+count_put number (y ∷ l) (false ∷ flags) zero x low = omega (arith, count_cons number y (unreaped l flags), count_cons number x (unreaped l flags))
+count_put number (y ∷ l) (true ∷ flags) (suc i) x low = count_put number l flags i x (omega arith)
+count_put number (y ∷ l) (false ∷ flags) (suc i) x low = omega (arith, count_cons number y (unreaped l flags), count_cons number y (unreaped (set l i x) (set flags i false)), count_put number l flags i x (omega arith))
+
+-- a slot more
+unreaped_more : (l : List ℕ) (flags : List Bool) (x : ℕ) → unreaped (l ++ x ∷ []) (set flags (length l) false) ≡ unreaped l flags ++ x ∷ []
+unreaped_more [] [] x = refl
+unreaped_more [] (b ∷ flags) x = refl
+unreaped_more (y ∷ l) [] x = ap (λ (t : List ℕ). y ∷ t) (unreaped_more l [] x)
+unreaped_more (y ∷ l) (true ∷ flags) x = unreaped_more l flags x
+unreaped_more (y ∷ l) (false ∷ flags) x = ap (λ (t : List ℕ). y ∷ t) (unreaped_more l flags x)
+
+-- a reap takes one away
+count_reaped : (number : ℕ) (l : List ℕ) (flags : List Bool) (i : ℕ) → i < length l → i < length flags → get_or flags i false ≡ false → count_of_put (unreaped l (set flags i true)) number + one_if number (get_or l i 0) ≡ count_of_put (unreaped l flags) number
+count_reaped number [] flags i low short kept = absurd (omega arith)
+count_reaped number (y ∷ l) [] i low short kept = absurd (omega arith)
+count_reaped number (y ∷ l) (true ∷ flags) zero low short kept = absurd (cc)
+count_reaped number (y ∷ l) (false ∷ flags) zero low short kept = omega (arith, count_cons number y (unreaped l flags))
+count_reaped number (y ∷ l) (true ∷ flags) (suc i) low short kept = count_reaped number l flags i (omega arith) (omega arith) kept
+count_reaped number (y ∷ l) (false ∷ flags) (suc i) low short kept = omega (arith, count_cons number y (unreaped l flags), count_cons number y (unreaped l (set flags i true)), count_reaped number l flags i (omega arith) (omega arith) kept)
+
+count_had : (number x : ℕ) (reaped : Bool) → count_of_put (cond {A = List ℕ} reaped [] (x ∷ [])) number ≡ cond {A = ℕ} reaped 0 (one_if number x)
+count_had number x true = refl
+count_had number x false = omega (arith, count_cons number x [])
 
 some_inside : (l : List ℕ) (i x : ℕ) → get_or l i 0 ≡ suc x → i < length l
 some_inside [] i x is = absurd (omega arith)
@@ -129,11 +181,11 @@ was_retired (model.Cancel key) old mid after retires = same_retired old mid afte
 -- THE LAWS
 
 pub ledger_stays_lem : LedgerStays
-ledger_stays_lem old new gone table fresh puts living many ledger =
-    let same : standing new ≡ standing old = λ j. take (fresh j) (puts j) in
+ledger_stays_lem old new gone table fresh puts reaped living many ledger =
+    let same : standing new ≡ standing old = λ j. unreaped (take (fresh j) (puts j)) (reaped j) in
     let counts : (number : ℕ) → count_of_put (standing new) number ≡ count_of_put (standing old) number = λ number. ap (λ (l : List ℕ). count_of_put l number) same in
     let size = ap (λ (t : Table). t.shape.slots) table in record {
-      slots = (ap length puts ∙ ledger.slots.0 ∙ sym size, omega (arith, ledger.slots.1));
+      slots = (ap length puts ∙ ledger.slots.0 ∙ sym size, omega (arith, ledger.slots.1), ap length reaped ∙ ledger.slots.2 ∙ sym size);
       taken = λ slot lives. let low = ledger.taken slot (living slot lives) in omega arith;
       put = λ number low. let one = ledger.put number (omega arith) in omega (arith, counts number);
       later = λ number high. let none = ledger.later number (omega arith) in omega (arith, counts number);
@@ -142,12 +194,12 @@ ledger_stays_lem old new gone table fresh puts living many ledger =
 pub rest_comes_out_once_lem : RestComesOutOnce
 rest_comes_out_once_lem writer gone left number ledger apart low =
     let count_is : left.count ≡ writer.fresh = ⊎_elim (λ some_left. some_left.1) (λ none_left. omega (arith, none_left.0, none_left.1, ledger.slots.1)) apart.count in
-    ap (λ (n : ℕ). count_of_put (take n writer.marks.puts) number + count_of_put gone number) count_is ∙ ledger.put number low
+    ap (λ (n : ℕ). count_of_put (unreaped (take n writer.marks.puts) writer.marks.reaped) number + count_of_put gone number) count_is ∙ ledger.put number low
 
 pub nobody_holds_it_lem : NobodyHoldsIt
 nobody_holds_it_lem writer gone reader slot number ledger current holds let_go same =
     let placed = current.placed slot holds in let low = ledger.taken slot placed.1 in
-    let stands = count_at number writer.marks.puts writer.fresh slot low (omega (arith, ledger.slots.0, ledger.slots.1)) (placed.0 ∙ same) in
+    let stands = count_at number (take writer.fresh writer.marks.puts) writer.marks.reaped slot (omega (arith, length_take writer.marks.puts writer.fresh (omega (arith, ledger.slots.0, ledger.slots.1)))) (get_take writer.marks.puts writer.fresh slot low ∙ placed.0 ∙ same) (current.kept slot holds) in
     dite (dec_le (put_count writer.mine) number) (λ high. absurd (let none = ledger.later number high in omega arith)) (λ low'. absurd (let one = ledger.put number (omega arith) in omega arith))
 
 module _ (steps : ℕ) (call : Call) (rows : List Row) (old new : Caller) (gone : List ℕ) (writes : old.number ≡ 0) (published : Publishes steps old call rows new) (ledger : Ledger old gone) where
@@ -163,6 +215,9 @@ module _ (steps : ℕ) (call : Call) (rows : List Row) (old new : Caller) (gone 
   puts_are : new.marks.puts ≡ set old.marks.puts published.slot published.number
   puts_are = ap (λ (m : Marks). m.puts) published.marks
 
+  flags_are : new.marks.reaped ≡ set old.marks.reaped published.slot false
+  flags_are = ap (λ (m : Marks). m.reaped) published.marks
+
   names_are : new.marks.names ≡ set old.marks.names (call_key call) (suc published.slot)
   names_are = ap (λ (m : Marks). m.names) published.marks
 
@@ -177,8 +232,11 @@ module _ (steps : ℕ) (call : Call) (rows : List Row) (old new : Caller) (gone 
   moved : Moved
   moved = ⊎_elim
       (λ fresh. let grown : new.fresh ≡ suc old.fresh = omega (arith, published.fresh, fresh.3) in
-      let stands : standing new ≡ standing old ++ published.number ∷ [] = (λ j. take (grown j) (puts_are j)) ∙ ap (λ (i : ℕ). take (suc old.fresh) (set old.marks.puts i published.number)) fresh.1 ∙ take_put old.marks.puts old.fresh published.number (omega (arith, ledger.slots.0, fresh.0)) in
-      let had : had_number old published.slot ≡ [] = ap (λ (b : Bool). cond {A = List ℕ} b (get_or old.marks.puts published.slot 0 ∷ []) []) (le-ltb published.slot old.fresh (omega (arith, fresh.1))) in record {
+      let flags = old.marks.reaped in let n : ℕ = published.number in let size : length (take old.fresh old.marks.puts) ≡ old.fresh = length_take old.marks.puts old.fresh (omega (arith, ledger.slots.0, fresh.0)) in
+      let stands : standing new ≡ standing old ++ n ∷ [] = (λ j. unreaped (take (grown j) (puts_are j)) (flags_are j)) ∙ ap (λ (i : ℕ). unreaped (take (suc old.fresh) (set old.marks.puts i n)) (set flags i false)) fresh.1
+      ∙ ap (λ (l : List ℕ). unreaped l (set flags old.fresh false)) (take_put old.marks.puts old.fresh n (omega (arith, ledger.slots.0, fresh.0)))
+      ∙ ap (λ (i : ℕ). unreaped (take old.fresh old.marks.puts ++ n ∷ []) (set flags i false)) (sym size) ∙ unreaped_more (take old.fresh old.marks.puts) flags n in
+      let had : had_number old published.slot ≡ [] = ap (λ (b : Bool). cond {A = List ℕ} b (cond {A = List ℕ} (get_or flags published.slot false) [] (get_or old.marks.puts published.slot 0 ∷ [])) []) (le-ltb published.slot old.fresh (omega (arith, fresh.1))) in record {
         more = omega arith;
         room = omega (arith, fresh.0);
         low = omega (arith, fresh.1);
@@ -187,14 +245,15 @@ module _ (steps : ℕ) (call : Call) (rows : List Row) (old new : Caller) (gone 
       })
       (λ taken. let grown : new.fresh ≡ old.fresh = published.fresh ∙ taken.6 in let puts = old.marks.puts in let x : ℕ = get_or puts published.slot 0 in
       let near = published.inside in let size = ledger.slots.0 in let wide = taken.0 in
-      let before : standing old ≡ puts = take_all old.fresh puts (omega arith) in
-      let stands : standing new ≡ set puts published.slot published.number = (λ j. take (grown j) (puts_are j)) ∙ take_all old.fresh (set puts published.slot published.number) (omega (arith, length-set puts published.slot published.number)) in
-      let had : had_number old published.slot ≡ x ∷ [] = ap (λ (b : Bool). cond {A = List ℕ} b (x ∷ []) []) (lt-ltb published.slot old.fresh (omega arith)) in record {
+      let flags = old.marks.reaped in let before : standing old ≡ unreaped puts flags = ap (λ (l : List ℕ). unreaped l flags) (take_all old.fresh puts (omega arith)) in
+      let stands : standing new ≡ unreaped (set puts published.slot published.number) (set flags published.slot false) = (λ j. unreaped (take (grown j) (puts_are j)) (flags_are j))
+      ∙ ap (λ (l : List ℕ). unreaped l (set flags published.slot false)) (take_all old.fresh (set puts published.slot published.number) (omega (arith, length-set puts published.slot published.number))) in
+      let one : List ℕ = cond {A = List ℕ} (get_or flags published.slot false) [] (x ∷ []) in let had : had_number old published.slot ≡ one = ap (λ (b : Bool). cond {A = List ℕ} b one []) (lt-ltb published.slot old.fresh (omega arith)) in record {
         more = omega arith;
         room = omega (arith, ledger.slots.1);
         low = omega arith;
         was = λ at e there. at_remove old.retired taken.1 at e (ap (λ (l : List Retired). get_elem? l at) (sym taken.7) ∙ there);
-        counts = λ number. omega (arith, ap (λ (l : List ℕ). count_of_put l number) stands, ap (λ (l : List ℕ). count_of_put l number) before, count_set number puts published.slot published.number (omega arith), count_both number gone (had_number old published.slot), ap (λ (l : List ℕ). count_of_put l number) had, count_cons number x []);
+        counts = λ number. omega (arith, ap (λ (l : List ℕ). count_of_put l number) stands, ap (λ (l : List ℕ). count_of_put l number) before, count_put number puts flags published.slot published.number (omega arith), count_both number gone (had_number old published.slot), ap (λ (l : List ℕ). count_of_put l number) had, count_had number x (get_or flags published.slot false));
       })
       published.took
 
@@ -213,7 +272,7 @@ module _ (steps : ℕ) (call : Call) (rows : List Row) (old new : Caller) (gone 
 
   ledger_goes_on : Ledger new (gone ++ had_number old published.slot)
   ledger_goes_on = let size = ap (λ (t : Table). t.shape.slots) published.gains.table in record {
-    slots = (ap length puts_are ∙ length-set old.marks.puts published.slot published.number ∙ ledger.slots.0 ∙ sym size, omega (arith, moved.room));
+    slots = (ap length puts_are ∙ length-set old.marks.puts published.slot published.number ∙ ledger.slots.0 ∙ sym size, omega (arith, moved.room), ap length flags_are ∙ length-set old.marks.reaped published.slot false ∙ ledger.slots.2 ∙ sym size);
     taken = still_taken;
     put = λ number low. dite (ℕ_discrete published.number number)
         (λ same. let one = one_if_same number published.number same in let none = ledger.later number (omega (arith, number_is)) in omega (arith, moved.counts number))
@@ -223,3 +282,93 @@ module _ (steps : ℕ) (call : Call) (rows : List Row) (old new : Caller) (gone 
 
 pub handed_out_once_lem : HandedOutOnce
 handed_out_once_lem = ledger_goes_on
+
+-- A REAP
+
+-- a slot whose set waits is retired, and was not reaped
+waits_there : (flags : List Bool) (retired held later : List Retired) (entry : Retired) → waiting flags retired ≡ held ++ entry ∷ later → (at : ℕ) × (get_elem? retired at ≡ some entry) × (get_or flags entry.slot false ≡ false)
+waits_there flags [] held later entry is = absurd (let size = ap length is in let longer = length-append held (entry ∷ later) in omega arith)
+waits_there flags (e ∷ retired) held later entry is =
+    let Goal : Type 0 = (at : ℕ) × (get_elem? (e ∷ retired) at ≡ some entry) × (get_or flags entry.slot false ≡ false) in
+    let deeper : (held' : List Retired) → waiting flags retired ≡ held' ++ entry ∷ later → Goal = λ held' rest. let t = waits_there flags retired held' later entry rest in (suc t.0, t.1, t.2) in
+    by_cases (λ (b : Bool). get_or flags e.slot false ≡ b → cond {A = List Retired} b (waiting flags retired) (e ∷ waiting flags retired) ≡ held ++ entry ∷ later → Goal) (get_or flags e.slot false)
+    (λ _ _ rest. deeper held rest)
+    (λ _ kept rest. here held rest kept deeper) refl is
+  where
+    here : (held : List Retired) → e ∷ waiting flags retired ≡ held ++ entry ∷ later → get_or flags e.slot false ≡ false → ((held' : List Retired) → waiting flags retired ≡ held' ++ entry ∷ later → (at : ℕ) × (get_elem? (e ∷ retired) at ≡ some entry) × (get_or flags entry.slot false ≡ false))
+        → (at : ℕ) × (get_elem? (e ∷ retired) at ≡ some entry) × (get_or flags entry.slot false ≡ false)
+    here [] rest kept deeper = let same : e ≡ entry = some-injective e entry (ap (λ (l : List Retired). get_elem? l 0) rest) in (0, ap some same, ap (λ (x : Retired). get_or flags x.slot false) (sym same) ∙ kept)
+    here (h ∷ held) rest kept deeper = deeper held (ap (drop 1) rest)
+
+pub reaped_once_lem : ReapedOnce
+reaped_once_lem held later entry notes steps old new gone waits is ledger =
+    let there = waits_there old.marks.reaped old.retired held later entry waits in let slot : ℕ = entry.slot in let puts = old.marks.puts in let n : ℕ = get_or puts slot 0 in
+    let low = ledger.taken slot (inr (there.0, entry, there.1, refl)) in let size = length_take puts old.fresh (omega (arith, ledger.slots.0, ledger.slots.1)) in
+    let counts : (number : ℕ) → count_of_put (unreaped (take old.fresh puts) (set old.marks.reaped slot true)) number + count_of_put (gone ++ n ∷ []) number ≡ count_of_put (standing old) number + count_of_put gone number
+    = λ number. omega (arith, count_reaped number (take old.fresh puts) old.marks.reaped slot (omega arith) (omega (arith, ledger.slots.1, ledger.slots.2)) there.2, ap (one_if number) (get_take puts old.fresh slot low), count_both number gone (n ∷ []), count_cons number n []) in
+    subst (λ (c : Caller). Ledger c (gone ++ n ∷ [])) (sym is) (record {
+      slots = (ledger.slots.0, ledger.slots.1, length-set old.marks.reaped slot true ∙ ledger.slots.2);
+      taken = ledger.taken;
+      put = λ number near. counts number ∙ ledger.put number near;
+      later = λ number far. counts number ∙ ledger.later number far;
+    })
+
+-- THE OPENING
+
+abbrev index : List ℕ → ℕ → ℕ
+index l i = get_or l i 0
+
+zeros : (n i : ℕ) → index (replicate n 0) i ≡ 0
+zeros zero i = refl
+zeros (suc n) zero = refl
+zeros (suc n) (suc i) = zeros n i
+
+pub opening_begins_lem : OpeningBegins
+opening_begins_lem shape map writer readers opened = let size : shape.slots ≡ map.shape.slots = ap (λ (s : Shape). s.slots) (sym opened.sizes) in
+    subst (λ (c : Caller). Ledger c []) (sym opened.writes) (record {
+      slots = (length-replicate shape.slots 0 ∙ size, omega arith, length-replicate shape.slots false ∙ size);
+      taken = λ slot lives. ⊎_elim (λ named. absurd (let none = zeros shape.keys named.0 in let is = named.2 in omega arith)) (λ retired. absurd (some-ne-none retired.1 (sym retired.2))) lives;
+      put = λ number low. absurd (omega arith);
+      later = λ number high. ap (λ (l : List ℕ). count_of_put (unreaped l (replicate shape.slots false)) number + 0) (take_zero (replicate shape.slots 0));
+    })
+
+-- CALLS THAT PUT NOTHING
+
+quiet_puts : (steps : ℕ) (call : Call) (answer : Reply) (old new : Caller) → is_done answer ≡ false → Gains steps old call answer new → put_count new.mine ≡ put_count old.mine
+quiet_puts steps call answer old new quiet gains = let none : puts_set (entry old.number call answer) ≡ 0 = ap (λ (b : Bool). cond {A = ℕ} b 1 0) quiet in
+    omega (arith, ap put_count gains.mine, total-append puts_set old.mine (entry old.number call answer ∷ []), none)
+
+-- the slots stay, and of the marks all but the polls
+same_slots : (old new : Caller) (gone : List ℕ) (polls : List Past) → new.table ≡ old.table → new.fresh ≡ old.fresh → new.retired ≡ old.retired → new.marks ≡ with_polls old.marks polls → put_count new.mine ≡ put_count old.mine → Ledger old gone → Ledger new gone
+same_slots old new gone polls table fresh retired marks many = ledger_stays_lem old new gone table fresh (ap (λ (m : Marks). m.puts) marks) (ap (λ (m : Marks). m.reaped) marks)
+    (λ slot lives. subst (λ (p : List Retired × Marks). Living p.0 p.1 slot) (λ j. (retired j, marks j)) lives) many
+
+pub quiet_leaves_lem : QuietLeaves
+quiet_leaves_lem steps call answer old new gone quiet gains stays = same_slots old new gone [] gains.table (ap (λ (s : Spare). s.fresh) stays.0) (ap (λ (s : Spare). s.retired) stays.0) stays.1 (quiet_puts steps call answer old new quiet gains)
+
+pub no_slot_leaves_lem : NoSlotLeaves
+no_slot_leaves_lem steps call counts old new gone without = same_slots old new gone new.marks.polls without.grows.table (ap (λ (s : Spare). s.fresh) without.slots) (ap (λ (s : Spare). s.retired) without.slots) without.marks
+    (ap put_count without.grows.mine ∙ total-append puts_set old.mine [] ∙ omega arith)
+
+pub cancel_leaves_lem : CancelLeaves
+cancel_leaves_lem key old new cancel.Cancelled gone cancels = same_slots old new gone [] cancels.0.table (ap (λ (s : Spare). s.fresh) cancels.1) (ap (λ (s : Spare). s.retired) cancels.1) cancels.2 (quiet_puts 2 (model.Cancel key) reply.Cancelled old new refl cancels.0)
+cancel_leaves_lem key old new cancel.Nothing gone cancels = quiet_leaves_lem 1 (model.Cancel key) reply.Nothing old new gone refl cancels.0 cancels.1
+cancel_leaves_lem key old new cancel.Worn gone cancels = quiet_leaves_lem 1 (model.Cancel key) reply.Worn old new gone refl cancels.0 cancels.1
+
+pub eviction_leaves_lem : EvictionLeaves
+eviction_leaves_lem key old new evict.Nothing gone evicts = quiet_leaves_lem 1 (model.Evict key) reply.Nothing old new gone refl evicts.0 evicts.1
+eviction_leaves_lem key old new evict.Evicted gone evicts =
+    let marks = evicts.4 in let names_are : new.marks.names ≡ set old.marks.names key 0 = ap (λ (m : Marks). m.names) marks in
+    ledger_stays_lem old new gone evicts.0.table evicts.1 (ap (λ (m : Marks). m.puts) marks) (ap (λ (m : Marks). m.reaped) marks)
+    (λ slot lives. ⊎_elim
+    (λ named. let near : named.0 < length old.marks.names = omega (arith, named.1, ap length names_are, length-set old.marks.names key 0) in
+    let is : get_or (set old.marks.names key 0) named.0 0 ≡ suc slot = ap (λ (l : List ℕ). get_or l named.0 0) (sym names_are) ∙ named.2 in
+    dite (ℕ_discrete named.0 key)
+    (λ same. absurd (let here : 0 ≡ suc slot = sym (get_or-set_same old.marks.names key 0 0 (omega arith)) ∙ ap (λ (i : ℕ). get_or (set old.marks.names key 0) i 0) (sym same) ∙ is in omega arith))
+    (λ other. inl (named.0, near, sym (get_or-set_other old.marks.names key named.0 0 0 other) ∙ is)))
+    (λ retired. ⊎_elim
+    (λ before. inr (before.0, retired.1, before.1, retired.3))
+    (λ named. inl (named.0, some_inside old.marks.names named.0 retired.1.slot named.1, named.1 ∙ ap suc retired.3))
+    (one_retired key old old.retired new.retired evicts.3 retired.0 retired.1 retired.2))
+    lives)
+    (quiet_puts 2 (model.Evict key) reply.Evicted old new refl evicts.0)

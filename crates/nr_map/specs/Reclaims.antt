@@ -1,25 +1,40 @@
--- Which of the sets that were put stand in slots, and which were let go: given out, or put over by a call that gives none out.
-use Rattle.std.specs.Prelude.{◌≡◌, ◌≢◌, ℕ, ◌+◌, ◌<◌, ◌≤◌, nat_lt, if◌then◌else◌, List, [], ◌∷◌, ◌++◌, length, slice_index, take, Some}
+-- Which of the sets that were put stand in slots, and which were let go: given out, by a reap too, or put over by a call that gives none out.
+use Rattle.std.specs.Prelude.{◌≡◌, ◌≢◌, ℕ, ◌+◌, ◌<◌, ◌≤◌, nat_lt, if◌then◌else◌, Bool, false, List, [], ◌∷◌, ◌++◌, length, slice_index, take, Some}
+use Rattle.nr_machine.specs.declared.calls.NoSlot.{NoSlot}
+use Rattle.nr_machine.specs.declared.places.Retired.{Retired}
+use Rattle.nr_machine.specs.declared.shape.Shape.{Shape}
 use Rattle.nr_model.specs.declared.calls.Call.{Call}
+use Rattle.nr_model.specs.declared.calls.Reply.{Reply}
+use Rattle.nr_model.specs.Histories.{is_done}
 use Rattle.nr_model.specs.declared.rows.Row.{Row}
 use Rattle.nr_model.specs.Strays.{count_of_put}
-use Rattle.nr_marks.specs.Marks.{Past}
+use Rattle.nr_marks.specs.Marks.{Past, is_reaped}
 use Rattle.nr_marks.specs.Pasts.{Current, Living}
 use Rattle.nr_marks.specs.Puts.{put_count}
-use Rattle.nr_board.specs.Callers.{Caller}
-use Rattle.nr_board.specs.WriterAnswers.{Publishes}
+use Rattle.nr_board.specs.declared.answers.Cancel.{Cancel}
+use Rattle.nr_board.specs.declared.answers.Evict.{Evict}
+use Rattle.nr_board.specs.Callers.{Caller, Gains, Table}
+use Rattle.nr_board.specs.Reaping.{after_polls, waiting, with_reap}
+use Rattle.nr_board.specs.WriterAnswers.{CancelsKey, EvictsKey, HasNoSlot, Publishes, SlotsStay}
+use Rattle.nr_map.specs.Opened.{IsOpened}
 
--- the put numbers of the sets that stand in slots: one for each slot that was ever taken
+-- the put numbers of the slots that were not reaped
+abbrev pub unreaped : List ℕ → List Bool → List ℕ
+unreaped [] flags = []
+unreaped (number ∷ puts) [] = number ∷ unreaped puts []
+unreaped (number ∷ puts) (flag ∷ flags) = (if flag then unreaped puts flags else number ∷ unreaped puts flags)
+
+-- the put numbers of the sets that stand in slots: one for each slot that was ever taken and not reaped
 abbrev pub standing : Caller → List ℕ
-standing writer = take writer.fresh writer.marks.puts
+standing writer = unreaped (take writer.fresh writer.marks.puts) writer.marks.reaped
 
--- the put number of the set that a slot had, if it was ever taken
+-- the put number of the set that stood in a slot, if it was ever taken and not reaped
 abbrev pub had_number : Caller → ℕ → List ℕ
-had_number writer slot = if nat_lt slot writer.fresh then slice_index writer.marks.puts slot ∷ [] else []
+had_number writer slot = if nat_lt slot writer.fresh then (if is_reaped writer.marks slot then [] else slice_index writer.marks.puts slot ∷ []) else []
 
 -- each set that the writer put stands in a slot or was let go, and not both, and not twice
 pub record Ledger (writer : Caller) (gone : List ℕ) : Type 0 where
-  pub slots : (length writer.marks.puts ≡ writer.table.shape.slots) × (writer.fresh ≤ writer.table.shape.slots)
+  pub slots : (length writer.marks.puts ≡ writer.table.shape.slots) × (writer.fresh ≤ writer.table.shape.slots) × (length writer.marks.reaped ≡ writer.table.shape.slots)
   -- only a slot that was taken is named or retired
   pub taken : (slot : ℕ) → Living writer.retired writer.marks slot → slot < writer.fresh
   pub put : (number : ℕ) → number < put_count writer.mine → count_of_put (standing writer) number + count_of_put gone number ≡ 1
@@ -34,13 +49,64 @@ HandedOutOnce =
     Ledger old gone →
     Ledger new (gone ++ had_number old published.slot)
 
--- another call leaves it
+-- a reap lets go of the set that it gives out
+abbrev pub ReapedOnce : Type 0
+ReapedOnce =
+    (held later : List Retired) (entry : Retired) (notes : List Past) (steps : ℕ) (old new : Caller) (gone : List ℕ) →
+    waiting old.marks.reaped old.retired ≡ held ++ entry ∷ later →
+    new ≡ with_reap entry.slot (after_polls notes steps old) →
+    Ledger old gone →
+    Ledger new (gone ++ slice_index old.marks.puts entry.slot ∷ [])
+
+-- a new map has put no set and let go of none
+abbrev pub OpeningBegins : Type 0
+OpeningBegins =
+    (shape : Shape) (map : Table) (writer : Caller) (readers : List Caller) →
+    IsOpened shape map writer readers →
+    Ledger writer []
+
+-- an eviction leaves it, whatever it answers
+abbrev pub EvictionLeaves : Type 0
+EvictionLeaves =
+    (key : ℕ) (old new : Caller) (answer : Evict) (gone : List ℕ) →
+    EvictsKey key old new answer →
+    Ledger old gone →
+    Ledger new gone
+
+-- so does a cancel
+abbrev pub CancelLeaves : Type 0
+CancelLeaves =
+    (key : ℕ) (old new : Caller) (answer : Cancel) (gone : List ℕ) →
+    CancelsKey key old new answer →
+    Ledger old gone →
+    Ledger new gone
+
+-- and a find of the writer's own, and a call that is refused by its key
+abbrev pub QuietLeaves : Type 0
+QuietLeaves =
+    (steps : ℕ) (call : Call) (answer : Reply) (old new : Caller) (gone : List ℕ) →
+    is_done answer ≡ false →
+    Gains steps old call answer new →
+    SlotsStay old new →
+    Ledger old gone →
+    Ledger new gone
+
+-- and a call that finds no slot
+abbrev pub NoSlotLeaves : Type 0
+NoSlotLeaves =
+    (steps : ℕ) (call : Call) (counts : NoSlot) (old new : Caller) (gone : List ℕ) →
+    HasNoSlot steps old call counts new →
+    Ledger old gone →
+    Ledger new gone
+
+-- whatever else leaves slots, put numbers and what was reaped leaves it, as a meeting does
 abbrev pub LedgerStays : Type 0
 LedgerStays =
     (old new : Caller) (gone : List ℕ) →
     new.table ≡ old.table →
     new.fresh ≡ old.fresh →
     new.marks.puts ≡ old.marks.puts →
+    new.marks.reaped ≡ old.marks.reaped →
     ((slot : ℕ) → Living new.retired new.marks slot → Living old.retired old.marks slot) →
     put_count new.mine ≡ put_count old.mine →
     Ledger old gone →

@@ -2,7 +2,7 @@
 ghost use Rattle.nr_map.specs.ExactPlaces.{DoneMeansFewerInUse, NoSlotMeansAllInUse};
 ghost use Rattle.nr_map.specs.Written.{FindsWhatItHeard, FindsWritten, HearsAllCalls, ReadsNoOlder};
 ghost use Rattle.nr_map.specs.SlotBounds.{NoSlotIsRare, PollsAreFew, RoomForFills, RoomForReplacements, RoomForUpdates};
-ghost use Rattle.nr_map.specs.Reclaims.{HandedOutOnce, LedgerStays, NobodyHoldsIt};
+ghost use Rattle.nr_map.specs.Reclaims.{CancelLeaves, EvictionLeaves, HandedOutOnce, LedgerStays, NobodyHoldsIt, NoSlotLeaves, OpeningBegins, QuietLeaves, ReapedOnce};
 ghost use Rattle.nr_map.specs.Remains.{RestComesOutOnce};
 ghost use Rattle.nr_map.specs.RowBounds.{RowsFitTheMap};
 ghost use Rattle.nr_map.specs.Rounds.{BeginningsMeet, CallsStay, EntriesAreCallers, RoundsTellAll, SendsOfAll, SendsOfAllKeys};
@@ -114,7 +114,37 @@ pub fn handed_out_once()
     ensures { HandedOutOnce }
 {}
 
-/// A call that puts nothing, takes no slot and names none leaves the ledger as it was.
+/// A reap lets go of the set that it gives out, and whatever takes its slot then lets go of none.
+pub fn reaped_once()
+    ensures { ReapedOnce }
+{}
+
+/// The ledger of a new map is empty.
+pub fn opening_begins()
+    ensures { OpeningBegins }
+{}
+
+/// An eviction leaves the ledger as it was.
+pub fn eviction_leaves()
+    ensures { EvictionLeaves }
+{}
+
+/// So does a cancel.
+pub fn cancel_leaves()
+    ensures { CancelLeaves }
+{}
+
+/// So do a find of the writer's and a call that is refused by its key.
+pub fn quiet_leaves()
+    ensures { QuietLeaves }
+{}
+
+/// So does a call that finds no slot.
+pub fn no_slot_leaves()
+    ensures { NoSlotLeaves }
+{}
+
+/// So does a step that leaves slots, put numbers and what was reaped, as those of a meeting.
 pub fn ledger_stays()
     ensures { LedgerStays }
 {}
@@ -125,7 +155,8 @@ pub fn rest_comes_out_once()
     ensures { RestComesOutOnce }
 {}
 
-/// A reader that was gathered holds a set that stands in a slot, and so none that was let go.
+/// A reader that was gathered holds a set that stands in a slot and was not reaped, and so none that
+/// was let go.
 pub fn nobody_holds_it()
     ensures { NobodyHoldsIt }
 {}

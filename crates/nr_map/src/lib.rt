@@ -40,7 +40,7 @@ pub use answers::Asked;
 pub use hand::Hand;
 pub use notes::Note;
 pub use nr_board::{
-    Cancel, Evict, FillFault, Found, KeyKind, Reclaimed, ReplaceFault, UpdateFault,
+    Cancel, Evict, FillFault, Found, KeyKind, Reaped, Reclaimed, ReplaceFault, UpdateFault,
 };
 pub use nr_core::{MAX_READERS, MAX_SLOTS, MOST_READERS, MOST_SLOTS, NoSlot, Shape};
 pub use pin::Pin;

@@ -1,23 +1,25 @@
-//! The writer's calls that also give out the set which the slot had that they take.
+//! The writer's calls that also give out the set which the slot had that they take, and the one that
+//! gives out a set before.
 ghost use Rattle.std.specs.Prelude.{◌≡◌, ◌<◌};
 ghost use Rattle.nr_model.specs.Batches.{IsBatch};
 ghost use Rattle.nr_model.specs.Rows.{IsRowSet};
 
 use crate::reader_map::ReaderMap;
 use crate::writer::Writer;
-use nr_board::{FillFault, Reclaimed, ReplaceFault, UpdateFault};
+use nr_board::{FillFault, Reaped, Reclaimed, ReplaceFault, UpdateFault};
 use nr_model::{Delta, Row, RowRoom};
 use std::marker::Brand;
 
 // A call takes the next slot that was never taken, and once there is none the first retired one that
 // no reader holds. The set that stands in such a slot is one that no key has, nobody holds, and nobody
-// can find: it is given out before the call's own set is put over it.
+// can find: it is given out before the call's own set is put over it, unless it was reaped.
 impl ReaderMap {
+    ghost use Rattle.nr_board.specs.Reaping.{ReapsIn};
     ghost use Rattle.nr_board.specs.Reclaiming.{FillsReclaiming, ReplacesReclaiming, UpdatesReclaiming};
 
     /// As `fill_rows`, and writes the set that the taken slot had before into `had`, which stays as it
-    /// is where the slot was never taken, and where the fill is refused. Takes 2m + 1 steps more for
-    /// a set of m rows.
+    /// is where the slot was never taken or was reaped, and where the fill is refused. Takes 2m + 1
+    /// steps more for a set of m rows.
     pub fn fill_reclaiming<R: RowRoom>(
         &self,
         writer: &mut Writer,
@@ -81,5 +83,17 @@ impl ReaderMap {
     {
         self.board
             .replace_reclaiming::<Brand, R>(&mut writer.seat, &mut writer.spare, key, rows, had)
+    }
+
+    /// Writes a retired set into `had` before its slot is taken again: the oldest that waits and that
+    /// no reader holds. Where there is none `had` stays as it is. The slot stays retired, and a call
+    /// that takes it gives out nothing. Takes a step for each slot that it polls, which are those whose
+    /// sets wait, oldest first, and 2m + 1 for a set of m rows; none where no set waits.
+    pub fn reap<R: RowRoom>(&self, writer: &mut Writer, had: &mut R) -> Reaped
+        requires own { writer.old.table ≡ self.now }
+        ensures { ReapsIn R.shows writer.old had.old writer.new had.new result }
+    {
+        self.board
+            .reap::<R>(&mut writer.seat, &mut writer.spare, had)
     }
 }

@@ -1,19 +1,22 @@
 //! A map that is taken apart, and the sets that stand in its slots.
 ghost use Rattle.std.specs.Prelude.{◌≡◌, All, length};
-ghost use Rattle.nr_map.specs.Remains.{NextOf, TakenApart};
+ghost use Rattle.nr_map.specs.Remains.{NextOf, NextSlot, TakenApart};
 
 use crate::reader::Reader;
 use crate::reader_map::ReaderMap;
 use crate::writer::Writer;
 use nr_board::{Board, Seat};
+use nr_core::Spare;
 use nr_model::RowRoom;
 use std::marker::Model;
 
-/// What is left of a map: the set of each slot that was ever taken, filled keys' sets among them.
+/// What is left of a map: the set of each slot that was ever taken, filled keys' sets among them, but
+/// for those that were reaped.
 #[derive(Drop)]
 pub struct Remains {
     board: Board,
     seat: Seat,
+    spare: Spare,
     count: u32,
     next: u32,
 }
@@ -27,7 +30,7 @@ impl Model for Remains {
 
     ghost view = { λ remains. record { writer = token remains.seat; count = remains.count; next = remains.next } };
 
-    ghost invariant = { λ remains. Remaining remains.board remains.seat remains.count };
+    ghost invariant = { λ remains. Remaining remains.board remains.seat remains.spare remains.count };
 }
 
 impl ReaderMap {
@@ -53,6 +56,7 @@ impl ReaderMap {
         Remains {
             board,
             seat,
+            spare,
             count,
             next: 0,
         }
@@ -65,11 +69,22 @@ impl Remains {
     pub fn next_into<R: RowRoom>(&mut self, rows: &mut R) -> bool
         ensures { NextOf R.shows self.old rows.old self.new rows.new result }
     {
-        if self.next >= self.count {
+        let Some(slot) = self.next_slot() else {
             return false;
-        }
-        self.board.recall_set::<R>(&mut self.seat, self.next, rows);
-        self.next += 1;
+        };
+        self.board.recall_set::<R>(&mut self.seat, slot, rows);
+        self.next = slot + 1;
         true
+    }
+
+    fn next_slot(&self) -> Option<u32>
+        ensures { NextSlot self.now result }
+    {
+        for slot in self.next..self.count {
+            if !self.spare.is_reaped(slot) {
+                return Some(slot);
+            }
+        }
+        None
     }
 }

@@ -1,5 +1,5 @@
 //! The writer's token.
-ghost use Rattle.std.specs.Prelude.{◌≡◌, [], IfOk};
+ghost use Rattle.std.specs.Prelude.{◌≡◌, false, [], replicate, IfOk};
 ghost use Rattle.nr_machine.specs.Sizes.{IsShape};
 ghost use Rattle.nr_machine.specs.States.{opening_desk};
 ghost use Rattle.nr_machine.specs.declared.roles.Role.TheVariants.{Writer as writer_role};
@@ -40,6 +40,7 @@ impl Writer {
         requires shape { seat.me.0.shape ≡ shape.now }
         requires new { seat.me.0.seen ≡ [] }
         requires own { KnowsOwn (token seat) }
+        requires none_reaped { seat.me.0.marks.reaped ≡ replicate shape.now.slots false }
         ensures { IfOk result (λ writer. writer ≡ token seat) }
     {
         let spare = Spare::open(alloc, shape)?;

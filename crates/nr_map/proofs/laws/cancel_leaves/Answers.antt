@@ -1,0 +1,5 @@
+use Rattle.nr_map.proofs.Ledgers.{cancel_leaves_lem}
+use Rattle.nr_map.proofs.laws.cancel_leaves.Goals as goal
+
+pub returns : goal.returns
+returns c = cancel_leaves_lem
