@@ -5,7 +5,7 @@ use mathlib.Core.Option.{some, some-injective, some-ne-none}
 use lib.ListN.{get_elem?}
 use Rattle.crossbeam_queue.specs.Fifo.{Forks}
 use Rattle.nr_trigger.specs.declared.post.Post.{Post}
-use Rattle.nr_trigger.specs.Posts.{KeysAreBelow}
+use Rattle.nr_trigger.specs.Posts.{Limits, MayAllGo, without_notes}
 use Rattle.nr_trigger.specs.Views.{PassView, Opener, Spare, opening_taker}
 use Rattle.nr_trigger.specs.Delivers.{Delivers, KnowsItsPart}
 use Rattle.nr_trigger.proofs.Places.{each-after-change, inside-or-last, place-is-inside}
@@ -23,30 +23,30 @@ opening-delivers = record {
   posted = [];
   taken = [];
   whole = refl;
-  keys = 0;
-  below = tt;
-  fits = λ place view there. let first = alone Opener view place there in subst (KnowsItsPart [] [] 0 1 place) first.1 (first.0, refl, refl);
-  silent = λ number long. refl;
+  limits = without_notes 0;
+  within = tt;
+  fits = λ place view there. let first = alone Opener view place there in subst (KnowsItsPart [] [] (without_notes 0) 1 place) first.1 (first.0, refl, refl);
+  silent = λ number long. (refl, refl);
 }
 
-pub first-pass-becomes-takers : (keys place : ℕ) (view : PassView) → view ≡ Opener → Forks Delivers place view (opening_taker keys) Spare
-first-pass-becomes-takers keys place view is held views old at =
-    let me = subst (KnowsItsPart old.posted old.taken old.keys (length views) place) is (old.fits place view at) in
-    let changed : List PassView = set views place (opening_taker keys) in
-    let size : length changed ≡ length views = length-set views place (opening_taker keys) in
+pub first-pass-becomes-takers : (limits : Limits) (place : ℕ) (view : PassView) → view ≡ Opener → Forks Delivers place view (opening_taker limits) Spare
+first-pass-becomes-takers limits place view is held views old at =
+    let me = subst (KnowsItsPart old.posted old.taken old.limits (length views) place) is (old.fits place view at) in
+    let changed : List PassView = set views place (opening_taker limits) in
+    let size : length changed ≡ length views = length-set views place (opening_taker limits) in
     let one : length views ≡ 1 = me.1 in
     let two : length (changed ++ Spare ∷ []) ≡ 2 = omega (arith, length-append changed (Spare ∷ []), size, one) in
-    let F : ℕ → PassView → Type 0 = KnowsItsPart old.posted old.taken keys (length (changed ++ Spare ∷ [])) in
+    let F : ℕ → PassView → Type 0 = KnowsItsPart old.posted old.taken limits (length (changed ++ Spare ∷ [])) in
     record {
       posted = old.posted;
       taken = old.taken;
       whole = old.whole;
-      keys = keys;
-      below = subst (KeysAreBelow keys) (sym me.2) tt;
+      limits = limits;
+      within = subst (MayAllGo limits) (sym me.2) tt;
       fits = λ at' view there.
           ⊎_elim
           (λ (h : get_elem? changed at' ≡ some view).
-          each-after-change F views place (opening_taker keys) (me.0, two, nothing-taken old.taken held old.posted old.whole me.2, refl)
+          each-after-change F views place (opening_taker limits) (me.0, two, nothing-taken old.taken held old.posted old.whole me.2, refl)
           (λ at' view other there. let inside = place-is-inside views at' view there in absurd (other (omega (arith, inside, one, me.0)))) at' view h)
           (λ (h : (at' ≡ length changed) × (Spare ≡ view)). subst (F at') h.1 (h.0 ∙ size ∙ one))
           (inside-or-last changed Spare view at' there);

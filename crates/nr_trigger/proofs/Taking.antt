@@ -1,22 +1,22 @@
 -- The rule when the taker takes.
-use Rattle.std.proofs.Common.{◌≡◌, ◌≢◌, ℕ, ◌+◌, ◌<◌, ◌≤◌, List, [], ◌∷◌, ◌++◌, length, set, sym, ap, ◌∙◌, subst, append_assoc, refl}
+use Rattle.std.proofs.Common.{◌≡◌, ◌≢◌, ℕ, ◌+◌, ◌≤◌, List, [], ◌∷◌, ◌++◌, length, set, sym, ap, ◌∙◌, subst, append_assoc, refl}
 use Rattle.std.proofs.lemmas.List.{length-set}
 use mathlib.Core.Option.{some}
 use lib.ListN.{get_elem?}
 use Rattle.crossbeam_queue.specs.Fifo.{Pops}
 use Rattle.nr_trigger.specs.declared.post.Post.{Post}
-use Rattle.nr_trigger.specs.Posts.{KeysAreBelow}
+use Rattle.nr_trigger.specs.Posts.{Limits, MayAllGo, MayGo}
 use Rattle.nr_trigger.specs.Views.{PassView, Taking, Opener, Spare, Taker, Poster, has_taken}
 use Rattle.nr_trigger.specs.Delivers.{Delivers, KnowsItsPart}
-use Rattle.nr_trigger.proofs.Parts.{key-is-below}
+use Rattle.nr_trigger.proofs.Parts.{each-may-go}
 use Rattle.nr_trigger.proofs.Places.{each-after-change}
 
 -- another pass than the taker's fits whatever was taken
-others-fit-what-was-taken : (posted taken more : List Post) (keys passes place at : ℕ) (view : PassView) → place ≢ at → at ≡ 0 → KnowsItsPart posted taken keys passes place view → KnowsItsPart posted more keys passes place view
-others-fit-what-was-taken posted taken more keys passes place at Opener other first fits = fits
-others-fit-what-was-taken posted taken more keys passes place at Spare other first fits = fits
-others-fit-what-was-taken posted taken more keys passes place at (Taker taking) other first fits = absurd (other (fits.0 ∙ sym first))
-others-fit-what-was-taken posted taken more keys passes place at (Poster posting) other first fits = fits
+others-fit-what-was-taken : (posted taken more : List Post) (limits : Limits) (passes place at : ℕ) (view : PassView) → place ≢ at → at ≡ 0 → KnowsItsPart posted taken limits passes place view → KnowsItsPart posted more limits passes place view
+others-fit-what-was-taken posted taken more limits passes place at Opener other first fits = fits
+others-fit-what-was-taken posted taken more limits passes place at Spare other first fits = fits
+others-fit-what-was-taken posted taken more limits passes place at (Taker taking) other first fits = absurd (other (fits.0 ∙ sym first))
+others-fit-what-was-taken posted taken more limits passes place at (Poster posting) other first fits = fits
 
 pub taker-takes : (place : ℕ) (view : PassView) (taking : Taking) → view ≡ Taker taking → Pops Delivers place view (has_taken view)
 taker-takes place view taking is = subst (λ view. Pops Delivers place view (has_taken view)) (sym is) (λ post held views old at.
@@ -24,18 +24,18 @@ taker-takes place view taking is = subst (λ view. Pops Delivers place view (has
     let new : PassView = Taker (record taking { taken = taking.taken ++ post ∷ [] }) in
     let taken : List Post = old.taken ++ post ∷ [] in
     let size : length (set views place new) ≡ length views = length-set views place new in
-    let below : post.upquery.key < old.keys = key-is-below old.keys old.taken post held (subst (KeysAreBelow old.keys) (sym old.whole) old.below) in (
+    let may : MayGo old.limits post = each-may-go old.limits old.taken post held (subst (MayAllGo old.limits) (sym old.whole) old.within) in (
       new,
       record {
         posted = old.posted;
         taken = taken;
         whole = append_assoc old.taken (post ∷ []) held ∙ old.whole;
-        keys = old.keys;
-        below = old.below;
-        fits = subst (λ passes. (at' : ℕ) (view : PassView) → get_elem? (set views place new) at' ≡ some view → KnowsItsPart old.posted taken old.keys passes at' view) (sym size)
-            (each-after-change (KnowsItsPart old.posted taken old.keys (length views)) views place new (me.0, me.1, ap (λ l. l ++ post ∷ []) me.2, me.3)
-            (λ at' view other there. others-fit-what-was-taken old.posted old.taken taken old.keys (length views) at' place view other me.0 (old.fits at' view there)));
+        limits = old.limits;
+        within = old.within;
+        fits = subst (λ passes. (at' : ℕ) (view : PassView) → get_elem? (set views place new) at' ≡ some view → KnowsItsPart old.posted taken old.limits passes at' view) (sym size)
+            (each-after-change (KnowsItsPart old.posted taken old.limits (length views)) views place new (me.0, me.1, ap (λ l. l ++ post ∷ []) me.2, me.3)
+            (λ at' view other there. others-fit-what-was-taken old.posted old.taken taken old.limits (length views) at' place view other me.0 (old.fits at' view there)));
         silent = λ number long. old.silent number (subst (λ passes. passes ≤ number + 2) size long);
       },
-      (refl, subst (λ n. post.upquery.key < n) (sym me.3) below),
+      (refl, subst (λ limits. MayGo limits post) (sym me.3) may),
     ))

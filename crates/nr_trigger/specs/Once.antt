@@ -3,7 +3,7 @@ use Rattle.std.specs.Prelude.{◌≡◌, ℕ, List, ◌∷◌, ◌++◌}
 use mathlib.Core.Option.{some}
 use lib.ListN.{get_elem?}
 use Rattle.nr_trigger.specs.declared.post.Post.{Post}
-use Rattle.nr_trigger.specs.Posts.{part}
+use Rattle.nr_trigger.specs.Posts.{notes_part, part}
 use Rattle.nr_trigger.specs.Views.{PassView, Taking, Posting, Taker, Poster}
 use Rattle.nr_trigger.specs.Delivers.{Delivers}
 
@@ -16,6 +16,8 @@ pub record HasComeOnce (taken held : List Post) (views : List PassView) : Type 0
   pub taker : (taking : Taking) → IsAmong views (Taker taking) → taking.taken ≡ taken
   -- of a poster's list a beginning was taken, and the queue holds the rest, in the same order
   pub in_order : (posting : Posting) → IsAmong views (Poster posting) → posting.posted ≡ part posting.number taken ++ part posting.number held
+  -- and so of the notes that went with them
+  pub with_notes : (posting : Posting) → IsAmong views (Poster posting) → posting.notes ≡ notes_part posting.number taken ++ notes_part posting.number held
   -- each post that was taken or is held is one of the posters'
   pub posters : (before after : List Post) (post : Post) → taken ++ held ≡ before ++ post ∷ after → (posting : Posting) × IsAmong views (Poster posting) × (posting.number ≡ post.poster)
 

@@ -1,14 +1,16 @@
 //! The attempts on the queue, each of which its token counts.
-ghost use Rattle.std.specs.Prelude.{◌≡◌, ◌<◌, ◌+◌, ◌++◌, ◌∷◌, ℕ, [], IfErr, MatchOption, MatchResult};
+ghost use Rattle.std.specs.Prelude.{◌≡◌, ◌<◌, ◌+◌, ◌++◌, ◌∷◌, ℕ, [], IfErr, IfOk, MatchOption, MatchResult, None};
 ghost use Rattle.nr_trigger.specs.declared.faults.PostFault.TheVariants.{Full as full};
 ghost use Rattle.nr_trigger.specs.declared.faults.TakeFault.TheVariants.{Empty as empty};
 ghost use Rattle.nr_trigger.specs.Tokens.{IsSamePoster, IsSameTaker, WasEmpty, WasFull, poster_tried, taker_tried};
+ghost use Rattle.nr_trigger.specs.Posts.{IsNoteOf};
 
 use crate::faults::{PostFault, TakeFault};
 use crate::post::{Post, Upquery};
 use crate::rule::{Pops, Pushes};
 use crate::tokens::{Poster, Taker};
 use crate::triggers::Triggers;
+use nr_map::Note;
 use std::marker::Model;
 use std::sync::Wait;
 
@@ -44,23 +46,27 @@ impl Attempts {
 }
 
 impl Triggers {
-    /// Puts it at the back, as this poster's.
+    /// Puts it at the back, as this poster's. It comes back where the queue was full.
     pub(crate) fn push<R: Wait>(
         &self,
         rt: &R,
         poster: &mut Poster,
         upquery: Upquery,
+        note: Option<Note>,
     ) -> Result<(), Post>
         requires own { poster.old.queue ≡ self.now.id }
         requires key { upquery.key < poster.old.keys }
+        requires note { IsNoteOf poster.old.map note }
         ensures own { IsSamePoster poster.old poster.new }
         ensures tries { poster.new.tries ≡ poster.old.tries + 1 }
-        ensures posted { MatchResult result (λ _. poster.new.posted ≡ poster.old.posted ++ upquery ∷ []) (λ _. poster.new ≡ poster_tried poster.old) }
+        ensures posted { MatchResult result (λ _. poster.new.posted ≡ poster.old.posted ++ upquery ∷ []) (λ back. (back.note ≡ note) × (poster.new ≡ poster_tried poster.old)) }
+        ensures notes { IfOk result (λ _. poster.new.notes ≡ poster.old.notes ++ note ∷ []) }
         ensures full { IfErr result (λ _. WasFull self.now.capacity poster.old) }
     {
         let post = Post {
             poster: poster.number,
             upquery,
+            note,
         };
         poster.tries = poster.tries.then();
         self.queue.push_as::<Pushes, R>(rt, &mut poster.seat, post)
@@ -72,7 +78,7 @@ impl Triggers {
         ensures own { IsSameTaker taker.old taker.new }
         ensures tries { taker.new.tries ≡ taker.old.tries + 1 }
         ensures taken { MatchOption result (taker.new ≡ taker_tried taker.old) (λ post. taker.new.taken ≡ taker.old.taken ++ post ∷ []) }
-        ensures key { MatchOption result (WasEmpty taker.old) (λ post. post.upquery.key < taker.old.keys) }
+        ensures key { MatchOption result (WasEmpty taker.old) (λ post. (post.upquery.key < taker.old.keys) × IsNoteOf taker.old.map post.note) }
     {
         taker.tries = taker.tries.then();
         self.queue.pop_as::<Pops, R>(rt, &mut taker.seat)
@@ -84,17 +90,21 @@ impl Triggers {
         requires key { upquery.key < poster.old.keys }
         ensures own { IsSamePoster poster.old poster.new }
         ensures tries { poster.new.tries ≡ poster.old.tries + 1 }
-        ensures posted { MatchResult result (λ _. poster.new.posted ≡ poster.old.posted ++ upquery ∷ []) (λ _. poster.new ≡ poster_tried poster.old) }
+        ensures posted { MatchResult result (λ _. (poster.new.posted ≡ poster.old.posted ++ upquery ∷ []) × (poster.new.notes ≡ poster.old.notes ++ None ∷ [])) (λ _. poster.new ≡ poster_tried poster.old) }
         ensures full { IfErr result (λ fault. fault ≡ full → WasFull self.now.capacity poster.old) }
     {
         let post = Post {
             poster: poster.number,
             upquery,
+            note: None,
         };
         poster.tries = poster.tries.then();
         match self.queue.try_push_as::<Pushes>(&mut poster.seat, post) {
             Ok(()) => Ok(()),
-            Err(_) => Err(self.obstacle_to_push(poster)),
+            Err(back) => {
+                drop(back);
+                Err(self.obstacle_to_push(poster))
+            }
         }
     }
 
@@ -115,7 +125,7 @@ impl Triggers {
         requires own { taker.old.queue ≡ self.now.id }
         ensures own { IsSameTaker taker.old taker.new }
         ensures tries { taker.new.tries ≡ taker.old.tries + 1 }
-        ensures taken { MatchResult result (λ post. (taker.new.taken ≡ taker.old.taken ++ post ∷ []) × (post.upquery.key < taker.old.keys)) (λ _. taker.new ≡ taker_tried taker.old) }
+        ensures taken { MatchResult result (λ post. (taker.new.taken ≡ taker.old.taken ++ post ∷ []) × (post.upquery.key < taker.old.keys) × IsNoteOf taker.old.map post.note) (λ _. taker.new ≡ taker_tried taker.old) }
         ensures empty { IfErr result (λ fault. fault ≡ empty → WasEmpty taker.old) }
     {
         taker.tries = taker.tries.then();

@@ -2,7 +2,7 @@
 ghost use Rattle.std.specs.Prelude.{◌≡◌};
 ghost use Rattle.nr_trigger.specs.Posts.{upquery_of};
 
-use nr_map::Ticket;
+use nr_map::{Note, Ticket};
 
 /// What a ticket names: the key whose rows are to be had, and which of its requests asked.
 #[derive(Clone, Copy, Debug, PartialEq, Eq)]
@@ -22,9 +22,11 @@ impl Upquery {
     }
 }
 
-/// An upquery on its way, with the number of its poster.
-#[derive(Clone, Copy, Debug, PartialEq, Eq)]
+/// An upquery on its way, with the number of its poster and, where it sent one along, a note of what
+/// the asker had seen.
+#[derive(Drop)]
 pub struct Post {
     pub poster: u32,
     pub upquery: Upquery,
+    pub note: Option<Note>,
 }

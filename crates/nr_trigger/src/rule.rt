@@ -1,5 +1,5 @@
 //! The rule of the queue, and what each kind of step tells.
-ghost use Rattle.std.specs.Prelude.{ℕ};
+ghost use Rattle.nr_trigger.specs.Posts.{Limits};
 
 use crate::post::Post;
 use crate::view::View;
@@ -17,13 +17,15 @@ impl Protocol<Post, View> for Law {
     ghost first = { Opener };
 }
 
-/// A number above each key, for the proof alone.
+/// What may go through the queue, for the proof alone.
 pub trait Limit {
-    ghost keys: { ℕ };
+    ghost limits: { Limits };
 }
 
 impl Limit for Brand {
-    ghost keys = { 0 };
+    ghost use Rattle.nr_trigger.specs.Posts.{without_notes};
+
+    ghost limits = { without_notes 0 };
 }
 
 /// The first pass becomes the taker's.
@@ -34,7 +36,7 @@ pub struct Begins<L> {
 impl<L: Limit> Split<View> for Begins<L> {
     ghost use Rattle.nr_trigger.specs.Views.{Spare, opening_taker};
 
-    ghost left = { λ _. opening_taker L.keys };
+    ghost left = { λ _. opening_taker L.limits };
 
     ghost right = { λ _. Spare };
 }

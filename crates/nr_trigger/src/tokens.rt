@@ -5,12 +5,10 @@ use crate::view::View;
 use crossbeam_queue::Pass;
 use std::marker::Model;
 
-pub(crate) type Seat = Pass<Post, View>;
-
 /// What a thread posts with.
 #[derive(Drop)]
 pub struct Poster {
-    pub(crate) seat: Seat,
+    pub(crate) seat: Pass<Post, View>,
     pub(crate) number: u32,
     pub(crate) tries: Attempts,
 }
@@ -31,7 +29,7 @@ impl Model for Poster {
 /// What the dataflow's thread takes with.
 #[derive(Drop)]
 pub struct Taker {
-    pub(crate) seat: Seat,
+    pub(crate) seat: Pass<Post, View>,
     pub(crate) tries: Attempts,
 }
 

@@ -1,7 +1,8 @@
 //! What the dataflow takes.
-ghost use Rattle.std.specs.Prelude.{◌≡◌};
+ghost use Rattle.std.specs.Prelude.{◌≡◌, None};
 
 use crate::post::Post;
+use nr_map::Note;
 use std::marker::Model;
 
 /// A ticket that was posted, for the dataflow to fill its key. It can't be dropped: it must be
@@ -39,7 +40,16 @@ impl Trigger {
         self.post.upquery.number
     }
 
-    /// The key that was requested. The trigger is spent.
+    /// The note that was posted with the ticket, for one hearer. None where there was none, or it was
+    /// taken out before.
+    pub fn note(&mut self) -> Option<Note>
+        ensures note { result ≡ self.old.note }
+        ensures rest { self.new ≡ record self.old { note = None } }
+    {
+        self.post.note.take()
+    }
+
+    /// The key that was requested. The trigger is spent, and a note that it still has is dropped.
     pub fn into_key(self) -> u32
         ensures { result ≡ self.upquery.key }
     {

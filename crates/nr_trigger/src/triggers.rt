@@ -1,21 +1,21 @@
 //! The queue of tickets.
-ghost use Rattle.std.specs.Prelude.{◌≡◌, ◌<◌, ◌+◌, ◌⊎◌, ◌↔◌, ℕ, length, [], ◌++◌, ◌∷◌, Err, IfOk, IfErr, IsTrue, MatchOption, MatchResult};
+ghost use Rattle.std.specs.Prelude.{◌≡◌, ◌<◌, ◌+◌, ◌⊎◌, ◌↔◌, ℕ, length, [], ◌++◌, ◌∷◌, Err, IfOk, IfErr, IfSome, IsTrue, MatchOption, MatchResult, None, Some};
 ghost use Rattle.nr_model.specs.Sizes.{IsBadSize};
-ghost use Rattle.nr_trigger.specs.Posts.{upquery_of};
+ghost use Rattle.nr_trigger.specs.Posts.{IsNoteOf, Limits, of_map, upquery_of};
 ghost use Rattle.nr_trigger.specs.declared.faults.PostFault.TheVariants.{Full as full};
 ghost use Rattle.nr_trigger.specs.declared.faults.TakeFault.TheVariants.{Empty as empty};
-ghost use Rattle.nr_trigger.specs.Tokens.{IsOpenedQueue, IsSeated, IsSamePoster, IsSameTaker, WasEmpty, WasFull, new_poster, new_taker, poster_tried, taker_tried};
+ghost use Rattle.nr_trigger.specs.Tokens.{IsOpenedQueue, IsOpenedWithin, IsSeated, IsSamePoster, IsSameTaker, WasEmpty, WasFull, new_poster, new_taker, poster_tried, taker_tried};
 ghost use Rattle.nr_trigger.specs.Views.{Opener};
 
 use crate::attempts::Attempts;
 use crate::faults::{PostFault, TakeFault};
 use crate::post::{Post, Upquery};
 use crate::rule::{Begins, Law, Limit, Seats};
-use crate::tokens::{Poster, Seat, Taker};
+use crate::tokens::{Poster, Taker};
 use crate::trigger::Trigger;
 use crate::view::View;
-use crossbeam_queue::RuledArrayQueue;
-use nr_map::{MOST_READERS, MOST_SLOTS, Ticket};
+use crossbeam_queue::{Pass, RuledArrayQueue};
+use nr_map::{MOST_READERS, MOST_SLOTS, Note, ReaderMap, Ticket};
 use nr_model::{OpenFault, is_bad_size};
 use std::alloc::{AllocError, Global};
 use std::marker::{Brand, Model};
@@ -76,6 +76,22 @@ impl Triggers {
         seated(alloc, capacity, posters).map_err(|_| OpenFault::Memory)
     }
 
+    /// As `open_large`, for tickets of a map's keys, with which notes of that map may go.
+    pub fn open_for(
+        alloc: Global,
+        map: &ReaderMap,
+        capacity: u32,
+        posters: u32,
+    ) -> Result<(Triggers, Vec<Poster>, Taker), OpenFault>
+        ensures bad_size { (result ≡ Err OpenFault.BadSize) ↔ (IsBadSize 4194303 capacity ⊎ IsBadSize 65535 posters) }
+        ensures ok { IfOk result (λ opened. IsOpenedWithin (of_map map.now) capacity posters opened.0 opened.1.items opened.2) }
+    {
+        if is_bad_size(MOST_SLOTS, capacity) || is_bad_size(MOST_READERS, posters) {
+            return Err(OpenFault::BadSize);
+        }
+        seated_for(alloc, map, capacity, posters).map_err(|_| OpenFault::Memory)
+    }
+
     /// Puts what the ticket names at the back, and spends the ticket. It comes back where the queue
     /// was full at one moment of the call. May wait for a thread that is within a call of its own,
     /// and waits for ever once the queue has carried 2^62 tickets.
@@ -85,14 +101,45 @@ impl Triggers {
         ensures own { IsSamePoster poster.old poster.new }
         ensures tries { poster.new.tries ≡ poster.old.tries + 1 }
         ensures posted { MatchResult result (λ _. poster.new.posted ≡ poster.old.posted ++ upquery_of ticket ∷ []) (λ back. (back ≡ ticket) × (poster.new ≡ poster_tried poster.old)) }
+        ensures notes { IfOk result (λ _. poster.new.notes ≡ poster.old.notes ++ None ∷ []) }
         ensures full { IfErr result (λ _. WasFull self.now.capacity poster.old) }
     {
-        match self.push(rt, poster, Upquery::of(&ticket)) {
+        match self.push(rt, poster, Upquery::of(&ticket), None) {
             Ok(()) => {
                 ticket.into_key();
                 Ok(())
             }
             Err(_) => Err(ticket),
+        }
+    }
+
+    /// As `post`, with a note of what the asker had seen, for who takes the trigger. Both come back
+    /// where the queue was full at one moment of the call.
+    pub fn post_with<R: Wait>(
+        &self,
+        rt: &R,
+        poster: &mut Poster,
+        ticket: Ticket,
+        note: Note,
+    ) -> Result<(), (Ticket, Note)>
+        requires own { poster.old.queue ≡ self.now.id }
+        requires key { ticket.key < poster.old.keys }
+        requires note { poster.old.map ≡ Some note.table }
+        ensures own { IsSamePoster poster.old poster.new }
+        ensures tries { poster.new.tries ≡ poster.old.tries + 1 }
+        ensures posted { MatchResult result (λ _. poster.new.posted ≡ poster.old.posted ++ upquery_of ticket ∷ []) (λ back. (back ≡ (ticket, note)) × (poster.new ≡ poster_tried poster.old)) }
+        ensures notes { IfOk result (λ _. poster.new.notes ≡ poster.old.notes ++ Some note ∷ []) }
+        ensures full { IfErr result (λ _. WasFull self.now.capacity poster.old) }
+    {
+        match self.push(rt, poster, Upquery::of(&ticket), Some(note)) {
+            Ok(()) => {
+                Ticket::into_key(ticket);
+                Ok(())
+            }
+            Err(back) => match back.note {
+                Some(note) => Err((ticket, note)),
+                None => unreachable!(),
+            },
         }
     }
 
@@ -105,6 +152,7 @@ impl Triggers {
         ensures tries { taker.new.tries ≡ taker.old.tries + 1 }
         ensures taken { MatchOption result (taker.new ≡ taker_tried taker.old) (λ trigger. taker.new.taken ≡ taker.old.taken ++ trigger ∷ []) }
         ensures key { MatchOption result (WasEmpty taker.old) (λ trigger. trigger.upquery.key < taker.old.keys) }
+        ensures note { IfSome result (λ trigger. IsNoteOf taker.old.map trigger.note) }
     {
         Some(Trigger::of(self.pop(rt, taker)?))
     }
@@ -118,6 +166,7 @@ impl Triggers {
         ensures own { IsSamePoster poster.old poster.new }
         ensures tries { poster.new.tries ≡ poster.old.tries + 1 }
         ensures posted { MatchResult result (λ _. poster.new.posted ≡ poster.old.posted ++ upquery ∷ []) (λ _. poster.new ≡ poster_tried poster.old) }
+        ensures notes { IfOk result (λ _. poster.new.notes ≡ poster.old.notes ++ None ∷ []) }
         ensures full { IfErr result (λ fault. fault ≡ full → WasFull self.now.capacity poster.old) }
     {
         self.try_push(poster, upquery)
@@ -131,25 +180,26 @@ impl Triggers {
         ensures own { IsSameTaker taker.old taker.new }
         ensures tries { taker.new.tries ≡ taker.old.tries + 1 }
         ensures taken { MatchResult result (λ trigger. (taker.new.taken ≡ taker.old.taken ++ trigger ∷ []) × (trigger.upquery.key < taker.old.keys)) (λ _. taker.new ≡ taker_tried taker.old) }
+        ensures note { IfOk result (λ trigger. IsNoteOf taker.old.map trigger.note) }
         ensures empty { IfErr result (λ fault. fault ≡ empty → WasEmpty taker.old) }
     {
         Ok(Trigger::of(self.try_pop(taker)?))
     }
 
     // The taker, whose pass is the queue's first.
-    fn seat_taker(&self, seat: Seat) -> Taker
-        ghost keys: { ℕ }
+    fn seat_taker(&self, seat: Pass<Post, View>) -> Taker
+        ghost limits: { Limits }
         requires own { (seat.table_id ≡ self.now.id) × (seat.me.1 ≡ []) }
         requires first { seat.me.0.client ≡ Opener }
-        ensures { result ≡ new_taker self.now.id keys 0 }
+        ensures { result ≡ new_taker self.now.id limits 0 }
     {
         self.begin::<Brand>(seat)
     }
 
-    fn begin<L: Limit>(&self, seat: Seat) -> Taker
+    fn begin<L: Limit>(&self, seat: Pass<Post, View>) -> Taker
         requires own { (seat.table_id ≡ self.now.id) × (seat.me.1 ≡ []) }
         requires first { seat.me.0.client ≡ Opener }
-        ensures { result ≡ new_taker self.now.id L.keys 0 }
+        ensures { result ≡ new_taker self.now.id L.limits 0 }
     {
         let mut seat = seat;
         let _spare = self.queue.another::<Begins<L>>(&mut seat);
@@ -161,10 +211,10 @@ impl Triggers {
 
     // The next poster.
     fn seat_poster(&self, taker: &mut Taker, number: u32) -> Poster
-        ghost keys: { ℕ }
-        requires next { taker.old ≡ new_taker self.now.id keys number }
-        ensures taker { taker.new ≡ new_taker self.now.id keys (number + 1) }
-        ensures poster { result ≡ new_poster self.now.id keys number }
+        ghost limits: { Limits }
+        requires next { taker.old ≡ new_taker self.now.id limits number }
+        ensures taker { taker.new ≡ new_taker self.now.id limits (number + 1) }
+        ensures poster { result ≡ new_poster self.now.id limits number }
     {
         let seat = self.queue.another::<Seats>(&mut taker.seat);
         Poster {
@@ -175,15 +225,30 @@ impl Triggers {
     }
 }
 
+// A queue for that map.
+fn seated_for(
+    alloc: Global,
+    map: &ReaderMap,
+    capacity: u32,
+    posters: u32,
+) -> Result<(Triggers, Vec<Poster>, Taker), AllocError>
+    ghost limits: { Limits }
+    requires room { 0 < capacity }
+    requires limits { limits ≡ of_map map.now }
+    ensures { IfOk result (λ opened. IsOpenedWithin limits capacity posters opened.0 opened.1.items opened.2) }
+{
+    seated(alloc, capacity, posters)
+}
+
 // A queue of those sizes, with its tokens.
 fn seated(
     alloc: Global,
     capacity: u32,
     posters: u32,
 ) -> Result<(Triggers, Vec<Poster>, Taker), AllocError>
-    ghost keys: { ℕ }
+    ghost limits: { Limits }
     requires { 0 < capacity }
-    ensures { IfOk result (λ opened. IsOpenedQueue capacity posters keys opened.0 opened.1.items opened.2) }
+    ensures { IfOk result (λ opened. IsOpenedWithin limits capacity posters opened.0 opened.1.items opened.2) }
 {
     let (queue, seat) = RuledArrayQueue::ruled(alloc, capacity as usize)?;
     let triggers = Triggers { queue };
@@ -199,9 +264,9 @@ fn seat_posters(
     taker: &mut Taker,
     count: u32,
 ) -> Result<Vec<Poster>, AllocError>
-    ghost keys: { ℕ }
-    requires { taker.old ≡ new_taker triggers.now.id keys 0 }
-    ensures { IfOk result (λ posters. IsSeated triggers.now.id keys taker.new posters.items count) }
+    ghost limits: { Limits }
+    requires { taker.old ≡ new_taker triggers.now.id limits 0 }
+    ensures { IfOk result (λ posters. IsSeated triggers.now.id limits taker.new posters.items count) }
 {
     let mut posters = Vec::with_capacity(alloc, count as usize)?;
     for number in 0..count {

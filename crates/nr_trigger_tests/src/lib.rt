@@ -2,4 +2,6 @@
 #![tactic(auto)]
 
 #[cfg(test)]
+mod notes;
+#[cfg(test)]
 mod queues;

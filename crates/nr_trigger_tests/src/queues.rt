@@ -1,31 +1,16 @@
-//! What is asserted does not depend on how the threads' steps fall. Each `open` is made once more
-//! where memory was refused, so these tests pass as well where any one allocation fails
-//! (`rt try --test --fail-alloc N`, for each N from 1 on).
+//! What is asserted does not depend on how the threads' steps fall. Each `open` is made once more where memory was
+//! refused, so the test of refused memory passes where any one allocation fails.
 ghost use Rattle.std.specs.Prelude.{◌≡◌, ◌<◌, ◌≤◌, ◌+◌, All, IfOk};
 
 use nr_map::{Asked, Reader, ReaderMap, Shape, Ticket, Writer};
 use nr_model::OpenFault;
-use nr_trigger::{PostFault, Poster, TakeFault, Taker, Triggers, Upquery};
+use nr_trigger::{Poster, Taker, Triggers};
 use std::alloc::Global;
 use std::process::Abort;
 use std::sync::Wait;
 use std::test::Fail;
 use std::thread;
 use std::thread::{Threads, join};
-
-fn map_of(
-    alloc: Global,
-    keys: u32,
-    readers: u32,
-) -> Result<(ReaderMap, Writer, Vec<Reader>), OpenFault>
-    ensures keys { IfOk result (λ opened. opened.0.shape.keys ≡ keys) }
-    ensures readers { IfOk result (λ opened. All (λ reader. reader.table ≡ opened.0) opened.2.items) }
-{
-    match ReaderMap::open(alloc, keys, 1, readers, 0) {
-        Err(OpenFault::Memory) => ReaderMap::open(alloc, keys, 1, readers, 0),
-        opened => opened,
-    }
-}
 
 // A queue for keys below 20.
 fn queue_of(
@@ -54,125 +39,12 @@ fn sent(rt: &impl Abort, map: &ReaderMap, reader: &mut Reader, key: u32) -> Tick
     }
 }
 
-fn post_now<R: Abort + Wait>(rt: &R, triggers: &Triggers, poster: &mut Poster, ticket: Ticket)
-    requires own { poster.old.queue ≡ triggers.now.id }
-    requires key { ticket.key < poster.old.keys }
-    ensures own { (poster.new.queue ≡ triggers.now.id) × (poster.new.keys ≡ poster.old.keys) }
-{
-    if let Err(back) = triggers.post(rt, poster, ticket) {
-        back.into_key();
-        panic!(rt; "the queue was full")
-    }
-}
-
-fn handed_back<R: Abort + Wait>(
-    rt: &R,
-    triggers: &Triggers,
-    poster: &mut Poster,
-    ticket: Ticket,
-) -> Ticket
-    requires own { poster.old.queue ≡ triggers.now.id }
-    requires key { ticket.key < poster.old.keys }
-    ensures own { (poster.new.queue ≡ triggers.now.id) × (poster.new.keys ≡ poster.old.keys) }
-    ensures same { result ≡ ticket }
-{
-    match triggers.post(rt, poster, ticket) {
-        Ok(()) => panic!(rt; "the queue was not full"),
-        Err(back) => back,
-    }
-}
-
-/// The key and the number of what is at the front.
-fn taken(rt: &impl Wait, triggers: &Triggers, taker: &mut Taker) -> Option<(u32, u64)>
+// The key at the front.
+fn taken(rt: &impl Wait, triggers: &Triggers, taker: &mut Taker) -> Option<u32>
     requires own { taker.old.queue ≡ triggers.now.id }
     ensures own { taker.new.queue ≡ triggers.now.id }
 {
-    let trigger = triggers.take(rt, taker)?;
-    let number = trigger.number();
-    let key = trigger.key();
-    trigger.into_key();
-    Some((key, number))
-}
-
-fn post_to_a_queue_of_one<R: Abort + Wait>(
-    rt: &R,
-    map: &ReaderMap,
-    triggers: &Triggers,
-    reader: &mut Reader,
-    poster: &mut Poster,
-    taker: &mut Taker,
-)
-    requires map { (reader.old.table ≡ map.now) × (map.now.shape.keys ≡ 2) }
-    requires poster { (poster.old.queue ≡ triggers.now.id) × (poster.old.keys ≡ 20) }
-    requires taker { taker.old.queue ≡ triggers.now.id }
-{
-    let first = sent(rt, map, reader, 0);
-    post_now(rt, triggers, poster, first);
-    let second = sent(rt, map, reader, 1);
-    let second = handed_back(rt, triggers, poster, second);
-    assert_eq!(rt; second.key(), 1);
-    assert_eq!(rt; taken(rt, triggers, taker), Some((0, 0)));
-    post_now(rt, triggers, poster, second);
-    assert_eq!(rt; taken(rt, triggers, taker), Some((1, 0)));
-    assert_eq!(rt; taken(rt, triggers, taker), None);
-}
-
-#[test]
-fn a_full_queue_hands_the_ticket_back(rt: HostRuntime) -> Result<(), Fail> {
-    let (map, _writer, mut readers) = map_of(rt.alloc(), 2, 1)?;
-    let (triggers, mut posters, mut taker) = queue_of(rt.alloc(), 1, 1)?;
-    if let (Some(mut reader), Some(mut poster)) = (readers.pop(), posters.pop()) {
-        post_to_a_queue_of_one(&rt, &map, &triggers, &mut reader, &mut poster, &mut taker);
-    }
-    Ok(())
-}
-
-// What one attempt to post was answered.
-fn try_now(triggers: &Triggers, poster: &mut Poster, upquery: Upquery) -> Result<(), PostFault>
-    requires own { poster.old.queue ≡ triggers.now.id }
-    requires key { upquery.key < poster.old.keys }
-    ensures own { (poster.new.queue ≡ triggers.now.id) × (poster.new.keys ≡ poster.old.keys) }
-{
-    triggers.try_post(poster, upquery)
-}
-
-/// What one attempt took from the front.
-fn taken_at_once(triggers: &Triggers, taker: &mut Taker) -> Result<(u32, u64), TakeFault>
-    requires own { taker.old.queue ≡ triggers.now.id }
-    ensures own { taker.new.queue ≡ triggers.now.id }
-{
-    let trigger = triggers.try_take(taker)?;
-    let number = trigger.number();
-    Ok((trigger.into_key(), number))
-}
-
-fn try_a_queue_of_one(rt: &impl Abort, triggers: &Triggers, poster: &mut Poster, taker: &mut Taker)
-    requires poster { (poster.old.queue ≡ triggers.now.id) × (poster.old.keys ≡ 20) }
-    requires taker { taker.old.queue ≡ triggers.now.id }
-{
-    let first = Upquery { key: 3, number: 5 };
-    let second = Upquery { key: 4, number: 6 };
-    assert_eq!(rt; taken_at_once(triggers, taker), Err(TakeFault::Empty));
-    assert_eq!(rt; try_now(triggers, poster, first), Ok(()));
-    assert_eq!(rt; try_now(triggers, poster, second), Err(PostFault::Full));
-    assert_eq!(rt; taken_at_once(triggers, taker), Ok((3, 5)));
-    assert_eq!(rt; try_now(triggers, poster, second), Ok(()));
-    assert_eq!(rt; taken_at_once(triggers, taker), Ok((4, 6)));
-}
-
-#[test]
-fn one_attempt_posts_and_takes_where_nobody_is_in_the_way(rt: HostRuntime) -> Result<(), Fail> {
-    let (triggers, mut posters, mut taker) = queue_of(rt.alloc(), 1, 1)?;
-    if let Some(mut poster) = posters.pop() {
-        try_a_queue_of_one(&rt, &triggers, &mut poster, &mut taker);
-    }
-    Ok(())
-}
-
-// Memory may be refused once: the queue is then opened by a second try.
-#[test]
-fn refused_memory_is_told_and_opens_no_queue(rt: HostRuntime) {
-    assert!(rt; queue_of(rt.alloc(), 3, 2).is_ok());
+    Some(triggers.take(rt, taker)?.into_key())
 }
 
 // A queue whose sizes may be large.
@@ -208,39 +80,10 @@ fn large_map_of(
 
 // Memory may be refused once: each is then opened by a second try.
 #[test]
-fn refused_memory_is_told_and_opens_nothing_large(rt: HostRuntime) {
+fn refused_memory_is_told_and_opens_nothing(rt: HostRuntime) {
+    assert!(rt; queue_of(rt.alloc(), 3, 2).is_ok());
     assert!(rt; large_queue_of(rt.alloc(), 65_537, 1_025).is_ok());
     assert!(rt; large_map_of(rt.alloc(), 131_073, 1_025).is_ok());
-}
-
-#[test]
-fn large_sizes_have_their_limits(rt: HostRuntime) {
-    for (capacity, posters) in [(0, 1), (4_194_304, 1), (1, 0), (1, 65_536)] {
-        assert!(rt;
-            matches!(
-                large_queue_of(rt.alloc(), capacity, posters),
-                Err(OpenFault::BadSize)
-            )
-        );
-    }
-    for (capacity, posters) in [(1, 1), (4_194_303, 1), (1, 65_535)] {
-        assert!(rt; large_queue_of(rt.alloc(), capacity, posters).is_ok());
-    }
-}
-
-#[test]
-fn sizes_have_their_limits(rt: HostRuntime) {
-    for (capacity, posters) in [(0, 1), (65_537, 1), (1, 0), (1, 1025)] {
-        assert!(rt;
-            matches!(
-                queue_of(rt.alloc(), capacity, posters),
-                Err(OpenFault::BadSize)
-            )
-        );
-    }
-    for (capacity, posters) in [(1, 1), (65_536, 1), (1, 1024)] {
-        assert!(rt; queue_of(rt.alloc(), capacity, posters).is_ok());
-    }
 }
 
 // Posts the ticket, again whenever it comes back.
@@ -291,7 +134,7 @@ fn take_twenty(rt: &impl Wait, triggers: &Triggers, mut taker: Taker) -> [u32; 2
             return keys;
         }
         match taken(rt, triggers, &mut taker) {
-            Some((key, _)) => {
+            Some(key) => {
                 keys[count] = key;
                 count += 1;
             }
@@ -369,10 +212,10 @@ fn assert_in_order(rt: &impl Abort, keys: [u32; 20]) {
 
 #[test]
 fn each_ticket_comes_once_and_in_order(rt: HostRuntime) -> Result<(), Fail> {
-    let (map, _writer, mut readers) = map_of(rt.alloc(), 20, 2)?;
+    let (map, _writer, mut readers) = ReaderMap::open(rt.alloc(), 20, 1, 2, 0)?;
     let (triggers, mut posters, taker) = queue_of(rt.alloc(), 3, 2)?;
     let (Some(one), Some(two)) = (readers.pop(), readers.pop()) else {
-        return Ok(());
+        return Err("too few readers".into());
     };
     if let (Some(first), Some(second)) = (posters.pop(), posters.pop()) {
         let keys = all_at_once(&rt, &map, &triggers, (one, two), (first, second), taker);

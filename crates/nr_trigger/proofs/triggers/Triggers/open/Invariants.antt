@@ -1,4 +1,5 @@
+use Rattle.nr_trigger.specs.Posts.{without_notes}
 use Rattle.nr_trigger.proofs.triggers.Triggers.open.Given as goal
 
 abbrev pub ghost-seated : goal.ghost-seated
-ghost-seated g a = g.keys
+ghost-seated g a = without_notes g.keys
