@@ -15,7 +15,7 @@ sent-append (e ∷ es) fs = ap (λ (l : List Upquery). sent_by e.call e.reply ++
 
 pub posts_none : (kept : Option Request) (poster : PosterSeen) → Posts kept poster [] kept poster
 posts_none kept poster = record {
-  same = record { queue = refl; keys = refl; number = refl };
+  same = record { queue = refl; keys = refl; map = refl; number = refl };
   gain = [];
   posted = sym (append-nil poster.posted);
   all = append-nil (kept_upqueries kept);
@@ -23,7 +23,7 @@ posts_none kept poster = record {
 
 posts_both : (k₀ k₁ k₂ : Option Request) (p₀ p₁ p₂ : PosterSeen) (s₁ s₂ : List Upquery) → Posts k₀ p₀ s₁ k₁ p₁ → Posts k₁ p₁ s₂ k₂ p₂ → Posts k₀ p₀ (s₁ ++ s₂) k₂ p₂
 posts_both k₀ k₁ k₂ p₀ p₁ p₂ s₁ s₂ one two = record {
-  same = record { queue = two.same.queue ∙ one.same.queue; keys = two.same.keys ∙ one.same.keys; number = two.same.number ∙ one.same.number };
+  same = record { queue = two.same.queue ∙ one.same.queue; keys = two.same.keys ∙ one.same.keys; map = two.same.map ∙ one.same.map; number = two.same.number ∙ one.same.number };
   gain = one.gain ++ two.gain;
   posted = two.posted ∙ ap (λ (l : List Upquery). l ++ two.gain) one.posted ∙ append_assoc p₀.posted one.gain two.gain;
   all = sym (append_assoc (kept_upqueries k₀) s₁ s₂) ∙ ap (λ (l : List Upquery). l ++ s₂) one.all ∙ append_assoc one.gain (kept_upqueries k₁) s₂ ∙ ap (λ (l : List Upquery). one.gain ++ l) two.all

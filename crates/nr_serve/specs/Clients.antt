@@ -8,9 +8,12 @@ use Rattle.nr_serve.specs.Counts.{GuestSeen}
 use Rattle.nr_serve.specs.Hands.{IsReady, capped}
 use Rattle.nr_serve.specs.Tickets.{sent}
 
-pub record ClientSeen : Type 0 where
+pub record ClientSeen (G : Type 0) : Type 0 where
   pub map : Table
   pub queue : Queue
+  pub gate : G
+  -- the number by which the gate is told of it
+  pub worker : ℕ
   -- what it was opened with
   pub opened : Hands
   pub hands : Hands

@@ -58,6 +58,19 @@ pub record MissesOnce (key : ℕ) (old : Hands) (request : Requested) (new : Han
   pub leaves : LeavesKept request new.kept
   pub attempts : new.poster.tries ≡ old.poster.tries + (kept_attempts old.kept + sent_attempts request)
 
+-- a fill of the key is to come, or was made since
+abbrev pub IsPending : Requested → Type 0
+IsPending NotMade = ⊥
+IsPending (Sent number) = Unit {0}
+IsPending Waiting = Unit {0}
+IsPending Filled = ⊥
+
+-- one try was made between these two, it found a hole, a fill is to come, and no ticket is kept
+pub record AwaitsFill (key : ℕ) (old : Hands) (request : Requested) (new : Hands) : Type 0 where
+  pub missed : MissesOnce key old request new
+  pub pending : IsPending request
+  pub posted : new.kept ≡ None
+
 -- tries that found a hole, one after the other
 abbrev pub MissesAll : ℕ → Hands → List Requested → Hands → Type 0
 MissesAll key old [] new = new ≡ old

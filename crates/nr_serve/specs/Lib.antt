@@ -6,5 +6,6 @@ pub mod Callers
 pub mod Tickets
 pub mod Hands
 pub mod Gets
+pub mod Gates
 pub mod Clients
 pub mod Heard

@@ -1,4 +1,6 @@
 //! What a get and its tries come to.
+ghost use Rattle.std.specs.Prelude.{◌≡◌, true};
+ghost use Rattle.nr_serve.specs.Gets.{IsPending};
 
 /// How a get ended.
 #[derive(Clone, Copy, Debug, PartialEq, Eq)]
@@ -26,7 +28,9 @@ pub enum Requested {
 
 impl Requested {
     // Whether a fill is to come, if no ticket is kept.
-    pub(crate) fn is_pending(&self) -> bool {
+    pub(crate) fn is_pending(&self) -> bool
+        ensures { result ≡ true → IsPending self.now }
+    {
         matches!(self, Requested::Sent(_) | Requested::Waiting)
     }
 }

@@ -36,14 +36,16 @@ impl<'a, G> Model for Client<'a, G> {
     ghost use Rattle.std.specs.Prelude.{IsSome, unwrap_or};
     ghost use Rattle.nr_serve.specs.Clients.{ClientSeen, IsServing};
 
-    ghost Value = { ClientSeen };
+    ghost Value = { ClientSeen G };
 
-    ghost view = { λ client. record { map = client.places.map.now; queue = client.places.triggers.now; opened = client.opened.value; hands = unwrap_or client.hands client.opened.value; guest = client.lobby; turns = client.turns } };
+    ghost view = { λ client. record { map = client.places.map.now; queue = client.places.triggers.now; gate = client.places.gate.now; worker = client.places.worker; opened = client.opened.value; hands = unwrap_or client.hands client.opened.value; guest = client.lobby; turns = client.turns } };
 
     ghost invariant = { λ client. IsSome client.hands × IsServing client.places.map.now client.places.triggers.now client.opened.value (unwrap_or client.hands client.opened.value) };
 }
 
 impl<'a, G: Gate> Client<'a, G> {
+    ghost use Rattle.nr_serve.specs.Gates.{AsksGate};
+
     /// A client of a map and a queue that takes the tickets of all keys of the map. Its worker
     /// number is its reader's.
     pub fn open(
@@ -58,6 +60,7 @@ impl<'a, G: Gate> Client<'a, G> {
         requires queue { poster.queue ≡ triggers.now.id }
         requires keys { map.now.shape.keys ≤ poster.keys }
         ensures places { (result.map ≡ map.now) × (result.queue ≡ triggers.now) }
+        ensures gate { (result.gate ≡ gate.now) × (result.worker ≡ reader.number) }
         ensures hands { result.hands ≡ record { reader = reader; poster = poster; kept = None; sends = 0 } }
         ensures opened { result.opened ≡ result.hands }
         ensures guest { IsNew result.guest }
@@ -95,7 +98,9 @@ impl<'a, G: Gate> Client<'a, G> {
         ensures at_once { tries ≡ 0 → self.new.hands ≡ self.old.hands }
         ensures looks { OnlyLooks self.old.guest self.new.guest }
         ensures turns { self.new.turns ≡ capped (self.old.turns + 1) }
+        ensures asks { AsksGate G.lets G.hears self.old.gate self.old.worker self.new.turns result }
         ensures places { (self.new.map ≡ self.old.map) × (self.new.queue ≡ self.old.queue) }
+        ensures gate { (self.new.gate ≡ self.old.gate) × (self.new.worker ≡ self.old.worker) }
         ensures opened { self.new.opened ≡ self.old.opened }
     {
         let Some(hands) = self.hands.take() else {

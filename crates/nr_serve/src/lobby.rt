@@ -1,6 +1,6 @@
 //! Where clients sleep until the dataflow has done something, and the dataflow until something was
 //! posted.
-ghost use Rattle.std.specs.Prelude.{◌≡◌, ◌≢◌, ◌<◌, ◌≤◌, ◌+◌, ◌⊎◌, ◌++◌, ◌∷◌, ◌↔◌, [], IfErr, IsTrue, slice_index};
+ghost use Rattle.std.specs.Prelude.{◌≡◌, ◌≢◌, ◌<◌, ◌≤◌, ◌+◌, ◌⊎◌, ◌++◌, ◌∷◌, ◌↔◌, [], IfErr, IfSome, IsTrue, slice_index};
 ghost use Rattle.nr_serve.specs.Counts.{IsLaterOf, IsNew, OnlyLooks, closed_at, group_at, groups_below, raises_for, whole_at};
 
 use crate::counts::{CLOSED_AT, Counts, Guest};
@@ -8,6 +8,7 @@ use crossbeam_utils::CachePadded;
 use crossbeam_utils::sync::EventCount;
 use nr_model::OpenFault;
 use std::alloc::Global;
+use std::hint;
 use std::marker::Model;
 use std::sync::Wait;
 use std::sync::atomic::{AtomicU64, Ordering};
@@ -17,6 +18,9 @@ const GROUPS: u32 = 64;
 
 /// The place of the count of the whole lobby.
 const WHOLE_AT: usize = 512;
+
+/// How often a thread looks before it goes to sleep, since to sleep and wake takes longer than a fill.
+const LOOKS: u32 = 1_000;
 
 /// Counts that only rise, one for each group of keys and one for all, with those who sleep until
 /// they have risen. A key's group is its number modulo 64. Beside them a bell, which a post rings.
@@ -179,6 +183,9 @@ impl Lobby {
         requires { guest.old.lobby ≡ self.now }
         ensures { OnlyLooks guest.old guest.new }
     {
+        if self.is_soon_rung(rings) {
+            return;
+        }
         for _ in rt.forever() {
             let wait = self.rung.prepare_wait();
             if self.rings() != rings || self.is_closed(guest) {
@@ -187,6 +194,17 @@ impl Lobby {
             wait.wait(rt);
         }
         unreachable!()
+    }
+
+    // Looks for a short while whether the bell is rung.
+    fn is_soon_rung(&self, rings: u64) -> bool {
+        for _ in 0..LOOKS {
+            if self.rings() != rings {
+                return true;
+            }
+            hint::spin_loop();
+        }
+        false
     }
 
     // The last raise closes the lobby before it is made.
@@ -226,6 +244,9 @@ impl Lobby {
         ensures past { (n < result) ⊎ (0 < slice_index guest.new.seen closed_at) }
         ensures between { (slice_index guest.old.seen place ≤ result) × (result ≤ slice_index guest.new.seen place) }
     {
+        if let Some(count) = self.soon_past(guest, place, n) {
+            return count;
+        }
         for _ in rt.forever() {
             let wait = changed.prepare_wait();
             let count = self.counts.at(guest, place);
@@ -235,6 +256,24 @@ impl Lobby {
             wait.wait(rt);
         }
         unreachable!()
+    }
+
+    // Looks for a short while for a count at a place that is more than `n`.
+    #[tactic(auto, using(crate::proofs::Later::looks_none, crate::proofs::Later::looks_both))]
+    fn soon_past(&self, guest: &mut Guest, place: usize, n: u64) -> Option<u64>
+        requires lobby { guest.old.lobby ≡ self.now }
+        requires place { place < 528 }
+        ensures looks { OnlyLooks guest.old guest.new }
+        ensures past { IfSome result (λ count. (n < count) × (slice_index guest.old.seen place ≤ count) × (count ≤ slice_index guest.new.seen place)) }
+    {
+        for _ in 0..LOOKS {
+            let count = self.counts.at(guest, place);
+            if count > n {
+                return Some(count);
+            }
+            hint::spin_loop();
+        }
+        None
     }
 
     fn wake_all(&self) {

@@ -2,14 +2,15 @@
 ghost use Rattle.std.specs.Prelude.{◌≡◌, ◌<◌, ◌+◌, ◌*◌, [], length, None};
 ghost use Rattle.nr_board.specs.Callers.{Rests};
 ghost use Rattle.nr_serve.specs.Counts.{OnlyLooks};
-ghost use Rattle.nr_serve.specs.Gets.{AnswersPin, Gets, LeavesKept, TriesOnce, kept_attempts, requested, sent_attempts};
+ghost use Rattle.nr_serve.specs.Gates.{AsksGate, AsksOnce};
+ghost use Rattle.nr_serve.specs.Gets.{AnswersPin, Gets, LeavesKept, MissesOnce, TriesOnce, kept_attempts, requested, sent_attempts};
 ghost use Rattle.nr_serve.specs.Hands.{IsReady, Moves};
 
 use crate::answers::{Got, Requested, Tried};
 use crate::gate::Gate;
 use crate::hands::Hands;
 use crate::places::Places;
-use crate::watched::Watched;
+use crate::watched::{Counted, Watched};
 use nr_map::{Asked, Pin, Reader, ReaderMap};
 use nr_model::RowSet;
 use nr_trigger::Triggers;
@@ -96,8 +97,10 @@ fn request<R: Wait>(
 }
 
 // Asks the gate until it lets pass, but not for ever.
-fn lets_pass<G: Gate>(places: &Places<'_, G>, turn: u64) -> bool {
-    for _ in 0..MAX_PASSES {
+fn lets_pass<G: Gate>(places: &Places<'_, G>, turn: u64) -> bool
+    ensures { G.lets places.now.gate.now places.now.worker turn result }
+{
+    for _asked in 0..MAX_PASSES {
         if places.gate.pass(places.worker, turn) {
             return true;
         }
@@ -111,6 +114,7 @@ fn lets_pass<G: Gate>(places: &Places<'_, G>, turn: u64) -> bool {
 fn answer<G: Gate>(places: &Places<'_, G>, turn: u64, pin: Pin, rows: &mut RowSet) -> (Got, Reader)
     requires own { pin.reader.table ≡ places.now.map.now }
     ensures answers { AnswersPin pin rows.old result.0 result.1 rows.new }
+    ensures asks { AsksGate G.lets G.hears places.now.gate.now places.now.worker turn result.0 }
     ensures idle { result.1.holds ≡ None }
 {
     let mut pin = pin;
@@ -138,6 +142,7 @@ fn try_once<G: Gate, R: Wait>(
     requires key { key < places.now.map.now.shape.keys }
     ensures ready { IsReady places.now.map.now places.now.triggers.now result.1 }
     ensures tries { TriesOnce key hands rows.old result.0 result.1 rows.new }
+    ensures asks { AsksOnce G.lets G.hears places.now.gate.now places.now.worker turn result.0 }
 {
     let Hands {
         reader,
@@ -158,13 +163,22 @@ fn try_once<G: Gate, R: Wait>(
     }
 }
 
-// Sleeps until the count of the key's group has gone past that, if a fill is to come.
+// After a try that found a hole: sleeps until the count has gone past what it was before the try, if
+// another try is to follow, no ticket is kept and a fill is to come.
 #[tactic(auto, using(crate::proofs::Later::looks_none))]
-fn sleep_if<R: Wait>(rt: &R, lobby: &mut Watched<'_>, is_to_come: bool, key: u32, count: u64)
+fn sleep_if<R: Wait>(
+    rt: &R,
+    lobby: &mut Watched<'_>,
+    has_more: bool,
+    counted: &Counted,
+    requested: &Requested,
+    hands: &Hands,
+)
+    requires { MissesOnce counted.now.key counted.now.hands.value requested.now hands.now }
     ensures { OnlyLooks lobby.old lobby.new }
 {
-    if is_to_come {
-        lobby.wait_past_for(rt, key, count);
+    if has_more && requested.is_pending() && hands.kept.is_none() {
+        lobby.wait_past(rt, counted, requested, hands);
     }
 }
 
@@ -187,18 +201,18 @@ pub(crate) fn get_by_tries<G: Gate, R: Wait>(
     ensures gets { Gets key tries hands rows.old result.0 result.1 rows.new }
     ensures at_once { tries ≡ 0 → result.1 ≡ hands }
     ensures looks { OnlyLooks lobby.old lobby.new }
+    ensures asks { AsksGate G.lets G.hears places.now.gate.now places.now.worker turn result.0 }
 {
     let mut hands = hands;
     for i in 0..tries {
-        let count = lobby.count_for(key);
+        let counted = lobby.count_for(key, &hands);
         let (tried, left) = try_once(rt, places, lobby, turn, key, hands, rows);
         hands = left;
         let requested = match tried {
             Tried::Ended(got) => return (got, hands),
             Tried::Missed(requested) => requested,
         };
-        let is_to_come = i + 1 < tries && requested.is_pending() && hands.kept.is_none();
-        sleep_if(rt, lobby, is_to_come, key, count);
+        sleep_if(rt, lobby, i + 1 < tries, &counted, &requested, &hands);
     }
     (Got::GaveUp, hands)
 }

@@ -1,10 +1,23 @@
 //! The lobby as a client has it.
+ghost use Rattle.std.specs.Prelude.{◌≡◌};
 ghost use Rattle.nr_serve.specs.Counts.{IsNew, OnlyLooks};
+ghost use Rattle.nr_serve.specs.Gets.{AwaitsFill};
 
+use crate::answers::Requested;
 use crate::counts::Guest;
+use crate::hands::Hands;
 use crate::lobby::Lobby;
 use std::marker::Model;
+use std::snapshot::Snapshot;
 use std::sync::Wait;
+
+/// The count of a key's group, and what the client had in its hands when it read that.
+#[derive(Drop)]
+pub(crate) struct Counted {
+    key: u32,
+    count: u64,
+    hands: Snapshot<Hands>,
+}
 
 /// A lobby with a client's own guest, by which alone one looks and sleeps there. It is neither raised
 /// nor closed through this.
@@ -33,19 +46,36 @@ impl<'a> Watched<'a> {
         Watched { lobby, guest }
     }
 
-    /// The count of this key's group.
+    /// The count of this key's group, for a client that makes a try then.
     #[inline(always)]
-    pub(crate) fn count_for(&mut self, key: u32) -> u64
-        ensures { OnlyLooks self.old self.new }
+    pub(crate) fn count_for(&mut self, key: u32, hands: &Hands) -> Counted
+        ensures looks { OnlyLooks self.old self.new }
+        ensures key { result.key ≡ key }
+        ensures hands { result.hands.value ≡ hands.now }
     {
-        self.lobby.count_for(&mut self.guest, key)
+        Counted {
+            key,
+            count: self.lobby.count_for(&mut self.guest, key),
+            hands: Snapshot::of(hands),
+        }
     }
 
-    /// Sleeps while the count of this key's group is at most `n` and the lobby isn't closed.
-    pub(crate) fn wait_past_for<R: Wait>(&mut self, rt: &R, key: u32, n: u64)
+    /// Sleeps after a try that was made since the count was read, and to which a fill is to come: while
+    /// the count of the key's group is at most that and the lobby isn't closed.
+    pub(crate) fn wait_past<R: Wait>(
+        &mut self,
+        rt: &R,
+        counted: &Counted,
+        requested: &Requested,
+        hands: &Hands,
+    )
+        requires { AwaitsFill counted.now.key counted.now.hands.value requested.now hands.now }
         ensures { OnlyLooks self.old self.new }
     {
-        self.lobby.wait_past_for(rt, &mut self.guest, key, n);
+        let _ = requested;
+        let _ = hands;
+        self.lobby
+            .wait_past_for(rt, &mut self.guest, counted.key, counted.count);
     }
 
     pub(crate) fn ring(&self) {

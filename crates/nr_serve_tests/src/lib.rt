@@ -12,3 +12,5 @@ mod opened;
 mod scenes;
 #[cfg(test)]
 mod threads;
+#[cfg(test)]
+mod told;

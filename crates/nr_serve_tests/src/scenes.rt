@@ -3,8 +3,8 @@ ghost use Rattle.std.specs.Prelude.{◌≡◌};
 
 use crate::gates::Noting;
 use crate::opened::{Opened, Plain, end_client, end_flow, gets, misses, turns};
-use nr_map::{Cancel, Evict, NoSlot};
-use nr_model::{Delta, Row, RowSet};
+use nr_map::{Evict, NoSlot};
+use nr_model::RowSet;
 use nr_serve::{Client, Dataflow, Got, Lobby, Turn};
 use std::alloc::Global;
 use std::process::Abort;
@@ -16,8 +16,6 @@ enum Scene {
     ClosedLobby,
     ShutGate,
     NoSlot,
-    StaleTrigger,
-    ToldOfAnApply,
 }
 
 // A get that would sleep, if the lobby were open.
@@ -45,7 +43,7 @@ fn is_barred_and_passes<R: Abort + Wait>(
     assert_eq!(rt; gate.noted(), (1_000_001, 1));
 }
 
-// There is one slot, which key 0 has until it is evicted.
+// There is one slot, which key 0 has until it is evicted. The source was told the map's bound on rows.
 fn keeps_its_trigger<R: Abort + Wait>(
     rt: &R,
     client: &mut Client<'_, Noting>,
@@ -60,69 +58,15 @@ fn keeps_its_trigger<R: Abort + Wait>(
     turns(rt, flow, Turn::Kept(NoSlot { live: 1, held: 0 }));
     assert_eq!(rt; flow.evict(0), Evict::Evicted);
     turns(rt, flow, Turn::Filled(1));
-}
-
-// The request is taken back, and the client asks anew: the first request's trigger is passed.
-fn passes_the_first<R: Abort + Wait>(
-    rt: &R,
-    client: &mut Client<'_, Noting>,
-    flow: &mut Dataflow<'_, Plain>,
-)
-    requires client { client.old.map.shape.keys ≡ 2 }
-    requires flow { flow.old.map.shape.keys ≡ 2 }
-{
-    misses(rt, client, 0);
-    assert_eq!(rt; flow.cancel(rt, 0), Cancel::Cancelled);
-    misses(rt, client, 0);
-    turns(rt, flow, Turn::Passed(0));
-    turns(rt, flow, Turn::Filled(0));
-    turns(rt, flow, Turn::Idle);
-}
-
-// The source was told the map's bound on rows, and a row is added.
-fn applies<R: Abort>(rt: &R, flow: &mut Dataflow<'_, Plain>)
-    requires { flow.old.map.shape.keys ≡ 2 }
-    ensures { flow.new.map ≡ flow.old.map }
-{
-    let more = Delta {
-        plus: true,
-        row: Row { a: 1, b: 7 },
-    };
     let bound = flow.source().bound;
     assert_eq!(rt; bound, 15);
-    assert!(rt; flow.apply_rows(0, &[more]).is_ok());
-}
-
-// A client that hears of an apply gets its rows.
-fn hears_of_an_apply<R: Abort + Wait>(
-    rt: &R,
-    client: &mut Client<'_, Noting>,
-    flow: &mut Dataflow<'_, Plain>,
-)
-    requires client { client.old.map.shape.keys ≡ 2 }
-    requires flow { (flow.old.map.shape.keys ≡ 2) × (flow.old.map ≡ client.old.map) }
-{
-    let mut rows = RowSet::new();
-    misses(rt, client, 0);
-    turns(rt, flow, Turn::Filled(0));
-    applies(rt, flow);
-    client.hear(flow.note());
-    gets(rt, client, 0, &mut rows, Got::Rows);
-    assert!(rt; has_both(&rows));
-}
-
-/// The rows `0:5` and `1:7`.
-fn has_both(rows: &RowSet) -> bool {
-    rows.len() == 2
-        && rows.get(0) == Some(Row { a: 0, b: 5 })
-        && rows.get(1) == Some(Row { a: 1, b: 7 })
 }
 
 impl Scene {
     fn slots(self) -> u32 {
         match self {
             Scene::NoSlot => 1,
-            Scene::ClosedLobby | Scene::ShutGate | Scene::StaleTrigger | Scene::ToldOfAnApply => 4,
+            Scene::ClosedLobby | Scene::ShutGate => 4,
         }
     }
 
@@ -130,7 +74,7 @@ impl Scene {
     fn first(self) -> u64 {
         match self {
             Scene::ShutGate => 3,
-            Scene::ClosedLobby | Scene::NoSlot | Scene::StaleTrigger | Scene::ToldOfAnApply => 1,
+            Scene::ClosedLobby | Scene::NoSlot => 1,
         }
     }
 
@@ -143,14 +87,12 @@ impl Scene {
         flow: &mut Dataflow<'_, Plain>,
     )
         requires client { client.old.map.shape.keys ≡ 2 }
-        requires flow { (flow.old.map.shape.keys ≡ 2) × (flow.old.map ≡ client.old.map) }
+        requires flow { flow.old.map.shape.keys ≡ 2 }
     {
         match self {
             Scene::ClosedLobby => gives_up(rt, lobby, client),
             Scene::ShutGate => is_barred_and_passes(rt, gate, client, flow),
             Scene::NoSlot => keeps_its_trigger(rt, client, flow),
-            Scene::StaleTrigger => passes_the_first(rt, client, flow),
-            Scene::ToldOfAnApply => hears_of_an_apply(rt, client, flow),
         }
     }
 }
@@ -193,14 +135,4 @@ fn a_gate_that_never_lets_pass_bars_a_get(rt: HostRuntime) -> Result<(), Fail> {
 #[test]
 fn a_turn_without_a_slot_keeps_its_trigger(rt: HostRuntime) -> Result<(), Fail> {
     play(&rt, rt.alloc(), Scene::NoSlot)
-}
-
-#[test]
-fn a_stale_trigger_is_passed(rt: HostRuntime) -> Result<(), Fail> {
-    play(&rt, rt.alloc(), Scene::StaleTrigger)
-}
-
-#[test]
-fn who_is_told_of_an_apply_gets_its_rows(rt: HostRuntime) -> Result<(), Fail> {
-    play(&rt, rt.alloc(), Scene::ToldOfAnApply)
 }

@@ -24,6 +24,6 @@ loop-i-preserved g c =
       ready = c.try_once-tried.ensures.ready;
       missed = missed_more c.args.key c.loop-i.i c.args.hands c.loop-i.hands c.try_once-tried.result.1 c.loop-i.rows c.try_once-tried.new.rows c.in-Missed.requested so_far.missed once;
       rows = once.1 ∙ so_far.rows;
-      looks = looks_both _ _ _ so_far.looks (looks_both _ _ _ c.count_for-count.ensures c.sleep_if.ensures);
+      looks = looks_both _ _ _ so_far.looks (looks_both _ _ _ c.count_for-counted.ensures.looks c.sleep_if.ensures);
       at_once = λ none. absurd (omega (arith, none));
     }
