@@ -14,11 +14,11 @@ use Rattle.nr_board.proofs.Entries.{callers_before}
 use Rattle.nr_board.specs.Entries.{AreCallers}
 use Rattle.nr_map.specs.Rounds.{EntriesAreCallers}
 use Rattle.nr_board.specs.Rule.{StartsWith}
-use Rattle.nr_alone.specs.declared.seat.Seat.{Seat}
-use Rattle.nr_alone.specs.declared.seat.Seat.TheVariants.{Idle}
-use Rattle.nr_alone.specs.Seats.{caller_in, mine_of}
+use Rattle.nr_alone.specs.declared.reader_token.ReaderToken.{ReaderToken}
+use Rattle.nr_alone.specs.declared.reader_token.ReaderToken.TheVariants.{Idle}
+use Rattle.nr_alone.specs.Tokens.{caller_in, mine_of}
 use Rattle.nr_alone.specs.Rounds.{IsSoundWriter}
-use Rattle.nr_alone.specs.Alone.{HasJust, IsSeat, calls_of, log_of, made, one_each}
+use Rattle.nr_alone.specs.Alone.{HasJust, IsToken, calls_of, log_of, made, one_each}
 
 pub entries_own : (entry : Entry) (log : List Entry) (caller : ℕ) → entry.caller ≡ caller → entries_of (entry ∷ log) caller ≡ entry ∷ entries_of log caller
 entries_own entry log caller is = ap (λ (b : Bool). cond b (entry ∷ entries_of log caller) (entries_of log caller)) (eq-eqb entry.caller caller is)
@@ -64,46 +64,46 @@ count_all : (xs : List Entry) → count_by one_each xs ≡ length xs
 count_all [] = refl
 count_all (x ∷ xs) = omega (arith, sum_by-cons (λ (y : Entry). cond (one_each y) 1 0) x xs, count_all xs)
 
-many_callers : (xs : List Seat) → length (map caller_in xs) ≡ length xs
+many_callers : (xs : List ReaderToken) → length (map caller_in xs) ≡ length xs
 many_callers [] = refl
 many_callers (x ∷ xs) = ap suc (many_callers xs)
 
-pub many_mines : (xs : List Seat) → length (map mine_of xs) ≡ length xs
+pub many_mines : (xs : List ReaderToken) → length (map mine_of xs) ≡ length xs
 many_mines [] = refl
 many_mines (x ∷ xs) = ap suc (many_mines xs)
 
 -- the calls of the caller at a place
-pub calls_at : (mine : List Entry) (seats : List Seat) (at : ℕ) (other : Seat) → at < length seats → calls_of mine (map mine_of seats) (suc at) ≡ mine_of (get_or seats at other)
-calls_at mine seats at other low = get_or-map mine_of seats at other [] low
+pub calls_at : (mine : List Entry) (tokens : List ReaderToken) (at : ℕ) (other : ReaderToken) → at < length tokens → calls_of mine (map mine_of tokens) (suc at) ≡ mine_of (get_or tokens at other)
+calls_at mine tokens at other low = get_or-map mine_of tokens at other [] low
 
 next : (at : ℕ) → suc at ≡ at + 1
 next at = omega arith
 
 -- a history with exactly the calls that were made is as long as they are many
-pub as_many : EntriesAreCallers → LegalBegins → (table : Table) (w : Caller) (seats : List Seat) (log : List Entry) → w.table ≡ table → w.number ≡ 0 → length seats ≡ table.shape.readers
-    → ((at : ℕ) (other : Seat) → at < length seats → IsSeat table at (get_or seats at other)) → IsSoundWriter w → StartsWith w.seen log → HasJust log w seats → length log ≡ made w seats
-as_many entries begins table w seats log own zero_is count places sound goes just =
-    let size : length (map caller_in seats) ≡ length seats = many_callers seats in
-    let inside : (at : ℕ) → at < length (map caller_in seats) → at < length seats = λ at low. omega (arith, size, low) in
+pub as_many : EntriesAreCallers → LegalBegins → (table : Table) (w : Caller) (tokens : List ReaderToken) (log : List Entry) → w.table ≡ table → w.number ≡ 0 → length tokens ≡ table.shape.readers
+    → ((at : ℕ) (other : ReaderToken) → at < length tokens → IsToken table at (get_or tokens at other)) → IsSoundWriter w → StartsWith w.seen log → HasJust log w tokens → length log ≡ made w tokens
+as_many entries begins table w tokens log own zero_is count places sound goes just =
+    let size : length (map caller_in tokens) ≡ length tokens = many_callers tokens in
+    let inside : (at : ℕ) → at < length (map caller_in tokens) → at < length tokens = λ at low. omega (arith, size, low) in
     sym (count_all log) ∙
-    entries (record w { seen = log }) (map caller_in seats) one_each (record {
+    entries (record w { seen = log }) (map caller_in tokens) one_each (record {
       number = zero_is;
       own = ap (entries_of log) zero_is ∙ just 0;
       legal = begins (map_at_opening w.table) log goes.rest (subst (λ (l : List Entry). IsLegal (map_at_opening w.table) l) goes.is sound.legal);
       callers = callers_before w.table.shape log goes.rest (subst (λ (l : List Entry). AreCallers w.table.shape l) goes.is sound.callers);
       count = size ∙ count ∙ ap (λ (t : Table). t.shape.readers) (sym own);
       numbers = λ at other low.
-          ap (λ (r : Caller). r.number) (get_or-map caller_in seats at (Idle other) other (inside at low)) ∙ (places at (Idle other) (inside at low)).number ∙ next at;
+          ap (λ (r : Caller). r.number) (get_or-map caller_in tokens at (Idle other) other (inside at low)) ∙ (places at (Idle other) (inside at low)).number ∙ next at;
       each = λ at other low.
-          subst (λ (r : Caller). entries_of log r.number ≡ r.mine) (sym (get_or-map caller_in seats at (Idle other) other (inside at low)))
-          (ap (entries_of log) (places at (Idle other) (inside at low)).number ∙ just (suc at) ∙ calls_at w.mine seats at (Idle other) (inside at low));
+          subst (λ (r : Caller). entries_of log r.number ≡ r.mine) (sym (get_or-map caller_in tokens at (Idle other) other (inside at low)))
+          (ap (entries_of log) (places at (Idle other) (inside at low)).number ∙ just (suc at) ∙ calls_at w.mine tokens at (Idle other) (inside at low));
     })
 
 -- so it is the one that the invariant names
-pub log_is : EntriesAreCallers → LegalBegins → (table : Table) (w : Caller) (seats : List Seat) (log : List Entry) → w.table ≡ table → w.number ≡ 0 → length seats ≡ table.shape.readers
-    → ((at : ℕ) (other : Seat) → at < length seats → IsSeat table at (get_or seats at other)) → IsSoundWriter w → StartsWith w.seen log → HasJust log w seats → log_of w seats ≡ log
-log_is entries begins table w seats log own zero_is count places sound goes just =
-    ap (λ (n : ℕ). take n w.seen) (sym (as_many entries begins table w seats log own zero_is count places sound goes just)) ∙ ap (λ (l : List Entry). take (length log) l) goes.is ∙ take-append_seam log goes.rest
+pub log_is : EntriesAreCallers → LegalBegins → (table : Table) (w : Caller) (tokens : List ReaderToken) (log : List Entry) → w.table ≡ table → w.number ≡ 0 → length tokens ≡ table.shape.readers
+    → ((at : ℕ) (other : ReaderToken) → at < length tokens → IsToken table at (get_or tokens at other)) → IsSoundWriter w → StartsWith w.seen log → HasJust log w tokens → log_of w tokens ≡ log
+log_is entries begins table w tokens log own zero_is count places sound goes just =
+    ap (λ (n : ℕ). take n w.seen) (sym (as_many entries begins table w tokens log own zero_is count places sound goes just)) ∙ ap (λ (l : List Entry). take (length log) l) goes.is ∙ take-append_seam log goes.rest
 
-pub log_begins : (w : Caller) (seats : List Seat) → StartsWith w.seen (log_of w seats)
-log_begins w seats = record { rest = drop (made w seats) w.seen; is = sym (take-append-drop (made w seats) w.seen) }
+pub log_begins : (w : Caller) (tokens : List ReaderToken) → StartsWith w.seen (log_of w tokens)
+log_begins w tokens = record { rest = drop (made w tokens) w.seen; is = sym (take-append-drop (made w tokens) w.seen) }

@@ -13,50 +13,50 @@ use Rattle.nr_marks.specs.MarkLaws.{slots_in_use}
 use Rattle.nr_marks.specs.Marks.{Past}
 use Rattle.nr_marks.specs.Pasts.{AllCurrent, AllKnown, AllReaders, Current}
 use Rattle.nr_board.specs.Callers.{Caller, Table}
-use Rattle.nr_alone.specs.declared.seat.Seat.{Seat}
-use Rattle.nr_alone.specs.declared.seat.Seat.TheVariants.{Idle, Pinned}
+use Rattle.nr_alone.specs.declared.reader_token.ReaderToken.{ReaderToken}
+use Rattle.nr_alone.specs.declared.reader_token.ReaderToken.TheVariants.{Idle, Pinned}
 use Rattle.nr_alone.specs.MapState.{is_full, pinned_puts, put_of}
-use Rattle.nr_alone.specs.Seats.{SeatHoldsItsPin, caller_in, how_of, pin_of}
+use Rattle.nr_alone.specs.Tokens.{TokenHoldsItsPin, caller_in, how_of, pin_of}
 use Rattle.nr_alone.specs.Alone.{IsAlone, IsKnown, log_of, shown_after}
 
 some_put : (slot : Option ℕ) (put : ℕ) → IsSome slot → Some put ≡ option_map (λ (s : ℕ). put) slot
 some_put None put there = absurd (cc)
 some_put (Some s) put there = refl
 
-pin_same : (s : Seat) → SeatHoldsItsPin s → put_of (pin_of s) ≡ pinned_put (how_of s)
+pin_same : (s : ReaderToken) → TokenHoldsItsPin s → put_of (pin_of s) ≡ pinned_put (how_of s)
 pin_same (Idle reader) fits = ap (λ (o : Option ℕ). option_map (λ (slot : ℕ). reader.marks.put) o) (sym fits)
 pin_same (Pinned pin key) fits = some_put pin.reader.holds pin.reader.marks.put fits
 
-pub pins_same : (seats : List Seat) → ((at : ℕ) (other : Seat) → at < length seats → SeatHoldsItsPin (get_or seats at other)) → pinned_puts (map pin_of seats) ≡ pins (map how_of seats)
+pub pins_same : (tokens : List ReaderToken) → ((at : ℕ) (other : ReaderToken) → at < length tokens → TokenHoldsItsPin (get_or tokens at other)) → pinned_puts (map pin_of tokens) ≡ pins (map how_of tokens)
 pins_same [] fits = refl
-pins_same (s ∷ seats) fits =
-    ap (λ (o : Option ℕ). cons_option o (pinned_puts (map pin_of seats))) (pin_same s (fits 0 s (omega arith)))
-    ∙ ap (λ (l : List ℕ). cons_option (pinned_put (how_of s)) l) (pins_same seats (λ at other low. fits (suc at) other (omega arith)))
+pins_same (s ∷ tokens) fits =
+    ap (λ (o : Option ℕ). cons_option o (pinned_puts (map pin_of tokens))) (pin_same s (fits 0 s (omega arith)))
+    ∙ ap (λ (l : List ℕ). cons_option (pinned_put (how_of s)) l) (pins_same tokens (λ at other low. fits (suc at) other (omega arith)))
 
-or_is : (l : List Seat) (i : ℕ) (a d : Seat) → get_elem? l i ≡ some a → get_or l i d ≡ a
+or_is : (l : List ReaderToken) (i : ℕ) (a d : ReaderToken) → get_elem? l i ≡ some a → get_or l i d ≡ a
 or_is [] i a d e = absurd (some-ne-none a (sym e))
 or_is (x ∷ xs) zero a d e = some-injective x a e
 or_is (x ∷ xs) (suc i) a d e = or_is xs i a d e
 
-module _ (table : Table) (w : Caller) (seats : List Seat) (alone : IsAlone table w seats) where
+module _ (table : Table) (w : Caller) (tokens : List ReaderToken) (alone : IsAlone table w tokens) where
   abbrev pub readers : List Past
-  readers = map how_of seats
+  readers = map how_of tokens
 
   pub all_readers : AllReaders table.shape.readers readers
   all_readers zero low high = absurd (omega arith)
   all_readers (suc at) low high =
       let size = alone.stands.count in
-      let there = before seats at (omega (arith, size)) in (
+      let there = before tokens at (omega (arith, size)) in (
         at,
         how_of there.0,
-        at_maps how_of seats at there.0 there.1,
-        ap (λ (s : Seat). (caller_in s).number) (sym (or_is seats at there.0 there.0 there.1)) ∙ (alone.places at there.0 (inside seats at there.0 there.1)).number,
+        at_maps how_of tokens at there.0 there.1,
+        ap (λ (s : ReaderToken). (caller_in s).number) (sym (or_is tokens at there.0 there.0 there.1)) ∙ (alone.places at there.0 (inside tokens at there.0 there.1)).number,
       )
 
-  known_at : (at : ℕ) (one : Past) → get_elem? readers at ≡ some one → (s : Seat) × IsKnown (log_of w seats) w s × (how_of s ≡ one)
+  known_at : (at : ℕ) (one : Past) → get_elem? readers at ≡ some one → (s : ReaderToken) × IsKnown (log_of w tokens) w s × (how_of s ≡ one)
   known_at at one is =
-      let here = at_unmap how_of seats at one is in
-      (here.0, subst (λ (s : Seat). IsKnown (log_of w seats) w s) (or_is seats at here.0 here.0 here.1) (alone.known at here.0 (inside seats at here.0 here.1)), here.2)
+      let here = at_unmap how_of tokens at one is in
+      (here.0, subst (λ (s : ReaderToken). IsKnown (log_of w tokens) w s) (or_is tokens at here.0 here.0 here.1) (alone.known at here.0 (inside tokens at here.0 here.1)), here.2)
 
   pub all_known : AllKnown w.pasts readers
   all_known at one is = let k = known_at at one is in (k.1.place, k.1.known ∙ ap some k.2)
@@ -65,11 +65,11 @@ module _ (table : Table) (w : Caller) (seats : List Seat) (alone : IsAlone table
   all_current at one is = let k = known_at at one is in subst (λ (p : Past). Current w.retired w.marks p) k.2 k.1.current
 
   -- the state's count of slots in use
-  pub in_use_is : (log : List Entry) → filled_count (map_after table.shape log) + strays (keyed (map_after table.shape log).states (put_numbers table.shape log)) (pinned_puts (map pin_of seats)) ≡ slots_in_use table.shape log readers
-  in_use_is log = ap (λ (l : List ℕ). filled_count (map_after table.shape log) + strays (filled_puts table.shape log) l) (pins_same seats (λ at other low. (alone.places at other low).fits))
+  pub in_use_is : (log : List Entry) → filled_count (map_after table.shape log) + strays (keyed (map_after table.shape log).states (put_numbers table.shape log)) (pinned_puts (map pin_of tokens)) ≡ slots_in_use table.shape log readers
+  in_use_is log = ap (λ (l : List ℕ). filled_count (map_after table.shape log) + strays (filled_puts table.shape log) l) (pins_same tokens (λ at other low. (alone.places at other low).fits))
 
-  pub full : (log : List Entry) → slots_in_use table.shape log readers ≡ table.shape.slots → is_full (shown_after table log seats) ≡ true
+  pub full : (log : List Entry) → slots_in_use table.shape log readers ≡ table.shape.slots → is_full (shown_after table log tokens) ≡ true
   full log all = eq-eqb _ _ (in_use_is log ∙ all)
 
-  pub not_full : (log : List Entry) → slots_in_use table.shape log readers < table.shape.slots → is_full (shown_after table log seats) ≡ false
+  pub not_full : (log : List Entry) → slots_in_use table.shape log readers < table.shape.slots → is_full (shown_after table log tokens) ≡ false
   not_full log less = ne_eqb _ _ (λ e. let same = sym (in_use_is log) ∙ e in omega arith)

@@ -14,7 +14,7 @@ use Rattle.nr_machine.specs.declared.shape.Shape.{Shape}
 use Rattle.nr_machine.specs.Story.{map_after}
 use Rattle.nr_board.specs.Callers.{Caller, Table, map_seen, map_at_opening}
 use Rattle.nr_board.specs.Entries.{AreCallers, is_reading}
-use Rattle.nr_alone.specs.declared.seat.Seat.{Seat}
+use Rattle.nr_alone.specs.declared.reader_token.ReaderToken.{ReaderToken}
 use Rattle.nr_alone.specs.Alone.{IsAlone, log_of}
 use Rattle.nr_alone.proofs.Exactly.{entries_own, log_begins}
 use Rattle.nr_board.proofs.Entries.{callers_of_more}
@@ -50,10 +50,10 @@ none_cancelled shape key (e ∷ rest) are none = ⊎_elim
     (arith, one_more key e rest, reading_cancels_none key e.call e.reply other.1, none_cancelled shape key rest are.1 (left_of (e.caller == 0) e (entries_of rest 0) none)))
     are.0.1
 
-pub number_is : NumbersCountCancels → LegalBegins → (table : Table) (w : Caller) (seats : List Seat) → IsAlone table w seats → (key : ℕ) → key < table.shape.keys
-    → number_of (state_of (map_seen w) key) ≡ number_of (state_of (map_after table.shape (log_of w seats)) key)
-number_is counts begins table w seats alone key low =
-    let shape = table.shape in let log : List Entry = log_of w seats in let goes = log_begins w seats in
+pub number_is : NumbersCountCancels → LegalBegins → (table : Table) (w : Caller) (tokens : List ReaderToken) → IsAlone table w tokens → (key : ℕ) → key < table.shape.keys
+    → number_of (state_of (map_seen w) key) ≡ number_of (state_of (map_after table.shape (log_of w tokens)) key)
+number_is counts begins table w tokens alone key low =
+    let shape = table.shape in let log : List Entry = log_of w tokens in let goes = log_begins w tokens in
     let legal : IsLegal (map_at_opening table) w.seen = subst (λ (t : Table). IsLegal (map_at_opening t) w.seen) alone.stands.own alone.sound.legal in
     let legal' : IsLegal (map_at_opening table) log = begins (map_at_opening table) log goes.rest (subst (λ (l : List Entry). IsLegal (map_at_opening table) l) goes.is legal) in
     let callers : AreCallers shape goes.rest = callers_of_more shape log goes.rest (subst (λ (l : List Entry). AreCallers shape l) goes.is (subst (λ (t : Table). AreCallers t.shape w.seen) alone.stands.own alone.sound.callers)) in

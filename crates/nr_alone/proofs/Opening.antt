@@ -11,10 +11,10 @@ use Rattle.nr_marks.specs.Marks.{no_marks}
 use Rattle.nr_marks.specs.Puts.{put_number}
 use Rattle.nr_board.specs.Callers.{Caller, Table}
 use Rattle.nr_map.specs.Opened.{IsOpened, newcomer}
-use Rattle.nr_alone.specs.declared.seat.Seat.{Seat}
-use Rattle.nr_alone.specs.declared.seat.Seat.TheVariants.{Idle}
+use Rattle.nr_alone.specs.declared.reader_token.ReaderToken.{ReaderToken}
+use Rattle.nr_alone.specs.declared.reader_token.ReaderToken.TheVariants.{Idle}
 use Rattle.nr_alone.specs.MapState.{Pin, opened_map}
-use Rattle.nr_alone.specs.Seats.{SeatHoldsItsPin, caller_in, mine_of, pin_of}
+use Rattle.nr_alone.specs.Tokens.{TokenHoldsItsPin, caller_in, mine_of, pin_of}
 use Rattle.nr_alone.specs.Rounds.{Gathered}
 use Rattle.nr_alone.specs.Alone.{IsAlone, Laws, calls_of, log_of, made, shown_by, shown_after}
 use Rattle.nr_alone.specs.Lines.{IsLine, SettlesLine}
@@ -35,16 +35,16 @@ no_puts : (a n : ℕ) → map (put_number []) (range_with_len a n) ≡ replicate
 no_puts a zero = refl
 no_puts a (suc n) = ap (λ (l : List ℕ). 0 ∷ l) (no_puts (a + 1) n)
 
-module _ (laws : Laws) (shape : Shape) (table : Table) (w : Caller) (readers : List Caller) (new : IsOpened shape table w readers) (some : 0 < shape.readers) (w' : Caller) (seats' : List Seat)
-    (g : Gathered 0 w (map Idle readers) w' seats') where
-  abbrev seats : List Seat
-  seats = map Idle readers
+module _ (laws : Laws) (shape : Shape) (table : Table) (w : Caller) (readers : List Caller) (new : IsOpened shape table w readers) (some : 0 < shape.readers) (w' : Caller) (tokens' : List ReaderToken)
+    (g : Gathered 0 w (map Idle readers) w' tokens') where
+  abbrev tokens : List ReaderToken
+  tokens = map Idle readers
 
-  size : length seats ≡ shape.readers
+  size : length tokens ≡ shape.readers
   size = many_idle readers ∙ new.count
 
-  seat_at : (at : ℕ) (other : Seat) → at < length seats → get_or seats at other ≡ Idle (newcomer table (at + 1) no_marks)
-  seat_at at other low =
+  token_at : (at : ℕ) (other : ReaderToken) → at < length tokens → get_or tokens at other ≡ Idle (newcomer table (at + 1) no_marks)
+  token_at at other low =
       let inside : at < length readers = omega (arith, many_idle readers, low) in let near : at < shape.readers = omega (arith, size, low) in
       let c : Caller = newcomer table (at + 1) no_marks in
       get_or-map Idle readers at c other inside ∙ ap Idle (get_or_from_slice_get readers at c c (new.reads at near))
@@ -52,20 +52,20 @@ module _ (laws : Laws) (shape : Shape) (table : Table) (w : Caller) (readers : L
   seen_none : w.seen ≡ []
   seen_none = ap (λ (c : Caller). c.seen) new.writes
 
-  log_none : log_of w seats ≡ []
-  log_none = ap (λ (l : List Entry). take (made w seats) l) seen_none ∙ take-nil (made w seats)
+  log_none : log_of w tokens ≡ []
+  log_none = ap (λ (l : List Entry). take (made w tokens) l) seen_none ∙ take-nil (made w tokens)
 
-  calls_none : (caller : ℕ) → calls_of w.mine (map mine_of seats) caller ≡ []
+  calls_none : (caller : ℕ) → calls_of w.mine (map mine_of tokens) caller ≡ []
   calls_none zero = ap (λ (c : Caller). c.mine) new.writes
   calls_none (suc at) = ⊎_elim
-      (λ (low : at < length seats). calls_at w.mine seats at (Idle w) low ∙ ap mine_of (seat_at at (Idle w) low))
-      (λ (past : length seats ≤ at). beyond_it (map mine_of seats) at (omega (arith, many_mines seats, past)))
-      (cases_lt at (length seats))
+      (λ (low : at < length tokens). calls_at w.mine tokens at (Idle w) low ∙ ap mine_of (token_at at (Idle w) low))
+      (λ (past : length tokens ≤ at). beyond_it (map mine_of tokens) at (omega (arith, many_mines tokens, past)))
+      (cases_lt at (length tokens))
 
   next : (at : ℕ) → at + 1 ≡ suc at
   next at = omega arith
 
-  line : IsLine table w seats w seats 0 []
+  line : IsLine table w tokens w tokens 0 []
   line = record {
     low = omega (arith, size, some);
     few = omega arith;
@@ -74,16 +74,16 @@ module _ (laws : Laws) (shape : Shape) (table : Table) (w : Caller) (readers : L
     seen = starts_same w.seen;
     size = refl;
     places = λ at other low. record {
-      table = ap (λ (s : Seat). (caller_in s).table) (seat_at at other low);
-      number = ap (λ (s : Seat). (caller_in s).number) (seat_at at other low) ∙ next at;
-      fits = subst SeatHoldsItsPin (sym (seat_at at other low)) refl;
+      table = ap (λ (s : ReaderToken). (caller_in s).table) (token_at at other low);
+      number = ap (λ (s : ReaderToken). (caller_in s).number) (token_at at other low) ∙ next at;
+      fits = subst TokenHoldsItsPin (sym (token_at at other low)) refl;
     };
-    grown = λ caller. sym (append-nil (calls_of w.mine (map mine_of seats) caller));
+    grown = λ caller. sym (append-nil (calls_of w.mine (map mine_of tokens) caller));
     others = λ at apart. refl;
   }
 
-  settles : SettlesLine table w seats seats [] g.mid.seen w' seats'
-  settles = settled laws table w seats w seats 0 [] w' seats' (record {
+  settles : SettlesLine table w tokens tokens [] g.mid.seen w' tokens'
+  settles = settled laws table w tokens w tokens 0 [] w' tokens' (record {
     own = ap (λ (c : Caller). c.table) new.writes;
     number = ap (λ (c : Caller). c.number) new.writes;
     count = size ∙ ap (λ (s : Shape). s.readers) (sym new.sizes);
@@ -91,18 +91,18 @@ module _ (laws : Laws) (shape : Shape) (table : Table) (w : Caller) (readers : L
     just = λ caller. ap (λ (l : List Entry). entries_of l caller) log_none ∙ sym (calls_none caller);
   }) line g
 
-  pub alone : IsAlone table w' seats'
+  pub alone : IsAlone table w' tokens'
   alone = settles.alone
 
-  pub shows : shown_by table w' seats' ≡ opened_map shape
+  pub shows : shown_by table w' tokens' ≡ opened_map shape
   shows =
-      let pins : map pin_of seats ≡ replicate shape.readers None = no_pins readers ∙ ap (λ (n : ℕ). replicate n None) new.count in
-      shown_with laws table w seats seats [] g.mid.seen w' seats' settles (replicate shape.readers None) pins
-      ∙ ap (λ (l : List Entry). record (shown_after table (l ++ []) seats) { pins = replicate shape.readers None }) log_none
-      ∙ ap (λ (s : Shape). record (shown_after (record table { shape = s }) [] seats) { pins = replicate shape.readers None }) new.sizes
+      let pins : map pin_of tokens ≡ replicate shape.readers None = no_pins readers ∙ ap (λ (n : ℕ). replicate n None) new.count in
+      shown_with laws table w tokens tokens [] g.mid.seen w' tokens' settles (replicate shape.readers None) pins
+      ∙ ap (λ (l : List Entry). record (shown_after table (l ++ []) tokens) { pins = replicate shape.readers None }) log_none
+      ∙ ap (λ (s : Shape). record (shown_after (record table { shape = s }) [] tokens) { pins = replicate shape.readers None }) new.sizes
       ∙ (λ j. record (opened_map shape) { puts = no_puts 0 shape.keys j })
 
-pub all_idle : (t : Table) (readers : List Caller) → All (λ (r : Caller). r.table ≡ t) readers → All (λ (s : Seat). (caller_in s).table ≡ t) (map Idle readers)
+pub all_idle : (t : Table) (readers : List Caller) → All (λ (r : Caller). r.table ≡ t) readers → All (λ (s : ReaderToken). (caller_in s).table ≡ t) (map Idle readers)
 all_idle t readers own at other low =
     let inside : at < length readers = omega (arith, many_idle readers, low) in
-    ap (λ (s : Seat). (caller_in s).table) (get_or-map Idle readers at (caller_in other) other inside) ∙ own at (caller_in other) inside
+    ap (λ (s : ReaderToken). (caller_in s).table) (get_or-map Idle readers at (caller_in other) other inside) ∙ own at (caller_in other) inside

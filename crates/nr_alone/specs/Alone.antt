@@ -15,9 +15,9 @@ use Rattle.nr_board.specs.Callers.{Caller, Table}
 use Rattle.nr_board.specs.Rule.{StartsWith}
 use Rattle.nr_map.specs.ExactPlaces.{DoneMeansFewerInUse, NoSlotMeansAllInUse}
 use Rattle.nr_map.specs.Rounds.{EntriesAreCallers}
-use Rattle.nr_alone.specs.declared.seat.Seat.{Seat}
+use Rattle.nr_alone.specs.declared.reader_token.ReaderToken.{ReaderToken}
 use Rattle.nr_alone.specs.MapState.{MapState}
-use Rattle.nr_alone.specs.Seats.{SeatHoldsItsPin, caller_in, how_of, mine_of, pin_of}
+use Rattle.nr_alone.specs.Tokens.{TokenHoldsItsPin, caller_in, how_of, mine_of, pin_of}
 use Rattle.nr_alone.specs.Rounds.{IsSoundWriter}
 
 -- the calls of each caller: 0 is the writer
@@ -26,55 +26,55 @@ calls_of mine readers zero = mine
 calls_of mine readers (suc at) = slice_index_or readers at []
 
 -- the history has exactly the calls of the writer and the readers
-abbrev pub HasJust : List Entry → Caller → List Seat → Type 0
-HasJust log writer seats = (caller : ℕ) → entries_of log caller ≡ calls_of writer.mine (map mine_of seats) caller
+abbrev pub HasJust : List Entry → Caller → List ReaderToken → Type 0
+HasJust log writer tokens = (caller : ℕ) → entries_of log caller ≡ calls_of writer.mine (map mine_of tokens) caller
 
 -- how many calls were made
 abbrev pub one_each : Entry → Bool
 one_each entry = true
 
-abbrev pub made : Caller → List Seat → ℕ
-made writer seats = count_by one_each writer.mine + total (λ (reader : Caller). count_by one_each reader.mine) (map caller_in seats)
+abbrev pub made : Caller → List ReaderToken → ℕ
+made writer tokens = count_by one_each writer.mine + total (λ (reader : Caller). count_by one_each reader.mine) (map caller_in tokens)
 
 -- the history of these calls alone: no clause says that the writer has not seen more
-abbrev pub log_of : Caller → List Seat → List Entry
-log_of writer seats = take (made writer seats) writer.seen
+abbrev pub log_of : Caller → List ReaderToken → List Entry
+log_of writer tokens = take (made writer tokens) writer.seen
 
 -- the writer knows how the reader is, and has compared it with its lists; the reader has seen the history
-pub record IsKnown (log : List Entry) (writer : Caller) (seat : Seat) : Type 0 where
+pub record IsKnown (log : List Entry) (writer : Caller) (token : ReaderToken) : Type 0 where
   pub place : ℕ
-  pub known : get_elem? writer.pasts place ≡ some (how_of seat)
-  pub current : Current writer.retired writer.marks (how_of seat)
-  pub heard : StartsWith (caller_in seat).seen log
+  pub known : get_elem? writer.pasts place ≡ some (how_of token)
+  pub current : Current writer.retired writer.marks (how_of token)
+  pub heard : StartsWith (caller_in token).seen log
 
--- the seat at a place is of the map, and its reader's number is the next one
-pub record IsSeat (map : Table) (at : ℕ) (seat : Seat) : Type 0 where
-  pub table : (caller_in seat).table ≡ map
-  pub number : (caller_in seat).number ≡ suc at
-  pub fits : SeatHoldsItsPin seat
+-- the token at a place is of the map, and its reader's number is the next one
+pub record IsToken (map : Table) (at : ℕ) (token : ReaderToken) : Type 0 where
+  pub table : (caller_in token).table ≡ map
+  pub number : (caller_in token).number ≡ suc at
+  pub fits : TokenHoldsItsPin token
 
 -- what stood before a line as far as its round needs it: the history has exactly the calls
-pub record ReadyForRound (table : Table) (writer : Caller) (seats : List Seat) : Type 0 where
+pub record ReadyForRound (table : Table) (writer : Caller) (tokens : List ReaderToken) : Type 0 where
   pub own : writer.table ≡ table
   pub number : writer.number ≡ 0
-  pub count : length seats ≡ table.shape.readers
-  pub some_one : 0 < length seats
-  pub just : HasJust (log_of writer seats) writer seats
+  pub count : length tokens ≡ table.shape.readers
+  pub some_one : 0 < length tokens
+  pub just : HasJust (log_of writer tokens) writer tokens
 
 -- between two lines the writer knows too how each reader is, and each reader what was called
-pub record IsAlone (table : Table) (writer : Caller) (seats : List Seat) : Type 0 where
-  pub stands : ReadyForRound table writer seats
-  pub places : (at : ℕ) (other : Seat) → at < length seats → IsSeat table at (slice_index_or seats at other)
+pub record IsAlone (table : Table) (writer : Caller) (tokens : List ReaderToken) : Type 0 where
+  pub stands : ReadyForRound table writer tokens
+  pub places : (at : ℕ) (other : ReaderToken) → at < length tokens → IsToken table at (slice_index_or tokens at other)
   pub sound : IsSoundWriter writer
-  pub known : (at : ℕ) (other : Seat) → at < length seats → IsKnown (log_of writer seats) writer (slice_index_or seats at other)
+  pub known : (at : ℕ) (other : ReaderToken) → at < length tokens → IsKnown (log_of writer tokens) writer (slice_index_or tokens at other)
 
 -- the state after a history, with what is pinned
-abbrev pub shown_after : Table → List Entry → List Seat → MapState
-shown_after table log seats =
-    record { map = map_after table.shape log; slots = table.shape.slots; first_count = table.shape.first_count; puts = put_numbers table.shape log; put_count = put_count log; pins = map pin_of seats }
+abbrev pub shown_after : Table → List Entry → List ReaderToken → MapState
+shown_after table log tokens =
+    record { map = map_after table.shape log; slots = table.shape.slots; first_count = table.shape.first_count; puts = put_numbers table.shape log; put_count = put_count log; pins = map pin_of tokens }
 
-abbrev pub shown_by : Table → Caller → List Seat → MapState
-shown_by table writer seats = shown_after table (log_of writer seats) seats
+abbrev pub shown_by : Table → Caller → List ReaderToken → MapState
+shown_by table writer tokens = shown_after table (log_of writer tokens) tokens
 
 -- the laws of the map that lines stand on
 pub record Laws : Type 0 where

@@ -2,15 +2,15 @@
 ghost use Rattle.std.specs.Prelude.{◌≡◌, ◌≤◌, ◌<◌, ◌↔◌, All, length, Ok, Err, IfOk, map as each_of};
 ghost use Rattle.nr_machine.specs.Sizes.{IsBadShape};
 ghost use Rattle.nr_model.specs.declared.rows.TheConstants.{MAX_ROWS};
-ghost use Rattle.nr_alone.specs.Seats.{caller_in};
+ghost use Rattle.nr_alone.specs.Tokens.{caller_in};
 ghost use Rattle.nr_alone.specs.WriterCalls.{model_call, writer_key};
-ghost use Rattle.nr_alone.specs.declared.seat.Seat.TheVariants.{Idle};
+ghost use Rattle.nr_alone.specs.declared.reader_token.ReaderToken.TheVariants.{Idle};
 
 use crate::answer::{Answer, Refusal};
 use crate::calls::{again_at, ask_at, find_at, pin_at, show_at, unpin_at};
 use crate::premises::laws;
+use crate::reader_token::ReaderToken;
 use crate::round::gather_round;
-use crate::seat::Seat;
 use crate::writer_calls::{WriterCall, call_writer};
 use nr_map::{Reader, ReaderMap, Shape, Writer};
 use nr_model::laws::{legal_begins, numbers_count_cancels};
@@ -23,7 +23,7 @@ use std::marker::Model;
 pub struct Alone {
     map: ReaderMap,
     writer: Writer,
-    seats: Vec<Seat>,
+    tokens: Vec<ReaderToken>,
 }
 
 impl Model for Alone {
@@ -32,9 +32,9 @@ impl Model for Alone {
 
     ghost Value = { MapState };
 
-    ghost view = { λ inside. shown_by inside.map inside.writer inside.seats.items };
+    ghost view = { λ inside. shown_by inside.map inside.writer inside.tokens.items };
 
-    ghost invariant = { λ inside. IsAlone inside.map inside.writer inside.seats.items };
+    ghost invariant = { λ inside. IsAlone inside.map inside.writer inside.tokens.items };
 }
 
 impl Alone {
@@ -49,13 +49,17 @@ impl Alone {
         ensures ok { IfOk result (λ alone. alone ≡ opened_map shape.now) }
     {
         let (map, mut writer, readers) = ReaderMap::open_with(alloc, shape)?;
-        let mut seats = match seat_readers(alloc, readers) {
-            Ok(seats) => seats,
+        let mut tokens = match tokens_of(alloc, readers) {
+            Ok(tokens) => tokens,
             Err(_) => return Err(OpenFault::Memory),
         };
         laws();
-        gather_round(&map, &mut writer, seats.as_mut_slice(), 0);
-        Ok(Alone { map, writer, seats })
+        gather_round(&map, &mut writer, tokens.as_mut_slice(), 0);
+        Ok(Alone {
+            map,
+            writer,
+            tokens,
+        })
     }
 
     /// How many keys the map has. They are numbered from 0.
@@ -99,7 +103,7 @@ impl Alone {
     {
         laws();
         let answer = call_writer(&self.map, &mut self.writer, call, rows);
-        gather_round(&self.map, &mut self.writer, self.seats.as_mut_slice(), 0);
+        gather_round(&self.map, &mut self.writer, self.tokens.as_mut_slice(), 0);
         answer
     }
 
@@ -115,8 +119,8 @@ impl Alone {
         ensures { answer_of_reader self.old at (model.Find key) ≡ (result, self.new) }
     {
         laws();
-        let answer = find_at(&self.map, &mut self.writer, &mut self.seats[at], key, rows)?;
-        gather_round(&self.map, &mut self.writer, self.seats.as_mut_slice(), at);
+        let answer = find_at(&self.map, &mut self.writer, &mut self.tokens[at], key, rows)?;
+        gather_round(&self.map, &mut self.writer, self.tokens.as_mut_slice(), at);
         Ok(answer)
     }
 
@@ -127,8 +131,8 @@ impl Alone {
         ensures { answer_of_reader self.old at (model.Ask key) ≡ (result, self.new) }
     {
         laws();
-        let answer = ask_at(&self.map, &mut self.writer, &mut self.seats[at], key)?;
-        gather_round(&self.map, &mut self.writer, self.seats.as_mut_slice(), at);
+        let answer = ask_at(&self.map, &mut self.writer, &mut self.tokens[at], key)?;
+        gather_round(&self.map, &mut self.writer, self.tokens.as_mut_slice(), at);
         Ok(answer)
     }
 
@@ -139,8 +143,8 @@ impl Alone {
         ensures { answer_pinning self.old at key (state_of self.old.map key) ≡ (result, self.new) }
     {
         laws();
-        let answer = pin_at(&self.map, &mut self.writer, &mut self.seats[at], key)?;
-        gather_round(&self.map, &mut self.writer, self.seats.as_mut_slice(), at);
+        let answer = pin_at(&self.map, &mut self.writer, &mut self.tokens[at], key)?;
+        gather_round(&self.map, &mut self.writer, self.tokens.as_mut_slice(), at);
         Ok(answer)
     }
 
@@ -150,8 +154,8 @@ impl Alone {
         ensures { answer_show self.old at ≡ (result, self.new) }
     {
         laws();
-        let answer = show_at(&self.map, &mut self.seats[at], rows)?;
-        gather_round(&self.map, &mut self.writer, self.seats.as_mut_slice(), at);
+        let answer = show_at(&self.map, &mut self.tokens[at], rows)?;
+        gather_round(&self.map, &mut self.writer, self.tokens.as_mut_slice(), at);
         Ok(answer)
     }
 
@@ -168,8 +172,8 @@ impl Alone {
         ensures { answer_again self.old at key ≡ (result, self.new) }
     {
         laws();
-        let answer = again_at(&self.map, &mut self.seats[at], key, rows)?;
-        gather_round(&self.map, &mut self.writer, self.seats.as_mut_slice(), at);
+        let answer = again_at(&self.map, &mut self.tokens[at], key, rows)?;
+        gather_round(&self.map, &mut self.writer, self.tokens.as_mut_slice(), at);
         Ok(answer)
     }
 
@@ -179,8 +183,8 @@ impl Alone {
         ensures { answer_unpin self.old at ≡ (result, self.new) }
     {
         laws();
-        let answer = unpin_at(&self.map, &mut self.seats[at])?;
-        gather_round(&self.map, &mut self.writer, self.seats.as_mut_slice(), at);
+        let answer = unpin_at(&self.map, &mut self.tokens[at])?;
+        gather_round(&self.map, &mut self.writer, self.tokens.as_mut_slice(), at);
         Ok(answer)
     }
 
@@ -189,33 +193,33 @@ impl Alone {
         let Alone {
             map,
             writer: _,
-            seats,
+            tokens,
         } = self;
-        end_seats(&map, seats);
+        end_tokens(&map, tokens);
     }
 }
 
-// A seat for each reader, which has no pin.
-fn seat_readers(alloc: Global, readers: Vec<Reader>) -> Result<Vec<Seat>, AllocError>
-    ensures { IfOk result (λ seats. seats.items ≡ each_of Idle readers.items) }
+// A token for each reader, which has no pin.
+fn tokens_of(alloc: Global, readers: Vec<Reader>) -> Result<Vec<ReaderToken>, AllocError>
+    ensures { IfOk result (λ tokens. tokens.items ≡ each_of Idle readers.items) }
 {
-    let mut seats = Vec::with_capacity(alloc, readers.len())?;
+    let mut tokens = Vec::with_capacity(alloc, readers.len())?;
     for reader in readers {
-        seats.push_reserved(Seat::Idle(reader));
+        tokens.push_reserved(ReaderToken::Idle(reader));
     }
-    Ok(seats)
+    Ok(tokens)
 }
 
-fn end_seats(map: &ReaderMap, mut seats: Vec<Seat>)
-    requires { All (λ s. (caller_in s).table ≡ map.now) seats.items }
+fn end_tokens(map: &ReaderMap, mut tokens: Vec<ReaderToken>)
+    requires { All (λ s. (caller_in s).table ≡ map.now) tokens.items }
 {
-    while let Some(seat) = seats.pop() {
-        match seat {
-            Seat::Idle(_) => {}
-            Seat::Pinned(pin, _) => {
+    while let Some(token) = tokens.pop() {
+        match token {
+            ReaderToken::Idle(_) => {}
+            ReaderToken::Pinned(pin, _) => {
                 pin.release(map);
             }
         }
     }
-    seats.destroy_empty();
+    tokens.destroy_empty();
 }

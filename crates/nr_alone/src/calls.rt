@@ -1,10 +1,10 @@
 //! The calls of one reader.
 ghost use Rattle.std.specs.Prelude.{◌≡◌, ◌<◌};
 ghost use Rattle.nr_model.specs.declared.calls.Call.TheVariants as model;
-ghost use Rattle.nr_alone.specs.Seats.{caller_in, AgainBySeat, GainsFind, MakesCall, MakesPin, NotesFor, PinsBy, ShowsPin, Unpins};
+ghost use Rattle.nr_alone.specs.Tokens.{caller_in, AgainByToken, GainsFind, MakesCall, MakesPin, NotesFor, PinsBy, ShowsPin, Unpins};
 
 use crate::answer::{Answer, Refusal, Said};
-use crate::seat::Seat;
+use crate::reader_token::ReaderToken;
 use core::mem::replace_with;
 use nr_map::{Asked, Found, ReaderMap, Writer};
 use nr_model::RowSet;
@@ -14,16 +14,16 @@ use nr_model::RowSet;
 pub(crate) fn find_at<'a>(
     map: &ReaderMap,
     writer: &mut Writer,
-    seat: &mut Seat,
+    token: &mut ReaderToken,
     key: u32,
     rows: &'a mut RowSet,
 ) -> Result<Answer<'a>, Refusal>
-    requires own { (writer.old.table ≡ map.now) × ((caller_in seat.old).table ≡ map.now) }
+    requires own { (writer.old.table ≡ map.now) × ((caller_in token.old).table ≡ map.now) }
     requires key { key < map.now.shape.keys }
     ensures writer { NotesFor writer.old writer.new result }
-    ensures made { MakesCall writer.old.seen (model.Find key) seat.old seat.new result }
+    ensures made { MakesCall writer.old.seen (model.Find key) token.old token.new result }
 {
-    let Seat::Idle(reader) = seat else {
+    let ReaderToken::Idle(reader) = token else {
         return Err(Refusal::Holding);
     };
     map.meet(reader, writer);
@@ -37,15 +37,15 @@ pub(crate) fn find_at<'a>(
 pub(crate) fn ask_at(
     map: &ReaderMap,
     writer: &mut Writer,
-    seat: &mut Seat,
+    token: &mut ReaderToken,
     key: u32,
 ) -> Result<Answer<'static>, Refusal>
-    requires own { (writer.old.table ≡ map.now) × ((caller_in seat.old).table ≡ map.now) }
+    requires own { (writer.old.table ≡ map.now) × ((caller_in token.old).table ≡ map.now) }
     requires key { key < map.now.shape.keys }
     ensures writer { NotesFor writer.old writer.new result }
-    ensures made { MakesCall writer.old.seen (model.Ask key) seat.old seat.new result }
+    ensures made { MakesCall writer.old.seen (model.Ask key) token.old token.new result }
 {
-    let Seat::Idle(asker) = seat else {
+    let ReaderToken::Idle(asker) = token else {
         return Err(Refusal::Holding);
     };
     map.meet(asker, writer);
@@ -64,48 +64,51 @@ pub(crate) fn ask_at(
 pub(crate) fn pin_at(
     map: &ReaderMap,
     writer: &mut Writer,
-    seat: &mut Seat,
+    token: &mut ReaderToken,
     key: u32,
 ) -> Result<Answer<'static>, Refusal>
-    requires own { (writer.old.table ≡ map.now) × ((caller_in seat.old).table ≡ map.now) }
+    requires own { (writer.old.table ≡ map.now) × ((caller_in token.old).table ≡ map.now) }
     requires key { key < map.now.shape.keys }
     ensures writer { NotesFor writer.old writer.new result }
-    ensures made { MakesPin writer.old.seen key seat.old seat.new result }
+    ensures made { MakesPin writer.old.seen key token.old token.new result }
 {
-    let Seat::Idle(idle) = seat else {
+    let ReaderToken::Idle(idle) = token else {
         return Err(Refusal::Holding);
     };
     map.meet(idle, writer);
-    replace_with(seat, (map, key), pinned)
+    replace_with(token, (map, key), pinned)
 }
 
-fn pinned(seat: Seat, asked: (&ReaderMap, u32)) -> (Seat, Result<Answer<'static>, Refusal>)
-    requires own { (caller_in seat).table ≡ asked.0.now }
+fn pinned(
+    token: ReaderToken,
+    asked: (&ReaderMap, u32),
+) -> (ReaderToken, Result<Answer<'static>, Refusal>)
+    requires own { (caller_in token).table ≡ asked.0.now }
     requires key { asked.1 < asked.0.now.shape.keys }
-    ensures { PinsBy (GainsFind asked.entry.1) asked.entry.1 seat result.0 result.1 }
+    ensures { PinsBy (GainsFind asked.entry.1) asked.entry.1 token result.0 result.1 }
 {
     let (map, key) = asked;
-    match seat {
-        Seat::Idle(reader) => match map.pin(reader, key) {
-            Ok(pin) => (Seat::Pinned(pin, key), Ok(Answer { said: Said::Ok })),
-            Err(reader) => (Seat::Idle(reader), Ok(Answer { said: Said::Hole })),
+    match token {
+        ReaderToken::Idle(reader) => match map.pin(reader, key) {
+            Ok(pin) => (ReaderToken::Pinned(pin, key), Ok(Answer { said: Said::Ok })),
+            Err(reader) => (ReaderToken::Idle(reader), Ok(Answer { said: Said::Hole })),
         },
-        Seat::Pinned(pin, key) => (Seat::Pinned(pin, key), Err(Refusal::Holding)),
+        ReaderToken::Pinned(pin, key) => (ReaderToken::Pinned(pin, key), Err(Refusal::Holding)),
     }
 }
 
 /// The rows that a reader has pinned.
 pub(crate) fn show_at<'a>(
     map: &ReaderMap,
-    seat: &mut Seat,
+    token: &mut ReaderToken,
     rows: &'a mut RowSet,
 ) -> Result<Answer<'a>, Refusal>
-    requires { (caller_in seat.old).table ≡ map.now }
-    ensures { ShowsPin seat.old seat.new result }
+    requires { (caller_in token.old).table ≡ map.now }
+    ensures { ShowsPin token.old token.new result }
 {
-    match seat {
-        Seat::Idle(_) => Err(Refusal::NotHolding),
-        Seat::Pinned(pin, _) => {
+    match token {
+        ReaderToken::Idle(_) => Err(Refusal::NotHolding),
+        ReaderToken::Pinned(pin, _) => {
             pin.copy_to(map, rows);
             Ok(Answer {
                 said: Said::Rows(rows),
@@ -118,15 +121,15 @@ pub(crate) fn show_at<'a>(
 /// with a pin meets nobody before: the round after each line has told it what the writer had seen.
 pub(crate) fn again_at<'a>(
     map: &ReaderMap,
-    seat: &mut Seat,
+    token: &mut ReaderToken,
     key: u32,
     rows: &'a mut RowSet,
 ) -> Result<Answer<'a>, Refusal>
-    requires own { (caller_in seat.old).table ≡ map.now }
+    requires own { (caller_in token.old).table ≡ map.now }
     requires key { key < map.now.shape.keys }
-    ensures { AgainBySeat key seat.old seat.new result }
+    ensures { AgainByToken key token.old token.new result }
 {
-    let Seat::Pinned(pin, _) = seat else {
+    let ReaderToken::Pinned(pin, _) = token else {
         return Err(Refusal::NotHolding);
     };
     if !pin.again(map, key) {
@@ -138,19 +141,22 @@ pub(crate) fn again_at<'a>(
     })
 }
 
-pub(crate) fn unpin_at(map: &ReaderMap, seat: &mut Seat) -> Result<Answer<'static>, Refusal>
-    requires { (caller_in seat.old).table ≡ map.now }
-    ensures { Unpins seat.old seat.new result }
+pub(crate) fn unpin_at(map: &ReaderMap, token: &mut ReaderToken) -> Result<Answer<'static>, Refusal>
+    requires { (caller_in token.old).table ≡ map.now }
+    ensures { Unpins token.old token.new result }
 {
-    replace_with(seat, map, released)
+    replace_with(token, map, released)
 }
 
-fn released(seat: Seat, map: &ReaderMap) -> (Seat, Result<Answer<'static>, Refusal>)
-    requires { (caller_in seat).table ≡ map.now }
-    ensures { Unpins seat result.0 result.1 }
+fn released(token: ReaderToken, map: &ReaderMap) -> (ReaderToken, Result<Answer<'static>, Refusal>)
+    requires { (caller_in token).table ≡ map.now }
+    ensures { Unpins token result.0 result.1 }
 {
-    match seat {
-        Seat::Idle(reader) => (Seat::Idle(reader), Err(Refusal::NotHolding)),
-        Seat::Pinned(pin, _) => (Seat::Idle(pin.release(map)), Ok(Answer { said: Said::Ok })),
+    match token {
+        ReaderToken::Idle(reader) => (ReaderToken::Idle(reader), Err(Refusal::NotHolding)),
+        ReaderToken::Pinned(pin, _) => (
+            ReaderToken::Idle(pin.release(map)),
+            Ok(Answer { said: Said::Ok }),
+        ),
     }
 }

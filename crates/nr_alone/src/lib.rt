@@ -6,8 +6,8 @@ mod alone;
 mod answer;
 mod calls;
 mod premises;
+mod reader_token;
 mod round;
-mod seat;
 mod writer_calls;
 
 pub use alone::Alone;

@@ -1,43 +1,48 @@
-//! A round of gathers, with the seat of the line first.
+//! A round of gathers, with the token of the line first.
 ghost use Rattle.std.specs.Prelude.{◌≡◌, ◌<◌, All, length, slice_index_or};
-ghost use Rattle.nr_alone.specs.declared.seat.Seat.{Seat as SeatOf};
-ghost use Rattle.nr_alone.specs.Seats.{caller_in};
-ghost use Rattle.nr_alone.specs.Rounds.{GathersSeat, IsShown, IsSoundWriter, Round, Gathered};
+ghost use Rattle.nr_alone.specs.declared.reader_token.ReaderToken.{ReaderToken as TokenOf};
+ghost use Rattle.nr_alone.specs.Tokens.{caller_in};
+ghost use Rattle.nr_alone.specs.Rounds.{GathersToken, IsShown, IsSoundWriter, Round, Gathered};
 
-use crate::seat::Seat;
+use crate::reader_token::ReaderToken;
 use nr_map::{ReaderMap, Writer};
 
-/// Gathers every reader, that of the first seat before the others.
-pub(crate) fn gather_round(map: &ReaderMap, writer: &mut Writer, seats: &mut [Seat], first: usize)
+/// Gathers every reader, that of the first token before the others.
+pub(crate) fn gather_round(
+    map: &ReaderMap,
+    writer: &mut Writer,
+    tokens: &mut [ReaderToken],
+    first: usize,
+)
     requires own { writer.old.table ≡ map.now }
-    requires seats { All (λ s. (caller_in s).table ≡ map.now) seats.old }
-    requires first { first < length seats.old }
-    ensures { Gathered first writer.old seats.old writer.new seats.new }
+    requires tokens { All (λ s. (caller_in s).table ≡ map.now) tokens.old }
+    requires first { first < length tokens.old }
+    ensures { Gathered first writer.old tokens.old writer.new tokens.new }
 {
-    gather_seat(map, writer, &mut seats[first]);
-    gather_others(map, writer, seats, first);
+    gather_token(map, writer, &mut tokens[first]);
+    gather_others(map, writer, tokens, first);
 }
 
-fn gather_others(map: &ReaderMap, writer: &mut Writer, seats: &mut [Seat], first: usize)
+fn gather_others(map: &ReaderMap, writer: &mut Writer, tokens: &mut [ReaderToken], first: usize)
     requires own { writer.old.table ≡ map.now }
-    requires seats { All (λ s. (caller_in s).table ≡ map.now) seats.old }
+    requires tokens { All (λ s. (caller_in s).table ≡ map.now) tokens.old }
     requires sound { IsSoundWriter writer.old }
-    requires first { (other : SeatOf) → IsShown writer.old.seen writer.old (slice_index_or seats.old first other) }
-    ensures { Round writer.old seats.old writer.new seats.new }
+    requires first { (other : TokenOf) → IsShown writer.old.seen writer.old (slice_index_or tokens.old first other) }
+    ensures { Round writer.old tokens.old writer.new tokens.new }
 {
-    for (at, seat) in seats.iter_mut().enumerate() {
+    for (at, token) in tokens.iter_mut().enumerate() {
         if at != first {
-            gather_seat(map, writer, seat);
+            gather_token(map, writer, token);
         }
     }
 }
 
-fn gather_seat(map: &ReaderMap, writer: &mut Writer, seat: &mut Seat)
-    requires own { (writer.old.table ≡ map.now) × ((caller_in seat.old).table ≡ map.now) }
-    ensures { GathersSeat writer.old seat.old writer.new seat.new }
+fn gather_token(map: &ReaderMap, writer: &mut Writer, token: &mut ReaderToken)
+    requires own { (writer.old.table ≡ map.now) × ((caller_in token.old).table ≡ map.now) }
+    ensures { GathersToken writer.old token.old writer.new token.new }
 {
-    match seat {
-        Seat::Idle(reader) => map.gather(writer, reader),
-        Seat::Pinned(pin, _) => map.gather_pin(writer, pin),
+    match token {
+        ReaderToken::Idle(reader) => map.gather(writer, reader),
+        ReaderToken::Pinned(pin, _) => map.gather_pin(writer, pin),
     }
 }

@@ -9,7 +9,7 @@ use Rattle.nr_board.specs.Callers.{Caller, Gains, Grows, Rests, map_at_opening}
 use Rattle.nr_board.specs.Kinds.{kind_of}
 use Rattle.nr_board.specs.Meetings.{HasPut}
 use Rattle.nr_alone.specs.MapState.{Pin}
-use Rattle.nr_alone.specs.Seats.{Calls, caller_in, pin_of}
+use Rattle.nr_alone.specs.Tokens.{Calls, caller_in, pin_of}
 use Rattle.nr_alone.proofs.calls.again_at.Goals as goal
 
 pub returns-then-not-again : goal.returns-then-not-again

@@ -3,7 +3,7 @@ use Rattle.nr_board.specs.Callers.{Rests}
 use Rattle.nr_model.specs.declared.calls.Reply.TheVariants as reply
 use Rattle.nr_alone.specs.Answers as answers
 use Rattle.nr_alone.specs.MapState.{Pin}
-use Rattle.nr_alone.specs.Seats.{caller_in, pin_of}
+use Rattle.nr_alone.specs.Tokens.{caller_in, pin_of}
 use Rattle.nr_alone.proofs.calls.show_at.Goals as goal
 
 pub returns-in-Pinned : goal.returns-in-Pinned
