@@ -1,10 +1,9 @@
-//! Maps that are larger than those of scripts.
+//! The largest maps, and keys that have as many rows as they may have.
 
-use crate::calls::Told;
+use crate::calls::{Told, minus, plus};
 use crate::worked::Worked;
-use nr_map::{MAX_READERS, MAX_SLOTS, MOST_READERS, MOST_SLOTS, ReaderMap, Shape};
-use nr_model::{MAX_KEYS, OpenFault};
-use std::alloc::Global;
+use nr_map::{Found, MAX_READERS, MAX_SLOTS, MOST_SLOTS, Shape, UpdateFault};
+use nr_model::{MAX_KEYS, MAX_ROWS, Row, RowSet};
 use std::process::Abort;
 use std::test::Fail;
 
@@ -17,27 +16,6 @@ fn of_sizes(keys: u32, slots: u32, readers: u32, rows: u32) -> Shape {
         first_number: 0,
         rows,
     }
-}
-
-fn is_bad(alloc: Global, shape: &Shape) -> bool {
-    matches!(ReaderMap::open_large(alloc, shape), Err(OpenFault::BadSize))
-}
-
-#[test]
-fn large_sizes_have_their_limits(rt: HostRuntime) {
-    for (keys, slots, readers, rows) in [
-        (0, 1, 1, 1),
-        (1, 0, 1, 1),
-        (2, 1, 1, 1),
-        (1, 1, 0, 1),
-        (1, 1, 1, 0),
-        (1, 1, 1, 256),
-        (1, MOST_SLOTS + 1, 1, 1),
-        (1, 1, MOST_READERS + 1, 1),
-    ] {
-        assert!(rt; is_bad(rt.alloc(), &of_sizes(keys, slots, readers, rows)));
-    }
-    assert!(rt; !is_bad(rt.alloc(), &of_sizes(2, 2, MOST_READERS, 255)));
 }
 
 // The row that a key is filled with.
@@ -80,10 +58,35 @@ fn keys_of_the_largest_map_are_found(rt: HostRuntime) -> Result<(), Fail> {
     Ok(())
 }
 
+/// The rows `first:0` on, as many as a set has room for.
+fn numbered(first: u64) -> RowSet {
+    let mut rows = [Row { a: 0, b: 0 }; MAX_ROWS];
+    let mut a = first;
+    for row in rows.iter_mut() {
+        row.a = a;
+        a = a.wrapping_add(1);
+    }
+    RowSet::of(&rows).unwrap_or(RowSet::new())
+}
+
+// A key that has as many rows as it may have takes none more, and one for another.
+fn is_full<R: Abort>(rt: &R, worked: &mut Worked, key: u32) {
+    let mut rows = RowSet::new();
+    worked.asks(rt, key, Told::Send(key, 0));
+    worked.fills_set(rt, key, 0, &numbered(1), Ok(()));
+    worked.updates(rt, key, &[plus(0, 0)], Err(UpdateFault::TooMany));
+    assert_eq!(rt; worked.find(rt, key, &mut rows), Found::Rows);
+    assert_eq!(rt; rows.as_slice(), numbered(1).as_slice());
+    worked.updates(rt, key, &[plus(0, 0), minus(255, 0)], Ok(()));
+    assert_eq!(rt; worked.find(rt, key, &mut rows), Found::Rows);
+    assert_eq!(rt; rows.as_slice(), numbered(0).as_slice());
+}
+
 #[test]
 fn keys_of_the_largest_map_of_scripts_are_found(rt: HostRuntime) -> Result<(), Fail> {
-    let shape = of_sizes(MAX_KEYS, MAX_SLOTS, MAX_READERS, 15);
+    let shape = of_sizes(MAX_KEYS, MAX_SLOTS, MAX_READERS, MAX_ROWS as u32);
     let mut worked = Worked::open_with(rt.alloc(), &shape)?;
     fills_and_finds_many(&rt, &mut worked);
+    is_full(&rt, &mut worked, 1);
     Ok(())
 }

@@ -1,11 +1,10 @@
 //! A reader holds a set in a thread of its own while the writer updates its key.
-ghost use Rattle.std.specs.Prelude.{◌≡◌, ◌<◌, All, IfOk};
+ghost use Rattle.std.specs.Prelude.{◌≡◌, ◌<◌};
 
-use crate::calls::Told;
+use crate::calls::{Told, UPDATED, ask, minus, plus, update};
 use crate::worked::Worked;
-use nr_map::{Asked, KeyKind, Reader, ReaderMap, Writer};
-use nr_model::{Batch, Delta, OpenFault, Row};
-use std::alloc::Global;
+use nr_map::{KeyKind, Reader, ReaderMap, Writer};
+use nr_model::Row;
 use std::process::Abort;
 use std::sync::atomic::{AtomicBool, Ordering};
 use std::test::Fail;
@@ -52,38 +51,26 @@ fn hold(map: &ReaderMap, flags: &Flags, reader: Reader) -> (Option<Row>, Reader)
     (row, pin.release(map))
 }
 
-// Updates key 0 once it is pinned.
-fn update(map: &ReaderMap, flags: &Flags, mut writer: Writer, batch: &Batch) -> (bool, Writer)
+// Updates key 0 once it is pinned: whether it was done.
+fn update_once_pinned(map: &ReaderMap, flags: &Flags, mut writer: Writer) -> (bool, Writer)
     requires own { writer.table ≡ map.now }
     requires key { 0 < map.now.shape.keys }
     ensures { result.1.table ≡ map.now }
 {
     let was_pinned = is_raised(&flags.pinned);
-    let is_done = map.update(&mut writer, 0, batch).is_ok();
+    let updated = update(map, &mut writer, 0, &[minus(5, 6), plus(7, 8)]);
     flags.updated.store(true, Ordering::SeqCst);
-    (was_pinned && is_done, writer)
+    (was_pinned && updated == UPDATED, writer)
 }
 
-// Whether a request is sent.
-fn request(map: &ReaderMap, reader: &mut Reader, key: u32) -> bool
-    requires own { reader.old.table ≡ map.now }
-    requires key { key < map.now.shape.keys }
-    ensures { reader.new.table ≡ map.now }
-{
-    match map.ask(reader, key) {
-        Asked::Send(ticket) => ticket.into_key() == key,
-        Asked::Waiting | Asked::Filled => false,
-    }
-}
-
-// Requests key 1 once key 0 is updated.
-fn ask(map: &ReaderMap, flags: &Flags, mut reader: Reader) -> (bool, Reader)
+// Requests key 1 once key 0 is updated: whether the request is sent.
+fn ask_once_updated(map: &ReaderMap, flags: &Flags, mut reader: Reader) -> (bool, Reader)
     requires own { reader.table ≡ map.now }
     requires key { 1 < map.now.shape.keys }
     ensures { result.1.table ≡ map.now }
 {
     let was_updated = is_raised(&flags.updated);
-    let is_sent = request(map, &mut reader, 1);
+    let is_sent = ask(map, &mut reader, 1) == Told::Send(1, 0);
     flags.sent.store(is_sent, Ordering::SeqCst);
     (was_updated && is_sent, reader)
 }
@@ -93,12 +80,10 @@ fn update_and_ask<R: Threads + Sync>(
     map: &ReaderMap,
     flags: &Flags,
     writer: Writer,
-    batch: &Batch,
     reader: Reader,
 ) -> ((bool, Writer), (bool, Reader))
     requires keys { 1 < map.now.shape.keys }
-    requires reader { reader.table ≡ map.now }
-    requires writer { writer.table ≡ map.now }
+    requires own { (reader.table ≡ map.now) × (writer.table ≡ map.now) }
     ensures { (result.0.1.table ≡ map.now) × (result.1.1.table ≡ map.now) }
 {
     join(
@@ -106,62 +91,26 @@ fn update_and_ask<R: Threads + Sync>(
         move || -> (bool, Writer)
             requires { (1 < map.now.shape.keys) × (writer.table ≡ map.now) }
             ensures { result.1.table ≡ map.entry.now }
-        { update(map, flags, writer, batch) },
+        { update_once_pinned(map, flags, writer) },
         move || -> (bool, Reader)
             requires { (1 < map.now.shape.keys) × (reader.table ≡ map.now) }
             ensures { result.1.table ≡ map.entry.now }
-        { ask(map, flags, reader) },
+        { ask_once_updated(map, flags, reader) },
     )
-}
-
-// A map of two keys with two readers. It is opened anew where memory was refused once.
-fn opened(alloc: Global) -> Result<(ReaderMap, Writer, Vec<Reader>), OpenFault>
-    ensures { IfOk result (λ opened. (opened.0.shape.keys ≡ 2) × (opened.1.table ≡ opened.0) × All (λ reader. reader.table ≡ opened.0) opened.2.items) }
-{
-    match ReaderMap::open(alloc, 2, 5, 2, 0) {
-        Err(OpenFault::Memory) => ReaderMap::open(alloc, 2, 5, 2, 0),
-        opened => opened,
-    }
-}
-
-// Its tokens, and the second reader beside them.
-fn with_second(alloc: Global) -> Result<(Worked, Reader), Fail>
-    ensures { IfOk result (λ opened. (opened.0.shape.keys ≡ 2) × (opened.1.table ≡ opened.0)) }
-{
-    let (map, writer, mut readers) = opened(alloc)?;
-    match (readers.pop(), readers.pop()) {
-        (Some(two), Some(reader)) => Ok((
-            Worked {
-                map,
-                writer,
-                reader,
-            },
-            two,
-        )),
-        _ => Err(Fail::from("too few readers")),
-    }
 }
 
 fn all_three<R: Threads + Sync>(
     rt: &R,
     map: &ReaderMap,
+    flags: &Flags,
     one: Reader,
     two: Reader,
     writer: Writer,
-    batch: &Batch,
 ) -> ((Option<Row>, Reader), ((bool, Writer), (bool, Reader)))
     requires keys { 1 < map.now.shape.keys }
-    requires one { one.table ≡ map.now }
-    requires two { two.table ≡ map.now }
-    requires writer { writer.table ≡ map.now }
+    requires own { (one.table ≡ map.now) × (two.table ≡ map.now) × (writer.table ≡ map.now) }
     ensures { (result.0.1.table ≡ map.now) × (result.1.0.1.table ≡ map.now) × (result.1.1.1.table ≡ map.now) }
 {
-    let flags = Flags {
-        pinned: AtomicBool::new(false),
-        updated: AtomicBool::new(false),
-        sent: AtomicBool::new(false),
-    };
-    let flags = &flags;
     join(
         rt,
         move || -> (Option<Row>, Reader)
@@ -171,58 +120,49 @@ fn all_three<R: Threads + Sync>(
         move || -> ((bool, Writer), (bool, Reader))
             requires { (1 < map.now.shape.keys) × (writer.table ≡ map.now) × (two.table ≡ map.now) }
             ensures { (result.0.1.table ≡ map.entry.now) × (result.1.1.table ≡ map.entry.now) }
-        { update_and_ask(rt, map, flags, writer, batch, two) },
+        { update_and_ask(rt, map, flags, writer, two) },
     )
 }
 
-fn row(a: u64, b: u64) -> Row {
-    Row { a, b }
-}
-
-fn delta(plus: bool, row: Row) -> Delta {
-    Delta { plus, row }
-}
-
-// The writer gathers both readers.
-fn gathers_both(worked: &mut Worked, two: &mut Reader)
-    requires { two.old.table ≡ worked.old }
-{
-    worked.map.gather(&mut worked.writer, &mut worked.reader);
-    worked.map.gather(&mut worked.writer, two);
-}
-
-// The reader still holds the old row when key 1 was requested, after the update. Then the writer
-// finds its update, and knows of the request.
-fn holds_beside<R: Abort + Threads + Sync>(rt: &R, worked: Worked, two: Reader, batch: &Batch)
+// The reader still holds the old row when key 1 was requested, after the update.
+fn holds_beside<R: Abort + Threads + Sync>(rt: &R, worked: Worked, two: Reader) -> (Worked, Reader)
     requires keys { worked.shape.keys ≡ 2 }
     requires two { two.table ≡ worked }
+    ensures { result.1.table ≡ result.0 }
 {
     let Worked {
         map,
         writer,
         reader,
     } = worked;
-    let ((held, reader), ((updated, writer), (asked, mut two))) = all_three(
-        rt, &map, reader, two, writer, batch,
+    let flags = Flags {
+        pinned: AtomicBool::new(false),
+        updated: AtomicBool::new(false),
+        sent: AtomicBool::new(false),
+    };
+    let ((held, reader), ((updated, writer), (asked, two))) = all_three(
+        rt, &map, &flags, reader, two, writer,
     );
-    assert_eq!(rt; held, Some(row(5, 6)));
+    assert_eq!(rt; held, Some(Row { a: 5, b: 6 }));
     assert!(rt; updated && asked);
-    let mut worked = Worked {
+    let worked = Worked {
         map,
         writer,
         reader,
     };
-    gathers_both(&mut worked, &mut two);
-    worked.looks(rt, 0, &[(7, 8)]);
-    worked.stands(rt, 1, KeyKind::Asked);
+    (worked, two)
 }
 
+// Then the writer gathers both readers, finds its update, and knows of the request.
 #[test]
 fn pinned_set_outlives_an_update(rt: HostRuntime) -> Result<(), Fail> {
-    let batch = Batch::of(&[delta(false, row(5, 6)), delta(true, row(7, 8))])?;
-    let (mut worked, two) = with_second(rt.alloc())?;
+    let (mut worked, two) = Worked::open_two(rt.alloc(), 2, 5, 0)?;
     worked.asks(&rt, 0, Told::Send(0, 0));
     worked.fills(&rt, 0, 0, &[(5, 6)], Ok(()));
-    holds_beside(&rt, worked, two, &batch);
+    let (mut worked, mut two) = holds_beside(&rt, worked, two);
+    worked.map.gather(&mut worked.writer, &mut worked.reader);
+    worked.map.gather(&mut worked.writer, &mut two);
+    worked.looks(&rt, 0, &[(7, 8)]);
+    worked.stands(&rt, 1, KeyKind::Asked);
     Ok(())
 }

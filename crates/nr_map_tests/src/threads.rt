@@ -1,13 +1,11 @@
 //! Threads over one map. What is asserted does not depend on how their steps fall.
 ghost use Rattle.std.specs.Prelude.{◌≡◌, ◌<◌};
 
-use crate::calls::{Told, ask, evict, fill, find, look, minus, pairs_are, plus, rows_of, update};
+use crate::calls::{Told, ask, find, pairs_are, rows_of};
 use crate::worked::Worked;
-use nr_map::{Evict, FillFault, Found, Reader, ReaderMap, Writer};
-use nr_model::{Delta, OpenFault, RowSet};
-use std::alloc::Global;
+use nr_map::{Evict, Found, Reader, ReaderMap, Writer};
+use nr_model::RowSet;
 use std::process::Abort;
-use std::sync::atomic::{AtomicBool, Ordering};
 use std::test::Fail;
 use std::thread::{Threads, join};
 
@@ -26,8 +24,7 @@ fn both_ask<R: Threads + Sync>(
     one: Reader,
     two: Reader,
 ) -> ((Told, Reader), (Told, Reader))
-    requires one { one.table ≡ map.now }
-    requires two { two.table ≡ map.now }
+    requires own { (one.table ≡ map.now) × (two.table ≡ map.now) }
     requires key { 0 < map.now.shape.keys }
     ensures own { result.0.1.table ≡ map.now }
 {
@@ -43,20 +40,6 @@ fn both_ask<R: Threads + Sync>(
     )
 }
 
-/// Finds a key's rows, and once it is evicted a hole, which leaves the caller's set as it is.
-fn finds_until_evicted<R: Abort>(rt: &R, worked: &mut Worked) {
-    let mut found = RowSet::new();
-    assert_eq!(rt; worked.find(rt, 0, &mut found), Found::Rows);
-    assert!(rt; pairs_are(&found, &[(5, 6)]));
-    worked.evicts(rt, 0, Evict::Evicted);
-    assert_eq!(rt; worked.look(rt, 0, &mut RowSet::new()), Found::Hole);
-    assert_eq!(rt; worked.find(rt, 0, &mut found), Found::Hole);
-    assert!(rt;
-        pairs_are(&found, &[(5, 6)]),
-        "a hole leaves the caller's set"
-    );
-}
-
 #[test]
 fn one_of_two_requests_is_sent(rt: HostRuntime) -> Result<(), Fail> {
     let (worked, two) = Worked::open_two(rt.alloc(), 1, 4, 0)?;
@@ -65,7 +48,7 @@ fn one_of_two_requests_is_sent(rt: HostRuntime) -> Result<(), Fail> {
         writer,
         reader: one,
     } = worked;
-    let ((first, one), (second, _two)) = both_ask(&rt, &map, one, two);
+    let ((first, reader), (second, _two)) = both_ask(&rt, &map, one, two);
     assert!(rt;
         (first, second) == (Told::Send(0, 0), Told::Waiting)
             || (first, second) == (Told::Waiting, Told::Send(0, 0))
@@ -73,193 +56,100 @@ fn one_of_two_requests_is_sent(rt: HostRuntime) -> Result<(), Fail> {
     let mut worked = Worked {
         map,
         writer,
-        reader: one,
+        reader,
     };
-    worked.fills(&rt, 0, 0, &[(5, 6)], Ok(()));
-    worked.looks(&rt, 0, &[(5, 6)]);
-    finds_until_evicted(&rt, &mut worked);
+    is_filled_and_evicted(&rt, &mut worked);
     Ok(())
 }
 
-#[test]
-fn updates_use_slots_again(rt: HostRuntime) -> Result<(), Fail> {
-    let mut worked = Worked::open(rt.alloc(), 1, 2, 1, 0)?;
-    worked.asks(&rt, 0, Told::Send(0, 0));
-    worked.fills(&rt, 0, 0, &[(1, 1)], Ok(()));
-    worked.updates(&rt, 0, &[plus(2, 2)], Ok(()));
-    worked.updates(&rt, 0, &[plus(3, 3)], Ok(()));
-    worked.looks(&rt, 0, &[(1, 1), (2, 2), (3, 3)]);
-    Ok(())
-}
-
-/// How a map of those sizes is refused, if it is.
-fn refusal(alloc: Global, keys: u32, slots: u32, readers: u32) -> Option<OpenFault> {
-    ReaderMap::open(alloc, keys, slots, readers, 0).err()
-}
-
-#[test]
-fn sizes_have_their_limits(rt: HostRuntime) {
-    for (keys, slots, readers) in [
-        (0, 1, 1),
-        (65_537, 1, 1),
-        (1, 0, 1),
-        (1, 131_073, 1),
-        (1, 1, 0),
-        (1, 1, 1025),
-    ] {
-        let refused = refusal(rt.alloc(), keys, slots, readers);
-        assert!(rt; matches!(refused, Some(OpenFault::BadSize)));
-    }
-    for (keys, slots, readers) in [(65_536, 1, 1), (1, 131_072, 1), (1, 1, 1024)] {
-        assert!(rt; refusal(rt.alloc(), keys, slots, readers).is_none());
-    }
-}
-
-/// The rows `0:mark`, `1:mark` and `2:mark`, by which a set shows that it is whole.
-fn marked(mark: u64) -> RowSet {
-    rows_of(&[(0, mark), (1, mark), (2, mark)])
-}
-
-fn is_whole(rows: &RowSet) -> bool {
-    match rows.get(0) {
-        Some(first) => pairs_are(rows, &[(0, first.b), (1, first.b), (2, first.b)]),
-        None => false,
-    }
+// Key 0 is asked for.
+fn is_filled_and_evicted<R: Abort>(rt: &R, worked: &mut Worked) {
+    let mut rows = RowSet::new();
+    worked.fills(rt, 0, 0, &[(5, 6)], Ok(()));
+    worked.looks(rt, 0, &[(5, 6)]);
+    worked.finds(rt, 0, &[(5, 6)]);
+    worked.evicts(rt, 0, Evict::Evicted);
+    assert_eq!(rt; worked.look(rt, 0, &mut rows), Found::Hole);
+    assert_eq!(rt; worked.find(rt, 0, &mut rows), Found::Hole);
 }
 
 const TURNS: u64 = 20_000;
 
-/// Whether each reader has found rows. Until then the writer doesn't evict, so each is sure to.
-#[derive(Drop)]
-struct Hits {
-    one: AtomicBool,
-    two: AtomicBool,
+/// The rows `0:mark`, `1:mark` and `2:mark`, by which a set shows that it is whole.
+fn marked(mark: u64) -> [(u64, u64); 3] {
+    [(0, mark), (1, mark), (2, mark)]
 }
 
-impl Hits {
-    fn both(&self) -> bool {
-        self.one.load(Ordering::SeqCst) && self.two.load(Ordering::SeqCst)
-    }
+fn is_whole(rows: &RowSet) -> bool {
+    let mark = rows.get(0).map_or(0, |row| row.b);
+    pairs_are(rows, &marked(mark))
 }
 
-/// Finds key 0 again and again, and requests it where it is a hole: whether each set was whole.
-fn find_often(map: &ReaderMap, mut reader: Reader, hit: &AtomicBool) -> bool
+/// Finds key 0 again and again: whether each set was whole.
+fn find_often(map: &ReaderMap, mut reader: Reader) -> bool
     requires own { reader.table ≡ map.now }
     requires key { 0 < map.now.shape.keys }
 {
     let mut rows = RowSet::new();
     let mut whole = true;
     for _ in 0..TURNS {
-        match find(map, &mut reader, 0, &mut rows) {
-            Found::Rows => {
-                whole = whole && is_whole(&rows);
-                hit.store(true, Ordering::SeqCst);
-            }
-            Found::Hole => {
-                let _ = ask(map, &mut reader, 0);
-            }
-        }
+        let found = find(map, &mut reader, 0, &mut rows);
+        whole = whole && found == Found::Rows && is_whole(&rows);
     }
     whole
 }
 
-/// Fills, updates and evicts key 0 again and again.
-fn write_often(map: &ReaderMap, mut writer: Writer, hits: &Hits) -> bool
+/// Replaces key 0's set again and again: whether each was put.
+fn replace_often(map: &ReaderMap, mut writer: Writer) -> bool
     requires own { writer.table ≡ map.now }
     requires key { 0 < map.now.shape.keys }
 {
-    let mut rows = RowSet::new();
-    let mut whole = true;
+    let mut put = true;
     for mark in 0..TURNS {
-        if look(map, &mut writer, 0, &mut rows) == Found::Rows {
-            whole = whole && is_whole(&rows);
-        }
-        let evicts = mark % 4 == 3 && hits.both();
-        if evicts {
-            let _ = evict(map, &mut writer, 0);
-        } else if fill(map, &mut writer, 0, 0, &marked(mark)) == Some(Err(FillFault::Already)) {
-            let _ = update(map, &mut writer, 0, &renewal(&rows, mark));
-        }
+        put = replace(map, &mut writer, &rows_of(&marked(mark))) && put;
     }
-    whole
+    put
 }
 
-/// The deltas that turn those three rows into the marked ones.
-fn renewal(rows: &RowSet, mark: u64) -> [Delta; 6] {
-    let old = rows.get(0).map_or(0, |row| row.b);
-    [
-        minus(0, old),
-        minus(1, old),
-        minus(2, old),
-        plus(0, mark),
-        plus(1, mark),
-        plus(2, mark),
-    ]
+/// Replaces key 0's set: whether it was put. It isn't where it has more rows than a key may have.
+fn replace(map: &ReaderMap, writer: &mut Writer, rows: &RowSet) -> bool
+    requires own { writer.old.table ≡ map.now }
+    requires key { 0 < map.now.shape.keys }
+    ensures own { writer.new.table ≡ map.now }
+{
+    rows.len() <= map.rows() as usize && map.replace(writer, 0, rows).is_ok()
 }
 
-fn all_at_once<R: Threads + Sync>(
+fn both_at_once<R: Threads + Sync>(
     rt: &R,
     map: &ReaderMap,
     writer: Writer,
-    one: Reader,
-    two: Reader,
-    hits: &Hits,
-) -> (bool, (bool, bool))
-    requires writer { writer.table ≡ map.now }
-    requires one { one.table ≡ map.now }
-    requires two { two.table ≡ map.now }
+    reader: Reader,
+) -> (bool, bool)
+    requires own { (writer.table ≡ map.now) × (reader.table ≡ map.now) }
     requires key { 0 < map.now.shape.keys }
 {
     join(
         rt,
         move || -> bool
             requires { (writer.table ≡ map.now) × (0 < map.now.shape.keys) }
-        { write_often(map, writer, hits) },
-        move || -> (bool, bool)
-            requires { (one.table ≡ map.now) × (two.table ≡ map.now) × (0 < map.now.shape.keys) }
-        { both_find(rt, map, one, two, hits) },
-    )
-}
-
-fn both_find<R: Threads + Sync>(
-    rt: &R,
-    map: &ReaderMap,
-    one: Reader,
-    two: Reader,
-    hits: &Hits,
-) -> (bool, bool)
-    requires one { one.table ≡ map.now }
-    requires two { two.table ≡ map.now }
-    requires key { 0 < map.now.shape.keys }
-{
-    join(
-        rt,
+        { replace_often(map, writer) },
         move || -> bool
-            requires { (one.table ≡ map.now) × (0 < map.now.shape.keys) }
-        { find_often(map, one, &hits.one) },
-        move || -> bool
-            requires { (two.table ≡ map.now) × (0 < map.now.shape.keys) }
-        { find_often(map, two, &hits.two) },
+            requires { (reader.table ≡ map.now) × (0 < map.now.shape.keys) }
+        { find_often(map, reader) },
     )
 }
 
 #[test]
 fn sets_are_found_whole(rt: HostRuntime) -> Result<(), Fail> {
-    let (mut worked, two) = Worked::open_two(rt.alloc(), 1, 4, u64::MAX)?;
+    let mut worked = Worked::open(rt.alloc(), 1, 3, 1, u64::MAX)?;
     worked.asks(&rt, 0, Told::Send(0, 0));
-    worked.fills_set(&rt, 0, 0, &marked(0), Ok(()));
+    worked.fills(&rt, 0, 0, &marked(0), Ok(()));
     let Worked {
         map,
         writer,
-        reader: one,
+        reader,
     } = worked;
-    let hits = Hits {
-        one: AtomicBool::new(false),
-        two: AtomicBool::new(false),
-    };
-    let (written, found) = all_at_once(&rt, &map, writer, one, two, &hits);
-    assert!(rt; written);
-    assert_eq!(rt; found, (true, true));
-    assert!(rt; hits.both(), "each reader found rows");
+    assert_eq!(rt; both_at_once(&rt, &map, writer, reader), (true, true));
     Ok(())
 }

@@ -2,15 +2,9 @@
 //! asserts its answer, so that a test is a list of calls.
 ghost use Rattle.std.specs.Prelude.{◌≡◌, IfOk, IfSome};
 
-use crate::calls::{
-    Told, ask, cancel, evict, fill, fill_rows, find, find_into, look, look_into, pairs_are,
-    replace, replace_rows, rows_of, state, update, update_rows,
-};
-use nr_map::{
-    Cancel, Evict, FillFault, Found, KeyKind, Reader, ReaderMap, ReplaceFault, Shape, UpdateFault,
-    Writer,
-};
-use nr_model::{Delta, Pile, RowSet};
+use crate::calls::{Told, ask, evict, fill, find, look, pairs_are, rows_of, state, update};
+use nr_map::{Evict, FillFault, Found, KeyKind, Reader, ReaderMap, Shape, UpdateFault, Writer};
+use nr_model::{Delta, RowSet};
 use std::alloc::Global;
 use std::marker::Model;
 use std::process::Abort;
@@ -131,22 +125,6 @@ impl Worked {
         look(&self.map, &mut self.writer, key, rows)
     }
 
-    /// Finds a key, and writes its rows into the pile.
-    pub(crate) fn find_into<R: Abort>(&mut self, rt: &R, key: u32, rows: &mut Pile) -> Found
-        ensures { self.new ≡ self.old }
-    {
-        assert!(rt; key < self.map.keys());
-        find_into(&self.map, &mut self.reader, key, rows)
-    }
-
-    /// Looks a key up, and writes its rows into the pile.
-    pub(crate) fn look_into<R: Abort>(&mut self, rt: &R, key: u32, rows: &mut Pile) -> Found
-        ensures { self.new ≡ self.old }
-    {
-        assert!(rt; key < self.map.keys());
-        look_into(&self.map, &mut self.writer, key, rows)
-    }
-
     pub(crate) fn looks<R: Abort>(&mut self, rt: &R, key: u32, pairs: &[(u64, u64)])
         ensures { self.new ≡ self.old }
     {
@@ -183,21 +161,6 @@ impl Worked {
         self.fills_set(rt, key, number, &rows_of(pairs), answer);
     }
 
-    pub(crate) fn fills_rows<R: Abort>(
-        &mut self,
-        rt: &R,
-        key: u32,
-        number: u64,
-        rows: &RowSet,
-        answer: Result<(), FillFault>,
-    )
-        ensures { self.new ≡ self.old }
-    {
-        assert!(rt; key < self.map.keys());
-        let filled = fill_rows(&self.map, &mut self.writer, key, number, rows);
-        assert_eq!(rt; filled, Some(answer));
-    }
-
     pub(crate) fn updates<R: Abort>(
         &mut self,
         rt: &R,
@@ -212,48 +175,6 @@ impl Worked {
         assert_eq!(rt; updated, Some(answer));
     }
 
-    pub(crate) fn updates_rows<R: Abort>(
-        &mut self,
-        rt: &R,
-        key: u32,
-        deltas: &[Delta],
-        answer: Result<(), UpdateFault>,
-    )
-        ensures { self.new ≡ self.old }
-    {
-        assert!(rt; key < self.map.keys());
-        let updated = update_rows(&self.map, &mut self.writer, key, deltas);
-        assert_eq!(rt; updated, Some(answer));
-    }
-
-    pub(crate) fn replaces<R: Abort>(
-        &mut self,
-        rt: &R,
-        key: u32,
-        pairs: &[(u64, u64)],
-        answer: Result<(), ReplaceFault>,
-    )
-        ensures { self.new ≡ self.old }
-    {
-        assert!(rt; key < self.map.keys());
-        let replaced = replace(&self.map, &mut self.writer, key, &rows_of(pairs));
-        assert_eq!(rt; replaced, Some(answer));
-    }
-
-    pub(crate) fn replaces_rows<R: Abort>(
-        &mut self,
-        rt: &R,
-        key: u32,
-        rows: &RowSet,
-        answer: Result<(), ReplaceFault>,
-    )
-        ensures { self.new ≡ self.old }
-    {
-        assert!(rt; key < self.map.keys());
-        let replaced = replace_rows(&self.map, &mut self.writer, key, rows);
-        assert_eq!(rt; replaced, Some(answer));
-    }
-
     pub(crate) fn evicts<R: Abort>(&mut self, rt: &R, key: u32, answer: Evict)
         ensures { self.new ≡ self.old }
     {
@@ -261,27 +182,10 @@ impl Worked {
         assert_eq!(rt; evict(&self.map, &mut self.writer, key), answer);
     }
 
-    pub(crate) fn cancels<R: Abort>(&mut self, rt: &R, key: u32, answer: Cancel)
-        ensures { self.new ≡ self.old }
-    {
-        assert!(rt; key < self.map.keys());
-        assert_eq!(rt; cancel(&self.map, &mut self.writer, key), answer);
-    }
-
     pub(crate) fn stands<R: Abort>(&mut self, rt: &R, key: u32, kind: KeyKind)
         ensures { self.new ≡ self.old }
     {
         assert!(rt; key < self.map.keys());
         assert_eq!(rt; state(&self.map, &mut self.writer, key), kind);
-    }
-
-    pub(crate) fn has_number<R: Abort>(&self, rt: &R, key: u32, number: u64) {
-        assert_eq!(rt; self.number(rt, key), number);
-    }
-
-    /// The number of a key.
-    pub(crate) fn number<R: Abort>(&self, rt: &R, key: u32) -> u64 {
-        assert!(rt; key < self.map.keys());
-        self.map.number(&self.writer, key)
     }
 }
