@@ -68,7 +68,7 @@ fn show_sizes<R: AllocGlobal + Print>(rt: &R) -> anyhow::Result<()> {
 }
 
 // What is taken back, and what one token tells another.
-fn show_meetings<R: AllocGlobal + Print + Threads + Sync>(rt: &R) -> anyhow::Result<()> {
+fn show_meetings<R: AllocGlobal + Print + Threads + Wait + Sync>(rt: &R) -> anyhow::Result<()> {
     let alloc = rt.alloc();
     cancels::show(rt, &cancels::taken_back(alloc)?)?;
     meetings::show(rt, &meetings::learnt(alloc)?)?;

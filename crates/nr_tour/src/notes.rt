@@ -1,21 +1,79 @@
 //! A write that another thread reads once it was acknowledged: a note goes with the message.
-ghost use Rattle.std.specs.Prelude.{◌≡◌, ◌<◌};
+ghost use Rattle.std.specs.Prelude.{◌≡◌, ◌<◌, IfOk};
 ghost use Rattle.nr_board.specs.Meetings.{HearsNote};
 ghost use Rattle.nr_map.specs.Written.{FindsAfter, answered};
 
-use crate::calls::{ask, fill};
+use crate::calls::{ROWS, set_of};
 use crate::opening::opened;
-use nr_map::{FillFault, Found, Note, Pin, Reader, ReaderMap, Writer, laws};
+use nr_map::{Asked, FillFault, Found, Note, Pin, Reader, ReaderMap, Writer, laws};
 use nr_model::{OpenFault, RowSet};
+use nr_trigger::{Poster, Taker, Triggers};
 use std::alloc::Global;
 use std::io::{self, Print};
+use std::sync::Wait;
 use std::thread::{Threads, join};
 
 #[derive(Drop)]
 pub struct Acknowledged {
-    filled: Result<(), FillFault>,
+    filled: Option<Result<(), FillFault>>,
     found: Found,
     held: Option<RowSet>,
+}
+
+// A queue for the map, whose tickets may have notes of it.
+fn queue_for(alloc: Global, map: &ReaderMap) -> Result<(Triggers, Poster, Taker), OpenFault>
+    ensures queue { IfOk result (λ opened. (opened.1.queue ≡ opened.0.id) × (opened.2.queue ≡ opened.0.id)) }
+    ensures keys { IfOk result (λ opened. (opened.1.keys ≡ map.now.shape.keys) × (opened.2.keys ≡ map.now.shape.keys)) }
+    ensures map { IfOk result (λ opened. (opened.1.map ≡ Some map.now) × (opened.2.map ≡ Some map.now)) }
+{
+    let (triggers, mut posters, taker) = Triggers::open_for(alloc, map, 1, 1)?;
+    let Some(poster) = posters.pop() else {
+        unreachable!()
+    };
+    Ok((triggers, poster, taker))
+}
+
+// Who asks for key 0 tells with the ticket what it has seen.
+fn ask_and_tell<R: Wait>(
+    rt: &R,
+    map: &ReaderMap,
+    triggers: &Triggers,
+    reader: &mut Reader,
+    poster: &mut Poster,
+)
+    requires own { (reader.old.table ≡ map.now) × (0 < map.now.shape.keys) }
+    requires queue { (poster.old.queue ≡ triggers.now.id) × (poster.old.keys ≡ map.now.shape.keys) × (poster.old.map ≡ Some map.now) }
+    ensures own { reader.new.table ≡ map.now }
+{
+    match map.ask(reader, 0) {
+        Asked::Send(ticket) => {
+            let note = map.note(reader);
+            if let Err((back, _)) = triggers.post_with(rt, poster, ticket, note) {
+                back.into_key();
+            }
+        }
+        Asked::Waiting | Asked::Filled => {}
+    }
+}
+
+// The dataflow hears it before it fills the key.
+fn hear_and_fill<R: Wait>(
+    rt: &R,
+    map: &ReaderMap,
+    triggers: &Triggers,
+    writer: &mut Writer,
+    taker: &mut Taker,
+) -> Option<Result<(), FillFault>>
+    requires own { writer.old.table ≡ map.now }
+    requires queue { (taker.old.queue ≡ triggers.now.id) × (taker.old.keys ≡ map.now.shape.keys) × (taker.old.map ≡ Some map.now) }
+    ensures own { writer.new.table ≡ map.now }
+{
+    let mut trigger = triggers.take(rt, taker)?;
+    if let Some(note) = trigger.note() {
+        map.hear_writer(writer, note);
+    }
+    let number = trigger.number();
+    Some(map.fill(writer, trigger.into_key(), number, &set_of(map, &ROWS)))
 }
 
 // Once the writer has written, its note goes with the acknowledgement: it tells all that the writer
@@ -115,14 +173,15 @@ fn held_meanwhile(
     Some(rows)
 }
 
-/// The writer fills key 0, and a note of that goes to a thread which finds the key.
-pub fn written_and_read<R: Threads + Sync>(
+/// A reader asks for key 0, the writer fills it, and a note of that goes to a thread which finds the key.
+pub fn written_and_read<R: Threads + Wait + Sync>(
     rt: &R,
     alloc: Global,
 ) -> Result<Acknowledged, OpenFault> {
     let (map, mut writer, mut one, two) = opened(alloc, 2, 5)?;
-    ask(&map, &mut one, 0);
-    let filled = fill(&map, &mut writer, 0);
+    let (triggers, mut poster, mut taker) = queue_for(alloc, &map)?;
+    ask_and_tell(rt, &map, &triggers, &mut one, &mut poster);
+    let filled = hear_and_fill(rt, &map, &triggers, &mut writer, &mut taker);
     let (note, other) = pass_on(&map, &mut one, acknowledge(&map, &mut writer));
     let found = found_there(rt, &map, two, note);
     let held = held_meanwhile(&map, &mut writer, one, other);

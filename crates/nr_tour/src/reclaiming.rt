@@ -2,7 +2,7 @@
 ghost use Rattle.std.specs.Prelude.{◌≡◌, ◌<◌};
 
 use crate::calls::{CHANGE, ask};
-use nr_map::{FillFault, ReaderMap, Reclaimed, Remains, ReplaceFault, UpdateFault, Writer};
+use nr_map::{FillFault, ReaderMap, Reaped, Reclaimed, Remains, ReplaceFault, UpdateFault, Writer};
 use nr_model::{OpenFault, Pile, Row};
 use std::alloc::Global;
 use std::io::{self, Print};
@@ -22,9 +22,11 @@ struct Given {
     changed: Result<Reclaimed, UpdateFault>,
     replaced: Result<Reclaimed, ReplaceFault>,
     had: Pile,
+    reaped: Reaped,
+    waited: Pile,
 }
 
-// At the end of a map its sets come out, each that no call gave out: here those of two slots.
+// At the end of a map its sets come out, each that no call gave out: here the one that the key has.
 fn take_out(mut remains: Remains) -> ([bool; 3], Pile) {
     let mut rows = Pile::new();
     let first = remains.next_into(&mut rows);
@@ -34,7 +36,8 @@ fn take_out(mut remains: Remains) -> ([bool; 3], Pile) {
 }
 
 // Two calls take slots that were never taken. The third takes the fill's, whose set the update replaced:
-// nobody holds it any more, and what its rows refer to may be freed.
+// nobody holds it any more, and what its rows refer to may be freed. The update's own set waits in its
+// slot then, and a reap gives it out.
 fn put_three(map: &ReaderMap, writer: &mut Writer) -> Option<Given>
     requires own { writer.old.table ≡ map.now }
     requires key { 0 < map.now.shape.keys }
@@ -48,11 +51,15 @@ fn put_three(map: &ReaderMap, writer: &mut Writer) -> Option<Given>
     let filled = map.fill_reclaiming(writer, 0, number, &ONE, &mut had);
     let changed = map.update_reclaiming(writer, 0, &CHANGE, &mut had);
     let replaced = map.replace_reclaiming(writer, 0, &ONE, &mut had);
+    let mut waited = Pile::new();
+    let reaped = map.reap(writer, &mut waited);
     Some(Given {
         filled,
         changed,
         replaced,
         had,
+        reaped,
+        waited,
     })
 }
 
@@ -74,11 +81,13 @@ pub fn show<R: Print>(rt: &R, told: &GivenBack) -> io::Result<()> {
         return Ok(());
     };
     println!(rt;
-        "Given back\n  a fill: {:?}\n  an update: {:?}\n  a replacement: {:?}: {:?}\n  at the end: {:?}, the last {:?}",
+        "Given back\n  a fill: {:?}\n  an update: {:?}\n  a replacement: {:?}: {:?}\n  a reap: {:?}: {:?}\n  at the end: {:?}, the last {:?}",
         given.filled,
         given.changed,
         given.replaced,
         given.had.as_slice(),
+        given.reaped,
+        given.waited.as_slice(),
         told.came,
         told.last.as_slice()
     )
