@@ -99,7 +99,7 @@ pub use answers::{Asked, Cancel, Fault, KeyKind, Updated};
 pub use lobby::Lobby;
 pub use map::ReaderMap;
 pub use queue::{Poster, Queue, Taker};
-pub use reader::{Pin, Reader};
+pub use reader::{Keeping, Pin, Reader};
 pub use rows::{Delta, Row, Rows, Shape, Sizes, Wanted};
 pub use shared_queue::{SharedPoster, SharedQueue, SharedTaker};
 pub use ticket::{Ticket, Unfilled, Unposted};

@@ -1,7 +1,7 @@
 //! A map, and what its tokens know of it.
 use crate::answers::done;
 use crate::ffi::{self, Handle};
-use crate::{Fault, Reader, Shape, Writer};
+use crate::{Fault, Reader, Shape, Ticket, Writer};
 use std::sync::atomic::{AtomicU64, Ordering::Relaxed};
 
 /// A map's tokens as they come: its writer, and its readers, which share its memory. It goes with the last of them.
@@ -47,6 +47,11 @@ impl Map {
     pub fn checked(&self, key: u32) -> u32 {
         assert!(key < self.keys, "the map has {} keys, and the key is {key}", self.keys);
         key
+    }
+
+    /// Panics where the ticket is another map's.
+    pub fn owns(&self, ticket: &Ticket) {
+        assert!(ticket.map() == self.id, "the ticket is another map's");
     }
 
     /// Panics where the other is another map.

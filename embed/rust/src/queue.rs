@@ -36,7 +36,7 @@ impl Poster {
     /// Puts a ticket at the back. It comes back with [`Fault::Full`] or [`Fault::InTheWay`]. Panics where it is another
     /// map's.
     pub fn post(&mut self, ticket: Ticket) -> Result<(), Unposted> {
-        assert!(ticket.map() == self.map.id, "the ticket is another map's");
+        self.map.owns(&ticket);
         self.end.post(ticket.key(), ticket.number()).map_err(|fault| Unposted { fault, ticket })
     }
 

@@ -60,12 +60,36 @@ impl Reader {
 
     /// As [`Reader::find`], and the reader holds the set until it finds another or makes another call. While the key keeps
     /// that set, the next `find_kept` of it writes no word. A set that is held keeps its slot from being used anew, so a
-    /// reader that finds nothing for a while is told to [`Reader::let_go`].
+    /// reader that finds nothing for a while is told to [`Reader::let_go`]. With [`Reader::keeping`] nobody forgets that.
     pub fn find_kept<'a>(&mut self, key: u32, rows: &'a mut Rows) -> Option<&'a [Row]> {
         let key = self.map.checked(key);
         // SAFETY: the handle is live, the key was checked, and the rows are laid out as the header's.
         self.holds = unsafe { ffi::nr_find_kept(&mut self.handle, key, rows) } == ffi::NR_ROWS;
         self.holds.then(|| rows.as_slice())
+    }
+
+    /// Whether the key has the set still that the reader holds, by [`Reader::find_kept`].
+    pub(crate) fn again(&mut self, key: u32) -> bool {
+        let key = self.map.checked(key);
+        // SAFETY: the handle is live, and the key was checked. Where it holds nothing the answer is another.
+        unsafe { ffi::nr_again(&mut self.handle, key) == ffi::NR_ROWS }
+    }
+
+    /// Finds by [`Reader::find_kept`] whose hold ends with what this gives, however that scope is left.
+    ///
+    /// ```
+    /// # let mut map = nr::ReaderMap::open(&nr::Shape::new(1, 3, 1))?;
+    /// # let nr::Asked::Send(ticket) = map.readers[0].ask(0) else { panic!() };
+    /// # map.writer.fill(ticket, &[])?;
+    /// # let (mut reader, mut rows) = (map.readers.pop().unwrap(), nr::Rows::new());
+    /// let mut keeping = reader.keeping();
+    /// for _ in 0..1000 {
+    ///     assert!(keeping.find(0, &mut rows).is_some());
+    /// }
+    /// # Ok::<(), Box<dyn std::error::Error>>(())
+    /// ```
+    pub fn keeping(&mut self) -> Keeping<'_> {
+        Keeping { reader: self }
     }
 
     /// Ends the hold of the last [`Reader::find_kept`], where there is one.
@@ -145,6 +169,25 @@ impl Drop for Reader {
     }
 }
 
+/// A reader that holds what it found last, until this is dropped.
+#[derive(Debug)]
+pub struct Keeping<'a> {
+    reader: &'a mut Reader,
+}
+
+impl Keeping<'_> {
+    /// As [`Reader::find_kept`].
+    pub fn find<'r>(&mut self, key: u32, rows: &'r mut Rows) -> Option<&'r [Row]> {
+        self.reader.find_kept(key, rows)
+    }
+}
+
+impl Drop for Keeping<'_> {
+    fn drop(&mut self) {
+        self.reader.release();
+    }
+}
+
 /// A held set, which stays as it is whatever happens to its key. Dropping it releases it; where it is forgotten, the
 /// reader's next call does.
 #[derive(Debug)]
@@ -183,9 +226,7 @@ impl Pin<'_> {
     /// Finds a key again, by one load that writes nothing: whether the key still has the set that the pin holds, put
     /// by the same fill or update. Panics where the map has no such key.
     pub fn again(&mut self, key: u32) -> bool {
-        let key = self.reader.map.checked(key);
-        // SAFETY: the handle is live and holds a set, since its pin is there, and the key was checked.
-        unsafe { ffi::nr_again(&mut self.reader.handle, key) == ffi::NR_ROWS }
+        self.reader.again(key)
     }
 
     /// The handle, of a reader that holds a set, for a call of the writer of its map. Panics where it is of another.

@@ -363,6 +363,12 @@ fn a_kept_find_holds_its_set_until_it_is_let_go() {
     assert_eq!(writer.update(0, &[Delta::plus(two)]), Err(Fault::NoSlot));
     readers[0].let_go();
     writer.update(0, &[Delta::plus(two)]).unwrap();
+    let mut keeping = readers[0].keeping();
+    assert_eq!(keeping.find(0, &mut rows), Some(&[ONE, two][..]));
+    writer.update(0, &[Delta::minus(two)]).unwrap();
+    assert_eq!(writer.update(0, &[Delta::plus(two)]), Err(Fault::NoSlot));
+    drop(keeping);
+    writer.update(0, &[Delta::plus(two)]).unwrap();
     assert_eq!(readers[1].find(0, &mut rows), Some(&[ONE, two][..]));
 }
 

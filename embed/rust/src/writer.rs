@@ -49,7 +49,7 @@ impl Writer {
     /// rows; with [`Fault::NotAsked`], [`Fault::Stale`] or [`Fault::Already`] never, since the request is no more.
     /// Panics where the ticket is of another map.
     pub fn fill(&mut self, ticket: Ticket, rows: &[Row]) -> Result<(), Unfilled> {
-        assert!(ticket.map() == self.map.id, "the ticket is another map's");
+        self.map.owns(&ticket);
         let (key, number) = (ticket.key(), ticket.number());
         // SAFETY: the handle is live, the key is one of its map's, and there are as many rows as it is told.
         let code = unsafe { ffi::nr_fill(&mut self.handle, key, number, rows.as_ptr(), rows.len()) };
@@ -102,7 +102,7 @@ impl Writer {
     /// whose request is no more this changes nothing. The ticket comes back where it has the last number, 4,194,303:
     /// then a fill by it alone ends the request. Panics where it is of another map.
     pub fn cancel_ticket(&mut self, ticket: Ticket) -> Result<(), Ticket> {
-        assert!(ticket.map() == self.map.id, "the ticket is another map's");
+        self.map.owns(&ticket);
         let key = ticket.key();
         if self.number(key) == ticket.number() && self.cancel(key) == Cancel::Worn {
             return Err(ticket);
