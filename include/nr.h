@@ -147,7 +147,7 @@ typedef struct nr_delta {
    departures begin, and a first number of requests up to 4,194,303.
    With a slot for each key, each reader and one more no fill, update or replacement answers NR_NO_SLOT or
    NR_ALL_FILLED. The map's words take 8 bytes a key and 16 * rows + 16 a slot, and as much again while it is
-   opened; the writer's lists take 8 bytes a key and 16 a slot beside them. */
+   opened; the writer's lists take 8 bytes a key and 17 a slot beside them. */
 typedef struct nr_shape {
   uint32_t keys;
   uint32_t slots;
