@@ -1,9 +1,17 @@
-"""The kit's command rt, as a module: its checks of wrong bodies and its builds."""
+"""What the tests share: the kit's command rt as a module, with its checks of wrong bodies and its builds, and how many
+provers may run side by side."""
 import importlib.machinery
 import importlib.util
 import os
+import pathlib
+import re
 import shutil
 import sys
+import threading
+
+TOP = pathlib.Path(__file__).resolve().parent.parent
+ONE_PROVER = 3 << 20  # of memory, in KiB
+saying = threading.Lock()
 
 
 def rt():
@@ -14,3 +22,15 @@ def rt():
     loader.exec_module(made)
     made.rtlib.guarded()
     return made
+
+
+def lanes(others=0):
+    """How many provers may run side by side, each by one process, where so many others run already."""
+    free = int(re.search(r"MemAvailable: *(\d+)", pathlib.Path("/proc/meminfo").read_text())[1])
+    return max(1, min(len(os.sched_getaffinity(0)), free // ONE_PROVER - others))
+
+
+def say(line):
+    """Prints a line whole, whatever other threads print."""
+    with saying:
+        print(line, flush=True)
