@@ -27,7 +27,7 @@ use Rattle.nr_board.specs.Meetings.{HasPut}
 use Rattle.nr_board.specs.declared.answers.KeyKind.{KeyKind}
 use Rattle.nr_board.specs.declared.answers.KeyKind.TheVariants as kind
 use Rattle.nr_board.specs.Plays.{Arrived, Asked, Departed, FoundAgain, Holds, IsIdle, Read}
-use Rattle.nr_board.specs.Seats.{HoldsAt, IdlesAt, names_at}
+use Rattle.nr_board.specs.Seats.{HoldsAt, IdlesAt}
 use Rattle.nr_board.specs.Views.{grip_of, is_sized, caller_number, rows_held, slot_held}
 
 module _ (table : Table) (before after : MapSeat) (same : after.table_id ≡ before.table_id) where
@@ -66,27 +66,30 @@ module _ (table : Table) (before after : MapSeat) (same : after.table_id ≡ bef
   pub departed_seat : (begin : ℕ) → HoldsAt table begin before → Departed before.me.0 after.me.0 → IdlesAt table after × Rests 1 (token before) (token after)
   departed_seat begin holds told = let rests = seat_rests before after same told.waits in (record { own = rests.table ∙ holds.own; idle = told.role ∙ ap (λ (n : ℕ). Reader n Nothing) (sym (ap caller_number told.role)) }, rests)
 
--- the slot that a reader holds is one of the map's, by whichever name it is known
+-- the slot that a reader holds, by where its first content word stands; it is one of the map's
+pub held_slot : {table : Table} {seat : MapSeat} (slot : ℕ) → HoldsAt table (content table.shape slot 0) seat → slot ≡ slot_held seat.me.0.role
+held_slot {table = table} {seat = seat} slot holds = same_content table.shape slot 0 (slot_held seat.me.0.role) 0 (omega arith) (omega arith) holds.begin_is
+
 pub held_inside : {table : Table} {seat : MapSeat} (slot : ℕ) → HoldsAt table (content table.shape slot 0) seat → slot < table.shape.slots
-held_inside {table = table} {seat = seat} slot holds = let same = same_content table.shape slot 0 (slot_held seat.me.0.role) 0 (omega arith) (omega arith) holds.begin_is in omega (arith, same, holds.holds.inside)
+held_inside slot holds = omega (arith, held_slot slot holds, holds.holds.inside)
 
 -- the name of a filled word
 pub filled_name : (word : ℕ) → is_filled word ≡ true → name_number word ≡ suc (slot_of word)
 filled_name word full = ap (λ (b : Bool). cond {A = ℕ} b (slot_of word + 1) 0) full ∙ omega arith
 
-names_filled : (shape : Shape) (begin held word : ℕ) → begin ≡ content shape held 0 → is_filled word ≡ true → names_slot held word ≡ nat_eq (content shape (slot_of word) 0) begin
-names_filled shape begin held word begin_is full = let found : ℕ = slot_of word in let name = filled_name word full in dite (ℕ_discrete found held)
-    (λ e. eq-eqb (name_number word) (suc held) (omega arith) ∙ sym (eq-eqb (content shape found 0) begin (ap (λ (s : ℕ). content shape s 0) e ∙ sym begin_is)))
-    (λ ne. ne_eqb (name_number word) (suc held) (λ e. ne (omega arith)) ∙ sym (ne_eqb (content shape found 0) begin (λ e. ne (same_content shape found 0 held 0 (omega arith) (omega arith) (e ∙ begin_is)))))
+names_filled : (held word : ℕ) → is_filled word ≡ true → names_slot held word ≡ nat_eq (slot_of word) held
+names_filled held word full = let found : ℕ = slot_of word in let name = filled_name word full in dite (ℕ_discrete found held)
+    (λ e. eq-eqb (name_number word) (suc held) (omega arith) ∙ sym (eq-eqb found held e))
+    (λ ne. ne_eqb (name_number word) (suc held) (λ e. ne (omega arith)) ∙ sym (ne_eqb found held ne))
 
 names_empty : (held word : ℕ) → is_filled word ≡ false → names_slot held word ≡ false
 names_empty held word empty = let none : name_number word ≡ 0 = ap (λ (b : Bool). cond {A = ℕ} b (slot_of word + 1) 0) empty in ne_eqb (name_number word) (suc held) (λ e. absurd (omega arith))
 
--- a word names the slot that is held exactly where the slot of its name begins at the same place
-pub names_by_begin : (shape : Shape) (begin held word : ℕ) → begin ≡ content shape held 0 → names_slot held word ≡ names_at shape begin word
-names_by_begin shape begin held word begin_is = let at_begin : Bool = nat_eq (content shape (slot_of word) 0) begin in by_cases (λ _. names_slot held word ≡ names_at shape begin word) (is_filled word)
-    (λ full. names_filled shape begin held word begin_is full ∙ sym (ap (λ (b : Bool). b && at_begin) full))
-    (λ empty. names_empty held word empty ∙ sym (ap (λ (b : Bool). b && at_begin) empty))
+-- a word names the slot that is held exactly where it is filled and the slot is its own
+pub names_held : (held word : ℕ) → names_slot held word ≡ (is_filled word && nat_eq (slot_of word) held)
+names_held held word = let same : Bool = nat_eq (slot_of word) held in by_cases (λ _. names_slot held word ≡ (is_filled word && same)) (is_filled word)
+    (λ full. names_filled held word full ∙ sym (ap (λ (b : Bool). b && same) full))
+    (λ empty. names_empty held word empty ∙ sym (ap (λ (b : Bool). b && same) empty))
 
 -- a key has rows exactly where its word is filled
 rows_shown : (word : ℕ) → is_filled word ≡ true → kind_shown word ≡ kind.Rows

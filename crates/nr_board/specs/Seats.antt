@@ -1,7 +1,6 @@
 -- Where a seat stands between two steps: whose it is, of which map, and what it holds.
-use Rattle.std.specs.Prelude.{◌≡◌, ℕ, Bool, ◌==◌, ◌&&◌}
+use Rattle.std.specs.Prelude.{◌≡◌, ℕ}
 use Rattle.atomic_table.specs.declared.shared.Seat.{Seat}
-use Rattle.nr_words.specs.KeyWords.{is_filled, slot_of}
 use Rattle.nr_machine.specs.Slots.{content}
 use Rattle.nr_machine.specs.declared.shape.Shape.{Shape}
 use Rattle.nr_board.specs.Views.{View, slot_held}
@@ -18,7 +17,3 @@ pub record HoldsAt (table : Table) (begin : ℕ) (seat : Seat (Unit {0}) View) :
   pub own : (token seat).table ≡ table
   pub holds : Holds table.shape seat.me.0.role
   pub begin_is : begin ≡ content table.shape (slot_held seat.me.0.role) 0
-
--- a key's word names the slot whose first content word stands there
-abbrev pub names_at : Shape → ℕ → ℕ → Bool
-names_at shape begin word = is_filled word && (content shape (slot_of word) 0 == begin)

@@ -23,7 +23,7 @@ ghost use Rattle.nr_board.specs.Callers.{Gains, Grows, Rests, map_seen, token};
 ghost use Rattle.nr_marks.specs.Marks.{acted, set_in, with_polls};
 ghost use Rattle.nr_marks.specs.MarkSteps.{found_again};
 ghost use Rattle.nr_marks.specs.Puts.{put_number};
-ghost use Rattle.nr_board.specs.Seats.{IdlesAt, HoldsAt, names_at};
+ghost use Rattle.nr_board.specs.Seats.{IdlesAt, HoldsAt};
 ghost use Rattle.nr_board.specs.Notes.{IsCaller, IsNote, has_noted, note_of, retold, with_note};
 ghost use Rattle.nr_board.specs.Kinds.{kind_of, kind_shown};
 ghost use Rattle.nr_board.specs.Learning.{Learned};
@@ -39,7 +39,7 @@ use crate::rule::{
 use crate::view::View;
 use atomic_table::Table;
 use nr_core::{Retired, Shape};
-use nr_words::{ARRIVE, Layout, hole_word, naming, opening_words, parts};
+use nr_words::{ARRIVE, Layout, hole_word, names, naming, opening_words, parts};
 use std::alloc::{AllocError, Global};
 use std::marker::Model;
 
@@ -179,13 +179,13 @@ impl Board {
         words.load::<Reads>(seat, place as usize)
     }
 
-    /// A reader that holds a slot, whose first content word stands at `begin`, finds a key again, by
-    /// one load of the key's word: whether the key still has the set that the reader holds. Then the
-    /// find is an entry, and it is answered with that set.
-    pub fn find_again(&self, seat: &mut Seat, begin: u64, key: u32) -> bool
-        requires reader { HoldsAt self.now begin seat.old }
+    /// A reader that holds that slot finds a key again, by one load of the key's word: whether the key
+    /// still has the set that the reader holds. Then the find is an entry, and it is answered with that
+    /// set.
+    pub fn find_again(&self, seat: &mut Seat, slot: u32, key: u32) -> bool
+        requires reader { HoldsAt self.now (content self.now.shape slot 0) seat.old }
         requires key { key < self.now.shape.keys }
-        ensures reader { HoldsAt self.now begin seat.new }
+        ensures reader { HoldsAt self.now (content self.now.shape slot 0) seat.new }
         ensures role { seat.new.me.0.role ≡ seat.old.me.0.role }
         ensures same { result ≡ true → Gains 1 (token seat.old) (model.Find key) (reply.Rows (rows_held seat.old.me.0.role)) (token seat.new) }
         ensures other { result ≡ false → Grows 1 (token seat.old) [] (token seat.new) }
@@ -194,16 +194,7 @@ impl Board {
     {
         let words = &self.table.shared;
         let word = words.load::<FindsAgain>(seat, key as usize);
-        self.names_at(word, begin)
-    }
-
-    /// Whether a key's word names the slot whose first content word stands at `begin`.
-    fn names_at(&self, word: u64, begin: u64) -> bool
-        requires slot { is_filled word ≡ true → slot_of word < self.now.shape.slots }
-        ensures { result ≡ names_at self.now.shape begin word }
-    {
-        let found = parts(word);
-        found.filled && self.content(found.slot) == begin
+        names(word, slot)
     }
 
     /// A reader departs from the slot that it holds, whose first content word stands at `begin`.

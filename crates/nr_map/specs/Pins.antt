@@ -7,6 +7,7 @@ use Rattle.nr_model.specs.declared.calls.Reply.TheVariants as reply
 use Rattle.nr_marks.specs.Marks.{acted}
 use Rattle.nr_marks.specs.Puts.{put_number}
 use Rattle.nr_board.specs.Callers.{Caller, Gains, Grows, KnowsOwn, token}
+use Rattle.nr_machine.specs.Slots.{content}
 use Rattle.nr_board.specs.Seats.{HoldsAt}
 use Rattle.nr_board.specs.Views.{View, caller_number, rows_held}
 
@@ -18,9 +19,10 @@ pub record Pinned : Type 0 where
 abbrev pub pinned : Seat (Unit {0}) View → Pinned
 pinned seat = record { reader = token seat; rows = rows_held seat.me.0.role }
 
--- the seat of a reader that holds that many rows, in the slot whose first content word stands at `begin`
-pub record Pins (seat : Seat (Unit {0}) View) (number begin count : ℕ) : Type 0 where
+-- the seat of a reader that holds that many rows, in that slot, whose first content word stands at `begin`
+pub record Pins (seat : Seat (Unit {0}) View) (number slot begin count : ℕ) : Type 0 where
   pub holds : HoldsAt (token seat).table begin seat
+  pub begin_is : begin ≡ content (token seat).table.shape slot 0
   pub number_is : number ≡ caller_number seat.me.0.role
   pub count_is : count ≡ length (rows_held seat.me.0.role)
   pub own : KnowsOwn (token seat)

@@ -22,10 +22,12 @@ pub struct Hand {
     held: Option<Held>,
 }
 
-// The key whose set is held, where the slot's first content word stands, and how many rows it has.
+// The key whose set is held, its slot, where the slot's first content word stands, and how many rows it
+// has.
 #[derive(Clone, Copy)]
 pub(crate) struct Held {
     key: u32,
+    slot: u32,
     begin: u64,
     count: u32,
 }
@@ -76,13 +78,19 @@ impl Hand {
         let Pin {
             seat,
             number,
+            slot,
             begin,
             count,
         } = pin;
         Hand {
             seat,
             number,
-            held: Some(Held { key, begin, count }),
+            held: Some(Held {
+                key,
+                slot,
+                begin,
+                count,
+            }),
         }
     }
 
@@ -97,6 +105,7 @@ impl Hand {
         Ok(Pin {
             seat,
             number,
+            slot: held.slot,
             begin: held.begin,
             count: held.count,
         })
@@ -170,7 +179,12 @@ impl Hand {
         }
         let begin = map.board.content(found.slot);
         let count = map.board.read(&mut self.seat, begin, 0) as u32;
-        self.held = Some(Held { key, begin, count });
+        self.held = Some(Held {
+            key,
+            slot: found.slot,
+            begin,
+            count,
+        });
         true
     }
 
@@ -184,7 +198,7 @@ impl Hand {
         ensures again { AgainByHand key self.old self.new result }
     {
         match self.held {
-            Some(held) if held.key == key => map.board.find_again(&mut self.seat, held.begin, key),
+            Some(held) if held.key == key => map.board.find_again(&mut self.seat, held.slot, key),
             _ => false,
         }
     }

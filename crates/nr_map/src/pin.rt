@@ -19,6 +19,7 @@ use std::marker::Model;
 pub struct Pin {
     pub(crate) seat: Seat,
     pub(crate) number: u32,
+    pub(crate) slot: u32,
     pub(crate) begin: u64,
     pub(crate) count: u32,
 }
@@ -30,7 +31,7 @@ impl Model for Pin {
 
     ghost view = { λ pin. pinned pin.seat };
 
-    ghost invariant = { λ pin. Pins pin.seat pin.number pin.begin pin.count };
+    ghost invariant = { λ pin. Pins pin.seat pin.number pin.slot pin.begin pin.count };
 }
 
 impl ReaderMap {
@@ -53,6 +54,7 @@ impl ReaderMap {
         Ok(Pin {
             seat,
             number,
+            slot: found.slot,
             begin,
             count,
         })
@@ -118,7 +120,7 @@ impl Pin {
         ensures holds { self.new.reader.holds ≡ self.old.reader.holds }
         ensures marks { self.new.reader.marks ≡ found_again result self.old.reader.marks }
     {
-        map.board.find_again(&mut self.seat, self.begin, key)
+        map.board.find_again(&mut self.seat, self.slot, key)
     }
 
     /// Ends the hold, in 1 step, and gives the reader back.
@@ -131,6 +133,7 @@ impl Pin {
         let Pin {
             mut seat,
             number,
+            slot: _,
             begin,
             count: _,
         } = self;

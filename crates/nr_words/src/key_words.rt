@@ -1,8 +1,8 @@
 //! A key's word: bit 0 says that the key is asked, bit 1 that it is filled, bits 2 to 23 are the
 //! slot that it names or, where it isn't filled, its ask number, and bits 24 to 63 count the readers
 //! that arrived, modulo 2^40.
-ghost use Rattle.std.specs.Prelude.{◌≡◌, ◌<◌, ◌^◌, false};
-ghost use Rattle.nr_words.specs.KeyWords.{hole_word, key_word, naming, parts_of, same_count};
+ghost use Rattle.std.specs.Prelude.{◌≡◌, ◌<◌, ◌^◌, ◌==◌, ◌&&◌, false};
+ghost use Rattle.nr_words.specs.KeyWords.{hole_word, is_filled, key_word, naming, parts_of, same_count, slot_of};
 
 /// What one more arrival adds to a key's word.
 pub const ARRIVE: u64 = 1 << ARRIVALS_SHIFT;
@@ -68,6 +68,15 @@ pub fn naming(slot: u32, departed: u64) -> u64
         slot,
         arrivals: departed % COUNTS,
     })
+}
+
+/// Whether a word is filled and names that slot, which is below 2^22.
+pub fn names(word: u64, slot: u32) -> bool
+    requires { slot < 2 ^ 22 }
+    ensures { result ≡ (is_filled word && (slot_of word == slot)) }
+{
+    // Whether the key is asked too is all the same.
+    word % ARRIVE / 2 == naming(slot, 0) / 2
 }
 
 /// The parts of any word.

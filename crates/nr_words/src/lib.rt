@@ -10,7 +10,9 @@ mod opening;
 mod row_pairs;
 mod set_words;
 
-pub use key_words::{ARRIVE, COUNTS, KeyParts, hole_word, key_word, naming, parts, same_count};
+pub use key_words::{
+    ARRIVE, COUNTS, KeyParts, hole_word, key_word, names, naming, parts, same_count,
+};
 pub use layout::Layout;
 pub use opening::opening_words;
 pub use set_words::{MAX_CONTENT_WORDS, decode, encode, word_at};

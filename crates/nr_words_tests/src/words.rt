@@ -3,8 +3,8 @@ ghost use Rattle.std.specs.Prelude.{◌<◌, ◌^◌};
 
 use nr_model::{MAX_ROWS, Row, RowSet};
 use nr_words::{
-    ARRIVE, KeyParts, Layout, MAX_CONTENT_WORDS, decode, encode, hole_word, key_word, naming,
-    opening_words, parts, same_count, word_at,
+    ARRIVE, KeyParts, Layout, MAX_CONTENT_WORDS, decode, encode, hole_word, key_word, names,
+    naming, opening_words, parts, same_count, word_at,
 };
 use std::process::Abort;
 use std::test::Fail;
@@ -62,6 +62,14 @@ fn arrivals_begin_at_the_departures(rt: HostRuntime) {
     assert_eq!(rt; naming(5, 3), 50331670);
     assert_eq!(rt; naming(5, 1099511627779), 50331670);
     assert_eq!(rt; naming(0, 1099511627775), 18446744073692774402);
+}
+
+#[test]
+fn a_filled_word_names_its_slot_alone(rt: HostRuntime) {
+    assert!(rt; names(50331670, 5));
+    assert!(rt; names(50331671, 5));
+    assert!(rt; !names(50331670, 4));
+    assert!(rt; !names(50331668, 5));
 }
 
 #[test]

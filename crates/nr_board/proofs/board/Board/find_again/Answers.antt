@@ -1,8 +1,8 @@
-use Rattle.std.proofs.Common.{ap, arith, sym, ◌<◌, ◌∙◌, ◌≡◌}
-use Rattle.nr_machine.specs.Slots.{names_slot}
+use Rattle.std.proofs.Common.{ap, arith, sym, ℕ, ◌<◌, ◌∙◌, ◌≡◌}
+use Rattle.nr_machine.specs.Slots.{content, names_slot}
 use Rattle.nr_machine.specs.declared.shape.Shape.{Shape}
-use Rattle.nr_words.specs.KeyWords.{slot_of}
-use Rattle.nr_board.proofs.ReaderSeats.{again_exact, again_gains, again_holds, again_learns, again_marks, filled_name, names_by_begin}
+use Rattle.nr_board.proofs.BoardPlaces.{stands}
+use Rattle.nr_board.proofs.ReaderSeats.{again_exact, again_gains, again_holds, again_learns, again_marks, held_inside, held_slot, names_held}
 use Rattle.nr_board.proofs.ReaderSteps.{finds_again_so}
 use Rattle.nr_board.specs.Callers.{Table}
 use Rattle.nr_board.specs.Views.{slot_held}
@@ -16,19 +16,17 @@ load-word-requires c = let shared = c.self.inside.table.shared in let about = c.
       finds_again_so shared.key shared.table_id.slots seat.id seat.me c.args.key near c.requires.reader.holds.is (ap (λ (t : Table). t.shape) (c.requires.reader.own ∙ sym c.self.view_is) ∙ sym about.0),
     )
 
-pub names_at-requires : goal.names_at-requires
-names_at-requires c = record {
-  slot = λ full. let word = c.load-word.result in omega (arith, c.load-word.ensures.2.inside (slot_of word) (filled_name word full), ap (λ (t : Table). t.shape.slots) c.requires.reader.own);
-}
+pub names-requires : goal.names-requires
+names-requires c = let board = stands c.self.view_is c.self.invariant in omega (arith, held_inside c.args.slot c.requires.reader, board.fits.slots)
 
 pub returns : goal.returns
-returns c = let board = c.args.self.now in let before = c.args.seat.now in let after = c.load-word.new.seat in let begin = c.args.begin in let key = c.args.key in
-    let word = c.load-word.result in let reader = c.requires.reader in let same = c.load-word.ensures.0 in let told = c.load-word.ensures.2 in let answer = c.names_at.result in
-    let names : names_slot (slot_held before.me.0.role) word ≡ answer = names_by_begin board.shape begin (slot_held before.me.0.role) word reader.begin_is ∙ sym c.names_at.ensures in record {
-      reader = again_holds board before after same begin key word reader told answer names;
+returns c = let board = c.args.self.now in let before = c.args.seat.now in let after = c.load-word.new.seat in let slot = c.args.slot in let begin = content board.shape slot 0 in let key = c.args.key in
+    let word = c.load-word.result in let reader = c.requires.reader in let same = c.load-word.ensures.0 in let told = c.load-word.ensures.2 in let answer = c.names.result in
+    let named : names_slot (slot_held before.me.0.role) word ≡ answer = ap (λ (s : ℕ). names_slot s word) (sym (held_slot slot reader)) ∙ names_held slot word ∙ sym c.names.ensures in record {
+      reader = again_holds board before after same begin key word reader told answer named;
       role = told.role;
-      same = again_gains board before after same begin key word reader told answer names;
-      other = again_learns board before after same begin key word reader told answer names;
-      exact = again_exact board before after same begin key word reader told answer names;
-      marks = again_marks board before after same begin key word reader told answer names;
+      same = again_gains board before after same begin key word reader told answer named;
+      other = again_learns board before after same begin key word reader told answer named;
+      exact = again_exact board before after same begin key word reader told answer named;
+      marks = again_marks board before after same begin key word reader told answer named;
     }
