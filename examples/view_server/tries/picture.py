@@ -37,7 +37,8 @@ for column, name in enumerate(servers):
     parts.append(f'<rect x="{60 + column * 165}" y="272" width="10" height="10" fill="{COLOURS[column]}"/>')
     parts.append(f'<text x="{75 + column * 165}" y="281">{name}</text>')
 with open("results.svg", "w") as picture:
-    picture.write('<svg xmlns="http://www.w3.org/2000/svg" viewBox="0 0 730 290" font-family="sans-serif" font-size="11">\n')
-    picture.write('<rect width="730" height="290" fill="white"/>\n')
-    picture.write('<text x="60" y="20">Thousand GETs a second, by the choice of keys and the number of clients</text>\n')
+    picture.write('<svg xmlns="http://www.w3.org/2000/svg" viewBox="0 0 730 306" font-family="sans-serif" font-size="11">\n')
+    picture.write('<rect width="730" height="306" fill="white"/>\n')
+    title = "Thousand GETs a second, by the choice of keys and the number of clients: higher is better"
+    picture.write(f'<text x="60" y="20">{title}</text>\n<text x="60" y="300" fill="#555555">{sys.argv[2]}</text>\n')
     picture.write("\n".join(parts) + "\n</svg>\n")
