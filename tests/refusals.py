@@ -24,7 +24,8 @@ Body = collections.namedtuple("Body", "edit texts functions path lines")
 
 
 def function_at(lines, at):
-    """The function whose body has the line: the end of its name, and its first and last line. None where there is none."""
+    """The function whose body has the line: the end of its name, and its first line, attributes among them, and its last.
+    None where there is none."""
     for number in range(at, -1, -1):
         head = HEAD.match(lines[number])
         if not head:
@@ -35,6 +36,8 @@ def function_at(lines, at):
         last = next(it for it in range(first, len(lines)) if lines[it] == f"{indent}}}")
         if not first <= at <= last:
             continue
+        while number and lines[number - 1].startswith(f"{indent}#["):
+            number -= 1
         owner = next((lines[it] for it in range(number, -1, -1) if re.match(r"impl\b", lines[it])), "") if indent else ""
         kind = re.match(r"impl(?:<.*?>)? (?:(?:\w+::)*(\w+)(?:<.*>)? for )?(\w+)", owner)
         return f"{kind[2]}{kind[1] or ''}::{head[2]}" if kind else head[2], number + 1, last + 1
