@@ -249,8 +249,7 @@ impl Lobby {
         }
         for _ in rt.forever() {
             let wait = changed.prepare_wait();
-            let count = self.counts.at(guest, place);
-            if count > n || self.is_closed(guest) {
+            if let Some(count) = self.past(guest, place, n) {
                 return count;
             }
             wait.wait(rt);
@@ -258,20 +257,36 @@ impl Lobby {
         unreachable!()
     }
 
-    // Looks for a short while for a count at a place that is more than `n`.
+    // Looks for a short while for a count to wake up at.
     #[tactic(auto, using(crate::proofs::Later::looks_none, crate::proofs::Later::looks_both))]
     fn soon_past(&self, guest: &mut Guest, place: usize, n: u64) -> Option<u64>
         requires lobby { guest.old.lobby ≡ self.now }
         requires place { place < 528 }
         ensures looks { OnlyLooks guest.old guest.new }
-        ensures past { IfSome result (λ count. (n < count) × (slice_index guest.old.seen place ≤ count) × (count ≤ slice_index guest.new.seen place)) }
+        ensures past { IfSome result (λ count. (n < count) ⊎ (0 < slice_index guest.new.seen closed_at)) }
+        ensures between { IfSome result (λ count. (slice_index guest.old.seen place ≤ count) × (count ≤ slice_index guest.new.seen place)) }
     {
         for _ in 0..LOOKS {
-            let count = self.counts.at(guest, place);
-            if count > n {
+            if let Some(count) = self.past(guest, place, n) {
                 return Some(count);
             }
             hint::spin_loop();
+        }
+        None
+    }
+
+    // The count at a place, unless it is at most `n` and the lobby isn't closed.
+    #[tactic(auto, using(crate::proofs::Later::looks_both))]
+    fn past(&self, guest: &mut Guest, place: usize, n: u64) -> Option<u64>
+        requires lobby { guest.old.lobby ≡ self.now }
+        requires place { place < 528 }
+        ensures looks { OnlyLooks guest.old guest.new }
+        ensures past { IfSome result (λ count. (n < count) ⊎ (0 < slice_index guest.new.seen closed_at)) }
+        ensures between { IfSome result (λ count. (slice_index guest.old.seen place ≤ count) × (count ≤ slice_index guest.new.seen place)) }
+    {
+        let count = self.counts.at(guest, place);
+        if count > n || self.is_closed(guest) {
+            return Some(count);
         }
         None
     }
