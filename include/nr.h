@@ -332,7 +332,7 @@ uint32_t nr_number(nr_writer *writer, uint32_t key, uint64_t *number);
    for that: in the map's contracts such a message carries a note, whose steps only load. These functions have
    no notes, so no clause of theirs says it. */
 
-/* WHAT TOKENS LEARN OF EACH OTHER, in 2 steps of the one that learns and 1 of the other: NR_DONE. It changes no
+/* WHAT TOKENS LEARN OF EACH OTHER, in 1 step of the one that learns and 1 of the other: NR_DONE. It changes no
    key and no answer: it says whose calls the one history has, in the contracts. NR_HOLDING where a reader holds
    a set, but of nr_gather_pin NR_NOT_HOLDING where it holds nothing; then nothing has changed. Owed: both handles
    are of one map. */

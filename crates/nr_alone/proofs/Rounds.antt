@@ -60,7 +60,7 @@ pub same_reader : (steps : ℕ) (old new : Caller) → Learns steps old new → 
 same_reader steps old new l = λ j. record { reader = l.number j; count = (l.marks j).acts; slot = l.holds j; put = (l.marks j).put }
 
 pub same_still : (w : Caller) (s : ReaderToken) (w' : Caller) (s' : ReaderToken) → GathersToken w s w' s' → still s' ≡ still s
-same_still w s w' s' g = let l = g.gathers.of_writer.learns in let how = same_reader 3 (caller_in s) (caller_in s') l in
+same_still w s w' s' g = let l = g.gathers.of_writer.learns in let how = same_reader 2 (caller_in s) (caller_in s') l in
     λ j. record { table = l.table j; mine = l.mine j; how = how j; pin = g.pin j }
 
 pub place_on : (news known : List Past) (place : ℕ) (one : Past) → get_elem? known place ≡ some one → (at : ℕ) × (get_elem? (news ++ known) at ≡ some one)
@@ -84,7 +84,7 @@ shown_on log w r w' r' x g s =
 
 pub shown_now : (log : List Entry) (w : Caller) (s : ReaderToken) (w' : Caller) (s' : ReaderToken) → GathersToken w s w' s' → StartsWith w'.seen log → IsShown log w' s'
 shown_now log w s w' s' g later =
-    let l = g.gathers.of_writer.learns in let how = same_reader 3 (caller_in s) (caller_in s') l in
+    let l = g.gathers.of_writer.learns in let how = same_reader 2 (caller_in s) (caller_in s') l in
     let all : entries_of w'.seen (caller_in s').number ≡ mine_of s' = ap (λ (n : ℕ). entries_of w'.seen n) l.number ∙ g.gathers.all ∙ sym l.mine in
     record {
       few = subst (λ (m : List Entry). StartsWith m (entries_of log (caller_in s').number)) all (starts_each w'.seen log (caller_in s').number later);
@@ -141,7 +141,7 @@ round_over w tokens at w1 old s1 w' tokens' low item g r =
     let size : length (set tokens at s1) ≡ length tokens = length-set tokens at s1 in
     record {
       mid = w1;
-      stays = learns_stays 3 w w1 g.gathers.of_reader.learns;
+      stays = learns_stays 2 w w1 g.gathers.of_reader.learns;
       sound = gather_sound w (caller_in old) w1 (caller_in s1) g.gathers;
       all = λ other. subst (λ (x : ReaderToken). entries_of w1.seen (caller_in x).number ≡ mine_of x) (same_place other) g.gathers.all;
       heard = λ other. subst (λ (x : ReaderToken). StartsWith w1.seen (caller_in x).seen) (same_place other) g.gathers.of_reader.seen;

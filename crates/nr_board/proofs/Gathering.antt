@@ -18,9 +18,9 @@ use Rattle.nr_marks.specs.Marks.{Marks, Past, gripped, past, told_by}
 use Rattle.nr_marks.specs.Pasts.{Compared, Current}
 use Rattle.nr_board.proofs.Tokens.{MapSeat}
 use Rattle.nr_board.specs.Callers.{Caller, KnowsOwn, Table, caller_of, map_seen, token}
-use Rattle.nr_board.specs.Learning.{HearsOf, Learned, LearnsOf}
+use Rattle.nr_board.specs.Learning.{HearsOf, Learned, LearnsOf, has_heard}
 use Rattle.nr_board.specs.Meetings.{Gathers, HearsNote, Learns, Meets, desk_seen, how_is, known_to, with_step}
-use Rattle.nr_board.specs.Notes.{has_noted, note_of, with_note}
+use Rattle.nr_board.specs.Notes.{has_noted, note_of, told_by_note}
 use Rattle.nr_board.specs.Rule.{StartsWith}
 use Rattle.nr_board.specs.Views.{View, desk_of, grip_of, caller_number}
 use Rattle.nr_core.specs.Core.{AreNumbers}
@@ -33,33 +33,12 @@ begins_with_calls log caller own begins = record {
   is = ap (λ (l : List Entry). entries_of l caller.number) begins.is ∙ of-append caller.number caller.seen begins.rest ∙ ap (λ (l : List Entry). l ++ entries_of begins.rest caller.number) own;
 }
 
--- a note was taken in, and the history so far learnt
-pub hears_seat : (seat note joined new : MapSeat) (found : ℕ) → joined.me.0 ≡ with_note seat.me.0 note.me.0 → new.table_id ≡ seat.table_id → Learned 0 found joined.me.0 new.me.0
-    → HearsNote 2 (token seat) (known_to (token note)) (token new) × HearsOf seat.me.0 note.me.0 new.me.0
-hears_seat seat note joined new found took same learned =
-    let told = subst (λ (v : View). Learned 0 found v new.me.0) took learned in let learns = told.learns seat.table_id in (
-      subst (λ (id : TableId). HearsNote 2 (token seat) (known_to (token note)) (caller_of id new.me.0)) (sym same) (record {
-        learns = record {
-          table = learns.table;
-          number = learns.number;
-          seen = learns.seen;
-          mine = learns.mine;
-          legal = learns.legal;
-          own = learns.own;
-          callers = learns.callers;
-          steps_made = omega (arith, learns.steps_made);
-          fresh = learns.fresh;
-          retired = learns.retired;
-          numbers = learns.numbers;
-          holds = learns.holds;
-          marks = learns.marks;
-          news = learns.news;
-          pasts = learns.pasts;
-        };
-        seen = told.told;
-      }),
-      (told.news, told.pasts, told.of_readers),
-    )
+-- a note was heard, and with it the history so far
+pub hears_seat : (seat note new : MapSeat) → new.table_id ≡ seat.table_id → has_heard seat.me.0 note.me.0 new.me.0 → HearsNote 1 (token seat) (known_to (token note)) (token new) × HearsOf seat.me.0 note.me.0 new.me.0
+hears_seat seat note new same heard = let told = heard.1 in (
+  subst (λ (id : TableId). HearsNote 1 (token seat) (known_to (token note)) (caller_of id new.me.0)) (sym same) (record { learns = told.learns seat.table_id; seen = told.told }),
+  (told.news, told.pasts, told.of_readers),
+)
 
 -- who hears a note has all calls that its maker had made
 pub meets_maker : (steps : ℕ) (old maker new : Caller) → KnowsOwn maker → HearsNote steps old (known_to maker) new → Meets steps old maker new
@@ -70,10 +49,10 @@ meets_maker steps old maker new own hears = record {
 }
 
 -- the other made the note
-pub meets_seat : (seat other note new : MapSeat) → KnowsOwn (token other) → note.me.0 ≡ note_of other.me.0 → HearsNote 2 (token seat) (known_to (token note)) (token new) → HearsOf seat.me.0 note.me.0 new.me.0
-    → Meets 2 (token seat) (token other) (token new) × HearsOf seat.me.0 (note_of other.me.0) new.me.0
+pub meets_seat : (seat other note new : MapSeat) → KnowsOwn (token other) → note.me.0 ≡ note_of other.me.0 → HearsNote 1 (token seat) (known_to (token note)) (token new) → HearsOf seat.me.0 note.me.0 new.me.0
+    → Meets 1 (token seat) (token other) (token new) × HearsOf seat.me.0 (note_of other.me.0) new.me.0
 meets_seat seat other note new own is hears readers = (
-  meets_maker 2 (token seat) (token other) (token new) own (record {
+  meets_maker 1 (token seat) (token other) (token new) own (record {
     learns = hears.learns;
     seen = subst (StartsWith new.me.0.seen) (ap (λ (v : View). v.seen) is) hears.seen;
   }),
@@ -102,7 +81,7 @@ pub record Compares (writer reader heard : View) (desk : Desk) (one : Past) : Ty
 compares_so : (writer reader heard told : View) (desk : Desk) (number : ℕ) (grip : Grip) → writer.role ≡ Writer desk → reader.role ≡ Reader number grip → heard.role ≡ Writer desk → HearsOf writer (note_of reader) heard → HearsOf reader (note_of heard) told
     → Compares writer reader heard desk (past number grip reader.marks)
 compares_so writer reader heard told desk number grip writes reads still first second =
-    let news = first.0 in let noted = with_note writer (note_of reader) in let asked = with_note reader (note_of heard) in
+    let news = first.0 in let noted = told_by_note writer (note_of reader) in let asked = told_by_note reader (note_of heard) in
     let learnt = subst (λ r. LearnsOf r noted heard news) writes first.2 in
     let compared = subst (λ r. LearnsOf r asked told second.0) reads second.2 in
     let heard_so = subst (λ r. Compared number grip reader.marks (told_by r heard.marks heard.pasts)) still compared.1 in
@@ -146,15 +125,15 @@ pub learned_numbers : (table : Table) (seat new : MapSeat) (at found : ℕ) → 
 learned_numbers table seat new at found own learned desk is = subst (λ (p : Shape × Shape). AreNumbers p.0 (map_after p.1 new.me.0.seen) desk.numbers) (λ j. ((own j).shape, (sym (learned.learns seat.table_id).table j).shape))
     (subst (λ r. LearnsOf r seat.me.0 new.me.0 learned.news) is learned.of_readers).2
 
-pub heard_numbers : (table : Table) (seat new : MapSeat) (note : View) → (token seat).table ≡ table → Learns 2 (token seat) (token new) → HearsOf seat.me.0 note new.me.0 → (desk : Desk) → seat.me.0.role ≡ Writer desk → AreNumbers table.shape (map_seen (token new)) desk.numbers
+pub heard_numbers : (table : Table) (seat new : MapSeat) (note : View) → (token seat).table ≡ table → Learns 1 (token seat) (token new) → HearsOf seat.me.0 note new.me.0 → (desk : Desk) → seat.me.0.role ≡ Writer desk → AreNumbers table.shape (map_seen (token new)) desk.numbers
 heard_numbers table seat new note own learns hears desk is = subst (λ (p : Shape × Shape). AreNumbers p.0 (map_after p.1 new.me.0.seen) desk.numbers) (λ j. ((own j).shape, (sym learns.table j).shape))
-    (subst (λ r. LearnsOf r (with_note seat.me.0 note) new.me.0 hears.0) is hears.2).2
+    (subst (λ r. LearnsOf r (told_by_note seat.me.0 note) new.me.0 hears.0) is hears.2).2
 
 -- the writer, which was between two calls, heard of the reader and the reader of it; each made one note
 module _ (writer reader heard lent last told : MapSeat) (fresh : ℕ) (retired : List Retired) (numbers : List ℕ) (number : ℕ) (grip : Grip)
     (writes : writer.me.0.role ≡ Writer (record { place = Idle; fresh = fresh; retired = retired; numbers = numbers })) (reads : reader.me.0.role ≡ Reader number grip) (stays : heard.me.0.role ≡ writer.me.0.role)
     (first : (lent.table_id ≡ reader.table_id) × (lent.me ≡ (has_noted reader.me.0, reader.me.1))) (second : (last.table_id ≡ heard.table_id) × (last.me ≡ (has_noted heard.me.0, heard.me.1)))
-    (meets : Meets 2 (token writer) (token reader) (token heard)) (meets_back : Meets 2 (token lent) (token heard) (token told)) (hears : HearsOf writer.me.0 (note_of reader.me.0) heard.me.0) (hears_back : HearsOf lent.me.0 (note_of heard.me.0) told.me.0) where
+    (meets : Meets 1 (token writer) (token reader) (token heard)) (meets_back : Meets 1 (token lent) (token heard) (token told)) (hears : HearsOf writer.me.0 (note_of reader.me.0) heard.me.0) (hears_back : HearsOf lent.me.0 (note_of heard.me.0) told.me.0) where
   abbrev desk : Desk
   desk = record { place = Idle; fresh = fresh; retired = retired; numbers = numbers }
 
@@ -164,14 +143,14 @@ module _ (writer reader heard lent last told : MapSeat) (fresh : ℕ) (retired :
   compares : Compares writer.me.0 (has_noted reader.me.0) heard.me.0 desk (past number grip reader.me.0.marks)
   compares = compares_so writer.me.0 (has_noted reader.me.0) heard.me.0 told.me.0 desk number grip writes reads writes_still hears (subst (λ (v : View). HearsOf v (note_of heard.me.0) told.me.0) (λ j. (first.1 j).0) hears_back)
 
-  there : Meets 3 (token writer) (token reader) (with_step (token heard))
-  there = record { learns = recounted 2 3 writer.me.0.steps heard.me.0.steps (token writer) (with_step (token heard)) (omega (arith, meets.learns.steps_made)) meets.learns; seen = meets.seen; calls = meets.calls }
+  there : Meets 2 (token writer) (token reader) (with_step (token heard))
+  there = record { learns = recounted 1 2 writer.me.0.steps heard.me.0.steps (token writer) (with_step (token heard)) (omega (arith, meets.learns.steps_made)) meets.learns; seen = meets.seen; calls = meets.calls }
 
-  lends : Meets 2 (with_step (token reader)) (token heard) (token told)
-  lends = subst (λ (r : Caller). Meets 2 r (token heard) (token told)) (noting_token reader lent first.0 first.1) meets_back
+  lends : Meets 1 (with_step (token reader)) (token heard) (token told)
+  lends = subst (λ (r : Caller). Meets 1 r (token heard) (token told)) (noting_token reader lent first.0 first.1) meets_back
 
-  back : Meets 3 (token reader) (with_step (token heard)) (token told)
-  back = record { learns = recounted 2 3 (reader.me.0.steps + 1) told.me.0.steps (token reader) (token told) (omega (arith, lends.learns.steps_made)) lends.learns; seen = lends.seen; calls = lends.calls }
+  back : Meets 2 (token reader) (with_step (token heard)) (token told)
+  back = record { learns = recounted 1 2 (reader.me.0.steps + 1) told.me.0.steps (token reader) (token told) (omega (arith, lends.learns.steps_made)) lends.learns; seen = lends.seen; calls = lends.calls }
 
   one_is : past number grip reader.me.0.marks ≡ how_is (token reader)
   one_is = λ j. record { reader = caller_number (sym reads j); count = reader.me.0.marks.acts; slot = gripped (grip_of (sym reads j)); put = reader.me.0.marks.put }

@@ -21,7 +21,7 @@ use Rattle.nr_marks.specs.Exact.{Lists}
 use Rattle.nr_marks.specs.MarkSteps.{ReaderLearns, WriterLearns}
 use Rattle.nr_marks.specs.Marked.{CanMark, MarkTelling}
 use Rattle.nr_marks.specs.Marks.{Marks, Past, gripped}
-use Rattle.nr_board.proofs.Lift.{lifts}
+use Rattle.nr_board.proofs.Lift.{Makes, allowed, makes}
 use Rattle.nr_board.proofs.Moves.{ActsGo, chosen, learned, learned_own}
 use Rattle.nr_board.specs.Entries.{AreCallers, acts_told, to_depart}
 use Rattle.nr_board.specs.Kinds.{kind_of, kind_shown}
@@ -56,7 +56,7 @@ shows_kind shape words word (key.Rows number rows) shows = ap (λ (b : Bool). co
 still : (log entries : List Entry) → entries ≡ [] → log ≡ log ++ entries
 still log entries none = sym (append-nil log) ∙ ap (λ (l : List Entry). log ++ l) (sym none)
 
-module _ (shape : Shape) (slots id : ℕ) (me : Me (Unit {0}) View) (at : ℕ) (near : at < shape.keys) (call : IsCaller me.0.role) where
+module _ (shape : Shape) (id : ℕ) (me : Me (Unit {0}) View) (at : ℕ) (near : at < shape.keys) (call : IsCaller me.0.role) where
   abbrev view : View
   view = me.0
 
@@ -65,9 +65,9 @@ module _ (shape : Shape) (slots id : ℕ) (me : Me (Unit {0}) View) (at : ℕ) (
 
   learns_by : (notes : MarkTelling) → CanLearn notes
       → ((word : ℕ) (after : Role) (log : List Entry) (now : Marks) (news : List Past) (next : View) → view.shape ≡ shape → next.seen ≡ log → ((desk : Desk) → view.role ≡ Writer desk → AreNumbers shape (map_after shape log) desk.numbers) → notes word after log now news → (now ≡ view.marks) × LearnsOf view.role view next news)
-      → Allows (Kept shape) slots id me at (λ word. word) (λ found after. Learned at found view after.0)
-  learns_by notes can_learn tell = let tells = LoadsWord view.role in
-      lifts shape id view (Load at) tells notes slots me.1 (λ found next. Learned at found view next) view.told_pasts (learns shape id view.role at) can_learn (λ state kept there. kept.told_pasts id view there)
+      → Makes shape id view (Load at) me.1 (λ found next. Learned at found view next)
+  learns_by notes marks tell = let tells = LoadsWord view.role in
+      makes shape id view (Load at) tells notes me.1 (λ found next. Learned at found view next) view.told_pasts (learns shape id view.role at) marks (λ state kept there. kept.told_pasts id view there)
       (λ state kept there step marked. let found : ℕ = get_or state.words at 0 in let fits = kept.fits id view there in let sized = fits.sized call in
       let callers : AreCallers shape step.entries = subst (AreCallers shape) (sym step.told.1) tt in
       let next = learned view step.after (kept.log ++ step.entries) step.entries marked.now marked.news in
@@ -103,7 +103,7 @@ module _ (shape : Shape) (slots id : ℕ) (me : Me (Unit {0}) View) (at : ℕ) (
         of_readers = grown.1;
       }))
 
-  learns_as : (role : Role) → view.role ≡ role → Allows (Kept shape) slots id me at (λ word. word) (λ found after. Learned at found view after.0)
+  learns_as : (role : Role) → view.role ≡ role → Makes shape id view (Load at) me.1 (λ found next. Learned at found view next)
   learns_as (Writer desk) is = learns_by (WriterLearns shape view.marks desk view.told_pasts) (learns_writer role_of marks_of shape id view view.told_pasts at desk is)
       (λ word after log now news next sized seen numbers told. (
         told.0,
@@ -117,5 +117,8 @@ module _ (shape : Shape) (slots id : ℕ) (me : Me (Unit {0}) View) (at : ℕ) (
       (λ word after log now news next sized seen numbers told. (told.0, subst (λ r. LearnsOf r view next news) (sym is) (told.1, told.2)))
   learns_as Note is = absurd (let no_writer : is_writer view.role ≡ 0 = ap is_writer is in let no_reader : is_reader view.role ≡ 0 = ap is_reader is in omega arith)
 
-  pub learns_so : Allows (Kept shape) slots id me at (λ word. word) (λ found after. Learned at found view after.0)
-  learns_so = learns_as view.role refl
+  pub can_learn : Makes shape id view (Load at) me.1 (λ found next. Learned at found view next)
+  can_learn = learns_as view.role refl
+
+  pub learns_so : (slots : ℕ) → Allows (Kept shape) slots id me at (λ word. word) (λ found after. Learned at found view after.0)
+  learns_so slots = allowed shape slots id view (Load at) me.1 (λ found next. Learned at found view next) can_learn

@@ -5,6 +5,8 @@ pub mod ReaderSteps
 pub mod Seats
 pub mod Notes
 pub mod Learning
+pub mod TwoSeats
+pub mod HearsNotes
 pub mod Gathering
 pub mod Opens
 pub mod Tokens

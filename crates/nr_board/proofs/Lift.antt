@@ -52,6 +52,15 @@ apart shape state kept id other view viewed caller at there ne his =
 pub knows_pasts : (shape : Shape) (id : ℕ) (view : View) (state : Table) → Kept shape state → get_elem? state.views id ≡ some view → AllSince role_of marks_of state.views view.pasts
 knows_pasts shape id view state kept at = kept.pasts id view at
 
+-- whatever the table is, the token can make the step, and `then` holds of the word that it finds and of its view after
+abbrev pub Makes : Shape → ℕ → View → Operation → List (ℕ × Unit {0}) → (ℕ → View → Type 0) → Type 0
+Makes shape id view operation carried then = (state : Table) → Kept shape state → get_elem? state.views id ≡ some view
+    → (next : View) × Kept shape (stepped state (target_of operation) (becomes operation (get_or state.words (target_of operation) 0)) id carried next keeps) × then (get_or state.words (target_of operation) 0) next
+
+pub allowed : (shape : Shape) (slots id : ℕ) (view : View) (operation : Operation) (carried : List (ℕ × Unit {0})) (then : ℕ → View → Type 0) → Makes shape id view operation carried then
+    → Allows (Kept shape) slots id (view, carried) (target_of operation) (becomes operation) (λ found after. then found after.0)
+allowed shape slots id view operation carried then can state kept wide at small = let made = can state kept at in (made.0, keeps, tt, made.1, made.2)
+
 module _ (shape : Shape) (id : ℕ) (view : View) (operation : Operation) (tells : Telling) (notes : MarkTelling) where
   abbrev Step : (state : Table) → Kept shape state → Type 0
   Step state kept = Stepped shape state.words (map role_of state.views) kept.log id view.role operation tells
@@ -112,11 +121,16 @@ module _ (shape : Shape) (id : ℕ) (view : View) (operation : Operation) (tells
       }
 
   -- Where the core can make a step and its marks go along, so can the token.
-  pub lifts : (slots : ℕ) (carried : List (ℕ × Unit {0})) (then : ℕ → View → Type 0) (known : List Past) → CanStep shape id view.role operation tells → CanMark role_of marks_of shape id view known operation tells notes
+  pub makes : (carried : List (ℕ × Unit {0})) (then : ℕ → View → Type 0) (known : List Past) → CanStep shape id view.role operation tells → CanMark role_of marks_of shape id view known operation tells notes
       → ((state : Table) → Kept shape state → get_elem? state.views id ≡ some view → AllSince role_of marks_of state.views known) → Chooses then
-      → Allows (Kept shape) slots id (view, carried) (target_of operation) (becomes operation) (λ found after. then found after.0)
-  lifts slots carried then known can can_mark knows chooses state kept wide at small =
+      → Makes shape id view operation carried then
+  makes carried then known can can_mark knows chooses state kept at =
       let step = can state.words (map role_of state.views) kept.log kept.core (at_map role_of state.views id view at) in
       let marked = can_mark state.words state.views kept.log kept.core kept.marked kept.once at (knows state kept at) step.after step.entries step.told in
       let choice = chooses state kept at step marked in
-      (choice.next, keeps, tt, keeps_rule state kept carried (then (get_or state.words (target_of operation) 0)) at step marked choice, choice.told)
+      (choice.next, keeps_rule state kept carried (then (get_or state.words (target_of operation) 0)) at step marked choice, choice.told)
+
+  pub lifts : (slots : ℕ) (carried : List (ℕ × Unit {0})) (then : ℕ → View → Type 0) (known : List Past) → CanStep shape id view.role operation tells → CanMark role_of marks_of shape id view known operation tells notes
+      → ((state : Table) → Kept shape state → get_elem? state.views id ≡ some view → AllSince role_of marks_of state.views known) → Chooses then
+      → Allows (Kept shape) slots id (view, carried) (target_of operation) (becomes operation) (λ found after. then found after.0)
+  lifts slots carried then known can can_mark knows chooses = allowed shape slots id view operation carried then (makes carried then known can can_mark knows chooses)

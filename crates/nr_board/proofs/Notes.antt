@@ -1,5 +1,5 @@
 -- Notes are split from a token and joined to another.
-use Rattle.std.proofs.Common.{◌≡◌, ℕ, ◌≢◌, List, [], ◌∷◌, ◌++◌, map, set, ◌⊎◌, ⊎_elim, inl, inr, refl, sym, ap, ◌∙◌, subst, arith}
+use Rattle.std.proofs.Common.{◌≡◌, ℕ, ◌+◌, ◌≢◌, List, [], ◌∷◌, ◌++◌, map, set, ◌⊎◌, ⊎_elim, inl, inr, refl, sym, ap, ◌∙◌, subst, arith}
 use mathlib.Core.List.{map-append}
 use mathlib.Core.Option.{none, some}
 use lib.ListN.{get_elem?}
@@ -19,7 +19,7 @@ use Rattle.nr_board.specs.Ahead.{has_loaded}
 use Rattle.nr_board.proofs.Tokens.{MapSeat}
 use Rattle.nr_board.specs.Callers.{caller_of, token}
 use Rattle.nr_board.specs.Meetings.{with_step}
-use Rattle.nr_board.specs.Notes.{has_noted, note_of, retold, spent, with_note}
+use Rattle.nr_board.specs.Notes.{has_noted, note_of, retold, spent, told_by_note, with_note}
 use Rattle.nr_marks.proofs.Knowing.{knowing_set, knowing_snoc, told_since}
 use Rattle.nr_marks.proofs.ListPlaces.{no_places}
 use Rattle.nr_marks.proofs.SeatMarks.{alike_marked, evolves_alike, seats_marked}
@@ -128,12 +128,16 @@ loads_so shape slots id me place state kept homes at bounded =
 pub loaded_token : (seat next : MapSeat) → next.table_id ≡ seat.table_id → next.me.0 ≡ has_noted seat.me.0 → token next ≡ with_step (token seat)
 loaded_token seat next same told = λ j. caller_of (same j) (told j)
 
--- the hearer takes the note in, and then what is left of it tells nothing
-pub joins_so : (shape : Shape) (id : ℕ) (view : View) (other : ℕ) (note : View) → note.role ≡ Note → Joins (Kept shape) id view other note (with_note view note) spent
-joins_so shape id view other note is state kept at apart there =
-    let both = with_note view note in let views = set state.views id both in
-    let there' : get_elem? state.views other ≡ some note = sym (set_else state.views id other both apart) ∙ there in
+-- the hearer is told what the note tells, and then what is left of the note tells nothing
+pub takes_so : (shape : Shape) (id : ℕ) (view : View) (steps other : ℕ) (note : View) → note.role ≡ Note → (state : State (Unit {0}) View) → Kept shape state → get_elem? state.views id ≡ some view → ¬ (other ≡ id) → get_elem? state.views other ≡ some note
+    → Kept shape (record { words = state.words; homes = state.homes; views = set (set state.views id (record (told_by_note view note) { steps = steps })) other spent })
+takes_so shape id view steps other note is state kept at apart beside =
+    let both = record (told_by_note view note) { steps = steps } in let views = set state.views id both in
     let fits = kept.fits id view at in
-    let mine : Fits shape kept.log both = record { begins = fits.begins; told = (kept.fits other note there').begins; own = fits.own; knows_own = fits.knows_own; acts = fits.acts; sized = fits.sized } in
-    let taken = replaced shape state id view both kept at refl (inl refl) mine (kept.maker id view at) (kept.pasts id view at) (kept.pasts other note there') in
-    replaced shape (record { words = state.words; homes = state.homes; views = views }) other note spent taken there (sym is) (inr is) (note_fits shape taken.log view spent refl (record { rest = taken.log; is = refl }) refl) (λ writes. absurd (omega arith)) (no_places (Since role_of marks_of views)) (no_places (Since role_of marks_of views))
+    let mine : Fits shape kept.log both = record { begins = fits.begins; told = (kept.fits other note beside).begins; own = fits.own; knows_own = fits.knows_own; acts = fits.acts; sized = fits.sized } in
+    let taken = replaced shape state id view both kept at refl (inl refl) mine (kept.maker id view at) (kept.pasts id view at) (kept.pasts other note beside) in
+    replaced shape (record { words = state.words; homes = state.homes; views = views }) other note spent taken (set_else state.views id other both apart ∙ beside) (sym is) (inr is) (note_fits shape taken.log view spent refl (record { rest = taken.log; is = refl }) refl) (λ writes. absurd (omega arith)) (no_places (Since role_of marks_of views)) (no_places (Since role_of marks_of views))
+
+-- a step of the hearer's own
+pub joins_so : (shape : Shape) (id : ℕ) (view : View) (other : ℕ) (note : View) → note.role ≡ Note → Joins (Kept shape) id view other note (with_note view note) spent
+joins_so shape id view other note is state kept at apart beside = takes_so shape id view (view.steps + 1) other note is state kept at apart (sym (set_else state.views id other (with_note view note) apart) ∙ beside)

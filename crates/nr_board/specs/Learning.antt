@@ -12,7 +12,7 @@ use Rattle.nr_marks.specs.Pasts.{Compared, Refreshed}
 use Rattle.nr_board.specs.Callers.{caller_of}
 use Rattle.nr_board.specs.Kinds.{kind_of, kind_shown}
 use Rattle.nr_board.specs.Meetings.{Learns}
-use Rattle.nr_board.specs.Notes.{with_note}
+use Rattle.nr_board.specs.Notes.{told_by_note}
 use Rattle.nr_board.specs.Plays.{Then}
 use Rattle.nr_board.specs.Rule.{StartsWith}
 use Rattle.nr_board.specs.Views.{View}
@@ -39,4 +39,8 @@ has_learned step before found after = Learned step.word found before.0 after.0
 
 -- what a token learnt of readers by a note
 abbrev pub HearsOf : View → View → View → Type 0
-HearsOf old note new = (news : List Past) × (new.pasts ≡ news ++ old.pasts) × LearnsOf old.role (with_note old note) new news
+HearsOf old note new = (news : List Past) × (new.pasts ≡ news ++ old.pasts) × LearnsOf old.role (told_by_note old note) new news
+
+-- the step that hears a note learns as a load does that is told what the note tells
+abbrev pub has_heard : View → View → View → Type 0
+has_heard old note new = (found : ℕ) × Learned 0 found (told_by_note old note) new

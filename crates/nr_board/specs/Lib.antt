@@ -1,4 +1,5 @@
 pub mod Ahead
+pub mod TwoSeats
 pub mod Views
 pub mod Entries
 pub mod Callers

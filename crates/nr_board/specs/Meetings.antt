@@ -73,10 +73,10 @@ pub record Meets (steps : ℕ) (old other new : Caller) : Type 0 where
   pub seen : StartsWith new.seen other.seen
   pub calls : StartsWith (entries_of new.seen other.number) other.mine
 
--- the writer learnt of the reader, and then the reader of the writer, 1 step of each for the note and 2 to hear: of either the writer's history has exactly its calls
+-- the writer learnt of the reader, and then the reader of the writer, 1 step of each for the note and 1 to hear: of either the writer's history has exactly its calls
 pub record Gathers (writer reader writer' reader' : Caller) : Type 0 where
-  pub of_reader : Meets 3 writer reader writer'
-  pub of_writer : Meets 3 reader writer' reader'
+  pub of_reader : Meets 2 writer reader writer'
+  pub of_writer : Meets 2 reader writer' reader'
   pub all : entries_of writer'.seen reader.number ≡ reader.mine
   -- the writer knows how the reader is, and has compared it with its lists, which are those of the history
   pub place : ℕ

@@ -26,9 +26,13 @@ retold view = record { role = Note; shape = view.shape; made = 0; seen = view.to
 abbrev pub IsNote : Seat (Unit {0}) View → Type 0
 IsNote seat = (seat.me.0.role ≡ Note) × (seat.me.1 ≡ [])
 
+-- the token with what a note tells it
+abbrev pub told_by_note : View → View → View
+told_by_note view note = record view { told = note.seen; told_pasts = note.pasts }
+
 -- the token that takes a note in counts its own step
 abbrev pub with_note : View → View → View
-with_note view note = record view { told = note.seen; told_pasts = note.pasts; steps = view.steps + 1 }
+with_note view note = has_noted (told_by_note view note)
 
 -- what is left of a note
 abbrev pub spent : View

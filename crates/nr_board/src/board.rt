@@ -26,16 +26,17 @@ ghost use Rattle.nr_marks.specs.Puts.{put_number};
 ghost use Rattle.nr_board.specs.Seats.{IdlesAt, HoldsAt};
 ghost use Rattle.nr_board.specs.Notes.{IsCaller, IsNote, has_noted, note_of, retold, with_note};
 ghost use Rattle.nr_board.specs.Kinds.{kind_of, kind_shown};
-ghost use Rattle.nr_board.specs.Learning.{Learned};
-ghost use Rattle.nr_board.specs.Meetings.{HasPut, Learns, with_step};
+ghost use Rattle.nr_board.specs.Learning.{HearsOf};
+ghost use Rattle.nr_board.specs.Meetings.{HasPut, HearsNote, Learns, known_to, with_step};
 ghost use Rattle.nr_board.specs.Reaping.{ProbesAt, ProbesTo};
 ghost use Rattle.nr_board.specs.Recalls.{IsWordOf, RecallsAt};
 ghost use Rattle.nr_board.specs.WriterSeats.{GoesOn, IsBetween, IsReading, IsPolling, IsPutting, IsPublishing, IsLeaving, IsWithdrawing, LeadsTo, PutsTo};
 
 use crate::rule::{
-    Arrives, Asks, Departs, FindsAgain, Given, Goes, Law, Looks, Nears, Notes, Probes, Puts, Reads,
-    Recalls, Retells, Seats, Sees,
+    Arrives, Asks, Departs, FindsAgain, Given, Goes, Hears, Law, Looks, Nears, Notes, Probes, Puts,
+    Reads, Recalls, Retells, Seats, Sees,
 };
+use crate::two_seats::take_in;
 use crate::view::View;
 use atomic_table::Table;
 use nr_core::{Retired, Shape};
@@ -358,6 +359,22 @@ impl Board {
         }
     }
 
+    /// The token learns, in 1 step, the history so far, which begins with all that it had seen and
+    /// with all that the note's maker had seen.
+    pub fn hear_note(&self, seat: &mut Seat, note: Note)
+        requires own { ((token seat.old).table ≡ self.now) × (note.table_id ≡ self.now.id) }
+        requires note { IsNote note }
+        requires caller { IsCaller seat.old.me.0.role }
+        ensures hears { HearsNote 1 (token seat.old) (known_to (token note)) (token seat.new) }
+        ensures readers { HearsOf seat.old.me.0 note.me.0 seat.new.me.0 }
+        ensures numbers { (desk : Desk) → seat.old.me.0.role ≡ Writer desk → AreNumbers self.now.shape (map_seen (token seat.new)) desk.numbers }
+        ensures role { (seat.new.table_id ≡ seat.old.table_id) × (seat.new.me.0.role ≡ seat.old.me.0.role) }
+    {
+        let words = &self.table.shared;
+        let Note { seat: mut told } = note;
+        take_in::<(), View, Shape, Law, Hears>(words, seat, &mut told);
+    }
+
     /// The token takes a note in, in 1 step.
     pub fn take_note(&self, seat: &mut Seat, note: Note)
         requires own { (seat.old.table_id ≡ self.now.id) × (note.table_id ≡ self.now.id) }
@@ -381,17 +398,6 @@ impl Board {
         Note {
             seat: words.split_seat::<Retells>(seat),
         }
-    }
-
-    /// The token learns the history so far.
-    pub fn learn(&self, seat: &mut Seat)
-        requires own { (token seat.old).table ≡ self.now }
-        requires caller { IsCaller seat.old.me.0.role }
-        ensures own { seat.new.table_id ≡ seat.old.table_id }
-        ensures learned { (found : ℕ) × Learned 0 found seat.old.me.0 seat.new.me.0 }
-    {
-        let words = &self.table.shared;
-        words.load::<Sees>(seat, 0);
     }
 
     /// The token learns the history so far, by the word of a key, which shows the key's state.

@@ -11,21 +11,6 @@ ghost use Rattle.nr_board.specs.Notes.{IsCaller, IsNote, has_noted, note_of};
 use crate::board::{Board, Note, Seat};
 
 impl Board {
-    /// A token learns, in 2 steps, all that a note's maker had seen: it takes the note in, and then
-    /// learns the history, which begins with that.
-    pub fn hear_note(&self, seat: &mut Seat, note: Note)
-        requires own { ((token seat.old).table ≡ self.now) × (note.table_id ≡ self.now.id) }
-        requires note { IsNote note }
-        requires caller { IsCaller seat.old.me.0.role }
-        ensures hears { HearsNote 2 (token seat.old) (known_to (token note)) (token seat.new) }
-        ensures readers { HearsOf seat.old.me.0 note.me.0 seat.new.me.0 }
-        ensures numbers { (desk : Desk) → seat.old.me.0.role ≡ writer_role desk → AreNumbers self.now.shape (map_seen (token seat.new)) desk.numbers }
-        ensures role { (seat.new.table_id ≡ seat.old.table_id) × (seat.new.me.0.role ≡ seat.old.me.0.role) }
-    {
-        self.take_note(seat, note);
-        self.learn(seat);
-    }
-
     /// Two notes of one: the token takes it in and says twice what it said, in 3 steps. It learns
     /// nothing by that.
     pub fn split_note(&self, seat: &mut Seat, note: Note) -> (Note, Note)
@@ -42,12 +27,12 @@ impl Board {
         (one, other)
     }
 
-    /// A token learns, in 2 steps, all that another has seen, which makes a note of it, in 1 step.
+    /// A token learns, in 1 step, all that another has seen, which makes a note of it, in 1 step.
     pub fn hear(&self, seat: &mut Seat, other: &mut Seat)
         requires own { ((token seat.old).table ≡ self.now) × ((token other.old).table ≡ self.now) }
         requires caller { IsCaller seat.old.me.0.role }
         requires knows { KnowsOwn (token other.old) }
-        ensures meets { Meets 2 (token seat.old) (token other.old) (token seat.new) }
+        ensures meets { Meets 1 (token seat.old) (token other.old) (token seat.new) }
         ensures readers { HearsOf seat.old.me.0 (note_of other.old.me.0) seat.new.me.0 }
         ensures numbers { (desk : Desk) → seat.old.me.0.role ≡ writer_role desk → AreNumbers self.now.shape (map_seen (token seat.new)) desk.numbers }
         ensures role { (seat.new.table_id ≡ seat.old.table_id) × (seat.new.me.0.role ≡ seat.old.me.0.role) }

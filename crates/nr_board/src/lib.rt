@@ -16,6 +16,7 @@ mod reaping;
 mod recalls;
 mod reclaiming;
 mod rule;
+mod two_seats;
 mod view;
 mod writer_calls;
 

@@ -2,6 +2,7 @@
 ghost use Rattle.nr_machine.specs.declared.calls.WriterCall.{WriterCall};
 ghost use Rattle.nr_machine.specs.declared.calls.WriterCall.TheVariants.{Evict};
 
+use crate::two_seats::TakingIn;
 use crate::view::View;
 use atomic_table::{Join, Play, Split, TableRule};
 use nr_core::Shape;
@@ -168,6 +169,18 @@ impl Join<View> for Notes {
     ghost use Rattle.nr_board.specs.Notes.{spent, with_note};
 
     ghost both = { with_note };
+
+    ghost spent = { spent };
+}
+
+/// A token hears a note.
+pub struct Hears;
+
+impl TakingIn<View> for Hears {
+    ghost use Rattle.nr_board.specs.Learning.{has_heard};
+    ghost use Rattle.nr_board.specs.Notes.{spent};
+
+    ghost then = { has_heard };
 
     ghost spent = { spent };
 }

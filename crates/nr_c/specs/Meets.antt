@@ -11,7 +11,7 @@ use Rattle.nr_c.specs.Numbers.{answer_done}
 
 -- the reader learns of the writer, which makes a note in one step and else stays
 abbrev pub MeetsOf : List ReaderSide → List WriterSide → List ReaderSide → List WriterSide → Type 0
-MeetsOf reader writer reader' writer' = (old new other : Caller) × TurnsHand reader reader' (Idle old) (Idle new) × WriterCalls (λ before after. (before ≡ other) × (after ≡ with_step other)) writer writer' × Meets 2 old other new
+MeetsOf reader writer reader' writer' = (old new other : Caller) × TurnsHand reader reader' (Idle old) (Idle new) × WriterCalls (λ before after. (before ≡ other) × (after ≡ with_step other)) writer writer' × Meets 1 old other new
 
 -- the writer and the reader learn of each other
 abbrev pub GathersOf : List WriterSide → List ReaderSide → List WriterSide → List ReaderSide → Type 0
@@ -19,7 +19,7 @@ GathersOf writer reader writer' reader' = (old new : Caller) × TurnsHand reader
 
 -- the reader learns of another, which makes a note in one step and else stays
 abbrev pub MeetsReader : List ReaderSide → List ReaderSide → List ReaderSide → List ReaderSide → Type 0
-MeetsReader reader theirs reader' theirs' = (old new other : Caller) × TurnsHand reader reader' (Idle old) (Idle new) × TurnsHand theirs theirs' (Idle other) (Idle (with_step other)) × Meets 2 old other new
+MeetsReader reader theirs reader' theirs' = (old new other : Caller) × TurnsHand reader reader' (Idle old) (Idle new) × TurnsHand theirs theirs' (Idle other) (Idle (with_step other)) × Meets 1 old other new
 
 -- the writer and a reader that holds a set, which it keeps, learn of each other
 abbrev pub GathersPin : List WriterSide → List ReaderSide → List WriterSide → List ReaderSide → Type 0

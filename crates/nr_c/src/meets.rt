@@ -7,7 +7,7 @@ use crate::hand::Hand;
 use crate::reader_handle::NrReader;
 use crate::writer_handle::NrWriter;
 
-/// The reader learns, in 2 steps, all that the writer has seen, which makes a note of it in 1 step:
+/// The reader learns, in 1 step, all that the writer has seen, which makes a note of it in 1 step:
 /// `NR_DONE`. `NR_HOLDING`, with no step, where the reader holds a set.
 #[unsafe(no_mangle)]
 pub extern "C" fn nr_meet(reader: &mut NrReader, writer: &mut NrWriter) -> u32
@@ -51,7 +51,7 @@ pub extern "C" fn nr_gather(writer: &mut NrWriter, reader: &mut NrReader) -> u32
     NR_DONE
 }
 
-/// The reader learns, in 2 steps, all that another reader has seen, which makes a note of it in 1
+/// The reader learns, in 1 step, all that another reader has seen, which makes a note of it in 1
 /// step: `NR_DONE`. `NR_HOLDING`, with no step, where one of them holds a set.
 #[unsafe(no_mangle)]
 pub extern "C" fn nr_meet_readers(reader: &mut NrReader, other: &mut NrReader) -> u32

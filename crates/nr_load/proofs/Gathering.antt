@@ -37,7 +37,7 @@ gathered log w r w' r' g begins =
     let learns = g.of_writer.learns in
     let more : StartsWith r'.seen log = starts_then log w.seen r'.seen begins (starts_then w.seen w'.seen r'.seen g.of_reader.learns.seen g.of_writer.seen) in
     record {
-      stays = learns_stays 3 r r' learns;
+      stays = learns_stays 2 r r' learns;
       calls = subst (λ (m : List Entry). StartsWith (entries_of w'.seen r'.number) m) (sym learns.mine) (subst (λ (n : ℕ). StartsWith (entries_of w'.seen n) r.mine) (sym learns.number) g.of_reader.calls);
       heard = (more, learns.own);
     }

@@ -216,10 +216,10 @@ impl Hand {
         }
     }
 
-    /// Its reader learns, in 2 steps, all that the note's maker had seen. What is held stays held.
+    /// Its reader learns, in 1 step, all that the note's maker had seen. What is held stays held.
     pub fn hear(&mut self, map: &ReaderMap, note: Note)
         requires own { (self.old.reader.table ≡ map.now) × (note.table ≡ map.now) }
-        ensures reader { HearsNote 2 self.old.reader note self.new.reader }
+        ensures reader { HearsNote 1 self.old.reader note self.new.reader }
         ensures held { (self.new.key ≡ self.old.key) × (self.new.rows ≡ self.old.rows) }
     {
         map.board.hear_note(&mut self.seat, note.told);

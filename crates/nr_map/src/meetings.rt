@@ -20,28 +20,28 @@ impl ReaderMap {
         KeyKind::of_word(word)
     }
 
-    /// The reader learns, in 2 steps, all that the writer has seen, which makes a note of it in 1
-    /// step, and else stays as it is.
+    /// The reader learns, in 1 step, all that the writer has seen, which makes a note of it in 1 step,
+    /// and else stays as it is.
     pub fn meet(&self, reader: &mut Reader, writer: &mut Writer)
         requires own { (reader.old.table ≡ self.now) × (writer.old.table ≡ self.now) }
-        ensures reader { Meets 2 reader.old writer.old reader.new }
+        ensures reader { Meets 1 reader.old writer.old reader.new }
         ensures writer { writer.new ≡ with_step writer.old }
     {
         self.board.hear(&mut reader.seat, &mut writer.seat);
     }
 
-    /// The reader learns, in 2 steps, all that another reader has seen, which makes a note of it in
-    /// 1 step, and else stays as it is.
+    /// The reader learns, in 1 step, all that another reader has seen, which makes a note of it in 1
+    /// step, and else stays as it is.
     pub fn meet_readers(&self, reader: &mut Reader, other: &mut Reader)
         requires own { (reader.old.table ≡ self.now) × (other.old.table ≡ self.now) }
-        ensures reader { Meets 2 reader.old other.old reader.new }
+        ensures reader { Meets 1 reader.old other.old reader.new }
         ensures other { other.new ≡ with_step other.old }
     {
         self.board.hear(&mut reader.seat, &mut other.seat);
     }
 
     /// The writer learns all that the reader has seen, and then the reader all that the writer has:
-    /// 3 steps for each, of which 1 is its note's. The writer's history then has exactly the calls of both.
+    /// 2 steps for each, of which 1 is its note's. The writer's history then has exactly the calls of both.
     pub fn gather(&self, writer: &mut Writer, reader: &mut Reader)
         requires own { (reader.old.table ≡ self.now) × (writer.old.table ≡ self.now) }
         ensures { Gathers writer.old reader.old writer.new reader.new }

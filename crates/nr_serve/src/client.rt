@@ -136,10 +136,10 @@ impl<'a, G: Gate> Client<'a, G> {
         }
     }
 
-    /// The client learns, in 2 steps of its reader, all that the note's maker had seen.
+    /// The client learns, in 1 step of its reader, all that the note's maker had seen.
     pub fn hear(&mut self, note: Note)
         requires { note.table ≡ self.old.map }
-        ensures hears { HearsNote 2 self.old.hands.reader note self.new.hands.reader }
+        ensures hears { HearsNote 1 self.old.hands.reader note self.new.hands.reader }
         ensures rest { self.new ≡ record self.old { hands = with_idle_reader self.old.hands self.new.hands.reader } }
     {
         match &mut self.hands {

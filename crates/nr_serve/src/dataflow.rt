@@ -249,10 +249,10 @@ impl<'a, S: Source> Dataflow<'a, S> {
         self.map.note_writer(&mut self.writer)
     }
 
-    /// The dataflow learns, in 2 steps of its writer, all that the note's maker had seen.
+    /// The dataflow learns, in 1 step of its writer, all that the note's maker had seen.
     pub fn hear(&mut self, note: Note)
         requires { note.table ≡ self.old.map }
-        ensures hears { HearsNote 2 self.old.writer note self.new.writer }
+        ensures hears { HearsNote 1 self.old.writer note self.new.writer }
         ensures rest { self.new ≡ record self.old { writer = self.new.writer } }
     {
         self.map.hear_writer(&mut self.writer, note);

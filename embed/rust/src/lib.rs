@@ -43,6 +43,10 @@
 //! # Ok::<(), Box<dyn std::error::Error>>(())
 //! ```
 //!
+//! A call of the writer that returned is seen by each find that begins after a message about it came, by whatever
+//! orders memory: a channel, a lock, a join, or a release and an acquire of an atomic. Such a find gives the rows of that
+//! write or of a later one, and none only where the key was evicted since.
+//!
 //! A [`Lobby`] lists who waits for a missing key. Tokens go from thread to thread, but two threads never use one at a time:
 //!
 //! ```compile_fail,E0277

@@ -22,7 +22,7 @@ loop-at-preserved c =
           let g : GathersToken w s w' s' = subst (λ x. GathersToken w x w' s') (sym c.index-tokens-at.is) b.gather_token.ensures in
           let apart : at ≢ c.args.first = b.if-at-first.true in
           rw (b.writer-is, b.tokens-is) (record {
-            stays = stays_then c.args.writer.now w w' i.stays (learns_stays 3 w w' g.gathers.of_reader.learns);
+            stays = stays_then c.args.writer.now w w' i.stays (learns_stays 2 w w' g.gathers.of_reader.learns);
             sound = gather_sound w _ w' _ g.gathers;
             same = map-set_same still tokens at s' s (same_still w s w' s' g ∙ ap still c.index-tokens-at.is) ∙ i.same;
             first = first_still log w w' s s' tokens at low i.stays.seen g c.args.first apart i.first;
