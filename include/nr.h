@@ -18,9 +18,10 @@
    Each call that takes a key answers NR_NO_KEY, without a step, where the map, or the queue, wasn't opened
    with that many keys; nothing has changed then, and what the call would have told stays as it was.
 
-   A step is one atomic operation on one 64-bit word. No call takes a lock or waits, and none but those
-   that open takes memory. Link: libnr.a (or libnr.so), and nothing else but the C library. For Linux
-   and processors of x86-64-v2, as those with SSE4.2 and POPCNT, which nothing tests; C11 or C++11. */
+   A step is one atomic operation on one 64-bit word. No call takes a lock or waits, and none takes
+   memory but those that open and nr_return_reader. Link: libnr.a (or libnr.so), and nothing else but
+   the C library. For Linux and processors of x86-64-v2, as those with SSE4.2 and POPCNT, which nothing
+   tests; C11 or C++11. */
 #ifndef NR_H
 #define NR_H
 
