@@ -1,3 +1,4 @@
 mod KnownWords
 mod ProgramLemmas
 mod TaskLemmas
+mod WordLemmas

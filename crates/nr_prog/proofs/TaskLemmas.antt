@@ -1,5 +1,6 @@
 -- What words ask for, by how many they are.
-use Rattle.std.proofs.Common.{ℕ, ◌≡◌, ◌≢◌, List, [], ◌∷◌, length, map, get_or, refl, arith}
+use Rattle.std.proofs.Common.{ℕ, ◌≡◌, ◌≢◌, List, [], ◌∷◌, length, map, take, get_or, refl, arith}
+use Rattle.nr_prog.specs.declared.arguments.TheConstants.{ROOM}
 use Rattle.nr_prog.specs.declared.task.Misuse.TheVariants as misuse
 use Rattle.nr_prog.specs.declared.task.Task.TheVariants.{Script, Explain}
 use Rattle.nr_prog.specs.Tasks.{task}
@@ -33,3 +34,13 @@ others_explain spell (v ∷ w ∷ x ∷ []) some more_than_one not_five = refl
 others_explain spell (v ∷ w ∷ x ∷ y ∷ []) some more_than_one not_five = refl
 others_explain spell (v ∷ w ∷ x ∷ y ∷ z ∷ []) some more_than_one not_five = absurd (not_five refl)
 others_explain spell (v ∷ w ∷ x ∷ y ∷ z ∷ next ∷ more) some more_than_one not_five = refl
+
+-- of more words than any command has, what they ask for is told by the first of them
+pub first_tell : {A : Type 0} (spell : A → List ℕ) (list : List A) → task (map spell (take ROOM list)) ≡ task (map spell list)
+first_tell spell [] = refl
+first_tell spell (v ∷ []) = refl
+first_tell spell (v ∷ w ∷ []) = refl
+first_tell spell (v ∷ w ∷ x ∷ []) = refl
+first_tell spell (v ∷ w ∷ x ∷ y ∷ []) = refl
+first_tell spell (v ∷ w ∷ x ∷ y ∷ z ∷ []) = refl
+first_tell spell (v ∷ w ∷ x ∷ y ∷ z ∷ next ∷ more) = refl

@@ -1,5 +1,7 @@
 -- What the words after the program's name ask for.
-use Rattle.std.specs.Prelude.{ℕ, ◌<◌, ◌≤◌, ◌&&◌, nat_le, if◌then◌else◌, List, [], ◌∷◌, codes, bytes_eq, Option, Some, None, option_and_then}
+use Rattle.std.specs.Prelude.{ℕ, ◌<◌, ◌≤◌, ◌&&◌, nat_le, if◌then◌else◌, List, [], ◌∷◌, drop, map, codes, bytes_eq, Option, Some, None, option_and_then, Result, Ok, Err, String, string_bytes}
+use Rattle.std.specs.declared.vec.IntoIter.{IntoIter}
+use Rattle.std.specs.Vec.Iter.{into_iter_items}
 use Rattle.nr_text.specs.Grammar.{number}
 use Rattle.nr_prog.specs.declared.task.Misuse.TheVariants as misuse
 use Rattle.nr_prog.specs.declared.task.Task.{Task}
@@ -30,10 +32,10 @@ task (word ∷ seed ∷ readers ∷ keys ∷ gets ∷ []) =
     else Explain misuse.Words
 task others = Explain misuse.Words
 
--- the program's words, or one empty word where they could not be read
-abbrev pub words_read : Option (List (List ℕ)) → List (List ℕ)
-words_read (Some words) = words
-words_read None = [] ∷ []
+-- what a process's arguments ask for, the program's name first; those that could not be read are no command
+abbrev pub task_given : {Y Z E : Type 0} → Result (IntoIter (String Y) Z) E → Task
+task_given (Ok args) = task (map string_bytes (drop 1 (into_iter_items args)))
+task_given (Err _) = Explain misuse.Words
 
 -- a load has as many readers and keys as it may have
 abbrev pub IsRunnable : Task → Type 0

@@ -2,6 +2,7 @@
 //! schedules nr_schedule's; both are served by nr_lines. A load is nr_load's.
 #![tactic(auto)]
 
+mod arguments;
 mod output;
 mod program;
 mod report;

@@ -1,12 +1,12 @@
 //! The program: what its arguments ask for, and what it tells of a fault.
-ghost use Rattle.std.specs.Prelude.{◌≡◌, ◌≤◌, map, drop, string_bytes, option_map, IfSome, Ok, MatchResult};
+ghost use Rattle.std.specs.Prelude.{◌≡◌, ◌≤◌, map, string_bytes, Ok, MatchResult};
 ghost use Rattle.std.specs.Process.{exit_status};
-ghost use Rattle.std.specs.Vec.Iter.{into_iter_items};
 ghost use Rattle.nr_prog.specs.Faults.{TellsLine, line_of, line_of_misuse};
 ghost use Rattle.nr_prog.specs.Loads.{line_of_load, report_text, TellsLoad};
 ghost use Rattle.nr_prog.specs.Program.{EndsTask, ReadsNothing};
-ghost use Rattle.nr_prog.specs.Tasks.{task, words_read};
+ghost use Rattle.nr_prog.specs.Tasks.{IsRunnable, task, task_given};
 
+use crate::arguments::task_given;
 use crate::output::Output;
 use crate::report::{report_of, report_status};
 use crate::task::{Misuse, Task, task_of};
@@ -15,59 +15,29 @@ use nr_load::{LoadFault, LoadReport};
 use nr_schedule::run_steps;
 use nr_script::run;
 use std::alloc::Global;
-use std::env::{Args, Env};
-use std::io::{Input, Print, Read, Write};
+use std::env::Args;
+use std::io;
+use std::io::{Read, Write};
 use std::process::ExitCode;
 use std::sync::Wait;
 use std::thread::Threads;
-use std::{env, io};
 
-/// Runs the program on the process's own arguments, from standard input to standard output.
+/// Runs the program on its process's arguments, and answers the status with which the process is to end.
 ///
-/// Arguments that are no text, or for which there is no memory, count as one wrong argument.
-pub fn main_of<T: Threads + Wait + Sync + AllocGlobal + Env + Input + Print>(rt: &T) -> ExitCode
-    ensures { exit_status result ≤ 2 }
-{
-    let words = match env::args(rt) {
-        Ok(args) => words_of(rt.alloc(), args),
-        Err(_) => None,
-    };
-    exit_of(rt, rt.alloc(), words, &mut rt.reader(), &mut io::writer(rt))
-}
-
-/// The words after the program's name, where there is memory for them.
-fn words_of(alloc: Global, args: Args) -> Option<Vec<String>>
-    ensures { IfSome result (λ words. words.items ≡ drop 1 (into_iter_items args)) }
-{
-    let mut words = Vec::new(alloc);
-    let mut args = args;
-    let _ = args.next();
-    while let Some(word) = args.next() {
-        if words.push(word).is_err() {
-            return None;
-        }
-    }
-    Some(words)
-}
-
-/// The exit code of what these words ask for, or of one empty word where there are none to read.
-fn exit_of<T: Threads + Wait + Sync, R: Read, O: Output>(
+/// The first argument is the program's name, and the others are words as `main_with` takes them. Arguments
+/// that are no text, or for which there was no memory, are told by the line on the program's usage: 2.
+pub fn main_of<T: Threads + Wait + Sync + AllocGlobal, R: Read, O: Output>(
     rt: &T,
-    alloc: Global,
-    words: Option<Vec<String>>,
+    args: io::Result<Args>,
     reader: &mut R,
     output: &mut O,
 ) -> ExitCode
-    ensures ends { EndsTask O.may_fail (task (words_read (option_map (λ all. map string_bytes all.items) words))) (exit_status result) (R.remaining reader.old) (R.remaining reader.new) (O.contents output.old) (O.contents output.new) }
-    ensures unread { ReadsNothing (task (words_read (option_map (λ all. map string_bytes all.items) words))) → reader.new ≡ reader.old }
+    ensures ends { EndsTask O.may_fail (task_given args) (exit_status result) (R.remaining reader.old) (R.remaining reader.new) (O.contents output.old) (O.contents output.new) }
+    ensures unread { ReadsNothing (task_given args) → reader.new ≡ reader.old }
     ensures few { exit_status result ≤ 2 }
 {
-    let wrong = [String::new(alloc)];
-    let args = match &words {
-        Some(all) => all.as_slice(),
-        None => wrong.as_slice(),
-    };
-    ExitCode::from(main_with(rt, alloc, args, reader, output))
+    let task = task_given(rt.alloc(), args);
+    ExitCode::from(run_task(rt, rt.alloc(), task, reader, output))
 }
 
 /// Runs what the words after the program's name ask for, and answers the exit status.
@@ -87,7 +57,22 @@ pub fn main_with<T: Threads + Wait + Sync, R: Read, O: Output>(
     ensures ends { EndsTask O.may_fail (task (map string_bytes args.now)) result (R.remaining reader.old) (R.remaining reader.new) (O.contents output.old) (O.contents output.new) }
     ensures unread { ReadsNothing (task (map string_bytes args.now)) → reader.new ≡ reader.old }
 {
-    match task_of(args) {
+    run_task(rt, alloc, task_of(args), reader, output)
+}
+
+/// Does the task, and answers the exit status.
+fn run_task<T: Threads + Wait + Sync, R: Read, O: Output>(
+    rt: &T,
+    alloc: Global,
+    task: Task,
+    reader: &mut R,
+    output: &mut O,
+) -> u8
+    requires { IsRunnable task }
+    ensures ends { EndsTask O.may_fail task result (R.remaining reader.old) (R.remaining reader.new) (O.contents output.old) (O.contents output.new) }
+    ensures unread { ReadsNothing task → reader.new ≡ reader.old }
+{
+    match task {
         Task::Script => {
             let ran = run(alloc, reader, output);
             end_of_run(ran, output)

@@ -1,12 +1,13 @@
 //! What the program does with its arguments, and what it tells of a fault.
 use crate::schedules::COUNTS_WRAP;
 use crate::streams::{Dripping, Failing, spelled};
-use nr_prog::main_with;
+use nr_prog::{main_of, main_with};
 use std::alloc::{AllocError, Global};
 use std::io;
 use std::io::{ErrorKind, Read, Write};
-use std::process::Abort;
+use std::process::{Abort, ExitCode};
 use std::sync::Wait;
+use std::test::Fail;
 use std::thread::Threads;
 
 /// Takes all bytes at each call but one, which fails.
@@ -143,4 +144,51 @@ fn a_failed_read_of_a_schedule_is_told(rt: HostRuntime) {
     let mut cut = Failing { bytes: b"go\ngo" };
     let text: &[u8] = b"closed\nnr: the input could not be read\n";
     assert_ends(&rt, &["steps"], &mut cut, usize::MAX, (1, text));
+}
+
+/// A process's arguments, the status with which it ends, and what it writes where the input is `TWO_LINES`.
+type Ended = (&'static [&'static str], u8, &'static [u8]);
+
+const PROCESSES: &[Ended] = &[
+    (&[], 0, b"closed\nclosed\n"),
+    (&["nr"], 0, b"closed\nclosed\n"),
+    (&["steps"], 0, b"closed\nclosed\n"),
+    (&["nr", "steps"], 0, b"bad\nbad\n"),
+    (&["steps", "nr"], 2, USAGE),
+    (
+        &["nr", "load", "1", "1", "1", "1"],
+        0,
+        b"gets 1\nanswered 1\nbalance ok\n",
+    ),
+    (
+        &["nr", "load", "x", "0", "1", "1"],
+        2,
+        b"nr: seed must be 0 to 18446744073709551615\n",
+    ),
+    (&["nr", "load", "1", "1", "1"], 2, USAGE),
+    (&["nr", "load", "1", "1", "1", "1", "1"], 2, USAGE),
+    (&["nr", "load", "1", "1", "1", "1", "1", "1"], 2, USAGE),
+];
+
+#[test]
+fn a_process_takes_all_arguments_but_its_name(rt: HostRuntime) -> Result<(), Fail> {
+    for (words, status, text) in PROCESSES {
+        let args = arguments(rt.alloc(), words)?;
+        let mut reader = TWO_LINES;
+        let mut written = Vec::new(rt.alloc());
+        let got = main_of(&rt, Ok(args.into_iter()), &mut reader, &mut written);
+        assert_eq!(rt; written.as_slice(), *text, "{words:?}");
+        assert_eq!(rt; got, ExitCode::from(*status), "{words:?}");
+    }
+    Ok(())
+}
+
+#[test]
+fn arguments_that_can_not_be_read_are_told(rt: HostRuntime) {
+    let mut unread = Failing { bytes: b"" };
+    let mut written = Vec::new(rt.alloc());
+    let unknown = Err(ErrorKind::InvalidData.into());
+    let got = main_of(&rt, unknown, &mut unread, &mut written);
+    assert_eq!(rt; written.as_slice(), USAGE);
+    assert_eq!(rt; got, ExitCode::from(2));
 }

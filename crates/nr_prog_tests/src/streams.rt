@@ -50,10 +50,11 @@ impl Read for Dripping<'_> {
     ghost remaining = { λ reader. Some reader.bytes.now };
 
     fn read(&mut self, buf: &mut [u8]) -> io::Result<usize> {
-        if self.calls == self.fails_at {
+        let call = self.calls;
+        self.calls = self.calls.saturating_add(1);
+        if call == self.fails_at {
             return Err(ErrorKind::Interrupted.into());
         }
-        self.calls = self.calls.saturating_add(1);
         let most = buf.len().min(1);
         self.bytes.read(&mut buf[..most])
     }

@@ -2,8 +2,10 @@
 #![tactic(auto)]
 
 use nr_prog::main_of;
+use std::io::Input;
 use std::process::ExitCode;
+use std::{env, io};
 
 fn main(rt: HostRuntime) -> ExitCode {
-    main_of(&rt)
+    main_of(&rt, env::args(&rt), &mut rt.reader(), &mut io::writer(&rt))
 }
