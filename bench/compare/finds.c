@@ -23,7 +23,7 @@ int main(int count, char **words) {
   uint32_t readers = (uint32_t)atol(words[2]);
   keys = (uint32_t)atol(words[3]);
   each = atol(words[4]);
-  if (readers < 1 || readers > MOST_HANDS || keys < 1) stop("1 to 1020 readers, at least 1 key");
+  if (readers < 1 || readers > MOST_HANDS || keys < 1) stop("1 to 2048 readers, at least 1 key");
   load(&it, "nr", words[1], (nr_shape){keys, keys + 1, READERS + readers, 15, 0, 0});
   for (uint32_t key = 0; key < keys; key++) {
     nr_row row = {key, 0};
