@@ -26,7 +26,7 @@ int main(int count, char **words) {
   uint32_t readers = (uint32_t)atol(words[2]);
   keys = (uint32_t)atol(words[3]);
   each = atol(words[4]);
-  if (readers < 1 || readers > READERS + MOST_HANDS || keys < 1) stop("1 to 1024 readers, at least 1 key");
+  if (readers < 1 || readers > READERS + MOST_HANDS || keys < 1) stop("1 to 2052 readers, at least 1 key");
   uint32_t all = readers < READERS ? READERS : readers;
   load(&it, "nr", words[1], (nr_shape){keys, keys + all + 1, all, 15, 0, 0});
   for (uint32_t i = READERS; i < readers; i++)

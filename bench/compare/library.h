@@ -11,7 +11,7 @@
 #include <string.h>
 #include <time.h>
 
-enum { ORDER = 8192, READERS = 4, MOST = 8, MOST_HANDS = 1020 };
+enum { ORDER = 8192, READERS = 4, MOST = 8, MOST_HANDS = 2048 };
 
 typedef struct {
   const char *name;

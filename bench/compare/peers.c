@@ -30,9 +30,9 @@ static const char *const names[COLUMNS] = {"read by 1", "read by 2", "read by 3"
     "eviction", "again by 1", "kept: hot key by 1", "kept: hot key by 2", "kept: hot key by 3", "kept: hot key by 4", "kept: hot key by 3 beside its writer",
     "kept: hot key by 3, written each 1 us", "kept: hot key by 3, written each 10 us", "again: hot key by 3",
     "again: hot key by 3 beside its writer", "again: hot key by 3, written each 1 us", "again: hot key by 3, written each 10 us", "skew 0.99 by 1, 32 hands",
-    "skew 0.99 by 1, 128 hands", "skew 0.99 by 1, 255 hands", "skew 0.99 by 3, 32 hands", "skew 0.99 by 3, 128 hands",
-    "skew 0.99 by 3, 255 hands", "skew 1.2 by 1, 32 hands", "skew 1.2 by 1, 128 hands", "skew 1.2 by 1, 255 hands",
-    "skew 1.2 by 3, 32 hands", "skew 1.2 by 3, 128 hands", "skew 1.2 by 3, 255 hands"};
+    "skew 0.99 by 1, 128 hands", "skew 0.99 by 1, 512 hands", "skew 0.99 by 3, 32 hands", "skew 0.99 by 3, 128 hands",
+    "skew 0.99 by 3, 512 hands", "skew 1.2 by 1, 32 hands", "skew 1.2 by 1, 128 hands", "skew 1.2 by 1, 512 hands",
+    "skew 1.2 by 3, 32 hands", "skew 1.2 by 3, 128 hands", "skew 1.2 by 3, 512 hands"};
 
 /* Which keys are read: each as often as another, one alone, or few of them often, by Zipf's law. */
 typedef enum { EVEN, SKEWED, STEEP, ORDERS, HOT = ORDERS } keys_read;
