@@ -25,6 +25,7 @@ mod rooms;
 mod sizes;
 mod slots;
 mod source;
+mod texts;
 mod threads;
 mod upkeep;
 
