@@ -1,4 +1,4 @@
--- Plain lines, which a machine answers; any other is bad.
+-- Plain lines, which a responder answers; any other is bad.
 use Rattle.std.specs.Prelude.{ℕ, ◌&&◌, nat_lt, nat_le, if◌then◌else◌, Bool, List, length, codes}
 use Rattle.std.specs.List.{list_all}
 use Rattle.nr_lines.specs.Limits.{longest_line}

@@ -1,5 +1,5 @@
-//! What is served, read and written, by a machine with one answer.
-use nr_lines::{Machine, RunFault, serve};
+//! What is served, read and written, by a responder with one answer.
+use nr_lines::{Responder, RunFault, serve};
 use std::alloc::Global;
 use std::cell::Cell;
 use std::io;
@@ -10,7 +10,7 @@ use std::process::Abort;
 #[derive(Drop)]
 struct Yes;
 
-impl Machine for Yes {
+impl Responder for Yes {
     ghost use Rattle.std.specs.Prelude.{◌^◌, codes};
 
     ghost State = { Unit {0} };

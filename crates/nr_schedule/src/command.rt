@@ -8,7 +8,7 @@ ghost use Rattle.nr_schedule.specs.Commands.{schedule_command, by_writer, one_nu
 ghost use Rattle.nr_text.specs.Grammar.{words, number, filling, filling_as, updating};
 ghost use Rattle.nr_text.specs.Words.{words_left};
 
-use nr_text::{Given, GivenBatch, GivenRows, Opening, Words, batch, number, set};
+use nr_text::{GivenBatch, GivenRows, LineRoom, Opening, Words, batch, number, set};
 
 /// What a line of a schedule asks for, where it fits the grammar. Its numbers may be out of range.
 #[derive(Drop)]
@@ -65,7 +65,7 @@ pub(crate) enum Command<'a> {
 
 /// The command of a line, or none where it doesn't fit the grammar. A set or a batch that the line
 /// gives is put into the room for it.
-pub(crate) fn parse<'a>(line: &'a [u8], given: &'a mut Given) -> Option<Command<'a>>
+pub(crate) fn parse<'a>(line: &'a [u8], given: &'a mut LineRoom) -> Option<Command<'a>>
     ensures { result ≡ schedule_command (words line.now) }
 {
     let mut words = Words::new(line);
@@ -103,7 +103,7 @@ pub(crate) fn parse<'a>(line: &'a [u8], given: &'a mut Given) -> Option<Command<
     None
 }
 
-fn by_writer<'a>(mut words: Words<'a>, given: &'a mut Given) -> Option<Command<'a>>
+fn by_writer<'a>(mut words: Words<'a>, given: &'a mut LineRoom) -> Option<Command<'a>>
     ensures { result ≡ by_writer (words_left words.entry) }
 {
     let name = words.next()?;
@@ -136,7 +136,7 @@ fn by_writer<'a>(mut words: Words<'a>, given: &'a mut Given) -> Option<Command<'
     None
 }
 
-fn key_and_rows<'a>(mut words: Words<'a>, given: &'a mut Given) -> Option<(u64, GivenRows<'a>)>
+fn key_and_rows<'a>(mut words: Words<'a>, given: &'a mut LineRoom) -> Option<(u64, GivenRows<'a>)>
     ensures { (made : ℕ → Result (List Row) TooMany → Command) → filling number made (words_left words.entry) ≡ option_map (λ found. made found.0 found.1) result }
 {
     let key = number(words.next()?)?;
@@ -144,7 +144,7 @@ fn key_and_rows<'a>(mut words: Words<'a>, given: &'a mut Given) -> Option<(u64, 
     Some((key, rows))
 }
 
-fn filling_as<'a>(mut words: Words<'a>, given: &'a mut Given) -> Option<Command<'a>>
+fn filling_as<'a>(mut words: Words<'a>, given: &'a mut LineRoom) -> Option<Command<'a>>
     ensures { result ≡ filling_as number FillAs (words_left words.entry) }
 {
     let word = words.next()?;
@@ -155,7 +155,7 @@ fn filling_as<'a>(mut words: Words<'a>, given: &'a mut Given) -> Option<Command<
     Some(Command::FillAs { key, number, rows })
 }
 
-fn updating<'a>(mut words: Words<'a>, given: &'a mut Given) -> Option<Command<'a>>
+fn updating<'a>(mut words: Words<'a>, given: &'a mut LineRoom) -> Option<Command<'a>>
     ensures { result ≡ updating number Update (words_left words.entry) }
 {
     let key = number(words.next()?)?;

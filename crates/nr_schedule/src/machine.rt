@@ -9,8 +9,8 @@ use crate::answer::{StepAnswer, StepRefusal};
 use crate::command::{Command, parse};
 use crate::opened::Opened;
 use nr_core::{Refusal, Step};
-use nr_lines::{LineError, Machine, RunFault, set_text};
-use nr_text::Given;
+use nr_lines::{LineError, Responder, RunFault, set_text};
+use nr_text::LineRoom;
 use std::alloc::Global;
 
 /// A schedule's state. It begins closed. What a line gives and the writer's step that it makes have
@@ -18,11 +18,11 @@ use std::alloc::Global;
 #[derive(Drop)]
 pub(crate) struct ScheduleMachine {
     opened: Option<Opened>,
-    given: Given,
+    given: LineRoom,
     tried: Result<Step, Refusal>,
 }
 
-impl Machine for ScheduleMachine {
+impl Responder for ScheduleMachine {
     ghost use Rattle.std.specs.Prelude.{◌^◌};
     ghost use Rattle.nr_schedule.specs.Machine as schedule;
 
@@ -64,7 +64,7 @@ impl ScheduleMachine {
     {
         ScheduleMachine {
             opened: None,
-            given: Given::new(),
+            given: LineRoom::new(),
             tried: Ok(Step::Going),
         }
     }
@@ -75,7 +75,7 @@ fn answer_plain<'a>(
     opened: &mut Option<Opened>,
     alloc: Global,
     line: &[u8],
-    given: &mut Given,
+    given: &mut LineRoom,
     tried: &'a mut Result<Step, Refusal>,
 ) -> Result<StepAnswer<'a>, LineError<StepRefusal>>
     ensures { IsOutcome (answer_schedule_line opened.old line.now) (opens_schedule opened.old (schedule_command (words line.now))) result opened.new }

@@ -9,8 +9,8 @@ use Rattle.nr_text.specs.Grammar.{words}
 use Rattle.nr_text.specs.Opening.{is_in_limits}
 use Rattle.nr_alone.specs.Answers.{Answer}
 use Rattle.nr_alone.specs.Answers as answers
-use Rattle.nr_script.specs.declared.answer.Refusal.{Refusal}
-use Rattle.nr_script.specs.declared.answer.Refusal.TheVariants as refusals
+use Rattle.nr_script.specs.declared.answer.ScriptRefusal.{ScriptRefusal}
+use Rattle.nr_script.specs.declared.answer.ScriptRefusal.TheVariants as refusals
 use Rattle.nr_script.specs.declared.command.Command.{Command}
 use Rattle.nr_script.specs.declared.command.Command.TheVariants.{Open}
 use Rattle.nr_script.specs.declared.machine.ScriptMachine.{ScriptMachine}
@@ -26,15 +26,15 @@ abbrev pub closed_script : ScriptState
 closed_script = None
 
 -- each command of a script that is closed
-abbrev pub answer_closed_script : Command → Result Answer Refusal × ScriptState
+abbrev pub answer_closed_script : Command → Result Answer ScriptRefusal × ScriptState
 answer_closed_script (Open named sizes) = if is_in_limits sizes then (Ok answers.Ok, Some (opened_script named sizes)) else (Err refusals.Bad, None)
 answer_closed_script other = (Err refusals.Closed, None)
 
 -- to a command, or to a line that spells none
-abbrev pub answer_script_command : ScriptState → Option Command → Result Answer Refusal × ScriptState
+abbrev pub answer_script_command : ScriptState → Option Command → Result Answer ScriptRefusal × ScriptState
 answer_script_command = answer_command (Err refusals.Bad) answer_closed_script answer_opened_script
 
-abbrev pub answer_script_line : ScriptState → List ℕ → Result Answer Refusal × ScriptState
+abbrev pub answer_script_line : ScriptState → List ℕ → Result Answer ScriptRefusal × ScriptState
 answer_script_line state line = answer_script_command state (script_command (words line))
 
 -- what a line asks for takes memory: the map that it opens, or the name that it adds

@@ -20,8 +20,8 @@ use Rattle.nr_script.specs.declared.keys.Keys.{Keys}
 use Rattle.nr_script.specs.declared.keys.Keys.TheVariants as kinds
 use Rattle.nr_script.specs.declared.command.Command.{Command}
 use Rattle.nr_script.specs.declared.command.Command.TheVariants.{Open, Find, Ask, Fill, FillAs, Update, Replace, Evict, Cancel, Look, Pin as PinKey, Show, Again, Unpin}
-use Rattle.nr_script.specs.declared.answer.Refusal.{Refusal}
-use Rattle.nr_script.specs.declared.answer.Refusal.TheVariants as refusals
+use Rattle.nr_script.specs.declared.answer.ScriptRefusal.{ScriptRefusal}
+use Rattle.nr_script.specs.declared.answer.ScriptRefusal.TheVariants as refusals
 use Rattle.nr_text.specs.Opening.{shape_of_opening}
 use Rattle.nr_text.specs.Grammar.{number, within}
 use Rattle.nr_text.specs.declared.opening.Opening.{Opening}
@@ -35,10 +35,10 @@ pub record Opened : Type 0 where
 
 -- what a command is answered, or why it is refused, and the script after it
 abbrev pub ScriptOutcome : Type 0
-ScriptOutcome = Result Answer Refusal × Opened
+ScriptOutcome = Result Answer ScriptRefusal × Opened
 
 -- what the map answers to a call, or how the line is refused where the call is; the names stay
-abbrev pub refused : MapRefusal → Refusal
+abbrev pub refused : MapRefusal → ScriptRefusal
 refused map_refusals.Holding = refusals.Holding
 refused map_refusals.NotHolding = refusals.NotHolding
 
@@ -51,31 +51,31 @@ abbrev pub script_has_reader : Opened → ℕ → Bool
 script_has_reader script reader = nat_lt 0 reader && nat_le reader (length script.state.pins)
 
 -- What a command needs is looked for in the order of the refusals; the command goes on with what was found, or is refused.
-abbrev pub with_found : {A : Type 0} → Result A Refusal × Opened → (A → Opened → ScriptOutcome) → ScriptOutcome
+abbrev pub with_found : {A : Type 0} → Result A ScriptRefusal × Opened → (A → Opened → ScriptOutcome) → ScriptOutcome
 with_found (Ok found, script) outcome = outcome found script
 with_found (Err refusal, script) outcome = (Err refusal, script)
 
 -- a reader of the script
-abbrev pub found_reader : Opened → ℕ → Result (Unit {0}) Refusal
+abbrev pub found_reader : Opened → ℕ → Result (Unit {0}) ScriptRefusal
 found_reader script reader = if script_has_reader script reader then Ok tt else Err refusals.NoReader
 
 -- a key by its number, and by its name
-abbrev pub numbered_key : ℕ → Option ℕ → Result ℕ Refusal
+abbrev pub numbered_key : ℕ → Option ℕ → Result ℕ ScriptRefusal
 numbered_key count None = Err refusals.Bad
 numbered_key count (Some key) = if nat_lt key count then Ok key else Err refusals.NoKey
 
 -- a word is never empty, so nothing else comes of a name
-abbrev pub refused_name : NameFault → Refusal
+abbrev pub refused_name : NameFault → ScriptRefusal
 refused_name names.TooLong = refusals.TooLong
 refused_name names.Full = refusals.Full
 refused_name other = refusals.Bad
 
-abbrev pub named_key : Result ℕ NameFault → Result ℕ Refusal
+abbrev pub named_key : Result ℕ NameFault → Result ℕ ScriptRefusal
 named_key (Ok key) = Ok key
 named_key (Err fault) = Err (refused_name fault)
 
 -- a name that is refused, or for which there is no memory
-abbrev pub name_error : NameFault → LineError Refusal
+abbrev pub name_error : NameFault → LineError ScriptRefusal
 name_error names.Memory = errors.Memory
 name_error other = errors.Refused (refused_name other)
 
@@ -85,7 +85,7 @@ NamesFit kinds.Numbered count = Unit {0}
 NamesFit (kinds.Named naming) count = naming.keys ≡ count
 
 -- the key that a word stands for, of that many keys, and the names after it: a new name gets the next number
-abbrev pub key_of_word : Keys → ℕ → List ℕ → Result ℕ Refusal × Keys
+abbrev pub key_of_word : Keys → ℕ → List ℕ → Result ℕ ScriptRefusal × Keys
 key_of_word kinds.Numbered count word = (numbered_key count (number word), kinds.Numbered)
 key_of_word (kinds.Named naming) count word = (named_key (intern_reply LONGEST_NAME naming word), kinds.Named (next_naming LONGEST_NAME naming word))
 
@@ -94,10 +94,10 @@ abbrev pub adds_key : Keys → List ℕ → Bool
 adds_key kinds.Numbered word = false
 adds_key (kinds.Named naming) word = adds LONGEST_NAME naming word
 
-abbrev pub with_keys : Opened → Result ℕ Refusal × Keys → Result ℕ Refusal × Opened
+abbrev pub with_keys : Opened → Result ℕ ScriptRefusal × Keys → Result ℕ ScriptRefusal × Opened
 with_keys script (found, keys) = (found, record script { keys = keys })
 
-abbrev pub found_key : Opened → List ℕ → Result ℕ Refusal × Opened
+abbrev pub found_key : Opened → List ℕ → Result ℕ ScriptRefusal × Opened
 found_key script word = with_keys script (key_of_word script.keys (key_count script.state.map) word)
 
 -- a word that cannot stand for a key
@@ -106,20 +106,20 @@ is_no_key kinds.Numbered word = is_none (number word)
 is_no_key (kinds.Named naming) word = false
 
 -- the key of a word, where its line's reader is found: a word that cannot stand for a key is refused before the reader
-abbrev pub key_for_reader : Result (Unit {0}) Refusal → Keys → ℕ → List ℕ → Result ℕ Refusal × Keys
+abbrev pub key_for_reader : Result (Unit {0}) ScriptRefusal → Keys → ℕ → List ℕ → Result ℕ ScriptRefusal × Keys
 key_for_reader (Ok _) keys count word = key_of_word keys count word
 key_for_reader (Err why) keys count word = (if is_no_key keys word then Err refusals.Bad else Err why, keys)
 
 -- a key, for a reader of the script
-abbrev pub found_by_reader : Opened → ℕ → List ℕ → Result ℕ Refusal × Opened
+abbrev pub found_by_reader : Opened → ℕ → List ℕ → Result ℕ ScriptRefusal × Opened
 found_by_reader script reader word = with_keys script (key_for_reader (found_reader script reader) script.keys (key_count script.state.map) word)
 
 -- a set of no more rows than a key may have
-abbrev pub found_rows : Option (List Row) → Result (List Row) Refusal
+abbrev pub found_rows : Option (List Row) → Result (List Row) ScriptRefusal
 found_rows (Some rows) = Ok rows
 found_rows None = Err refusals.TooMany
 
-abbrev pub found_set : Opened → Result (List Row) TooMany → Result (List Row) Refusal
+abbrev pub found_set : Opened → Result (List Row) TooMany → Result (List Row) ScriptRefusal
 found_set script set = found_rows (within script.state.map.bound set)
 
 -- a call of the writer, and of a reader, at its place in the map
@@ -166,7 +166,7 @@ adds_by script (Again reader word) = adds_key script.keys word
 adds_by script other = false
 
 -- an opened script answers a command, or refuses it
-abbrev pub AnswersCommand : Opened → Command → Result Answer (LineError Refusal) → Opened → Type 0
+abbrev pub AnswersCommand : Opened → Command → Result Answer (LineError ScriptRefusal) → Opened → Type 0
 AnswersCommand script command result after = IsOutcome (answer_opened_script script command) (adds_by script command) result after
 
 -- what stands for the keys when a script is opened

@@ -3,8 +3,8 @@ use Rattle.std.specs.Prelude.{ℕ, List, codes, Result, Ok, Err}
 use Rattle.nr_text.specs.Spelling.{spelled_reply}
 use Rattle.nr_alone.specs.Answers.{Answer}
 use Rattle.nr_alone.specs.Answers as answer
-use Rattle.nr_script.specs.declared.answer.Refusal.{Refusal}
-use Rattle.nr_script.specs.declared.answer.Refusal.TheVariants as refusal
+use Rattle.nr_script.specs.declared.answer.ScriptRefusal.{ScriptRefusal}
+use Rattle.nr_script.specs.declared.answer.ScriptRefusal.TheVariants as refusal
 
 abbrev pub spelled_script_answer : Answer → List ℕ
 spelled_script_answer answer.Ok = codes "ok"
@@ -12,7 +12,7 @@ spelled_script_answer (answer.Reply reply) = spelled_reply reply
 spelled_script_answer answer.Other = codes "other"
 spelled_script_answer answer.NoSlot = codes "no-slot"
 
-abbrev pub spelled_script_refusal : Refusal → List ℕ
+abbrev pub spelled_script_refusal : ScriptRefusal → List ℕ
 spelled_script_refusal refusal.Bad = codes "bad"
 spelled_script_refusal refusal.Closed = codes "closed"
 spelled_script_refusal refusal.NoReader = codes "no-reader"
@@ -24,6 +24,6 @@ spelled_script_refusal refusal.Holding = codes "holding"
 spelled_script_refusal refusal.NotHolding = codes "not-holding"
 
 -- an answer, or why there is none
-abbrev pub spelled_by_script : Result Answer Refusal → List ℕ
+abbrev pub spelled_by_script : Result Answer ScriptRefusal → List ℕ
 spelled_by_script (Ok answer) = spelled_script_answer answer
 spelled_by_script (Err refusal) = spelled_script_refusal refusal

@@ -7,7 +7,7 @@ use std::fmt::Write;
 
 /// Why a line is refused, in the order in which that is tried.
 #[derive(Clone, Copy)]
-pub(crate) enum Refusal {
+pub(crate) enum ScriptRefusal {
     Bad,
     Closed,
     NoReader,
@@ -19,27 +19,27 @@ pub(crate) enum Refusal {
     NotHolding,
 }
 
-impl From<nr_alone::Refusal> for Refusal {
+impl From<nr_alone::Refusal> for ScriptRefusal {
     ghost use Rattle.std.specs.Prelude.{◌≡◌};
     ghost use Rattle.nr_script.specs.Opened.{refused};
 
     ghost from_gives = { λ map_refusal refusal. refusal ≡ refused map_refusal };
 
-    fn from(refusal: nr_alone::Refusal) -> Refusal {
+    fn from(refusal: nr_alone::Refusal) -> ScriptRefusal {
         match refusal {
-            nr_alone::Refusal::Holding => Refusal::Holding,
-            nr_alone::Refusal::NotHolding => Refusal::NotHolding,
+            nr_alone::Refusal::Holding => ScriptRefusal::Holding,
+            nr_alone::Refusal::NotHolding => ScriptRefusal::NotHolding,
         }
     }
 }
 
-impl From<Refusal> for LineError<Refusal> {
+impl From<ScriptRefusal> for LineError<ScriptRefusal> {
     ghost use Rattle.std.specs.Prelude.{◌≡◌};
     ghost use Rattle.nr_lines.specs.declared.fault.LineError.TheVariants.{Refused};
 
     ghost from_gives = { λ refusal error. error ≡ Refused refusal };
 
-    fn from(refusal: Refusal) -> LineError<Refusal> {
+    fn from(refusal: ScriptRefusal) -> LineError<ScriptRefusal> {
         LineError::Refused(refusal)
     }
 }
@@ -83,7 +83,7 @@ impl fmt::Display for AnswerWord<'_> {
     }
 }
 
-impl fmt::Display for Refusal {
+impl fmt::Display for ScriptRefusal {
     ghost use Rattle.std.specs.Prelude.{Some};
     ghost use Rattle.nr_script.specs.Spelling.{spelled_script_refusal};
 
@@ -91,15 +91,15 @@ impl fmt::Display for Refusal {
 
     fn fmt<W: fmt::Write>(&self, f: &mut fmt::Formatter<W>) -> fmt::Result {
         f.write_str(match self {
-            Refusal::Bad => "bad",
-            Refusal::Closed => "closed",
-            Refusal::NoReader => "no-reader",
-            Refusal::NoKey => "no-key",
-            Refusal::TooLong => "too-long",
-            Refusal::Full => "full",
-            Refusal::TooMany => "too-many",
-            Refusal::Holding => "holding",
-            Refusal::NotHolding => "not-holding",
+            ScriptRefusal::Bad => "bad",
+            ScriptRefusal::Closed => "closed",
+            ScriptRefusal::NoReader => "no-reader",
+            ScriptRefusal::NoKey => "no-key",
+            ScriptRefusal::TooLong => "too-long",
+            ScriptRefusal::Full => "full",
+            ScriptRefusal::TooMany => "too-many",
+            ScriptRefusal::Holding => "holding",
+            ScriptRefusal::NotHolding => "not-holding",
         })
     }
 }

@@ -9,7 +9,7 @@ ghost use Rattle.nr_script.specs.Commands.{script_command, is_name_byte, key, re
 ghost use Rattle.nr_text.specs.Grammar.{words, number, filling, filling_as, updating};
 ghost use Rattle.nr_text.specs.Words.{words_left};
 
-use nr_text::{Given, GivenBatch, GivenRows, Opening, Words, batch, number, set};
+use nr_text::{GivenBatch, GivenRows, LineRoom, Opening, Words, batch, number, set};
 use std::marker::Model;
 
 /// The word that stands for a key.
@@ -110,7 +110,7 @@ pub(crate) enum Command<'a> {
 
 /// The command of a line, or none where it doesn't fit the grammar. A set or a batch that the line
 /// gives is put into the room for it.
-pub(crate) fn parse<'a>(line: &'a [u8], given: &'a mut Given) -> Option<Command<'a>>
+pub(crate) fn parse<'a>(line: &'a [u8], given: &'a mut LineRoom) -> Option<Command<'a>>
     ensures { result ≡ script_command (words line.now) }
 {
     let mut words = Words::new(line);
@@ -227,7 +227,7 @@ fn is_name(word: &[u8]) -> bool
 
 fn key_and_rows<'a>(
     mut words: Words<'a>,
-    given: &'a mut Given,
+    given: &'a mut LineRoom,
 ) -> Option<(KeyWord<'a>, GivenRows<'a>)>
     ensures { (made : List ℕ → Result (List Row) TooMany → Command) → filling key made (words_left words.entry) ≡ option_map (λ found. made found.0 found.1) result }
 {
@@ -236,7 +236,7 @@ fn key_and_rows<'a>(
     Some((key, rows))
 }
 
-fn filling_as<'a>(mut words: Words<'a>, given: &'a mut Given) -> Option<Command<'a>>
+fn filling_as<'a>(mut words: Words<'a>, given: &'a mut LineRoom) -> Option<Command<'a>>
     ensures { result ≡ filling_as key FillAs (words_left words.entry) }
 {
     let word = words.next()?;
@@ -247,7 +247,7 @@ fn filling_as<'a>(mut words: Words<'a>, given: &'a mut Given) -> Option<Command<
     Some(Command::FillAs { key, number, rows })
 }
 
-fn updating<'a>(mut words: Words<'a>, given: &'a mut Given) -> Option<Command<'a>>
+fn updating<'a>(mut words: Words<'a>, given: &'a mut LineRoom) -> Option<Command<'a>>
     ensures { result ≡ updating key Update (words_left words.entry) }
 {
     let key = key(words.next()?)?;

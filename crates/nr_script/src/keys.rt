@@ -3,7 +3,7 @@ ghost use Rattle.std.specs.Prelude.{◌≡◌, ◌<◌, ◌≤◌, IfOk, OnOk, O
 ghost use Rattle.nr_lines.specs.Dialogue.{IsOutcome};
 ghost use Rattle.nr_script.specs.Opened.{NamesFit, adds_key, key_for_reader, keys_opened, name_error, numbered_key};
 
-use crate::answer::Refusal;
+use crate::answer::ScriptRefusal;
 use crate::command::KeyWord;
 use nr_lines::LineError;
 use nr_names::{NameFault, NameTable};
@@ -39,8 +39,8 @@ impl Keys {
         &mut self,
         count: u32,
         word: &KeyWord<'_>,
-        reader: Result<(), Refusal>,
-    ) -> Result<u32, LineError<Refusal>>
+        reader: Result<(), ScriptRefusal>,
+    ) -> Result<u32, LineError<ScriptRefusal>>
         requires { NamesFit self.old count }
         ensures found { IsOutcome (key_for_reader reader self.old count word.now) (adds_key self.old word.now) result self.new }
         ensures reader { OnOk result (reader ≡ Ok tt) }
@@ -49,7 +49,7 @@ impl Keys {
     {
         match self {
             Keys::Numbered => {
-                let number = word.number().ok_or(Refusal::Bad)?;
+                let number = word.number().ok_or(ScriptRefusal::Bad)?;
                 reader?;
                 Ok(numbered_key(count, number)?)
             }
@@ -61,25 +61,25 @@ impl Keys {
     }
 }
 
-fn numbered_key(count: u32, number: u64) -> Result<u32, Refusal>
+fn numbered_key(count: u32, number: u64) -> Result<u32, ScriptRefusal>
     ensures found { result ≡ numbered_key count (Some number) }
     ensures within { IfOk result (λ key. key < count) }
 {
     if number < u64::from(count) {
         Ok(number as u32)
     } else {
-        Err(Refusal::NoKey)
+        Err(ScriptRefusal::NoKey)
     }
 }
 
 // A word is never empty, so nothing else comes of a name.
-fn name_error(fault: NameFault) -> LineError<Refusal>
+fn name_error(fault: NameFault) -> LineError<ScriptRefusal>
     ensures { result ≡ name_error fault }
 {
     match fault {
-        NameFault::TooLong => LineError::Refused(Refusal::TooLong),
-        NameFault::Full => LineError::Refused(Refusal::Full),
+        NameFault::TooLong => LineError::Refused(ScriptRefusal::TooLong),
+        NameFault::Full => LineError::Refused(ScriptRefusal::Full),
         NameFault::Memory => LineError::Memory,
-        NameFault::Empty | NameFault::NoName => LineError::Refused(Refusal::Bad),
+        NameFault::Empty | NameFault::NoName => LineError::Refused(ScriptRefusal::Bad),
     }
 }

@@ -5,23 +5,23 @@ ghost use Rattle.nr_script.specs.Commands.{script_command};
 ghost use Rattle.nr_script.specs.Machine.{answer_script_line, answer_closed_script, takes_memory};
 ghost use Rattle.nr_text.specs.Grammar.{words};
 
-use crate::answer::{AnswerWord, Refusal};
+use crate::answer::{AnswerWord, ScriptRefusal};
 use crate::command::{Command, parse};
 use crate::opened::Opened;
 use nr_alone::Answer;
-use nr_lines::{LineError, Machine, RunFault, set_text};
+use nr_lines::{LineError, Responder, RunFault, set_text};
 use nr_model::RowSet;
-use nr_text::Given;
+use nr_text::LineRoom;
 use std::alloc::Global;
 
 /// A script's state. It begins closed. It can't be dropped: its map must be closed.
 pub(crate) struct ScriptMachine {
     opened: Option<Opened>,
-    given: Given,
+    given: LineRoom,
     found: RowSet,
 }
 
-impl Machine for ScriptMachine {
+impl Responder for ScriptMachine {
     ghost use Rattle.std.specs.Prelude.{string_bytes};
     ghost use Rattle.std.specs.Prelude.{◌^◌};
     ghost use Rattle.nr_script.specs.Machine.{script_state};
@@ -65,7 +65,7 @@ impl ScriptMachine {
     {
         ScriptMachine {
             opened: None,
-            given: Given::new(),
+            given: LineRoom::new(),
             found: RowSet::new(),
         }
     }
@@ -89,12 +89,12 @@ fn answer_plain<'a>(
     opened: &mut Option<Opened>,
     alloc: Global,
     line: &[u8],
-    given: &mut Given,
+    given: &mut LineRoom,
     found: &'a mut RowSet,
-) -> Result<Answer<'a>, LineError<Refusal>>
+) -> Result<Answer<'a>, LineError<ScriptRefusal>>
     ensures { IsOutcome (answer_script_line opened.old line.now) (takes_memory opened.old (script_command (words line.now))) result opened.new }
 {
-    let command = parse(line, given).ok_or(Refusal::Bad)?;
+    let command = parse(line, given).ok_or(ScriptRefusal::Bad)?;
     match opened {
         Some(script) => script.answer(&command, found),
         None => open(opened, alloc, &command),
@@ -106,15 +106,15 @@ fn open(
     opened: &mut Option<Opened>,
     alloc: Global,
     command: &Command<'_>,
-) -> Result<Answer<'static>, LineError<Refusal>>
+) -> Result<Answer<'static>, LineError<ScriptRefusal>>
     requires { opened.old ≡ None }
     ensures { IsOutcome (answer_closed_script command.now) (takes_memory opened.old (Some command.now)) result opened.new }
 {
     let Command::Open { named, sizes } = command else {
-        return Err(LineError::Refused(Refusal::Closed));
+        return Err(LineError::Refused(ScriptRefusal::Closed));
     };
     if !sizes.is_in_limits() {
-        return Err(LineError::Refused(Refusal::Bad));
+        return Err(LineError::Refused(ScriptRefusal::Bad));
     }
     let script = Opened::open(alloc, *named, sizes)?;
     match opened.replace(script) {

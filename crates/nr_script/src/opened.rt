@@ -8,7 +8,7 @@ ghost use Rattle.nr_script.specs.declared.command.Command.TheVariants as command
 ghost use Rattle.nr_text.specs.Opening.{is_in_limits};
 ghost use Rattle.nr_script.specs.Opened.{AnswersCommand, adds_key, answer_opened_script, called, found_by_reader, found_key, found_reader, found_set, script_has_reader, with_found};
 
-use crate::answer::Refusal;
+use crate::answer::ScriptRefusal;
 use crate::command::{Command, KeyWord};
 use crate::keys::Keys;
 use nr_alone::{Alone, Answer, WriterCall};
@@ -67,11 +67,11 @@ impl Opened {
         &mut self,
         command: &Command<'_>,
         found: &'a mut RowSet,
-    ) -> Result<Answer<'a>, LineError<Refusal>>
+    ) -> Result<Answer<'a>, LineError<ScriptRefusal>>
         ensures { AnswersCommand self.old command.now result self.new }
     {
         match command {
-            Command::Open { .. } => Err(LineError::Refused(Refusal::Bad)),
+            Command::Open { .. } => Err(LineError::Refused(ScriptRefusal::Bad)),
             Command::Find { reader, key } => self.find(*reader, key, found),
             Command::Ask { reader, key } => self.ask(*reader, key),
             Command::Fill { key, rows } => self.fill_by_own(key, rows, found),
@@ -106,7 +106,7 @@ impl Opened {
         word: &KeyWord<'_>,
         rows: &GivenRows<'_>,
         found: &'a mut RowSet,
-    ) -> Result<Answer<'a>, LineError<Refusal>>
+    ) -> Result<Answer<'a>, LineError<ScriptRefusal>>
         ensures { AnswersCommand self.old (command.Fill word.now rows.now) result self.new }
     {
         let key = self.key(word)?;
@@ -121,7 +121,7 @@ impl Opened {
         number: u64,
         rows: &GivenRows<'_>,
         found: &'a mut RowSet,
-    ) -> Result<Answer<'a>, LineError<Refusal>>
+    ) -> Result<Answer<'a>, LineError<ScriptRefusal>>
         ensures { AnswersCommand self.old (command.FillAs word.now number rows.now) result self.new }
     {
         let key = self.key(word)?;
@@ -135,13 +135,13 @@ impl Opened {
         number: u64,
         rows: &GivenRows<'_>,
         found: &'a mut RowSet,
-    ) -> Result<Answer<'a>, Refusal>
+    ) -> Result<Answer<'a>, ScriptRefusal>
         requires key { key < key_count self.old.state.map }
         ensures { with_found (found_set self.old rows.now, self.old) (λ rows fits. called fits (model.Fill key number rows)) ≡ (result, self.new) }
     {
         match rows.within(self.map.rows()) {
             Some(rows) => Ok(self.call(&WriterCall::Fill(key, number, rows), found)),
-            None => Err(Refusal::TooMany),
+            None => Err(ScriptRefusal::TooMany),
         }
     }
 
@@ -151,12 +151,12 @@ impl Opened {
         word: &KeyWord<'_>,
         rows: &GivenRows<'_>,
         found: &'a mut RowSet,
-    ) -> Result<Answer<'a>, LineError<Refusal>>
+    ) -> Result<Answer<'a>, LineError<ScriptRefusal>>
         ensures { AnswersCommand self.old (command.Replace word.now rows.now) result self.new }
     {
         let key = self.key(word)?;
         let Some(rows) = rows.within(self.map.rows()) else {
-            return Err(LineError::Refused(Refusal::TooMany));
+            return Err(LineError::Refused(ScriptRefusal::TooMany));
         };
         Ok(self.call(&WriterCall::Replace(key, rows), found))
     }
@@ -175,14 +175,14 @@ impl Opened {
         reader: u64,
         word: &KeyWord<'_>,
         found: &'a mut RowSet,
-    ) -> Result<Answer<'a>, LineError<Refusal>>
+    ) -> Result<Answer<'a>, LineError<ScriptRefusal>>
         ensures { AnswersCommand self.old (command.Find reader word.now) result self.new }
     {
         let key = self.key_by_reader(reader, word)?;
         Ok(
             self.map
                 .find(place(reader), key, found)
-                .map_err(Refusal::from)?,
+                .map_err(ScriptRefusal::from)?,
         )
     }
 
@@ -190,25 +190,33 @@ impl Opened {
         &mut self,
         reader: u64,
         word: &KeyWord<'_>,
-    ) -> Result<Answer<'static>, LineError<Refusal>>
+    ) -> Result<Answer<'static>, LineError<ScriptRefusal>>
         ensures { AnswersCommand self.old (command.Ask reader word.now) result self.new }
     {
         let key = self.key_by_reader(reader, word)?;
-        Ok(self.map.ask(place(reader), key).map_err(Refusal::from)?)
+        Ok(
+            self.map
+                .ask(place(reader), key)
+                .map_err(ScriptRefusal::from)?,
+        )
     }
 
     fn pin(
         &mut self,
         reader: u64,
         word: &KeyWord<'_>,
-    ) -> Result<Answer<'static>, LineError<Refusal>>
+    ) -> Result<Answer<'static>, LineError<ScriptRefusal>>
         ensures { AnswersCommand self.old (command.Pin reader word.now) result self.new }
     {
         let key = self.key_by_reader(reader, word)?;
-        Ok(self.map.pin(place(reader), key).map_err(Refusal::from)?)
+        Ok(
+            self.map
+                .pin(place(reader), key)
+                .map_err(ScriptRefusal::from)?,
+        )
     }
 
-    fn show<'a>(&mut self, reader: u64, found: &'a mut RowSet) -> Result<Answer<'a>, Refusal>
+    fn show<'a>(&mut self, reader: u64, found: &'a mut RowSet) -> Result<Answer<'a>, ScriptRefusal>
         ensures { answer_opened_script self.old (command.Show reader) ≡ (result, self.new) }
     {
         self.check_reader(reader)?;
@@ -220,18 +228,18 @@ impl Opened {
         reader: u64,
         word: &KeyWord<'_>,
         found: &'a mut RowSet,
-    ) -> Result<Answer<'a>, LineError<Refusal>>
+    ) -> Result<Answer<'a>, LineError<ScriptRefusal>>
         ensures { AnswersCommand self.old (command.Again reader word.now) result self.new }
     {
         let key = self.key_by_reader(reader, word)?;
         Ok(
             self.map
                 .again(place(reader), key, found)
-                .map_err(Refusal::from)?,
+                .map_err(ScriptRefusal::from)?,
         )
     }
 
-    fn unpin(&mut self, reader: u64) -> Result<Answer<'static>, Refusal>
+    fn unpin(&mut self, reader: u64) -> Result<Answer<'static>, ScriptRefusal>
         ensures { answer_opened_script self.old (command.Unpin reader) ≡ (result, self.new) }
     {
         self.check_reader(reader)?;
@@ -239,7 +247,7 @@ impl Opened {
     }
 
     /// The key that a word stands for. A name that is new gets the next number.
-    fn key(&mut self, word: &KeyWord<'_>) -> Result<u32, LineError<Refusal>>
+    fn key(&mut self, word: &KeyWord<'_>) -> Result<u32, LineError<ScriptRefusal>>
         ensures found { IsOutcome (found_key self.old word.now) (adds_key self.old.keys word.now) result self.new }
         ensures within { IfOk result (λ key. key < key_count self.new.state.map) }
         ensures kept { self.new ≡ record self.old { keys = self.new.keys } }
@@ -249,7 +257,11 @@ impl Opened {
     }
 
     /// The same, for a reader.
-    fn key_by_reader(&mut self, reader: u64, word: &KeyWord<'_>) -> Result<u32, LineError<Refusal>>
+    fn key_by_reader(
+        &mut self,
+        reader: u64,
+        word: &KeyWord<'_>,
+    ) -> Result<u32, LineError<ScriptRefusal>>
         ensures found { IsOutcome (found_by_reader self.old reader word.now) (adds_key self.old.keys word.now) result self.new }
         ensures key { IfOk result (λ key. key < key_count self.new.state.map) }
         ensures reader { OnOk result ((0 < reader) × (reader ≤ length self.new.state.pins)) }
@@ -266,14 +278,14 @@ impl Opened {
         0 < reader && reader <= u64::from(self.map.readers())
     }
 
-    fn check_reader(&self, reader: u64) -> Result<(), Refusal>
+    fn check_reader(&self, reader: u64) -> Result<(), ScriptRefusal>
         ensures found { result ≡ found_reader self.now reader }
         ensures within { OnOk result ((0 < reader) × (reader ≤ length self.now.state.pins)) }
     {
         if self.has_reader(reader) {
             Ok(())
         } else {
-            Err(Refusal::NoReader)
+            Err(ScriptRefusal::NoReader)
         }
     }
 }

@@ -8,15 +8,15 @@ use std::marker::Model;
 
 /// The room for the set and the batch of one line after another.
 #[derive(Drop)]
-pub struct Given {
+pub struct LineRoom {
     rows: Result<RowSet, TooMany>,
     batch: Option<Batch>,
 }
 
-impl Given {
+impl LineRoom {
     /// Room, with nothing of a line in it.
-    pub fn new() -> Given {
-        Given {
+    pub fn new() -> LineRoom {
+        LineRoom {
             rows: Ok(RowSet::new()),
             batch: None,
         }

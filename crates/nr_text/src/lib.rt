@@ -9,7 +9,7 @@ mod rows;
 mod spelling;
 mod words;
 
-pub use given::{Given, GivenBatch, GivenRows};
+pub use given::{GivenBatch, GivenRows, LineRoom};
 pub use limits::{MAX_KEYS, MAX_NUMBER, MAX_READERS, MAX_ROWS, MAX_SLOTS};
 pub use opening::Opening;
 pub use rows::{batch, set, within};

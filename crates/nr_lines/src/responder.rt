@@ -13,7 +13,7 @@ use std::alloc::Global;
 use std::io::{Read, Write};
 
 /// Answers plain lines, one after another.
-pub trait Machine {
+pub trait Responder {
     // What its replies depend on.
     ghost State: { Type 0 };
 
@@ -41,20 +41,20 @@ pub trait Machine {
         ensures fault { IfErr result (λ fault. fault ≡ RunFault.Memory) };
 }
 
-/// Sets the text to the reply to any line: `bad` where it isn't plain, else the machine's.
-fn reply_to<M: Machine>(
+/// Sets the text to the reply to any line: `bad` where it isn't plain, else the responder's.
+fn reply_to<M: Responder>(
     alloc: Global,
-    machine: &mut M,
+    responder: &mut M,
     line: &Line,
     reply: &mut String,
 ) -> Result<(), RunFault>
-    requires { 0 < M.lines_left machine.old }
-    ensures reply { OnOk result ((bytes : List ℕ) → StandsFor line.now bytes → or_bad M.answer (M.state_of machine.old) bytes ≡ (string_bytes reply.new, M.state_of machine.new)) }
-    ensures left { OnOk result (M.lines_left machine.old ≤ M.lines_left machine.new + 1) }
+    requires { 0 < M.lines_left responder.old }
+    ensures reply { OnOk result ((bytes : List ℕ) → StandsFor line.now bytes → or_bad M.answer (M.state_of responder.old) bytes ≡ (string_bytes reply.new, M.state_of responder.new)) }
+    ensures left { OnOk result (M.lines_left responder.old ≤ M.lines_left responder.new + 1) }
     ensures fault { IfErr result (λ fault. fault ≡ RunFault.Memory) }
 {
     if let Some(text) = line.plain() {
-        return machine.answer_line(alloc, text, reply);
+        return responder.answer_line(alloc, text, reply);
     }
     reply.clear();
     reply.push_str("bad").map_err(|_| RunFault::Memory)
@@ -65,15 +65,15 @@ fn reply_to<M: Machine>(
 ///
 /// Ends early where a read fails, where a write fails or takes nothing, where memory is refused for
 /// a reply, and where the input goes on past its limit.
-pub fn serve<M: Machine, R: Read, W: Write>(
+pub fn serve<M: Responder, R: Read, W: Write>(
     alloc: Global,
     limit: u64,
-    machine: &mut M,
+    responder: &mut M,
     reader: &mut R,
     writer: &mut W,
 ) -> Result<(), RunFault>
-    requires { limit < M.lines_left machine.old }
-    ensures { Runs (text (or_bad M.answer) (M.state_of machine.old)) limit result (R.remaining reader.old) (R.remaining reader.new) (W.contents writer.old) (W.contents writer.new) }
+    requires { limit < M.lines_left responder.old }
+    ensures { Runs (text (or_bad M.answer) (M.state_of responder.old)) limit result (R.remaining reader.old) (R.remaining reader.new) (W.contents writer.old) (W.contents writer.new) }
 {
     let mut input = Input::new(limit);
     let mut line = Line::new();
@@ -83,7 +83,7 @@ pub fn serve<M: Machine, R: Read, W: Write>(
         if let LineEnd::NoLine = end {
             return Ok(());
         }
-        reply_to(alloc, machine, &line, &mut reply)?;
+        reply_to(alloc, responder, &line, &mut reply)?;
         send(&mut reply, writer)?;
         if let LineEnd::InputEnd = end {
             return Ok(());
