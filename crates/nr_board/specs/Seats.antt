@@ -2,7 +2,6 @@
 use Rattle.std.specs.Prelude.{◌≡◌, ℕ}
 use Rattle.atomic_table.specs.declared.shared.Seat.{Seat}
 use Rattle.nr_machine.specs.Slots.{content}
-use Rattle.nr_machine.specs.declared.shape.Shape.{Shape}
 use Rattle.nr_board.specs.Views.{View, slot_held}
 use Rattle.nr_board.specs.Callers.{Table, token}
 use Rattle.nr_board.specs.Plays.{Holds, IsIdle}
