@@ -11,13 +11,13 @@ const ONE: [Row; 1] = [Row { a: 7, b: 1 }];
 
 #[derive(Drop)]
 pub struct GivenBack {
-    given: Option<Given>,
+    given: Option<ThreePuts>,
     came: [bool; 3],
     last: Pile,
 }
 
 #[derive(Drop)]
-struct Given {
+struct ThreePuts {
     filled: Result<Reclaimed, FillFault>,
     changed: Result<Reclaimed, UpdateFault>,
     replaced: Result<Reclaimed, ReplaceFault>,
@@ -38,7 +38,7 @@ fn take_out(mut remains: Remains) -> ([bool; 3], Pile) {
 // Two calls take slots that were never taken. The third takes the fill's, whose set the update replaced:
 // nobody holds it any more, and what its rows refer to may be freed. The update's own set waits in its
 // slot then, and a reap gives it out.
-fn put_three(map: &ReaderMap, writer: &mut Writer) -> Option<Given>
+fn put_three(map: &ReaderMap, writer: &mut Writer) -> Option<ThreePuts>
     requires own { writer.old.table ≡ map.now }
     requires key { 0 < map.now.shape.keys }
     ensures { writer.new.table ≡ map.now }
@@ -53,7 +53,7 @@ fn put_three(map: &ReaderMap, writer: &mut Writer) -> Option<Given>
     let replaced = map.replace_reclaiming(writer, 0, &ONE, &mut had);
     let mut waited = Pile::new();
     let reaped = map.reap(writer, &mut waited);
-    Some(Given {
+    Some(ThreePuts {
         filled,
         changed,
         replaced,
@@ -81,7 +81,7 @@ pub fn show<R: Print>(rt: &R, told: &GivenBack) -> io::Result<()> {
         return Ok(());
     };
     println!(rt;
-        "Given back\n  a fill: {:?}\n  an update: {:?}\n  a replacement: {:?}: {:?}\n  a reap: {:?}: {:?}\n  at the end: {:?}, the last {:?}",
+        "ThreePuts back\n  a fill: {:?}\n  an update: {:?}\n  a replacement: {:?}: {:?}\n  a reap: {:?}: {:?}\n  at the end: {:?}, the last {:?}",
         given.filled,
         given.changed,
         given.replaced,
