@@ -21,5 +21,12 @@ gives_more first mid last count a b = record {
   board = b.board ∙ a.board;
   begin = b.begin ∙ a.begin;
   marks = b.marks ∙ a.marks;
-  rests = record { table = b.rests.table ∙ a.rests.table; number = b.rests.number ∙ a.rests.number; seen = b.rests.seen ∙ a.rests.seen; mine = b.rests.mine ∙ a.rests.mine; steps_made = b.rests.steps_made ∙ omega (arith, a.rests.steps_made); pasts = b.rests.pasts ∙ a.rests.pasts };
+  rests = record {
+    table = b.rests.table ∙ a.rests.table;
+    number = b.rests.number ∙ a.rests.number;
+    seen = b.rests.seen ∙ a.rests.seen;
+    mine = b.rests.mine ∙ a.rests.mine;
+    steps_made = b.rests.steps_made ∙ omega (arith, a.rests.steps_made);
+    pasts = b.rests.pasts ∙ a.rests.pasts;
+  };
 }

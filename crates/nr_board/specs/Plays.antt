@@ -184,10 +184,18 @@ abbrev pub SwapsOrPuts : Bool → Shape → ℕ → ℕ → List Entry → Marks
 SwapsOrPuts true shape at found log marks = Unit {0}
 SwapsOrPuts false shape at found log marks = SwapsAt shape at found log marks
 
+-- with the word found, the words read begin those of the rows
+abbrev pub ReadsMore : List ℕ → ℕ → List Row → Type 0
+ReadsMore got found rows = got ++ found ∷ [] ≡ take (length got + 1) (encode rows)
+
+-- after that history the key is filled with the rows, under that number
+abbrev pub IsFilled : Shape → List Entry → ℕ → ℕ → List Row → Type 0
+IsFilled shape log key number rows = state_of (map_after shape log) key ≡ states.Rows number rows
+
 -- what a later step finds after that history: a read goes on with the words of the key's set
 abbrev pub Finds : Shape → Place → ℕ → List Entry → Marks → Type 0
 Finds shape Idle found log marks = Unit {0}
-Finds shape (Reading call slot got) found log marks = (rows : List Row) × IsRowSet (bound_of shape) rows × (got ++ found ∷ [] ≡ take (length got + 1) (encode rows)) × (length got ≤ 2 * length rows) × (number : ℕ) × (state_of (map_after shape log) (key_of call) ≡ states.Rows number rows)
+Finds shape (Reading call slot got) found log marks = (rows : List Row) × IsRowSet (bound_of shape) rows × ReadsMore got found rows × (length got ≤ 2 * length rows) × (number : ℕ) × IsFilled shape log (key_of call) number rows
 Finds shape (Leaving key) found log marks = SwapsAt shape key found log marks
 Finds shape (Withdrawing key) found log marks = SwapsAt shape key found log marks
 Finds shape (Searching call rows poll) found log marks = Unit {0}

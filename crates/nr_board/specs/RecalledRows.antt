@@ -20,7 +20,13 @@ gives_none source = record { name = refl; board = refl; slot = refl; own = refl;
     none = omega arith
 
 pub gives_more : (first mid last : Recalled) (count : ℕ) → Gave first count mid → Gave mid 1 last → Gave first (count + 1) last
-gives_more first mid last count a b = record { name = b.name ∙ a.name; board = b.board ∙ a.board; slot = b.slot ∙ a.slot; own = b.own ∙ a.own; waits = b.waits ∙ (λ j. waited (2 * 1) (a.waits j)) ∙ (λ j. record first.seat.now.me.0 { steps = sum j }) }
+gives_more first mid last count a b = record {
+  name = b.name ∙ a.name;
+  board = b.board ∙ a.board;
+  slot = b.slot ∙ a.slot;
+  own = b.own ∙ a.own;
+  waits = b.waits ∙ (λ j. waited (2 * 1) (a.waits j)) ∙ (λ j. record first.seat.now.me.0 { steps = sum j });
+}
   where
     sum : first.seat.now.me.0.steps + 2 * count + 2 * 1 ≡ first.seat.now.me.0.steps + 2 * (count + 1)
     sum = omega arith

@@ -3,12 +3,13 @@ use Rattle.std.specs.Prelude.{◌≡◌, ℕ, ◌+◌, ◌*◌, ◌<◌, ◌≤�
 use Rattle.nr_model.specs.Batches.{applied}
 use Rattle.nr_model.specs.Rows.{IsRowSet}
 use Rattle.nr_model.specs.declared.batches.Delta.{Delta}
+use Rattle.nr_model.specs.declared.calls.Call.{Call}
 use Rattle.nr_model.specs.declared.calls.Call.TheVariants as model
 use Rattle.nr_model.specs.declared.rows.Row.{Row}
 use Rattle.nr_machine.specs.Spares.{Spare}
 use Rattle.nr_machine.specs.declared.calls.NoSlot.{NoSlot}
 use Rattle.nr_machine.specs.declared.calls.WriterCall.{WriterCall}
-use Rattle.nr_marks.specs.Marks.{set_in}
+use Rattle.nr_marks.specs.Marks.{Marks, set_in}
 use Rattle.nr_board.specs.declared.answers.FillFault.{FillFault}
 use Rattle.nr_board.specs.declared.answers.Reclaimed.{Reclaimed}
 use Rattle.nr_board.specs.declared.answers.Reclaimed.TheVariants as reclaimed
@@ -27,24 +28,39 @@ module _ {Room : Type 0} (shows : Room → List Row → Type 0) where
   HandsOut bound spare slot set before after steps reclaimed.Set = (spare.slots ≤ spare.fresh) × (slice_index_or spare.reaped slot false ≡ false) × (steps ≡ 2 * length set + 1) × shows after set × IsRowSet bound set
   HandsOut bound spare slot set before after steps reclaimed.Nothing = ((spare.fresh < spare.slots) ⊎ (slice_index_or spare.reaped slot false ≡ true)) × (steps ≡ 0) × (after ≡ before)
 
+  -- the same, by the set that the slot had as the writer knows it before the call
+  abbrev pub HandsOutAt : Table → Spare → Marks → ℕ → Room → Room → ℕ → Reclaimed → Type 0
+  HandsOutAt table spare marks slot before after steps given = HandsOut table.shape.rows spare slot (set_in marks slot) before after steps given
+
   -- the search for a slot, as it stands after those steps
   abbrev pub TakesReclaiming : Table → WriterCall → List Row → Spare → Spare → MapSeat → MapSeat → Room → Room → Result (Taken × Reclaimed) NoSlot → Type 0
-  TakesReclaiming table call rows spare after old new room then (Ok taken) = (steps : ℕ) × TakesSlot table call rows taken.0.slot taken.0.departures spare after (later steps old) new × HandsOut table.shape.rows spare taken.0.slot (set_in old.me.0.marks taken.0.slot) room then steps taken.1
+  TakesReclaiming table call rows spare after old new room then (Ok taken) = (steps : ℕ) × TakesSlot table call rows taken.0.slot taken.0.departures spare after (later steps old) new
+      × HandsOutAt table spare old.me.0.marks taken.0.slot room then steps taken.1
   TakesReclaiming table call rows spare after old new room then (Err counts) = LacksSlot table call counts spare after old new × (then ≡ room)
 
   abbrev pub PublishesReclaiming : Table → WriterCall → List Row → Spare → Spare → MapSeat → MapSeat → Room → Room → Result Reclaimed NoSlot → Type 0
-  PublishesReclaiming table call rows spare after old new room then (Ok given) = (steps : ℕ) × (published : PublishesSet table call rows spare after (later steps old) new) × HandsOut table.shape.rows spare published.slot (set_in old.me.0.marks published.slot) room then steps given
+  PublishesReclaiming table call rows spare after old new room then (Ok given) = (steps : ℕ) × (published : PublishesSet table call rows spare after (later steps old) new)
+      × HandsOutAt table spare old.me.0.marks published.slot room then steps given
   PublishesReclaiming table call rows spare after old new room then (Err counts) = LacksSlot table call counts spare after old new × (then ≡ room)
 
-  -- A call that put its set and gave out what the slot had. A call that did not leaves the room as it was.
+  -- a call that put its set, besides that many other steps, and gave out what the slot had
+  abbrev pub PutsAndGives : ℕ → Caller → Call → List Row → Room → Caller → Room → Reclaimed → Type 0
+  PutsAndGives others old call rows room new then given = (steps : ℕ) × (published : Publishes (others + steps) old call rows new) × HandsOutAt old.table (spare_of old) old.marks published.slot room then steps given
+
+  -- A call that did not put its set leaves the room as it was.
   abbrev pub FillsReclaiming : ℕ → ℕ → List Row → Caller → Room → Caller → Room → Result Reclaimed FillFault → Type 0
-  FillsReclaiming key number rows old room new then (Ok given) = (steps : ℕ) × (published : Publishes (1 + steps) old (model.Fill key number rows) rows new) × HandsOut old.table.shape.rows (spare_of old) published.slot (set_in old.marks published.slot) room then steps given
+  FillsReclaiming key number rows old room new then (Ok given) = PutsAndGives 1 old (model.Fill key number rows) rows room new then given
   FillsReclaiming key number rows old room new then (Err fault) = FillsKey key number rows old new (Err fault) × (then ≡ room)
 
   abbrev pub ReplacesReclaiming : ℕ → List Row → Caller → Room → Caller → Room → Result Reclaimed ReplaceFault → Type 0
-  ReplacesReclaiming key rows old room new then (Ok given) = (steps : ℕ) × (published : Publishes (1 + steps) old (model.Replace key rows) rows new) × HandsOut old.table.shape.rows (spare_of old) published.slot (set_in old.marks published.slot) room then steps given
+  ReplacesReclaiming key rows old room new then (Ok given) = PutsAndGives 1 old (model.Replace key rows) rows room new then given
   ReplacesReclaiming key rows old room new then (Err fault) = ReplacesKey key rows old new (Err fault) × (then ≡ room)
 
+  -- an update that looked, read that set, made so many other steps and put the rows left
+  abbrev pub PublishesUpdate : ℕ → ℕ → List Delta → List Row → List Row → Caller → Caller → Type 0
+  PublishesUpdate steps key batch set left old new = Publishes (2 * length set + 2 + steps) old (model.Update key batch) left new
+
   abbrev pub UpdatesReclaiming : ℕ → ℕ → List Delta → Caller → Room → Caller → Room → Result Reclaimed UpdateFault → Type 0
-  UpdatesReclaiming bound key batch old room new then (Ok given) = (set left : List Row) × (applied bound set batch ≡ Ok left) × (steps : ℕ) × (published : Publishes (2 * length set + 2 + steps) old (model.Update key batch) left new) × KeyHad key set old published.gains.between × HandsOut old.table.shape.rows (spare_of old) published.slot (set_in old.marks published.slot) room then steps given
+  UpdatesReclaiming bound key batch old room new then (Ok given) = (set left : List Row) × (applied bound set batch ≡ Ok left) × (steps : ℕ) × (published : PublishesUpdate steps key batch set left old new)
+      × KeyHad key set old published.gains.between × HandsOutAt old.table (spare_of old) old.marks published.slot room then steps given
   UpdatesReclaiming bound key batch old room new then (Err fault) = UpdatesKey bound key batch old new (Err fault) × (then ≡ room)

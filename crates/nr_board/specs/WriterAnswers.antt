@@ -6,6 +6,7 @@ use Rattle.nr_model.specs.declared.batches.ApplyFault.TheVariants as fault
 use Rattle.nr_model.specs.declared.batches.Delta.{Delta}
 use Rattle.nr_model.specs.declared.calls.Call.{Call}
 use Rattle.nr_model.specs.declared.calls.Call.TheVariants as model
+use Rattle.nr_model.specs.declared.calls.Reply.{Reply}
 use Rattle.nr_model.specs.declared.calls.Reply.TheVariants as reply
 use Rattle.nr_model.specs.Batches.{applied}
 use Rattle.nr_model.specs.Histories.{Entry, after, entries_of}
@@ -29,7 +30,7 @@ use Rattle.nr_board.specs.Callers.{Caller, Gains, Grows, map_at_opening}
 use Rattle.nr_board.specs.Plays.{Lacks}
 use Rattle.nr_machine.specs.Spares.{Spare}
 use Rattle.nr_board.specs.Spares.{TookByPolls, spare_of}
-use Rattle.nr_marks.specs.Marks.{with_name, with_polls, without_name}
+use Rattle.nr_marks.specs.Marks.{Marks, with_name, with_polls, without_name}
 use Rattle.nr_marks.specs.Puts.{put_count}
 use Rattle.nr_marks.specs.PollNotes.{Noted}
 use Rattle.nr_board.specs.Polls.{AllHeldThen}
@@ -106,13 +107,21 @@ FillsKey key number rows old new (Err fill.Already) = Gains 1 old (model.Fill ke
 FillsKey key number rows old new (Err fill.Stale) = Gains 1 old (model.Fill key number rows) reply.Stale new × SlotsStay old new
 FillsKey key number rows old new (Err (fill.NoSlot counts)) = HasNoSlot 1 old (model.Fill key number rows) counts new
 
+-- an update that looked, read that set and was answered so
+abbrev pub GainsUpdate : ℕ → List Delta → List Row → Caller → Reply → Caller → Type 0
+GainsUpdate key batch set old answer new = Gains (2 * length set + 2) old (model.Update key batch) answer new
+
+-- an update that looked, read that set and found no slot
+abbrev pub UpdateHasNoSlot : ℕ → List Delta → List Row → Caller → NoSlot → Caller → Type 0
+UpdateHasNoSlot key batch set old counts new = HasNoSlot (2 * length set + 2) old (model.Update key batch) counts new
+
 -- an update looks, reads the set that the key has before the call's entry, and applies the batch to it
 abbrev pub UpdatesKey : ℕ → ℕ → List Delta → Caller → Caller → Result (Unit {0}) UpdateFault → Type 0
 UpdatesKey bound key batch old new (Ok done) = (set left : List Row) × (applied bound set batch ≡ Ok left) × (published : Publishes (2 * length set + 2) old (model.Update key batch) left new) × KeyHad key set old published.gains.between
 UpdatesKey bound key batch old new (Err update.Dropped) = Gains 1 old (model.Update key batch) reply.Dropped new × SlotsStay old new
-UpdatesKey bound key batch old new (Err update.NoRow) = (set : List Row) × (applied bound set batch ≡ Err fault.NoRow) × (gains : Gains (2 * length set + 2) old (model.Update key batch) reply.NoRow new) × KeyHad key set old gains.between × SlotsStay old new
-UpdatesKey bound key batch old new (Err update.TooMany) = (set : List Row) × (applied bound set batch ≡ Err fault.TooMany) × (gains : Gains (2 * length set + 2) old (model.Update key batch) reply.TooMany new) × KeyHad key set old gains.between × SlotsStay old new
-UpdatesKey bound key batch old new (Err (update.NoSlot counts)) = (set left : List Row) × (applied bound set batch ≡ Ok left) × (without : HasNoSlot (2 * length set + 2) old (model.Update key batch) counts new) × KeyHad key set old without.grows.between
+UpdatesKey bound key batch old new (Err update.NoRow) = (set : List Row) × (applied bound set batch ≡ Err fault.NoRow) × (gains : GainsUpdate key batch set old reply.NoRow new) × KeyHad key set old gains.between × SlotsStay old new
+UpdatesKey bound key batch old new (Err update.TooMany) = (set : List Row) × (applied bound set batch ≡ Err fault.TooMany) × (gains : GainsUpdate key batch set old reply.TooMany new) × KeyHad key set old gains.between × SlotsStay old new
+UpdatesKey bound key batch old new (Err (update.NoSlot counts)) = (set left : List Row) × (applied bound set batch ≡ Ok left) × (without : UpdateHasNoSlot key batch set old counts new) × KeyHad key set old without.grows.between
 
 -- a replacement looks, and reads nothing of the set that the key had
 abbrev pub ReplacesKey : ℕ → List Row → Caller → Caller → Result (Unit {0}) ReplaceFault → Type 0
@@ -120,13 +129,21 @@ ReplacesKey key rows old new (Ok done) = Publishes 1 old (model.Replace key rows
 ReplacesKey key rows old new (Err replace.Dropped) = Gains 1 old (model.Replace key rows) reply.Dropped new × SlotsStay old new
 ReplacesKey key rows old new (Err (replace.NoSlot counts)) = HasNoSlot 1 old (model.Replace key rows) counts new
 
+-- the marks after a swap without polls that leaves the key no slot
+abbrev pub after_unnaming : Marks → ℕ → Marks
+after_unnaming marks key = without_name (with_polls marks []) key
+
 -- an eviction retires the key's slot
 abbrev pub EvictsKey : ℕ → Caller → Caller → Evict → Type 0
-EvictsKey key old new evict.Evicted = Gains 2 old (model.Evict key) reply.Evicted new × (new.fresh ≡ old.fresh) × (new.numbers ≡ old.numbers) × RetiresOne key old old.retired new.retired × (new.marks ≡ without_name (with_polls old.marks []) key)
+EvictsKey key old new evict.Evicted = Gains 2 old (model.Evict key) reply.Evicted new × (new.fresh ≡ old.fresh) × (new.numbers ≡ old.numbers) × RetiresOne key old old.retired new.retired × (new.marks ≡ after_unnaming old.marks key)
 EvictsKey key old new evict.Nothing = Gains 1 old (model.Evict key) reply.Nothing new × SlotsStay old new
+
+-- the writer's slots and numbers, where the key has the next number
+abbrev pub with_next_number : Caller → ℕ → Spare
+with_next_number old key = record (spare_of old) { numbers = slice_set old.numbers key (slice_index old.numbers key + 1) }
 
 -- a cancel gives the key the next number; it retires no slot, and no key names another
 abbrev pub CancelsKey : ℕ → Caller → Caller → Cancel → Type 0
-CancelsKey key old new cancel.Cancelled = Gains 2 old (model.Cancel key) reply.Cancelled new × (spare_of new ≡ record (spare_of old) { numbers = slice_set old.numbers key (slice_index old.numbers key + 1) }) × (new.marks ≡ with_polls old.marks [])
+CancelsKey key old new cancel.Cancelled = Gains 2 old (model.Cancel key) reply.Cancelled new × (spare_of new ≡ with_next_number old key) × (new.marks ≡ with_polls old.marks [])
 CancelsKey key old new cancel.Nothing = Gains 1 old (model.Cancel key) reply.Nothing new × SlotsStay old new
 CancelsKey key old new cancel.Worn = Gains 1 old (model.Cancel key) reply.Worn new × SlotsStay old new

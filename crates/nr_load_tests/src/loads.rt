@@ -7,7 +7,7 @@ use std::thread;
 
 const LOOKS: u32 = 1_000_000;
 
-/// What a gate notes of one worker: the last turn in which it came, and the last that was answered.
+/// What a gate notes of one reader: the last get in which it came, and the last that was answered.
 #[derive(Drop)]
 struct Notes {
     came: AtomicU64,
@@ -23,7 +23,7 @@ impl Notes {
     }
 }
 
-/// Lets each of two workers pass once the other has come in the same turn, for which it looks within
+/// Lets each of two readers pass once the other has come in the same get, for which it looks within
 /// one call. After it once said no it lets nobody pass.
 #[derive(Drop)]
 struct Meeting {
@@ -41,9 +41,9 @@ impl Meeting {
         }
     }
 
-    fn is_there(notes: &Notes, turn: u64) -> bool {
+    fn is_there(notes: &Notes, get: u64) -> bool {
         for _ in 0..LOOKS {
-            if notes.came.load(Ordering::SeqCst) >= turn {
+            if notes.came.load(Ordering::SeqCst) >= get {
                 return true;
             }
             thread::yield_now();
@@ -51,43 +51,43 @@ impl Meeting {
         false
     }
 
-    /// Whether each turn up to that was answered once, in order.
-    fn are_answered(&self, turns: u64) -> bool {
+    /// Whether each get up to that was answered once, in order.
+    fn are_answered(&self, gets: u64) -> bool {
         !self.has_failed.load(Ordering::SeqCst)
-            && self.one.answered.load(Ordering::SeqCst) == turns
-            && self.two.answered.load(Ordering::SeqCst) == turns
+            && self.one.answered.load(Ordering::SeqCst) == gets
+            && self.two.answered.load(Ordering::SeqCst) == gets
     }
 }
 
 impl Gate for Meeting {
-    fn pass(&self, worker: u32, turn: u64) -> bool {
+    fn pass(&self, reader: u32, get: u64) -> bool {
         if self.has_failed.load(Ordering::SeqCst) {
             return false;
         }
-        let (own, other) = if worker == 1 {
+        let (own, other) = if reader == 1 {
             (&self.one, &self.two)
         } else {
             (&self.two, &self.one)
         };
-        own.came.store(turn, Ordering::SeqCst);
-        if Meeting::is_there(other, turn) {
+        own.came.store(get, Ordering::SeqCst);
+        if Meeting::is_there(other, get) {
             return true;
         }
         self.has_failed.store(true, Ordering::SeqCst);
         false
     }
 
-    fn answered(&self, worker: u32, turn: u64) {
-        let own = if worker == 1 { &self.one } else { &self.two };
-        let before = own.answered.swap(turn, Ordering::SeqCst);
-        if before.checked_add(1) != Some(turn) {
+    fn answered(&self, reader: u32, get: u64) {
+        let own = if reader == 1 { &self.one } else { &self.two };
+        let before = own.answered.swap(get, Ordering::SeqCst);
+        if before.checked_add(1) != Some(get) {
             self.has_failed.store(true, Ordering::SeqCst);
         }
     }
 }
 
 #[test]
-fn two_workers_meet_in_one_get(rt: HostRuntime) -> Result<(), Fail> {
+fn two_readers_meet_in_one_get(rt: HostRuntime) -> Result<(), Fail> {
     let meeting = Meeting::new();
     let plan = Plan {
         seed: 1,
@@ -109,7 +109,7 @@ fn two_workers_meet_in_one_get(rt: HostRuntime) -> Result<(), Fail> {
 }
 
 #[test]
-fn two_workers_meet_in_each_of_fifty_gets(rt: HostRuntime) -> Result<(), Fail> {
+fn two_readers_meet_in_each_of_fifty_gets(rt: HostRuntime) -> Result<(), Fail> {
     let meeting = Meeting::new();
     let plan = Plan {
         seed: 3,
@@ -143,12 +143,12 @@ fn four_readers_share_eight_keys(rt: HostRuntime) -> Result<(), Fail> {
 struct Yielding;
 
 impl Gate for Yielding {
-    fn pass(&self, _worker: u32, _turn: u64) -> bool {
+    fn pass(&self, _reader: u32, _get: u64) -> bool {
         thread::yield_now();
         true
     }
 
-    fn answered(&self, _worker: u32, _turn: u64) {}
+    fn answered(&self, _reader: u32, _get: u64) {}
 }
 
 /// Each fourth of the fills is evicted again, so there are at most ten of eight keys: two evictions
@@ -219,11 +219,11 @@ fn a_thousand_readers_on_one_key(rt: HostRuntime) -> Result<(), Fail> {
 struct ShutGate;
 
 impl Gate for ShutGate {
-    fn pass(&self, _worker: u32, _turn: u64) -> bool {
+    fn pass(&self, _reader: u32, _get: u64) -> bool {
         false
     }
 
-    fn answered(&self, _worker: u32, _turn: u64) {}
+    fn answered(&self, _reader: u32, _get: u64) {}
 }
 
 #[test]

@@ -12,15 +12,15 @@ pub record ClientSeen (G : Type 0) : Type 0 where
   pub map : Table
   pub queue : Queue
   pub gate : G
-  -- the number by which the gate is told of it
-  pub worker : ℕ
+  -- its reader's number, by which the gate is told of it
+  pub reader : ℕ
   -- what it was opened with
   pub opened : Hands
   pub hands : Hands
   -- what it has seen of the lobby, and did there
   pub guest : GuestSeen
   -- how many gets it has made, up to the last number
-  pub turns : ℕ
+  pub gets : ℕ
 
 -- the calls that the reader made since then
 abbrev pub since : Hands → Hands → List Entry

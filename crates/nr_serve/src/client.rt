@@ -28,7 +28,7 @@ pub struct Client<'a, G> {
     places: Places<'a, G>,
     lobby: Watched<'a>,
     hands: Option<Hands>,
-    turns: u64,
+    gets: u64,
     opened: Snapshot<Hands>,
 }
 
@@ -38,7 +38,16 @@ impl<'a, G> Model for Client<'a, G> {
 
     ghost Value = { ClientSeen G };
 
-    ghost view = { λ client. record { map = client.places.map.now; queue = client.places.triggers.now; gate = client.places.gate.now; worker = client.places.worker; opened = client.opened.value; hands = unwrap_or client.hands client.opened.value; guest = client.lobby; turns = client.turns } };
+    ghost view = { λ client. record {
+      map = client.places.map.now;
+      queue = client.places.triggers.now;
+      gate = client.places.gate.now;
+      reader = client.places.reader;
+      opened = client.opened.value;
+      hands = unwrap_or client.hands client.opened.value;
+      guest = client.lobby;
+      gets = client.gets;
+    } };
 
     ghost invariant = { λ client. IsSome client.hands × IsServing client.places.map.now client.places.triggers.now client.opened.value (unwrap_or client.hands client.opened.value) };
 }
@@ -46,8 +55,7 @@ impl<'a, G> Model for Client<'a, G> {
 impl<'a, G: Gate> Client<'a, G> {
     ghost use Rattle.nr_serve.specs.Gates.{AsksGate};
 
-    /// A client of a map and a queue that takes the tickets of all keys of the map. Its worker
-    /// number is its reader's.
+    /// A client of a map and a queue that takes the tickets of all keys of the map.
     pub fn open(
         map: &'a ReaderMap,
         reader: Reader,
@@ -60,13 +68,13 @@ impl<'a, G: Gate> Client<'a, G> {
         requires queue { poster.queue ≡ triggers.now.id }
         requires keys { map.now.shape.keys ≤ poster.keys }
         ensures places { (result.map ≡ map.now) × (result.queue ≡ triggers.now) }
-        ensures gate { (result.gate ≡ gate.now) × (result.worker ≡ reader.number) }
+        ensures gate { (result.gate ≡ gate.now) × (result.reader ≡ reader.number) }
         ensures hands { result.hands ≡ record { reader = reader; poster = poster; kept = None; sends = 0 } }
         ensures opened { result.opened ≡ result.hands }
         ensures guest { IsNew result.guest }
-        ensures turns { result.turns ≡ 0 }
+        ensures counts { result.gets ≡ 0 }
     {
-        let worker = reader.number();
+        let number = reader.number();
         let hands = Hands::of(reader, poster, None, 0);
         let opened = Snapshot::of(&hands);
         Client {
@@ -74,11 +82,11 @@ impl<'a, G: Gate> Client<'a, G> {
                 map,
                 triggers,
                 gate,
-                worker,
+                reader: number,
             },
             lobby: Watched::of(lobby),
             hands: Some(hands),
-            turns: 0,
+            gets: 0,
             opened,
         }
     }
@@ -97,21 +105,21 @@ impl<'a, G: Gate> Client<'a, G> {
         ensures released { self.new.hands.reader.holds ≡ None }
         ensures at_once { tries ≡ 0 → self.new.hands ≡ self.old.hands }
         ensures looks { OnlyLooks self.old.guest self.new.guest }
-        ensures turns { self.new.turns ≡ capped (self.old.turns + 1) }
-        ensures asks { AsksGate G.lets G.hears self.old.gate self.old.worker self.new.turns result }
+        ensures counts { self.new.gets ≡ capped (self.old.gets + 1) }
+        ensures asks { AsksGate G.lets G.hears self.old.gate self.old.reader self.new.gets result }
         ensures places { (self.new.map ≡ self.old.map) × (self.new.queue ≡ self.old.queue) }
-        ensures gate { (self.new.gate ≡ self.old.gate) × (self.new.worker ≡ self.old.worker) }
+        ensures gate { (self.new.gate ≡ self.old.gate) × (self.new.reader ≡ self.old.reader) }
         ensures opened { self.new.opened ≡ self.old.opened }
     {
         let Some(hands) = self.hands.take() else {
             unreachable!()
         };
-        self.turns = self.turns.saturating_add(1);
+        self.gets = self.gets.saturating_add(1);
         let (got, hands) = get_by_tries(
             rt,
             &self.places,
             &mut self.lobby,
-            self.turns,
+            self.gets,
             key,
             tries,
             hands,
@@ -168,7 +176,7 @@ impl<'a, G: Gate> Client<'a, G> {
             places: _,
             lobby: _,
             hands,
-            turns: _,
+            gets: _,
             opened: _,
         } = self;
         match hands {

@@ -2,12 +2,12 @@
 use nr_map::ReaderMap;
 use nr_trigger::Triggers;
 
-/// The map, the queue and the gate that clients share, and this one's worker number.
+/// The map, the queue and the gate that clients share, and the number of this one's reader.
 pub(crate) struct Places<'a, G> {
     pub(crate) map: &'a ReaderMap,
     pub(crate) triggers: &'a Triggers,
     pub(crate) gate: &'a G,
-    pub(crate) worker: u32,
+    pub(crate) reader: u32,
 }
 
 impl<G> Drop for Places<'_, G> {
@@ -16,7 +16,7 @@ impl<G> Drop for Places<'_, G> {
             map: _,
             triggers: _,
             gate: _,
-            worker: _,
+            reader: _,
         } = self;
     }
 }

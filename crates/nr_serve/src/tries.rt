@@ -97,11 +97,11 @@ fn request<R: Wait>(
 }
 
 // Asks the gate until it lets pass, but not for ever.
-fn lets_pass<G: Gate>(places: &Places<'_, G>, turn: u64) -> bool
-    ensures { G.lets places.now.gate.now places.now.worker turn result }
+fn lets_pass<G: Gate>(places: &Places<'_, G>, get: u64) -> bool
+    ensures { G.lets places.now.gate.now places.now.reader get result }
 {
     for _asked in 0..MAX_PASSES {
-        if places.gate.pass(places.worker, turn) {
+        if places.gate.pass(places.reader, get) {
             return true;
         }
         thread::yield_now();
@@ -111,19 +111,19 @@ fn lets_pass<G: Gate>(places: &Places<'_, G>, turn: u64) -> bool
 
 // With the pin of a filled key: copies its rows for the caller, if the gate lets pass.
 #[inline(always)]
-fn answer<G: Gate>(places: &Places<'_, G>, turn: u64, pin: Pin, rows: &mut RowSet) -> (Got, Reader)
+fn answer<G: Gate>(places: &Places<'_, G>, get: u64, pin: Pin, rows: &mut RowSet) -> (Got, Reader)
     requires own { pin.reader.table ≡ places.now.map.now }
     ensures answers { AnswersPin pin rows.old result.0 result.1 rows.new }
-    ensures asks { AsksGate G.lets G.hears places.now.gate.now places.now.worker turn result.0 }
+    ensures asks { AsksGate G.lets G.hears places.now.gate.now places.now.reader get result.0 }
     ensures idle { result.1.holds ≡ None }
 {
     let mut pin = pin;
-    if !lets_pass(places, turn) {
+    if !lets_pass(places, get) {
         return (Got::Barred, pin.release(places.map));
     }
     pin.copy_to(places.map, rows);
     let reader = pin.release(places.map);
-    places.gate.answered(places.worker, turn);
+    places.gate.answered(places.reader, get);
     (Got::Rows, reader)
 }
 
@@ -133,7 +133,7 @@ fn try_once<G: Gate, R: Wait>(
     rt: &R,
     places: &Places<'_, G>,
     lobby: &Watched<'_>,
-    turn: u64,
+    get: u64,
     key: u32,
     hands: Hands,
     rows: &mut RowSet,
@@ -142,7 +142,7 @@ fn try_once<G: Gate, R: Wait>(
     requires key { key < places.now.map.now.shape.keys }
     ensures ready { IsReady places.now.map.now places.now.triggers.now result.1 }
     ensures tries { TriesOnce key hands rows.old result.0 result.1 rows.new }
-    ensures asks { AsksOnce G.lets G.hears places.now.gate.now places.now.worker turn result.0 }
+    ensures asks { AsksOnce G.lets G.hears places.now.gate.now places.now.reader get result.0 }
 {
     let Hands {
         reader,
@@ -152,7 +152,7 @@ fn try_once<G: Gate, R: Wait>(
     } = post_kept(rt, places.map, places.triggers, lobby, hands);
     match places.map.pin(reader, key) {
         Ok(pin) => {
-            let (got, reader) = answer(places, turn, pin, rows);
+            let (got, reader) = answer(places, get, pin, rows);
             (Tried::Ended(got), Hands::of(reader, poster, kept, sends))
         }
         Err(reader) => {
@@ -189,7 +189,7 @@ pub(crate) fn get_by_tries<G: Gate, R: Wait>(
     rt: &R,
     places: &Places<'_, G>,
     lobby: &mut Watched<'_>,
-    turn: u64,
+    get: u64,
     key: u32,
     tries: u32,
     hands: Hands,
@@ -201,12 +201,12 @@ pub(crate) fn get_by_tries<G: Gate, R: Wait>(
     ensures gets { Gets key tries hands rows.old result.0 result.1 rows.new }
     ensures at_once { tries ≡ 0 → result.1 ≡ hands }
     ensures looks { OnlyLooks lobby.old lobby.new }
-    ensures asks { AsksGate G.lets G.hears places.now.gate.now places.now.worker turn result.0 }
+    ensures asks { AsksGate G.lets G.hears places.now.gate.now places.now.reader get result.0 }
 {
     let mut hands = hands;
     for i in 0..tries {
         let counted = lobby.count_for(key, &hands);
-        let (tried, left) = try_once(rt, places, lobby, turn, key, hands, rows);
+        let (tried, left) = try_once(rt, places, lobby, get, key, hands, rows);
         hands = left;
         let requested = match tried {
             Tried::Ended(got) => return (got, hands),

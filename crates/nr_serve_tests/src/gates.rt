@@ -2,7 +2,7 @@
 use nr_serve::Gate;
 use std::sync::atomic::{AtomicU64, Ordering};
 
-/// Lets worker 1 pass from its get of that number on, and notes how often it was asked, and told of an
+/// Lets reader 1 pass from its get of that number on, and notes how often it was asked, and told of an
 /// answer.
 #[derive(Drop)]
 pub(crate) struct Noting {
@@ -30,13 +30,13 @@ impl Noting {
 }
 
 impl Gate for Noting {
-    fn pass(&self, worker: u32, turn: u64) -> bool {
+    fn pass(&self, reader: u32, get: u64) -> bool {
         self.passes.fetch_add(1, Ordering::SeqCst);
-        worker == 1 && turn >= self.first
+        reader == 1 && get >= self.first
     }
 
-    fn answered(&self, worker: u32, turn: u64) {
-        if worker == 1 && turn >= self.first {
+    fn answered(&self, reader: u32, get: u64) {
+        if reader == 1 && get >= self.first {
             self.answers.fetch_add(1, Ordering::SeqCst);
         }
     }

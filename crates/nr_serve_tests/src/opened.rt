@@ -80,7 +80,10 @@ impl Model for Opened {
 
     ghost view = { λ opened. (opened.map, opened.triggers) };
 
-    ghost invariant = { λ opened. (opened.map.shape.keys ≡ 2) × (opened.writer.table ≡ opened.map) × (opened.reader.table ≡ opened.map) × (opened.taker.queue ≡ opened.triggers.id) × (opened.taker.keys ≡ 2) × (opened.poster.queue ≡ opened.triggers.id) × (opened.poster.keys ≡ 2) };
+    ghost invariant = { λ opened. (opened.map.shape.keys ≡ 2)
+        × (opened.writer.table ≡ opened.map) × (opened.reader.table ≡ opened.map)
+        × (opened.taker.queue ≡ opened.triggers.id) × (opened.taker.keys ≡ 2)
+        × (opened.poster.queue ≡ opened.triggers.id) × (opened.poster.keys ≡ 2) };
 }
 
 impl Opened {

@@ -29,11 +29,11 @@ struct Second {
 }
 
 impl Gate for Second {
-    fn pass(&self, _worker: u32, _turn: u64) -> bool {
+    fn pass(&self, _reader: u32, _get: u64) -> bool {
         self.asked.fetch_add(1, Ordering::SeqCst) > 0
     }
 
-    fn answered(&self, _worker: u32, _turn: u64) {
+    fn answered(&self, _reader: u32, _get: u64) {
         self.answered.fetch_add(1, Ordering::SeqCst);
     }
 }
