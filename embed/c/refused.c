@@ -74,6 +74,9 @@ static void call_all(nr_writer *writer, nr_reader *reader, nr_reader *other, nr_
   nr_release(reader);
   want(nr_find_kept(reader, key, &found) == NR_ROWS, "a find that is kept");
   nr_release(reader);
+  want(nr_replace_reclaiming(writer, key, rows, 1, &found) == NR_DONE, "a replacement in a new slot");
+  want(nr_update_reclaiming(writer, key, &batch, 1, &found) == NR_GIVEN && found.count == 2, "an update that gives out");
+  want(nr_reap(writer, &found) == NR_GIVEN, "a reap");
   want(nr_evict(writer, key) == NR_EVICTED, "an eviction");
   want(nr_ask(reader, key, &number) == NR_SEND && nr_cancel(writer, key) == NR_CANCELLED, "a cancel");
   uint64_t next;
