@@ -184,6 +184,11 @@ uint32_t nr_open_poster(nr_taker *taker, nr_poster *poster) {
   return taker && poster ? proved_nr_open_poster(taker, poster) : NR_CLOSED;
 }
 
+uint32_t proved_nr_return_poster(nr_taker *taker, nr_poster *poster);
+uint32_t nr_return_poster(nr_taker *taker, nr_poster *poster) {
+  return taker && poster ? proved_nr_return_poster(taker, poster) : NR_CLOSED;
+}
+
 void proved_nr_close_poster(nr_poster *poster);
 void nr_close_poster(nr_poster *poster) {
   if (poster) proved_nr_close_poster(poster);

@@ -398,12 +398,16 @@ uint32_t nr_gather_pin(nr_writer *writer, nr_reader *reader);
    requests fit into as many places as it has keys, where none is taken back. */
 uint32_t nr_open_queue(uint32_t keys, uint32_t capacity, uint32_t posters, nr_taker *taker);
 
-/* Makes the handle of one of the queue's posters live. NR_DONE; NR_LIVE where `poster` is, NR_NO_POSTER or
-   NR_NO_MEMORY, and then it stays as it was. */
+/* Makes the handle of one of the queue's posters live: of that which was returned last, and else those of higher
+   numbers first. NR_DONE; NR_LIVE where `poster` is, NR_NO_POSTER or NR_NO_MEMORY, and then it stays as it was. */
 uint32_t nr_open_poster(nr_taker *taker, nr_poster *poster);
 
+/* Ends a poster's handle, and gives the poster back, so that nr_open_poster opens it again: for threads that come and
+   go. NR_DONE; or NR_NO_MEMORY, and then nothing has changed. Owed: both handles are of one queue. */
+uint32_t nr_return_poster(nr_taker *taker, nr_poster *poster);
+
 /* End a handle, which is then zeros; where it isn't live, nothing happens. The queue's memory goes with its last
-   handle, and so do the requests that it holds. */
+   handle, and so do the requests that it holds. A poster that was closed is not opened again. */
 void nr_close_poster(nr_poster *poster);
 void nr_close_taker(nr_taker *taker);
 

@@ -279,6 +279,13 @@ static void test_queue(nr_taker *taker, nr_poster *poster) {
   WANTS(NR_DONE, nr_take(taker, &key, &number));
   wants("the key that was posted", 1, key);
   wants("the number that was posted", 3, (uint32_t)number);
+  WANTS(NR_DONE, nr_return_poster(taker, poster));
+  WANTS(NR_CLOSED, nr_return_poster(taker, poster));
+  WANTS(NR_CLOSED, nr_return_poster(taker, NULL));
+  WANTS(NR_CLOSED, nr_post(poster, 0, 0));
+  WANTS(NR_DONE, nr_open_poster(taker, poster));
+  WANTS(NR_DONE, nr_post(poster, 1, 3));
+  WANTS(NR_DONE, nr_take(taker, &key, &number));
 }
 
 /* Each call by a handle that isn't live: these are zeros, or NULL. */
@@ -326,6 +333,7 @@ static void test_closed(nr_writer *writer, nr_reader *reader, nr_remains *remain
   WANTS(NR_CLOSED, nr_gather(writer, reader));
   WANTS(NR_CLOSED, nr_gather_pin(writer, reader));
   WANTS(NR_CLOSED, nr_open_poster(taker, &posts));
+  WANTS(NR_CLOSED, nr_return_poster(taker, poster));
   WANTS(NR_CLOSED, nr_post(poster, 0, 0));
   WANTS(NR_CLOSED, nr_take(taker, &count, &number));
   nr_close_reader(reader);

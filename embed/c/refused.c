@@ -106,6 +106,7 @@ static bool refuse(long after) {
   long before = requests;
   call_all(&writer, &readers[0], &readers[1], &taker, &poster);
   want(nr_return_reader(&writer, &readers[1]) == NR_DONE, "a reader that is returned");
+  want(nr_return_poster(&taker, &poster) == NR_DONE, "a poster that is returned");
   want(requests == before, "calls that ask for no memory");
   for (int i = 0; i < 2; i++) nr_close_reader(&readers[i]);
   nr_close_writer(&writer);

@@ -249,7 +249,7 @@ int main(void) {
     want(pthread_join(threads[i], NULL) == 0, "a thread's end");
     if (i == 0) fill_last(&dataflow, &clients[0].reader);
     want(nr_return_reader(&dataflow.writer, &clients[i].reader) == NR_DONE, "a reader that is returned");
-    nr_close_poster(&clients[i].poster);
+    want(nr_return_poster(&dataflow.taker, &clients[i].poster) == NR_DONE, "a poster that is returned");
     kept += clients[i].kept;
   }
   take_apart(&dataflow);
