@@ -97,6 +97,43 @@ uint32_t nr_replace(nr_writer *writer, uint32_t key, const nr_row *rows, size_t 
   return writer ? proved_nr_replace(writer, key, rows, n) : NR_CLOSED;
 }
 
+uint32_t proved_nr_fill_reclaiming(nr_writer *writer, uint32_t key, uint64_t number, const nr_row *rows, size_t n,
+                                   nr_rows *had);
+uint32_t nr_fill_reclaiming(nr_writer *writer, uint32_t key, uint64_t number, const nr_row *rows, size_t n,
+                            nr_rows *had) {
+  return writer ? proved_nr_fill_reclaiming(writer, key, number, rows, n, had) : NR_CLOSED;
+}
+
+uint32_t proved_nr_update_reclaiming(nr_writer *writer, uint32_t key, const nr_delta *deltas, size_t n, nr_rows *had);
+uint32_t nr_update_reclaiming(nr_writer *writer, uint32_t key, const nr_delta *deltas, size_t n, nr_rows *had) {
+  return writer ? proved_nr_update_reclaiming(writer, key, deltas, n, had) : NR_CLOSED;
+}
+
+uint32_t proved_nr_replace_reclaiming(nr_writer *writer, uint32_t key, const nr_row *rows, size_t n, nr_rows *had);
+uint32_t nr_replace_reclaiming(nr_writer *writer, uint32_t key, const nr_row *rows, size_t n, nr_rows *had) {
+  return writer ? proved_nr_replace_reclaiming(writer, key, rows, n, had) : NR_CLOSED;
+}
+
+uint32_t proved_nr_reap(nr_writer *writer, nr_rows *had);
+uint32_t nr_reap(nr_writer *writer, nr_rows *had) {
+  return writer ? proved_nr_reap(writer, had) : NR_CLOSED;
+}
+
+uint32_t proved_nr_take_apart(nr_writer *writer, nr_remains *remains);
+uint32_t nr_take_apart(nr_writer *writer, nr_remains *remains) {
+  return writer && remains ? proved_nr_take_apart(writer, remains) : NR_CLOSED;
+}
+
+uint32_t proved_nr_next(nr_remains *remains, nr_rows *had);
+uint32_t nr_next(nr_remains *remains, nr_rows *had) {
+  return remains ? proved_nr_next(remains, had) : NR_CLOSED;
+}
+
+void proved_nr_close_remains(nr_remains *remains);
+void nr_close_remains(nr_remains *remains) {
+  if (remains) proved_nr_close_remains(remains);
+}
+
 uint32_t proved_nr_evict(nr_writer *writer, uint32_t key);
 uint32_t nr_evict(nr_writer *writer, uint32_t key) {
   return writer ? proved_nr_evict(writer, key) : NR_CLOSED;
@@ -145,6 +182,11 @@ uint32_t nr_open_queue(uint32_t keys, uint32_t capacity, uint32_t posters, nr_ta
 uint32_t proved_nr_open_poster(nr_taker *taker, nr_poster *poster);
 uint32_t nr_open_poster(nr_taker *taker, nr_poster *poster) {
   return taker && poster ? proved_nr_open_poster(taker, poster) : NR_CLOSED;
+}
+
+uint32_t proved_nr_return_poster(nr_taker *taker, nr_poster *poster);
+uint32_t nr_return_poster(nr_taker *taker, nr_poster *poster) {
+  return taker && poster ? proved_nr_return_poster(taker, poster) : NR_CLOSED;
 }
 
 void proved_nr_close_poster(nr_poster *poster);

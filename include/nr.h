@@ -50,7 +50,7 @@ extern "C" {
 #define NR_NO_SLOT 12u   /* each slot is a filled key's or held by a reader, and readers hold some */
 #define NR_EVICTED 13u   /* the key was filled and is a hole now */
 #define NR_CANCELLED 14u /* the request is taken back; the key's next one gets the next number */
-#define NR_NOTHING 15u   /* there was nothing to evict or to cancel */
+#define NR_NOTHING 15u   /* there was nothing to evict or to cancel, or nothing more to give out */
 #define NR_WORN 16u      /* the request has the last number, 4,194,303: its own fill alone ends it */
 #define NR_ASKED 17u     /* a request is under way */
 #define NR_BAD_BATCH 18u /* no signed rows, or more than 64 */
@@ -69,6 +69,9 @@ extern "C" {
 #define NR_CLOSED 31u    /* a handle isn't live: it was closed or never opened, or there is NULL in its place */
 #define NR_LIVE 32u      /* the handle that is to be opened is live already */
 #define NR_IN_THE_WAY 33u /* another thread is in the midst of a call of its own: the same call may be made again */
+#define NR_GIVEN 34u     /* done, and a set came back: nobody holds it or can find it, and its rows stand in `had` */
+#define NR_HELD 35u      /* sets wait, and a reader holds each of them */
+#define NR_READERS_OUT 36u /* some reader was not returned */
 
 /* An answer in words. */
 static inline const char *nr_strerror(uint32_t answer) {
@@ -88,7 +91,7 @@ static inline const char *nr_strerror(uint32_t answer) {
   case NR_NO_SLOT: return "readers hold the slots that are no filled key's";
   case NR_EVICTED: return "the key is a hole now";
   case NR_CANCELLED: return "the request is taken back";
-  case NR_NOTHING: return "there was nothing to evict or to cancel";
+  case NR_NOTHING: return "there was nothing to do it to";
   case NR_WORN: return "the request has the last number";
   case NR_ASKED: return "the key is asked for";
   case NR_BAD_BATCH: return "no signed rows, or more than 64";
@@ -107,6 +110,9 @@ static inline const char *nr_strerror(uint32_t answer) {
   case NR_CLOSED: return "a handle is not live";
   case NR_LIVE: return "the handle is live already";
   case NR_IN_THE_WAY: return "another thread is in the way";
+  case NR_GIVEN: return "done, and a set came back";
+  case NR_HELD: return "readers hold the sets that wait";
+  case NR_READERS_OUT: return "some reader was not returned";
   default: return "no answer of this library";
   }
 }
@@ -165,8 +171,8 @@ typedef struct nr_size {
   uint32_t rows;
 } nr_size;
 
-/* Handles: the writer's, of which a map has one, and a reader's; the taker's, of which a queue has one, and
-   a poster's. */
+/* Handles: the writer's, of which a map has one, and a reader's; that of a map which was taken apart; the taker's, of
+   which a queue has one, and a poster's. */
 typedef struct nr_writer {
   void *at;
 } nr_writer;
@@ -174,6 +180,10 @@ typedef struct nr_writer {
 typedef struct nr_reader {
   void *at;
 } nr_reader;
+
+typedef struct nr_remains {
+  void *at;
+} nr_remains;
 
 typedef struct nr_taker {
   void *at;
@@ -211,8 +221,15 @@ typedef struct nr_poster {
    line of the cache and each find writes its key's word. A reader of its own for a hot key finds it by
    nr_find_kept, which writes nothing while the key keeps its set.
    To fill keys before anybody reads: request each by a reader (nr_ask), and fill it by the number told.
-   Rows that refer to data of your own: who finds a set sees all that the writer's thread had written to
-   memory before it put the set. When no reader holds a replaced set any more, the map doesn't tell.
+   Rows that refer to data of your own, as to a place in a store: who finds a set sees all that the writer's
+   thread had written to memory before it put the set, and may use the data while it holds the set (nr_pin,
+   nr_find_kept). The data is freed once the set comes back, which each set does once: from a call that takes its
+   slot (nr_fill_reclaiming, nr_update_reclaiming, nr_replace_reclaiming), from nr_reap, or from nr_next when the
+   map is at its end. A plain nr_fill, nr_update or nr_replace gives nothing out, and the set that its slot had
+   never comes back. embed/c/texts.c is a whole program.
+   So that little waits to be freed: open few slots beyond one a key and one a reader, since a call takes the slots
+   that were never taken first; and call nr_reap after each write, until it doesn't answer NR_GIVEN. Then what
+   readers hold waits alone. At most as many sets wait as there are slots.
    Several maps behind one queue: open it for the sum of their keys, and post each key with the number
    of keys of the maps before its own added.
    first_count and first_number are 0 but in tests, which begin near the end of a count or of a number. */
@@ -236,6 +253,19 @@ uint32_t nr_return_reader(nr_writer *writer, nr_reader *reader);
    handle. What a reader holds is released, and a reader that was closed is not opened again. */
 void nr_close_reader(nr_reader *reader);
 void nr_close_writer(nr_writer *writer);
+
+/* Takes a map apart, each of whose readers is back: returned, or never opened. NR_DONE, the writer's handle is
+   zeros, and the live one of `remains` has the sets that no call gave out. NR_LIVE where `remains` is, or
+   NR_READERS_OUT, and then both stay as they were. A reader that was closed never comes back. No step. */
+uint32_t nr_take_apart(nr_writer *writer, nr_remains *remains);
+
+/* Gives out the next set, filled keys' sets among them, in 2m + 1 steps for m rows: NR_GIVEN. NR_NOTHING once all have
+   come out, and `had` stays. */
+uint32_t nr_next(nr_remains *remains, nr_rows *had);
+
+/* Ends the handle, which is then zeros, and the map's memory; where it isn't live, nothing happens. Sets that have
+   not come out are told no more. */
+void nr_close_remains(nr_remains *remains);
 
 /* WHAT A READER CALLS. nr_find, nr_find_each, nr_ask and nr_pin answer NR_HOLDING where it holds a set;
    nr_row_at, nr_copy, nr_again and nr_release NR_NOT_HOLDING where it holds nothing. Then there was no step, and
@@ -312,6 +342,18 @@ uint32_t nr_update(nr_writer *writer, uint32_t key, const nr_delta *deltas, size
    NR_NO_SLOT or NR_ALL_FILLED. */
 uint32_t nr_replace(nr_writer *writer, uint32_t key, const nr_row *rows, size_t n);
 
+/* As nr_fill, nr_update and nr_replace, and each gives out the set that its slot had, which no key has and no reader
+   holds: NR_GIVEN in place of NR_DONE, after 2m + 1 steps more for a set of m rows, and `had` has them. `had` stays
+   with each other answer: NR_DONE where the slot was never taken before, or nr_reap gave its set out. */
+uint32_t nr_fill_reclaiming(nr_writer *writer, uint32_t key, uint64_t number, const nr_row *rows, size_t n, nr_rows *had);
+uint32_t nr_update_reclaiming(nr_writer *writer, uint32_t key, const nr_delta *deltas, size_t n, nr_rows *had);
+uint32_t nr_replace_reclaiming(nr_writer *writer, uint32_t key, const nr_row *rows, size_t n, nr_rows *had);
+
+/* Gives out a set whose key has another by now or none, before its slot is taken again: the oldest that waits and
+   that no reader holds. NR_GIVEN, after 2m + 1 steps for a set of m rows, and one for each set that it polled, oldest
+   first; NR_HELD after the polls; NR_NOTHING, where no set waits, without a step. `had` stays where it isn't NR_GIVEN. */
+uint32_t nr_reap(nr_writer *writer, nr_rows *had);
+
 /* Makes a filled key a hole. NR_EVICTED after 2 steps, NR_NOTHING after 1. */
 uint32_t nr_evict(nr_writer *writer, uint32_t key);
 
@@ -357,12 +399,16 @@ uint32_t nr_gather_pin(nr_writer *writer, nr_reader *reader);
    requests fit into as many places as it has keys, where none is taken back. */
 uint32_t nr_open_queue(uint32_t keys, uint32_t capacity, uint32_t posters, nr_taker *taker);
 
-/* Makes the handle of one of the queue's posters live. NR_DONE; NR_LIVE where `poster` is, NR_NO_POSTER or
-   NR_NO_MEMORY, and then it stays as it was. */
+/* Makes the handle of one of the queue's posters live: of that which was returned last, and else those of higher
+   numbers first. NR_DONE; NR_LIVE where `poster` is, NR_NO_POSTER or NR_NO_MEMORY, and then it stays as it was. */
 uint32_t nr_open_poster(nr_taker *taker, nr_poster *poster);
 
+/* Ends a poster's handle, and gives the poster back, so that nr_open_poster opens it again: for threads that come and
+   go. NR_DONE; or NR_NO_MEMORY, and then nothing has changed. Owed: both handles are of one queue. */
+uint32_t nr_return_poster(nr_taker *taker, nr_poster *poster);
+
 /* End a handle, which is then zeros; where it isn't live, nothing happens. The queue's memory goes with its last
-   handle, and so do the requests that it holds. */
+   handle, and so do the requests that it holds. A poster that was closed is not opened again. */
 void nr_close_poster(nr_poster *poster);
 void nr_close_taker(nr_taker *taker);
 

@@ -45,15 +45,19 @@ static void test_writer(nr_writer *writer, nr_reader *reader) {
   WANTS(NR_NO_ROW, nr_update(writer, 0, &less, 1));
   WANTS(NR_ALL_FILLED, nr_update(writer, 0, &more, 1));
   WANTS(NR_ALL_FILLED, nr_replace(writer, 0, &two, 1));
+  WANTS(NR_ALL_FILLED, nr_update_reclaiming(writer, 0, &more, 1, &rows));
+  WANTS(NR_ALL_FILLED, nr_replace_reclaiming(writer, 0, &two, 1, &rows));
   WANTS(NR_TOO_MANY, nr_replace(writer, 0, three, 3));
   WANTS(NR_NOT_SORTED, nr_replace(writer, 0, down, 2));
   WANTS(NR_TOO_MANY, nr_update(writer, 0, many, 2));
   WANTS(NR_SEND, nr_ask(reader, 1, &number));
   WANTS(NR_ALL_FILLED, nr_fill(writer, 1, number, &one, 1));
+  WANTS(NR_ALL_FILLED, nr_fill_reclaiming(writer, 1, number, &one, 1, &rows));
   uint32_t count = 0;
   WANTS(NR_ROWS, nr_pin(reader, 0, &count));
   WANTS(NR_EVICTED, nr_evict(writer, 0));
   WANTS(NR_NO_SLOT, nr_fill(writer, 1, number, &one, 1));
+  WANTS(NR_NO_SLOT, nr_fill_reclaiming(writer, 1, number, &one, 1, &rows));
   WANTS(NR_DONE, nr_release(reader));
   WANTS(NR_CANCELLED, nr_cancel(writer, 1));
   WANTS(NR_DONE, nr_number(writer, 1, &number));
@@ -99,6 +103,8 @@ static void test_reader(nr_writer *writer, nr_reader *reader) {
   WANTS(NR_DONE, nr_replace(writer, 0, &two, 1));
   WANTS(NR_DONE, nr_fill(writer, 1, 4194303, &one, 1));
   WANTS(NR_NO_SLOT, nr_replace(writer, 0, &two, 1));
+  WANTS(NR_NO_SLOT, nr_replace_reclaiming(writer, 0, &two, 1, &rows));
+  WANTS(NR_NO_SLOT, nr_update_reclaiming(writer, 0, &more, 1, &rows));
   WANTS(NR_EVICTED, nr_evict(writer, 1));
   nr_release(reader);
   WANTS(NR_ROWS, nr_find(reader, 0, &rows));
@@ -139,6 +145,9 @@ static void test_no_key(nr_writer *writer, nr_reader *reader, nr_poster *poster)
   WANTS(NR_NO_KEY, nr_fill(writer, 2, 0, &one, 1));
   WANTS(NR_NO_KEY, nr_update(writer, 2, &more, 1));
   WANTS(NR_NO_KEY, nr_replace(writer, 2, &one, 1));
+  WANTS(NR_NO_KEY, nr_fill_reclaiming(writer, 2, 0, &one, 1, &rows));
+  WANTS(NR_NO_KEY, nr_update_reclaiming(writer, 2, &more, 1, &rows));
+  WANTS(NR_NO_KEY, nr_replace_reclaiming(writer, 2, &one, 1, &rows));
   WANTS(NR_NO_KEY, nr_evict(writer, 2));
   WANTS(NR_NO_KEY, nr_cancel(writer, 2));
   WANTS(NR_NO_KEY, nr_state(writer, 2));
@@ -182,6 +191,79 @@ static void test_holding(nr_writer *writer, nr_reader *reader) {
   WANTS(NR_DONE, nr_release(reader));
 }
 
+/* Sets that come back, in a new map of a key, three slots, two readers and two rows a key, to its end. */
+static void test_reclaiming(nr_writer *writer, nr_reader *reader, nr_remains *remains) {
+  const nr_row down[2] = {two, one}, three[3] = {one, one, one};
+  const nr_delta more = {two, true}, less = {two, false}, most[2] = {more, more};
+  uint64_t number = 88;
+  uint32_t count = 77;
+  static nr_rows had;
+  had.count = 99;
+  WANTS(NR_NOTHING, nr_reap(writer, &had));
+  WANTS(NR_NOT_ASKED, nr_fill_reclaiming(writer, 0, 0, &one, 1, &had));
+  WANTS(NR_DROPPED, nr_update_reclaiming(writer, 0, &more, 1, &had));
+  WANTS(NR_DROPPED, nr_replace_reclaiming(writer, 0, &one, 1, &had));
+  WANTS(NR_SEND, nr_ask(reader, 0, &number));
+  WANTS(NR_STALE, nr_fill_reclaiming(writer, 0, number + 1, &one, 1, &had));
+  WANTS(NR_TOO_MANY, nr_fill_reclaiming(writer, 0, number, three, 3, &had));
+  WANTS(NR_NOT_SORTED, nr_fill_reclaiming(writer, 0, number, down, 2, &had));
+  WANTS(NR_DONE, nr_fill_reclaiming(writer, 0, number, &one, 1, &had));
+  WANTS(NR_ALREADY, nr_fill_reclaiming(writer, 0, number, &one, 1, &had));
+  WANTS(NR_NOTHING, nr_reap(writer, &had));
+  WANTS(NR_BAD_BATCH, nr_update_reclaiming(writer, 0, &more, 0, &had));
+  WANTS(NR_NO_ROW, nr_update_reclaiming(writer, 0, &less, 1, &had));
+  WANTS(NR_TOO_MANY, nr_update_reclaiming(writer, 0, most, 2, &had));
+  WANTS(NR_ROWS, nr_pin(reader, 0, &count));
+  WANTS(NR_DONE, nr_update_reclaiming(writer, 0, &more, 1, &had));
+  WANTS(NR_HELD, nr_reap(writer, &had));
+  WANTS(NR_TOO_MANY, nr_replace_reclaiming(writer, 0, three, 3, &had));
+  WANTS(NR_NOT_SORTED, nr_replace_reclaiming(writer, 0, down, 2, &had));
+  WANTS(NR_DONE, nr_replace_reclaiming(writer, 0, &one, 1, &had));
+  wants("rows that stay", 99, (uint32_t)had.count);
+  /* The first slot is held still, and the second's set comes back: the rows that the update left. */
+  WANTS(NR_GIVEN, nr_replace_reclaiming(writer, 0, &two, 1, &had));
+  wants("the rows that came back", 2, (uint32_t)had.count);
+  wants("the last of them", 2, (uint32_t)had.row[1].a);
+  WANTS(NR_DONE, nr_release(reader));
+  WANTS(NR_GIVEN, nr_update_reclaiming(writer, 0, &more, 1, &had));
+  wants("the rows that came back", 1, (uint32_t)had.count);
+  wants("the row that was held", 1, (uint32_t)had.row[0].a);
+  WANTS(NR_EVICTED, nr_evict(writer, 0));
+  WANTS(NR_SEND, nr_ask(reader, 0, &number));
+  WANTS(NR_GIVEN, nr_fill_reclaiming(writer, 0, number, NULL, 0, &had));
+  wants("the rows that came back", 1, (uint32_t)had.count);
+  /* Two sets wait: that of the second replacement, and that of the update. */
+  WANTS(NR_GIVEN, nr_reap(writer, &had));
+  wants("the rows that came back", 1, (uint32_t)had.count);
+  wants("the row that was replaced", 2, (uint32_t)had.row[0].a);
+  WANTS(NR_DONE, nr_replace_reclaiming(writer, 0, &one, 1, &had));
+  WANTS(NR_READERS_OUT, nr_take_apart(writer, remains));
+  WANTS(NR_DONE, nr_return_reader(writer, reader));
+  nr_writer another = {0};
+  nr_remains live = {0};
+  const nr_shape shape = {1, 1, 1, 1, 0, 0};
+  WANTS(NR_DONE, nr_open(&shape, &another));
+  WANTS(NR_DONE, nr_take_apart(&another, &live));
+  WANTS(NR_NOTHING, nr_next(&live, &had));
+  WANTS(NR_LIVE, nr_take_apart(writer, &live));
+  nr_close_remains(&live);
+  WANTS(NR_CLOSED, nr_take_apart(writer, NULL));
+  WANTS(NR_DONE, nr_take_apart(writer, remains));
+  WANTS(NR_CLOSED, nr_state(writer, 0));
+  uint64_t rows = 0;
+  for (int sets = 0; sets < 3; sets++) {
+    WANTS(NR_GIVEN, nr_next(remains, &had));
+    rows += had.count;
+  }
+  wants("the rows of all that came back at the end", 3, (uint32_t)rows);
+  had.count = 99;
+  WANTS(NR_NOTHING, nr_next(remains, &had));
+  WANTS(NR_NOTHING, nr_next(remains, &had));
+  wants("rows that stay", 99, (uint32_t)had.count);
+  nr_close_remains(remains);
+  WANTS(NR_CLOSED, nr_next(remains, &had));
+}
+
 static void test_queue(nr_taker *taker, nr_poster *poster) {
   uint32_t key = 77;
   uint64_t number = 88;
@@ -197,10 +279,18 @@ static void test_queue(nr_taker *taker, nr_poster *poster) {
   WANTS(NR_DONE, nr_take(taker, &key, &number));
   wants("the key that was posted", 1, key);
   wants("the number that was posted", 3, (uint32_t)number);
+  WANTS(NR_DONE, nr_return_poster(taker, poster));
+  WANTS(NR_CLOSED, nr_return_poster(taker, poster));
+  WANTS(NR_CLOSED, nr_return_poster(taker, NULL));
+  WANTS(NR_CLOSED, nr_post(poster, 0, 0));
+  WANTS(NR_DONE, nr_open_poster(taker, poster));
+  WANTS(NR_DONE, nr_post(poster, 1, 3));
+  WANTS(NR_DONE, nr_take(taker, &key, &number));
 }
 
 /* Each call by a handle that isn't live: these are zeros, or NULL. */
-static void test_closed(nr_writer *writer, nr_reader *reader, nr_taker *taker, nr_poster *poster) {
+static void test_closed(nr_writer *writer, nr_reader *reader, nr_remains *remains, nr_taker *taker,
+                        nr_poster *poster) {
   const nr_delta more = {two, true};
   uint64_t number = 88;
   uint32_t count = 77;
@@ -208,6 +298,7 @@ static void test_closed(nr_writer *writer, nr_reader *reader, nr_taker *taker, n
   nr_size sizes = {9, 9, 9, 9};
   nr_reader opened = {0};
   nr_poster posts = {0};
+  nr_remains left = {0};
   static nr_rows rows;
   rows.count = 99;
   WANTS(NR_CLOSED, nr_open_reader(writer, &opened));
@@ -227,6 +318,12 @@ static void test_closed(nr_writer *writer, nr_reader *reader, nr_taker *taker, n
   WANTS(NR_CLOSED, nr_fill(writer, 0, 0, &one, 1));
   WANTS(NR_CLOSED, nr_update(writer, 0, &more, 1));
   WANTS(NR_CLOSED, nr_replace(writer, 0, &one, 1));
+  WANTS(NR_CLOSED, nr_fill_reclaiming(writer, 0, 0, &one, 1, &rows));
+  WANTS(NR_CLOSED, nr_update_reclaiming(writer, 0, &more, 1, &rows));
+  WANTS(NR_CLOSED, nr_replace_reclaiming(writer, 0, &one, 1, &rows));
+  WANTS(NR_CLOSED, nr_reap(writer, &rows));
+  WANTS(NR_CLOSED, nr_take_apart(writer, &left));
+  WANTS(NR_CLOSED, nr_next(remains, &rows));
   WANTS(NR_CLOSED, nr_evict(writer, 0));
   WANTS(NR_CLOSED, nr_cancel(writer, 0));
   WANTS(NR_CLOSED, nr_state(writer, 0));
@@ -236,10 +333,12 @@ static void test_closed(nr_writer *writer, nr_reader *reader, nr_taker *taker, n
   WANTS(NR_CLOSED, nr_gather(writer, reader));
   WANTS(NR_CLOSED, nr_gather_pin(writer, reader));
   WANTS(NR_CLOSED, nr_open_poster(taker, &posts));
+  WANTS(NR_CLOSED, nr_return_poster(taker, poster));
   WANTS(NR_CLOSED, nr_post(poster, 0, 0));
   WANTS(NR_CLOSED, nr_take(taker, &count, &number));
   nr_close_reader(reader);
   nr_close_writer(writer);
+  nr_close_remains(remains);
   nr_close_poster(poster);
   nr_close_taker(taker);
   wants("rows that stay", 99, (uint32_t)rows.count);
@@ -247,7 +346,7 @@ static void test_closed(nr_writer *writer, nr_reader *reader, nr_taker *taker, n
   wants("a number that stays", 88, (uint32_t)number);
   wants("a row that stays", 5, (uint32_t)row.a);
   wants("sizes that stay", 9, sizes.rows);
-  wants("handles that stay zeros", 1, !opened.at && !posts.at);
+  wants("handles that stay zeros", 1, !opened.at && !posts.at && !left.at);
 }
 
 /* A handle that is live where another is not. */
@@ -283,13 +382,14 @@ static void test_return(nr_writer *writer, nr_reader *reader) {
 }
 
 int main(void) {
-  const nr_shape small = {2, 1, 1, 2, 0, 0}, last = {2, 3, 1, 2, 0, 4194303}, bad = {2, 0, 1, 2, 0, 0};
-  nr_writer writer = {0}, worn = {0};
-  nr_reader reader = {0}, other = {0}, none = {0};
+  const nr_shape small = {2, 1, 1, 2, 0, 0}, few = {1, 3, 2, 2, 0, 0}, last = {2, 3, 1, 2, 0, 4194303}, bad = {2, 0, 1, 2, 0, 0};
+  nr_writer writer = {0}, worn = {0}, giving = {0};
+  nr_reader reader = {0}, other = {0}, holder = {0}, none = {0};
+  nr_remains remains = {0};
   nr_taker taker = {0};
   nr_poster poster = {0};
-  test_closed(&writer, &reader, &taker, &poster);
-  test_closed(NULL, NULL, NULL, NULL);
+  test_closed(&writer, &reader, &remains, &taker, &poster);
+  test_closed(NULL, NULL, NULL, NULL, NULL);
   WANTS(NR_BAD_SIZE, nr_open(&bad, &writer));
   WANTS(NR_DONE, nr_open(&small, &writer));
   WANTS(NR_LIVE, nr_open(&small, &writer));
@@ -298,6 +398,8 @@ int main(void) {
   WANTS(NR_NO_READER, nr_open_reader(&writer, &none));
   WANTS(NR_LIVE, nr_open_reader(&writer, &reader));
   WANTS(NR_DONE, nr_open_reader(&worn, &other));
+  WANTS(NR_DONE, nr_open(&few, &giving));
+  WANTS(NR_DONE, nr_open_reader(&giving, &holder));
   WANTS(NR_DONE, nr_open_queue(2, 1, 1, &taker));
   WANTS(NR_DONE, nr_open_poster(&taker, &poster));
   WANTS(NR_LIVE, nr_open_queue(2, 1, 1, &taker));
@@ -309,6 +411,7 @@ int main(void) {
   test_holding(&worn, &other);
   test_other_closed(&worn, &other);
   test_return(&worn, &other);
+  test_reclaiming(&giving, &holder, &remains);
   test_queue(&taker, &poster);
   nr_close_reader(&reader);
   nr_close_reader(&other);
@@ -316,7 +419,7 @@ int main(void) {
   nr_close_writer(&worn);
   nr_close_poster(&poster);
   nr_close_taker(&taker);
-  test_closed(&writer, &reader, &taker, &poster);
+  test_closed(&writer, &reader, &remains, &taker, &poster);
   puts("each function gave each of its answers");
   return 0;
 }

@@ -37,6 +37,7 @@ LIES(nr_size, readers, 8);
 LIES(nr_size, rows, 12);
 TAKES(nr_writer, 8);
 TAKES(nr_reader, 8);
+TAKES(nr_remains, 8);
 TAKES(nr_taker, 8);
 TAKES(nr_poster, 8);
 
@@ -153,7 +154,7 @@ static void test_closing(void) {
 
 /* Each answer has words of its own, and the library is of this header's version. */
 static void test_words(void) {
-  const uint32_t answers = NR_IN_THE_WAY + 1;
+  const uint32_t answers = NR_READERS_OUT + 1;
   for (uint32_t one = 0; one < answers; one++)
     for (uint32_t other = one + 1; other <= answers; other++)
       wants("two answers in the same words", 1, strcmp(nr_strerror(one), nr_strerror(other)) != 0);

@@ -74,6 +74,9 @@ static void call_all(nr_writer *writer, nr_reader *reader, nr_reader *other, nr_
   nr_release(reader);
   want(nr_find_kept(reader, key, &found) == NR_ROWS, "a find that is kept");
   nr_release(reader);
+  want(nr_replace_reclaiming(writer, key, rows, 1, &found) == NR_DONE, "a replacement in a new slot");
+  want(nr_update_reclaiming(writer, key, &batch, 1, &found) == NR_GIVEN && found.count == 2, "an update that gives out");
+  want(nr_reap(writer, &found) == NR_GIVEN, "a reap");
   want(nr_evict(writer, key) == NR_EVICTED, "an eviction");
   want(nr_ask(reader, key, &number) == NR_SEND && nr_cancel(writer, key) == NR_CANCELLED, "a cancel");
   uint64_t next;
@@ -103,6 +106,7 @@ static bool refuse(long after) {
   long before = requests;
   call_all(&writer, &readers[0], &readers[1], &taker, &poster);
   want(nr_return_reader(&writer, &readers[1]) == NR_DONE, "a reader that is returned");
+  want(nr_return_poster(&taker, &poster) == NR_DONE, "a poster that is returned");
   want(requests == before, "calls that ask for no memory");
   for (int i = 0; i < 2; i++) nr_close_reader(&readers[i]);
   nr_close_writer(&writer);

@@ -1,6 +1,6 @@
 -- The number that stands for each answer.
 use Rattle.std.specs.Prelude.{ℕ, ◌==◌, if◌then◌else◌, Result, Ok, Err}
-use Rattle.nr_c.specs.Numbers.{answer_already, answer_asked, answer_cancelled, answer_done, answer_dropped, answer_empty, answer_evicted, answer_filled, answer_full, answer_hole, answer_in_the_way, answer_no_row, answer_all_filled, answer_no_slot, answer_not_asked, answer_nothing, answer_rows, answer_send, answer_stale, answer_too_many, answer_waiting, answer_worn}
+use Rattle.nr_c.specs.Numbers.{answer_already, answer_asked, answer_cancelled, answer_done, answer_dropped, answer_empty, answer_evicted, answer_filled, answer_full, answer_given, answer_held, answer_hole, answer_in_the_way, answer_no_row, answer_all_filled, answer_no_slot, answer_not_asked, answer_nothing, answer_rows, answer_send, answer_stale, answer_too_many, answer_waiting, answer_worn}
 use Rattle.nr_machine.specs.declared.calls.NoSlot.{NoSlot}
 use Rattle.nr_map.specs.declared.answers.Asked.{Asked}
 use Rattle.nr_map.specs.declared.answers.Asked.TheVariants as asked
@@ -10,6 +10,10 @@ use Rattle.nr_board.specs.declared.answers.Evict.{Evict}
 use Rattle.nr_board.specs.declared.answers.Evict.TheVariants as evict
 use Rattle.nr_board.specs.declared.answers.FillFault.{FillFault}
 use Rattle.nr_board.specs.declared.answers.FillFault.TheVariants as fill
+use Rattle.nr_board.specs.declared.answers.Reaped.{Reaped}
+use Rattle.nr_board.specs.declared.answers.Reaped.TheVariants as reaped
+use Rattle.nr_board.specs.declared.answers.Reclaimed.{Reclaimed}
+use Rattle.nr_board.specs.declared.answers.Reclaimed.TheVariants as reclaimed
 use Rattle.nr_board.specs.declared.answers.ReplaceFault.{ReplaceFault}
 use Rattle.nr_board.specs.declared.answers.ReplaceFault.TheVariants as replace
 use Rattle.nr_board.specs.declared.answers.UpdateFault.{UpdateFault}
@@ -54,6 +58,28 @@ abbrev pub replace_code : Result (Unit {0}) ReplaceFault → ℕ
 replace_code (Ok done) = answer_done
 replace_code (Err replace.Dropped) = answer_dropped
 replace_code (Err (replace.NoSlot counts)) = no_slot_code counts
+
+-- a call that put its set gave out the one that its slot had, or nothing
+abbrev pub reclaimed_code : Reclaimed → ℕ
+reclaimed_code reclaimed.Set = answer_given
+reclaimed_code reclaimed.Nothing = answer_done
+
+abbrev pub fill_reclaiming_code : Result Reclaimed FillFault → ℕ
+fill_reclaiming_code (Ok given) = reclaimed_code given
+fill_reclaiming_code (Err fault) = fill_code (Err fault)
+
+abbrev pub update_reclaiming_code : Result Reclaimed UpdateFault → ℕ
+update_reclaiming_code (Ok given) = reclaimed_code given
+update_reclaiming_code (Err fault) = update_code (Err fault)
+
+abbrev pub replace_reclaiming_code : Result Reclaimed ReplaceFault → ℕ
+replace_reclaiming_code (Ok given) = reclaimed_code given
+replace_reclaiming_code (Err fault) = replace_code (Err fault)
+
+abbrev pub reaped_code : Reaped → ℕ
+reaped_code reaped.Set = answer_given
+reaped_code reaped.Held = answer_held
+reaped_code reaped.Nothing = answer_nothing
 
 abbrev pub evict_code : Evict → ℕ
 evict_code evict.Evicted = answer_evicted

@@ -15,6 +15,8 @@ pub mod Pins
 pub mod Kept
 pub mod Many
 pub mod Writes
+pub mod Reclaims
+pub mod Remains
 pub mod PosterHandles
 pub mod PosterFollows
 pub mod TakerHandles

@@ -103,6 +103,15 @@ answer_live = 32
 abbrev pub answer_in_the_way : ℕ
 answer_in_the_way = 33
 
+abbrev pub answer_given : ℕ
+answer_given = 34
+
+abbrev pub answer_held : ℕ
+answer_held = 35
+
+abbrev pub answer_readers_out : ℕ
+answer_readers_out = 36
+
 -- the version 0.1.0, whose numbers have 8 bits each
 abbrev pub version : ℕ
 version = 256

@@ -1,5 +1,5 @@
 -- What opens a queue of requests and its handles.
-use Rattle.std.specs.Prelude.{ℕ, ◌≡◌, ◌↔◌, ◌⊎◌, List, [], ◌∷◌, ◌++◌}
+use Rattle.std.specs.Prelude.{ℕ, ◌≡◌, ◌↔◌, ◌⊎◌, List, [], ◌∷◌, ◌++◌, ⊤}
 use Rattle.nr_model.specs.Sizes.{IsBadSize}
 use Rattle.nr_machine.specs.declared.shape.TheConstants.{MOST_READERS, MOST_SLOTS}
 use Rattle.nr_trigger.specs.Tokens.{IsOpenedQueue, PosterSeen}
@@ -46,3 +46,15 @@ TakesPoster code before other after handle =
     ((code ≡ answer_no_poster) × KeepsTaker before after [] [] × (handle ≡ other))
     ⊎ ((code ≡ answer_done) × (rest : List PosterSeen) × (poster : PosterSeen) × KeepsTaker before after (rest ++ poster ∷ []) rest × LeadsToPoster before poster handle)
     ⊎ ((code ≡ answer_no_memory) × (rest : List PosterSeen) × (poster : PosterSeen) × KeepsTaker before after (rest ++ poster ∷ []) (rest ++ poster ∷ []) × (handle ≡ other))
+
+-- the handles that are live lead to sides of one queue
+abbrev pub OneQueue : List TakerSide → List PosterSide → Type 0
+OneQueue (held ∷ helds) (other ∷ others) = (other.queue.value ≡ held.queue.value) × (other.keys ≡ held.keys)
+OneQueue (held ∷ helds) [] = ⊤
+OneQueue [] poster = ⊤
+
+-- the poster's handle leads nowhere any more, and its poster is the last one without a handle; or for want of memory all stay
+abbrev pub ReturnsPoster : ℕ → List TakerSide → List PosterSide → List TakerSide → List PosterSide → Type 0
+ReturnsPoster code before other after handle =
+    ((code ≡ answer_done) × (rest : List PosterSeen) × (held : PosterSide) × (other ≡ held ∷ []) × KeepsTaker before after rest (rest ++ held.poster ∷ []) × (handle ≡ []))
+    ⊎ ((code ≡ answer_no_memory) × (rest : List PosterSeen) × KeepsTaker before after rest rest × (handle ≡ other))

@@ -1,9 +1,11 @@
 //! The numbers that stand for answers. C has them as constants of the same names, and each answer
 //! has one of its own, whichever call it answers.
 ghost use Rattle.std.specs.Prelude.{◌≡◌};
-ghost use Rattle.nr_c.specs.Codes.{cancel_code, evict_code, fill_code, found_code, kind_code, no_slot_code, post_code, replace_code, take_code, update_code};
+ghost use Rattle.nr_c.specs.Codes.{cancel_code, evict_code, fill_code, fill_reclaiming_code, found_code, kind_code, no_slot_code, post_code, reaped_code, reclaimed_code, replace_code, replace_reclaiming_code, take_code, update_code, update_reclaiming_code};
 
-use nr_map::{Cancel, Evict, FillFault, Found, KeyKind, NoSlot, ReplaceFault, UpdateFault};
+use nr_map::{
+    Cancel, Evict, FillFault, Found, KeyKind, NoSlot, Reaped, Reclaimed, ReplaceFault, UpdateFault,
+};
 use nr_trigger::{PostFault, TakeFault};
 
 /// To a find: the rows of a filled key.
@@ -51,7 +53,8 @@ pub const NR_EVICTED: u32 = 13;
 /// To a cancel: the key was asked and is a hole now, with the next number.
 pub const NR_CANCELLED: u32 = 14;
 
-/// To an eviction: the key was not filled. To a cancel: the key was not asked.
+/// To an eviction: the key was not filled. To a cancel: the key was not asked. To a reap: no set waits.
+/// To what asks for the next set that remains: all have come out.
 pub const NR_NOTHING: u32 = 15;
 
 /// To a cancel: the key is asked with the last number.
@@ -108,6 +111,16 @@ pub const NR_LIVE: u32 = 32;
 /// To a post or a take: another thread is within a call of its own.
 pub const NR_IN_THE_WAY: u32 = 33;
 
+/// To a call that gives sets out: one came out, and the caller's cells show it. To one that fills or
+/// changes a key: the rows stand too.
+pub const NR_GIVEN: u32 = 34;
+
+/// To a reap: readers hold all the sets that wait.
+pub const NR_HELD: u32 = 35;
+
+/// To what takes a map apart: some of its readers are not back.
+pub const NR_READERS_OUT: u32 = 36;
+
 pub fn of_found(found: Found) -> u32
     ensures { result ≡ found_code found }
 {
@@ -158,6 +171,52 @@ pub fn of_replace(answer: Result<(), ReplaceFault>) -> u32
         Ok(()) => NR_DONE,
         Err(ReplaceFault::Dropped) => NR_DROPPED,
         Err(ReplaceFault::NoSlot(counts)) => of_no_slot(counts),
+    }
+}
+
+fn of_reclaimed(given: Reclaimed) -> u32
+    ensures { result ≡ reclaimed_code given }
+{
+    match given {
+        Reclaimed::Set => NR_GIVEN,
+        Reclaimed::Nothing => NR_DONE,
+    }
+}
+
+pub fn of_fill_reclaiming(answer: Result<Reclaimed, FillFault>) -> u32
+    ensures { result ≡ fill_reclaiming_code answer }
+{
+    match answer {
+        Ok(given) => of_reclaimed(given),
+        Err(fault) => of_fill(Err(fault)),
+    }
+}
+
+pub fn of_update_reclaiming(answer: Result<Reclaimed, UpdateFault>) -> u32
+    ensures { result ≡ update_reclaiming_code answer }
+{
+    match answer {
+        Ok(given) => of_reclaimed(given),
+        Err(fault) => of_update(Err(fault)),
+    }
+}
+
+pub fn of_replace_reclaiming(answer: Result<Reclaimed, ReplaceFault>) -> u32
+    ensures { result ≡ replace_reclaiming_code answer }
+{
+    match answer {
+        Ok(given) => of_reclaimed(given),
+        Err(fault) => of_replace(Err(fault)),
+    }
+}
+
+pub fn of_reaped(answer: Reaped) -> u32
+    ensures { result ≡ reaped_code answer }
+{
+    match answer {
+        Reaped::Set => NR_GIVEN,
+        Reaped::Held => NR_HELD,
+        Reaped::Nothing => NR_NOTHING,
     }
 }
 

@@ -3,6 +3,7 @@
 use crate::many::NrWanted;
 use crate::poster_handle::NrPoster;
 use crate::reader_handle::NrReader;
+use crate::remains::NrRemains;
 use crate::rows::NrRows;
 use crate::sizes::{NrShape, NrSizes};
 use crate::taker_handle::NrTaker;
@@ -25,6 +26,8 @@ const _: () = prove!(size_of::<NrSizes>() == 16);
 const _: () = prove!(size_of::<NrWriter>() == 8);
 
 const _: () = prove!(size_of::<NrReader>() == 8);
+
+const _: () = prove!(size_of::<NrRemains>() == 8);
 
 const _: () = prove!(size_of::<NrTaker>() == 8);
 

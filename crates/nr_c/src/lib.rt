@@ -28,6 +28,8 @@ mod reader_handle;
 mod reader_lend;
 mod reader_side;
 mod reads;
+mod reclaims;
+mod remains;
 mod rows;
 mod sizes;
 mod taker_handle;

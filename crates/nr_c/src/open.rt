@@ -59,7 +59,12 @@ fn opened(alloc: Global, shape: &NrShape) -> Result<Box<WriterSide, Global>, Ope
 {
     let (map, writer, spare) = opened_map(alloc, &shape.shape())?;
     let map = Arc::new(alloc, map).map_err(|_| OpenFault::Memory)?;
-    let side = WriterSide { map, writer, spare };
+    let side = WriterSide {
+        map,
+        writer,
+        spare,
+        next: 0,
+    };
     Ok(Box::new(alloc, side).map_err(|_| OpenFault::Memory)?)
 }
 

@@ -2,8 +2,8 @@
 ghost use Rattle.std.specs.Prelude.{◌≡◌, ◌↔◌, ◌⊎◌, ℕ, [], Err, IfOk, IfErr};
 ghost use Rattle.nr_model.specs.Sizes.{IsBadSize};
 ghost use Rattle.nr_machine.specs.declared.shape.TheConstants.{MOST_READERS, MOST_SLOTS};
-ghost use Rattle.nr_c.specs.Live.{WhenEmpty, WhenOther};
-ghost use Rattle.nr_c.specs.Queues.{IsNewQueue, OpensQueue, TakesPoster};
+ghost use Rattle.nr_c.specs.Live.{WhenBothLive, WhenEmpty, WhenOther};
+ghost use Rattle.nr_c.specs.Queues.{IsNewQueue, OneQueue, OpensQueue, ReturnsPoster, TakesPoster};
 
 use crate::codes::{NR_BAD_SIZE, NR_CLOSED, NR_DONE, NR_LIVE, NR_NO_MEMORY, NR_NO_POSTER};
 use crate::poster_handle::NrPoster;
@@ -126,6 +126,24 @@ fn posting(
             Err(poster)
         }
     }
+}
+
+/// Ends a poster, which the next opening of a poster hands out again. Answers `NR_DONE`; `NR_CLOSED`
+/// where one of the handles isn't live; or `NR_NO_MEMORY`, and then nothing has changed.
+#[unsafe(no_mangle)]
+pub extern "C" fn nr_return_poster(alloc: Global, taker: &mut NrTaker, poster: &mut NrPoster) -> u32
+    requires one_queue { OneQueue taker.old.live poster.old.live }
+    ensures { WhenBothLive result (ReturnsPoster result) taker.old.live poster.old.live taker.new.live poster.new.live }
+{
+    if !taker.is_live() || !poster.is_live() {
+        return NR_CLOSED;
+    }
+    let side = taker.side();
+    if side.spare.try_reserve(1).is_err() {
+        return NR_NO_MEMORY;
+    }
+    side.spare.push_reserved(poster.close(alloc));
+    NR_DONE
 }
 
 /// Ends a poster, which no handle gets again. Nothing happens where the handle isn't live.

@@ -1,5 +1,5 @@
 //! What the writer's handle leads to.
-ghost use Rattle.std.specs.Prelude.{◌≡◌, ◌<◌, ◌≤◌, All};
+ghost use Rattle.std.specs.Prelude.{◌≡◌, ◌≢◌, ◌<◌, ◌≤◌, All, length};
 ghost use Rattle.std.specs.Bool.{OnFalse, OnTrue};
 
 use nr_map::{Reader, ReaderMap, Writer};
@@ -12,6 +12,8 @@ pub struct WriterSide {
     pub map: Arc<ReaderMap, Global>,
     pub writer: Writer,
     pub spare: Vec<Reader, Global>,
+    /// Where the map is taken apart, the slot from which on the next set is looked for.
+    pub next: u32,
     ghost own: { writer.table ≡ map.value },
     ghost spares: { All (λ reader. reader.table ≡ map.value) spare.items },
 }
@@ -23,5 +25,13 @@ impl WriterSide {
         ensures hasnt { OnFalse result (self.now.map.value.shape.keys ≤ key) }
     {
         key < self.map.keys()
+    }
+
+    /// Whether each of its map's readers is back.
+    pub fn has_all_readers(&self) -> bool
+        ensures all { OnTrue result (length self.now.spare.items ≡ self.now.map.value.shape.readers) }
+        ensures not_all { OnFalse result (length self.now.spare.items ≢ self.now.map.value.shape.readers) }
+    {
+        self.spare.len() == self.map.readers() as usize
     }
 }

@@ -35,7 +35,7 @@ impl Model for Spare {
 
     ghost view = { λ spare. record { slots = spare.slots; fresh = spare.fresh; retired = spare.retired.items; numbers = spare.numbers.items; reaped = spare.reaped.items } };
 
-    ghost invariant = { λ spare. (spare.slots ≤ deque_capacity spare.retired) × (length spare.reaped.items ≡ spare.slots) };
+    ghost invariant = { λ spare. (spare.slots ≤ deque_capacity spare.retired) × (length spare.reaped.items ≡ spare.slots) × (spare.fresh ≤ spare.slots) };
 }
 
 impl Spare {
@@ -67,6 +67,14 @@ impl Spare {
         let slot = self.fresh;
         self.fresh += 1;
         Some(slot)
+    }
+
+    /// How many slots were ever taken: those before the next that was never taken.
+    pub fn taken(&self) -> u32
+        ensures fresh { result ≡ self.now.fresh }
+        ensures bounded { result ≤ self.now.slots }
+    {
+        self.fresh
     }
 
     /// How many slots are retired.

@@ -192,9 +192,7 @@ ledger_stays_lem old new gone table fresh puts reaped living many ledger =
     }
 
 pub rest_comes_out_once_lem : RestComesOutOnce
-rest_comes_out_once_lem writer gone left number ledger apart low =
-    let count_is : left.count ≡ writer.fresh = ⊎_elim (λ some_left. some_left.1) (λ none_left. omega (arith, none_left.0, none_left.1, ledger.slots.1)) apart.count in
-    ap (λ (n : ℕ). count_of_put (unreaped (take n writer.marks.puts) writer.marks.reaped) number + count_of_put gone number) count_is ∙ ledger.put number low
+rest_comes_out_once_lem writer gone left number ledger apart low = ap (λ (c : Caller). count_of_put (standing c) number + count_of_put gone number) apart.writer_is ∙ ledger.put number low
 
 pub nobody_holds_it_lem : NobodyHoldsIt
 nobody_holds_it_lem writer gone reader slot number ledger current holds let_go same =

@@ -1,12 +1,10 @@
 //! A map that is taken apart, and the sets that stand in its slots.
-ghost use Rattle.std.specs.Prelude.{◌≡◌, All, length};
-ghost use Rattle.nr_map.specs.Remains.{NextOf, NextSlot, TakenApart};
+ghost use Rattle.std.specs.Prelude.{◌≡◌, ◌<◌, All, IfSome, length};
+ghost use Rattle.nr_map.specs.Remains.{ComesOut, NextOf, NextSlot, TakenApart};
 
 use crate::reader::Reader;
 use crate::reader_map::ReaderMap;
 use crate::writer::Writer;
-use nr_board::{Board, Seat};
-use nr_core::Spare;
 use nr_model::RowRoom;
 use std::marker::Model;
 
@@ -14,23 +12,20 @@ use std::marker::Model;
 /// for those that were reaped.
 #[derive(Drop)]
 pub struct Remains {
-    board: Board,
-    seat: Seat,
-    spare: Spare,
-    count: u32,
+    map: ReaderMap,
+    writer: Writer,
     next: u32,
 }
 
 impl Model for Remains {
-    ghost use Rattle.nr_map.specs.Remains.{Left, Remaining};
+    ghost use Rattle.std.specs.Prelude.{◌≡◌};
+    ghost use Rattle.nr_map.specs.Remains.{Left};
 
     ghost Value = { Left };
 
-    ghost use Rattle.nr_board.specs.Callers.{token};
+    ghost view = { λ remains. record { writer = remains.writer; next = remains.next } };
 
-    ghost view = { λ remains. record { writer = token remains.seat; count = remains.count; next = remains.next } };
-
-    ghost invariant = { λ remains. Remaining remains.board remains.seat remains.spare remains.count };
+    ghost invariant = { λ remains. remains.writer.table ≡ remains.map };
 }
 
 impl ReaderMap {
@@ -42,24 +37,39 @@ impl ReaderMap {
         requires readers { All (λ reader. reader.table ≡ self) readers.items }
         ensures { TakenApart writer result }
     {
-        let ReaderMap { board } = self;
-        let Writer {
-            seat,
-            mut spare,
-            ..
-        } = writer;
-        let count = match spare.take_fresh() {
-            Some(slot) => slot,
-            None => board.shape().slots,
-        };
         drop(readers);
         Remains {
-            board,
-            seat,
-            spare,
-            count,
+            map: self,
+            writer,
             next: 0,
         }
+    }
+
+    /// Writes the set of the first slot from that one on that was ever taken and not reaped into the
+    /// caller's room, in 2n + 1 steps for n rows, and tells the slot after it. None where there is no
+    /// such slot; then the room stays as it is. This is for who has all tokens in one hand, so that
+    /// nobody holds the set, and can't give the map away; `Remains` is for all others.
+    pub fn set_from<R: RowRoom>(&self, writer: &mut Writer, from: u32, rows: &mut R) -> Option<u32>
+        requires own { writer.old.table ≡ self.now }
+        ensures { ComesOut R.shows from writer.old rows.old writer.new rows.new result }
+    {
+        let slot = writer.next_slot(from)?;
+        self.board.recall_set::<R>(&mut writer.seat, slot, rows);
+        Some(slot + 1)
+    }
+}
+
+impl Writer {
+    fn next_slot(&self, from: u32) -> Option<u32>
+        ensures next { NextSlot self.now from result }
+        ensures inside { IfSome result (λ slot. slot < self.now.table.shape.slots) }
+    {
+        for slot in from..self.spare.taken() {
+            if !self.spare.is_reaped(slot) {
+                return Some(slot);
+            }
+        }
+        None
     }
 }
 
@@ -69,22 +79,12 @@ impl Remains {
     pub fn next_into<R: RowRoom>(&mut self, rows: &mut R) -> bool
         ensures { NextOf R.shows self.old rows.old self.new rows.new result }
     {
-        let Some(slot) = self.next_slot() else {
-            return false;
-        };
-        self.board.recall_set::<R>(&mut self.seat, slot, rows);
-        self.next = slot + 1;
-        true
-    }
-
-    fn next_slot(&self) -> Option<u32>
-        ensures { NextSlot self.now result }
-    {
-        for slot in self.next..self.count {
-            if !self.spare.is_reaped(slot) {
-                return Some(slot);
+        match self.map.set_from(&mut self.writer, self.next, rows) {
+            Some(next) => {
+                self.next = next;
+                true
             }
+            None => false,
         }
-        None
     }
 }

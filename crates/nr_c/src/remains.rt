@@ -1,0 +1,70 @@
+//! A map that is taken apart, and the sets that come out of what remains.
+ghost use Rattle.std.specs.Prelude.{◌≡◌, []};
+ghost use Rattle.nr_c.specs.Live.{WhenLive, WhenOther};
+ghost use Rattle.nr_c.specs.Remains.{NextByCode, TakesApart};
+
+use crate::codes::{NR_CLOSED, NR_DONE, NR_GIVEN, NR_LIVE, NR_NOTHING, NR_READERS_OUT};
+use crate::rows::NrRows;
+use crate::writer_handle::NrWriter;
+use std::alloc::Global;
+use std::mem;
+
+/// The handle of what remains: the writer's, to which nobody writes any more.
+#[repr(C)]
+pub struct NrRemains {
+    pub(crate) handle: NrWriter,
+}
+
+/// Takes a map apart whose readers are all back, so that nobody holds a set: `NR_DONE`, the writer's
+/// handle leads nowhere any more, and `remains` to the sets that no call gave out. `NR_LIVE` where
+/// `remains` is live already, and `NR_READERS_OUT` where some reader isn't back; then both handles stay
+/// as they were. No step, and no memory.
+#[unsafe(no_mangle)]
+pub extern "C" fn nr_take_apart(writer: &mut NrWriter, remains: &mut NrRemains) -> u32
+    ensures { WhenOther result (TakesApart result) writer.old.live remains.old.handle.live writer.new.live remains.new.handle.live }
+{
+    if !writer.is_live() {
+        return NR_CLOSED;
+    }
+    if remains.handle.is_live() {
+        return NR_LIVE;
+    }
+    let side = writer.side();
+    if !side.has_all_readers() {
+        return NR_READERS_OUT;
+    }
+    side.next = 0;
+    mem::swap(writer, &mut remains.handle);
+    NR_DONE
+}
+
+/// Gives out the next set that was put and that no call gave out, filled keys' sets among them, in 2n + 1
+/// steps for n rows: `NR_GIVEN`, and `had` shows it. `NR_NOTHING` where all have come out, and `had`
+/// stays.
+#[unsafe(no_mangle)]
+pub extern "C" fn nr_next(remains: &mut NrRemains, had: &mut NrRows) -> u32
+    ensures { WhenLive result (had.new ≡ had.old) (NextByCode had.old had.new result) remains.old.handle.live remains.new.handle.live }
+{
+    if !remains.handle.is_live() {
+        return NR_CLOSED;
+    }
+    let side = remains.handle.side();
+    match side.map.set_from(&mut side.writer, side.next, had) {
+        Some(next) => {
+            side.next = next;
+            NR_GIVEN
+        }
+        None => NR_NOTHING,
+    }
+}
+
+/// Ends what remains, and the map's memory with it. The sets that have not come out are lost. Nothing
+/// happens where the handle isn't live.
+#[unsafe(no_mangle)]
+pub extern "C" fn nr_close_remains(alloc: Global, remains: &mut NrRemains)
+    ensures { remains.new.handle.live ≡ [] }
+{
+    if remains.handle.is_live() {
+        drop(remains.handle.close(alloc));
+    }
+}
