@@ -18,7 +18,7 @@ use Rattle.nr_load.specs.declared.load.LoadReport.{LoadReport}
 use Rattle.nr_load.specs.declared.load.Plan.{Plan}
 use Rattle.nr_load.specs.declared.threads.Joined.{Joined}
 use Rattle.nr_load.specs.declared.workers.Outcome.{Outcome}
-use Rattle.nr_load.specs.Base.{FindsRows}
+use Rattle.nr_load.specs.Base.{FindsRows, Rounds}
 use Rattle.nr_load.specs.Drawn.{stream_of}
 use Rattle.nr_load.specs.Ends.{Ended}
 use Rattle.nr_load.specs.Faults.{earlier}
@@ -117,6 +117,19 @@ module _ (t : Table) (plan : Plan) (joined : Joined) (e : Ended t plan.seed plan
       (subst (λ (n : ℕ). Tells plan.keys gained.entries 0 n) fills
       (subst (λ (n : ℕ). Tells n gained.entries 0 e.flowed.count) keys gained.tells))
 
+  rounds : (asked : ℕ) (account : IsAccount t joined.flowed.writer (map reader_of joined.outcomes.items) asked) → joined.flowed.fault ≡ None → (turns : ℕ) × (base : List ℕ) × Rounds 0 plan.keys turns (entries_of account.history 0) joined.flowed.fills base
+  rounds asked account faultless =
+      let gained = e.flowed.gained in
+      let told = e.flowed.rounds faultless in
+      let own : entries_of account.history 0 ≡ gained.entries = account.writes ∙ gained.mine ∙ ap (λ (l : List Entry). l ++ gained.entries) (new_writer t plan.seed plan.gets joined e) in
+      let keys : e.writer.table.shape.keys ≡ plan.keys = ap (λ (c : Caller). c.table.shape.keys) e.opened.writes ∙ keys_are in
+      let number : e.writer.number ≡ 0 = ap (λ (c : Caller). c.number) e.opened.writes in
+      let is : Rounds 0 plan.keys told.0 (entries_of account.history 0) joined.flowed.fills told.1 =
+      subst (λ (l : List Entry). Rounds 0 plan.keys told.0 l joined.flowed.fills told.1) (sym own)
+      (subst (λ (n : ℕ). Rounds n plan.keys told.0 gained.entries joined.flowed.fills told.1) number
+      (subst (λ (n : ℕ). Rounds e.writer.number n told.0 gained.entries joined.flowed.fills told.1) keys told.2)) in
+      (told.0, told.1, is)
+
   finds : (asked : ℕ) (account : IsAccount t joined.flowed.writer (map reader_of joined.outcomes.items) asked) → joined.flowed.fault ≡ None → FindsRows (replicate plan.keys 0) account.history
   finds asked account faultless =
       let gained = e.flowed.gained in
@@ -132,8 +145,8 @@ module _ (t : Table) (plan : Plan) (joined : Joined) (e : Ended t plan.seed plan
   -- the numbers of a report of such a load are those of its one history
   pub comes : (report : LoadReport) → IsAccount t joined.flowed.writer (map reader_of joined.outcomes.items) report.asked → joined.is_whole ≡ true → earliest None joined.outcomes.items ≡ None → joined.flowed.fault ≡ None → made_in joined.outcomes.items ≡ plan.readers * plan.gets
       → report.gets ≡ plan.readers * plan.gets → report.answered ≡ answered_in joined.outcomes.items → report.sends ≡ sends_in joined.outcomes.items
-      → report.fills ≡ of_all is_fill joined.flowed.writer (map reader_of joined.outcomes.items) → report.sends ≡ report.fills + report.asked → ComesTo plan report
-  comes report account whole none faultless all gets answered sends fills balance = record {
+      → report.fills ≡ of_all is_fill joined.flowed.writer (map reader_of joined.outcomes.items) → joined.flowed.fills ≡ report.fills → report.sends ≡ report.fills + report.asked → ComesTo plan report
+  comes report account whole none faultless all gets answered sends fills told balance = record {
     map = t;
     sizes = sizes;
     history = account.history;
@@ -143,6 +156,10 @@ module _ (t : Table) (plan : Plan) (joined : Joined) (e : Ended t plan.seed plan
     each = length-map joined.outcomes.items answered_of ∙ e.whole whole ∙ e.opened.count ∙ readers_are;
     works = λ at other low. makes_all report.asked account whole at other low (at_place none whole all at low);
     writes = writes report.asked account;
+    rounds =
+        let is = rounds report.asked account faultless in
+        let same : Rounds 0 plan.keys is.0 (entries_of account.history 0) report.fills is.1 = subst (λ (n : ℕ). Rounds 0 plan.keys is.0 (entries_of account.history 0) n is.1) told is.2 in
+        (is.0, is.1, same);
     finds = finds report.asked account faultless;
     gets = gets;
     answered = answered ∙ sym (total_answered joined.outcomes.items);

@@ -15,7 +15,7 @@ use Rattle.nr_serve.specs.declared.hands.Hands.{Hands}
 use Rattle.nr_load.specs.Balance.{of_all}
 use Rattle.nr_load.specs.declared.load.LoadReport.{LoadReport}
 use Rattle.nr_load.specs.declared.load.Plan.{Plan}
-use Rattle.nr_load.specs.Base.{FindsRows}
+use Rattle.nr_load.specs.Base.{FindsRows, Rounds}
 use Rattle.nr_load.specs.Drawn.{stream_of}
 use Rattle.nr_load.specs.Gained.{Tells}
 use Rattle.nr_load.specs.Works.{Works}
@@ -56,7 +56,9 @@ pub record ComesTo (plan : Plan) (report : LoadReport) : Type 0 where
   pub each : length answers ≡ plan.readers
   pub works : (at other : ℕ) → at < plan.readers → MakesAll plan map (at + 1) (slice_index_or answers at other) (entries_of history (at + 1))
   pub writes : Tells plan.keys (entries_of history 0) 0 (count_by is_fill history)
-  -- each find found the one row of its key that the base had then; the base began with `k:0` for each key k
+  -- the writer took that many triggers, and its calls are those of a base that began with `k:0` for each key k
+  pub rounds : (turns : ℕ) × (base : List ℕ) × Rounds 0 plan.keys turns (entries_of history 0) report.fills base
+  -- each find found the one row of its key that the base had then
   pub finds : FindsRows (replicate plan.keys 0) history
   pub gets : report.gets ≡ plan.readers * plan.gets
   pub answered : report.answered ≡ total (λ count. count) answers

@@ -1,4 +1,4 @@
-use Rattle.std.proofs.Common.{◌≡◌, ◌<◌, ◌==◌, ◌*◌, ℕ, true, List, All, sym, ap, ◌∙◌, subst, arith}
+use Rattle.std.proofs.Common.{◌≡◌, ◌<◌, ◌==◌, ◌*◌, ℕ, true, List, All, refl, sym, ap, ◌∙◌, subst, arith}
 use Rattle.std.proofs.lemmas.Bool.{eqb-true}
 use Rattle.nr_machine.specs.declared.shape.Shape.{Shape}
 use Rattle.nr_board.specs.Callers.{Caller}
@@ -75,4 +75,4 @@ returns-clause-report c =
     (subst (λ (rs : List Caller). IsAccount c.args.map.now c.args.joined.flowed.writer rs c.account-asked.result) c.collect-readers.ensures.readers c.account-asked.ensures.account)
     all.0 (sym c.collect-readers.ensures.fault ∙ all.2) all.3 (sym c.collect-readers.ensures.made ∙ eqb-true sums.made (c.from.result * c.from-2.result) all.1 ∙ gets) gets c.collect-readers.ensures.answered c.collect-readers.ensures.sends
     (subst (λ (rs : List Caller). c.args.joined.flowed.fills ≡ of_all is_fill c.args.joined.flowed.writer rs) c.collect-readers.ensures.readers c.account-asked.ensures.fills)
-    c.account-asked.ensures.balance
+    refl c.account-asked.ensures.balance
