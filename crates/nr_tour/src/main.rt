@@ -60,6 +60,7 @@ fn show_sizes<R: AllocGlobal + Print>(rt: &R) -> anyhow::Result<()> {
     let change = Batch::of(&CHANGE)?;
     rooms::show(rt, &rooms::passed_over(alloc)?)?;
     reclaiming::show(rt, &reclaiming::given_back(alloc)?)?;
+    reclaiming::show_left(rt, &reclaiming::left_in_place(alloc)?)?;
     slots::show(rt, &slots::short_of_slots(alloc, &change)?)?;
     let more = Batch::of(&MORE)?;
     sizes::show(rt, &sizes::kept_small(alloc, &change, &more)?)?;

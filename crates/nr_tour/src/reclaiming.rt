@@ -1,7 +1,7 @@
 //! What the sets of a map stood for comes back.
 ghost use Rattle.std.specs.Prelude.{◌≡◌, ◌<◌};
 
-use crate::calls::{CHANGE, ask};
+use crate::calls::{CHANGE, ask, fill};
 use nr_map::{FillFault, ReaderMap, Reaped, Reclaimed, Remains, ReplaceFault, UpdateFault, Writer};
 use nr_model::{OpenFault, Pile, Row};
 use std::alloc::Global;
@@ -74,6 +74,27 @@ pub fn given_back(alloc: Global) -> Result<GivenBack, OpenFault> {
     readers.push(one).map_err(|_| OpenFault::Memory)?;
     let (came, last) = take_out(map.take_apart(writer, readers));
     Ok(GivenBack { given, came, last })
+}
+
+/// A map that isn't given away, one of whose two slots was taken: its set comes out where it lies.
+pub fn left_in_place(alloc: Global) -> Result<([Option<u32>; 2], Pile), OpenFault> {
+    let (map, mut writer, mut readers) = ReaderMap::open(alloc, 1, 2, 1, 0)?;
+    let Some(mut one) = readers.pop() else {
+        unreachable!()
+    };
+    ask(&map, &mut one, 0);
+    let _filled = fill(&map, &mut writer, 0);
+    let mut rows = Pile::new();
+    let first = map.set_from(&mut writer, 0, &mut rows);
+    let second = match first {
+        Some(next) => map.set_from(&mut writer, next, &mut rows),
+        None => None,
+    };
+    Ok(([first, second], rows))
+}
+
+pub fn show_left<R: Print>(rt: &R, told: &([Option<u32>; 2], Pile)) -> io::Result<()> {
+    println!(rt; "  where it lies: {:?}: {:?}", told.0, told.1.as_slice())
 }
 
 pub fn show<R: Print>(rt: &R, told: &GivenBack) -> io::Result<()> {
