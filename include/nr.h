@@ -254,8 +254,8 @@ uint32_t nr_return_reader(nr_writer *writer, nr_reader *reader);
 void nr_close_reader(nr_reader *reader);
 void nr_close_writer(nr_writer *writer);
 
-/* Takes a map apart, each of whose readers is back: returned, or never opened. NR_DONE, the writer's handle is
-   zeros, and the live one of `remains` has the sets that no call gave out. NR_LIVE where `remains` is, or
+/* Takes a map apart, each of whose readers is back: returned, or never opened. NR_DONE: the writer's handle is zeros,
+   and `remains` is live and has the sets that no call gave out. NR_LIVE where `remains` is already, or
    NR_READERS_OUT, and then both stay as they were. A reader that was closed never comes back. No step. */
 uint32_t nr_take_apart(nr_writer *writer, nr_remains *remains);
 
@@ -345,7 +345,8 @@ uint32_t nr_replace(nr_writer *writer, uint32_t key, const nr_row *rows, size_t 
 /* As nr_fill, nr_update and nr_replace, and each gives out the set that its slot had, which no key has and no reader
    holds: NR_GIVEN in place of NR_DONE, after 2m + 1 steps more for a set of m rows, and `had` has them. `had` stays
    with each other answer: NR_DONE where the slot was never taken before, or nr_reap gave its set out. */
-uint32_t nr_fill_reclaiming(nr_writer *writer, uint32_t key, uint64_t number, const nr_row *rows, size_t n, nr_rows *had);
+uint32_t nr_fill_reclaiming(nr_writer *writer, uint32_t key, uint64_t number, const nr_row *rows, size_t n,
+  nr_rows *had);
 uint32_t nr_update_reclaiming(nr_writer *writer, uint32_t key, const nr_delta *deltas, size_t n, nr_rows *had);
 uint32_t nr_replace_reclaiming(nr_writer *writer, uint32_t key, const nr_row *rows, size_t n, nr_rows *had);
 

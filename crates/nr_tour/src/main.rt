@@ -11,6 +11,7 @@ mod clients;
 mod flow;
 mod gates;
 mod hands;
+mod in_place;
 mod large;
 mod lobbies;
 mod lookups;
@@ -61,6 +62,7 @@ fn show_sizes<R: AllocGlobal + Print>(rt: &R) -> anyhow::Result<()> {
     let change = Batch::of(&CHANGE)?;
     rooms::show(rt, &rooms::passed_over(alloc)?)?;
     reclaiming::show(rt, &reclaiming::given_back(alloc)?)?;
+    in_place::show(rt, &in_place::left_in_place(alloc)?)?;
     slots::show(rt, &slots::short_of_slots(alloc, &change)?)?;
     let more = Batch::of(&MORE)?;
     sizes::show(rt, &sizes::kept_small(alloc, &change, &more)?)?;
