@@ -2,9 +2,10 @@
 ghost use Rattle.std.specs.Prelude.{◌≡◌, ◌<◌, length, All, IfOk};
 ghost use Rattle.nr_held.specs.Caches.{AreOf, IsOf};
 
-use crate::calls::{ask, fill};
+use crate::calls::ask_and_fill;
+use crate::opening::opened;
 use nr_held::Cache;
-use nr_map::{Found, Hand, Reader, ReaderMap, Writer};
+use nr_map::{Found, Hand, Reader, ReaderMap};
 use nr_model::{OpenFault, RowSet};
 use std::alloc::Global;
 use std::io::{self, Print};
@@ -16,13 +17,15 @@ pub struct Cached {
     rows: RowSet,
 }
 
-// A map of 2 keys with a reader that asks, one that finds what no hand keeps, and one for a hand.
-fn opened_for_cache(alloc: Global) -> Result<(ReaderMap, Writer, Vec<Reader>), OpenFault>
-    ensures keys { IfOk result (λ opened. opened.0.shape.keys ≡ 2) }
-    ensures writer { IfOk result (λ opened. opened.1.table ≡ opened.0) }
-    ensures readers { IfOk result (λ opened. (length opened.2.items ≡ 3) × All (λ reader. reader.table ≡ opened.0) opened.2.items) }
+// A list of one reader.
+fn list_of(alloc: Global, map: &ReaderMap, reader: Reader) -> Result<Vec<Reader>, OpenFault>
+    requires own { reader.table ≡ map.now }
+    ensures own { IfOk result (λ readers. All (λ reader. reader.table ≡ map.now) readers.items) }
+    ensures some { IfOk result (λ readers. 0 < length readers.items) }
 {
-    ReaderMap::open(alloc, 2, 6, 3, 0)
+    let mut readers = Vec::new(alloc);
+    readers.push(reader).map_err(|_| OpenFault::Memory)?;
+    Ok(readers)
 }
 
 // A cache of those readers, one hand for each of the list.
@@ -75,19 +78,23 @@ fn end(map: &ReaderMap, mut hands: Vec<Hand>)
     hands.destroy_empty();
 }
 
+fn find_and_close(map: &ReaderMap, mut cache: Cache) -> Cached
+    requires own { IsOf map.now cache }
+    requires key { 0 < map.now.shape.keys }
+{
+    let told = find_often(map, &mut cache);
+    let (_once, hands) = cache.close(map);
+    end(map, hands);
+    told
+}
+
 /// A cache of one hand finds key 0 four times.
 pub fn found_often(alloc: Global) -> Result<Cached, OpenFault> {
-    let (map, mut writer, mut readers) = opened_for_cache(alloc)?;
-    let (Some(mut asking), Some(once)) = (readers.pop(), readers.pop()) else {
-        unreachable!()
-    };
-    ask(&map, &mut asking, 0);
-    let _filled = fill(&map, &mut writer, 0);
-    let mut cache = cache_of(alloc, &map, once, readers)?;
-    let told = find_often(&map, &mut cache);
-    let (_once, hands) = cache.close(&map);
-    end(&map, hands);
-    Ok(told)
+    let (map, mut writer, mut one, two) = opened(alloc, 2, 5)?;
+    ask_and_fill(&map, &mut one, &mut writer);
+    let readers = list_of(alloc, &map, two)?;
+    let cache = cache_of(alloc, &map, one, readers)?;
+    Ok(find_and_close(&map, cache))
 }
 
 pub fn show<R: Print>(rt: &R, told: &Cached) -> io::Result<()> {

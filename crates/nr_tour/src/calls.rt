@@ -85,6 +85,16 @@ pub fn fill(map: &ReaderMap, writer: &mut Writer, key: u32) -> Result<(), FillFa
     map.fill(writer, key, number, &set_of(map, &ROWS))
 }
 
+/// Requests key 0 and fills it.
+pub fn ask_and_fill(map: &ReaderMap, reader: &mut Reader, writer: &mut Writer)
+    requires own { (reader.old.table ≡ map.now) × (writer.old.table ≡ map.now) }
+    requires key { 0 < map.now.shape.keys }
+    ensures { (reader.new.table ≡ map.now) × (writer.new.table ≡ map.now) }
+{
+    ask(map, reader, 0);
+    fill(map, writer, 0).ok();
+}
+
 /// Changes a key's rows.
 pub fn update(
     map: &ReaderMap,

@@ -1,7 +1,7 @@
 //! A reader that keeps the set that it found, from one find to the next.
 ghost use Rattle.std.specs.Prelude.{◌≡◌, ◌<◌};
 
-use crate::calls::{ask, fill};
+use crate::calls::ask_and_fill;
 use crate::opening::opened;
 use nr_map::{Found, Hand, Reader, ReaderMap, Writer};
 use nr_model::{Batch, OpenFault, RowSet};
@@ -58,45 +58,67 @@ fn keep_over_update(map: &ReaderMap, writer: &mut Writer, hand: &mut Hand, chang
 }
 
 // What a hand holds can be kept as a pin for a while, and be given back to a hand.
-fn pin_anew(map: &ReaderMap, hand: Hand) -> Pinned
+fn through_pin(map: &ReaderMap, hand: Hand) -> Hand
+    requires own { hand.reader.table ≡ map.now }
+    ensures own { result.reader.table ≡ map.now }
+{
+    match hand.into_pin() {
+        Ok(pin) => Hand::of_pin(pin, 0),
+        Err(reader) => Hand::of(reader),
+    }
+}
+
+// Whether the key has the set that is held, whose rows are copied then.
+fn copy_again(map: &ReaderMap, hand: &mut Hand, rows: &mut RowSet) -> bool
+    requires own { hand.old.reader.table ≡ map.now }
+    requires key { 0 < map.now.shape.keys }
+    ensures own { hand.new.reader.table ≡ map.now }
+{
+    let again = hand.again(map, 0);
+    if again {
+        hand.copy_to(map, rows);
+    }
+    again
+}
+
+fn pin_anew(map: &ReaderMap, mut hand: Hand) -> Pinned
     requires own { hand.reader.table ≡ map.now }
     requires key { 0 < map.now.shape.keys }
 {
     let mut after = RowSet::new();
-    let mut hand = match hand.into_pin() {
-        Ok(pin) => Hand::of_pin(pin, 0),
-        Err(reader) => Hand::of(reader),
-    };
     // A hand that is to hold nothing for a while is released, so that no slot waits for it.
     hand.release(map);
     let pinned = hand.pin(map, 0);
-    let again = hand.again(map, 0);
-    if again {
-        hand.copy_to(map, &mut after);
-    }
+    let again = copy_again(map, &mut hand, &mut after);
     let count = hand.len();
     let once = hand.find(map, 0, &mut after);
     let left = hand.key();
-    let number = hand.number();
-    let reader = hand.into_reader(map);
+    let reader = hand.number();
+    hand.into_reader(map);
     Pinned {
         pinned: (pinned, count),
         again,
         once,
         left,
-        reader: if reader.number() == number { number } else { 0 },
+        reader,
     }
+}
+
+fn keep_and_pin(map: &ReaderMap, writer: &mut Writer, reader: Reader, change: &Batch) -> Told
+    requires own { (reader.table ≡ map.now) × (writer.old.table ≡ map.now) }
+    requires key { 0 < map.now.shape.keys }
+{
+    let mut hand = Hand::of(reader);
+    let kept = keep_over_update(map, writer, &mut hand, change);
+    let pinned = pin_anew(map, through_pin(map, hand));
+    Told { kept, pinned }
 }
 
 /// One reader finds key 0 three times, with an update before the last.
 pub fn kept_in_hand(alloc: Global, change: &Batch) -> Result<Told, OpenFault> {
     let (map, mut writer, mut one, _two) = opened(alloc, 2, 5)?;
-    ask(&map, &mut one, 0);
-    let _filled = fill(&map, &mut writer, 0);
-    let mut hand = Hand::of(one);
-    let kept = keep_over_update(&map, &mut writer, &mut hand, change);
-    let pinned = pin_anew(&map, hand);
-    Ok(Told { kept, pinned })
+    ask_and_fill(&map, &mut one, &mut writer);
+    Ok(keep_and_pin(&map, &mut writer, one, change))
 }
 
 pub fn show<R: Print>(rt: &R, told: &Told) -> io::Result<()> {

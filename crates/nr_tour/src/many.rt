@@ -1,7 +1,7 @@
 //! Several keys that are looked up by one call.
 ghost use Rattle.std.specs.Prelude.{◌≡◌, ◌<◌};
 
-use crate::calls::{ask, fill};
+use crate::calls::{ask, ask_and_fill, fill};
 use crate::opening::opened;
 use nr_map::{Found, Reader, ReaderMap, Wanted, Writer};
 use nr_model::{OpenFault, RowSet};
@@ -51,10 +51,9 @@ fn load(map: &ReaderMap, reader: &mut Reader)
 /// Key 0 is filled, and key 1 is filled between two looks at both.
 pub fn found_together(alloc: Global) -> Result<Many, OpenFault> {
     let (map, mut writer, mut one, _two) = opened(alloc, 2, 5)?;
-    ask(&map, &mut one, 0);
+    ask_and_fill(&map, &mut one, &mut writer);
     ask(&map, &mut one, 1);
     load(&map, &mut one);
-    let _filled = fill(&map, &mut writer, 0);
     Ok(find_together(&map, &mut writer, &mut one))
 }
 

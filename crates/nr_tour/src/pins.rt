@@ -1,7 +1,7 @@
 //! A set that a reader holds stays as it was.
 ghost use Rattle.std.specs.Prelude.{◌≡◌, ◌<◌};
 
-use crate::calls::{ask, fill, find};
+use crate::calls::{ask_and_fill, find};
 use crate::opening::opened;
 use nr_map::{Pin, Reader, ReaderMap, UpdateFault, Writer};
 use nr_model::{Batch, OpenFault, Row, RowSet};
@@ -74,8 +74,7 @@ fn hold_over_update(
 /// Reader 1 holds key 0's set while the key is updated; reader 2 finds the new one.
 pub fn kept_over_update(alloc: Global, change: &Batch) -> Result<Option<Kept>, OpenFault> {
     let (map, mut writer, mut one, mut two) = opened(alloc, 2, 5)?;
-    ask(&map, &mut one, 0);
-    let _filled = fill(&map, &mut writer, 0);
+    ask_and_fill(&map, &mut one, &mut writer);
     Ok(hold_over_update(&map, &mut writer, one, &mut two, change))
 }
 

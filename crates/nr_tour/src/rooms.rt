@@ -2,7 +2,7 @@
 ghost use Rattle.std.specs.Prelude.{◌≡◌, ◌<◌, IsTrue};
 ghost use Rattle.nr_model.specs.Rows.{is_ascending};
 
-use crate::calls::{CHANGE, ask, fill};
+use crate::calls::{CHANGE, ask, ask_and_fill};
 use crate::opening::opened;
 use nr_map::{FillFault, Found, Reader, ReaderMap, ReplaceFault, UpdateFault, Writer};
 use nr_model::{OpenFault, Pile, Row};
@@ -82,9 +82,8 @@ fn copy_rows(map: &ReaderMap, writer: &mut Writer, reader: &mut Reader) -> Copie
 /// set is replaced by key 1's.
 pub fn passed_over(alloc: Global) -> Result<Copied, OpenFault> {
     let (map, mut writer, mut one, _two) = opened(alloc, 2, 5)?;
-    ask(&map, &mut one, 0);
+    ask_and_fill(&map, &mut one, &mut writer);
     ask(&map, &mut one, 1);
-    let _filled = fill(&map, &mut writer, 0);
     Ok(copy_rows(&map, &mut writer, &mut one))
 }
 

@@ -1,7 +1,7 @@
 //! What to do where there is no slot.
 ghost use Rattle.std.specs.Prelude.{◌≡◌, ◌<◌};
 
-use crate::calls::{Told, ask, fill, update};
+use crate::calls::{Told, ask, ask_and_fill, fill, update};
 use crate::opening::opened;
 use nr_map::{Evict, FillFault, Reader, ReaderMap, UpdateFault, Writer};
 use nr_model::{Batch, OpenFault};
@@ -78,8 +78,7 @@ fn evict_another(map: &ReaderMap, writer: &mut Writer, change: &Batch) -> Full
 /// key, each reader and one more.
 pub fn short_of_slots(alloc: Global, change: &Batch) -> Result<Short, OpenFault> {
     let (map, mut writer, mut one, mut two) = opened(alloc, 2, 2)?;
-    ask(&map, &mut one, 0);
-    let _filled = fill(&map, &mut writer, 0);
+    ask_and_fill(&map, &mut one, &mut writer);
     let held = wait_for_pin(&map, &mut writer, one, &mut two, change);
     let full = evict_another(&map, &mut writer, change);
     Ok(Short { held, full })
