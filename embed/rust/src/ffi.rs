@@ -39,6 +39,8 @@ pub const NR_FULL: u32 = 24;
 pub const NR_EMPTY: u32 = 25;
 pub const NR_ALL_FILLED: u32 = 30;
 pub const NR_IN_THE_WAY: u32 = 33;
+pub const NR_GIVEN: u32 = 34;
+pub const NR_HELD: u32 = 35;
 
 extern "C" {
     pub fn nr_open(shape: *const Shape, writer: *mut Handle) -> u32;
@@ -59,6 +61,20 @@ extern "C" {
     pub fn nr_fill(writer: *mut Handle, key: u32, number: u64, rows: *const Row, n: usize) -> u32;
     pub fn nr_update(writer: *mut Handle, key: u32, deltas: *const Delta, n: usize) -> u32;
     pub fn nr_replace(writer: *mut Handle, key: u32, rows: *const Row, n: usize) -> u32;
+    pub fn nr_fill_reclaiming(
+        writer: *mut Handle,
+        key: u32,
+        number: u64,
+        rows: *const Row,
+        n: usize,
+        had: *mut Rows,
+    ) -> u32;
+    pub fn nr_update_reclaiming(writer: *mut Handle, key: u32, deltas: *const Delta, n: usize, had: *mut Rows) -> u32;
+    pub fn nr_replace_reclaiming(writer: *mut Handle, key: u32, rows: *const Row, n: usize, had: *mut Rows) -> u32;
+    pub fn nr_reap(writer: *mut Handle, had: *mut Rows) -> u32;
+    pub fn nr_take_apart(writer: *mut Handle, remains: *mut Handle) -> u32;
+    pub fn nr_next(remains: *mut Handle, had: *mut Rows) -> u32;
+    pub fn nr_close_remains(remains: *mut Handle);
     pub fn nr_evict(writer: *mut Handle, key: u32) -> u32;
     pub fn nr_cancel(writer: *mut Handle, key: u32) -> u32;
     pub fn nr_state(writer: *mut Handle, key: u32) -> u32;

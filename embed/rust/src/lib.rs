@@ -47,7 +47,8 @@
 //! orders memory: a channel, a lock, a join, or a release and an acquire of an atomic. Such a find gives the rows of that
 //! write or of a later one, and none only where the key was evicted since.
 //!
-//! A [`Lobby`] lists who waits for a missing key. Tokens go from thread to thread, but two threads never use one at a time:
+//! Keys of a [`ValueMap`] have values of any type in place of rows, which readers borrow. A [`Lobby`] lists who waits for a
+//! missing key. Tokens go from thread to thread, but two threads never use one at a time:
 //!
 //! ```compile_fail,E0277
 //! let readers = nr::ReaderMap::open(&nr::Shape::new(1, 3, 1)).unwrap().readers;
@@ -63,6 +64,32 @@
 //! let pin = readers[0].pin(0);
 //! let _ = readers[0].ask(0);
 //! drop(pin);
+//! ```
+//!
+//! A value is borrowed no longer than its guard is there, by one guard of a reader at a time, and goes to other threads
+//! where its type does:
+//!
+//! ```compile_fail,E0505
+//! fn late(mut reader: nr::ValueReader<String>) {
+//!     let found = reader.find(0).unwrap();
+//!     let text: &str = &found;
+//!     drop(found);
+//!     println!("{text}");
+//! }
+//! ```
+//!
+//! ```compile_fail,E0499
+//! fn two(mut reader: nr::ValueReader<String>) {
+//!     let one = reader.find_kept(0);
+//!     let _ = reader.find(1);
+//!     drop(one);
+//! }
+//! ```
+//!
+//! ```compile_fail,E0277
+//! fn elsewhere(mut reader: nr::ValueReader<std::rc::Rc<u8>>) {
+//!     std::thread::spawn(move || reader.let_go());
+//! }
 //! ```
 //!
 //! A ticket is made by a request alone, and there is one of it:
@@ -92,11 +119,13 @@ mod lobby;
 mod map;
 mod queue;
 mod reader;
+mod reclaiming;
 mod rows;
 mod shared_queue;
 #[cfg(test)]
 mod tests;
 mod ticket;
+mod values;
 mod writer;
 
 pub use answers::{Asked, Cancel, Fault, KeyKind, Updated};
@@ -104,7 +133,9 @@ pub use lobby::Lobby;
 pub use map::ReaderMap;
 pub use queue::{Poster, Queue, Taker};
 pub use reader::{Keeping, Pin, Reader};
+pub use reclaiming::{Reaped, Reclaimed, Remains};
 pub use rows::{Delta, Row, Rows, Shape, Sizes, Wanted};
 pub use shared_queue::{SharedPoster, SharedQueue, SharedTaker};
 pub use ticket::{Ticket, Unfilled, Unposted};
+pub use values::{UnfilledValue, UnreplacedValue, ValueMap, ValueReader, ValueRef, ValueWriter};
 pub use writer::Writer;

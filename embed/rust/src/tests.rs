@@ -2,6 +2,8 @@
 use crate::*;
 
 mod lobby;
+mod reclaiming;
+mod values;
 
 const ONE: Row = Row { a: 1, b: 1 };
 
