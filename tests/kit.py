@@ -1,5 +1,5 @@
-"""What the tests share: the kit's command rt as a module, with its checks of wrong bodies and its builds, and how many
-provers may run side by side."""
+"""What the tests share, and embed/archive with them: the kit's command rt as a module, with its checks of wrong bodies
+and its builds, and how many provers may run side by side."""
 import importlib.machinery
 import importlib.util
 import os
