@@ -1,6 +1,6 @@
-//! Who wakes those that sleep. No clause says that anybody is woken, so here one side waits until the
-//! other has surely gone to sleep, and notes whether it comes back before it is helped. On a slow machine
-//! that isn't sure, and what is asserted holds all the same.
+//! Who wakes those that sleep. No clause says that anybody is woken, so here one side gives the other
+//! time to fall asleep, and notes whether it comes back before it is helped. On a slow machine the other
+//! may not sleep yet, and what is asserted holds all the same.
 ghost use Rattle.std.specs.Prelude.{◌≡◌};
 
 use crate::opened::{Opened, Plain, end_client, end_flow};
