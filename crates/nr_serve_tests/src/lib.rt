@@ -14,3 +14,5 @@ mod scenes;
 mod threads;
 #[cfg(test)]
 mod told;
+#[cfg(test)]
+mod wakes;
