@@ -154,6 +154,11 @@ uint32_t nr_number(nr_writer *writer, uint32_t key, uint64_t *number) {
   return writer ? proved_nr_number(writer, key, number) : NR_CLOSED;
 }
 
+uint32_t proved_nr_stats(nr_writer *writer, nr_slots *slots);
+uint32_t nr_stats(nr_writer *writer, nr_slots *slots) {
+  return writer ? proved_nr_stats(writer, slots) : NR_CLOSED;
+}
+
 uint32_t proved_nr_meet(nr_reader *reader, nr_writer *writer);
 uint32_t nr_meet(nr_reader *reader, nr_writer *writer) {
   return reader && writer ? proved_nr_meet(reader, writer) : NR_CLOSED;

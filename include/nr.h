@@ -171,6 +171,14 @@ typedef struct nr_size {
   uint32_t rows;
 } nr_size;
 
+/* How a map's slots are in use: those that filled keys have; the retired ones, which were taken and no key has any
+   more, whether a reader holds them or they wait to be taken again; and those that were never taken. */
+typedef struct nr_slots {
+  uint32_t filled;
+  uint32_t retired;
+  uint32_t free;
+} nr_slots;
+
 /* Handles: the writer's, of which a map has one, and a reader's; that of a map which was taken apart; the taker's, of
    which a queue has one, and a poster's. */
 typedef struct nr_writer {
@@ -216,7 +224,7 @@ typedef struct nr_poster {
 
    Both are of embed/c/wait.c, a whole program whose dataflow sleeps too while nothing is posted.
    No slot: nothing has changed. After NR_NO_SLOT have readers release what they hold, or evict a key; after
-   NR_ALL_FILLED evict a key. Then call again.
+   NR_ALL_FILLED evict a key. Then call again. nr_stats tells how many slots there are of either kind.
    Keys that are hot together: give them numbers at least eight apart, since eight neighbours share a
    line of the cache and each find writes its key's word. A reader of its own for a hot key finds it by
    nr_find_kept, which writes nothing while the key keeps its set.
@@ -368,6 +376,11 @@ uint32_t nr_state(nr_writer *writer, uint32_t key);
 /* NR_DONE, and `number` is the number of the key's request, or of its next one where nobody asks: its fill
    has to name that number. No step. */
 uint32_t nr_number(nr_writer *writer, uint32_t key, uint64_t *number);
+
+/* Counts the map's slots, in 1 step: NR_DONE, and `slots` has how many are filled keys', retired and free, which
+   together are all. After NR_NO_SLOT or NR_ALL_FILLED none is free, and the retired ones are those that the call found
+   held. A retired slot counts as such until it is taken again, also once nr_reap gave its set out. */
+uint32_t nr_stats(nr_writer *writer, nr_slots *slots);
 
 /* WHICH READS SEE WHICH WRITES. A call of the writer that returned is seen by each find that begins after a
    message about it came: by a thread's start or join, a lock, or a sequentially consistent or a release and

@@ -53,11 +53,18 @@ static void test_writer(nr_writer *writer, nr_reader *reader) {
   WANTS(NR_SEND, nr_ask(reader, 1, &number));
   WANTS(NR_ALL_FILLED, nr_fill(writer, 1, number, &one, 1));
   WANTS(NR_ALL_FILLED, nr_fill_reclaiming(writer, 1, number, &one, 1, &rows));
+  nr_slots slots = {9, 9, 9};
+  WANTS(NR_DONE, nr_stats(writer, &slots));
+  wants("the filled key's slot", 1, slots.filled);
+  wants("no other slots", 0, slots.retired + slots.free);
   uint32_t count = 0;
   WANTS(NR_ROWS, nr_pin(reader, 0, &count));
   WANTS(NR_EVICTED, nr_evict(writer, 0));
   WANTS(NR_NO_SLOT, nr_fill(writer, 1, number, &one, 1));
   WANTS(NR_NO_SLOT, nr_fill_reclaiming(writer, 1, number, &one, 1, &rows));
+  WANTS(NR_DONE, nr_stats(writer, &slots));
+  wants("the slot that the reader holds", 1, slots.retired);
+  wants("no other slots", 0, slots.filled + slots.free);
   WANTS(NR_DONE, nr_release(reader));
   WANTS(NR_CANCELLED, nr_cancel(writer, 1));
   WANTS(NR_DONE, nr_number(writer, 1, &number));
@@ -299,6 +306,7 @@ static void test_closed(nr_writer *writer, nr_reader *reader, nr_remains *remain
   nr_reader opened = {0};
   nr_poster posts = {0};
   nr_remains left = {0};
+  nr_slots slots = {9, 9, 9};
   static nr_rows rows;
   rows.count = 99;
   WANTS(NR_CLOSED, nr_open_reader(writer, &opened));
@@ -328,6 +336,7 @@ static void test_closed(nr_writer *writer, nr_reader *reader, nr_remains *remain
   WANTS(NR_CLOSED, nr_cancel(writer, 0));
   WANTS(NR_CLOSED, nr_state(writer, 0));
   WANTS(NR_CLOSED, nr_number(writer, 0, &number));
+  WANTS(NR_CLOSED, nr_stats(writer, &slots));
   WANTS(NR_CLOSED, nr_meet(reader, writer));
   WANTS(NR_CLOSED, nr_meet_readers(reader, reader));
   WANTS(NR_CLOSED, nr_gather(writer, reader));
@@ -346,6 +355,7 @@ static void test_closed(nr_writer *writer, nr_reader *reader, nr_remains *remain
   wants("a number that stays", 88, (uint32_t)number);
   wants("a row that stays", 5, (uint32_t)row.a);
   wants("sizes that stay", 9, sizes.rows);
+  wants("counts that stay", 27, slots.filled + slots.retired + slots.free);
   wants("handles that stay zeros", 1, !opened.at && !posts.at && !left.at);
 }
 

@@ -35,6 +35,10 @@ LIES(nr_size, keys, 0);
 LIES(nr_size, slots, 4);
 LIES(nr_size, readers, 8);
 LIES(nr_size, rows, 12);
+TAKES(nr_slots, 12);
+LIES(nr_slots, filled, 0);
+LIES(nr_slots, retired, 4);
+LIES(nr_slots, free, 8);
 TAKES(nr_writer, 8);
 TAKES(nr_reader, 8);
 TAKES(nr_remains, 8);
@@ -102,6 +106,30 @@ static void test_sizes(nr_reader *reader) {
   wants("rows", 4, sizes.rows);
 }
 
+/* Three counts of which none is another: a replacement takes a fourth slot of six, and retires its key's old one. */
+static void test_slots(void) {
+  const nr_shape shape = {3, 6, 1, 1, 0, 0};
+  const nr_row row = {1, 1};
+  nr_writer writer = {0};
+  nr_reader reader = {0};
+  nr_slots slots;
+  wants("a map of six slots", NR_DONE, nr_open(&shape, &writer));
+  wants("its reader", NR_DONE, nr_open_reader(&writer, &reader));
+  for (uint32_t key = 0; key < 3; key++) {
+    uint64_t number;
+    wants("a request", NR_SEND, nr_ask(&reader, key, &number));
+    wants("a fill", NR_DONE, nr_fill(&writer, key, number, &row, 1));
+  }
+  wants("a replacement", NR_DONE, nr_replace(&writer, 0, &row, 1));
+  memset(&slots, 0xff, sizeof slots);
+  wants("the slots", NR_DONE, nr_stats(&writer, &slots));
+  wants("those of filled keys", 3, slots.filled);
+  wants("the retired ones", 1, slots.retired);
+  wants("the free ones", 2, slots.free);
+  nr_close_reader(&reader);
+  nr_close_writer(&writer);
+}
+
 /* Rows and signed rows come and go with their fields where they were. */
 static void test_rows(nr_writer *writer, nr_reader *reader) {
   uint64_t number = 0;
@@ -166,6 +194,7 @@ int main(void) {
   test_words();
   test_shape();
   test_closing();
+  test_slots();
   nr_shape shape = {3, 5, 2, 4, 11, 7};
   nr_writer writer = {0};
   nr_reader reader = {0}, second = {0}, third = {0};

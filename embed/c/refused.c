@@ -82,6 +82,9 @@ static void call_all(nr_writer *writer, nr_reader *reader, nr_reader *other, nr_
   uint64_t next;
   want(nr_number(writer, key, &next) == NR_DONE && next == number + 1, "the number of the next request");
   want(nr_sizes(reader, &sizes) == NR_DONE, "the sizes");
+  nr_slots slots;
+  want(nr_stats(writer, &slots) == NR_DONE && slots.filled + slots.free == 0, "no slot that isn't retired");
+  want(slots.retired == sizes.slots, "retired slots, of which one was reaped");
 }
 
 /* All openings with one refusal, after that many grants; whether there was one. */

@@ -125,6 +125,11 @@ pub learned_numbers : (table : Table) (seat new : MapSeat) (at found : ℕ) → 
 learned_numbers table seat new at found own learned desk is = subst (λ (p : Shape × Shape). AreNumbers p.0 (map_after p.1 new.me.0.seen) desk.numbers) (λ j. ((own j).shape, (sym (learned.learns seat.table_id).table j).shape))
     (subst (λ r. LearnsOf r seat.me.0 new.me.0 learned.news) is learned.of_readers).2
 
+-- and its lists too
+pub learned_lists : (table : Table) (seat new : MapSeat) (at found : ℕ) → (token seat).table ≡ table → Learned at found seat.me.0 new.me.0 → (desk : Desk) → seat.me.0.role ≡ Writer desk → Lists desk seat.me.0.marks table.shape new.me.0.seen
+learned_lists table seat new at found own learned desk is = subst (λ (s : Shape). Lists desk seat.me.0.marks s new.me.0.seen) (λ j. (own j).shape)
+    (subst (λ r. LearnsOf r seat.me.0 new.me.0 learned.news) is learned.of_readers).1
+
 pub heard_numbers : (table : Table) (seat new : MapSeat) (note : View) → (token seat).table ≡ table → Learns 1 (token seat) (token new) → HearsOf seat.me.0 note new.me.0 → (desk : Desk) → seat.me.0.role ≡ Writer desk → AreNumbers table.shape (map_seen (token new)) desk.numbers
 heard_numbers table seat new note own learns hears desk is = subst (λ (p : Shape × Shape). AreNumbers p.0 (map_after p.1 new.me.0.seen) desk.numbers) (λ j. ((own j).shape, (sym learns.table j).shape))
     (subst (λ r. LearnsOf r (told_by_note seat.me.0 note) new.me.0 hears.0) is hears.2).2

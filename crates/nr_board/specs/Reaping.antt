@@ -12,7 +12,7 @@ use Rattle.nr_machine.specs.declared.places.Retired.{Retired}
 use Rattle.nr_machine.specs.declared.roles.Desk.{Desk}
 use Rattle.nr_machine.specs.declared.roles.Role.TheVariants.{Writer}
 use Rattle.nr_machine.specs.declared.shape.Shape.{Shape}
-use Rattle.nr_marks.specs.Marks.{Marks, Past, set_in, with_polls, with_reaped}
+use Rattle.nr_marks.specs.Marks.{Past, set_in, with_polls, with_reaped}
 use Rattle.nr_marks.specs.MarkSteps.{ProbeTells}
 use Rattle.nr_board.specs.declared.answers.Reaped.{Reaped}
 use Rattle.nr_board.specs.declared.answers.Reaped.TheVariants as reaped

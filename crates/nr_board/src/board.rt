@@ -20,6 +20,7 @@ ghost use Rattle.nr_core.specs.Roles.{is_writer};
 ghost use Rattle.nr_machine.specs.Sizes.{IsShape};
 ghost use Rattle.nr_board.specs.Views.{rows_held, with_reader, next_reader, opener};
 ghost use Rattle.nr_board.specs.Callers.{Gains, Grows, Rests, map_seen, token};
+ghost use Rattle.nr_marks.specs.Exact.{Lists};
 ghost use Rattle.nr_marks.specs.Marks.{acted, set_in, with_polls};
 ghost use Rattle.nr_marks.specs.MarkSteps.{found_again};
 ghost use Rattle.nr_marks.specs.Puts.{put_number};
@@ -412,6 +413,20 @@ impl Board {
     {
         let words = &self.table.shared;
         words.load::<Sees>(seat, key as usize)
+    }
+
+    /// The token learns the history so far. Of the writer's lists it tells that they are those of that
+    /// history.
+    pub fn learn(&self, seat: &mut Seat)
+        requires own { (token seat.old).table ≡ self.now }
+        requires caller { IsCaller seat.old.me.0.role }
+        ensures learns { Learns 1 (token seat.old) (token seat.new) }
+        ensures role { (seat.new.table_id ≡ seat.old.table_id) × (seat.new.me.0.role ≡ seat.old.me.0.role) }
+        ensures lists { (desk : Desk) → seat.old.me.0.role ≡ Writer desk → Lists desk seat.old.me.0.marks self.now.shape seat.new.me.0.seen }
+        ensures numbers { (desk : Desk) → seat.old.me.0.role ≡ Writer desk → AreNumbers self.now.shape (map_seen (token seat.new)) desk.numbers }
+    {
+        let words = &self.table.shared;
+        words.load::<Sees>(seat, 0);
     }
 
     fn layout(&self) -> Layout

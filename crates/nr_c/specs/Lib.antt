@@ -17,6 +17,7 @@ pub mod Many
 pub mod Writes
 pub mod Reclaims
 pub mod Remains
+pub mod Slots
 pub mod PosterHandles
 pub mod PosterFollows
 pub mod TakerHandles

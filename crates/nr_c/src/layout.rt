@@ -6,6 +6,7 @@ use crate::reader_handle::NrReader;
 use crate::remains::NrRemains;
 use crate::rows::NrRows;
 use crate::sizes::{NrShape, NrSizes};
+use crate::slots::NrSlots;
 use crate::taker_handle::NrTaker;
 use crate::writer_handle::NrWriter;
 use nr_model::{Delta, Row};
@@ -22,6 +23,8 @@ const _: () = prove!(size_of::<NrWanted>() == 8 + 8 + 255 * 16);
 const _: () = prove!(size_of::<NrShape>() == 32);
 
 const _: () = prove!(size_of::<NrSizes>() == 16);
+
+const _: () = prove!(size_of::<NrSlots>() == 12);
 
 const _: () = prove!(size_of::<NrWriter>() == 8);
 

@@ -32,6 +32,7 @@ mod reclaims;
 mod remains;
 mod rows;
 mod sizes;
+mod slots;
 mod taker_handle;
 mod taker_lend;
 mod taker_side;

@@ -10,3 +10,4 @@ pub mod FindsEach
 pub mod FindsGroups
 pub mod RowBounds
 pub mod Ledgers
+pub mod SlotCounting

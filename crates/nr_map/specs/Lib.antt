@@ -11,3 +11,4 @@ pub mod SlotBounds
 pub mod RowBounds
 pub mod Reclaims
 pub mod Remains
+pub mod SlotCounts

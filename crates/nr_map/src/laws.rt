@@ -2,6 +2,7 @@
 ghost use Rattle.nr_map.specs.ExactPlaces.{DoneMeansFewerInUse, NoSlotMeansAllInUse};
 ghost use Rattle.nr_map.specs.Written.{FindsWhatItHeard, FindsWritten, HearsAllCalls, ReadsNoOlder};
 ghost use Rattle.nr_map.specs.SlotBounds.{NoSlotIsRare, PollsAreFew, RoomForFills, RoomForReplacements, RoomForUpdates};
+ghost use Rattle.nr_map.specs.SlotCounts.{CountsAtNoSlot};
 ghost use Rattle.nr_map.specs.Reclaims.{CancelLeaves, EvictionLeaves, HandedOutOnce, LedgerStays, NobodyHoldsIt, NoSlotLeaves, OpeningBegins, QuietLeaves, ReapedOnce};
 ghost use Rattle.nr_map.specs.Remains.{RestComesOutOnce};
 ghost use Rattle.nr_map.specs.RowBounds.{RowsFitTheMap};
@@ -80,6 +81,12 @@ pub fn room_for_updates()
 /// Nor is a replacement.
 pub fn room_for_replacements()
     ensures { RoomForReplacements }
+{}
+
+/// After a call that was answered `NoSlot` `slot_counts` tells what the answer told, and that no slot
+/// is free.
+pub fn counts_at_no_slot()
+    ensures { CountsAtNoSlot }
 {}
 
 /// A find that comes after a put of its key, in any legal history, has the rows of that put or of a

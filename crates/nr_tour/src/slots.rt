@@ -3,7 +3,7 @@ ghost use Rattle.std.specs.Prelude.{◌≡◌, ◌<◌};
 
 use crate::calls::{Told, ask, ask_and_fill, fill, update};
 use crate::opening::opened;
-use nr_map::{Evict, FillFault, Reader, ReaderMap, UpdateFault, Writer};
+use nr_map::{Evict, FillFault, Reader, ReaderMap, SlotCounts, UpdateFault, Writer};
 use nr_model::{Batch, OpenFault};
 use std::alloc::Global;
 use std::io::{self, Print};
@@ -17,6 +17,7 @@ pub struct Short {
 #[derive(Drop)]
 struct Held {
     none: Result<(), FillFault>,
+    counts: SlotCounts,
     still: Told,
     filled: Result<(), FillFault>,
 }
@@ -49,11 +50,13 @@ fn wait_for_pin(
     let _updated = update(map, writer, 0, change);
     ask(map, two, 1);
     let none = fill(map, writer, 1);
+    let counts = map.slot_counts(writer);
     let still = ask(map, two, 1);
     pin.release(map);
     let filled = fill(map, writer, 1);
     Some(Held {
         none,
+        counts,
         still,
         filled,
     })
@@ -87,8 +90,8 @@ pub fn short_of_slots(alloc: Global, change: &Batch) -> Result<Short, OpenFault>
 pub fn show<R: Print>(rt: &R, told: &Short) -> io::Result<()> {
     if let Some(held) = &told.held {
         println!(rt;
-            "No slot\n  a fill beside a pin: {:?}\n  the key is asked for: {:?}\n  the fill after the release: {:?}",
-            held.none, held.still, held.filled
+            "No slot\n  a fill beside a pin: {:?}\n  the slots: {:?}\n  the key is asked for: {:?}\n  the fill after the release: {:?}",
+            held.none, held.counts, held.still, held.filled
         )?;
     }
     println!(rt;

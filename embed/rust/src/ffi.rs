@@ -1,5 +1,5 @@
 //! The functions of `include/nr.h`.
-use crate::{Delta, Row, Rows, Shape, Sizes, Wanted};
+use crate::{Delta, Row, Rows, Shape, Sizes, SlotCounts, Wanted};
 use std::ffi::c_void;
 
 /// A handle of any kind. Each token of this crate opens one as it is made, so that it is live, and closes it as it is
@@ -79,6 +79,7 @@ extern "C" {
     pub fn nr_cancel(writer: *mut Handle, key: u32) -> u32;
     pub fn nr_state(writer: *mut Handle, key: u32) -> u32;
     pub fn nr_number(writer: *mut Handle, key: u32, number: *mut u64) -> u32;
+    pub fn nr_stats(writer: *mut Handle, slots: *mut SlotCounts) -> u32;
     pub fn nr_sizes(reader: *mut Handle, sizes: *mut Sizes) -> u32;
     pub fn nr_meet(reader: *mut Handle, writer: *mut Handle) -> u32;
     pub fn nr_meet_readers(reader: *mut Handle, other: *mut Handle) -> u32;

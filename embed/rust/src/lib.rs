@@ -134,7 +134,7 @@ pub use map::ReaderMap;
 pub use queue::{Poster, Queue, Taker};
 pub use reader::{Keeping, Pin, Reader};
 pub use reclaiming::{Reaped, Reclaimed, Remains};
-pub use rows::{Delta, Row, Rows, Shape, Sizes, Wanted};
+pub use rows::{Delta, Row, Rows, Shape, Sizes, SlotCounts, Wanted};
 pub use shared_queue::{SharedPoster, SharedQueue, SharedTaker};
 pub use ticket::{Ticket, Unfilled, Unposted};
 pub use values::{UnfilledValue, UnreplacedValue, ValueMap, ValueReader, ValueRef, ValueWriter};

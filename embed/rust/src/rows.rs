@@ -135,3 +135,15 @@ pub struct Sizes {
     /// How many rows a key may have.
     pub rows: u32,
 }
+
+/// How a map's slots are in use. The three are all its slots.
+#[repr(C)]
+#[derive(Clone, Copy, Debug, PartialEq, Eq)]
+pub struct SlotCounts {
+    /// How many slots filled keys have, each one of its own.
+    pub filled: u32,
+    /// How many were taken and no key has any more: a reader holds them, or they wait to be taken again.
+    pub retired: u32,
+    /// How many were never taken.
+    pub free: u32,
+}

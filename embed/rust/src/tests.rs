@@ -32,6 +32,16 @@ fn a_forgotten_pin_is_released_by_the_next_call() {
 }
 
 #[test]
+fn slots_are_filled_keys_or_retired_or_free() {
+    let ReaderMap { mut writer, mut readers } = ReaderMap::open(&Shape::new(2, 6, 1)).unwrap();
+    for key in 0..2 {
+        writer.fill(asked(&mut readers[0], key), &[ONE]).unwrap();
+    }
+    writer.replace(0, &[]).unwrap();
+    assert_eq!(writer.slot_counts(), SlotCounts { filled: 2, retired: 1, free: 3 });
+}
+
+#[test]
 fn a_pin_finds_its_key_until_it_is_put_anew() {
     let ReaderMap { mut writer, mut readers } = ReaderMap::open(&Shape::new(2, 4, 1)).unwrap();
     for key in 0..2 {

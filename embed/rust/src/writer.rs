@@ -2,7 +2,7 @@
 use crate::answers::done;
 use crate::ffi::{self, Handle};
 use crate::map::Map;
-use crate::{Cancel, Delta, Fault, KeyKind, Pin, Reader, Row, Rows, Ticket, Unfilled, Updated};
+use crate::{Cancel, Delta, Fault, KeyKind, Pin, Reader, Row, Rows, SlotCounts, Ticket, Unfilled, Updated};
 
 /// A map's writer. Each call that takes a key panics where the map has no such key.
 #[derive(Debug)]
@@ -128,6 +128,15 @@ impl Writer {
         // SAFETY: the handle is live, and the key was checked.
         unsafe { ffi::nr_number(&mut self.handle, key, &mut number) };
         number
+    }
+
+    /// How the map's slots are in use. After [`Fault::NoSlot`] or [`Fault::AllFilled`] none is free, and the retired ones
+    /// are those that the call found held.
+    pub fn slot_counts(&mut self) -> SlotCounts {
+        let mut counts = SlotCounts { filled: 0, retired: 0, free: 0 };
+        // SAFETY: the handle is live, and the counts are laid out as the header's.
+        unsafe { ffi::nr_stats(&mut self.handle, &mut counts) };
+        counts
     }
 
     /// Learns all that a reader of its map has seen, and then the reader all that the writer has. No key and no answer

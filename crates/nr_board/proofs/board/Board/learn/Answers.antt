@@ -1,0 +1,22 @@
+use Rattle.std.proofs.Common.{ap, arith, sym, ◌∙◌, ◌<◌}
+use Rattle.nr_machine.specs.declared.shape.Shape.{Shape}
+use Rattle.nr_board.proofs.Gathering.{learned_lists, learned_numbers, learns_seat}
+use Rattle.nr_board.proofs.Learning.{learns_so}
+use Rattle.nr_board.specs.Callers.{Table}
+use Rattle.nr_board.proofs.board.Board.learn.Goals as goal
+
+pub load-requires : goal.load-requires
+load-requires c = let shared = c.self.inside.table.shared in let about = c.self.invariant in let seat = c.args.seat.now in
+    let near : 0 < shared.key.keys = omega (arith, about.2, ap (λ (s : Shape). s.keys) about.0) in (
+      ap (λ (t : Table). t.id) (c.requires.own ∙ sym c.self.view_is),
+      omega (arith, ap (λ (s : Shape). s.keys) about.0),
+      learns_so shared.key seat.id seat.me 0 near c.requires.caller shared.table_id.slots,
+    )
+
+pub returns : goal.returns
+returns c = let learned = c.load.ensures.2 in record {
+  learns = learns_seat 0 c.load.result c.args.seat.now c.load.new.seat c.load.ensures.0 learned;
+  role = (c.load.ensures.0, learned.role);
+  lists = λ desk is. learned_lists c.args.self.now c.args.seat.now c.load.new.seat 0 c.load.result c.requires.own learned desk is;
+  numbers = λ desk is. learned_numbers c.args.self.now c.args.seat.now c.load.new.seat 0 c.load.result c.requires.own learned desk is;
+}
