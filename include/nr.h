@@ -2,26 +2,23 @@
    fills, updates and evicts them. Each function calls the proved map of this repository; what it does
    to the history that all callers share is its contract in crates/nr_c.
 
-   A handle starts as zeros, is live once its opening answered NR_DONE, and until it is closed, which leaves zeros
-   in it. Each call answers NR_CLOSED, without a step, where a handle that it takes isn't live, or where there is
-   NULL in place of one; nothing has changed then, and what the call would have told stays as it was.
+   A handle starts as zeros. It is live from when its opening answered NR_DONE until it is closed, which leaves
+   zeros in it. Each call answers NR_CLOSED where a handle that it takes isn't live, or NULL stands in its place.
+   Each call that takes a key answers NR_NO_KEY where the map, or the queue, wasn't opened with that many keys.
+   Either way it made no step, changed nothing, and left the caller's own values as they were.
 
    What the caller owes, in each function that takes them, and nothing tests:
-   - a live handle may be moved to another place, where alone it is then live. Nobody else copies it or writes
-     to it.
-   - a handle is used by one call at a time. It goes to another thread by that thread's start or
-     join, by a lock, or by a sequentially consistent atomic.
-   - any other pointer leads to one value of its type that nobody else uses during the call; `rows` and `deltas`
-     lead to as many as the number after them says, which nobody writes during the call.
+   - a live handle may be moved: it is copied once, and then the copy alone is used. Nobody else copies it or
+     writes to it.
+   - a handle is used by one call at a time, and a call that takes two handles takes two different ones. A handle
+     goes to another thread by that thread's start or join, by a lock, or by a sequentially consistent atomic.
+   - any other pointer leads to one value of its type that nobody else uses during the call. `rows` and `deltas`
+     lead to as many values as the number after them says, which nobody writes during the call.
    - no call is made from a signal handler, or in the forked child of a process with threads.
 
-   Each call that takes a key answers NR_NO_KEY, without a step, where the map, or the queue, wasn't opened
-   with that many keys; nothing has changed then, and what the call would have told stays as it was.
-
-   A step is one atomic operation on one 64-bit word. No call takes a lock or waits, and none takes
-   memory but those that open and nr_return_reader. Link: libnr.a (or libnr.so), and nothing else but
-   the C library. For Linux and processors of x86-64-v2, as those with SSE4.2 and POPCNT, which nothing
-   tests; C11 or C++11. */
+   A step is one atomic operation on one 64-bit word. No call takes a lock or waits. Memory is taken by openings,
+   nr_return_reader and nr_return_poster alone. Link: libnr.a (or libnr.so), and nothing else but the C library.
+   For Linux on processors of x86-64-v2, as those with SSE4.2 and POPCNT, which nothing tests; C11 or C++11. */
 #ifndef NR_H
 #define NR_H
 
@@ -37,21 +34,21 @@ extern "C" {
 
 #define NR_ROWS 0u       /* the key is filled, and its rows stand where they were asked for */
 #define NR_HOLE 1u       /* the key is not filled */
-#define NR_SEND 2u       /* nobody asked before: the caller sends the request up */
+#define NR_SEND 2u       /* this is the first request: the caller sends it to the dataflow */
 #define NR_WAITING 3u    /* a request is under way */
 #define NR_FILLED 4u     /* the key is filled */
 #define NR_DONE 5u       /* done; of an opening: the handle is live */
 #define NR_NOT_ASKED 6u  /* nobody asked for the key */
 #define NR_ALREADY 7u    /* the key is filled */
-#define NR_STALE 8u      /* the fill names another request than the key's, as one that was taken back */
+#define NR_STALE 8u      /* the fill names another ticket number than the request's, as one that was cancelled */
 #define NR_DROPPED 9u    /* the key is not filled, so the update or the replacement is dropped */
 #define NR_NO_ROW 10u    /* a row to be taken away is not there */
 #define NR_TOO_MANY 11u  /* more rows than a key may have */
 #define NR_NO_SLOT 12u   /* each slot is a filled key's or held by a reader, and readers hold some */
 #define NR_EVICTED 13u   /* the key was filled and is a hole now */
-#define NR_CANCELLED 14u /* the request is taken back; the key's next one gets the next number */
+#define NR_CANCELLED 14u /* the request is taken back; the key's next one gets the next ticket number */
 #define NR_NOTHING 15u   /* there was nothing to evict or to cancel, or nothing more to give out */
-#define NR_WORN 16u      /* the request has the last number, 4,194,303: its own fill alone ends it */
+#define NR_WORN 16u      /* the request has the last ticket number, 4,194,303: only its own fill ends it */
 #define NR_ASKED 17u     /* a request is under way */
 #define NR_BAD_BATCH 18u /* no signed rows, or more than 64 */
 #define NR_NOT_SORTED 19u /* a row is below the one before it */
@@ -61,15 +58,15 @@ extern "C" {
 #define NR_NO_POSTER 23u /* each poster had a handle already */
 #define NR_FULL 24u      /* the queue is full */
 #define NR_EMPTY 25u     /* the queue is empty */
-#define NR_OTHER 26u     /* the key hasn't, or no more, the set that the reader holds */
+#define NR_OTHER 26u     /* the key doesn't have the set that the reader holds, or has it no longer */
 #define NR_NO_KEY 27u    /* the map, or the queue, has no such key */
-#define NR_HOLDING 28u   /* the reader holds a set, which is to be released before */
+#define NR_HOLDING 28u   /* the reader holds a set, which must be released first */
 #define NR_NOT_HOLDING 29u /* the reader holds nothing */
 #define NR_ALL_FILLED 30u /* each slot is a filled key's, and no reader holds another */
-#define NR_CLOSED 31u    /* a handle isn't live: it was closed or never opened, or there is NULL in its place */
+#define NR_CLOSED 31u    /* a handle isn't live: it was closed or never opened, or is NULL */
 #define NR_LIVE 32u      /* the handle that is to be opened is live already */
-#define NR_IN_THE_WAY 33u /* another thread is in the midst of a call of its own: the same call may be made again */
-#define NR_GIVEN 34u     /* done, and a set came back: nobody holds it or can find it, and its rows stand in `had` */
+#define NR_IN_THE_WAY 33u /* another thread is within a call of its own: make the same call again */
+#define NR_GIVEN 34u     /* done, and a set came back, which nobody holds or can find: its rows are in `had` */
 #define NR_HELD 35u      /* sets wait, and a reader holds each of them */
 #define NR_READERS_OUT 36u /* some reader was not returned */
 
@@ -117,8 +114,8 @@ static inline const char *nr_strerror(uint32_t answer) {
   }
 }
 
-/* The version of this header, 0.1.0, whose three numbers have 8 bits each; and that for which the library was
-   made. Both are to be the same. */
+/* The version of this header, 0.1.0, whose three numbers have 8 bits each; and that of the library's, which has to
+   be the same. */
 #define NR_VERSION 0x000100
 uint32_t nr_version(void);
 
@@ -143,18 +140,19 @@ typedef struct nr_wanted {
   nr_rows rows;
 } nr_wanted;
 
-/* A row to be added where `plus` is true, and else to be taken away. */
+/* A signed row: to be added where `plus` is true, and else to be taken away. */
 typedef struct nr_delta {
   nr_row row;
   bool plus;
 } nr_delta;
 
 /* What a map is opened with: 1 to 65,536 keys, 1 to 131,072 slots and 1 to 1,024 readers; or 1 to 4,194,303
-   slots, 1 to as many keys and 1 to 65,535 readers; 1 to 255 rows a key; any count at which the slots'
-   departures begin, and a first number of requests up to 4,194,303.
+   slots, 1 to as many keys and 1 to 65,535 readers. A key may have `rows` rows, 1 to 255. `first_count` is any count,
+   at which the slots' departures begin, and `first_number` the keys' first ticket number, up to 4,194,303: both are 0
+   but in tests, which begin near the end of such a count.
    With a slot for each key, each reader and one more no fill, update or replacement answers NR_NO_SLOT or
    NR_ALL_FILLED. The map's words take 8 bytes a key and 16 * rows + 16 a slot, and as much again while it is
-   opened; the writer's lists take 8 bytes a key and 17 a slot beside them. */
+   opened. The writer's lists take 8 bytes a key and 17 a slot beside them. */
 typedef struct nr_shape {
   uint32_t keys;
   uint32_t slots;
@@ -171,8 +169,8 @@ typedef struct nr_size {
   uint32_t rows;
 } nr_size;
 
-/* How a map's slots are in use: those that filled keys have; the retired ones, which were taken and no key has any
-   more, whether a reader holds them or they wait to be taken again; and those that were never taken. */
+/* How a map's slots are in use: those that filled keys have; the retired ones, which no key has any more and which
+   were not taken again, held by readers or not; and those that were never taken. */
 typedef struct nr_slots {
   uint32_t filled;
   uint32_t retired;
@@ -203,7 +201,10 @@ typedef struct nr_poster {
 
 /* WORKING WITH IT
 
-   Waiting for a key: note how often you were woken, look, request, sleep, in this order; the thread that fills
+   A get. Find the key. At a hole request it by nr_ask. The caller that is answered NR_SEND hands the key and its
+   ticket number to the thread that writes, as by nr_post. That thread gets the key's rows and fills the key by
+   that ticket number.
+   Waiting for a key. Note how often you were woken, look, request, sleep, in this order. The thread that fills
    the key wakes after the fill. By a condition variable, with a count of fills under its lock:
 
      for (;;) {
@@ -223,38 +224,40 @@ typedef struct nr_poster {
      }
 
    Both are of embed/c/wait.c, a whole program whose dataflow sleeps too while nothing is posted.
-   No slot: nothing has changed. After NR_NO_SLOT have readers release what they hold, or evict a key; after
-   NR_ALL_FILLED evict a key. Then call again. nr_stats tells how many slots there are of either kind.
-   Keys that are hot together: give them numbers at least eight apart, since eight neighbours share a
-   line of the cache and each find writes its key's word. A reader of its own for a hot key finds it by
-   nr_find_kept, which writes nothing while the key keeps its set.
-   To fill keys before anybody reads: request each by a reader (nr_ask), and fill it by the number told.
-   Rows that refer to data of your own, as to a place in a store: who finds a set sees all that the writer's
-   thread had written to memory before it put the set, and may use the data while it holds the set (nr_pin,
+   No slot. Nothing has changed. After NR_NO_SLOT have readers release what they hold, or evict a key; after
+   NR_ALL_FILLED evict a key. Then make the call again. nr_stats counts the slots of either kind.
+   Hot keys. Keys that are hot together get numbers at least eight apart, since each find writes its key's word, and
+   eight neighbours share a line of the cache. A reader of its own for one hot key finds it by nr_find_kept, which
+   writes nothing while the key keeps its set.
+   Preloading. To fill keys before anybody reads, request each by a reader (nr_ask), and fill it by the ticket
+   number that it tells.
+   Your own data. Who finds a set sees all that the writer's thread had written to memory before it put the set.
+   The thread to which a set comes back (NR_GIVEN) sees all that readers had done before they released it. Who takes
+   a request sees all that its poster had written before it posted it.
+   Rows that refer to data, as by an index in a store. A reader may use the data while it holds the set (nr_pin,
    nr_find_kept). The data is freed once the set comes back, which each set does once: from a call that takes its
    slot (nr_fill_reclaiming, nr_update_reclaiming, nr_replace_reclaiming), from nr_reap, or from nr_next when the
-   map is at its end. A plain nr_fill, nr_update or nr_replace gives nothing out, and the set that its slot had
-   never comes back. embed/c/texts.c is a whole program.
-   So that little waits to be freed: open few slots beyond one a key and one a reader, since a call takes the slots
-   that were never taken first; and call nr_reap after each write, until it doesn't answer NR_GIVEN. Then what
-   readers hold waits alone. At most as many sets wait as there are slots.
-   Several maps behind one queue: open it for the sum of their keys, and post each key with the number
-   of keys of the maps before its own added.
-   first_count and first_number are 0 but in tests, which begin near the end of a count or of a number. */
+   map is at its end. Rows that an update kept are in its new set too. A plain nr_fill, nr_update or nr_replace
+   gives nothing out, and the set that its slot had never comes back. embed/c/texts.c is a whole program.
+   So that little waits to be freed, open few slots beyond one a key and one a reader, since a call takes the slots
+   that were never taken first, and call nr_reap after each write until it doesn't answer NR_GIVEN. Then only what
+   readers hold waits. At most as many sets wait as there are slots.
+   Several maps behind one queue. Open it for the sum of their keys, and post each key with the number of keys
+   of the maps before its own added. */
 
 /* OPENING AND CLOSING */
 
-/* Opens a map, and makes the writer's handle live. NR_DONE; NR_LIVE, NR_BAD_SIZE or NR_NO_MEMORY, and then the
-   handle stays as it was. */
+/* Opens a map, and makes the writer's handle live: NR_DONE. NR_LIVE where it is live already, NR_BAD_SIZE or
+   NR_NO_MEMORY, and then it stays as it was. */
 uint32_t nr_open(const nr_shape *shape, nr_writer *writer);
 
-/* Makes the handle of one of the map's readers live: of that which was returned last, and else those of higher
-   numbers first. NR_DONE; NR_LIVE where `reader` is, NR_NO_READER or NR_NO_MEMORY, and then it stays as it was. */
+/* Makes a reader's handle live, that of the reader which was returned last, and else of a new one: NR_DONE. NR_LIVE
+   where `reader` is live already, NR_NO_READER or NR_NO_MEMORY, and then it stays as it was. */
 uint32_t nr_open_reader(nr_writer *writer, nr_reader *reader);
 
-/* Ends a reader's handle, and gives the reader back, so that nr_open_reader opens it again: for threads that come
-   and go. What it holds is released. NR_DONE; or NR_NO_MEMORY, and then nothing has changed. Owed: both handles are
-   of one map. */
+/* Ends a reader's handle and gives the reader back, so that nr_open_reader opens it again: for threads that come and
+   go. What it holds is released. NR_DONE, and the handle is zeros; or NR_NO_MEMORY, and then nothing has changed. Owed:
+   both handles are of one map. */
 uint32_t nr_return_reader(nr_writer *writer, nr_reader *reader);
 
 /* End a handle, which is then zeros; where it isn't live, nothing happens. The map's memory goes with its last
@@ -262,20 +265,20 @@ uint32_t nr_return_reader(nr_writer *writer, nr_reader *reader);
 void nr_close_reader(nr_reader *reader);
 void nr_close_writer(nr_writer *writer);
 
-/* Takes a map apart, each of whose readers is back: returned, or never opened. NR_DONE: the writer's handle is zeros,
-   and `remains` is live and has the sets that no call gave out. NR_LIVE where `remains` is already, or
-   NR_READERS_OUT, and then both stay as they were. A reader that was closed never comes back. No step. */
+/* Takes a map apart, each of whose readers was returned or never opened: one that was closed never comes back. NR_DONE:
+   the writer's handle is zeros, and `remains` is live and has the sets that no call gave out. NR_LIVE where `remains`
+   is live already, or NR_READERS_OUT, and then both stay as they were. No step. */
 uint32_t nr_take_apart(nr_writer *writer, nr_remains *remains);
 
 /* Gives out the next set, filled keys' sets among them, in 2m + 1 steps for m rows: NR_GIVEN. NR_NOTHING once all have
    come out, and `had` stays. */
 uint32_t nr_next(nr_remains *remains, nr_rows *had);
 
-/* Ends the handle, which is then zeros, and the map's memory; where it isn't live, nothing happens. Sets that have
-   not come out are told no more. */
+/* Ends the handle, which is then zeros, and frees the map's memory; where it isn't live, nothing happens. Sets that
+   have not come out are lost. */
 void nr_close_remains(nr_remains *remains);
 
-/* WHAT A READER CALLS. nr_find, nr_find_each, nr_ask and nr_pin answer NR_HOLDING where it holds a set;
+/* WHAT A READER CALLS. nr_find, nr_find_each, nr_ask and nr_pin answer NR_HOLDING where it holds a set, and
    nr_row_at, nr_copy, nr_again and nr_release NR_NOT_HOLDING where it holds nothing. Then there was no step, and
    nothing has changed. */
 
@@ -284,27 +287,26 @@ void nr_close_remains(nr_remains *remains);
 uint32_t nr_find(nr_reader *reader, uint32_t key, nr_rows *rows);
 
 /* Looks each of n keys up, in their order, as nr_find does one, also a key that is wanted twice. NR_DONE, and each
-   has its answer beside it: NR_ROWS, and its own `rows` have its rows; or NR_HOLE, and they stay. NR_NO_KEY where one
-   of the keys is none, and then none is looked up. It takes the steps of all the finds and 2 loads a key, which are
-   made for 16 keys before these are found: so the caches fetch what 16 finds need at once. In large maps this is
-   faster than single finds. */
+   has its answer beside it: NR_ROWS, and its own `rows` have its rows; or NR_HOLE, and they stay as they were.
+   NR_NO_KEY where one of the keys isn't there, and then none is looked up. It takes the steps of all the finds and 2
+   loads a key, made for 16 keys before these are found, so that the caches fetch what 16 finds need at once. In large
+   maps this is faster than single finds. */
 uint32_t nr_find_each(nr_reader *reader, nr_wanted *wanted, size_t n);
 
-/* Requests a key, in 1 step. NR_SEND to the first since the key became a hole, and `number` is the
-   number of the request, which its fill has to name; NR_WAITING; NR_FILLED. `number` stays as it was
-   where it isn't NR_SEND. */
+/* Requests a key, in 1 step. NR_SEND to the first since the key became a hole, and `number` is the request's
+   ticket number, which its fill has to name. NR_WAITING or NR_FILLED, and then `number` stays as it was. */
 uint32_t nr_ask(nr_reader *reader, uint32_t key, uint64_t *number);
 
 /* Finds a key and holds its set, which stays as it is until it is released, whatever is filled, updated
-   or evicted meanwhile; its slot isn't used anew before. NR_ROWS after 2 steps, and `count` is the number
-   of its rows; NR_HOLE after 1, and then the reader holds nothing and `count` stays. */
+   or evicted meanwhile; its slot isn't used again before. NR_ROWS after 2 steps, and `count` is the number
+   of its rows; NR_HOLE after 1, and then the reader holds nothing and `count` stays as it was. */
 uint32_t nr_pin(nr_reader *reader, uint32_t key, uint32_t *count);
 
-/* A row of the held set, from 0, in 2 steps: NR_ROWS. NR_NO_ROW where it has no such row, without a step,
-   and `row` stays. */
+/* The row at index `place` of the held set, from 0, in 2 steps: NR_ROWS. NR_NO_ROW where it has no such row,
+   without a step, and `row` stays as it was. */
 uint32_t nr_row_at(nr_reader *reader, uint32_t place, nr_row *row);
 
-/* Writes the rows of the held set into `rows`, in 2 steps a row: NR_ROWS. */
+/* Copies the rows of the held set into `rows`, in 2 steps a row: NR_ROWS. */
 uint32_t nr_copy(nr_reader *reader, nr_rows *rows);
 
 /* Finds a key again, in 1 step, which loads one word and writes none. NR_ROWS where the key still has
@@ -314,10 +316,10 @@ uint32_t nr_copy(nr_reader *reader, nr_rows *rows);
 uint32_t nr_again(nr_reader *reader, uint32_t key);
 
 /* As nr_find, but the reader holds the set for the next call. Where the key still has the set that the
-   reader holds, NR_ROWS after 2n + 1 steps, which write no word. Else what was held is let go: NR_ROWS
-   after 2n + 2 steps; NR_HOLE after 1, and then the reader holds nothing and `rows` stays; 2 steps more
-   where something was held. A set that is held keeps its slot from being used anew, so a reader that
-   finds nothing for a while is to be released. */
+   reader holds, NR_ROWS after 2n + 1 steps, which write no word. Else what was held is released: NR_ROWS
+   after 2n + 2 steps; NR_HOLE after 1, and then the reader holds nothing and `rows` stays as it was; 2 steps
+   more where something was held. A set that is held keeps its slot from being used again, so release a reader
+   that finds nothing for a while. */
 uint32_t nr_find_kept(nr_reader *reader, uint32_t key, nr_rows *rows);
 
 /* Ends the hold, in 1 step: NR_DONE. */
@@ -332,67 +334,67 @@ uint32_t nr_sizes(nr_reader *reader, nr_size *sizes);
    was. */
 uint32_t nr_look(nr_writer *writer, uint32_t key, nr_rows *rows);
 
-/* Fills a key that was asked for, by the number of its request, with n rows in ascending order, doubles
-   kept. NR_TOO_MANY and NR_NOT_SORTED without a step; NR_NOT_ASKED, NR_ALREADY or NR_STALE after 1;
-   NR_DONE after 2n + 3 and a step for each slot that it polled, at most one more than there are
-   readers; NR_NO_SLOT or NR_ALL_FILLED. */
+/* Fills a key that was asked for, by its request's ticket number, with n rows in ascending order, duplicates
+   kept. NR_TOO_MANY and NR_NOT_SORTED without a step; NR_NOT_ASKED, NR_ALREADY or NR_STALE after 1; NR_DONE
+   after 2n + 3 and a poll of each slot that it tried, at most one more than there are readers; NR_NO_SLOT or
+   NR_ALL_FILLED after 1 and the polls. A poll is 1 step. */
 uint32_t nr_fill(nr_writer *writer, uint32_t key, uint64_t number, const nr_row *rows, size_t n);
 
-/* Applies 1 to 64 signed rows to the rows of a filled key, whole or not at all; all rows to be added
-   come before any is taken away, and how many rows there are is looked at in the result alone.
-   NR_BAD_BATCH without a step; NR_DROPPED after 1; with o rows before and
-   n after, NR_NO_ROW or NR_TOO_MANY after 2o + 2, NR_DONE after 2o + 2n + 4 and the polls; NR_NO_SLOT or
-   NR_ALL_FILLED. */
+/* Applies 1 to 64 signed rows to the rows of a filled key, whole or not at all. All rows to be added are added
+   before any is taken away, and only the result is tested for more rows than a key may have. NR_BAD_BATCH without
+   a step; NR_DROPPED after 1; with o rows before and n after, NR_NO_ROW or NR_TOO_MANY after 2o + 2, NR_DONE after
+   2o + 2n + 4 and the polls; NR_NO_SLOT or NR_ALL_FILLED after 2o + 2 and the polls. */
 uint32_t nr_update(nr_writer *writer, uint32_t key, const nr_delta *deltas, size_t n);
 
-/* Puts n rows in ascending order whole in place of a filled key's, by one publication and without a read of the old
-   ones. NR_TOO_MANY and NR_NOT_SORTED without a step; NR_DROPPED after 1; NR_DONE after 2n + 3 and the polls;
-   NR_NO_SLOT or NR_ALL_FILLED. */
+/* Puts n rows in ascending order in place of all rows of a filled key, at once and without a read of the old ones.
+   NR_TOO_MANY and NR_NOT_SORTED without a step; NR_DROPPED after 1; NR_DONE after 2n + 3 and the polls; NR_NO_SLOT or
+   NR_ALL_FILLED after 1 and the polls. */
 uint32_t nr_replace(nr_writer *writer, uint32_t key, const nr_row *rows, size_t n);
 
 /* As nr_fill, nr_update and nr_replace, and each gives out the set that its slot had, which no key has and no reader
-   holds: NR_GIVEN in place of NR_DONE, after 2m + 1 steps more for a set of m rows, and `had` has them. `had` stays
-   with each other answer: NR_DONE where the slot was never taken before, or nr_reap gave its set out. */
+   holds: NR_GIVEN instead of NR_DONE, after 2m + 1 steps more for a set of m rows, and `had` has them. NR_DONE where
+   the slot was never taken before, or nr_reap gave its set out. `had` stays as it was where it isn't NR_GIVEN. */
 uint32_t nr_fill_reclaiming(nr_writer *writer, uint32_t key, uint64_t number, const nr_row *rows, size_t n,
   nr_rows *had);
 uint32_t nr_update_reclaiming(nr_writer *writer, uint32_t key, const nr_delta *deltas, size_t n, nr_rows *had);
 uint32_t nr_replace_reclaiming(nr_writer *writer, uint32_t key, const nr_row *rows, size_t n, nr_rows *had);
 
-/* Gives out a set whose key has another by now or none, before its slot is taken again: the oldest that waits and
-   that no reader holds. NR_GIVEN, after 2m + 1 steps for a set of m rows, and one for each set that it polled, oldest
-   first; NR_HELD after the polls; NR_NOTHING, where no set waits, without a step. `had` stays where it isn't NR_GIVEN. */
+/* Gives out a set that no key has any more, before its slot is taken again: the oldest that waits and that no reader
+   holds. NR_GIVEN after a poll of each that waits, oldest first, up to that one, and 2m + 1 steps for its m rows;
+   NR_HELD after the polls; NR_NOTHING, where no set waits, without a step. `had` stays as it was where it isn't
+   NR_GIVEN. */
 uint32_t nr_reap(nr_writer *writer, nr_rows *had);
 
 /* Makes a filled key a hole. NR_EVICTED after 2 steps, NR_NOTHING after 1. */
 uint32_t nr_evict(nr_writer *writer, uint32_t key);
 
-/* Takes the request of a key back, so that the next one is sent anew and a late answer to the old one is
-   NR_STALE. NR_CANCELLED after 2 steps; NR_NOTHING or NR_WORN after 1. */
+/* Cancels the request of a key: the next request is answered NR_SEND, and a late fill for the old one NR_STALE.
+   NR_CANCELLED after 2 steps; NR_NOTHING or NR_WORN after 1. */
 uint32_t nr_cancel(nr_writer *writer, uint32_t key);
 
 /* What a key is, in 1 step: NR_HOLE, NR_ASKED or NR_ROWS. */
 uint32_t nr_state(nr_writer *writer, uint32_t key);
 
-/* NR_DONE, and `number` is the number of the key's request, or of its next one where nobody asks: its fill
-   has to name that number. No step. */
+/* NR_DONE, and `number` is the key's ticket number: that of its request, or of the next one where there is none. No
+   step. */
 uint32_t nr_number(nr_writer *writer, uint32_t key, uint64_t *number);
 
-/* Counts the map's slots, in 1 step: NR_DONE, and `slots` has how many are filled keys', retired and free, which
-   together are all. After NR_NO_SLOT or NR_ALL_FILLED none is free, and the retired ones are those that the call found
-   held. A retired slot counts as such until it is taken again, also once nr_reap gave its set out. */
+/* Counts the map's slots, in 1 step: NR_DONE. Together the three counts are all slots. After NR_NO_SLOT or
+   NR_ALL_FILLED none is free, and the retired ones are those that the call found held. A retired slot counts as such
+   until it is taken again, also once nr_reap gave its set out. */
 uint32_t nr_stats(nr_writer *writer, nr_slots *slots);
 
-/* WHICH READS SEE WHICH WRITES. A call of the writer that returned is seen by each find that begins after a
-   message about it came: by a thread's start or join, a lock, or a sequentially consistent or a release and
-   acquire atomic. Such a find gives the rows of that write or of a later one, and a hole only where the key was
-   evicted since; and a thread that read a set reads nothing older of the key later. Nobody has to call nr_meet
-   for that: in the map's contracts such a message carries a note, whose steps only load. These functions have
-   no notes, so no clause of theirs says it. */
+/* WHICH READS SEE WHICH WRITES. A call of the writer that returned is seen by each find that begins after a message
+   about it came: by a thread's start or join, a lock, or an atomic that is sequentially consistent, or released and
+   acquired. Such a find gives the rows of that write or of a later one, and a hole only where the key was evicted
+   since. A thread that read a set reads nothing older of that key later, by whichever handle. Without such a message
+   nothing is said of order in time. Nobody has to call nr_meet for this: in the map's contracts such a message carries
+   a note, whose steps only load. These functions have no notes, so no clause of theirs says it. */
 
-/* WHAT TOKENS LEARN OF EACH OTHER, in 1 step of the one that learns and 1 of the other: NR_DONE. It changes no
-   key and no answer: it says whose calls the one history has, in the contracts. NR_HOLDING where a reader holds
-   a set, but of nr_gather_pin NR_NOT_HOLDING where it holds nothing; then nothing has changed. Owed: both handles
-   are of one map. */
+/* WHAT HANDLES LEARN OF EACH OTHER. These calls change no key and no answer: they say whose calls the one history has,
+   in the contracts. NR_DONE; NR_HOLDING where a reader holds a set, but of nr_gather_pin NR_NOT_HOLDING where it holds
+   nothing, and then nothing has changed. A meeting takes 1 step of each handle, a gather 2. Owed: both handles are of
+   one map. */
 
 /* The reader learns all that the writer, or the other reader, has seen. */
 uint32_t nr_meet(nr_reader *reader, nr_writer *writer);
@@ -402,23 +404,25 @@ uint32_t nr_meet_readers(nr_reader *reader, nr_reader *other);
 uint32_t nr_gather(nr_writer *writer, nr_reader *reader);
 uint32_t nr_gather_pin(nr_writer *writer, nr_reader *reader);
 
-/* REQUESTS ON THEIR WAY TO THE WRITER: a queue without a lock, for many threads that post and one
-   that takes, first in first out. It knows nothing of a map but how many keys it has. What was taken, and
-   after it what the queue holds, is what was posted: each request once, and each poster's in their order.
-   A call makes one attempt and waits for nobody. Where it was answered NR_FULL, NR_EMPTY or NR_IN_THE_WAY
-   nothing has changed, and it may be made again: at once after NR_IN_THE_WAY. */
+/* REQUESTS ON THEIR WAY TO THE WRITER: a queue without a lock, for many threads that post and one that takes, first in
+   first out. Of a map it knows only how many keys it has. What was taken, followed by what the queue holds, is what
+   was posted: each request once, and each poster's in their order. A post or a take makes one attempt and waits for
+   nobody. After NR_FULL, NR_EMPTY or NR_IN_THE_WAY nothing has changed, and it may be made again: at once after
+   NR_IN_THE_WAY. */
 
 /* Opens a queue of 1 to 4,194,303 requests of keys below `keys`, with 1 to 65,535 posters, and makes the
-   taker's handle live. NR_DONE; NR_LIVE, NR_BAD_SIZE or NR_NO_MEMORY, and then the handle stays as it was. A map's
-   requests fit into as many places as it has keys, where none is taken back. */
+   taker's handle live: NR_DONE. NR_LIVE where it is live already, NR_BAD_SIZE or NR_NO_MEMORY, and then it stays as it
+   was. A capacity of the map's number of keys holds all its requests, where none is cancelled or filled before it is
+   taken. */
 uint32_t nr_open_queue(uint32_t keys, uint32_t capacity, uint32_t posters, nr_taker *taker);
 
-/* Makes the handle of one of the queue's posters live: of that which was returned last, and else those of higher
-   numbers first. NR_DONE; NR_LIVE where `poster` is, NR_NO_POSTER or NR_NO_MEMORY, and then it stays as it was. */
+/* Makes a poster's handle live, that of the poster which was returned last, and else of a new one: NR_DONE. NR_LIVE
+   where `poster` is live already, NR_NO_POSTER or NR_NO_MEMORY, and then it stays as it was. */
 uint32_t nr_open_poster(nr_taker *taker, nr_poster *poster);
 
-/* Ends a poster's handle, and gives the poster back, so that nr_open_poster opens it again: for threads that come and
-   go. NR_DONE; or NR_NO_MEMORY, and then nothing has changed. Owed: both handles are of one queue. */
+/* Ends a poster's handle and gives the poster back, so that nr_open_poster opens it again: for threads that come and
+   go. NR_DONE, and the handle is zeros; or NR_NO_MEMORY, and then nothing has changed. Owed: both handles are of one
+   queue. */
 uint32_t nr_return_poster(nr_taker *taker, nr_poster *poster);
 
 /* End a handle, which is then zeros; where it isn't live, nothing happens. The queue's memory goes with its last
@@ -426,12 +430,13 @@ uint32_t nr_return_poster(nr_taker *taker, nr_poster *poster);
 void nr_close_poster(nr_poster *poster);
 void nr_close_taker(nr_taker *taker);
 
-/* Puts a request at the back. NR_DONE; NR_FULL where the queue was full at one moment of the call; NR_IN_THE_WAY, also
-   once the queue has carried 2^62 requests. */
+/* Puts a request, a key and its ticket number, at the back. NR_DONE; NR_FULL where the queue was full at one moment of
+   the call; NR_IN_THE_WAY, also once the queue has carried 2^62 requests. The key stays asked until a request that was
+   answered NR_FULL is posted after all or cancelled, since nobody else gets NR_SEND. */
 uint32_t nr_post(nr_poster *poster, uint32_t key, uint64_t number);
 
-/* Takes the request at the front. NR_DONE, and `key` and `number` are its own; NR_EMPTY where the queue was
-   empty at one moment of the call, or NR_IN_THE_WAY, and they stay as they were. */
+/* Takes the request at the front. NR_DONE, and `key` and `number` are its key and ticket number; NR_EMPTY where the
+   queue was empty at one moment of the call, or NR_IN_THE_WAY, and they stay as they were. */
 uint32_t nr_take(nr_taker *taker, uint32_t *key, uint64_t *number);
 
 #ifdef __cplusplus

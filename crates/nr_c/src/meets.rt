@@ -29,8 +29,8 @@ pub extern "C" fn nr_meet(reader: &mut NrReader, writer: &mut NrWriter) -> u32
     NR_DONE
 }
 
-/// The writer learns all that the reader has seen, and then the reader all that the writer has: 3
-/// steps for each, `NR_DONE`. `NR_HOLDING`, with no step, where the reader holds a set.
+/// The writer learns all that the reader has seen, and then the reader all that the writer has, in 2
+/// steps of each: `NR_DONE`. `NR_HOLDING`, with no step, where the reader holds a set.
 #[unsafe(no_mangle)]
 pub extern "C" fn nr_gather(writer: &mut NrWriter, reader: &mut NrReader) -> u32
     requires rests { MayRead reader.old.live }
