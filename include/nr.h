@@ -216,7 +216,7 @@ typedef struct nr_poster {
        pthread_mutex_unlock(&lock);
      }
 
-   By an eventfd, which counts the wake-ups itself:
+   By an eventfd of its own, which counts the wake-ups itself:
 
      while (nr_find(&client->reader, key, rows) != NR_ROWS) {
        request(client, key);
