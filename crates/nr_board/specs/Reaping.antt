@@ -88,7 +88,7 @@ after_polls notes more caller = record caller { steps = caller.steps + (length n
 abbrev pub with_reap : ℕ → Caller → Caller
 with_reap slot caller = record caller { marks = with_reaped caller.marks slot }
 
--- A reap gives out the oldest set that waits and that nobody holds, by a poll of each up to it and a load of each word; or each that waits was held at its poll, or none waits. Else the token is as it was.
+-- A reap gives out the oldest set that waits and that nobody holds, by a poll of each up to it and a load of each word. Or each that waits was held at its poll, or none waits. Else the token is as it was.
 abbrev pub ReapsIn : {Room : Type 0} → (Room → List Row → Type 0) → Caller → Room → Caller → Room → Reaped → Type 0
 ReapsIn shows old before new after reaped.Set = (held later : List Retired) × (entry : Retired) × (notes : List Past) × (waiting old.marks.reaped old.retired ≡ held ++ entry ∷ later) × HeldEach held notes
     × shows after (set_in old.marks entry.slot) × IsRowSet old.table.shape.rows (set_in old.marks entry.slot)
