@@ -49,7 +49,7 @@ impl Model for SeqMap {
 }
 
 impl SeqMap {
-    /// A map of that many keys, each a hole with ask number 0, that may have 15 rows each. Refused
+    /// A map of that many keys, each a hole with ticket number 0, that may have 15 rows each. Refused
     /// unless there are 1 to 65,536 keys, and then where there is no memory.
     pub fn open(alloc: Global, keys: u32) -> Result<SeqMap, OpenFault>
         ensures bad_size { (result ≡ Err OpenFault.BadSize) ↔ IsBadSize MAX_KEYS keys }
@@ -58,7 +58,7 @@ impl SeqMap {
         SeqMap::open_with(alloc, keys, 0, DEFAULT_ROWS)
     }
 
-    /// A map of that many keys, each a hole with the first ask number, that may have that many rows
+    /// A map of that many keys, each a hole with the first ticket number, that may have that many rows
     /// each. Refused unless there are 1 to 65,536 keys, the number is at most 4,194,303 and the
     /// rows are 1 to 255, and then where there is no memory.
     pub fn open_with(

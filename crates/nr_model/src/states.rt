@@ -4,7 +4,7 @@ ghost use Rattle.nr_model.specs.Maps.{is_filled_key, number_of};
 
 use crate::rows::RowSet;
 
-/// The last ask number that a key can have.
+/// The last ticket number that a key can have.
 pub const LAST_NUMBER: u64 = 4_194_303;
 
 /// A key is missing, missing with an upquery under way, or filled. In each state it has its ask
@@ -24,7 +24,7 @@ impl KeyState {
         matches!(self, KeyState::Rows(_, _))
     }
 
-    /// The key's ask number, 0 to 4,194,303 in a map.
+    /// The key's ticket number, 0 to 4,194,303 in a map.
     pub fn number(&self) -> u64
         ensures { result ≡ number_of self.now }
     {

@@ -1,4 +1,4 @@
--- What a key's word says: whether the key is asked, whether it is filled, which slot it names or, where it is not filled, its ask number, and how many readers have arrived, modulo 2^40.
+-- What a key's word says: whether the key is asked, whether it is filled, which slot it names or, where it is not filled, its ticket number, and how many readers have arrived, modulo 2^40.
 use Rattle.std.specs.Prelude.{ℕ, ◌+◌, ◌*◌, ◌/◌, ◌%◌, ◌^◌, ◌==◌, Bool, true, false, if◌then◌else◌, bit_or, Option, Some, None}
 use Rattle.std.specs.Int.{from_bool}
 use Rattle.nr_words.specs.declared.key_words.KeyParts.{KeyParts}
@@ -36,7 +36,7 @@ parts_of word = record { ask = has_ask word; filled = is_filled word; slot = slo
 abbrev pub name_of : ℕ → Option ℕ
 name_of word = (if is_filled word then Some (slot_of word) else None)
 
--- the ask number that a word carries, if it is not filled
+-- the ticket number that a word carries, if it is not filled
 abbrev pub number_in : ℕ → Option ℕ
 number_in word = (if is_filled word then None else Some (slot_of word))
 

@@ -19,7 +19,7 @@ AskSetsFlag = (word : ℕ) → parts_of (with_ask word) ≡ record (parts_of wor
 abbrev pub ReadersKeepNames : Type 0
 ReadersKeepNames = (word : ℕ) → (name_of (with_arrival word) ≡ name_of word) × (name_of (with_ask word) ≡ name_of word)
 
--- neither an arrival nor a request changes the ask number that the word carries
+-- neither an arrival nor a request changes the ticket number that the word carries
 abbrev pub ReadersKeepNumbers : Type 0
 ReadersKeepNumbers = (word : ℕ) → (number_in (with_arrival word) ≡ number_in word) × (number_in (with_ask word) ≡ number_in word)
 

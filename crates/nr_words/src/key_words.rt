@@ -1,5 +1,5 @@
 //! A key's word: bit 0 says that the key is asked, bit 1 that it is filled, bits 2 to 23 are the
-//! slot that it names or, where it isn't filled, its ask number, and bits 24 to 63 count the readers
+//! slot that it names or, where it isn't filled, its ticket number, and bits 24 to 63 count the readers
 //! that arrived, modulo 2^40.
 ghost use Rattle.std.specs.Prelude.{◌≡◌, ◌<◌, ◌^◌, ◌==◌, ◌&&◌, false};
 ghost use Rattle.nr_words.specs.KeyWords.{hole_word, is_filled, key_word, naming, parts_of, same_count, slot_of};
@@ -18,7 +18,7 @@ const SLOT_MASK: u64 = (1 << 22) - 1;
 
 const ARRIVALS_SHIFT: u32 = 24;
 
-/// What a key's word packs. `slot` is the ask number of a key that isn't filled, and `ask` says
+/// What a key's word packs. `slot` is the ticket number of a key that isn't filled, and `ask` says
 /// nothing of one that is.
 #[derive(Clone, Copy, Debug, PartialEq, Eq)]
 pub struct KeyParts {
@@ -41,7 +41,7 @@ pub fn key_word(parts: KeyParts) -> u64
         | u64::from(parts.ask)
 }
 
-/// The word of a key that isn't filled, asked for or not: its ask number, below 2^22, and no
+/// The word of a key that isn't filled, asked for or not: its ticket number, below 2^22, and no
 /// arrivals.
 pub fn hole_word(number: u64, ask: bool) -> u64
     requires { number < 2 ^ 22 }

@@ -16,7 +16,7 @@ pub fn readers_keep_names()
     ensures { ReadersKeepNames }
 {}
 
-/// Neither an arrival nor a request changes the ask number that the word carries.
+/// Neither an arrival nor a request changes the ticket number that the word carries.
 pub fn readers_keep_numbers()
     ensures { ReadersKeepNumbers }
 {}

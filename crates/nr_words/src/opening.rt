@@ -7,7 +7,7 @@ use crate::key_words::hole_word;
 use crate::layout::Layout;
 use std::alloc::{AllocError, Global};
 
-/// The words of a new map in their layout: every key a hole with the first ask number, which is
+/// The words of a new map in their layout: every key a hole with the first ticket number, which is
 /// below 2^22, and every slot's departures the first count, any u64. Takes all memory of the words
 /// at once.
 pub fn opening_words(
