@@ -9,7 +9,7 @@ use Rattle.nr_alone.specs.Answers.{Answer}
 use Rattle.nr_alone.specs.MapState.{MapOutcome, MapState}
 use Rattle.nr_alone.specs.Rounds.{Gathered, WriterStays}
 use Rattle.nr_alone.specs.Tokens.{NotesFor}
-use Rattle.nr_alone.specs.declared.answer.Refusal.{Refusal}
+use Rattle.nr_alone.specs.declared.answer.PinRefusal.{PinRefusal}
 use Rattle.nr_alone.proofs.ReaderLines.{many_pins}
 use Rattle.nr_alone.proofs.Rounds.{same_length}
 
@@ -23,10 +23,21 @@ module _ {Z : Type 0} (table : Table) (w0 : Caller) (tokens : Vec ReaderToken Z)
     round_here w same g = subst (λ (l : List ReaderToken). Gathered at w0 l w' tokens') items (subst (λ (c : Caller). Gathered at c slice w' tokens') same g)
 
     -- the same where the writer made a note before the round
-    pub round_after_note : (w : Caller) (result : Result Answer Refusal) (answer : Answer) → result ≡ Ok answer → NotesFor w0 w result → Gathered at w slice w' tokens' → Gathered at w0 (set tokens.items at x) w' tokens'
+    pub round_after_note : (w : Caller) (result : Result Answer PinRefusal) (answer : Answer) → result ≡ Ok answer → NotesFor w0 w result → Gathered at w slice w' tokens' → Gathered at w0 (set tokens.items at x) w' tokens'
     round_after_note w result answer was notes g =
         let h = subst (λ (c : Caller). Gathered at c slice w' tokens') (subst (NotesFor w0 w) was notes) g in
-        let stays : WriterStays w0 h.mid = record { number = h.stays.number; mine = h.stays.mine; seen = h.stays.seen; only = record { table = h.stays.only.table; fresh = h.stays.only.fresh; retired = h.stays.only.retired; numbers = h.stays.only.numbers; marks = h.stays.only.marks } } in
+        let stays : WriterStays w0 h.mid = record {
+          number = h.stays.number;
+          mine = h.stays.mine;
+          seen = h.stays.seen;
+          only = record {
+            table = h.stays.only.table;
+            fresh = h.stays.only.fresh;
+            retired = h.stays.only.retired;
+            numbers = h.stays.only.numbers;
+            marks = h.stays.only.marks;
+          };
+        } in
         round_here w0 refl (record { mid = h.mid; stays = stays; sound = h.sound; all = h.all; heard = h.heard; round = h.round })
 
     module _ (len : length slice ≡ (with_item tokens at x).len) (g : Gathered at w0 (set tokens.items at x) w' tokens') where

@@ -68,7 +68,8 @@ module _ (table : Table) (w0 : Caller) (tokens0 : List ReaderToken) (alone : IsA
 
   module _ (at : ℕ) (x : ReaderToken) (low : at < length tokens0) (are : AreOf (suc at) es) (same_table : (caller_in x).table ≡ (caller_in (get_or tokens0 at x)).table)
       (same_number : (caller_in x).number ≡ (caller_in (get_or tokens0 at x)).number) (mine : mine_of x ≡ mine_of (get_or tokens0 at x) ++ es) (fits : TokenHoldsItsPin x) where
-    placed : (P : ℕ → ReaderToken → Type 0) → ((k : ℕ) (other : ReaderToken) → k < length tokens0 → P k (get_or tokens0 k other)) → P at x → (k : ℕ) (other : ReaderToken) → k < length (set tokens0 at x) → P k (get_or (set tokens0 at x) k other)
+    placed : (P : ℕ → ReaderToken → Type 0) → ((k : ℕ) (other : ReaderToken) → k < length tokens0 → P k (get_or tokens0 k other)) → P at x
+        → (k : ℕ) (other : ReaderToken) → k < length (set tokens0 at x) → P k (get_or (set tokens0 at x) k other)
     placed P all here k other inside = dite (ℕ_discrete k at)
         (λ is. subst (λ (n : ℕ). P n (get_or (set tokens0 at x) n other)) (sym is) (subst (λ (s : ReaderToken). P at s) (sym (get_or-set_same tokens0 at x other low)) here))
         (λ isnt. subst (λ (s : ReaderToken). P k s) (sym (get_or-set_other tokens0 at k x other isnt)) (all k other (omega (arith, length-set tokens0 at x, inside))))

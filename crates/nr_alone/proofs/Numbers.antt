@@ -59,7 +59,9 @@ number_is counts begins table w tokens alone key low =
     let callers : AreCallers shape goes.rest = callers_of_more shape log goes.rest (subst (λ (l : List Entry). AreCallers shape l) goes.is (subst (λ (t : Table). AreCallers t.shape w.seen) alone.stands.own alone.sound.callers)) in
     let his : entries_of w.seen 0 ≡ w.mine = ap (entries_of w.seen) (sym alone.stands.number) ∙ alone.sound.own in
     let none : entries_of goes.rest 0 ≡ [] = append_cancel_left w.mine (entries_of goes.rest 0) []
-    (ap (λ (l : List Entry). l ++ entries_of goes.rest 0) (sym (alone.stands.just 0)) ∙ sym (filter-append (λ (k : Entry). k.caller == 0) log goes.rest) ∙ ap (λ (l : List Entry). entries_of l 0) (sym goes.is) ∙ his ∙ sym (append-nil w.mine)) in
+    (ap (λ (l : List Entry). l ++ entries_of goes.rest 0) (sym (alone.stands.just 0))
+    ∙ sym (filter-append (λ (k : Entry). k.caller == 0) log goes.rest) ∙ ap (λ (l : List Entry). entries_of l 0) (sym goes.is) ∙ his
+    ∙ sym (append-nil w.mine)) in
     let same : cancels w.seen key ≡ cancels log key = omega (arith, ap (λ (l : List Entry). cancels l key) goes.is, both key log goes.rest, none_cancelled shape key goes.rest callers none) in
     ap (λ (t : Table). number_of (state_of (map_after t.shape w.seen) key)) alone.stands.own
     ∙ (counts shape.keys shape.rows shape.first_number key w.seen legal low).0

@@ -20,7 +20,7 @@ use Rattle.nr_board.specs.Kinds.{kind_of}
 use Rattle.nr_board.specs.Rule.{StartsWith}
 use Rattle.nr_alone.specs.Answers.{Answer}
 use Rattle.nr_alone.specs.Answers as answers
-use Rattle.nr_alone.specs.declared.answer.Refusal.TheVariants as refusals
+use Rattle.nr_alone.specs.declared.answer.PinRefusal.TheVariants as refusals
 use Rattle.nr_alone.specs.declared.reader_token.ReaderToken.{ReaderToken}
 use Rattle.nr_alone.specs.MapState.{MapOutcome, Pin, MapState, answer_again, answer_call, answer_pin, find_again, pin_at, pins_after, with_pin, without_pin}
 use Rattle.nr_alone.specs.Tokens.{Calls, AgainByToken, KeepsPin, TokenHoldsItsPin, HoldsItsPin, MakesCall, MakesPin, ShowsPin, Unpins, caller_in, mine_of, pin_of}
@@ -93,7 +93,8 @@ module _ (laws : Laws) (table : Table) (w0 : Caller) (tokens0 : List ReaderToken
   settled_at : (es : List Entry) → AreOf (suc at) es → (caller_in x).table ≡ (caller_in old).table → (caller_in x).number ≡ (caller_in old).number → mine_of x ≡ mine_of old ++ es → TokenHoldsItsPin x
       → SettlesLine table w0 tokens0 (set tokens0 at x) es g.mid.seen w' tokens'
   settled_at es are t n m fits = settled laws table w0 tokens0 w0 (set tokens0 at x) at es w' tokens' alone.stands
-      (reader_line table w0 tokens0 alone es at x low are (t ∙ ap (λ (s : ReaderToken). (caller_in s).table) (sym (here x))) (n ∙ ap (λ (s : ReaderToken). (caller_in s).number) (sym (here x))) (m ∙ ap (λ (s : ReaderToken). mine_of s ++ es) (sym (here x))) fits) g
+      (reader_line table w0 tokens0 alone es at x low are (t ∙ ap (λ (s : ReaderToken). (caller_in s).table) (sym (here x)))
+      (n ∙ ap (λ (s : ReaderToken). (caller_in s).number) (sym (here x))) (m ∙ ap (λ (s : ReaderToken). mine_of s ++ es) (sym (here x))) fits) g
 
   number_is : (caller_in old).number ≡ suc at
   number_is = ap (λ (s : ReaderToken). (caller_in s).number) (sym (here old)) ∙ (alone.places at old low).number

@@ -13,8 +13,8 @@ use Rattle.nr_model.specs.Strays.{keyed, strays}
 use Rattle.nr_machine.specs.declared.shape.Shape.{Shape}
 use Rattle.nr_alone.specs.Answers.{Answer}
 use Rattle.nr_alone.specs.Answers as answers
-use Rattle.nr_alone.specs.declared.answer.Refusal.{Refusal}
-use Rattle.nr_alone.specs.declared.answer.Refusal.TheVariants as refusals
+use Rattle.nr_alone.specs.declared.answer.PinRefusal.{PinRefusal}
+use Rattle.nr_alone.specs.declared.answer.PinRefusal.TheVariants as refusals
 
 -- a set that a reader pinned: its key, and the number that it had when it was put
 pub record Pin : Type 0 where
@@ -47,7 +47,7 @@ is_full state = filled_count state.map + strays (keyed state.map.states state.pu
 
 -- what a call is answered, or why it is refused, and the state after it
 abbrev pub MapOutcome : Type 0
-MapOutcome = Result Answer Refusal × MapState
+MapOutcome = Result Answer PinRefusal × MapState
 
 -- a call that is done puts a set
 abbrev pub puts_after : Reply → ℕ → MapState → List ℕ

@@ -15,8 +15,8 @@ use Rattle.nr_board.specs.Rule.{StartsWith}
 use Rattle.nr_alone.specs.MapState.{Pin}
 use Rattle.nr_alone.specs.Answers.{Answer}
 use Rattle.nr_alone.specs.Answers as answers
-use Rattle.nr_alone.specs.declared.answer.Refusal.{Refusal}
-use Rattle.nr_alone.specs.declared.answer.Refusal.TheVariants as refusals
+use Rattle.nr_alone.specs.declared.answer.PinRefusal.{PinRefusal}
+use Rattle.nr_alone.specs.declared.answer.PinRefusal.TheVariants as refusals
 use Rattle.nr_alone.specs.declared.reader_token.ReaderToken.{ReaderToken}
 use Rattle.nr_alone.specs.declared.reader_token.ReaderToken.TheVariants.{Idle, Pinned}
 
@@ -65,17 +65,17 @@ pub record Calls (heard : List Entry) (call : Call) (reply' : Reply) (old new : 
   pub own : KnowsOwn new
 
 -- for a call that is made the writer makes a note; else it stays as it is
-abbrev pub NotesFor : Caller → Caller → Result Answer Refusal → Type 0
+abbrev pub NotesFor : Caller → Caller → Result Answer PinRefusal → Type 0
 NotesFor old new (Ok answer) = new ≡ with_step old
 NotesFor old new (Err refusal) = new ≡ old
 
-abbrev pub MakesCall : List Entry → Call → ReaderToken → ReaderToken → Result Answer Refusal → Type 0
+abbrev pub MakesCall : List Entry → Call → ReaderToken → ReaderToken → Result Answer PinRefusal → Type 0
 MakesCall heard call old new (Ok answer) = (reply' : Reply) × (answer ≡ answers.Reply reply') × Calls heard call reply' (caller_in old) (caller_in new) × (pin_of old ≡ None) × (pin_of new ≡ None) × TokenHoldsItsPin new
 MakesCall heard call old new (Err refusals.Holding) = (new ≡ old) × IsSome (pin_of old)
 MakesCall heard call old new (Err refusals.NotHolding) = ⊥
 
 -- a pin is a find, made in some way: of a filled key it holds the rows of the reply, with the put number that the key had
-abbrev pub PinsBy : (Reply → Caller → Caller → Type 0) → ℕ → ReaderToken → ReaderToken → Result Answer Refusal → Type 0
+abbrev pub PinsBy : (Reply → Caller → Caller → Type 0) → ℕ → ReaderToken → ReaderToken → Result Answer PinRefusal → Type 0
 PinsBy Made key old new (Ok answers.Ok) =
     (rows : List Row) × Made (reply.Rows rows) (caller_in old) (caller_in new) × (pin_of old ≡ None) × (pin_of new ≡ Some (record { key = key; rows = rows; put = put_number (caller_in new).seen key })) × TokenHoldsItsPin new
 PinsBy Made key old new (Ok (answers.Reply reply')) = (reply' ≡ reply.Hole) × Made reply.Hole (caller_in old) (caller_in new) × (pin_of old ≡ None) × (pin_of new ≡ None) × TokenHoldsItsPin new
@@ -87,11 +87,11 @@ PinsBy Made key old new (Err refusals.NotHolding) = ⊥
 abbrev pub GainsFind : ℕ → Reply → Caller → Caller → Type 0
 GainsFind key reply' old new = (steps : ℕ) × Gains steps old (model.Find key) reply' new
 
-abbrev pub MakesPin : List Entry → ℕ → ReaderToken → ReaderToken → Result Answer Refusal → Type 0
+abbrev pub MakesPin : List Entry → ℕ → ReaderToken → ReaderToken → Result Answer PinRefusal → Type 0
 MakesPin heard key old new result = PinsBy (Calls heard (model.Find key)) key old new result
 
 -- the end of a pin
-abbrev pub Unpins : ReaderToken → ReaderToken → Result Answer Refusal → Type 0
+abbrev pub Unpins : ReaderToken → ReaderToken → Result Answer PinRefusal → Type 0
 Unpins old new (Ok answer) = (answer ≡ answers.Ok) × Rests 1 (caller_in old) (caller_in new) × IsSome (pin_of old) × (pin_of new ≡ None) × TokenHoldsItsPin new
 Unpins old new (Err refusals.Holding) = ⊥
 Unpins old new (Err refusals.NotHolding) = (new ≡ old) × (pin_of old ≡ None)
@@ -101,14 +101,14 @@ abbrev pub KeepsPin : ReaderToken → ReaderToken → Type 0
 KeepsPin old new = (pin_of new ≡ pin_of old) × ((caller_in new).holds ≡ (caller_in old).holds)
 
 -- steps that read the pinned rows
-abbrev pub ShowsPin : ReaderToken → ReaderToken → Result Answer Refusal → Type 0
+abbrev pub ShowsPin : ReaderToken → ReaderToken → Result Answer PinRefusal → Type 0
 ShowsPin old new (Ok answer) = (pin : Pin) × (pin_of old ≡ Some pin) × (answer ≡ answers.Reply (reply.Rows pin.rows)) × (steps : ℕ) × Rests steps (caller_in old) (caller_in new)
     × KeepsPin old new
 ShowsPin old new (Err refusals.Holding) = ⊥
 ShowsPin old new (Err refusals.NotHolding) = (new ≡ old) × (pin_of old ≡ None)
 
 -- a find by the pin: where the key has the set of its put it is the reader's call, answered with the pinned rows; else the reader learns the history so far
-abbrev pub AgainByToken : ℕ → ReaderToken → ReaderToken → Result Answer Refusal → Type 0
+abbrev pub AgainByToken : ℕ → ReaderToken → ReaderToken → Result Answer PinRefusal → Type 0
 AgainByToken key old new (Ok (answers.Reply reply')) = (pin : Pin) × (pin_of old ≡ Some pin) × (reply' ≡ reply.Rows pin.rows)
     × Calls (caller_in old).seen (model.Find key) reply' (caller_in old) (caller_in new) × HasPut key pin.put (caller_in new) × KeepsPin old new
 AgainByToken key old new (Ok answers.Other) = (pin : Pin) × (pin_of old ≡ Some pin) × Grows 1 (caller_in old) [] (caller_in new) × (HasPut key pin.put (caller_in new) → ⊥) × KeepsPin old new

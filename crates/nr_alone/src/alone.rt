@@ -6,7 +6,7 @@ ghost use Rattle.nr_alone.specs.Tokens.{caller_in};
 ghost use Rattle.nr_alone.specs.WriterCalls.{model_call, writer_key};
 ghost use Rattle.nr_alone.specs.declared.reader_token.ReaderToken.TheVariants.{Idle};
 
-use crate::answer::{Answer, Refusal};
+use crate::answer::{Answer, PinRefusal};
 use crate::calls::{again_at, ask_at, find_at, pin_at, show_at, unpin_at};
 use crate::premises::laws;
 use crate::reader_token::ReaderToken;
@@ -113,7 +113,7 @@ impl Alone {
         at: usize,
         key: u32,
         rows: &'a mut RowSet,
-    ) -> Result<Answer<'a>, Refusal>
+    ) -> Result<Answer<'a>, PinRefusal>
         requires reader { at < length self.old.pins }
         requires key { key < key_count self.old.map }
         ensures { answer_of_reader self.old at (model.Find key) ≡ (result, self.new) }
@@ -125,7 +125,7 @@ impl Alone {
     }
 
     /// A request of a reader's that has no pin.
-    pub fn ask(&mut self, at: usize, key: u32) -> Result<Answer<'static>, Refusal>
+    pub fn ask(&mut self, at: usize, key: u32) -> Result<Answer<'static>, PinRefusal>
         requires reader { at < length self.old.pins }
         requires key { key < key_count self.old.map }
         ensures { answer_of_reader self.old at (model.Ask key) ≡ (result, self.new) }
@@ -137,7 +137,7 @@ impl Alone {
     }
 
     /// A reader that has no pin pins the set of a key, if the key has one.
-    pub fn pin(&mut self, at: usize, key: u32) -> Result<Answer<'static>, Refusal>
+    pub fn pin(&mut self, at: usize, key: u32) -> Result<Answer<'static>, PinRefusal>
         requires reader { at < length self.old.pins }
         requires key { key < key_count self.old.map }
         ensures { answer_pinning self.old at key (state_of self.old.map key) ≡ (result, self.new) }
@@ -149,7 +149,7 @@ impl Alone {
     }
 
     /// Shows the set that a reader has pinned: its rows are written into the set.
-    pub fn show<'a>(&mut self, at: usize, rows: &'a mut RowSet) -> Result<Answer<'a>, Refusal>
+    pub fn show<'a>(&mut self, at: usize, rows: &'a mut RowSet) -> Result<Answer<'a>, PinRefusal>
         requires { at < length self.old.pins }
         ensures { answer_show self.old at ≡ (result, self.new) }
     {
@@ -166,7 +166,7 @@ impl Alone {
         at: usize,
         key: u32,
         rows: &'a mut RowSet,
-    ) -> Result<Answer<'a>, Refusal>
+    ) -> Result<Answer<'a>, PinRefusal>
         requires reader { at < length self.old.pins }
         requires key { key < key_count self.old.map }
         ensures { answer_again self.old at key ≡ (result, self.new) }
@@ -178,7 +178,7 @@ impl Alone {
     }
 
     /// Ends a reader's pin.
-    pub fn unpin(&mut self, at: usize) -> Result<Answer<'static>, Refusal>
+    pub fn unpin(&mut self, at: usize) -> Result<Answer<'static>, PinRefusal>
         requires { at < length self.old.pins }
         ensures { answer_unpin self.old at ≡ (result, self.new) }
     {

@@ -69,7 +69,7 @@ impl<'a> Answer<'a> {
 
 /// Why a reader's call is refused.
 #[derive(Clone, Copy, Debug, PartialEq, Eq)]
-pub enum Refusal {
+pub enum PinRefusal {
     /// The reader has a pin.
     Holding,
     /// The reader has none.

@@ -3,7 +3,7 @@ ghost use Rattle.std.specs.Prelude.{◌≡◌, ◌<◌};
 ghost use Rattle.nr_model.specs.declared.calls.Call.TheVariants as model;
 ghost use Rattle.nr_alone.specs.Tokens.{caller_in, AgainByToken, GainsFind, MakesCall, MakesPin, NotesFor, PinsBy, ShowsPin, Unpins};
 
-use crate::answer::{Answer, Refusal, Said};
+use crate::answer::{Answer, PinRefusal, Said};
 use crate::reader_token::ReaderToken;
 use core::mem::replace_with;
 use nr_map::{Asked, Found, ReaderMap, Writer};
@@ -17,14 +17,14 @@ pub(crate) fn find_at<'a>(
     token: &mut ReaderToken,
     key: u32,
     rows: &'a mut RowSet,
-) -> Result<Answer<'a>, Refusal>
+) -> Result<Answer<'a>, PinRefusal>
     requires own { (writer.old.table ≡ map.now) × ((caller_in token.old).table ≡ map.now) }
     requires key { key < map.now.shape.keys }
     ensures writer { NotesFor writer.old writer.new result }
     ensures made { MakesCall writer.old.seen (model.Find key) token.old token.new result }
 {
     let ReaderToken::Idle(reader) = token else {
-        return Err(Refusal::Holding);
+        return Err(PinRefusal::Holding);
     };
     map.meet(reader, writer);
     let said = match map.find(reader, key, rows) {
@@ -39,14 +39,14 @@ pub(crate) fn ask_at(
     writer: &mut Writer,
     token: &mut ReaderToken,
     key: u32,
-) -> Result<Answer<'static>, Refusal>
+) -> Result<Answer<'static>, PinRefusal>
     requires own { (writer.old.table ≡ map.now) × ((caller_in token.old).table ≡ map.now) }
     requires key { key < map.now.shape.keys }
     ensures writer { NotesFor writer.old writer.new result }
     ensures made { MakesCall writer.old.seen (model.Ask key) token.old token.new result }
 {
     let ReaderToken::Idle(asker) = token else {
-        return Err(Refusal::Holding);
+        return Err(PinRefusal::Holding);
     };
     map.meet(asker, writer);
     let said = match map.ask(asker, key) {
@@ -66,14 +66,14 @@ pub(crate) fn pin_at(
     writer: &mut Writer,
     token: &mut ReaderToken,
     key: u32,
-) -> Result<Answer<'static>, Refusal>
+) -> Result<Answer<'static>, PinRefusal>
     requires own { (writer.old.table ≡ map.now) × ((caller_in token.old).table ≡ map.now) }
     requires key { key < map.now.shape.keys }
     ensures writer { NotesFor writer.old writer.new result }
     ensures made { MakesPin writer.old.seen key token.old token.new result }
 {
     let ReaderToken::Idle(idle) = token else {
-        return Err(Refusal::Holding);
+        return Err(PinRefusal::Holding);
     };
     map.meet(idle, writer);
     replace_with(token, (map, key), pinned)
@@ -82,7 +82,7 @@ pub(crate) fn pin_at(
 fn pinned(
     token: ReaderToken,
     asked: (&ReaderMap, u32),
-) -> (ReaderToken, Result<Answer<'static>, Refusal>)
+) -> (ReaderToken, Result<Answer<'static>, PinRefusal>)
     requires own { (caller_in token).table ≡ asked.0.now }
     requires key { asked.1 < asked.0.now.shape.keys }
     ensures { PinsBy (GainsFind asked.entry.1) asked.entry.1 token result.0 result.1 }
@@ -93,7 +93,7 @@ fn pinned(
             Ok(pin) => (ReaderToken::Pinned(pin, key), Ok(Answer { said: Said::Ok })),
             Err(reader) => (ReaderToken::Idle(reader), Ok(Answer { said: Said::Hole })),
         },
-        ReaderToken::Pinned(pin, key) => (ReaderToken::Pinned(pin, key), Err(Refusal::Holding)),
+        ReaderToken::Pinned(pin, key) => (ReaderToken::Pinned(pin, key), Err(PinRefusal::Holding)),
     }
 }
 
@@ -102,12 +102,12 @@ pub(crate) fn show_at<'a>(
     map: &ReaderMap,
     token: &mut ReaderToken,
     rows: &'a mut RowSet,
-) -> Result<Answer<'a>, Refusal>
+) -> Result<Answer<'a>, PinRefusal>
     requires { (caller_in token.old).table ≡ map.now }
     ensures { ShowsPin token.old token.new result }
 {
     match token {
-        ReaderToken::Idle(_) => Err(Refusal::NotHolding),
+        ReaderToken::Idle(_) => Err(PinRefusal::NotHolding),
         ReaderToken::Pinned(pin, _) => {
             pin.copy_to(map, rows);
             Ok(Answer {
@@ -124,13 +124,13 @@ pub(crate) fn again_at<'a>(
     token: &mut ReaderToken,
     key: u32,
     rows: &'a mut RowSet,
-) -> Result<Answer<'a>, Refusal>
+) -> Result<Answer<'a>, PinRefusal>
     requires own { (caller_in token.old).table ≡ map.now }
     requires key { key < map.now.shape.keys }
     ensures { AgainByToken key token.old token.new result }
 {
     let ReaderToken::Pinned(pin, _) = token else {
-        return Err(Refusal::NotHolding);
+        return Err(PinRefusal::NotHolding);
     };
     if !pin.again(map, key) {
         return Ok(Answer { said: Said::Other });
@@ -141,19 +141,25 @@ pub(crate) fn again_at<'a>(
     })
 }
 
-pub(crate) fn unpin_at(map: &ReaderMap, token: &mut ReaderToken) -> Result<Answer<'static>, Refusal>
+pub(crate) fn unpin_at(
+    map: &ReaderMap,
+    token: &mut ReaderToken,
+) -> Result<Answer<'static>, PinRefusal>
     requires { (caller_in token.old).table ≡ map.now }
     ensures { Unpins token.old token.new result }
 {
     replace_with(token, map, released)
 }
 
-fn released(token: ReaderToken, map: &ReaderMap) -> (ReaderToken, Result<Answer<'static>, Refusal>)
+fn released(
+    token: ReaderToken,
+    map: &ReaderMap,
+) -> (ReaderToken, Result<Answer<'static>, PinRefusal>)
     requires { (caller_in token).table ≡ map.now }
     ensures { Unpins token result.0 result.1 }
 {
     match token {
-        ReaderToken::Idle(reader) => (ReaderToken::Idle(reader), Err(Refusal::NotHolding)),
+        ReaderToken::Idle(reader) => (ReaderToken::Idle(reader), Err(PinRefusal::NotHolding)),
         ReaderToken::Pinned(pin, _) => (
             ReaderToken::Idle(pin.release(map)),
             Ok(Answer { said: Said::Ok }),

@@ -11,5 +11,5 @@ mod round;
 mod writer_calls;
 
 pub use alone::Alone;
-pub use answer::{Answer, Refusal, Said};
+pub use answer::{Answer, PinRefusal, Said};
 pub use writer_calls::WriterCall;

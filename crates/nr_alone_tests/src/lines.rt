@@ -1,5 +1,5 @@
 //! Maps in one hand: what is answered where the slots run out, and what an opening's numbers do.
-use nr_alone::{Alone, Answer, Refusal, Said as Told, WriterCall};
+use nr_alone::{Alone, Answer, PinRefusal, Said as Told, WriterCall};
 use nr_map::Shape;
 use nr_model::{Batch, Delta, Row, RowSet};
 use std::process::Abort;
@@ -53,7 +53,7 @@ fn row(a: u64) -> Row {
     Row { a, b: a }
 }
 
-fn told(answer: Result<Answer<'_>, Refusal>) -> Said {
+fn told(answer: Result<Answer<'_>, PinRefusal>) -> Said {
     match answer {
         Ok(answer) => match answer.said() {
             Told::Ok => Said::Ok,
@@ -76,8 +76,8 @@ fn told(answer: Result<Answer<'_>, Refusal>) -> Said {
             Told::Other => Said::OtherSet,
             _ => Said::Other,
         },
-        Err(Refusal::Holding) => Said::Holding,
-        Err(Refusal::NotHolding) => Said::NotHolding,
+        Err(PinRefusal::Holding) => Said::Holding,
+        Err(PinRefusal::NotHolding) => Said::NotHolding,
     }
 }
 

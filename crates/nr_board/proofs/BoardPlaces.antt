@@ -15,7 +15,8 @@ pub record Stands (board : Table) (key : Shape) (words : ℕ) : Type 0 where
   pub few : board.shape.keys < 2 ^ 32
   pub fits : IsShape board.shape
 
-pub stands : {shown board : Table} {key : Shape} {words : ℕ} → shown ≡ board → (key ≡ shown.shape) × (words ≡ total_of (layout shown.shape)) × (0 < shown.shape.keys) × (shown.shape.keys < 2 ^ 32) × IsShape shown.shape → Stands board key words
+pub stands : {shown board : Table} {key : Shape} {words : ℕ} → shown ≡ board → (key ≡ shown.shape) × (words ≡ total_of (layout shown.shape))
+    × (0 < shown.shape.keys) × (shown.shape.keys < 2 ^ 32) × IsShape shown.shape → Stands board key words
 stands {key = key} {words = words} is kept = subst (λ (board : Table). Stands board key words) is (record { key_is = kept.0; size = kept.1; few = kept.3; fits = kept.4 })
 
 module _ {board : Table} {key : Shape} {words : ℕ} (stand : Stands board key words) where

@@ -42,7 +42,8 @@ given_brings bound (Evict key) given = tt
 given_brings bound (Cancel key) given = tt
 
 -- what a done fill leaves at its key is the set that it brings
-fill_leaves : (bound key number : ℕ) (new rows : List Row) (state : KeyState) → reply_at bound (model.Fill key number new) state ≡ reply.Done → state_after bound (model.Fill key number new) state ≡ states.Rows (number_of state) rows → new ≡ rows
+fill_leaves : (bound key number : ℕ) (new rows : List Row) (state : KeyState) → reply_at bound (model.Fill key number new) state ≡ reply.Done
+    → state_after bound (model.Fill key number new) state ≡ states.Rows (number_of state) rows → new ≡ rows
 fill_leaves bound key number new rows (states.Hole n) done leaves = absurd (cc)
 fill_leaves bound key number new rows (states.Asked n) done leaves = of_test (n == number) leaves
   where

@@ -78,7 +78,8 @@ pub record Compares (writer reader heard : View) (desk : Desk) (one : Past) : Ty
   pub current : Current desk.retired writer.marks one
   pub lists : Lists desk writer.marks writer.shape heard.seen
 
-compares_so : (writer reader heard told : View) (desk : Desk) (number : ℕ) (grip : Grip) → writer.role ≡ Writer desk → reader.role ≡ Reader number grip → heard.role ≡ Writer desk → HearsOf writer (note_of reader) heard → HearsOf reader (note_of heard) told
+compares_so : (writer reader heard told : View) (desk : Desk) (number : ℕ) (grip : Grip) → writer.role ≡ Writer desk
+    → reader.role ≡ Reader number grip → heard.role ≡ Writer desk → HearsOf writer (note_of reader) heard → HearsOf reader (note_of heard) told
     → Compares writer reader heard desk (past number grip reader.marks)
 compares_so writer reader heard told desk number grip writes reads still first second =
     let news = first.0 in let noted = told_by_note writer (note_of reader) in let asked = told_by_note reader (note_of heard) in
@@ -121,7 +122,8 @@ pub learns_seat : (at found : ℕ) (seat new : MapSeat) → new.table_id ≡ sea
 learns_seat at found seat new same learned = subst (λ (id : TableId). Learns 1 (token seat) (caller_of id new.me.0)) (sym same) (learned.learns seat.table_id)
 
 -- the writer's numbers are those of the history that it learnt
-pub learned_numbers : (table : Table) (seat new : MapSeat) (at found : ℕ) → (token seat).table ≡ table → Learned at found seat.me.0 new.me.0 → (desk : Desk) → seat.me.0.role ≡ Writer desk → AreNumbers table.shape (map_seen (token new)) desk.numbers
+pub learned_numbers : (table : Table) (seat new : MapSeat) (at found : ℕ) → (token seat).table ≡ table → Learned at found seat.me.0 new.me.0
+    → (desk : Desk) → seat.me.0.role ≡ Writer desk → AreNumbers table.shape (map_seen (token new)) desk.numbers
 learned_numbers table seat new at found own learned desk is = subst (λ (p : Shape × Shape). AreNumbers p.0 (map_after p.1 new.me.0.seen) desk.numbers) (λ j. ((own j).shape, (sym (learned.learns seat.table_id).table j).shape))
     (subst (λ r. LearnsOf r seat.me.0 new.me.0 learned.news) is learned.of_readers).2
 
@@ -130,7 +132,8 @@ pub learned_lists : (table : Table) (seat new : MapSeat) (at found : ℕ) → (t
 learned_lists table seat new at found own learned desk is = subst (λ (s : Shape). Lists desk seat.me.0.marks s new.me.0.seen) (λ j. (own j).shape)
     (subst (λ r. LearnsOf r seat.me.0 new.me.0 learned.news) is learned.of_readers).1
 
-pub heard_numbers : (table : Table) (seat new : MapSeat) (note : View) → (token seat).table ≡ table → Learns 1 (token seat) (token new) → HearsOf seat.me.0 note new.me.0 → (desk : Desk) → seat.me.0.role ≡ Writer desk → AreNumbers table.shape (map_seen (token new)) desk.numbers
+pub heard_numbers : (table : Table) (seat new : MapSeat) (note : View) → (token seat).table ≡ table → Learns 1 (token seat) (token new)
+    → HearsOf seat.me.0 note new.me.0 → (desk : Desk) → seat.me.0.role ≡ Writer desk → AreNumbers table.shape (map_seen (token new)) desk.numbers
 heard_numbers table seat new note own learns hears desk is = subst (λ (p : Shape × Shape). AreNumbers p.0 (map_after p.1 new.me.0.seen) desk.numbers) (λ j. ((own j).shape, (sym learns.table j).shape))
     (subst (λ r. LearnsOf r (told_by_note seat.me.0 note) new.me.0 hears.0) is hears.2).2
 
@@ -138,7 +141,8 @@ heard_numbers table seat new note own learns hears desk is = subst (λ (p : Shap
 module _ (writer reader heard lent last told : MapSeat) (fresh : ℕ) (retired : List Retired) (numbers : List ℕ) (number : ℕ) (grip : Grip)
     (writes : writer.me.0.role ≡ Writer (record { place = Idle; fresh = fresh; retired = retired; numbers = numbers })) (reads : reader.me.0.role ≡ Reader number grip) (stays : heard.me.0.role ≡ writer.me.0.role)
     (first : (lent.table_id ≡ reader.table_id) × (lent.me ≡ (has_noted reader.me.0, reader.me.1))) (second : (last.table_id ≡ heard.table_id) × (last.me ≡ (has_noted heard.me.0, heard.me.1)))
-    (meets : Meets 1 (token writer) (token reader) (token heard)) (meets_back : Meets 1 (token lent) (token heard) (token told)) (hears : HearsOf writer.me.0 (note_of reader.me.0) heard.me.0) (hears_back : HearsOf lent.me.0 (note_of heard.me.0) told.me.0) where
+    (meets : Meets 1 (token writer) (token reader) (token heard)) (meets_back : Meets 1 (token lent) (token heard) (token told))
+    (hears : HearsOf writer.me.0 (note_of reader.me.0) heard.me.0) (hears_back : HearsOf lent.me.0 (note_of heard.me.0) told.me.0) where
   abbrev desk : Desk
   desk = record { place = Idle; fresh = fresh; retired = retired; numbers = numbers }
 
@@ -164,7 +168,9 @@ module _ (writer reader heard lent last told : MapSeat) (fresh : ℕ) (retired :
   gathers_heard = let log = heard.me.0.seen in let learns = back.learns in let known = compares in record {
     of_reader = there;
     of_writer = back;
-    all = ap (entries_of log) (sym learns.number) ∙ just_calls log (token told) (subst (λ (p : ℕ × List Entry). StartsWith (entries_of log p.0) p.1) (λ j. (sym learns.number j, sym learns.mine j)) meets.calls) (back.seen, learns.own) ∙ learns.mine;
+    all = ap (entries_of log) (sym learns.number) ∙ just_calls log (token told)
+        (subst (λ (p : ℕ × List Entry). StartsWith (entries_of log p.0) p.1) (λ j. (sym learns.number j, sym learns.mine j)) meets.calls)
+        (back.seen, learns.own) ∙ learns.mine;
     place = 0;
     known = known.known ∙ ap some one_is;
     current = subst (λ (p : List Retired × Marks × Past). Current p.0 p.1 p.2) (λ j. ((desk_of (sym writes_still j)).retired, sym meets.learns.marks j, one_is j)) known.current;

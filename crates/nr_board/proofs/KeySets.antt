@@ -42,12 +42,16 @@ reads_first shape e log is none = ⊎_elim
     entries_skip e log other = ap (λ (b : Bool). cond b (e ∷ entries_of log 0) (entries_of log 0)) (ne_eqb e.caller 0 other)
 
 -- the set stays
-set_stays : (shape : Shape) (key number : ℕ) (rows : List Row) (log more : List Entry) → key < shape.keys → AreCallers shape more → entries_of more 0 ≡ [] → state_of (map_after shape log) key ≡ states.Rows number rows → state_of (map_after shape (log ++ more)) key ≡ states.Rows number rows
+set_stays : (shape : Shape) (key number : ℕ) (rows : List Row) (log more : List Entry) → key < shape.keys → AreCallers shape more
+    → entries_of more 0 ≡ [] → state_of (map_after shape log) key ≡ states.Rows number rows
+    → state_of (map_after shape (log ++ more)) key ≡ states.Rows number rows
 set_stays shape key number rows log [] near callers none had = ap (λ (l : List Entry). state_of (map_after shape l) key) (append-nil log) ∙ had
 set_stays shape key number rows log (e ∷ more) near callers none had =
     let first = reads_first shape e more callers.0 none in
     let now : state_of (map_after shape (log ++ e ∷ [])) key ≡ states.Rows number rows = dite (ℕ_discrete key (call_key e.call))
-    (λ same. ap (state_of (map_after shape (log ++ e ∷ []))) same ∙ state_same shape log e (subst (λ (k : ℕ). k < shape.keys) same near) ∙ ap (state_after (bound_of shape) e.call) (ap (state_of (map_after shape log)) (sym same) ∙ had) ∙ reading_leaves (bound_of shape) e.call number rows first.0)
+    (λ same. ap (state_of (map_after shape (log ++ e ∷ []))) same ∙ state_same shape log e (subst (λ (k : ℕ). k < shape.keys) same near)
+    ∙ ap (state_after (bound_of shape) e.call) (ap (state_of (map_after shape log)) (sym same) ∙ had)
+    ∙ reading_leaves (bound_of shape) e.call number rows first.0)
     (λ other. state_other shape log e key other ∙ had) in
     ap (λ (l : List Entry). state_of (map_after shape l) key) (sym (append_assoc log (e ∷ []) more)) ∙ set_stays shape key number rows (log ++ e ∷ []) more near callers.1 first.1 now
 
@@ -72,7 +76,8 @@ before_last (x ∷ xs) [] a b is = absurd (omega (arith, ap length is, length-ap
 before_last (x ∷ xs) (y ∷ ys) a b is = λ j. get_or (is j) 0 x ∷ before_last xs ys a b (ap (drop 1) is) j
 
 -- the set that the key had it has until the caller's next entry
-pub stays_between : (shape : Shape) (key number : ℕ) (rows : List Row) (mid new : Caller) (steps : ℕ) (entries : List Entry) → mid.table.shape ≡ shape → key < shape.keys → mid.number ≡ 0 → KnowsOwn mid → entries_of entries 0 ≡ entries → (then : Grows steps mid entries new)
+pub stays_between : (shape : Shape) (key number : ℕ) (rows : List Row) (mid new : Caller) (steps : ℕ) (entries : List Entry) → mid.table.shape ≡ shape
+    → key < shape.keys → mid.number ≡ 0 → KnowsOwn mid → entries_of entries 0 ≡ entries → (then : Grows steps mid entries new)
     → state_of (map_after shape mid.seen) key ≡ states.Rows number rows → state_of (map_after shape (mid.seen ++ then.between)) key ≡ states.Rows number rows
 stays_between shape key number rows mid new steps entries sized near writes own ours then had =
     let none : entries_of then.between 0 ≡ [] = ap (entries_of then.between) (sym writes) ∙ none_between steps mid entries new own (ap (entries_of entries) writes ∙ ours) then in
@@ -81,7 +86,9 @@ stays_between shape key number rows mid new steps entries sized near writes own 
     set_stays shape key number rows mid.seen then.between near callers none had
 
 -- a set that the key had in the middle of a call, it had before the call's entry
-pub had_before : (shape : Shape) (key number : ℕ) (rows : List Row) (old mid new : Caller) (steps after_steps : ℕ) (entries mine : List Entry) → old.table.shape ≡ shape → key < shape.keys → mid.number ≡ 0 → KnowsOwn mid → entries_of entries 0 ≡ entries → (then : Grows after_steps mid entries new) → (all : Grows steps old mine new)
+pub had_before : (shape : Shape) (key number : ℕ) (rows : List Row) (old mid new : Caller) (steps after_steps : ℕ) (entries mine : List Entry)
+    → old.table.shape ≡ shape → key < shape.keys → mid.number ≡ 0 → KnowsOwn mid → entries_of entries 0 ≡ entries
+    → (then : Grows after_steps mid entries new) → (all : Grows steps old mine new)
     → (old.seen ++ all.between ≡ mid.seen ++ then.between) → mid.table ≡ old.table → state_of (map_after shape mid.seen) key ≡ states.Rows number rows → KeyHad key rows old all.between
 had_before shape key number rows old mid new steps after_steps entries mine sized near writes own ours then all same table had =
     let now = stays_between shape key number rows mid new after_steps entries (ap (λ (t : Table). t.shape) table ∙ sized) near writes own ours then had in

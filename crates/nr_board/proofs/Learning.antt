@@ -64,7 +64,9 @@ module _ (shape : Shape) (id : ℕ) (me : Me (Unit {0}) View) (at : ℕ) (near :
   CanLearn notes = CanMark role_of marks_of shape id view view.told_pasts (Load at) (LoadsWord view.role) notes
 
   learns_by : (notes : MarkTelling) → CanLearn notes
-      → ((word : ℕ) (after : Role) (log : List Entry) (now : Marks) (news : List Past) (next : View) → view.shape ≡ shape → next.seen ≡ log → ((desk : Desk) → view.role ≡ Writer desk → AreNumbers shape (map_after shape log) desk.numbers) → notes word after log now news → (now ≡ view.marks) × LearnsOf view.role view next news)
+      → ((word : ℕ) (after : Role) (log : List Entry) (now : Marks) (news : List Past) (next : View) → view.shape ≡ shape → next.seen ≡ log
+      → ((desk : Desk) → view.role ≡ Writer desk → AreNumbers shape (map_after shape log) desk.numbers) → notes word after log now news
+      → (now ≡ view.marks) × LearnsOf view.role view next news)
       → Makes shape id view (Load at) me.1 (λ found next. Learned at found view next)
   learns_by notes marks tell = let tells = LoadsWord view.role in
       makes shape id view (Load at) tells notes me.1 (λ found next. Learned at found view next) view.told_pasts (learns shape id view.role at) marks (λ state kept there. kept.told_pasts id view there)
@@ -75,7 +77,9 @@ module _ (shape : Shape) (id : ℕ) (me : Me (Unit {0}) View) (at : ℕ) (near :
       let numbers : (desk : Desk) → view.role ≡ Writer desk → AreNumbers shape (map_after shape (kept.log ++ step.entries)) desk.numbers = λ desk is. (step.core.knows id (Writer desk) (there_after ∙ ap some (step.told.0 ∙ is))).numbers in
       let grown = tell found step.after (kept.log ++ step.entries) marked.now marked.news next sized refl numbers marked.told in
       let own = learned_own shape kept.log view fits step.after step.same step.writer step.reader step.entries step.own in
-      let acts : ActsGo view step.after step.entries marked.now = λ reads. let same_marks = ap (λ (m : Marks). m.acts) grown.0 in let hold = ap (λ r. to_depart (gripped (grip_of r))) step.told.0 in let none : acts_told step.entries ≡ 0 = ap acts_told step.told.1 in omega arith in
+      let acts : ActsGo view step.after step.entries marked.now = λ reads. let same_marks = ap (λ (m : Marks). m.acts) grown.0 in
+      let hold = ap (λ r. to_depart (gripped (grip_of r))) step.told.0 in let none : acts_told step.entries ≡ 0 = ap acts_told step.told.1 in
+      omega arith in
       chosen shape id view (Load at) tells notes state kept there step marked (ap caller_number step.told.0) sized callers acts (λ after. Learned at found view after) (record {
         role = step.told.0;
         learns = λ table. record {

@@ -39,7 +39,8 @@ other_fits shape log entries view fits none = record {
 }
 
 -- whether the caller of one token, another token is not that caller
-apart : (shape : Shape) (state : Table) → Kept shape state → (id other : ℕ) (view viewed : View) (caller : ℕ) → get_elem? state.views id ≡ some view → get_elem? state.views other ≡ some viewed → other ≢ id → is_by caller viewed.role ≡ true → is_by caller view.role ≡ false
+apart : (shape : Shape) (state : Table) → Kept shape state → (id other : ℕ) (view viewed : View) (caller : ℕ) → get_elem? state.views id ≡ some view
+    → get_elem? state.views other ≡ some viewed → other ≢ id → is_by caller viewed.role ≡ true → is_by caller view.role ≡ false
 apart shape state kept id other view viewed caller at there ne his =
     let two = terms_le (counts caller) (map role_of state.views) id other view.role viewed.role ne (at_map role_of state.views id view at) (at_map role_of state.views other viewed there) in let most = kept.once caller in
     let one : counts caller viewed.role ≡ 1 = ap (λ y. cond y 1 0) his in
@@ -70,7 +71,10 @@ module _ (shape : Shape) (id : ℕ) (view : View) (operation : Operation) (tells
   Marks state kept step = Remarked role_of marks_of shape state.words state.views kept.log id view operation step.after step.entries notes
 
   -- the token's view after a step, which fits the history and tells what it should
-  pub record Choice (state : Table) (kept : Kept shape state) (step : Stepped shape state.words (map role_of state.views) kept.log id view.role operation tells) (marked : Remarked role_of marks_of shape state.words state.views kept.log id view operation step.after step.entries notes) (then : View → Type 0) : Type 0 where
+  pub record Choice (state : Table) (kept : Kept shape state)
+      (step : Stepped shape state.words (map role_of state.views) kept.log id view.role operation tells)
+      (marked : Remarked role_of marks_of shape state.words state.views kept.log id view operation step.after step.entries notes)
+      (then : View → Type 0) : Type 0 where
     pub next : View
     pub role : next.role ≡ step.after
     pub made : next.made ≡ view.made
@@ -83,15 +87,18 @@ module _ (shape : Shape) (id : ℕ) (view : View) (operation : Operation) (tells
 
   -- whatever the table is, the token has such a view
   abbrev pub Chooses : (ℕ → View → Type 0) → Type 0
-  Chooses then = (state : Table) (kept : Kept shape state) → get_elem? state.views id ≡ some view → (step : Step state kept) (marked : Marks state kept step) → Choice state kept step marked (then (get_or state.words (target_of operation) 0))
+  Chooses then = (state : Table) (kept : Kept shape state) → get_elem? state.views id ≡ some view
+      → (step : Step state kept) (marked : Marks state kept step) → Choice state kept step marked (then (get_or state.words (target_of operation) 0))
 
   -- the rule after the step
-  keeps_rule : (state : Table) (kept : Kept shape state) (carried : List (ℕ × Unit {0})) (then : View → Type 0) → get_elem? state.views id ≡ some view → (step : Step state kept) (marked : Marks state kept step) (choice : Choice state kept step marked then)
+  keeps_rule : (state : Table) (kept : Kept shape state) (carried : List (ℕ × Unit {0})) (then : View → Type 0) → get_elem? state.views id ≡ some view
+      → (step : Step state kept) (marked : Marks state kept step) (choice : Choice state kept step marked then)
       → Kept shape (stepped state (target_of operation) (becomes operation (get_or state.words (target_of operation) 0)) id carried choice.next keeps)
   keeps_rule state kept carried then at step marked choice =
       let views = state.views in let next = choice.next in let views' = set views id next in let log' = kept.log ++ step.entries in
       let there = at_map role_of views id view at in
-      let known = knowing_step role_of marks_of pasts_of told_pasts_of shape state.words views kept.log id view operation step.after step.entries notes at kept.pasts kept.told_pasts marked next choice.role choice.marks choice.pasts choice.told_pasts in
+      let known = knowing_step role_of marks_of pasts_of told_pasts_of shape state.words views kept.log id view operation step.after step.entries
+      notes at kept.pasts kept.told_pasts marked next choice.role choice.marks choice.pasts choice.told_pasts in
       let roles : map role_of views' ≡ set (map role_of views) id step.after = map-set role_of views id next ∙ ap (set (map role_of views) id) choice.role in
       let tally : (caller : ℕ) → total (counts caller) (map role_of views') ≡ total (counts caller) (map role_of views) = λ caller.
       let same : counts caller step.after ≡ counts caller view.role = ap (λ y. cond y 1 0) (step.same caller) in
@@ -100,7 +107,8 @@ module _ (shape : Shape) (id : ℕ) (view : View) (operation : Operation) (tells
         core = subst (λ (rs : List Role). Core shape (set state.words (target_of operation) (becomes operation (get_or state.words (target_of operation) 0))) rs log') (sym roles) step.core;
         fits = λ j u e. ⊎_elim
             (λ (t : (j ≡ id) × (next ≡ u)). subst (Fits shape log') t.1 choice.fits)
-            (λ (t : (j ≢ id) × (get_elem? views j ≡ some u)). other_fits shape kept.log step.entries u (kept.fits j u t.1) (λ caller his. step.own caller ∙ ap (λ y. cond y step.entries []) (apart shape state kept id j view u caller at t.1 t.0 his)))
+            (λ (t : (j ≢ id) × (get_elem? views j ≡ some u)). other_fits shape kept.log step.entries u (kept.fits j u t.1)
+            (λ caller his. step.own caller ∙ ap (λ y. cond y step.entries []) (apart shape state kept id j view u caller at t.1 t.0 his)))
             (at_set views id j next u e);
         callers = callers_both shape kept.log step.entries kept.callers choice.callers;
         once = λ caller. let o = kept.once caller in omega (arith, tally caller);
@@ -110,7 +118,8 @@ module _ (shape : Shape) (id : ℕ) (view : View) (operation : Operation) (tells
         silent = λ caller later. let z = kept.fresh caller later in let part = term_le (counts caller) (map role_of views) id view.role there in
             let no : (y : Bool) → cond y 1 0 ≤ 0 → entries_of step.entries caller ≡ cond y step.entries [] → entries_of step.entries caller ≡ []
             = λ y. elim y as (λ y'. cond y' 1 0 ≤ 0 → entries_of step.entries caller ≡ cond y' step.entries [] → entries_of step.entries caller ≡ []) [ true ↦ λ q _. absurd (omega arith) | false ↦ λ _ q. q ] in
-            of-append caller kept.log step.entries ∙ ap (λ (l : List Entry). entries_of kept.log caller ++ l) (no (is_by caller view.role) (omega arith) (step.own caller)) ∙ append-nil (entries_of kept.log caller) ∙ kept.silent caller later;
+            of-append caller kept.log step.entries ∙ ap (λ (l : List Entry). entries_of kept.log caller ++ l)
+            (no (is_by caller view.role) (omega arith) (step.own caller)) ∙ append-nil (entries_of kept.log caller) ∙ kept.silent caller later;
         marked = marked.marked next choice.role choice.marks;
         pasts = known.0;
         told_pasts = known.1;

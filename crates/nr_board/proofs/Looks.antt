@@ -102,14 +102,20 @@ module _ (shape : Shape) (desk : Desk) (key word : ℕ) where
 
   module _ (number : ℕ) (rows : List Row) where
     pub fill_already : is_filled word ≡ true → looked shape desk (Fill key number rows) word ≡ (moved_to desk Idle, ended reply.Already)
-    fill_already full = ap (λ (b : Bool). cond {A = Desk × Step} b (moved_to desk Idle, ended reply.Already) (cond {A = Desk × Step} (has_ask word) (fill_asked shape desk (Fill key number rows) number rows (slot_of word)) (moved_to desk Idle, ended reply.NotAsked))) full
+    fill_already full = ap (λ (b : Bool). cond {A = Desk × Step} b (moved_to desk Idle, ended reply.Already)
+        (cond {A = Desk × Step} (has_ask word) (fill_asked shape desk (Fill key number rows) number rows (slot_of word))
+        (moved_to desk Idle, ended reply.NotAsked))) full
 
     pub fill_not_asked : is_filled word ≡ false → has_ask word ≡ false → looked shape desk (Fill key number rows) word ≡ (moved_to desk Idle, ended reply.NotAsked)
-    fill_not_asked empty unasked = (λ j. cond {A = Desk × Step} (empty j) (moved_to desk Idle, ended reply.Already) (cond {A = Desk × Step} (unasked j) (fill_asked shape desk (Fill key number rows) number rows (slot_of word)) (moved_to desk Idle, ended reply.NotAsked)))
+    fill_not_asked empty unasked = (λ j. cond {A = Desk × Step} (empty j) (moved_to desk Idle, ended reply.Already)
+        (cond {A = Desk × Step} (unasked j) (fill_asked shape desk (Fill key number rows) number rows (slot_of word))
+        (moved_to desk Idle, ended reply.NotAsked)))
 
     -- of an asked key, by the number of its request
     fill_of_asked : is_filled word ≡ false → has_ask word ≡ true → looked shape desk (Fill key number rows) word ≡ fill_asked shape desk (Fill key number rows) number rows (slot_of word)
-    fill_of_asked empty asked = (λ j. cond {A = Desk × Step} (empty j) (moved_to desk Idle, ended reply.Already) (cond {A = Desk × Step} (asked j) (fill_asked shape desk (Fill key number rows) number rows (slot_of word)) (moved_to desk Idle, ended reply.NotAsked)))
+    fill_of_asked empty asked = (λ j. cond {A = Desk × Step} (empty j) (moved_to desk Idle, ended reply.Already)
+        (cond {A = Desk × Step} (asked j) (fill_asked shape desk (Fill key number rows) number rows (slot_of word))
+        (moved_to desk Idle, ended reply.NotAsked)))
 
     pub fill_stale : is_filled word ≡ false → has_ask word ≡ true → slot_of word ≢ number → looked shape desk (Fill key number rows) word ≡ (moved_to desk Idle, ended reply.Stale)
     fill_stale empty asked other = fill_of_asked empty asked ∙ ap (λ (b : Bool). cond {A = Desk × Step} b (settled shape desk (Fill key number rows) rows) (moved_to desk Idle, ended reply.Stale)) (ne_eqb (slot_of word) number other)

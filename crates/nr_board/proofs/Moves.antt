@@ -23,22 +23,48 @@ use Rattle.nr_machine.specs.Story.{opening_map}
 
 -- the view after a step that learns the history so far and adds entries; after one that learns nothing
 abbrev pub learned : View → Role → List Entry → List Entry → Marks → List Past → View
-learned view after seen entries marks news = record { role = after; shape = view.shape; made = view.made; seen = seen; told = view.told; mine = view.mine ++ entries; steps = view.steps + 1; marks = marks; pasts = news ++ view.pasts; told_pasts = view.told_pasts }
+learned view after seen entries marks news = record {
+  role = after;
+  shape = view.shape;
+  made = view.made;
+  seen = seen;
+  told = view.told;
+  mine = view.mine ++ entries;
+  steps = view.steps + 1;
+  marks = marks;
+  pasts = news ++ view.pasts;
+  told_pasts = view.told_pasts;
+}
 
 abbrev pub waited : View → Role → Marks → List Past → View
-waited view after marks news = record { role = after; shape = view.shape; made = view.made; seen = view.seen; told = view.told; mine = view.mine; steps = view.steps + 1; marks = marks; pasts = news ++ view.pasts; told_pasts = view.told_pasts }
+waited view after marks news = record {
+  role = after;
+  shape = view.shape;
+  made = view.made;
+  seen = view.seen;
+  told = view.told;
+  mine = view.mine;
+  steps = view.steps + 1;
+  marks = marks;
+  pasts = news ++ view.pasts;
+  told_pasts = view.told_pasts;
+}
 
 -- a reader's count of acts goes along with its entries, but for the departure that is to come
 abbrev pub ActsGo : View → Role → List Entry → Marks → Type 0
 ActsGo view after entries marks = 0 < is_reader after → marks.acts + to_depart (gripped (grip_of after)) ≡ view.marks.acts + to_depart (gripped (grip_of view.role)) + acts_told entries
 
-module _ (shape : Shape) (log : List Entry) (view : View) (fits : Fits shape log view) (after : Role) (same : (caller : ℕ) → is_by caller after ≡ is_by caller view.role) (writer : is_writer after ≡ is_writer view.role) (reader : is_reader after ≡ is_reader view.role) where
+module _ (shape : Shape) (log : List Entry) (view : View) (fits : Fits shape log view) (after : Role)
+    (same : (caller : ℕ) → is_by caller after ≡ is_by caller view.role) (writer : is_writer after ≡ is_writer view.role)
+    (reader : is_reader after ≡ is_reader view.role) where
   -- the history with the step's entries has the caller's, and no more of it
   pub learned_own : (entries : List Entry) → ((caller : ℕ) → entries_of entries caller ≡ cond (is_by caller view.role) entries []) → (caller : ℕ) → is_by caller after ≡ true → entries_of (log ++ entries) caller ≡ view.mine ++ entries
   learned_own entries own caller his = let before : is_by caller view.role ≡ true = sym (same caller) ∙ his in
       of-append caller log entries ∙ ap (λ (l : List Entry). l ++ entries_of entries caller) (fits.own caller before) ∙ ap (λ (l : List Entry). view.mine ++ l) (own caller ∙ ap (λ y. cond y entries []) before)
 
-  pub learned_fits : (entries : List Entry) (marks : Marks) (news : List Past) → ((caller : ℕ) → entries_of entries caller ≡ cond (is_by caller view.role) entries []) → ActsGo view after entries marks → Fits shape (log ++ entries) (learned view after (log ++ entries) entries marks news)
+  pub learned_fits : (entries : List Entry) (marks : Marks) (news : List Past)
+      → ((caller : ℕ) → entries_of entries caller ≡ cond (is_by caller view.role) entries []) → ActsGo view after entries marks
+      → Fits shape (log ++ entries) (learned view after (log ++ entries) entries marks news)
   learned_fits entries marks news own acts =
       let all = learned_own entries own in record {
         begins = record { rest = []; is = sym (append-nil (log ++ entries)) };
@@ -60,7 +86,9 @@ module _ (shape : Shape) (log : List Entry) (view : View) (fits : Fits shape log
   }
 
   module _ (number : caller_number after ≡ caller_number view.role) (sized : view.shape ≡ shape) where
-    pub learned_advances : (entries : List Entry) (marks : Marks) (news : List Past) → news ≡ [] → is_by (caller_number view.role) view.role ≡ true → ((caller : ℕ) → entries_of entries caller ≡ cond (is_by caller view.role) entries []) → IsLegal (opening_map shape) (log ++ entries) → AreCallers shape (log ++ entries)
+    pub learned_advances : (entries : List Entry) (marks : Marks) (news : List Past) → news ≡ [] → is_by (caller_number view.role) view.role ≡ true
+        → ((caller : ℕ) → entries_of entries caller ≡ cond (is_by caller view.role) entries []) → IsLegal (opening_map shape) (log ++ entries)
+        → AreCallers shape (log ++ entries)
         → Advances view entries (learned view after (log ++ entries) entries marks news)
     learned_advances entries marks news no_news caller own legal callers id = record {
       table = refl;
@@ -102,7 +130,8 @@ module _ (shape : Shape) (id : ℕ) (view : View) (operation : Operation) (tells
   pub learning : (then : View → Type 0) → is_by (caller_number view.role) view.role ≡ true → marked.news ≡ [] → (told : List Entry) → step.entries ≡ told
       → (Advances view told learned_next → then learned_next) → Choice shape id view operation tells notes state kept step marked then
   learning then caller no_news told is tell = chosen then (tell (subst (λ (entries : List Entry). Advances view entries learned_next) is
-      (learned_advances shape kept.log view (kept.fits id view at) step.after step.same step.writer step.reader same_number sized step.entries marked.now marked.news no_news caller step.own step.core.legal (callers_both shape kept.log step.entries kept.callers callers))))
+      (learned_advances shape kept.log view (kept.fits id view at) step.after step.same step.writer step.reader same_number sized step.entries
+      marked.now marked.news no_news caller step.own step.core.legal (callers_both shape kept.log step.entries kept.callers callers))))
 
   -- the token learns nothing from a step without an entry
   abbrev pub waited_next : View
@@ -116,7 +145,9 @@ module _ (shape : Shape) (id : ℕ) (view : View) (operation : Operation) (tells
     marks = refl;
     pasts = refl;
     told_pasts = refl;
-    fits = subst (λ (entries : List Entry). Fits shape (kept.log ++ entries) waited_next) (sym none) (waited_fits shape kept.log view fits step.after step.same step.writer step.reader marked.now marked.news (subst (λ (entries : List Entry). ActsGo view step.after entries marked.now) none acts));
+    fits = subst (λ (entries : List Entry). Fits shape (kept.log ++ entries) waited_next) (sym none)
+        (waited_fits shape kept.log view fits step.after step.same step.writer step.reader marked.now marked.news
+        (subst (λ (entries : List Entry). ActsGo view step.after entries marked.now) none acts));
     callers = callers;
     told = tell (waited_waits shape kept.log view fits step.after step.same step.writer step.reader same_number sized marked.now marked.news no_news);
   }

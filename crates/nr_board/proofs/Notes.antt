@@ -40,14 +40,16 @@ note_fits shape log view note is begins untold = record {
 }
 
 -- a view that keeps its role, its marks, and what it knows of itself takes the place of one; what it was told of readers is so
-module _ (shape : Shape) (state : State (Unit {0}) View) (id : ℕ) (view next : View) (kept : Kept shape state) (at : get_elem? state.views id ≡ some view) (same : next.role ≡ view.role) (alike : (next.marks ≡ view.marks) ⊎ (view.role ≡ Note)) where
+module _ (shape : Shape) (state : State (Unit {0}) View) (id : ℕ) (view next : View) (kept : Kept shape state)
+    (at : get_elem? state.views id ≡ some view) (same : next.role ≡ view.role) (alike : (next.marks ≡ view.marks) ⊎ (view.role ≡ Note)) where
   abbrev later : List View
   later = set state.views id next
 
   same_roles : map role_of later ≡ map role_of state.views
   same_roles = map-set role_of state.views id next ∙ ap (λ (r : Role). set (map role_of state.views) id r) same ∙ set_again (map role_of state.views) id view.role (at_map role_of state.views id view at)
 
-  pub replaced : Fits shape kept.log next → (is_writer next.role ≡ 1 → next.made ≡ kept.made) → AllSince role_of marks_of state.views next.pasts → AllSince role_of marks_of state.views next.told_pasts → Kept shape (record { words = state.words; homes = state.homes; views = later })
+  pub replaced : Fits shape kept.log next → (is_writer next.role ≡ 1 → next.made ≡ kept.made) → AllSince role_of marks_of state.views next.pasts
+      → AllSince role_of marks_of state.views next.told_pasts → Kept shape (record { words = state.words; homes = state.homes; views = later })
   replaced fits made pasts told =
       let evolves = evolves_alike role_of marks_of shape state.words state.views kept.log id view next at same alike in record {
         log = kept.log;
@@ -69,7 +71,9 @@ module _ (shape : Shape) (state : State (Unit {0}) View) (id : ℕ) (view next :
       at_any P of_next of_other j u there = ⊎_elim (λ (t : (j ≡ id) × (next ≡ u)). subst P t.1 of_next) (λ (t : (j ≢ id) × (get_elem? state.views j ≡ some u)). of_other j u t.1) (at_set state.views id j next u there)
 
 -- a note stands beside the tokens that there are: it says what begins the history, and of readers what is so
-adds_note : (shape : Shape) (source : View) (state : State (Unit {0}) View) (kept : Kept shape state) → StartsWith kept.log source.seen → AllSince role_of marks_of state.views (told_by source.role source.marks source.pasts) → Kept shape (record { words = state.words; homes = state.homes; views = state.views ++ note_of source ∷ [] })
+adds_note : (shape : Shape) (source : View) (state : State (Unit {0}) View) (kept : Kept shape state) → StartsWith kept.log source.seen
+    → AllSince role_of marks_of state.views (told_by source.role source.marks source.pasts)
+    → Kept shape (record { words = state.words; homes = state.homes; views = state.views ++ note_of source ∷ [] })
 adds_note shape source state kept begins since =
     let views = state.views in let note = note_of source in let views' = views ++ note ∷ [] in let roles = map role_of views in
     let more : map role_of views' ≡ roles ++ Note ∷ [] = map-append role_of views (note ∷ []) in
@@ -129,14 +133,18 @@ pub loaded_token : (seat next : MapSeat) → next.table_id ≡ seat.table_id →
 loaded_token seat next same told = λ j. caller_of (same j) (told j)
 
 -- the hearer is told what the note tells, and then what is left of the note tells nothing
-pub takes_so : (shape : Shape) (id : ℕ) (view : View) (steps other : ℕ) (note : View) → note.role ≡ Note → (state : State (Unit {0}) View) → Kept shape state → get_elem? state.views id ≡ some view → ¬ (other ≡ id) → get_elem? state.views other ≡ some note
+pub takes_so : (shape : Shape) (id : ℕ) (view : View) (steps other : ℕ) (note : View) → note.role ≡ Note → (state : State (Unit {0}) View)
+    → Kept shape state → get_elem? state.views id ≡ some view → ¬ (other ≡ id) → get_elem? state.views other ≡ some note
     → Kept shape (record { words = state.words; homes = state.homes; views = set (set state.views id (record (told_by_note view note) { steps = steps })) other spent })
 takes_so shape id view steps other note is state kept at apart beside =
     let both = record (told_by_note view note) { steps = steps } in let views = set state.views id both in
     let fits = kept.fits id view at in
     let mine : Fits shape kept.log both = record { begins = fits.begins; told = (kept.fits other note beside).begins; own = fits.own; knows_own = fits.knows_own; acts = fits.acts; sized = fits.sized } in
     let taken = replaced shape state id view both kept at refl (inl refl) mine (kept.maker id view at) (kept.pasts id view at) (kept.pasts other note beside) in
-    replaced shape (record { words = state.words; homes = state.homes; views = views }) other note spent taken (set_else state.views id other both apart ∙ beside) (sym is) (inr is) (note_fits shape taken.log view spent refl (record { rest = taken.log; is = refl }) refl) (λ writes. absurd (omega arith)) (no_places (Since role_of marks_of views)) (no_places (Since role_of marks_of views))
+    replaced shape (record { words = state.words; homes = state.homes; views = views }) other note spent taken
+    (set_else state.views id other both apart ∙ beside) (sym is) (inr is)
+    (note_fits shape taken.log view spent refl (record { rest = taken.log; is = refl }) refl) (λ writes. absurd (omega arith))
+    (no_places (Since role_of marks_of views)) (no_places (Since role_of marks_of views))
 
 -- a step of the hearer's own
 pub joins_so : (shape : Shape) (id : ℕ) (view : View) (other : ℕ) (note : View) → note.role ≡ Note → Joins (Kept shape) id view other note (with_note view note) spent

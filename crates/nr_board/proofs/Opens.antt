@@ -34,7 +34,15 @@ opens_so shape fits = let view = opener shape in
     let at_most : (y : Bool) → cond y 1 0 + 0 ≤ 1 = λ y. elim y as (λ z. cond z 1 0 + 0 ≤ 1) [ true ↦ omega arith | false ↦ omega arith ] in record {
       log = [];
       core = core_opens shape fits 0 (omega arith);
-      fits = λ j u at. subst (Fits shape []) (only_one view j u at) (record { begins = record { rest = []; is = refl }; told = record { rest = []; is = refl }; own = λ _ _. refl; knows_own = λ _ _. refl; acts = λ reads. absurd (omega arith); sized = λ _. refl });
+      fits = λ j u at. subst (Fits shape []) (only_one view j u at)
+          (record {
+            begins = record { rest = []; is = refl };
+            told = record { rest = []; is = refl };
+            own = λ _ _. refl;
+            knows_own = λ _ _. refl;
+            acts = λ reads. absurd (omega arith);
+            sized = λ _. refl;
+          });
       callers = tt;
       once = λ caller. at_most (is_by caller view.role);
       made = 0;

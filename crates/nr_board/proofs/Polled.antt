@@ -39,7 +39,9 @@ pub look_polled : (shape : Shape) (marks : Marks) (desk : Desk) (call : WriterCa
 look_polled shape marks desk call word after log now news told without = by_room shape call desk.retired [] now.polls log (ap (λ (m : Marks). m.polls) told.0) (told.2 without)
 
 module _ (shape : Shape) (marks : Marks) (known : List Past) (desk : Desk) (word : ℕ) (after : Role) (log : List Entry) (now : Marks) (news : List Past) where
-  search_polled : (call : WriterCall) (poll : ℕ) (same : Bool) → PollTells same shape marks known desk call poll log now → (taken on none : Desk) → IsNoSlot (cond {A = Desk × Step} same (taken, Going) (cond {A = Desk × Step} (nat_lt (poll + 1) (length desk.retired)) (on, Going) (none, no_slot shape desk))).1
+  search_polled : (call : WriterCall) (poll : ℕ) (same : Bool) → PollTells same shape marks known desk call poll log now → (taken on none : Desk)
+      → IsNoSlot (cond {A = Desk × Step} same (taken, Going)
+      (cond {A = Desk × Step} (nat_lt (poll + 1) (length desk.retired)) (on, Going) (none, no_slot shape desk))).1
       → PolledAll shape desk.retired now.polls
   search_polled call poll true told taken on none without = absurd (let is = without.1 in cc)
   search_polled call poll false told taken on none without =
@@ -47,7 +49,9 @@ module _ (shape : Shape) (marks : Marks) (known : List Past) (desk : Desk) (word
       (λ _ _ goes. absurd (let is = goes.1 in cc))
       (λ _ last _. by_room shape call desk.retired now.polls now.polls log refl (told.2 (ltb-false (poll + 1) (length desk.retired) last))) refl without
 
-  pub go_polled : (views : List View) (place : Place) → Sweeping role_of marks_of views desk marks.polls place → went_marks shape marks known desk place word after log now news → IsNoSlot (went shape desk place word).1 → PolledAll shape desk.retired now.polls
+  pub go_polled : (views : List View) (place : Place) → Sweeping role_of marks_of views desk marks.polls place
+      → went_marks shape marks known desk place word after log now news → IsNoSlot (went shape desk place word).1
+      → PolledAll shape desk.retired now.polls
   go_polled views Idle sweep told without = absurd (let is = without.1 in cc)
   go_polled views (Leaving key) sweep told without = absurd (let is = without.1 in cc)
   go_polled views (Withdrawing key) sweep told without = absurd (let is = without.1 in cc)

@@ -56,15 +56,19 @@ reader_shape : (shape : Shape) (log : List Entry) (view : View) (grip : Grip) �
 reader_shape shape log view grip is fits = fits.sized (let one : is_reader view.role ≡ 1 = ap is_reader is in omega arith)
 
 -- a reader's number is one of the map's
-reader_within : (shape : Shape) (id : ℕ) (view : View) (grip : Grip) (state : State (Unit {0}) View) (kept : Kept shape state) → get_elem? state.views id ≡ some view → view.role ≡ Reader (caller_number view.role) grip → caller_number view.role ≤ shape.readers
+reader_within : (shape : Shape) (id : ℕ) (view : View) (grip : Grip) (state : State (Unit {0}) View) (kept : Kept shape state)
+    → get_elem? state.views id ≡ some view → view.role ≡ Reader (caller_number view.role) grip → caller_number view.role ≤ shape.readers
 reader_within shape id view grip state kept at is = (subst (λ r. KnowsMarks role_of marks_of shape state.words state.views kept.log r view.marks) is (kept.marked.each id view at)).1
 
 -- a find or a request is an entry of the reader's
-reader_entry : (shape : Shape) (reader : ℕ) (call : Call) (answer : Reply) (entries : List Entry) → entries ≡ entry reader call answer ∷ [] → call_key call < shape.keys → reader ≤ shape.readers → is_reading call ≡ true → AreCallers shape entries
+reader_entry : (shape : Shape) (reader : ℕ) (call : Call) (answer : Reply) (entries : List Entry) → entries ≡ entry reader call answer ∷ []
+    → call_key call < shape.keys → reader ≤ shape.readers → is_reading call ≡ true → AreCallers shape entries
 reader_entry shape reader call answer entries is near low reads = subst (AreCallers shape) (sym is) ((near, inr (low, reads)), tt)
 
 -- the reader's count, by its hold before and after
-acts_so : (view : View) (after : Role) (entries : List Entry) (marks : Marks) (before now : Option ℕ) (told : List Entry) → gripped (grip_of view.role) ≡ before → gripped (grip_of after) ≡ now → entries ≡ told → marks.acts + to_depart now ≡ view.marks.acts + to_depart before + acts_told told → ActsGo view after entries marks
+acts_so : (view : View) (after : Role) (entries : List Entry) (marks : Marks) (before now : Option ℕ) (told : List Entry)
+    → gripped (grip_of view.role) ≡ before → gripped (grip_of after) ≡ now → entries ≡ told → marks.acts + to_depart now ≡ view.marks.acts + to_depart
+    before + acts_told told → ActsGo view after entries marks
 acts_so view after entries marks before now told held holds is count reads =
     let b = ap to_depart held in let n = ap to_depart holds in let t : acts_told entries ≡ acts_told told = ap acts_told is in omega arith
 
@@ -86,18 +90,24 @@ differ b P is not = let clash : true ≡ false = sym is ∙ not in absurd (cc)
 pub arrives_so : (shape : Shape) (slots id : ℕ) (me : Me (Unit {0}) View) (key : ℕ) → key < shape.keys → IsIdle me.0.role
     → Allows (Kept shape) slots id me key (λ word. (word + ARRIVE) % 2 ^ 64) (has_arrived (step slots key ARRIVE 0 none) me)
 arrives_so shape slots id me key near idle = let view = me.0 in let reader = caller_number view.role in let tells = Arrives shape reader key in
-    lifts shape id view (Add key ARRIVE) tells (ArrivesMarks view.marks key) slots me.1 (λ found next. Arrived key found view next) view.pasts (subst (λ r. CanStep shape id r (Add key ARRIVE) tells) (sym idle) (arrives shape id reader key near))
+    lifts shape id view (Add key ARRIVE) tells (ArrivesMarks view.marks key) slots me.1 (λ found next. Arrived key found view next) view.pasts
+    (subst (λ r. CanStep shape id r (Add key ARRIVE) tells) (sym idle) (arrives shape id reader key near))
     (arrives_marked role_of marks_of shape id view view.pasts reader key near idle) (knows_pasts shape id view)
     (λ state kept at step marked. let found : ℕ = get_or state.words key 0 in let sized = reader_shape shape kept.log view Nothing idle (kept.fits id view at) in
     let next = learned view step.after (kept.log ++ step.entries) step.entries marked.now marked.news in
-    let choose : caller_number step.after ≡ reader → (told : List Entry) → AreCallers shape step.entries → ActsGo view step.after step.entries marked.now → step.entries ≡ told → (Advances view told next → Arrived key found view next) → Choice shape id view (Add key ARRIVE) tells (ArrivesMarks view.marks key) state kept step marked (λ next. Arrived key found view next)
-    = λ same told callers acts. learning shape id view (Add key ARRIVE) tells (ArrivesMarks view.marks key) state kept at step marked same sized callers acts (λ next. Arrived key found view next) (reader_is view.role Nothing idle) marked.told.1 told in
+    let choose : caller_number step.after ≡ reader → (told : List Entry) → AreCallers shape step.entries
+    → ActsGo view step.after step.entries marked.now → step.entries ≡ told → (Advances view told next → Arrived key found view next)
+    → Choice shape id view (Add key ARRIVE) tells (ArrivesMarks view.marks key) state kept step marked (λ next. Arrived key found view next)
+    = λ same told callers acts. learning shape id view (Add key ARRIVE) tells (ArrivesMarks view.marks key) state kept at step marked same sized
+    callers acts (λ next. Arrived key found view next) (reader_is view.role Nothing idle) marked.told.1 told in
     let within = reader_within shape id view Nothing state kept at idle in let acts_are = ap (λ (m : Marks). m.acts) marked.told.0 in
     ⊎_elim
-    (λ (t : (slot : ℕ) × (rows : List Row) × (name_number found ≡ suc slot) × (slot < shape.slots) × IsRowSet (bound_of shape) rows × (step.after ≡ Reader reader (On slot rows false)) × (step.entries ≡ entry reader (model.Find key) (reply.Rows rows) ∷ [])).
+    (λ (t : (slot : ℕ) × (rows : List Row) × (name_number found ≡ suc slot) × (slot < shape.slots) × IsRowSet (bound_of shape) rows
+    × (step.after ≡ Reader reader (On slot rows false)) × (step.entries ≡ entry reader (model.Find key) (reply.Rows rows) ∷ [])).
     let names = names_one found t.0 t.2 in let same : caller_number step.after ≡ reader = ap caller_number t.5 in let rows_so : rows_held step.after ≡ t.1 = ap rows_held t.5 in let slot_so : slot_held step.after ≡ t.0 = ap slot_held t.5 in
     choose same (entry reader (model.Find key) (reply.Rows (rows_held step.after)) ∷ []) (reader_entry shape reader (model.Find key) _ step.entries t.6 near within refl)
-    (acts_so view step.after step.entries marked.now None (Some t.0) _ (ap (λ r. gripped (grip_of r)) idle) (ap (λ r. gripped (grip_of r)) t.5) t.6 (omega arith)) (t.6 ∙ ap (λ (rows : List Row). entry reader (model.Find key) (reply.Rows rows) ∷ []) (sym rows_so)) (λ advances. record {
+    (acts_so view step.after step.entries marked.now None (Some t.0) _ (ap (λ r. gripped (grip_of r)) idle) (ap (λ r. gripped (grip_of r)) t.5) t.6
+    (omega arith)) (t.6 ∙ ap (λ (rows : List Row). entry reader (model.Find key) (reply.Rows rows) ∷ []) (sym rows_so)) (λ advances. record {
       number = same;
       held = λ _. (
         record {
@@ -125,11 +135,14 @@ pub reads_so : (shape : Shape) (slots id : ℕ) (me : Me (Unit {0}) View) (index
     → let place = content shape (slot_held me.0.role) index in Allows (Kept shape) slots id me place (λ word. word) (has_read_word (step slots place 0 0 none) me)
 reads_so shape slots id me index is low sized = let view = me.0 in let reader = caller_number view.role in let slot : ℕ = slot_held view.role in let rows = rows_held view.role in let sized_so = is_sized (grip_of view.role) in
     let place : ℕ = content shape slot index in let tells = ReadsHeld reader slot rows sized_so index in
-    lifts shape id view (Load place) tells (KeepsMarks view.marks) slots me.1 (λ found next. Read place found view next) view.pasts (subst (λ r. CanStep shape id r (Load place) tells) (sym is) (reads shape id reader slot rows sized_so index low))
+    lifts shape id view (Load place) tells (KeepsMarks view.marks) slots me.1 (λ found next. Read place found view next) view.pasts
+    (subst (λ r. CanStep shape id r (Load place) tells) (sym is) (reads shape id reader slot rows sized_so index low))
     (reads_marked role_of marks_of shape id view view.pasts reader slot index rows sized_so is) (knows_pasts shape id view)
     (λ state kept at step marked. let same : caller_number step.after ≡ reader = ap caller_number step.told.1 in
     waiting shape id view (Load place) tells (KeepsMarks view.marks) state kept at step marked same sized (subst (AreCallers shape) (sym step.told.2) tt)
-    (acts_so view step.after step.entries marked.now (Some slot) (Some slot) [] (ap (λ r. gripped (grip_of r)) is) (ap (λ r. gripped (grip_of r)) step.told.1) step.told.2 (let same = ap (λ (m : Marks). m.acts) marked.told.0 in omega arith)) (λ next. Read place (get_or state.words place 0) view next) marked.told.1 step.told.2
+    (acts_so view step.after step.entries marked.now (Some slot) (Some slot) [] (ap (λ r. gripped (grip_of r)) is)
+    (ap (λ r. gripped (grip_of r)) step.told.1) step.told.2 (let same = ap (λ (m : Marks). m.acts) marked.told.0 in omega arith))
+    (λ next. Read place (get_or state.words place 0) view next) marked.told.1 step.told.2
     (λ waits. record {
       value = let begins : content view.shape slot 0 ≡ content shape slot 0 = ap (λ (s : Shape). content s slot 0) sized in let back : index ≡ place - content view.shape slot 0 = omega arith in
           step.told.0 ∙ ap (λ (i : ℕ). get_or (encode rows) i 0) back;
@@ -188,4 +201,6 @@ departs_so shape slots id me is sized = let view = me.0 in let reader = caller_n
     lifts shape id view (Add place 1) tells (DepartsMarks view.marks) slots me.1 (λ found next. Departed view next) view.pasts (subst (λ r. CanStep shape id r (Add place 1) tells) (sym is) (departs shape id reader slot rows sized_so))
     (departs_marked role_of marks_of shape id view view.pasts reader slot rows sized_so is) (knows_pasts shape id view)
     (λ state kept at step marked. waiting shape id view (Add place 1) tells (DepartsMarks view.marks) state kept at step marked (ap caller_number step.told.0) sized (subst (AreCallers shape) (sym step.told.1) tt)
-    (acts_so view step.after step.entries marked.now (Some slot) None [] (ap (λ r. gripped (grip_of r)) is) (ap (λ r. gripped (grip_of r)) step.told.0) step.told.1 (let same = ap (λ (m : Marks). m.acts) marked.told.0 in omega arith)) (λ next. Departed view next) marked.told.1 step.told.1 (λ waits. record { role = step.told.0; waits = waits; marks = marked.told.0 }))
+    (acts_so view step.after step.entries marked.now (Some slot) None [] (ap (λ r. gripped (grip_of r)) is)
+    (ap (λ r. gripped (grip_of r)) step.told.0) step.told.1 (let same = ap (λ (m : Marks). m.acts) marked.told.0 in omega arith))
+    (λ next. Departed view next) marked.told.1 step.told.1 (λ waits. record { role = step.told.0; waits = waits; marks = marked.told.0 }))

@@ -42,7 +42,10 @@ use Rattle.nr_board.specs.WriterSeats.{GoesOn, IsReading, KeyHas, LeadsIn, MapSe
 
 -- a call that has its set ends with no reply yet
 pub settled_quiet : (shape : Shape) (desk : Desk) (call : WriterCall) (rows : List Row) (c : Call) → ending c (settled shape desk call rows).1 ≡ []
-settled_quiet shape desk call rows c = by_cases (λ v. ending c (cond {A = Desk × Step} v (taking_fresh shape desk call rows, Going) (cond {A = Desk × Step} (nat_eq (length desk.retired) 0) (moved_to desk Idle, no_slot shape desk) (moved_to desk (Searching call rows 0), Going))).1 ≡ []) (nat_lt desk.fresh shape.slots)
+settled_quiet shape desk call rows c = by_cases (λ v. ending c
+    (cond {A = Desk × Step} v (taking_fresh shape desk call rows, Going)
+    (cond {A = Desk × Step} (nat_eq (length desk.retired) 0) (moved_to desk Idle, no_slot shape desk)
+    (moved_to desk (Searching call rows 0), Going))).1 ≡ []) (nat_lt desk.fresh shape.slots)
     (λ _. refl) (λ _. by_cases (λ v. ending c (cond {A = Desk × Step} v (moved_to desk Idle, no_slot shape desk) (moved_to desk (Searching call rows 0), Going)).1 ≡ []) (nat_eq (length desk.retired) 0) (λ _. refl) (λ _. refl))
 
 -- an entry that a step of the writer adds is its own
@@ -59,9 +62,11 @@ module _ (shape : Shape) (desk : Desk) (number : ℕ) (rows : List Row) (log : L
   renewed_leaves : (key : ℕ) (batch : List Delta) → key < shape.keys → state_of (map_after shape log) key ≡ states.Rows number rows → (left : Result (List Row) ApplyFault) → applied (bound_of shape) rows batch ≡ left
       → state_of (map_after shape (log ++ ending (model.Update key batch) (renewed shape desk (Update key batch) left).1)) key ≡ states.Rows number rows
   renewed_leaves key batch near had (Ok left) is = quiet_leaves key (ending (model.Update key batch) (renewed shape desk (Update key batch) (Ok left)).1) (settled_quiet shape desk (Update key batch) left (model.Update key batch)) had
-  renewed_leaves key batch near had (Err fault) is = state_same shape log (entry 0 (model.Update key batch) (applied_reply (Err fault))) near ∙ ap (updated (bound_of shape) batch) had ∙ ap (λ (r : Result (List Row) ApplyFault). states.Rows number (rows_or r rows)) is
+  renewed_leaves key batch near had (Err fault) is = state_same shape log (entry 0 (model.Update key batch) (applied_reply (Err fault))) near
+      ∙ ap (updated (bound_of shape) batch) had ∙ ap (λ (r : Result (List Row) ApplyFault). states.Rows number (rows_or r rows)) is
 
-  decided_leaves : (call : WriterCall) → key_of call < shape.keys → state_of (map_after shape log) (key_of call) ≡ states.Rows number rows → state_of (map_after shape (log ++ ending (call_of call) (decided shape desk call rows).1)) (key_of call) ≡ states.Rows number rows
+  decided_leaves : (call : WriterCall) → key_of call < shape.keys → state_of (map_after shape log) (key_of call) ≡ states.Rows number rows
+      → state_of (map_after shape (log ++ ending (call_of call) (decided shape desk call rows).1)) (key_of call) ≡ states.Rows number rows
   decided_leaves (Find key) near had = state_same shape log (entry 0 (model.Find key) (reply.Rows rows)) near ∙ had
   decided_leaves (Fill key given new) near had = quiet_leaves key [] refl had
   decided_leaves (Update key batch) near had = renewed_leaves key batch near had (applied (bound_of shape) rows batch) refl
@@ -89,17 +94,22 @@ module _ (table : Table) (call : WriterCall) (begin : ℕ) (before : MapSeat) wh
       ∙ ap (decoded table.shape desk call) (set_back (bound_of table.shape) rows row_set)
 
   -- the key has the set still
-  still_named : (slot : ℕ) (rows : List Row) (words : ℕ) (after : MapSeat) → IsRowSet (bound_of table.shape) rows → key_of call < table.shape.keys → 0 < words → words ≤ 2 * length rows + 1 → (had : KeyHas table call rows (reads_on table desk call slot rows words).1 after)
+  still_named : (slot : ℕ) (rows : List Row) (words : ℕ) (after : MapSeat) → IsRowSet (bound_of table.shape) rows → key_of call < table.shape.keys
+      → 0 < words → words ≤ 2 * length rows + 1 → (had : KeyHas table call rows (reads_on table desk call slot rows words).1 after)
       → state_of (map_after table.shape after.me.0.seen) (key_of call) ≡ states.Rows had.number rows
   still_named slot rows words after row_set near some few had =
       ap (λ (l : List Entry). state_of (map_after table.shape l) (key_of call)) had.seen
       ∙ dite (ℕ_discrete words (2 * length rows + 1))
-      (λ all. ap (λ (o : Desk × Step). state_of (map_after table.shape (had.log ++ ending (call_of call) o.1)) (key_of call)) (ap (reads_on table desk call slot rows) all ∙ reads_last slot rows row_set) ∙ decided_leaves table.shape desk had.number rows had.log call near had.state)
+      (λ all. ap (λ (o : Desk × Step). state_of (map_after table.shape (had.log ++ ending (call_of call) o.1)) (key_of call))
+      (ap (reads_on table desk call slot rows) all ∙ reads_last slot rows row_set) ∙ decided_leaves table.shape desk had.number rows had.log call
+      near had.state)
       (λ some_left. quiet_leaves table.shape desk had.number rows had.log (key_of call) _ (ap (λ (o : Desk × Step). ending (call_of call) o.1) (reads_more slot rows words some (omega arith))) had.state)
 
   -- what was read says how far the writer is
   read_so : (slot : ℕ) (rows : List Row) (words : ℕ) (after : MapSeat) → begin ≡ content table.shape slot 0 → IsRowSet (bound_of table.shape) rows → key_of call < table.shape.keys → 0 < words → words ≤ 2 * length rows + 1
-      → LeadsIn words table (call_of call) (reads_on table desk call slot rows words) before after → KeyHas table call rows (reads_on table desk call slot rows words).1 after → after.me.0.marks ≡ before.me.0.marks → (rows_named table call after ≡ rows) × ReadTo table call begin before after words
+      → LeadsIn words table (call_of call) (reads_on table desk call slot rows words) before after
+      → KeyHas table call rows (reads_on table desk call slot rows words).1 after → after.me.0.marks ≡ before.me.0.marks
+      → (rows_named table call after ≡ rows) × ReadTo table call begin before after words
   read_so slot rows words after begin_is row_set near some few leads had marks =
       let named : rows_named table call after ≡ rows = ap rows_of_state (still_named slot rows words after row_set near some few had) in (
         named,
@@ -117,7 +127,9 @@ module _ (table : Table) (call : WriterCall) (begin : ℕ) (before : MapSeat) wh
       )
 
   -- the first read, of the number of rows
-  read_first : (slot found : ℕ) (after : MapSeat) → begin ≡ content table.shape slot 0 → key_of call < table.shape.keys → WritesAt table (moved_to desk (Reading call slot [])) before → GoesOn table found before after → (found ≡ length (rows_named table call after)) × ReadTo table call begin before after 1
+  read_first : (slot found : ℕ) (after : MapSeat) → begin ≡ content table.shape slot 0 → key_of call < table.shape.keys
+      → WritesAt table (moved_to desk (Reading call slot [])) before → GoesOn table found before after
+      → (found ≡ length (rows_named table call after)) × ReadTo table call begin before after 1
   read_first slot found after begin_is near writes goes = let told = goes (moved_to desk (Reading call slot [])) writes.role in let on = told.finds in
       let so = read_so slot on.0 1 after begin_is on.1 near (omega arith) (omega arith)
       (subst (λ (got : List ℕ). LeadsIn 1 table (call_of call) (read_on table.shape desk call slot got) before after) on.2 told.leads)
@@ -143,7 +155,9 @@ module _ (table : Table) (call : WriterCall) (begin : ℕ) (before : MapSeat) wh
 
     -- it finds the next word of the key's set, which is the same still
     pub read_next : (found : ℕ) (after : MapSeat) → GoesOn table found mid after → (rows_named table call after ≡ rows) × (found ≡ get_or (encode rows) words 0) × ReadTo table call begin before after (words + 1)
-    read_next found after goes = let told = goes (moved_to desk (Reading call so_far.slot got)) leads_here.writes.role in let on = told.finds in let then = told.leads.grows in let e = ending (call_of call) (went table.shape (moved_to desk (Reading call so_far.slot got)) (Reading call so_far.slot got) found).1 in
+    read_next found after goes = let told = goes (moved_to desk (Reading call so_far.slot got)) leads_here.writes.role in let on = told.finds in
+        let then = told.leads.grows in let e = ending (call_of call)
+        (went table.shape (moved_to desk (Reading call so_far.slot got)) (Reading call so_far.slot got) found).1 in
         let own_table = ap (λ (t : Table). t.shape) leads_here.writes.own in
         let had = still_named so_far.slot rows words mid so_far.row_set so_far.near so_far.positive so_far.few so_far.had in
         let log_is : told.log ≡ mid.me.0.seen ++ then.between = append_cancel_right told.log (mid.me.0.seen ++ then.between) e (sym told.seen ∙ then.seen) in
@@ -154,11 +168,20 @@ module _ (table : Table) (call : WriterCall) (begin : ℕ) (before : MapSeat) wh
         let so = read_so so_far.slot rows (words + 1) after so_far.begin_is so_far.row_set so_far.near (omega arith) (omega (arith, left))
         (let leads = subst (λ (l : List ℕ). LeadsIn 1 table (call_of call) (read_on table.shape desk call so_far.slot l) mid after) words_are told.leads in
         record { writes = leads.writes; grows = grows_both words 1 (words + 1) (token before) (token mid) _ (token after) refl leads_here.grows leads.grows; short = leads.short })
-        (record { log = told.log; seen = told.seen ∙ ap (λ (l : List ℕ). told.log ++ ending (call_of call) (read_on table.shape desk call so_far.slot l).1) words_are; number = so_far.had.number; state = had_then }) (told.marks.0 ∙ so_far.marks) in
+        (record {
+          log = told.log;
+          seen = told.seen ∙ ap (λ (l : List ℕ). told.log ++ ending (call_of call)
+              (read_on table.shape desk call so_far.slot l).1) words_are;
+          number = so_far.had.number;
+          state = had_then;
+        })
+        (told.marks.0 ∙ so_far.marks) in
         (so.0, word_is words_are, so.1)
       where
         word_is : got ++ found ∷ [] ≡ take (words + 1) (encode rows) → found ≡ get_or (encode rows) words 0
-        word_is is = let none : words - words ≡ 0 = omega arith in sym (get_or-append_right got (found ∷ []) words words 0 length-got (omega arith) ∙ ap (λ (n : ℕ). get_or (found ∷ []) n 0) none) ∙ ap (λ (l : List ℕ). get_or l words 0) is ∙ get_or-take (words + 1) (encode rows) words 0 (omega arith)
+        word_is is = let none : words - words ≡ 0 = omega arith in
+            sym (get_or-append_right got (found ∷ []) words words 0 length-got (omega arith) ∙ ap (λ (n : ℕ). get_or (found ∷ []) n 0) none)
+            ∙ ap (λ (l : List ℕ). get_or l words 0) is ∙ get_or-take (words + 1) (encode rows) words 0 (omega arith)
 
   -- two words are a row
   module _ (mid half : MapSeat) (place first : ℕ) (so_far : ReadTo table call begin before mid (2 * place + 1)) (more : place < length (rows_named table call mid)) (goes : GoesOn table first mid half) where
@@ -188,14 +211,17 @@ module _ (table : Table) (call : WriterCall) (begin : ℕ) (before : MapSeat) wh
         all = omega arith
 
   -- after the last word the call has its set, to whomever the rows were given
-  pub reads_all : (mid last other_before : MapSeat) (other : Table) (count : ℕ) (rows : List Row) → count ≡ length (rows_named table call mid) → rows ≡ rows_named table call mid → rows_named other call last ≡ rows_named table call mid → other ≡ table → other_before ≡ before → ReadTo other call begin other_before last (2 * count + 1)
+  pub reads_all : (mid last other_before : MapSeat) (other : Table) (count : ℕ) (rows : List Row) → count ≡ length (rows_named table call mid)
+      → rows ≡ rows_named table call mid → rows_named other call last ≡ rows_named table call mid → other ≡ table → other_before ≡ before
+      → ReadTo other call begin other_before last (2 * count + 1)
       → ReadsAll table call rows before last
   reads_all mid last other_before other count rows size rows_are same own begun read =
       let all = subst (λ (p : Table × MapSeat). ReadTo p.0 call begin p.1 last (2 * count + 1)) (λ j. (own j, begun j)) read in
       let named : rows_named table call last ≡ rows = ap (λ (t : Table). rows_named t call last) (sym own) ∙ same ∙ sym rows_are in
       let row_set : IsRowSet (bound_of table.shape) rows = subst (IsRowSet (bound_of table.shape)) named all.row_set in
       let length_is : count ≡ length rows = size ∙ ap length (sym rows_are) in
-      let outcome : reads_on table desk call all.slot (rows_named table call last) (2 * count + 1) ≡ decided table.shape desk call rows = (λ j. reads_on table desk call all.slot (named j) (2 * (length_is j) + 1)) ∙ reads_last all.slot rows row_set in record {
+      let outcome : reads_on table desk call all.slot (rows_named table call last) (2 * count + 1) ≡ decided table.shape desk call
+      rows = (λ j. reads_on table desk call all.slot (named j) (2 * (length_is j) + 1)) ∙ reads_last all.slot rows row_set in record {
         row_set = row_set;
         leads = subst (λ (p : ℕ × (Desk × Step)). LeadsIn (2 * p.0 + 1) table (call_of call) p.1 before last) (λ j. (length_is j, outcome j)) all.leads;
         had = subst (λ (p : List Row × (Desk × Step)). KeyHas table call p.0 p.1.1 last) (λ j. (named j, outcome j)) all.had;
@@ -203,6 +229,9 @@ module _ (table : Table) (call : WriterCall) (begin : ℕ) (before : MapSeat) wh
       }
 
 -- a read-through begins at the map's own table
-pub begins : (table board : Table) (call : WriterCall) (begin slot found : ℕ) (before after : MapSeat) → board ≡ table → begin ≡ content board.shape slot 0 → key_of call < table.shape.keys → WritesAt table (moved_to (desk_of before.me.0.role) (Reading call slot [])) before → GoesOn board found before after → (found ≡ length (rows_named table call after)) × ReadTo table call begin before after 1
+pub begins : (table board : Table) (call : WriterCall) (begin slot found : ℕ) (before after : MapSeat) → board ≡ table
+    → begin ≡ content board.shape slot 0 → key_of call < table.shape.keys
+    → WritesAt table (moved_to (desk_of before.me.0.role) (Reading call slot [])) before → GoesOn board found before after
+    → (found ≡ length (rows_named table call after)) × ReadTo table call begin before after 1
 begins table board call begin slot found before after own begin_is near writes goes =
     read_first table call begin before slot found after (begin_is ∙ ap (λ (t : Table). content t.shape slot 0) own) near writes (subst (λ (t : Table). GoesOn t found before after) own goes)

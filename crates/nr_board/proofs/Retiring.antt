@@ -76,7 +76,9 @@ module _ (word : ℕ) (old : Caller) (before after : List Retired) (retires : af
   }
 
   -- by the call's reply, Done
-  pub retires_so : (map : PartialMap) (call : WriterCall) → reply.Done ≡ reply_to map (call_of call) → kind_shown word ≡ kind_of (state_of map (key_of call)) → get_or old.marks.names (key_of call) 0 ≡ name_number word → Retires (call_of call) old before after
+  pub retires_so : (map : PartialMap) (call : WriterCall) → reply.Done ≡ reply_to map (call_of call)
+      → kind_shown word ≡ kind_of (state_of map (key_of call)) → get_or old.marks.names (key_of call) 0 ≡ name_number word
+      → Retires (call_of call) old before after
   retires_so map (Find key) done shows named = no_find (state_of map key) _ done
   retires_so map (Fill key number rows) done shows named = let empty = asked_word word (shows ∙ asked_if number (state_of map key) done) in (
     named ∙ ap (λ (b : Bool). cond {A = ℕ} b (slot_of word + 1) 0) empty,

@@ -30,7 +30,10 @@ module _ (shape : Shape) (words : List ℕ) (roles : List Role) (log : List Entr
     where
       go : (at : Place) → desk.place ≡ at → AtPlace shape words (map_after shape log) (held roles) desk.fresh desk.retired at → RoomAt shape desk at
       go Idle is stands = tt
-      go (Reading call slot got) is stands = (named_inside shape words roles log core (key_of call) slot stands.near stands.names, (let few = (read_set shape words roles log core (key_of call) slot got stands).1 in let more = stands.more in omega arith))
+      go (Reading call slot got) is stands = (
+        named_inside shape words roles log core (key_of call) slot stands.near stands.names,
+        (let few = (read_set shape words roles log core (key_of call) slot got stands).1 in let more = stands.more in omega arith),
+      )
       go (Leaving key) is stands = (
         stands.1.near,
         fewer_retired shape words roles log core id desk there stands.0 (named_inside shape words roles log core key stands.0 stands.1.near stands.1.names)

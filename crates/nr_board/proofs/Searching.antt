@@ -129,9 +129,12 @@ module _ (table : Table) (call : WriterCall) (rows : List Row) (spare : Spare) (
     told = goes desk_now searching_at.role
 
     -- the slot is not held: it is taken
-    pub takes_it : same_count found (retired_at desk_now polls).arrivals ≡ true → WritesAt table (taking_retired desk_now call rows polls found) after × Grows (polls + 1) (token before) [] (token after) × (after.me.0.marks ≡ with_polls before.me.0.marks after.me.0.marks.polls)
+    pub takes_it : same_count found (retired_at desk_now polls).arrivals ≡ true → WritesAt table (taking_retired desk_now call rows polls found) after
+        × Grows (polls + 1) (token before) [] (token after) × (after.me.0.marks ≡ with_polls before.me.0.marks after.me.0.marks.polls)
     takes_it agree =
-        let outcome : polled table.shape desk_now call rows polls found ≡ (taking_retired desk_now call rows polls found, Going) = ap (λ (b : Bool). cond {A = Desk × Step} b (taking_retired desk_now call rows polls found, Going) (polls_on table.shape desk_now call rows polls)) agree in
+        let outcome : polled table.shape desk_now call rows polls found ≡ (taking_retired desk_now call rows polls found, Going) = ap (λ
+        (b : Bool). cond {A = Desk × Step} b (taking_retired desk_now call rows polls found, Going)
+        (polls_on table.shape desk_now call rows polls)) agree in
         let leads = subst (λ (o : Desk × Step). LeadsIn 1 table (call_of call) o mid after) outcome told.leads in
         let same = subst (λ (b : Bool). PollTells b table.shape mid.me.0.marks mid.me.0.pasts desk_now call polls after.me.0.seen after.me.0.marks) agree told.marks.1 in
         (leads.writes, grows_both polls 1 (polls + 1) (token before) (token mid) [] (token after) refl so_far_quiet leads.grows, same ∙ so_far.marks ∙ ap (λ (m : Marks). with_polls before.me.0.marks m.polls) (sym same))
@@ -139,9 +142,12 @@ module _ (table : Table) (call : WriterCall) (rows : List Row) (spare : Spare) (
     -- the slot is held: the search goes on, or there is none
     pub searched_more : same_count found (retired_at desk_now polls).arrivals ≡ false → Searched table call rows spare before after (polls + 1)
     searched_more apart =
-        let outcome : polled table.shape desk_now call rows polls found ≡ swept table.shape (desk_with spare Idle) call rows (polls + 1) = ap (λ (b : Bool). cond {A = Desk × Step} b (taking_retired desk_now call rows polls found, Going) (polls_on table.shape desk_now call rows polls)) apart in
+        let outcome : polled table.shape desk_now call rows polls found ≡ swept table.shape (desk_with spare Idle) call rows
+        (polls + 1) = ap (λ (b : Bool). cond {A = Desk × Step} b (taking_retired desk_now call rows polls found, Going)
+        (polls_on table.shape desk_now call rows polls)) apart in
         let leads = subst (λ (o : Desk × Step). LeadsIn 1 table (call_of call) o mid after) outcome told.leads in
-        let quiet : ending (call_of call) (polled table.shape desk_now call rows polls found).1 ≡ [] = ap (λ (o : Desk × Step). ending (call_of call) o.1) outcome ∙ swept_quiet table.shape (desk_with spare Idle) call rows (call_of call) (polls + 1) in
+        let quiet : ending (call_of call) (polled table.shape desk_now call rows polls found).1 ≡ [] = ap (λ (o : Desk × Step). ending
+        (call_of call) o.1) outcome ∙ swept_quiet table.shape (desk_with spare Idle) call rows (call_of call) (polls + 1) in
         let seen_is : after.me.0.seen ≡ told.log = told.seen ∙ ap (λ (l : List Entry). told.log ++ l) quiet ∙ append-nil told.log in
         let now_grown = grows_both polls 1 (polls + 1) (token before) (token mid) _ (token after) refl so_far_quiet leads.grows in
         let polled_so = subst (λ (b : Bool). PollTells b table.shape mid.me.0.marks mid.me.0.pasts desk_now call polls after.me.0.seen after.me.0.marks) apart told.marks.1 in record {
@@ -150,15 +156,21 @@ module _ (table : Table) (call : WriterCall) (rows : List Row) (spare : Spare) (
           noted = noted_more table.shape before.me.0.pasts mid.me.0.marks.polls (retired_at desk_now polls).slot after.me.0.marks.polls so_far.noted
               (subst (λ (l : List Past). Missed table.shape l mid.me.0.marks.polls (retired_at desk_now polls).slot after.me.0.marks.polls) so_far.leads.grows.pasts polled_so.1);
           many = ap length polled_so.1.more ∙ length-append mid.me.0.marks.polls (polled_so.1.note ∷ []) ∙ ap (λ (n : ℕ). n + 1) so_far.many;
-          few = let missed = polled_so.1 in let few = missed.few in let more : length after.me.0.marks.polls ≡ length mid.me.0.marks.polls + 1 = ap length missed.more ∙ length-append mid.me.0.marks.polls (missed.note ∷ []) in let many = so_far.many in omega arith;
+          few = let missed = polled_so.1 in let few = missed.few in
+              let more : length after.me.0.marks.polls ≡ length mid.me.0.marks.polls + 1 = ap length missed.more ∙ length-append mid.me.0.marks.polls
+              (missed.note ∷ []) in let many = so_far.many in omega arith;
           held = λ at note there. ⊎_elim
               (λ (old : get_elem? mid.me.0.marks.polls at ≡ some note). held_on before.me.0.seen mid.me.0.seen after.me.0.seen note (grows_from 1 (token mid) _ (token after) leads.grows) (so_far.held at note old))
-              (λ (new : (at ≡ length mid.me.0.marks.polls) × (polled_so.1.note ≡ note)). held_now at note there new.0 (ap (λ (n : Past). n.slot) (sym new.1) ∙ polled_so.1.holds) seen_is (grows_from (polls + 1) (token before) _ (token after) now_grown))
+              (λ (new : (at ≡ length mid.me.0.marks.polls) × (polled_so.1.note ≡ note)). held_now at note there new.0
+              (ap (λ (n : Past). n.slot) (sym new.1) ∙ polled_so.1.holds) seen_is
+              (grows_from (polls + 1) (token before) _ (token after) now_grown))
               (at_last mid.me.0.marks.polls polled_so.1.note note at (ap (λ (l : List Past). get_elem? l at) (sym polled_so.1.more) ∙ there));
           marks = polled_so.0 ∙ ap (λ (m : Marks). with_polls m after.me.0.marks.polls) so_far.marks;
         }
       where
-        held_now : (at : ℕ) (note : Past) → get_elem? after.me.0.marks.polls at ≡ some note → at ≡ length mid.me.0.marks.polls → note.slot ≡ Some (retired_at desk_now polls).slot → after.me.0.seen ≡ told.log → StartsWith after.me.0.seen before.me.0.seen → HeldThen before.me.0.seen after.me.0.seen note
+        held_now : (at : ℕ) (note : Past) → get_elem? after.me.0.marks.polls at ≡ some note → at ≡ length mid.me.0.marks.polls
+            → note.slot ≡ Some (retired_at desk_now polls).slot → after.me.0.seen ≡ told.log → StartsWith after.me.0.seen before.me.0.seen
+            → HeldThen before.me.0.seen after.me.0.seen note
         held_now at note there last holds seen_is begins = ⊎_elim
             (λ (old : get_elem? mid.me.0.marks.polls at ≡ some note). absurd (let low = inside mid.me.0.marks.polls at note old in omega arith))
             (λ (now : note.count + to_depart note.slot ≡ acts_told (entries_of told.log note.reader)). let one : to_depart note.slot ≡ 1 = ap to_depart holds in record {
@@ -169,7 +181,9 @@ module _ (table : Table) (call : WriterCall) (rows : List Row) (spare : Spare) (
             }) (told.notes at note there)
 
 -- every retired slot was found held
-pub lacks_slot : (table : Table) (call : WriterCall) (rows : List Row) (spare : Spare) (before after : MapSeat) (polls : ℕ) → Searched table call rows spare before after polls → polls ≡ length spare.retired → LacksSlot table call (none_spare spare) spare spare before after
+pub lacks_slot : (table : Table) (call : WriterCall) (rows : List Row) (spare : Spare) (before after : MapSeat) (polls : ℕ)
+    → Searched table call rows spare before after polls → polls ≡ length spare.retired → LacksSlot table call (none_spare spare) spare spare before
+    after
 lacks_slot table call rows spare before after polls so_far all =
     let desk = desk_with spare Idle in let is = swept_all table.shape desk call rows polls (omega arith) in let leads = so_far.leads in record {
       same = refl;

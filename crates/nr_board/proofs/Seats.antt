@@ -34,7 +34,8 @@ seats_so shape id view writes few state kept at =
     let kept_roles : map role_of (set views id left) ≡ roles = map-set role_of views id left ∙ set_again roles id view.role (at_map role_of views id view at) in
     let more : map role_of views' ≡ roles ++ next.role ∷ [] = map-append role_of (set views id left) (next ∷ []) ∙ ap (λ (l : List Role). l ++ next.role ∷ []) kept_roles in
     let made : view.made ≡ kept.made = kept.maker id view at writes in let fits = kept.fits id view at in
-    let tally : (caller : ℕ) → total (counts caller) (map role_of views') ≡ total (counts caller) roles + counts caller next.role = λ caller. omega (arith, ap (total (counts caller)) more, total-append (counts caller) roles (next.role ∷ [])) in
+    let tally : (caller : ℕ) → total (counts caller) (map role_of views') ≡ total (counts caller) roles + counts caller next.role = λ caller. omega
+    (arith, ap (total (counts caller)) more, total-append (counts caller) roles (next.role ∷ [])) in
     let is_next : (caller : ℕ) → is_by caller next.role ≡ true → caller ≡ view.made + 1 = λ caller e. sym (eqb-true (view.made + 1) caller e) in
     let not_next : (caller : ℕ) → caller ≢ view.made + 1 → counts caller next.role ≡ 0 = λ caller ne. ap (λ y. cond y 1 0) (ne_eqb (view.made + 1) caller (λ e. ne (sym e))) in
     let silent : (caller : ℕ) → is_by caller next.role ≡ true → entries_of kept.log caller ≡ [] = λ caller e. kept.silent caller (omega (arith, is_next caller e)) in
@@ -46,7 +47,15 @@ seats_so shape id view writes few state kept at =
           (λ (t : get_elem? (set views id left) j ≡ some u). ⊎_elim
           (λ (q : (j ≡ id) × (left ≡ u)). subst (Fits shape kept.log) q.1 (record { begins = fits.begins; told = fits.told; own = fits.own; knows_own = fits.knows_own; acts = fits.acts; sized = fits.sized }))
           (λ (q : (j ≢ id) × (get_elem? views j ≡ some u)). kept.fits j u q.1) (at_set views id j left u t))
-          (λ (t : next ≡ u). subst (Fits shape kept.log) t (record { begins = record { rest = kept.log; is = refl }; told = record { rest = kept.log; is = refl }; own = silent; knows_own = λ caller e. refl; acts = λ reads. refl; sized = λ _. fits.sized (omega arith) }))
+          (λ (t : next ≡ u). subst (Fits shape kept.log) t (record {
+            begins = record { rest = kept.log; is = refl };
+            told = record { rest = kept.log; is = refl };
+            own = silent;
+            knows_own = λ caller e.
+                refl;
+            acts = λ reads. refl;
+            sized = λ _. fits.sized (omega arith);
+          }))
           (at_snoc (set views id left) next u j there);
       callers = kept.callers;
       once = λ caller. dite (ℕ_discrete caller (view.made + 1)) (λ e. let z = kept.fresh caller (omega arith) in let one : counts caller next.role ≤ 1 = at_most_one (is_by caller next.role) in omega (arith, tally caller))
@@ -58,11 +67,17 @@ seats_so shape id view writes few state kept at =
       marked = seats_marked role_of marks_of shape state.words (set views id left) kept.log next (λ reader grip reads. ap (λ r. gripped (grip_of r)) (sym reads))
           (alike_marked role_of marks_of shape state.words views kept.log id view left at refl (inl refl) kept.marked) (omega arith, omega arith);
       pasts = knowing_snoc role_of marks_of pasts_of (set views id left) next (no_places (Since role_of marks_of (set views id left))) (knowing_set role_of marks_of pasts_of views id view left at evolves (kept.pasts id view at) kept.pasts);
-      told_pasts = knowing_snoc role_of marks_of told_pasts_of (set views id left) next (no_places (Since role_of marks_of (set views id left))) (knowing_set role_of marks_of told_pasts_of views id view left at evolves (kept.told_pasts id view at) kept.told_pasts);
+      told_pasts = knowing_snoc role_of marks_of told_pasts_of (set views id left) next (no_places (Since role_of marks_of (set views id left)))
+          (knowing_set role_of marks_of told_pasts_of views id view left at evolves (kept.told_pasts id view at) kept.told_pasts);
       maker = λ j u there w. ⊎_elim
           (λ (t : get_elem? (set views id left) j ≡ some u). ⊎_elim
           (λ (q : (j ≡ id) × (left ≡ u)). let z : view.made + 1 ≡ u.made = ap (λ (y : View). y.made) q.1 in omega arith)
-          (λ (q : (j ≢ id) × (get_elem? views j ≡ some u)). absurd (omega (arith, terms_le is_writer roles id j view.role u.role q.0 (at_map role_of views id view at) (at_map role_of views j u q.1), kept.core.one))) (at_set views id j left u t))
+          (λ (q : (j ≢ id) × (get_elem? views j ≡ some u)). absurd
+          (omega (
+            arith,
+            terms_le is_writer roles id j view.role u.role q.0 (at_map role_of views id view at) (at_map role_of views j u q.1),
+            kept.core.one,
+          ))) (at_set views id j left u t))
           (λ (t : next ≡ u). absurd (let z : is_writer next.role ≡ is_writer u.role = ap (λ (y : View). is_writer y.role) t in omega arith))
           (at_snoc (set views id left) next u j there);
     }

@@ -67,14 +67,17 @@ module _ (shape : Shape) (words : List ℕ) (roles : List Role) (log : List Entr
   go_short_at (Leaving k) is without = absurd (not_reply counts reply.Evicted without)
   go_short_at (Withdrawing k) is without = absurd (not_reply counts reply.Cancelled without)
   go_short_at (Putting call rows slot departed index) is without = let found = get_or words (target_of (going shape desk (Putting call rows slot departed index))) 0 in
-      by_cases (λ v. let outcome = cond {A = Desk × Step} v (moved_to desk (Putting call rows slot departed (index + 1)), Going) (swapped desk found, ended reply.Done) in IsWithout counts outcome → Shortage shape log desk (call_of call) outcome counts) (nat_le index (2 * length rows))
+      by_cases (λ v. let outcome = cond {A = Desk × Step} v (moved_to desk (Putting call rows slot departed (index + 1)), Going)
+      (swapped desk found, ended reply.Done) in IsWithout counts outcome → Shortage shape log desk (call_of call) outcome counts)
+      (nat_le index (2 * length rows))
       (λ _ e. absurd (not_going counts e)) (λ _ e. absurd (not_reply counts reply.Done e)) without
   go_short_at (Reading call slot got) is without =
       let reads : Reads shape words (map_after shape log) (held roles) (key_of call) slot got = at_place (Reading call slot got) is in
       let got' : List ℕ = got ++ get_or words (content shape slot (length got)) 0 ∷ [] in
       by_cases (λ v. let outcome = cond {A = Desk × Step} v (decoded shape desk call (decode got')) (moved_to desk (Reading call slot got'), Going) in
       (v ≡ true → length got' ≡ 2 * get_or got' 0 0 + 1) → IsWithout counts outcome → Shortage shape log desk (call_of call) outcome counts) (nat_eq (length got') (2 * get_or got' 0 0 + 1))
-      (λ _ whole e. let set_is = read_whole shape words roles log core (key_of call) slot got reads (whole refl) in let none = decided_none shape desk counts call reads.rows (subst (λ o. IsWithout counts (decoded shape desk call o)) set_is e) in record {
+      (λ _ whole e. let set_is = read_whole shape words roles log core (key_of call) slot got reads (whole refl) in
+      let none = decided_none shape desk counts call reads.rows (subst (λ o. IsWithout counts (decoded shape desk call o)) set_is e) in record {
         none = subst (λ o. NoneLeft shape desk (decoded shape desk call o) counts) (sym set_is) none.0;
         full = none.1;
         done = replies shape log call (ap (reply_at (bound_of shape) (call_of call)) reads.full ∙ none.3 reads.number);
@@ -90,7 +93,8 @@ module _ (shape : Shape) (words : List ℕ) (roles : List Role) (log : List Entr
   go_short = go_short_at desk.place refl
 
 -- what stands after such a step
-pub lacks_so : (shape : Shape) (words : List ℕ) (roles : List Role) (log : List Entry) → Core shape words roles log → (id : ℕ) (desk : Desk) → get_elem? roles id ≡ some (Writer desk) → shape.slots ≤ desk.fresh → ((slot : ℕ) → taken slot desk.place ≡ 0)
+pub lacks_so : (shape : Shape) (words : List ℕ) (roles : List Role) (log : List Entry) → Core shape words roles log → (id : ℕ) (desk : Desk)
+    → get_elem? roles id ≡ some (Writer desk) → shape.slots ≤ desk.fresh → ((slot : ℕ) → taken slot desk.place ≡ 0)
     → (call : Call) (counts : NoSlot) → counts ≡ record { live = shape.slots - length desk.retired; held = length desk.retired } → reply_to (map_after shape log) call ≡ reply.Done
     → (view : View) → PolledAll shape desk.retired view.marks.polls → view.shape ≡ shape → view.seen ≡ log → view.role ≡ Writer desk → (table : TableId) → Lacks call counts (caller_of table view)
 lacks_so shape words roles log core id desk there full free call counts counted done view polled sized seen role table =

@@ -43,10 +43,13 @@ use Rattle.nr_board.specs.declared.reaping.Sweep.TheVariants as sweep
 
 pub probes_so : (shape : Shape) (slots id : ℕ) (me : Me (Unit {0}) View) (desk : Desk) (poll : ℕ) (entry : Retired) → me.0.role ≡ Writer desk → desk.place ≡ Idle → get_elem? desk.retired poll ≡ some entry
     → Allows (Kept shape) slots id me (departures shape entry.slot) (λ word. word)
-    (λ found after. (other : Desk) (place : ℕ) (named : Retired) → me.0.role ≡ Writer other → other.place ≡ Idle → Room me.0.shape other → get_elem? other.retired place ≡ some named → departures shape entry.slot ≡ departures me.0.shape named.slot → ProbesTo me.0.shape named found me.0 after.0)
+    (λ found after. (other : Desk) (place : ℕ) (named : Retired) → me.0.role ≡ Writer other → other.place ≡ Idle → Room me.0.shape other
+    → get_elem? other.retired place ≡ some named → departures shape entry.slot ≡ departures me.0.shape named.slot
+    → ProbesTo me.0.shape named found me.0 after.0)
 probes_so shape slots id me desk poll entry is idle here = let view = me.0 in let at_word : ℕ = departures shape entry.slot in let tells = LoadsWord view.role in let notes = ProbesMarks shape view.marks entry in
     lifts shape id view (Load at_word) tells notes slots me.1
-    (λ found next. (other : Desk) (place : ℕ) (named : Retired) → view.role ≡ Writer other → other.place ≡ Idle → Room view.shape other → get_elem? other.retired place ≡ some named → at_word ≡ departures view.shape named.slot → ProbesTo view.shape named found view next)
+    (λ found next. (other : Desk) (place : ℕ) (named : Retired) → view.role ≡ Writer other → other.place ≡ Idle → Room view.shape other
+    → get_elem? other.retired place ≡ some named → at_word ≡ departures view.shape named.slot → ProbesTo view.shape named found view next)
     view.pasts (learns shape id view.role at_word) (probes_marked role_of marks_of shape id view view.pasts desk poll entry here idle is) (knows_pasts shape id view)
     (λ state kept there step marked. let found : ℕ = get_or state.words at_word 0 in
     let sized : view.shape ≡ shape = (kept.fits id view there).sized (let one : is_writer view.role ≡ 1 = ap is_writer is in omega arith) in
@@ -54,7 +57,8 @@ probes_so shape slots id me desk poll entry is idle here = let view = me.0 in le
     let acts : ActsGo view step.after step.entries marked.now = λ reads. absurd (let none : is_reader step.after ≡ 0 = ap is_reader (step.told.0 ∙ is) in omega arith) in
     let next = waited view step.after marked.now marked.news in
     learns_nothing shape id view (Load at_word) tells notes state kept there step marked (ap caller_number step.told.0) sized callers acts
-    (λ next. (other : Desk) (place : ℕ) (named : Retired) → view.role ≡ Writer other → other.place ≡ Idle → Room view.shape other → get_elem? other.retired place ≡ some named → at_word ≡ departures view.shape named.slot → ProbesTo view.shape named found view next)
+    (λ next. (other : Desk) (place : ℕ) (named : Retired) → view.role ≡ Writer other → other.place ≡ Idle → Room view.shape other
+    → get_elem? other.retired place ≡ some named → at_word ≡ departures view.shape named.slot → ProbesTo view.shape named found view next)
     marked.told.0 step.told.1
     (λ _ other place named also still room here' at_word'.
     let one_desk : desk ≡ other = sym (ap desk_of is) ∙ ap desk_of also in
@@ -183,7 +187,8 @@ module _ (spare : Spare) (before after : MapSeat) (place : ℕ) (all : length sp
 -- THE SEAT
 
 -- the seat rests with its slots after steps that leave all but its marks
-module _ (table : Table) (spare : Spare) (before after : MapSeat) (steps : ℕ) (marks : Marks) (rests : RestsAt table spare before) (own : after.table_id ≡ before.table_id) (view : after.me.0 ≡ record before.me.0 { steps = steps; marks = marks }) where
+module _ (table : Table) (spare : Spare) (before after : MapSeat) (steps : ℕ) (marks : Marks) (rests : RestsAt table spare before)
+    (own : after.table_id ≡ before.table_id) (view : after.me.0 ≡ record before.me.0 { steps = steps; marks = marks }) where
   pub token_after : token after ≡ record (token before) { steps = steps; marks = marks }
   token_after = λ j. caller_of (own j) (view j)
 
@@ -201,7 +206,8 @@ module _ (table : Table) (spare : Spare) (before after : MapSeat) (steps : ℕ) 
   })
 
 -- a retired slot can be polled
-pub probes_at : (table : Table) (spare : Spare) (before now : MapSeat) (place : ℕ) (polled : Bool) → RestsAt table spare before → SweptTo spare before now place polled → place < length spare.retired → ProbesAt table (get_or spare.retired place no_retired) now
+pub probes_at : (table : Table) (spare : Spare) (before now : MapSeat) (place : ℕ) (polled : Bool) → RestsAt table spare before
+    → SweptTo spare before now place polled → place < length spare.retired → ProbesAt table (get_or spare.retired place no_retired) now
 probes_at table spare before now place polled rests so_far low = record {
   own = (λ j. record { id = so_far.own j; shape = (so_far.view j).shape }) ∙ rests.writes.own;
   desk = desk_with spare Idle;
@@ -217,7 +223,9 @@ pub retired_near : (table : Table) (spare : Spare) (seat : MapSeat) (place : ℕ
 retired_near table spare seat place rests low = let near = rests.writes.room.inside place (get_or spare.retired place no_retired) (at_get spare.retired place low) in omega (arith, near, rests.slots)
 
 -- the slot whose set is reaped can be read
-pub recalls_reaped : (table : Table) (spare : Spare) (before after : MapSeat) (slot : ℕ) → (token before).table ≡ table → RestsAt (token before).table spare before → after.table_id ≡ before.table_id → SweepsFor spare before after (sweep.Free slot) → RecallsAt table slot after
+pub recalls_reaped : (table : Table) (spare : Spare) (before after : MapSeat) (slot : ℕ) → (token before).table ≡ table
+    → RestsAt (token before).table spare before → after.table_id ≡ before.table_id → SweepsFor spare before after (sweep.Free slot)
+    → RecallsAt table slot after
 recalls_reaped table spare before after slot own rests same swept = let view = swept.8 in record {
   own = (λ j. record { id = same j; shape = (view j).shape }) ∙ own;
   desk = desk_with spare Idle;

@@ -23,7 +23,13 @@ use Rattle.nr_machine.specs.declared.places.Place.TheVariants.{Idle}
 
 -- the slots that a resting token shows
 pub spare_shown : (table : Table) (spare : Spare) (seat : MapSeat) → RestsAt table spare seat → spare_of (token seat) ≡ spare
-spare_shown table spare seat rests = λ j. record { slots = (ap (λ (t : Table). t.shape.slots) rests.writes.own ∙ sym rests.slots) j; fresh = ap (λ r. (desk_of r).fresh) rests.writes.role j; retired = ap (λ r. (desk_of r).retired) rests.writes.role j; numbers = ap (λ r. (desk_of r).numbers) rests.writes.role j; reaped = sym rests.reaped j }
+spare_shown table spare seat rests = λ j. record {
+  slots = (ap (λ (t : Table). t.shape.slots) rests.writes.own ∙ sym rests.slots) j;
+  fresh = ap (λ r. (desk_of r).fresh) rests.writes.role j;
+  retired = ap (λ r. (desk_of r).retired) rests.writes.role j;
+  numbers = ap (λ r. (desk_of r).numbers) rests.writes.role j;
+  reaped = sym rests.reaped j;
+}
 
 -- no steps
 pub later_none : (seat : MapSeat) → later 0 seat ≡ seat
@@ -74,7 +80,8 @@ writes_later table desk mid new steps same waits writes = record {
 }
 
 -- the slot is taken still
-pub takes_later : (table : Table) (call : WriterCall) (rows : List Row) (slot departed : ℕ) (spare after : Spare) (old mid new : MapSeat) (steps : ℕ) → TakesSlot table call rows slot departed spare after old mid → new.table_id ≡ mid.table_id → new.me.0 ≡ waited steps mid.me.0
+pub takes_later : (table : Table) (call : WriterCall) (rows : List Row) (slot departed : ℕ) (spare after : Spare) (old mid new : MapSeat) (steps : ℕ)
+    → TakesSlot table call rows slot departed spare after old mid → new.table_id ≡ mid.table_id → new.me.0 ≡ waited steps mid.me.0
     → TakesSlot table call rows slot departed spare after (later steps old) new
 takes_later table call rows slot departed spare after old mid new steps takes same waits = record {
   polls = takes.polls;
@@ -89,7 +96,9 @@ takes_later table call rows slot departed spare after old mid new steps takes sa
 }
 
 -- what the call gives out, as contracts see it
-pub given_out : {Room : Type 0} (shows : Room → List Row → Type 0) {table : Table} {spare : Spare} {made : ℕ} {call : WriterCall} {rows : List Row} {before mid : MapSeat} (slot taken : ℕ) (room then : Room) (steps : ℕ) (given : Reclaimed) → HasSet table spare made call rows before mid → (token before).table ≡ table → slot ≡ taken
+pub given_out : {Room : Type 0} (shows : Room → List Row → Type 0) {table : Table} {spare : Spare} {made : ℕ} {call : WriterCall} {rows : List Row}
+    {before mid : MapSeat} (slot taken : ℕ) (room then : Room) (steps : ℕ) (given : Reclaimed) → HasSet table spare made call rows before mid
+    → (token before).table ≡ table → slot ≡ taken
     → HandsOut shows table.shape.rows spare taken (set_in mid.me.0.marks taken) room then steps given → HandsOut shows (token before).table.shape.rows (spare_of (token before)) slot (set_in before.me.0.marks slot) room then steps given
 given_out shows {table = table} {spare = spare} {before = before} {mid = mid} slot taken room then steps given set own same out =
     subst (λ (p : ℕ × Spare × ℕ × List Row). HandsOut shows p.0 p.1 p.2 p.3 room then steps given) (λ j. ((sym own j).shape.rows, sym (spare_shown table spare before set.rests) j, sym same j, set_in (set.marks j) (sym same j))) out
@@ -98,7 +107,8 @@ lacks_later : (call : Call) (counts : NoSlot) (caller : Caller) (steps : ℕ) �
 lacks_later call counts caller steps lacks = record { would_be_done = lacks.would_be_done; live = lacks.live; held = lacks.held; all = lacks.all; full = lacks.full; apart = lacks.apart; polled = lacks.polled; few = lacks.few }
 
 -- a call that has its set has it still
-pub set_later : {table : Table} {spare : Spare} {made : ℕ} {call : WriterCall} {rows : List Row} {before mid : MapSeat} (steps : ℕ) → HasSet table spare made call rows before mid → HasSet table spare (made + steps) call rows before (later steps mid)
+pub set_later : {table : Table} {spare : Spare} {made : ℕ} {call : WriterCall} {rows : List Row} {before mid : MapSeat} (steps : ℕ)
+    → HasSet table spare made call rows before mid → HasSet table spare (made + steps) call rows before (later steps mid)
 set_later {table = table} {made = made} {before = before} {mid = mid} steps set = let settles = set.settles in let grows = set.grows in record {
   rests = set.rests;
   settles = record {

@@ -55,7 +55,10 @@ module _ (table : Table) (spare : Spare) (before : MapSeat) (rests : RestsAt tab
   writer_number = ap caller_number rests.writes.role
 
   -- a call that ends with a reply
-  pub ends : (steps : ℕ) (call : Call) (answer : Reply) (after_spare : Spare) (after : MapSeat) → after_spare.slots ≡ spare.slots → after_spare.reaped ≡ spare.reaped → after.me.0.marks.reaped ≡ before.me.0.marks.reaped → LeadsIn steps table call (desk_with after_spare Idle, ended answer) before after → RestsAt table after_spare after × Gains steps (token before) call answer (token after)
+  pub ends : (steps : ℕ) (call : Call) (answer : Reply) (after_spare : Spare) (after : MapSeat) → after_spare.slots ≡ spare.slots
+      → after_spare.reaped ≡ spare.reaped → after.me.0.marks.reaped ≡ before.me.0.marks.reaped
+      → LeadsIn steps table call (desk_with after_spare Idle, ended answer) before after → RestsAt table after_spare after
+      × Gains steps (token before) call answer (token after)
   ends steps call answer after_spare after slots same_reaped same_marks leads = (
     record { writes = leads.writes; slots = slots ∙ rests.slots; reaped = same_reaped ∙ rests.reaped ∙ sym same_marks; own = leads.grows.own },
     subst (λ (n : ℕ). Grows steps (token before) (entry n call answer ∷ []) (token after)) (sym writer_number) leads.grows,
@@ -78,8 +81,11 @@ module _ (table : Table) (spare : Spare) (before : MapSeat) (rests : RestsAt tab
     -- the call put its set
     pub publishes_so : (published : PublishesSet table call rows spare after_spare mid after) → RestsAt table after_spare after × (put : Publishes steps (token before) (call_of call) rows (token after)) × (put.slot ≡ published.slot)
     publishes_so published =
-        let all = grows_both steps (2 * length rows + 2 + published.polls) (steps + 2 * length rows + 2 + published.polls) (token before) (token mid) (entry 0 (call_of call) reply.Done ∷ []) (token after) (omega arith) grows published.grows in
-        let reaped_after : after_spare.reaped ≡ after.me.0.marks.reaped = ap (λ (s : Spare). s.reaped) published.retires ∙ ap (λ (l : List Bool). slice_set l published.slot false) (rests.reaped ∙ ap (λ (m : Marks). m.reaped) (sym only_polls)) ∙ ap (λ (m : Marks). m.reaped) (sym published.marks) in
+        let all = grows_both steps (2 * length rows + 2 + published.polls) (steps + 2 * length rows + 2 + published.polls) (token before) (token mid)
+        (entry 0 (call_of call) reply.Done ∷ []) (token after) (omega arith) grows published.grows in
+        let reaped_after : after_spare.reaped ≡ after.me.0.marks.reaped = ap (λ (s : Spare). s.reaped) published.retires
+        ∙ ap (λ (l : List Bool). slice_set l published.slot false) (rests.reaped ∙ ap (λ (m : Marks). m.reaped) (sym only_polls))
+        ∙ ap (λ (m : Marks). m.reaped) (sym published.marks) in
         let rests_after : RestsAt table after_spare after = record { writes = published.writes; slots = published.slots ∙ rests.slots; reaped = reaped_after; own = all.own } in
         let spare_after = spare_shown table after_spare after rests_after ∙ published.retires in
         let map_then = map_after before.me.0.shape published.log in
@@ -110,7 +116,13 @@ module _ (table : Table) (spare : Spare) (before : MapSeat) (rests : RestsAt tab
     lacks_so counts lacking =
         let retired_is : (token before).retired ≡ spare.retired = ap (λ (s : Spare). s.retired) (spare_shown table spare before rests) in
         let all = grows_both steps (length spare.retired) (steps + length (token before).retired) (token before) (token mid) [] (token after) (omega (arith, ap length retired_is)) grows lacking.grows in
-        let rests_spare : RestsAt table spare after = record { writes = lacking.writes; slots = rests.slots; reaped = rests.reaped ∙ ap (λ (m : Marks). m.reaped) (sym only_polls) ∙ ap (λ (m : Marks). m.reaped) (sym lacking.marks); own = all.own } in
+        let rests_spare : RestsAt table spare after = record {
+          writes = lacking.writes;
+          slots = rests.slots;
+          reaped = rests.reaped
+              ∙ ap (λ (m : Marks). m.reaped) (sym only_polls) ∙ ap (λ (m : Marks). m.reaped) (sym lacking.marks);
+          own = all.own;
+        } in
         let noted = lacking.noted in (
           subst (λ (s : Spare). RestsAt table s after) (sym lacking.same) rests_spare,
           record {
@@ -133,37 +145,50 @@ module _ (table : Table) (spare : Spare) (before : MapSeat) (rests : RestsAt tab
         }
 
 -- the call ends with its look
-pub look_ends : {table : Table} {spare : Spare} {call : WriterCall} {found : ℕ} {before after : MapSeat} → HasLooked table spare call found before after → (answer : Reply) → looked table.shape (desk_with spare Idle) call found ≡ (desk_with spare Idle, ended answer)
+pub look_ends : {table : Table} {spare : Spare} {call : WriterCall} {found : ℕ} {before after : MapSeat}
+    → HasLooked table spare call found before after → (answer : Reply)
+    → looked table.shape (desk_with spare Idle) call found ≡ (desk_with spare Idle, ended answer)
     → RestsAt (token after).table spare after × (Gains 1 (token before) (call_of call) answer (token after) × SlotsStay (token before) (token after))
 look_ends {table = table} {spare = spare} {call = call} {before = before} {after = after} looks answer is =
     let ended_so = ends table spare before looks.rests 1 (call_of call) answer spare after refl refl (ap (λ (m : Marks). m.reaped) looks.marks) (subst (λ (o : Desk × Step). LeadsIn 1 table (call_of call) o before after) is looks.leads) in
     (rests_own table spare after ended_so.0, (ended_so.1, (same_slots table spare before looks.rests after ended_so.0, looks.marks)))
 
-pub has_set : {table : Table} {spare : Spare} {steps : ℕ} {call : WriterCall} {rows : List Row} {before mid : MapSeat} → RestsAt table spare before → LeadsIn steps table (call_of call) (settled table.shape (desk_with spare Idle) call rows) before mid → mid.me.0.marks ≡ with_polls before.me.0.marks [] → HasSet table spare steps call rows before mid
+pub has_set : {table : Table} {spare : Spare} {steps : ℕ} {call : WriterCall} {rows : List Row} {before mid : MapSeat} → RestsAt table spare before
+    → LeadsIn steps table (call_of call) (settled table.shape (desk_with spare Idle) call rows) before mid
+    → mid.me.0.marks ≡ with_polls before.me.0.marks [] → HasSet table spare steps call rows before mid
 has_set {table = table} {spare = spare} {steps = steps} {call = call} {rows = rows} {before = before} {mid = mid} rests leads marks =
     let so = settles_so table spare before rests steps call rows mid leads (ap (λ (m : Marks). m.polls) marks) in record { rests = rests; settles = so.0; grows = so.1; marks = marks }
 
 -- a fill and a replacement have it at their look
-pub look_settles : {table : Table} {spare : Spare} {call : WriterCall} {rows : List Row} {found : ℕ} {before after : MapSeat} → HasLooked table spare call found before after → looked table.shape (desk_with spare Idle) call found ≡ settled table.shape (desk_with spare Idle) call rows → HasSet table spare 1 call rows before after
+pub look_settles : {table : Table} {spare : Spare} {call : WriterCall} {rows : List Row} {found : ℕ} {before after : MapSeat}
+    → HasLooked table spare call found before after → looked table.shape (desk_with spare Idle) call found ≡ settled table.shape
+    (desk_with spare Idle) call rows → HasSet table spare 1 call rows before after
 look_settles {table = table} {call = call} {before = before} {after = after} looks is = has_set looks.rests (subst (λ (o : Desk × Step). LeadsIn 1 table (call_of call) o before after) is looks.leads) looks.marks
 
 -- and it had the slot, and put the set there, or found none
 module _ {table : Table} {spare after_spare : Spare} {steps : ℕ} {call given : WriterCall} {rows : List Row} {before mid after : MapSeat} (set : HasSet table spare steps call rows before mid) (is : given ≡ call) where
-  pub has_published : (published : PublishesSet table given rows spare after_spare mid after) → RestsAt (token after).table after_spare after × (put : Publishes steps (token before) (call_of call) rows (token after)) × (put.slot ≡ published.slot)
+  pub has_published : (published : PublishesSet table given rows spare after_spare mid after) → RestsAt (token after).table after_spare after
+      × (put : Publishes steps (token before) (call_of call) rows (token after)) × (put.slot ≡ published.slot)
   has_published published =
       let put = subst (λ (c : WriterCall). (here : PublishesSet table c rows spare after_spare mid after) × (here.slot ≡ published.slot)) is (published, refl) in
       let so = publishes_so table spare before set.rests steps call rows mid after set.grows set.marks after_spare put.0 in (rests_own table after_spare after so.0, so.1, so.2 ∙ put.1)
 
   pub has_lacked : {counts : NoSlot} → LacksSlot table given counts spare after_spare mid after → RestsAt (token after).table after_spare after × HasNoSlot steps (token before) (call_of call) counts (token after)
-  has_lacked {counts = counts} lacking = let so = lacks_so table spare before set.rests steps call rows mid after set.grows set.marks after_spare counts (subst (λ (c : WriterCall). LacksSlot table c counts spare after_spare mid after) is lacking) in (rests_own table after_spare after so.0, so.1)
+  has_lacked {counts = counts} lacking = let so = lacks_so table spare before set.rests steps call rows mid after set.grows set.marks after_spare
+      counts (subst (λ (c : WriterCall). LacksSlot table c counts spare after_spare mid after) is lacking) in
+      (rests_own table after_spare after so.0, so.1)
 
 -- the swap that evicts the key
-module _ {table : Table} {spare : Spare} {key word : ℕ} {before mid : MapSeat} (looks : HasLooked table spare (Evict key) word before mid) (leaves : looked table.shape (desk_with spare Idle) (Evict key) word ≡ (desk_with spare (Leaving key), Going)) where
+module _ {table : Table} {spare : Spare} {key word : ℕ} {before mid : MapSeat} (looks : HasLooked table spare (Evict key) word before mid)
+    (leaves : looked table.shape (desk_with spare Idle) (Evict key) word ≡ (desk_with spare (Leaving key), Going)) where
   pub about_to_leave : LeadsIn 1 table (model.Evict key) (desk_with spare (Leaving key), Going) before mid
   about_to_leave = subst (λ (o : Desk × Step). LeadsIn 1 table (model.Evict key) o before mid) leaves looks.leads
 
   pub has_evicted : {board : Table} {found : ℕ} {after : MapSeat} {after_spare : Spare} → board ≡ table → GoesOn board found mid after → after_spare ≡ record spare { retired = spare.retired ++ unnamed found }
-      → RestsAt (token after).table after_spare after × (Gains 2 (token before) (model.Evict key) reply.Evicted (token after) × ((token after).fresh ≡ (token before).fresh) × ((token after).numbers ≡ (token before).numbers) × RetiresOne key (token before) (token before).retired (token after).retired × (after.me.0.marks ≡ without_name (with_polls before.me.0.marks []) key))
+      → RestsAt (token after).table after_spare after × (Gains 2 (token before) (model.Evict key) reply.Evicted (token after)
+      × ((token after).fresh ≡ (token before).fresh) × ((token after).numbers ≡ (token before).numbers)
+      × RetiresOne key (token before) (token before).retired (token after).retired
+      × (after.me.0.marks ≡ without_name (with_polls before.me.0.marks []) key))
   has_evicted {found = found} {after = after} {after_spare = after_spare} board_is goes retires =
       let gone = subst (λ (t : Table). GoesOn t found mid after) board_is goes (desk_with spare (Leaving key)) about_to_leave.writes.role in let told = gone.leads in
       let all : LeadsIn 2 table (model.Evict key) (desk_with after_spare Idle, ended reply.Evicted) before after = record {
@@ -171,7 +196,8 @@ module _ {table : Table} {spare : Spare} {key word : ℕ} {before mid : MapSeat}
         grows = grows_both 1 1 2 (token before) (token mid) _ (token after) (omega arith) about_to_leave.grows told.grows;
         short = λ counts without. absurd (not_reply counts reply.Evicted without);
       } in
-      let ended_so = ends table spare before looks.rests 2 (model.Evict key) reply.Evicted after_spare after (ap (λ (s : Spare). s.slots) retires) (ap (λ (s : Spare). s.reaped) retires) (ap (λ (m : Marks). m.reaped) gone.marks.0 ∙ ap (λ (m : Marks). m.reaped) looks.marks) all in
+      let ended_so = ends table spare before looks.rests 2 (model.Evict key) reply.Evicted after_spare after (ap (λ (s : Spare). s.slots) retires)
+      (ap (λ (s : Spare). s.reaped) retires) (ap (λ (m : Marks). m.reaped) gone.marks.0 ∙ ap (λ (m : Marks). m.reaped) looks.marks) all in
       let slots = spare_shown table after_spare after ended_so.0 ∙ retires ∙ ap (λ (s : Spare). record s { retired = s.retired ++ unnamed found }) (sym (spare_shown table spare before looks.rests)) in
       let legal = (legal_goes_on_lem (map_at_opening (token before).table) gone.log (entry 0 (model.Evict key) reply.Evicted)).1.1 (subst (IsLegal (map_at_opening (token before).table)) gone.seen all.grows.legal) in (
         rests_own table after_spare after ended_so.0,
@@ -186,12 +212,17 @@ module _ {table : Table} {spare : Spare} {key word : ℕ} {before mid : MapSeat}
       )
 
 -- the swap that takes the key's request back
-module _ {table : Table} {spare : Spare} {key word : ℕ} {before mid : MapSeat} (looks : HasLooked table spare (Cancel key) word before mid) (withdraws : looked table.shape (desk_with spare Idle) (Cancel key) word ≡ (desk_with spare (Withdrawing key), Going)) where
+module _ {table : Table} {spare : Spare} {key word : ℕ} {before mid : MapSeat} (looks : HasLooked table spare (Cancel key) word before mid)
+    (withdraws : looked table.shape (desk_with spare Idle) (Cancel key) word ≡ (desk_with spare (Withdrawing key), Going)) where
   pub about_to_withdraw : LeadsIn 1 table (model.Cancel key) (desk_with spare (Withdrawing key), Going) before mid
   about_to_withdraw = subst (λ (o : Desk × Step). LeadsIn 1 table (model.Cancel key) o before mid) withdraws looks.leads
 
-  pub has_cancelled : {board : Table} {found : ℕ} {after : MapSeat} {after_spare : Spare} → board ≡ table → GoesOn board found mid after → after_spare ≡ record spare { numbers = slice_set spare.numbers key (slice_index spare.numbers key + 1) }
-      → RestsAt (token after).table after_spare after × (Gains 2 (token before) (model.Cancel key) reply.Cancelled (token after) × (spare_of (token after) ≡ record (spare_of (token before)) { numbers = slice_set (token before).numbers key (slice_index (token before).numbers key + 1) }) × (after.me.0.marks ≡ with_polls before.me.0.marks []))
+  pub has_cancelled : {board : Table} {found : ℕ} {after : MapSeat} {after_spare : Spare} → board ≡ table → GoesOn board found mid after
+      → after_spare ≡ record spare { numbers = slice_set spare.numbers key (slice_index spare.numbers key + 1) }
+      → RestsAt (token after).table after_spare after × (Gains 2 (token before) (model.Cancel key) reply.Cancelled (token after)
+      × (spare_of (token after) ≡ record (spare_of (token before))
+      { numbers = slice_set (token before).numbers key (slice_index (token before).numbers key + 1) })
+      × (after.me.0.marks ≡ with_polls before.me.0.marks []))
   has_cancelled {found = found} {after = after} {after_spare = after_spare} board_is goes renumbers =
       let gone = subst (λ (t : Table). GoesOn t found mid after) board_is goes (desk_with spare (Withdrawing key)) about_to_withdraw.writes.role in let told = gone.leads in
       let all : LeadsIn 2 table (model.Cancel key) (desk_with after_spare Idle, ended reply.Cancelled) before after = record {
@@ -199,7 +230,9 @@ module _ {table : Table} {spare : Spare} {key word : ℕ} {before mid : MapSeat}
         grows = grows_both 1 1 2 (token before) (token mid) _ (token after) (omega arith) about_to_withdraw.grows told.grows;
         short = λ counts without. absurd (not_reply counts reply.Cancelled without);
       } in
-      let ended_so = ends table spare before looks.rests 2 (model.Cancel key) reply.Cancelled after_spare after (ap (λ (s : Spare). s.slots) renumbers) (ap (λ (s : Spare). s.reaped) renumbers) (ap (λ (m : Marks). m.reaped) gone.marks.0 ∙ ap (λ (m : Marks). m.reaped) looks.marks) all in (
+      let ended_so = ends table spare before looks.rests 2 (model.Cancel key) reply.Cancelled after_spare after
+      (ap (λ (s : Spare). s.slots) renumbers) (ap (λ (s : Spare). s.reaped) renumbers)
+      (ap (λ (m : Marks). m.reaped) gone.marks.0 ∙ ap (λ (m : Marks). m.reaped) looks.marks) all in (
         rests_own table after_spare after ended_so.0,
         (
           ended_so.1,
@@ -210,7 +243,9 @@ module _ {table : Table} {spare : Spare} {key word : ℕ} {before mid : MapSeat}
 
 -- READS OF THE KEY'S SET
 
-module _ {table : Table} {spare : Spare} {call given : WriterCall} {found : ℕ} {before mid : MapSeat} (looks : HasLooked table spare call found before mid) (reads : looked table.shape (desk_with spare Idle) call found ≡ (desk_with spare (Reading call (slot_of found) []), Going)) (is : given ≡ call) where
+module _ {table : Table} {spare : Spare} {call given : WriterCall} {found : ℕ} {before mid : MapSeat}
+    (looks : HasLooked table spare call found before mid) (reads : looked table.shape (desk_with spare Idle) call
+    found ≡ (desk_with spare (Reading call (slot_of found) []), Going)) (is : given ≡ call) where
   leads_there : LeadsIn 1 table (call_of call) (desk_with spare (Reading call (slot_of found) []), Going) before mid
   leads_there = subst (λ (o : Desk × Step). LeadsIn 1 table (call_of call) o before mid) reads looks.leads
 
@@ -255,7 +290,8 @@ module _ {table : Table} {spare : Spare} {key slot : ℕ} {batch : List Delta} {
   own_map log number had = ap (λ (t : Table). state_of (map_after t.shape log) key) read.own ∙ had
 
   pub has_refused : (why : ApplyFault) → applied (bound_of table.shape) rows batch ≡ Err why
-      → RestsAt (token after).table spare after × ((gains : Gains (2 * length rows + 2) (token before) (model.Update key batch) (applied_reply (Err why)) (token after)) × KeyHad key rows (token before) gains.between × SlotsStay (token before) (token after))
+      → RestsAt (token after).table spare after × ((gains : Gains (2 * length rows + 2) (token before) (model.Update key batch)
+      (applied_reply (Err why)) (token after)) × KeyHad key rows (token before) gains.between × SlotsStay (token before) (token after))
   has_refused why is =
       let ended_so = ends table spare before read.rests (2 * length rows + 2) (model.Update key batch) (applied_reply (Err why)) spare after refl refl (ap (λ (m : Marks). m.reaped) read.marks) (leads_by (Err why) is) in
       let log_is = before_last ((token before).seen ++ ended_so.1.between) read.had.log _ _ (sym ended_so.1.seen ∙ seen_by (Err why) is) in
@@ -271,9 +307,13 @@ module _ {table : Table} {spare : Spare} {key slot : ℕ} {batch : List Delta} {
         ap (λ (l : List Entry). state_of (map_after table.shape l) key) (seen_by (Ok left) is ∙ quiet) ∙ read.had.state
 
     -- the key had the set until the update's entry, if it was done, or to the end
-    had_still : (near : key < table.shape.keys) (last : MapSeat) (steps sum : ℕ) (entries mine : List Entry) (then : Grows steps (token after) entries (token last)) (all : Grows sum (token before) mine (token last)) → entries_of entries 0 ≡ entries → (token before).seen ++ all.between ≡ (token after).seen ++ then.between → KeyHad key rows (token before) all.between
+    had_still : (near : key < table.shape.keys) (last : MapSeat) (steps sum : ℕ) (entries mine : List Entry)
+        (then : Grows steps (token after) entries (token last)) (all : Grows sum (token before) mine (token last)) → entries_of entries 0 ≡ entries
+        → (token before).seen ++ all.between ≡ (token after).seen ++ then.between → KeyHad key rows (token before) all.between
     had_still near last steps sum entries mine then all ours same = let grows = has_renewed.grows in
-        had_before table.shape key read.had.number rows (token before) (token after) (token last) sum steps entries mine (ap (λ (t : Table). t.shape) read.own) near (grows.number ∙ ap caller_number read.rests.writes.role) grows.own ours then all same grows.table still_has
+        had_before table.shape key read.had.number rows (token before) (token after) (token last) sum steps entries mine
+        (ap (λ (t : Table). t.shape) read.own) near (grows.number ∙ ap caller_number read.rests.writes.role) grows.own ours then all same
+        grows.table still_has
 
     module _ {given : WriterCall} (given_is : given ≡ Update key batch) (near : key < table.shape.keys) where
       pub has_updated : {last : MapSeat} {after_spare : Spare} → PublishesSet table given left spare after_spare after last
@@ -284,7 +324,8 @@ module _ {table : Table} {spare : Spare} {key slot : ℕ} {batch : List Delta} {
 
       -- where the writer made that many steps more before it published
       pub has_updated_later : {last : MapSeat} {after_spare : Spare} (steps : ℕ) → (put : PublishesSet table given left spare after_spare (later steps after) last)
-          → RestsAt (token last).table after_spare last × ((published : Publishes (2 * length rows + 2 + steps) (token before) (model.Update key batch) left (token last)) × KeyHad key rows (token before) published.gains.between × (published.slot ≡ put.slot))
+          → RestsAt (token last).table after_spare last × ((published : Publishes (2 * length rows + 2 + steps) (token before)
+          (model.Update key batch) left (token last)) × KeyHad key rows (token before) published.gains.between × (published.slot ≡ put.slot))
       has_updated_later {last = last} {after_spare = after_spare} steps put = let here = subst (λ (c : WriterCall). (p : PublishesSet table c left spare after_spare (later steps after) last) × (p.slot ≡ put.slot)) given_is (put, refl) in
           let so = has_published (set_later steps has_renewed) refl here.0 in let then = grows_with steps _ _ (token after) _ (token last) refl here.0.grows in let all = so.1.gains in
           (so.0, (so.1, had_still near last _ _ _ _ then all refl (before_last ((token before).seen ++ all.between) ((token after).seen ++ then.between) _ _ (sym all.seen ∙ then.seen)), so.2 ∙ here.1))

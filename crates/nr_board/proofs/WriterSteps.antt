@@ -73,8 +73,12 @@ writer_shape shape log view desk is fits = fits.sized (let one : is_writer view.
 same_desk : (role : Role) (desk other : Desk) → role ≡ Writer desk → role ≡ Writer other → desk ≡ other
 same_desk role desk other is also = sym (ap desk_of is) ∙ ap desk_of also
 
-module _ (shape : Shape) (id : ℕ) (view : View) (desk : Desk) (is : view.role ≡ Writer desk) (operation : Operation) (tells : Telling) (notes : MarkTelling) (state : State (Unit {0}) View) (kept : Kept shape state) (at : get_elem? state.views id ≡ some view)
-    (step : Stepped shape state.words (map role_of state.views) kept.log id view.role operation tells) (marked : Remarked role_of marks_of shape state.words state.views kept.log id view operation step.after step.entries notes) (no_news : marked.news ≡ []) (call : Call) (outcome : Desk × Step) (role_told : step.after ≡ Writer outcome.0) (entries_told : step.entries ≡ ending call outcome.1) (callers : AreCallers shape (ending call outcome.1)) where
+module _ (shape : Shape) (id : ℕ) (view : View) (desk : Desk) (is : view.role ≡ Writer desk) (operation : Operation) (tells : Telling)
+    (notes : MarkTelling) (state : State (Unit {0}) View) (kept : Kept shape state) (at : get_elem? state.views id ≡ some view)
+    (step : Stepped shape state.words (map role_of state.views) kept.log id view.role operation tells)
+    (marked : Remarked role_of marks_of shape state.words state.views kept.log id view operation step.after step.entries notes)
+    (no_news : marked.news ≡ []) (call : Call) (outcome : Desk × Step) (role_told : step.after ≡ Writer outcome.0)
+    (entries_told : step.entries ≡ ending call outcome.1) (callers : AreCallers shape (ending call outcome.1)) where
   callers_told : AreCallers shape step.entries
   callers_told = subst (AreCallers shape) (sym entries_told) callers
 
@@ -96,7 +100,8 @@ module _ (shape : Shape) (id : ℕ) (view : View) (desk : Desk) (is : view.role 
   abbrev pub next_view : View
   next_view = learned view step.after (kept.log ++ step.entries) step.entries marked.now marked.news
 
-  short_after : (counts : NoSlot) → outcome.1 ≡ Ended (writer.NoSlot counts) → Shortage shape kept.log desk call outcome counts → PolledAll shape desk.retired marked.now.polls → (table : TableId) → Lacks call counts (caller_of table next_view)
+  short_after : (counts : NoSlot) → outcome.1 ≡ Ended (writer.NoSlot counts) → Shortage shape kept.log desk call outcome counts
+      → PolledAll shape desk.retired marked.now.polls → (table : TableId) → Lacks call counts (caller_of table next_view)
   short_after counts without shortage polled =
       let none_added : step.entries ≡ [] = entries_told ∙ ap (ending call) without in
       let same_log : kept.log ≡ kept.log ++ step.entries = sym (append-nil kept.log) ∙ ap (λ (l : List Entry). kept.log ++ l) (sym none_added) in
@@ -107,27 +112,37 @@ module _ (shape : Shape) (id : ℕ) (view : View) (desk : Desk) (is : view.role 
       (subst (λ (l : List Entry). reply_to (map_after shape l) call ≡ reply.Done) same_log shortage.done)
       next_view (subst (λ (d : Desk). PolledAll shape d.retired marked.now.polls) (sym desk_is) polled) sized refl role_told
 
-  pub leads_so : ((counts : NoSlot) → outcome.1 ≡ Ended (writer.NoSlot counts) → Shortage shape kept.log desk call outcome counts × PolledAll shape desk.retired marked.now.polls) → Advances view (ending call outcome.1) next_view → Leads call outcome view next_view
+  pub leads_so : ((counts : NoSlot) → outcome.1 ≡ Ended (writer.NoSlot counts) → Shortage shape kept.log desk call outcome counts
+      × PolledAll shape desk.retired marked.now.polls) → Advances view (ending call outcome.1) next_view → Leads call outcome view next_view
   leads_so short advances = record { role = role_told; advances = advances; room = room_after; numbers = numbers_after; short = λ counts without. short_after counts without (short counts without).0 (short counts without).1 }
 
   -- the writer's view after the step
   pub writes : (then : View → Type 0) → (Advances view (ending call outcome.1) next_view → then next_view) → Choice shape id view operation tells notes state kept step marked then
-  writes then tell = learning shape id view operation tells notes state kept at step marked (ap caller_number role_told ∙ sym (ap caller_number is)) sized callers_told acts_told_so then (writer_is view.role desk is) no_news (ending call outcome.1) entries_told tell
+  writes then tell = learning shape id view operation tells notes state kept at step marked (ap caller_number role_told ∙ sym (ap caller_number is))
+      sized callers_told acts_told_so then (writer_is view.role desk is) no_news (ending call outcome.1) entries_told tell
 
 pub looks_so : (shape : Shape) (slots id : ℕ) (me : Me (Unit {0}) View) (desk : Desk) (call : WriterCall) → me.0.role ≡ Writer desk → desk.place ≡ Idle → IsGivenCall (bound_of shape) call → key_of call < shape.keys
     → Allows (Kept shape) slots id me (key_of call) (λ word. word) (λ found after. (other : Desk) → me.0.role ≡ Writer other → Looked other call found me.0 after.0)
 looks_so shape slots id me desk call is idle given near = let view = me.0 in let tells = Looks shape desk call in let notes = LooksMarks shape view.marks desk call in let operation = Load (key_of call) in
-    lifts shape id view operation tells notes slots me.1 (λ found next. (other : Desk) → view.role ≡ Writer other → Looked other call found view next) view.pasts (subst (λ r. CanStep shape id r operation tells) (sym is) (looks shape id desk call idle given near))
+    lifts shape id view operation tells notes slots me.1 (λ found next. (other : Desk) → view.role ≡ Writer other → Looked other call found view next)
+    view.pasts (subst (λ r. CanStep shape id r operation tells) (sym is) (looks shape id desk call idle given near))
     (looks_marked role_of marks_of shape id view view.pasts desk call idle near is) (knows_pasts shape id view)
     (λ state kept at step marked. let found : ℕ = get_or state.words (key_of call) 0 in let outcome = looked shape desk call found in let c = call_of call in
     let there : get_elem? (map role_of state.views) id ≡ some (Writer desk) = at_map role_of state.views id view at ∙ ap some is in
-    let short : (counts : NoSlot) → outcome.1 ≡ Ended (writer.NoSlot counts) → Shortage shape kept.log desk c outcome counts × PolledAll shape desk.retired marked.now.polls = λ counts without. (look_short shape state.words (map role_of state.views) kept.log kept.core id desk there counts call near without, look_polled shape view.marks desk call found step.after (kept.log ++ step.entries) marked.now marked.news marked.told (counts, without)) in
+    let short : (counts : NoSlot) → outcome.1 ≡ Ended (writer.NoSlot counts) → Shortage shape kept.log desk c outcome counts
+    × PolledAll shape desk.retired marked.now.polls = λ counts without. (
+      look_short shape state.words (map role_of state.views) kept.log kept.core id desk there counts call near without,
+      look_polled shape
+          view.marks desk call found step.after (kept.log ++ step.entries) marked.now marked.news marked.told (counts, without),
+    ) in
     let size = writer_shape shape kept.log view desk is (kept.fits id view at) in
     let callers = writer_entries shape c outcome.1 (subst (λ (k : ℕ). k < shape.keys) (sym (key_same call)) near) (given_brings (bound_of shape) call given) in
     writes shape id view desk is operation tells notes state kept at step marked marked.told.1 c outcome step.told.0 step.told.1 callers (λ next. (other : Desk) → view.role ≡ Writer other → Looked other call found view next)
     (λ advances other also. let next = learned view step.after (kept.log ++ step.entries) step.entries marked.now marked.news in
     subst (λ (d : Desk). Looked d call found view next) (same_desk view.role desk other is also) (record {
-      leads = subst (λ (s : Shape). Leads c (looked s desk call found) view next) (sym size) (leads_so shape id view desk is operation tells notes state kept at step marked marked.told.1 c outcome step.told.0 step.told.1 callers short advances);
+      leads = subst (λ (s : Shape). Leads c (looked s desk call found) view next) (sym size)
+          (leads_so shape id view desk is operation tells notes state kept at step marked marked.told.1 c outcome step.told.0 step.told.1 callers
+          short advances);
       marks = subst (λ (p : Shape × List Past). LooksMarks p.0 view.marks desk call found step.after (kept.log ++ step.entries) marked.now p.1) (λ j. (sym size j, marked.told.1 j)) marked.told;
     })))
 
@@ -136,7 +151,8 @@ put_quiet : (b : Bool) (marks : Marks) (at slot : ℕ) (rows : List Row) (word :
 put_quiet true marks at slot rows word after log now news told = told.1
 put_quiet false marks at slot rows word after log now news told = told.4
 
-went_quiet : (shape : Shape) (marks : Marks) (known : List Past) (desk : Desk) (place : Place) (word : ℕ) (after : Role) (log : List Entry) (now : Marks) (news : List Past) → went_marks shape marks known desk place word after log now news → news ≡ []
+went_quiet : (shape : Shape) (marks : Marks) (known : List Past) (desk : Desk) (place : Place) (word : ℕ) (after : Role) (log : List Entry)
+    (now : Marks) (news : List Past) → went_marks shape marks known desk place word after log now news → news ≡ []
 went_quiet shape marks known desk Idle word after log now news told = told.1
 went_quiet shape marks known desk (Reading call slot got) word after log now news told = told.1
 went_quiet shape marks known desk (Leaving key) word after log now news told = told.1
@@ -154,7 +170,9 @@ ending_there (Searching call rows poll) step busy = refl
 ending_there (Putting call rows slot departed index) step busy = refl
 
 -- a call that goes on ends with an entry of the writer's
-entries_there : (shape : Shape) (words : List ℕ) (roles : List Role) (log : List Entry) → Core shape words roles log → (id : ℕ) (desk : Desk) → get_elem? roles id ≡ some (Writer desk) → (place : Place) → desk.place ≡ place → if_not_busy place ≡ None → (found : ℕ) → AreCallers shape (ending (call_at place) (went shape desk place found).1)
+entries_there : (shape : Shape) (words : List ℕ) (roles : List Role) (log : List Entry) → Core shape words roles log → (id : ℕ) (desk : Desk)
+    → get_elem? roles id ≡ some (Writer desk) → (place : Place) → desk.place ≡ place → if_not_busy place ≡ None → (found : ℕ)
+    → AreCallers shape (ending (call_at place) (went shape desk place found).1)
 entries_there shape words roles log core id desk there place is busy found = go place busy (subst (AtPlace shape words (map_after shape log) (held roles) desk.fresh desk.retired) is (core.knows id (Writer desk) there).place)
   where
     near_call : (call : WriterCall) → key_of call < shape.keys → call_key (call_of call) < shape.keys
@@ -172,7 +190,9 @@ entries_there shape words roles log core id desk there place is busy found = go 
     go (Putting call rows slot departed index) busy stands = of_set call rows (went shape desk (Putting call rows slot departed index) found).1 stands.wants
 
 -- the words of the key's set are read on, and a swap finds the key's word
-finds_so : (shape : Shape) (words : List ℕ) (roles : List Role) (log : List Entry) → Core shape words roles log → (id : ℕ) (desk : Desk) → get_elem? roles id ≡ some (Writer desk) → (marks : Marks) → ((key : ℕ) → key < shape.keys → get_or marks.names key 0 ≡ name_number (get_or words key 0))
+finds_so : (shape : Shape) (words : List ℕ) (roles : List Role) (log : List Entry) → Core shape words roles log → (id : ℕ) (desk : Desk)
+    → get_elem? roles id ≡ some (Writer desk) → (marks : Marks)
+    → ((key : ℕ) → key < shape.keys → get_or marks.names key 0 ≡ name_number (get_or words key 0))
     → (place : Place) → desk.place ≡ place → Finds shape place (get_or words (target_of (going shape desk place)) 0) log marks
 finds_so shape words roles log core id desk there marks names place is = go place (subst (AtPlace shape words (map_after shape log) (held roles) desk.fresh desk.retired) is (core.knows id (Writer desk) there).place)
   where
@@ -181,12 +201,23 @@ finds_so shape words roles log core id desk there marks names place is = go plac
 
     go : (at : Place) → AtPlace shape words (map_after shape log) (held roles) desk.fresh desk.retired at → Finds shape at (get_or words (target_of (going shape desk at)) 0) log marks
     go Idle stands = tt
-    go (Reading call slot got) reads = (reads.rows, read_set shape words roles log core (key_of call) slot got reads, read_next shape words roles log core (key_of call) slot got reads ∙ ap (λ (n : ℕ). take n (encode reads.rows)) (let one : suc (length got) ≡ length got + 1 = omega arith in one), reads.more, reads.number, reads.full)
+    go (Reading call slot got) reads = (
+      reads.rows,
+      read_set shape words roles log core (key_of call) slot got reads,
+      read_next shape words roles log
+          core (key_of call) slot got reads ∙ ap (λ (n : ℕ). take n (encode reads.rows)) (let one : suc (length got) ≡ length got + 1 = omega arith in
+          one),
+      reads.more,
+      reads.number,
+      reads.full,
+    )
     go (Leaving key) stands = swaps key stands.1.near
     go (Withdrawing key) stands = swaps key stands.near
     go (Searching call rows poll) stands = tt
     go (Putting call rows slot departed index) stands =
-        by_cases (λ b. SwapsOrPuts b shape (key_of call) (get_or words (target_of (cond {A = Operation} b (Store (content shape slot index) (get_or (encode rows) index 0)) (Swap (key_of call) (naming slot departed)))) 0) log marks) (nat_le index (2 * length rows))
+        by_cases (λ b. SwapsOrPuts b shape (key_of call) (get_or words
+        (target_of (cond {A = Operation} b (Store (content shape slot index) (get_or (encode rows) index 0))
+        (Swap (key_of call) (naming slot departed)))) 0) log marks) (nat_le index (2 * length rows))
         (λ _. tt) (λ _. swaps (key_of call) stands.wants.near)
 
 -- the notes that are new among the polls tell readers as they are
@@ -207,7 +238,12 @@ goes_so shape slots id me desk is busy = let view = me.0 in let tells = Goes sha
     (λ state kept at step marked. let found : ℕ = get_or state.words (target_of operation) 0 in let outcome = went shape desk desk.place found in
     let there : get_elem? (map role_of state.views) id ≡ some (Writer desk) = at_map role_of state.views id view at ∙ ap some is in
     let own = subst (λ r. KnowsMarks role_of marks_of shape state.words state.views kept.log r view.marks) is (kept.marked.each id view at) in let sweep = own.sweep in
-    let short : (counts : NoSlot) → outcome.1 ≡ Ended (writer.NoSlot counts) → Shortage shape kept.log desk c outcome counts × PolledAll shape desk.retired marked.now.polls = λ counts without. (go_short shape state.words (map role_of state.views) kept.log kept.core id desk there counts without, go_polled shape view.marks view.pasts desk found step.after (kept.log ++ step.entries) marked.now marked.news state.views desk.place sweep marked.told (counts, without)) in
+    let short : (counts : NoSlot) → outcome.1 ≡ Ended (writer.NoSlot counts) → Shortage shape kept.log desk c outcome counts
+    × PolledAll shape desk.retired marked.now.polls = λ counts without. (
+      go_short shape state.words (map role_of state.views) kept.log kept.core id desk there counts without,
+      go_polled shape view.marks view.pasts
+          desk found step.after (kept.log ++ step.entries) marked.now marked.news state.views desk.place sweep marked.told (counts, without),
+    ) in
     let size = writer_shape shape kept.log view desk is (kept.fits id view at) in
     let entries : step.entries ≡ ending c outcome.1 = step.told.1 ∙ ending_there desk.place outcome.1 busy in
     let callers = entries_there shape state.words (map role_of state.views) kept.log kept.core id desk there desk.place refl busy found in
@@ -224,7 +260,8 @@ goes_so shape slots id me desk is busy = let view = me.0 in let tells = Goes sha
     })))
 
 -- what a step told, told otherwise
-tells_also : (holds : State (Unit {0}) View → Type 0) (slots id : ℕ) (me : Me (Unit {0}) View) (place : ℕ) (f : ℕ → ℕ) (then also : ℕ → Me (Unit {0}) View → Type 0) → ((found : ℕ) (after : Me (Unit {0}) View) → then found after → also found after)
+tells_also : (holds : State (Unit {0}) View → Type 0) (slots id : ℕ) (me : Me (Unit {0}) View) (place : ℕ) (f : ℕ → ℕ)
+    (then also : ℕ → Me (Unit {0}) View → Type 0) → ((found : ℕ) (after : Me (Unit {0}) View) → then found after → also found after)
     → Allows holds slots id me place f then → Allows holds slots id me place f also
 tells_also holds slots id me place f then also so allows state kept wide at small = let step = allows state kept wide at small in (step.0, step.1, step.2, step.3, so (get_or state.words place 0) (step.0, carried_after me.1 step.1) step.4)
 
@@ -240,15 +277,20 @@ put_leads desk call rows slot departed index found old new is low went_so =
       advances = subst (λ (s : Step). Advances old (ending (call_at desk.place) s) new) (ap (λ (o : Desk × Step). o.1) outcome) leads.advances;
       room = subst (Room old.shape) (ap (λ (o : Desk × Step). o.0) outcome ∙ sym next) leads.room;
       numbers = subst (λ (o : Desk × Step). AreNumbers old.shape (map_after old.shape new.seen) o.0.numbers) outcome leads.numbers;
-      marks = (subst (λ (b : Bool). PutsMarks b old.marks (key_of call) slot rows found new.role new.seen new.marks []) (le-leb index (2 * length rows) low) (subst (λ (p : Place). went_marks old.shape old.marks old.pasts desk p found new.role new.seen new.marks []) is went_so.marks)).0;
+      marks = (subst (λ (b : Bool). PutsMarks b old.marks (key_of call) slot rows found new.role new.seen new.marks [])
+          (le-leb index (2 * length rows) low) (subst (λ (p : Place). went_marks old.shape old.marks old.pasts desk p found new.role new.seen
+          new.marks []) is went_so.marks)).0;
     }
 
-pub puts_so : (shape : Shape) (slots id : ℕ) (me : Me (Unit {0}) View) (desk : Desk) (call : WriterCall) (rows : List Row) (slot departed index : ℕ) → me.0.role ≡ Writer desk → desk.place ≡ Putting call rows slot departed index → index ≤ 2 * length rows
+pub puts_so : (shape : Shape) (slots id : ℕ) (me : Me (Unit {0}) View) (desk : Desk) (call : WriterCall) (rows : List Row) (slot departed index : ℕ)
+    → me.0.role ≡ Writer desk → desk.place ≡ Putting call rows slot departed index → index ≤ 2 * length rows
     → let word = get_or (encode rows) index 0 in Allows (Kept shape) slots id me (content shape slot index) (λ _. word) (λ _ after. (other : Desk) → me.0.role ≡ Writer other → Put other me.0 after.0)
 puts_so shape slots id me desk call rows slot departed index is place_is low =
     let at = moved_to desk (Putting call rows slot departed index) in
     let word : ℕ = get_or (encode rows) index 0 in
-    let operation : going shape at at.place ≡ Store (content shape slot index) word = ap (λ (b : Bool). cond {A = Operation} b (Store (content shape slot index) word) (Swap (key_of call) (naming slot departed))) (le-leb index (2 * length rows) low) in
+    let operation : going shape at at.place ≡ Store (content shape slot index)
+    word = ap (λ (b : Bool). cond {A = Operation} b (Store (content shape slot index) word) (Swap (key_of call) (naming slot departed)))
+    (le-leb index (2 * length rows) low) in
     let at_is : me.0.role ≡ Writer at = is ∙ (λ j. Writer (record desk { place = place_is j })) in
     let told : ℕ → Me (Unit {0}) View → Type 0 = λ found after. (other : Desk) → me.0.role ≡ Writer other → Went other found me.0 after.0 in
     let allows = subst (λ (o : Operation). Allows (Kept shape) slots id me (target_of o) (becomes o) told) operation (goes_so shape slots id me at at_is refl) in

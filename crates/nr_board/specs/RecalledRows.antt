@@ -6,20 +6,20 @@ use Rattle.nr_board.specs.Recalls.{waited}
 use Rattle.nr_board.specs.Views.{View}
 
 -- that many rows were read by the same seat
-pub record Gave (first : Recalled) (count : ℕ) (last : Recalled) : Type 0 where
+pub record GaveRecalled (first : Recalled) (count : ℕ) (last : Recalled) : Type 0 where
   pub name : last.seat.ghost_name ≡ first.seat.ghost_name
   pub board : last.board.now ≡ first.board.now
   pub slot : last.slot ≡ first.slot
   pub own : last.seat.now.table_id ≡ first.seat.now.table_id
   pub waits : last.seat.now.me.0 ≡ waited (2 * count) first.seat.now.me.0
 
-pub gives_none : (source : Recalled) → Gave source 0 source
+pub gives_none : (source : Recalled) → GaveRecalled source 0 source
 gives_none source = record { name = refl; board = refl; slot = refl; own = refl; waits = λ j. record source.seat.now.me.0 { steps = none j } }
   where
     none : source.seat.now.me.0.steps ≡ source.seat.now.me.0.steps + 2 * 0
     none = omega arith
 
-pub gives_more : (first mid last : Recalled) (count : ℕ) → Gave first count mid → Gave mid 1 last → Gave first (count + 1) last
+pub gives_more : (first mid last : Recalled) (count : ℕ) → GaveRecalled first count mid → GaveRecalled mid 1 last → GaveRecalled first (count + 1) last
 gives_more first mid last count a b = record {
   name = b.name ∙ a.name;
   board = b.board ∙ a.board;

@@ -10,14 +10,14 @@ ghost use Rattle.nr_board.specs.WriterSeats.{RestsAt};
 use crate::answers::{FillFault, ReplaceFault, UpdateFault};
 use crate::board::{Board, Seat};
 use crate::only_proved::only_proved;
-use crate::rule::Given;
+use crate::rule::BegunCall;
 use nr_core::Spare;
 use nr_model::{ApplyFault, Delta, Pile, Row};
 use nr_words::parts;
 
 impl Board {
     #[inline(always)]
-    pub(crate) fn begin_fill<G: Given>(
+    pub(crate) fn begin_fill<G: BegunCall>(
         &self,
         seat: &mut Seat,
         spare: &Spare,
@@ -48,7 +48,7 @@ impl Board {
     }
 
     #[inline(always)]
-    pub(crate) fn begin_update<G: Given>(
+    pub(crate) fn begin_update<G: BegunCall>(
         &self,
         seat: &mut Seat,
         spare: &Spare,
@@ -77,7 +77,7 @@ impl Board {
     }
 
     #[inline(always)]
-    pub(crate) fn begin_replace<G: Given>(
+    pub(crate) fn begin_replace<G: BegunCall>(
         &self,
         seat: &mut Seat,
         spare: &Spare,

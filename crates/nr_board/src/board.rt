@@ -34,8 +34,8 @@ ghost use Rattle.nr_board.specs.Recalls.{IsWordOf, RecallsAt};
 ghost use Rattle.nr_board.specs.WriterSeats.{GoesOn, IsBetween, IsReading, IsPolling, IsPutting, IsPublishing, IsLeaving, IsWithdrawing, LeadsTo, PutsTo};
 
 use crate::rule::{
-    Arrives, Asks, Departs, FindsAgain, Given, Goes, Hears, Law, Looks, Nears, Notes, Probes, Puts,
-    Reads, Recalls, Retells, Seats, Sees,
+    Arrives, Asks, BegunCall, Departs, FindsAgain, Goes, Hears, Law, Looks, Nears, Notes, Probes,
+    Puts, Reads, Recalls, Retells, Seats, Sees,
 };
 use crate::two_seats::take_in;
 use crate::view::View;
@@ -247,7 +247,7 @@ impl Board {
     }
 
     /// The writer looks at the key of a call: its word.
-    pub fn look<G: Given>(&self, seat: &mut Seat, key: u32) -> u64
+    pub fn look<G: BegunCall>(&self, seat: &mut Seat, key: u32) -> u64
         requires writer { IsBetween self.now seat.old }
         requires given { IsGivenCall (bound_of self.now.shape) G.call }
         requires call { key ≡ key_of G.call }

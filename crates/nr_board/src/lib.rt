@@ -24,4 +24,4 @@ pub use answers::{
     Cancel, Evict, FillFault, Found, KeyKind, Reaped, Reclaimed, ReplaceFault, UpdateFault,
 };
 pub use board::{Board, Note, Seat};
-pub use rule::Given;
+pub use rule::BegunCall;

@@ -1,7 +1,7 @@
 //! The rows of the slot that a key names, as the writer reads them.
 use crate::board::{Board, Seat};
 use crate::only_proved::only_proved;
-use crate::rule::Given;
+use crate::rule::BegunCall;
 use nr_model::{Row, RowSource};
 use std::marker::PhantomData;
 use std::snapshot::Snapshot;
@@ -18,7 +18,7 @@ pub struct NamedRows<'a, G> {
     pub given: PhantomData<G>,
 }
 
-impl<G: Given> RowSource for NamedRows<'_, G> {
+impl<G: BegunCall> RowSource for NamedRows<'_, G> {
     ghost use Rattle.std.specs.Prelude.{◌≡◌, ◌+◌, ◌*◌};
     ghost use Rattle.std.proofs.Common.{◌∙◌, refl};
     ghost use Rattle.nr_board.specs.NamedRows.{ReadTo, rows_named};

@@ -10,7 +10,7 @@ ghost use Rattle.nr_board.specs.WriterSeats.{Settles, WritesAt};
 use crate::answers::Reclaimed;
 use crate::board::{Board, Seat};
 use crate::only_proved::only_proved;
-use crate::rule::Given;
+use crate::rule::BegunCall;
 use nr_core::{NoSlot, Spare};
 use nr_model::{Row, RowRoom};
 use nr_words::same_count;
@@ -30,7 +30,7 @@ impl Board {
     /// key; the slot that the key named before is retired. Takes the polls of the search, a put for
     /// each word of the set, and one swap.
     #[inline(always)]
-    pub(crate) fn publish_set<G: Given>(
+    pub(crate) fn publish_set<G: BegunCall>(
         &self,
         seat: &mut Seat,
         spare: &mut Spare,
@@ -53,7 +53,7 @@ impl Board {
     // Takes a slot for the set of a call: the next one that was never taken, without a step, or
     // else the first retired one that no reader holds, by one poll of each up to it.
     #[inline(always)]
-    fn take_slot<G: Given>(
+    fn take_slot<G: BegunCall>(
         &self,
         seat: &mut Seat,
         spare: &mut Spare,
@@ -70,7 +70,7 @@ impl Board {
     }
 
     #[inline(always)]
-    fn poll_retired<G: Given>(
+    fn poll_retired<G: BegunCall>(
         &self,
         seat: &mut Seat,
         spare: &mut Spare,
@@ -109,7 +109,7 @@ impl Board {
     /// As `publish_set`, and writes the set that the slot had before over the rows of `had`, if the
     /// slot was retired and not reaped, by one read of each of its words; else `had` stays as it is.
     #[inline(always)]
-    pub(crate) fn publish_reclaiming<G: Given, R: RowRoom>(
+    pub(crate) fn publish_reclaiming<G: BegunCall, R: RowRoom>(
         &self,
         seat: &mut Seat,
         spare: &mut Spare,
@@ -132,7 +132,7 @@ impl Board {
 
     // As `take_slot`. A slot that was never taken has no set to give, and a reaped one gave it.
     #[inline(always)]
-    fn take_reclaiming<G: Given, R: RowRoom>(
+    fn take_reclaiming<G: BegunCall, R: RowRoom>(
         &self,
         seat: &mut Seat,
         spare: &mut Spare,
@@ -154,7 +154,7 @@ impl Board {
         Ok((taken, Reclaimed::Set))
     }
 
-    fn put_rows<G: Given>(&self, seat: &mut Seat, rows: &[Row], taken: Taken)
+    fn put_rows<G: BegunCall>(&self, seat: &mut Seat, rows: &[Row], taken: Taken)
         requires writer { WritesAt self.now (moved_to (desk_of seat.old.me.0.role) (Putting G.call rows.now taken.slot taken.departures 0)) seat.old }
         requires knows { IsSound (token seat.old) }
         ensures writer { WritesAt self.now (moved_to (desk_of seat.old.me.0.role) (Putting G.call rows.now taken.slot taken.departures (2 * length rows.now + 1))) seat.new }

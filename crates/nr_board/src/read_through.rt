@@ -11,7 +11,7 @@ ghost use Rattle.nr_board.specs.WriterSeats.{WritesAt};
 use crate::board::{Board, Seat};
 use crate::named_rows::NamedRows;
 use crate::only_proved::only_proved;
-use crate::rule::Given;
+use crate::rule::BegunCall;
 use nr_model::RowRoom;
 use std::marker::PhantomData;
 use std::snapshot::Snapshot;
@@ -19,7 +19,12 @@ use std::snapshot::Snapshot;
 impl Board {
     /// Writes the set of the slot that the call's key names over the rows of the caller's, by one
     /// read of each of its words.
-    pub(crate) fn read_set<G: Given, R: RowRoom>(&self, seat: &mut Seat, slot: u32, rows: &mut R)
+    pub(crate) fn read_set<G: BegunCall, R: RowRoom>(
+        &self,
+        seat: &mut Seat,
+        slot: u32,
+        rows: &mut R,
+    )
         requires writer { WritesAt self.now (moved_to (desk_of seat.old.me.0.role) (Reading G.call slot [])) seat.old }
         requires slot { slot < self.now.shape.slots }
         requires key { key_of G.call < self.now.shape.keys }

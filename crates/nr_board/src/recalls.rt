@@ -18,14 +18,14 @@ pub struct Recalled<'a> {
 
 impl RowSource for Recalled<'_> {
     ghost use Rattle.nr_marks.specs.Marks.{set_in};
-    ghost use Rattle.nr_board.specs.RecalledRows.{Gave, gives_more, gives_none};
+    ghost use Rattle.nr_board.specs.RecalledRows.{GaveRecalled, gives_more, gives_none};
     ghost use Rattle.nr_board.specs.Recalls.{RecallsRows};
 
     ghost rows = { λ source. set_in source.seat.now.me.0.marks source.slot };
 
     ghost is_ready = { λ source _. RecallsRows source.board.now source.slot source.seat.now };
 
-    ghost gave = { Gave };
+    ghost gave = { GaveRecalled };
 
     fn give(&mut self, place: usize) -> Row {
         let board = self.board;

@@ -9,12 +9,12 @@ ghost use Rattle.nr_board.specs.WriterSeats.{RestsAt};
 
 use crate::answers::{FillFault, Reclaimed, ReplaceFault, UpdateFault};
 use crate::board::{Board, Seat};
-use crate::rule::Given;
+use crate::rule::BegunCall;
 use nr_core::Spare;
 use nr_model::{Delta, Pile, Row, RowRoom};
 
 impl Board {
-    pub fn fill_reclaiming<G: Given, R: RowRoom>(
+    pub fn fill_reclaiming<G: BegunCall, R: RowRoom>(
         &self,
         seat: &mut Seat,
         spare: &mut Spare,
@@ -38,7 +38,7 @@ impl Board {
         }
     }
 
-    pub fn update_reclaiming<G: Given, R: RowRoom>(
+    pub fn update_reclaiming<G: BegunCall, R: RowRoom>(
         &self,
         seat: &mut Seat,
         spare: &mut Spare,
@@ -62,7 +62,7 @@ impl Board {
         }
     }
 
-    pub fn replace_reclaiming<G: Given, R: RowRoom>(
+    pub fn replace_reclaiming<G: BegunCall, R: RowRoom>(
         &self,
         seat: &mut Seat,
         spare: &mut Spare,

@@ -72,11 +72,11 @@ impl Play<(), View> for Departs {
 }
 
 /// The call that a look begins, for the proof alone.
-pub trait Given {
+pub trait BegunCall {
     ghost call: { WriterCall };
 }
 
-impl Given for Brand {
+impl BegunCall for Brand {
     ghost call = { Evict 0 };
 }
 
@@ -84,7 +84,7 @@ pub struct Looks<G> {
     given: PhantomData<G>,
 }
 
-impl<G: Given> Play<(), View> for Looks<G> {
+impl<G: BegunCall> Play<(), View> for Looks<G> {
     ghost use Rattle.nr_board.specs.Plays.{has_looked};
 
     ghost then = { has_looked G.call };

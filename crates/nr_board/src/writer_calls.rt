@@ -9,7 +9,7 @@ ghost use Rattle.nr_board.specs.WriterSeats.{RestsAt};
 use crate::answers::{Cancel, Evict, FillFault, Found, ReplaceFault, UpdateFault};
 use crate::board::{Board, Seat};
 use crate::only_proved::only_proved;
-use crate::rule::Given;
+use crate::rule::BegunCall;
 use nr_core::Spare;
 use nr_model::{Delta, LAST_NUMBER, Pile, Row, RowRoom};
 use nr_words::parts;
@@ -19,7 +19,7 @@ impl Board {
 
     /// The writer's find: loads the key's word, and where that is filled the count and the rows of the
     /// slot that it names. No reference count is written, since the writer alone puts slots anew.
-    pub fn look_up<G: Given, R: RowRoom>(
+    pub fn look_up<G: BegunCall, R: RowRoom>(
         &self,
         seat: &mut Seat,
         spare: &Spare,
@@ -46,7 +46,7 @@ impl Board {
     /// and another number than the request's. Then it searches for a slot that nobody holds, stores the
     /// rows there, where no reader can come yet, and swaps in the word that names it: the linearization
     /// point.
-    pub fn fill_key<G: Given>(
+    pub fn fill_key<G: BegunCall>(
         &self,
         seat: &mut Seat,
         spare: &mut Spare,
@@ -72,7 +72,7 @@ impl Board {
     /// Loads the key's word and the set that it names, applies the batch to a copy, and stores the copy
     /// in a slot that nobody holds. The swap that names the new slot is the linearization point, and
     /// what it took out says how many readers arrived at the old slot, which is retired.
-    pub fn update_key<G: Given>(
+    pub fn update_key<G: BegunCall>(
         &self,
         seat: &mut Seat,
         spare: &mut Spare,
@@ -96,7 +96,7 @@ impl Board {
     }
 
     /// Puts a set in place of the one that a filled key has, as an update does, but reads nothing of it.
-    pub fn replace_key<G: Given>(
+    pub fn replace_key<G: BegunCall>(
         &self,
         seat: &mut Seat,
         spare: &mut Spare,
@@ -120,7 +120,7 @@ impl Board {
 
     /// Swaps in the word of a hole with the key's ticket number: the linearization point. What it took
     /// out says which slot is retired, and how many readers have arrived there.
-    pub fn evict_key<G: Given>(&self, seat: &mut Seat, spare: &mut Spare, key: u32) -> Evict
+    pub fn evict_key<G: BegunCall>(&self, seat: &mut Seat, spare: &mut Spare, key: u32) -> Evict
         requires call { G.call ≡ writer.Evict key }
         requires own { (token seat.old).table ≡ self.now }
         requires rests { RestsAt (token seat.old).table spare.old seat.old }
@@ -139,7 +139,7 @@ impl Board {
 
     /// Takes a request back: swaps in a hole whose ticket number is one higher, so that an answer to the
     /// request is stale. Refused where the key has no request, or its number is the last.
-    pub fn cancel_key<G: Given>(&self, seat: &mut Seat, spare: &mut Spare, key: u32) -> Cancel
+    pub fn cancel_key<G: BegunCall>(&self, seat: &mut Seat, spare: &mut Spare, key: u32) -> Cancel
         requires call { G.call ≡ writer.Cancel key }
         requires own { (token seat.old).table ≡ self.now }
         requires rests { RestsAt (token seat.old).table spare.old seat.old }

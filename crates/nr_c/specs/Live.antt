@@ -92,6 +92,10 @@ WhenIdle code stays does before after = RefusesHand HoldsSome answer_holding cod
 abbrev pub WhenHolding : ℕ → Type 0 → (List ReaderSide → List ReaderSide → Type 0) → List ReaderSide → List ReaderSide → Type 0
 WhenHolding code stays does before after = RefusesHand HoldsNone answer_not_holding code stays before after ⊎ does before after
 
+-- a call with a key by a live reader that holds nothing; where it is refused, this stays
+abbrev pub ByIdleReader : ℕ → ℕ → Type 0 → (List ReaderSide → List ReaderSide → Type 0) → List ReaderSide → List ReaderSide → Type 0
+ByIdleReader key code stays does = WhenLive code stays (WithKey reader_keys key code stays (WhenIdle code stays does))
+
 -- the handle leads to one side, of the same map before and after, whose reader was in the one hand and is in the other
 pub record TurnsHand (before after : List ReaderSide) (was is : Hand) : Type 0 where
   pub old : ReaderSide

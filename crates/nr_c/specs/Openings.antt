@@ -27,7 +27,7 @@ abbrev pub Opens : Shape → ℕ → List WriterSide → Type 0
 Opens shape code after = ((code ≡ answer_bad_size) ↔ IsRefused shape) × OpensMap shape code after
 
 -- the writer's handle leads to one side, of the same map and with the same writer, and these readers have no handle
-pub record Keeps (before after : List WriterSide) (had has : List Caller) : Type 0 where
+pub record KeepsWriter (before after : List WriterSide) (had has : List Caller) : Type 0 where
   pub old : WriterSide
   pub new : WriterSide
   pub was : before ≡ old ∷ []
@@ -49,12 +49,12 @@ pub record LeadsToReader (before : List WriterSide) (reader : Caller) (handle : 
 -- no reader is without a handle; or the last one without gets one, or for want of memory stays without
 abbrev pub TakesReader : ℕ → List WriterSide → List ReaderSide → List WriterSide → List ReaderSide → Type 0
 TakesReader code before other after handle =
-    ((code ≡ answer_no_reader) × Keeps before after [] [] × (handle ≡ other))
-    ⊎ ((code ≡ answer_done) × (rest : List Caller) × (reader : Caller) × Keeps before after (rest ++ reader ∷ []) rest × LeadsToReader before reader handle)
-    ⊎ ((code ≡ answer_no_memory) × (rest : List Caller) × (reader : Caller) × Keeps before after (rest ++ reader ∷ []) (rest ++ reader ∷ []) × (handle ≡ other))
+    ((code ≡ answer_no_reader) × KeepsWriter before after [] [] × (handle ≡ other))
+    ⊎ ((code ≡ answer_done) × (rest : List Caller) × (reader : Caller) × KeepsWriter before after (rest ++ reader ∷ []) rest × LeadsToReader before reader handle)
+    ⊎ ((code ≡ answer_no_memory) × (rest : List Caller) × (reader : Caller) × KeepsWriter before after (rest ++ reader ∷ []) (rest ++ reader ∷ []) × (handle ≡ other))
 
 -- the reader's handle leads nowhere any more, and its reader, which holds nothing now, is the last one without a handle; or for want of memory all stay
 abbrev pub ReturnsReader : ℕ → List WriterSide → List ReaderSide → List WriterSide → List ReaderSide → Type 0
 ReturnsReader code before other after handle =
-    ((code ≡ answer_done) × (rest : List Caller) × (reader : Caller) × (held : ReaderSide) × (other ≡ held ∷ []) × EndsHand held.hand (Some reader) × Keeps before after rest (rest ++ reader ∷ []) × (handle ≡ []))
-    ⊎ ((code ≡ answer_no_memory) × (rest : List Caller) × Keeps before after rest rest × (handle ≡ other))
+    ((code ≡ answer_done) × (rest : List Caller) × (reader : Caller) × (held : ReaderSide) × (other ≡ held ∷ []) × EndsHand held.hand (Some reader) × KeepsWriter before after rest (rest ++ reader ∷ []) × (handle ≡ []))
+    ⊎ ((code ≡ answer_no_memory) × (rest : List Caller) × KeepsWriter before after rest rest × (handle ≡ other))

@@ -1,6 +1,6 @@
 //! A reader that holds a set.
 ghost use Rattle.std.specs.Prelude.{◌≡◌, ⊤};
-ghost use Rattle.nr_c.specs.Live.{MayRead, WhenHolding, WhenIdle, WhenLive, WithKey, reader_keys};
+ghost use Rattle.nr_c.specs.Live.{ByIdleReader, MayRead, WhenHolding, WhenLive, WithKey, reader_keys};
 ghost use Rattle.nr_c.specs.Pins.{CopiesSet, FindsByHold, PinsCells, Releases, ReadsRow};
 
 use crate::codes::{
@@ -19,7 +19,7 @@ use nr_model::Row;
 #[unsafe(no_mangle)]
 pub extern "C" fn nr_pin(reader: &mut NrReader, key: u32, count: &mut u32) -> u32
     requires rests { MayRead reader.old.live }
-    ensures { WhenLive result (count.new ≡ count.old) (WithKey reader_keys key result (count.new ≡ count.old) (WhenIdle result (count.new ≡ count.old) (PinsCells key count.old count.new result))) reader.old.live reader.new.live }
+    ensures { ByIdleReader key result (count.new ≡ count.old) (PinsCells key count.old count.new result) reader.old.live reader.new.live }
 {
     if !reader.is_live() {
         return NR_CLOSED;

@@ -4,7 +4,7 @@ ghost use Rattle.nr_board.specs.Callers.{Caller};
 ghost use Rattle.nr_c.specs.declared.hand.Hand.TheVariants as hands;
 ghost use Rattle.nr_map.specs.Answers.{AsksKey, FindsIn, acts_of};
 ghost use Rattle.nr_c.specs.Hands.{table_of};
-ghost use Rattle.nr_c.specs.Live.{AsksByCode, FindsByCode, MayRead, ReaderCalls, WhenIdle, WhenLive, WithKey, reader_keys};
+ghost use Rattle.nr_c.specs.Live.{AsksByCode, ByIdleReader, FindsByCode, MayRead, ReaderCalls};
 ghost use Rattle.nr_c.specs.RowCells.{ShowsSet};
 
 use crate::codes::{NR_CLOSED, NR_FILLED, NR_HOLDING, NR_NO_KEY, NR_SEND, NR_WAITING, of_found};
@@ -19,7 +19,7 @@ use nr_map::{Asked, Found, ReaderMap};
 #[unsafe(no_mangle)]
 pub extern "C" fn nr_find(reader: &mut NrReader, key: u32, rows: &mut NrRows) -> u32
     requires rests { MayRead reader.old.live }
-    ensures { WhenLive result (rows.new ≡ rows.old) (WithKey reader_keys key result (rows.new ≡ rows.old) (WhenIdle result (rows.new ≡ rows.old) (ReaderCalls (FindsByCode key rows.old rows.new result)))) reader.old.live reader.new.live }
+    ensures { ByIdleReader key result (rows.new ≡ rows.old) (ReaderCalls (FindsByCode key rows.old rows.new result)) reader.old.live reader.new.live }
 {
     if !reader.is_live() {
         return NR_CLOSED;
@@ -54,7 +54,7 @@ fn find_idle(map: &ReaderMap, hand: &mut Hand, key: u32, rows: &mut NrRows) -> F
 #[unsafe(no_mangle)]
 pub extern "C" fn nr_ask(reader: &mut NrReader, key: u32, number: &mut u64) -> u32
     requires rests { MayRead reader.old.live }
-    ensures { WhenLive result (number.new ≡ number.old) (WithKey reader_keys key result (number.new ≡ number.old) (WhenIdle result (number.new ≡ number.old) (ReaderCalls (AsksByCode key number.old number.new result)))) reader.old.live reader.new.live }
+    ensures { ByIdleReader key result (number.new ≡ number.old) (ReaderCalls (AsksByCode key number.old number.new result)) reader.old.live reader.new.live }
 {
     if !reader.is_live() {
         return NR_CLOSED;

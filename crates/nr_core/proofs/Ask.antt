@@ -43,8 +43,11 @@ shows-asked shape words w x (key.Rows number rows) n p m t = (t.0, n ∙ t.1, t.
 
 -- the reply of a key's state is that of its word
 asked_word : (shape : Shape) (words : List ℕ) (w : ℕ) (state : KeyState) → ShowsState shape words w state → ask_reply state ≡ ask_word w
-asked_word shape words w (key.Hole number) t = let p = t.1 in sym (ap (λ b. cond b reply.Filled (cond (has_ask w) reply.Waiting (reply.Send (slot_of w)))) (names_none w t.0) ∙ ap (λ b. cond b reply.Waiting (reply.Send (slot_of w))) (ne_eqb (w % 2) 1 (λ z. omega arith)) ∙ ap reply.Send t.2)
-asked_word shape words w (key.Asked number) t = sym (ap (λ b. cond b reply.Filled (cond (has_ask w) reply.Waiting (reply.Send (slot_of w)))) (names_none w t.0) ∙ ap (λ b. cond b reply.Waiting (reply.Send (slot_of w))) (eq-eqb (w % 2) 1 t.1))
+asked_word shape words w (key.Hole number) t = let p = t.1 in
+    sym (ap (λ b. cond b reply.Filled (cond (has_ask w) reply.Waiting (reply.Send (slot_of w)))) (names_none w t.0)
+    ∙ ap (λ b. cond b reply.Waiting (reply.Send (slot_of w))) (ne_eqb (w % 2) 1 (λ z. omega arith)) ∙ ap reply.Send t.2)
+asked_word shape words w (key.Asked number) t = sym (ap (λ b. cond b reply.Filled (cond (has_ask w) reply.Waiting (reply.Send (slot_of w))))
+    (names_none w t.0) ∙ ap (λ b. cond b reply.Waiting (reply.Send (slot_of w))) (eq-eqb (w % 2) 1 t.1))
 asked_word shape words w (key.Rows number rows) t = sym (ap (λ b. cond b reply.Filled (cond (has_ask w) reply.Waiting (reply.Send (slot_of w)))) (names_one w t.0 t.1).0)
 
 pub asks : (shape : Shape) (id reader k : ℕ) → k < shape.keys → CanStep shape id (Reader reader Nothing) (Or k 1) (Asks reader k)
@@ -57,7 +60,8 @@ asks shape id reader k near words roles log core there =
       entries = e ∷ [];
       core = on_key shape words roles log (e ∷ []) core id reader Nothing Nothing k x near there name (legal-more shape log e core.legal (sym (replies_so shape log (model.Ask k))))
           other
-          (λ j. dite (ℕ_discrete j k) (λ z. ap (λ (y : ℕ). number_of (state_of (map_after shape (log ++ e ∷ [])) y)) z ∙ ap number_of same ∙ asked_number state ∙ ap (λ (y : ℕ). number_of (state_of map y)) (sym z)) (λ ne. ap number_of (other j ne)))
+          (λ j. dite (ℕ_discrete j k) (λ z. ap (λ (y : ℕ). number_of (state_of (map_after shape (log ++ e ∷ [])) y)) z ∙ ap number_of same
+          ∙ asked_number state ∙ ap (λ (y : ℕ). number_of (state_of map y)) (sym z)) (λ ne. ap number_of (other j ne)))
           (λ j n. dite (ℕ_discrete j k) (λ z. ap (state_of (map_after shape (log ++ e ∷ []))) z ∙ same ∙ asked_stays state (λ number y. n number (ap (state_of map) z ∙ y)) ∙ ap (state_of map) (sym z)) (λ ne. other j ne))
           (subst (ShowsState shape words x) (sym same) (shows-asked shape words w x state name (omega arith) (omega arith) shown)) tt (λ s _. refl)
           (λ s e'. let more = total-set (holds s) roles id (Reader reader Nothing) (Reader reader Nothing) there in omega (arith, core.counts k s near e'));

@@ -31,7 +31,9 @@ noted_step at at' ret notes step n i s c e u h = ⊎_elim (λ (t : 0 < at c u). 
 pub noted_poll : (at : ℕ → ℕ → ℕ) (ret : ℕ → ℕ) (notes : List (ℕ × ℕ)) (s c : ℕ) → Noted at ret notes → Distinct notes → 0 < at c s → 0 < ret s → ((i d : ℕ) → get_elem? notes i ≡ some (s, d) → ⊥)
     → ((u : ℕ) → 0 < at c u → u ≡ s) → Noted at ret (notes ++ (s, c) ∷ []) × Distinct (notes ++ (s, c) ∷ [])
 noted_poll at ret notes s c n d here retired new one = (
-  λ i t b e u h. ⊎_elim (λ (q : get_elem? notes i ≡ some (t, b)). n i t b q u h) (λ (q : (s, c) ≡ (t, b)). inl (one u (subst (λ (x : ℕ). 0 < at x u) (sym (ap (λ (x : ℕ × ℕ). x.1) q)) h) ∙ ap (λ (x : ℕ × ℕ). x.0) q)) (at_snoc notes (s, c) (t, b) i e),
+  λ i t b e u h. ⊎_elim (λ (q : get_elem? notes i ≡ some (t, b)). n i t b q u h)
+      (λ (q : (s, c) ≡ (t, b)). inl (one u (subst (λ (x : ℕ). 0 < at x u) (sym (ap (λ (x : ℕ × ℕ). x.1) q)) h) ∙ ap (λ (x : ℕ × ℕ). x.0) q))
+      (at_snoc notes (s, c) (t, b) i e),
   λ b. let more = total-append (λ (x : ℕ × ℕ). only b x.1) notes ((s, c) ∷ []) in dite (ℕ_discrete c b)
       (λ e. let none : total (λ (x : ℕ × ℕ). only b x.1) notes ≡ 0 = dite (ℕ_discrete (total (λ (x : ℕ × ℕ). only b x.1) notes) 0) (λ z. z) (λ nz.
       let t = some_term (λ (x : ℕ × ℕ). only b x.1) notes (omega arith) in let is : t.1.1 ≡ b = only-is b t.1.1 t.3 in

@@ -106,5 +106,7 @@ module _ (shape : Shape) (words : List ℕ) (roles : List Role) (log : List Entr
     retired_sum shape words roles log core id desk there,
     below-sum (named shape words) (λ s. retirements s desk.retired) shape.slots,
     below-one shape.slots,
-    below-same (λ s. named shape words s + retirements s desk.retired) (λ _. 1) shape.slots (λ s near. let gone : unused s desk.fresh ≡ 0 = ap (λ b. cond {A = ℕ} b 1 0) (lt-leb desk.fresh s (omega arith)) in omega (arith, retired_once shape words roles log core id desk there s near, free s)),
+    below-same (λ s. named shape words s + retirements s desk.retired) (λ _. 1) shape.slots
+        (λ s near. let gone : unused s desk.fresh ≡ 0 = ap (λ b. cond {A = ℕ} b 1 0) (lt-leb desk.fresh s (omega arith)) in
+        omega (arith, retired_once shape words roles log core id desk there s near, free s)),
   )

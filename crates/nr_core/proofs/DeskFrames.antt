@@ -30,7 +30,13 @@ pub desk_step : (shape : Shape) (words : List ℕ) (roles : List Role) (log es :
 desk_step shape words roles log es core id desk desk' i at legal same keeping own =
     let roles' = set roles id (Writer desk') in let map = map_after shape log in let map' = map_after shape (log ++ es) in
     let still : (s : ℕ) → held roles' s ≡ held roles s = λ s. let t = total-set (holds s) roles id (Writer desk) (Writer desk') at in omega arith in
-    let left : (s : ℕ) → Left shape words words map map' (held roles) (held roles') s = λ s. record { contents = λ _ _. refl; nobody = λ z. still s ∙ z; deps = λ _. refl; sum = ap (λ (y : ℕ). (get_or words (departures shape s) 0 + y) % 2 ^ 40) (still s) } in
+    let left : (s : ℕ) → Left shape words words map map' (held roles) (held roles') s = λ s. record {
+      contents = λ _ _. refl;
+      nobody = λ z. still s
+          ∙ z;
+      deps = λ _. refl;
+      sum = ap (λ (y : ℕ). (get_or words (departures shape s) 0 + y) % 2 ^ 40) (still s);
+    } in
     let own' : AtDesk shape words map' (held roles') desk' = desk_more shape words words map map' (held roles) (held roles') (λ _ _. refl) (λ j _. same j) desk' (λ j. ap number_of (same j)) (λ s _ _. left s) own in
     subst (λ (v : List ℕ). Core shape v roles' (log ++ es)) (sym (set-get_or words i 0)) record {
       fits = core.fits;
@@ -39,7 +45,9 @@ desk_step shape words roles log es core id desk desk' i at legal same keeping ow
       shows = λ k l. subst (ShowsState shape words (get_or words k 0)) (sym (same k)) (core.shows k l);
       places = λ s l. omega (arith, core.places s l, total-set (keeps s) roles id (Writer desk) (Writer desk') at, keeping s l);
       counts = λ k s l e. core.counts k s l e ∙ ap (λ (y : ℕ). (get_or words (departures shape s) 0 + y) % 2 ^ 40) (sym (still s));
-      knows = λ j u there. ⊎_elim (λ (t : (j ≡ id) × (Writer desk' ≡ u)). subst (Knows shape words map' (held roles')) t.1 own') (λ (t : (j ≢ id) × (get_elem? roles j ≡ some u)). no_writer shape words roles log core words map' (held roles') id desk at (λ _ _ _ _ _. refl) j u t.0 t.1 (core.knows j u t.1)) (at_set roles id j (Writer desk') u there);
+      knows = λ j u there. ⊎_elim (λ (t : (j ≡ id) × (Writer desk' ≡ u)). subst (Knows shape words map' (held roles')) t.1 own')
+          (λ (t : (j ≢ id) × (get_elem? roles j ≡ some u)). no_writer shape words roles log core words map' (held roles') id desk at
+          (λ _ _ _ _ _. refl) j u t.0 t.1 (core.knows j u t.1)) (at_set roles id j (Writer desk') u there);
       one = omega (arith, total-set is_writer roles id (Writer desk) (Writer desk') at, core.one);
       few = omega (arith, total-set is_reader roles id (Writer desk) (Writer desk') at, core.few);
     }
@@ -66,8 +74,12 @@ rename shape words roles log es core id desk desk' k x near at legal states show
       wide = length-set words k x ∙ wide;
       legal = legal;
       shows = λ j l. dite (ℕ_discrete j k)
-          (λ e. subst (λ (y : ℕ). ShowsState shape words' (get_or words' y 0) (state_of map' y)) (sym e) (subst (λ (w : ℕ). ShowsState shape words' w (state_of map' k)) (sym here) (shows_more shape words words' x (state_of map' k) (λ s i _ _ _. cont s i) shown)))
-          (λ ne. subst (λ (w : ℕ). ShowsState shape words' w (state_of map' j)) (sym (other j ne)) (subst (ShowsState shape words' (get_or words j 0)) (sym (states j ne)) (shows_more shape words words' (get_or words j 0) (state_of map j) (λ s i _ _ _. cont s i) (core.shows j l))));
+          (λ e. subst (λ (y : ℕ). ShowsState shape words' (get_or words' y 0) (state_of map' y)) (sym e)
+          (subst (λ (w : ℕ). ShowsState shape words' w (state_of map' k)) (sym here)
+          (shows_more shape words words' x (state_of map' k) (λ s i _ _ _. cont s i) shown)))
+          (λ ne. subst (λ (w : ℕ). ShowsState shape words' w (state_of map' j)) (sym (other j ne))
+          (subst (ShowsState shape words' (get_or words j 0)) (sym (states j ne))
+          (shows_more shape words words' (get_or words j 0) (state_of map j) (λ s i _ _ _. cont s i) (core.shows j l))));
       places = λ s l.
           let change = below-change (λ j. only (suc s) (name_number (get_or words' j 0))) (λ j. only (suc s) (name_number (get_or words j 0))) shape.keys k near (λ j ne. ap (λ (y : ℕ). only (suc s) (name_number y)) (other j ne)) in
           let at-k : only (suc s) (name_number (get_or words' k 0)) ≡ only (suc s) (name_number x) = ap (λ (y : ℕ). only (suc s) (name_number y)) here in
@@ -75,7 +87,9 @@ rename shape words roles log es core id desk desk' k x near at legal states show
       counts = λ j s l e. dite (ℕ_discrete j k)
           (λ z. let w : get_or words' j 0 ≡ x = ap (λ (y : ℕ). get_or words' y 0) z ∙ here in ap (λ (y : ℕ). arrivals_of y % 2 ^ 40) w ∙ counted s (ap name_number (sym w) ∙ e) ∙ sym (sum s))
           (λ ne. ap (λ (y : ℕ). arrivals_of y % 2 ^ 40) (other j ne) ∙ core.counts j s l (ap name_number (sym (other j ne)) ∙ e) ∙ sym (sum s));
-      knows = λ j u there. ⊎_elim (λ (t : (j ≡ id) × (Writer desk' ≡ u)). subst (Knows shape words' map' (held roles')) t.1 own) (λ (t : (j ≢ id) × (get_elem? roles j ≡ some u)). no_writer shape words roles log core words' map' (held roles') id desk at (λ s i _ _ _. cont s i) j u t.0 t.1 (core.knows j u t.1)) (at_set roles id j (Writer desk') u there);
+      knows = λ j u there. ⊎_elim (λ (t : (j ≡ id) × (Writer desk' ≡ u)). subst (Knows shape words' map' (held roles')) t.1 own)
+          (λ (t : (j ≢ id) × (get_elem? roles j ≡ some u)). no_writer shape words roles log core words' map' (held roles') id desk at
+          (λ s i _ _ _. cont s i) j u t.0 t.1 (core.knows j u t.1)) (at_set roles id j (Writer desk') u there);
       one = omega (arith, total-set is_writer roles id (Writer desk) (Writer desk') at, core.one);
       few = omega (arith, total-set is_reader roles id (Writer desk) (Writer desk') at, core.few);
     }

@@ -32,7 +32,8 @@ set_in None = []
 set_in (Some rows) = rows
 
 -- a slot spells one set
-one_set : (shape : Shape) (words : List ℕ) (roles : List Role) (log : List Entry) → Core shape words roles log → (slot : ℕ) (one other : List Row) → slot < shape.slots → SlotSpells shape words slot one → SlotSpells shape words slot other → one ≡ other
+one_set : (shape : Shape) (words : List ℕ) (roles : List Role) (log : List Entry) → Core shape words roles log → (slot : ℕ) (one other : List Row)
+    → slot < shape.slots → SlotSpells shape words slot one → SlotSpells shape words slot other → one ≡ other
 one_set shape words roles log core slot one other near first second = ap set_in (sym (spelt_set shape words slot one core.wide near first) ∙ spelt_set shape words slot other core.wide near second)
 
 -- a find leaves the map
@@ -40,7 +41,8 @@ find_leaves : (map : PartialMap) (k : ℕ) → next map (model.Find k) ≡ map
 find_leaves map k = ap (λ (states : List KeyState). record { bound = map.bound; states = states }) (set-get_or map.states k (key.Hole 0))
 
 -- a find that the map answers so is one entry more, and all else stays
-find_more : (shape : Shape) (words : List ℕ) (roles : List Role) (log : List Entry) → Core shape words roles log → (caller k : ℕ) (answer : Reply) → find_reply (state_of (map_after shape log) k) ≡ answer → Core shape words roles (log ++ entry caller (model.Find k) answer ∷ [])
+find_more : (shape : Shape) (words : List ℕ) (roles : List Role) (log : List Entry) → Core shape words roles log → (caller k : ℕ) (answer : Reply)
+    → find_reply (state_of (map_after shape log) k) ≡ answer → Core shape words roles (log ++ entry caller (model.Find k) answer ∷ [])
 find_more shape words roles log core caller k answer is = let e = entry caller (model.Find k) answer in let map = map_after shape log in
     let same : map_after shape (log ++ e ∷ []) ≡ map = now-more shape log e ∙ find_leaves map k in record {
       fits = core.fits;

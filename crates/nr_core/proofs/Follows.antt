@@ -82,11 +82,15 @@ departs_room shape (hold.On slot None) ok room = room
 departs_room shape (hold.On slot (Some size)) ok room = room.0
 
 -- an operation on a content word of a held slot is a load
-held_untouched : (state : State) (log : List Entry) (event : Event) (is_core : IsCoreState state log) → refusal state event ≡ None → (s i : ℕ) → (0 < held is_core.roles s) × (s < state.shape.slots) → i < slot_room state.shape → target_of (operation state event) ≡ content state.shape s i → operation state event ≡ Load (content state.shape s i)
+held_untouched : (state : State) (log : List Entry) (event : Event) (is_core : IsCoreState state log) → refusal state event ≡ None → (s i : ℕ)
+    → (0 < held is_core.roles s) × (s < state.shape.slots) → i < slot_room state.shape → target_of (operation state event) ≡ content state.shape s i
+    → operation state event ≡ Load (content state.shape s i)
 held_untouched state log (Arrive r k) is_core ok s i held_so low here = let shape = state.shape in
-    let g = guard (has_reader shape r && has_key shape k) (if_holding (hold_of state r)) refuse.OutOfRange ok in let b = both (has_reader shape r) (has_key shape k) g.0 in let near : k < shape.keys = ltb-true k shape.keys b.1 in absurd (omega arith)
+    let g = guard (has_reader shape r && has_key shape k) (if_holding (hold_of state r)) refuse.OutOfRange ok in
+    let b = both (has_reader shape r) (has_key shape k) g.0 in let near : k < shape.keys = ltb-true k shape.keys b.1 in absurd (omega arith)
 held_untouched state log (Ask r k) is_core ok s i held_so low here = let shape = state.shape in
-    let g = guard (has_reader shape r && has_key shape k) (if_holding (hold_of state r)) refuse.OutOfRange ok in let b = both (has_reader shape r) (has_key shape k) g.0 in let near : k < shape.keys = ltb-true k shape.keys b.1 in absurd (omega arith)
+    let g = guard (has_reader shape r && has_key shape k) (if_holding (hold_of state r)) refuse.OutOfRange ok in
+    let b = both (has_reader shape r) (has_key shape k) g.0 in let near : k < shape.keys = ltb-true k shape.keys b.1 in absurd (omega arith)
 held_untouched state log (Read r p) is_core ok s i held_so low here = ap Load here
 held_untouched state log (FindAgain r k) is_core ok s i held_so low here = ap Load here
 held_untouched state log (Start call) is_core ok s i held_so low here = ap Load here
@@ -105,17 +109,26 @@ held_untouched state log Go is_core ok s i held_so low here = go state.desk.plac
     go (Leaving k) is e = let near = (at_place (Leaving k) is).1.near in absurd (omega arith)
     go (Withdrawing k) is e = let near = (at_place (Withdrawing k) is).near in absurd (omega arith)
     go (Searching call rows p) is e = ap Load e
-    go (Putting call rows t departed j) is e = let p = at_place (Putting call rows t departed j) is in let near = p.wants.near in let short = p.wants.row_set.1 in let fits = is_core.core.fits.bound in let free = p.nobody in let some_there = held_so.0 in
-        by_cases (λ v. let o = cond {A = Operation} v (Store (content state.shape t j) (get_or (encode rows) j 0)) (Swap (key_of call) (naming t departed)) in target_of o ≡ content state.shape s i → o ≡ Load (content state.shape s i)) (nat_le j (2 * length rows))
-        (λ yes e. let l : j ≤ 2 * length rows = leb-true j (2 * length rows) yes in let same_slot : s ≡ t = same_content state.shape s i t j low (omega arith) (sym e) in let zero_there : held is_core.roles s ≡ 0 = ap (held is_core.roles) same_slot ∙ free in absurd (omega arith))
+    go (Putting call rows t departed j) is e = let p = at_place (Putting call rows t departed j) is in let near = p.wants.near in
+        let short = p.wants.row_set.1 in let fits = is_core.core.fits.bound in let free = p.nobody in let some_there = held_so.0 in
+        by_cases (λ v. let o = cond {A = Operation} v (Store (content state.shape t j) (get_or (encode rows) j 0))
+        (Swap (key_of call) (naming t departed)) in target_of o ≡ content state.shape s i → o ≡ Load (content state.shape s i))
+        (nat_le j (2 * length rows))
+        (λ yes e. let l : j ≤ 2 * length rows = leb-true j (2 * length rows) yes in
+        let same_slot : s ≡ t = same_content state.shape s i t j low (omega arith) (sym e) in
+        let zero_there : held is_core.roles s ≡ 0 = ap (held is_core.roles) same_slot ∙ free in absurd (omega arith))
         (λ no e. absurd (omega arith)) e
 
 -- an operation is on one of the words
 inside_words : (state : State) (log : List Entry) (event : Event) → IsCoreState state log → refusal state event ≡ None → target_of (operation state event) < length state.words
 inside_words state log (Arrive r k) is_core ok = let wide = is_core.core.wide in
-    let g = guard (has_reader state.shape r && has_key state.shape k) (if_holding (hold_of state r)) refuse.OutOfRange ok in let b = both (has_reader state.shape r) (has_key state.shape k) g.0 in let near : k < state.shape.keys = ltb-true k state.shape.keys b.1 in omega arith
+    let g = guard (has_reader state.shape r && has_key state.shape k) (if_holding (hold_of state r)) refuse.OutOfRange ok in
+    let b = both (has_reader state.shape r) (has_key state.shape k) g.0 in let near : k < state.shape.keys = ltb-true k state.shape.keys b.1 in
+    omega arith
 inside_words state log (Ask r k) is_core ok = let wide = is_core.core.wide in
-    let g = guard (has_reader state.shape r && has_key state.shape k) (if_holding (hold_of state r)) refuse.OutOfRange ok in let b = both (has_reader state.shape r) (has_key state.shape k) g.0 in let near : k < state.shape.keys = ltb-true k state.shape.keys b.1 in omega arith
+    let g = guard (has_reader state.shape r && has_key state.shape k) (if_holding (hold_of state r)) refuse.OutOfRange ok in
+    let b = both (has_reader state.shape r) (has_key state.shape k) g.0 in let near : k < state.shape.keys = ltb-true k state.shape.keys b.1 in
+    omega arith
 inside_words state log (FindAgain r k) is_core ok = let wide = is_core.core.wide in
     let g = guard (has_reader state.shape r && has_key state.shape k) (if_not_holding (hold_of state r)) refuse.OutOfRange ok in
     let b = both (has_reader state.shape r) (has_key state.shape k) g.0 in let near : k < state.shape.keys = ltb-true k state.shape.keys b.1 in omega arith
@@ -142,14 +155,23 @@ inside_words state log Go is_core ok = go state.desk.place refl (place_room stat
 
 pub follows : (story : Story) (event : Event) → IsCoreState story.state story.history → ((counts : NoSlot) → EndsWithout story.state event counts → IsJustified story event counts) → Follows story event
 follows story event is_core justified = record {
-  one_operation = λ ok. (inside_words story.state story.history event is_core ok, ap (λ (o : Option Refusal). (unless o story.state (moved story.state event)).words) ok, ap (λ (o : Option Refusal). (unless o story.state (moved story.state event)).made) ok);
+  one_operation = λ ok. (
+    inside_words story.state story.history event is_core ok,
+    ap (λ (o : Option Refusal). (unless o story.state (moved story.state event)).words) ok,
+    ap (λ (o : Option Refusal). (unless o story.state (moved story.state event)).made) ok,
+  );
   refused = λ why. stays (refusal story.state event) why;
   untouched = λ ok r s i n low is low_i here. held_untouched story.state story.history event is_core ok s i (holder story is_core r s n low is) low_i here;
   own = λ c. of-append c story.history (unless (refusal story.state event) [] (told story.state event)) ∙ ap (λ (l : List Entry). entries_of story.history c ++ l) (mine (refusal story.state event) c);
   justified = justified;
 }
   where
-    stays : (o : Option Refusal) → o ≢ None → record { state = unless o story.state (moved story.state event); history = story.history ++ unless o [] (told story.state event); polls = unless o story.polls (polls_after story.state story.polls event) } ≡ story
+    stays : (o : Option Refusal) → o ≢ None → record {
+      state = unless o story.state (moved story.state event);
+      history = story.history ++ unless o []
+          (told story.state event);
+      polls = unless o story.polls (polls_after story.state story.polls event);
+    } ≡ story
     stays None ne = absurd (ne refl)
     stays (Some why) ne = ap (λ (l : List Entry). record story { history = l }) (append-nil story.history)
 

@@ -46,13 +46,16 @@ module _ (shape : Shape) where
   pub spells_more : (words words' : List ℕ) (s : ℕ) (m : List Row) → ((i : ℕ) → i ≤ 2 * (bound_of shape) → get_or words' (content shape s i) 0 ≡ get_or words (content shape s i) 0) → SlotSpells shape words s m → SlotSpells shape words' s m
   spells_more words words' s m f t = let short = t.0.1 in let n = length-row_words m in (t.0, λ i l. f i (omega arith) ∙ t.1 i l)
 
-  pub shows_more : (words words' : List ℕ) (w : ℕ) (state : KeyState) → ((s i : ℕ) → name_number w ≡ suc s → s < shape.slots → i ≤ 2 * (bound_of shape) → get_or words' (content shape s i) 0 ≡ get_or words (content shape s i) 0) → ShowsState shape words w state → ShowsState shape words' w state
+  pub shows_more : (words words' : List ℕ) (w : ℕ) (state : KeyState)
+      → ((s i : ℕ) → name_number w ≡ suc s → s < shape.slots → i ≤ 2 * (bound_of shape) → get_or words' (content shape s i) 0 ≡ get_or words
+      (content shape s i) 0) → ShowsState shape words w state → ShowsState shape words' w state
   shows_more words words' w (key.Hole number) f t = t
   shows_more words words' w (key.Asked number) f t = t
   shows_more words words' w (key.Rows number m) f t = (t.0, t.1, t.2, spells_more words words' t.0 m (λ i l. f t.0 i t.1 t.2 l) t.3)
 
   module _ (words words' : List ℕ) (m m' : PartialMap) (hold hold' : ℕ → ℕ) where
-    pub holding_more : (x : Grip) → ((s i : ℕ) → 0 < grips s x → s < shape.slots → i ≤ 2 * (bound_of shape) → get_or words' (content shape s i) 0 ≡ get_or words (content shape s i) 0) → Grips shape words m hold x → Grips shape words' m' hold' x
+    pub holding_more : (x : Grip) → ((s i : ℕ) → 0 < grips s x → s < shape.slots → i ≤ 2 * (bound_of shape)
+        → get_or words' (content shape s i) 0 ≡ get_or words (content shape s i) 0) → Grips shape words m hold x → Grips shape words' m' hold' x
     holding_more Nothing f t = tt
     holding_more (On s set b) f t = let in_range = t.0 in let one = only-same s in (in_range, spells_more words words' s set (λ i l. f s i (omega arith) in_range l) t.1)
 

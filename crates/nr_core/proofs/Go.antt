@@ -39,7 +39,8 @@ use Rattle.nr_model.specs.declared.calls.Call.TheVariants as model
 use Rattle.nr_machine.specs.declared.calls.Refusal.TheVariants as refuse
 use Rattle.nr_model.specs.declared.calls.Reply.TheVariants as reply
 
-goes_at : (shape : Shape) (words : List ℕ) (roles : List Role) (log : List Entry) → Core shape words roles log → (id : ℕ) (desk : Desk) → get_elem? roles id ≡ some (Writer desk) → (place : Place) → desk.place ≡ place → if_not_busy place ≡ None
+goes_at : (shape : Shape) (words : List ℕ) (roles : List Role) (log : List Entry) → Core shape words roles log → (id : ℕ) (desk : Desk)
+    → get_elem? roles id ≡ some (Writer desk) → (place : Place) → desk.place ≡ place → if_not_busy place ≡ None
     → let operation = going shape desk place in let found = get_or words (target_of operation) 0 in let after = went shape desk place found in
     Core shape (set words (target_of operation) (becomes operation found)) (set roles id (Writer after.0)) (log ++ ending_at place after.1)
 goes_at shape words roles log core id desk there Idle is_at ok = absurd (no_some (Some refuse.NotBusy) refuse.NotBusy refl ok)

@@ -59,8 +59,19 @@ none_in [] e = refl
 none_in (x ∷ l) e = absurd (omega arith)
 
 -- the story after an event that is not refused
-tell_is : (story : Story) (event : Event) → refusal story.state event ≡ None → tell story event ≡ record { state = moved story.state event; history = story.history ++ told story.state event; polls = polls_after story.state story.polls event }
-tell_is story event ok = ap (λ (o : Option Refusal). let after : Story = record { state = unless o story.state (moved story.state event); history = story.history ++ unless o [] (told story.state event); polls = unless o story.polls (polls_after story.state story.polls event) } in after) ok
+tell_is : (story : Story) (event : Event) → refusal story.state event ≡ None
+    → tell story event ≡ record {
+      state = moved story.state event;
+      history = story.history ++ told story.state event;
+      polls = polls_after story.state
+          story.polls event;
+    }
+tell_is story event ok = ap (λ (o : Option Refusal). let after : Story = record {
+  state = unless o story.state (moved story.state event);
+  history = story.history ++ unless o [] (told story.state event);
+  polls = unless o
+      story.polls (polls_after story.state story.polls event);
+} in after) ok
 
 -- what is known of a call that ends with no slot by such an outcome of its step from a place
 record Ending (state : State) (log : List Entry) (place : Place) (polls : List Poll) (call : WriterCall) (outcome : Desk × Step) (counts : NoSlot) : Type 0 where
@@ -70,7 +81,8 @@ record Ending (state : State) (log : List Entry) (place : Place) (polls : List P
   pub done : reply_at (bound_of state.shape) (call_of call) (state_of (map_after state.shape log) (key_of call)) ≡ reply.Done
   pub polled : map (λ (poll : Poll). poll.slot) polls ≡ map (λ (entry : Retired). entry.slot) state.desk.retired
 
-justify : (story : Story) (event : Event) (is_core : IsCoreState story.state story.history) → refusal story.state event ≡ None → Swept (tell story event).state (tell story event).polls → (counts : NoSlot) (call : WriterCall) → call_of_event story.state event ≡ call ∷ []
+justify : (story : Story) (event : Event) (is_core : IsCoreState story.state story.history) → refusal story.state event ≡ None
+    → Swept (tell story event).state (tell story event).polls → (counts : NoSlot) (call : WriterCall) → call_of_event story.state event ≡ call ∷ []
     → (outcome : Desk × Step) → (moved story.state event).desk ≡ outcome.0 → Ending story.state story.history story.state.desk.place (polls_after story.state story.polls event) call outcome counts → IsJustified story event counts
 justify story event is_core ok swept counts call is_call outcome desk_is ending =
     let state = story.state in let shape = state.shape in let desk = state.desk in let core = is_core.core in let writer_there = is_core.fit.writer in let told_so = tell_is story event ok in
@@ -110,7 +122,8 @@ go_ending state log polls is_core swept (Reading call s got) is counts e =
     let none_polled : polls ≡ [] = subst (AtSweep state polls) is swept.sweep in
     by_cases (λ v. let outcome = cond {A = Desk × Step} v (decoded shape desk call (decode got')) (moved_to desk (Reading call s got'), Going) in
     (v ≡ true → length got' ≡ 2 * get_or got' 0 0 + 1) → IsWithout counts outcome → (q : WriterCall) × (call ∷ [] ≡ q ∷ []) × Ending state log (Reading call s got) polls q outcome counts) (nat_eq (length got') (2 * get_or got' 0 0 + 1))
-    (λ _ whole e'. let set_is = read_whole shape words is_core.roles log is_core.core (key_of call) s got p (whole refl) in let n = decided_none shape desk counts call p.rows (subst (λ o. IsWithout counts (decoded shape desk call o)) set_is e') in (
+    (λ _ whole e'. let set_is = read_whole shape words is_core.roles log is_core.core (key_of call) s got p (whole refl) in
+    let n = decided_none shape desk counts call p.rows (subst (λ o. IsWithout counts (decoded shape desk call o)) set_is e') in (
       call,
       refl,
       record {
@@ -144,7 +157,9 @@ go_ending state log polls is_core swept (Searching call rows q) is counts e =
       },
     )
 
-pub no_slot_is_justified : (story : Story) (event : Event) → IsCoreState story.state story.history → Swept story.state story.polls → Swept (tell story event).state (tell story event).polls → (counts : NoSlot) → EndsWithout story.state event counts → IsJustified story event counts
+pub no_slot_is_justified : (story : Story) (event : Event) → IsCoreState story.state story.history → Swept story.state story.polls
+    → Swept (tell story event).state (tell story event).polls → (counts : NoSlot) → EndsWithout story.state event counts
+    → IsJustified story event counts
 no_slot_is_justified story (Arrive r k) is_core swept after counts e = absurd e
 no_slot_is_justified story (Read r i) is_core swept after counts e = absurd e
 no_slot_is_justified story (Depart r) is_core swept after counts e = absurd e

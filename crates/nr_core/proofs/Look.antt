@@ -55,7 +55,8 @@ module _ (shape : Shape) (words : List ℕ) (roles : List Role) (log : List Entr
     mine = idle_desk shape words (map_after shape log) (held roles) desk (core.knows id (Writer desk) there)
 
     -- a look that ends the call
-    stops : (call : WriterCall) (y : Reply) → key_of call < shape.keys → looked shape desk call (get_or words place 0) ≡ (moved_to desk Idle, ended y) → reply_at (bound_of shape) (call_of call) (state_of (map_after shape log) (key_of call)) ≡ y
+    stops : (call : WriterCall) (y : Reply) → key_of call < shape.keys → looked shape desk call (get_or words place 0) ≡ (moved_to desk Idle, ended y)
+        → reply_at (bound_of shape) (call_of call) (state_of (map_after shape log) (key_of call)) ≡ y
         → state_after (bound_of shape) (call_of call) (state_of (map_after shape log) (key_of call)) ≡ state_of (map_after shape log) (key_of call) → Looked call
     stops call y near is replies stays = outcome call (moved_to desk Idle, ended y) is (ends shape words roles log core id desk there place (moved_to desk Idle) (call_of call) y (subst (λ (k : ℕ). k < shape.keys) (sym (key_same call)) near)
         (ap (λ (k : ℕ). reply_at (bound_of shape) (call_of call) (state_of (map_after shape log) k)) (key_same call) ∙ replies)
@@ -83,8 +84,10 @@ look_all shape words roles log core id desk there idle (Update k batch) given ne
     let Goal : KeyState → Type 0 = λ z. state_of map k ≡ z → ShowsState shape words w z → Looked shape words roles log core id desk there k call in
     let A : Desk × Step = (moved_to desk (Reading call (slot_of w) []), Going) in let B : Desk × Step = (moved_to desk Idle, ended reply.Dropped) in
     let go : (z : KeyState) → Goal z = λ z. elim z as Goal [
-      | key.Hole n ↦ λ is t. stops shape words roles log core id desk there k idle call reply.Dropped near (ap (λ b. cond b A B) (names_none w t.0)) (ap (reply_at (bound_of shape) (model.Update k batch)) is) (ap (state_after (bound_of shape) (model.Update k batch)) is ∙ sym is)
-      | key.Asked n ↦ λ is t. stops shape words roles log core id desk there k idle call reply.Dropped near (ap (λ b. cond b A B) (names_none w t.0)) (ap (reply_at (bound_of shape) (model.Update k batch)) is) (ap (state_after (bound_of shape) (model.Update k batch)) is ∙ sym is)
+      | key.Hole n ↦ λ is t. stops shape words roles log core id desk there k idle call reply.Dropped near (ap (λ b. cond b A B) (names_none w t.0))
+          (ap (reply_at (bound_of shape) (model.Update k batch)) is) (ap (state_after (bound_of shape) (model.Update k batch)) is ∙ sym is)
+      | key.Asked n ↦ λ is t. stops shape words roles log core id desk there k idle call reply.Dropped near (ap (λ b. cond b A B) (names_none w t.0))
+          (ap (reply_at (bound_of shape) (model.Update k batch)) is) (ap (state_after (bound_of shape) (model.Update k batch)) is ∙ sym is)
       | key.Rows number rows ↦ λ is t. let n = names_one w t.0 t.1 in begins shape words roles log core id desk there k idle call (slot_of w) number rows near (t.1 ∙ ap suc (sym n.1)) is (ap (λ b. cond b A B) n.0)
     ] in go (state_of map k) refl (core.shows k near)
 look_all shape words roles log core id desk there idle (Replace k rows) given near =
@@ -108,19 +111,42 @@ look_all shape words roles log core id desk there idle (Evict k) given near =
     let Goal : KeyState → Type 0 = λ z. state_of map k ≡ z → ShowsState shape words w z → Looked shape words roles log core id desk there k call in
     let A : Desk × Step = (moved_to desk (Leaving k), Going) in let B : Desk × Step = (moved_to desk Idle, ended reply.Nothing) in
     let go : (z : KeyState) → Goal z = λ z. elim z as Goal [
-      | key.Hole n ↦ λ is t. stops shape words roles log core id desk there k idle call reply.Nothing near (ap (λ b. cond b A B) (names_none w t.0)) (ap (reply_at (bound_of shape) (model.Evict k)) is) (ap (state_after (bound_of shape) (model.Evict k)) is ∙ sym is)
-      | key.Asked n ↦ λ is t. stops shape words roles log core id desk there k idle call reply.Nothing near (ap (λ b. cond b A B) (names_none w t.0)) (ap (reply_at (bound_of shape) (model.Evict k)) is) (ap (state_after (bound_of shape) (model.Evict k)) is ∙ sym is)
-      | key.Rows number rows ↦ λ is t. let n = names_one w t.0 t.1 in let m = mine shape words roles log core id desk there k idle in outcome shape words roles log core id desk there k call (moved_to desk (Leaving k), Going) (ap (λ b. cond b A B) n.0)
+      | key.Hole n ↦ λ is t. stops shape words roles log core id desk there k idle call reply.Nothing near (ap (λ b. cond b A B) (names_none w t.0))
+          (ap (reply_at (bound_of shape) (model.Evict k)) is) (ap (state_after (bound_of shape) (model.Evict k)) is ∙ sym is)
+      | key.Asked n ↦ λ is t. stops shape words roles log core id desk there k idle call reply.Nothing near (ap (λ b. cond b A B) (names_none w t.0))
+          (ap (reply_at (bound_of shape) (model.Evict k)) is) (ap (state_after (bound_of shape) (model.Evict k)) is ∙ sym is)
+      | key.Rows number rows ↦ λ is t. let n = names_one w t.0 t.1 in let m = mine shape words roles log core id desk there k idle in
+          outcome shape words roles log core id desk there k call (moved_to desk (Leaving k), Going) (ap (λ b. cond b A B) n.0)
           (goes_on shape words roles log core id desk there k (moved_to desk (Leaving k)) (idle_keeps shape words roles log core id desk there k idle)
-          (record { place = (slot_of w, record { near = near; names = t.1 ∙ ap suc (sym n.1); number = number; rows = rows; full = is; part = refl; more = omega arith }); room = m.room; free = m.free; retired = m.retired; numbers = m.numbers }))
+          (record {
+            place = (
+              slot_of w,
+              record {
+                near = near;
+                names = t.1 ∙ ap suc (sym n.1);
+                number = number;
+                rows = rows;
+                full = is;
+                part = refl;
+                more = omega arith;
+              },
+            );
+            room = m.room;
+            free = m.free;
+            retired = m.retired;
+            numbers = m.numbers;
+          }))
     ] in go (state_of map k) refl (core.shows k near)
 look_all shape words roles log core id desk there idle (Fill k number rows) given near =
     let map = map_after shape log in let w = get_or words k 0 in let call = Fill k number rows in let c = model.Fill k number rows in
     let Goal : KeyState → Type 0 = λ z. state_of map k ≡ z → ShowsState shape words w z → Looked shape words roles log core id desk there k call in
-    let A : Desk × Step = (moved_to desk Idle, ended reply.Already) in let B : Desk × Step = settled shape desk call rows in let S : Desk × Step = (moved_to desk Idle, ended reply.Stale) in let C : Desk × Step = (moved_to desk Idle, ended reply.NotAsked) in
+    let A : Desk × Step = (moved_to desk Idle, ended reply.Already) in let B : Desk × Step = settled shape desk call rows in
+    let S : Desk × Step = (moved_to desk Idle, ended reply.Stale) in let C : Desk × Step = (moved_to desk Idle, ended reply.NotAsked) in
     let F : Desk × Step = fill_asked shape desk call number rows (slot_of w) in
     let go : (z : KeyState) → Goal z = λ z. elim z as Goal [
-      | key.Hole n ↦ λ is t. let even = t.1 in stops shape words roles log core id desk there k idle call reply.NotAsked near (ap (λ b. cond b A (cond (has_ask w) F C)) (names_none w t.0) ∙ ap (λ b. cond b F C) (ne_eqb (w % 2) 1 (λ z. omega arith))) (ap (reply_at (bound_of shape) c) is) (ap (state_after (bound_of shape) c) is ∙ sym is)
+      | key.Hole n ↦ λ is t. let even = t.1 in stops shape words roles log core id desk there k idle call reply.NotAsked near
+          (ap (λ b. cond b A (cond (has_ask w) F C)) (names_none w t.0) ∙ ap (λ b. cond b F C) (ne_eqb (w % 2) 1 (λ z. omega arith)))
+          (ap (reply_at (bound_of shape) c) is) (ap (state_after (bound_of shape) c) is ∙ sym is)
       | key.Asked n ↦ λ is t.
           let look_is : (o : Desk × Step) → F ≡ o → looked shape desk call w ≡ o = λ o found. ap (λ b. cond b A (cond (has_ask w) F C)) (names_none w t.0) ∙ ap (λ b. cond b F C) (eq-eqb (w % 2) 1 t.1) ∙ found in
           let same_test : nat_eq n number ≡ nat_eq (slot_of w) number = ap (λ (m : ℕ). nat_eq m number) (sym t.2) in
@@ -133,25 +159,36 @@ look_all shape words roles log core id desk there idle (Fill k number rows) give
             done = ap (reply_at (bound_of shape) c) is ∙ ap (λ b. cond {A = Reply} b reply.Done reply.Stale) (same_test ∙ yes);
             leaves = ap (state_after (bound_of shape) c) is ∙ ap (λ b. cond {A = KeyState} b (key.Rows n rows) (key.Asked n)) (same_test ∙ yes) ∙ ap (λ (m : ℕ). key.Rows m rows) (sym (ap number_of is));
           })))
-          (λ no. stops shape words roles log core id desk there k idle call reply.Stale near (look_is S (ap (λ b. cond {A = Desk × Step} b B S) no)) (ap (reply_at (bound_of shape) c) is ∙ ap (λ b. cond {A = Reply} b reply.Done reply.Stale) (same_test ∙ no))
+          (λ no. stops shape words roles log core id desk there k idle call reply.Stale near (look_is S (ap (λ b. cond {A = Desk × Step} b B S) no))
+          (ap (reply_at (bound_of shape) c) is ∙ ap (λ b. cond {A = Reply} b reply.Done reply.Stale) (same_test ∙ no))
           (ap (state_after (bound_of shape) c) is ∙ ap (λ b. cond {A = KeyState} b (key.Rows n rows) (key.Asked n)) (same_test ∙ no) ∙ sym is))
-      | key.Rows n old ↦ λ is t. let named = names_one w t.0 t.1 in stops shape words roles log core id desk there k idle call reply.Already near (ap (λ b. cond b A (cond (has_ask w) F C)) named.0) (ap (reply_at (bound_of shape) c) is) (ap (state_after (bound_of shape) c) is ∙ sym is)
+      | key.Rows n old ↦ λ is t. let named = names_one w t.0 t.1 in
+          stops shape words roles log core id desk there k idle call reply.Already near (ap (λ b. cond b A (cond (has_ask w) F C)) named.0)
+          (ap (reply_at (bound_of shape) c) is) (ap (state_after (bound_of shape) c) is ∙ sym is)
     ] in go (state_of map k) refl (core.shows k near)
 look_all shape words roles log core id desk there idle (Cancel k) given near =
     let map = map_after shape log in let w = get_or words k 0 in let call = Cancel k in let c = model.Cancel k in
     let Goal : KeyState → Type 0 = λ z. state_of map k ≡ z → ShowsState shape words w z → Looked shape words roles log core id desk there k call in
-    let A : Desk × Step = (moved_to desk Idle, ended reply.Nothing) in let B : Desk × Step = (moved_to desk (Withdrawing k), Going) in let W : Desk × Step = (moved_to desk Idle, ended reply.Worn) in let F : Desk × Step = cancel_asked desk k (slot_of w) in
+    let A : Desk × Step = (moved_to desk Idle, ended reply.Nothing) in let B : Desk × Step = (moved_to desk (Withdrawing k), Going) in
+    let W : Desk × Step = (moved_to desk Idle, ended reply.Worn) in let F : Desk × Step = cancel_asked desk k (slot_of w) in
     let go : (z : KeyState) → Goal z = λ z. elim z as Goal [
-      | key.Hole n ↦ λ is t. let even = t.1 in stops shape words roles log core id desk there k idle call reply.Nothing near (ap (λ b. cond b A (cond (has_ask w) F A)) (names_none w t.0) ∙ ap (λ b. cond b F A) (ne_eqb (w % 2) 1 (λ z. omega arith))) (ap (reply_at (bound_of shape) c) is) (ap (state_after (bound_of shape) c) is ∙ sym is)
+      | key.Hole n ↦ λ is t. let even = t.1 in stops shape words roles log core id desk there k idle call reply.Nothing near
+          (ap (λ b. cond b A (cond (has_ask w) F A)) (names_none w t.0) ∙ ap (λ b. cond b F A) (ne_eqb (w % 2) 1 (λ z. omega arith)))
+          (ap (reply_at (bound_of shape) c) is) (ap (state_after (bound_of shape) c) is ∙ sym is)
       | key.Asked n ↦ λ is t. let m = mine shape words roles log core id desk there k idle in
           let look_is : (o : Desk × Step) → F ≡ o → looked shape desk call w ≡ o = λ o found. ap (λ b. cond b A (cond (has_ask w) F A)) (names_none w t.0) ∙ ap (λ b. cond b F A) (eq-eqb (w % 2) 1 t.1) ∙ found in
           let same_test : nat_lt n last_number ≡ nat_lt (slot_of w) last_number = ap (λ (m : ℕ). nat_lt m last_number) (sym t.2) in
           by_cases (λ _. Looked shape words roles log core id desk there k call) (nat_lt (slot_of w) last_number)
-          (λ yes. outcome shape words roles log core id desk there k call B (look_is B (ap (λ b. cond {A = Desk × Step} b B W) yes)) (goes_on shape words roles log core id desk there k (moved_to desk (Withdrawing k)) (idle_keeps shape words roles log core id desk there k idle)
+          (λ yes. outcome shape words roles log core id desk there k call B (look_is B (ap (λ b. cond {A = Desk × Step} b B W) yes))
+          (goes_on shape words roles log core id desk there k (moved_to desk (Withdrawing k))
+          (idle_keeps shape words roles log core id desk there k idle)
           (record { place = record { near = near; number = n; asked = is; early = ltb-true n last_number (same_test ∙ yes) }; room = m.room; free = m.free; retired = m.retired; numbers = m.numbers })))
-          (λ no. stops shape words roles log core id desk there k idle call reply.Worn near (look_is W (ap (λ b. cond {A = Desk × Step} b B W) no)) (ap (reply_at (bound_of shape) c) is ∙ ap (λ b. cond {A = Reply} b reply.Cancelled reply.Worn) (same_test ∙ no))
+          (λ no. stops shape words roles log core id desk there k idle call reply.Worn near (look_is W (ap (λ b. cond {A = Desk × Step} b B W) no))
+          (ap (reply_at (bound_of shape) c) is ∙ ap (λ b. cond {A = Reply} b reply.Cancelled reply.Worn) (same_test ∙ no))
           (ap (state_after (bound_of shape) c) is ∙ ap (λ b. cond {A = KeyState} b (key.Hole (n + 1)) (key.Asked n)) (same_test ∙ no) ∙ sym is))
-      | key.Rows n rows ↦ λ is t. let named = names_one w t.0 t.1 in stops shape words roles log core id desk there k idle call reply.Nothing near (ap (λ b. cond b A (cond (has_ask w) F A)) named.0) (ap (reply_at (bound_of shape) c) is) (ap (state_after (bound_of shape) c) is ∙ sym is)
+      | key.Rows n rows ↦ λ is t. let named = names_one w t.0 t.1 in
+          stops shape words roles log core id desk there k idle call reply.Nothing near (ap (λ b. cond b A (cond (has_ask w) F A)) named.0)
+          (ap (reply_at (bound_of shape) c) is) (ap (state_after (bound_of shape) c) is ∙ sym is)
     ] in go (state_of map k) refl (core.shows k near)
 
 pub looks : (shape : Shape) (id : ℕ) (desk : Desk) (call : WriterCall) → desk.place ≡ Idle → IsGivenCall (bound_of shape) call → key_of call < shape.keys → CanStep shape id (Writer desk) (Load (key_of call)) (Looks shape desk call)

@@ -30,21 +30,34 @@ pub off_keys : (shape : Shape) (words : List ℕ) (roles : List Role) (log : Lis
 off_keys shape words roles log core id r r' i x behind at w-same r-same keeping conts sums others own =
     let words' = set words i x in let roles' = set roles id r' in let map = map_after shape log in let wide = core.wide in let fits = core.fits.bound in
     let key : (k : ℕ) → k < shape.keys → get_or words' k 0 ≡ get_or words k 0 = λ k l. get_or-set_other words i k x 0 (λ e. omega arith) in
-    let one-named : (k s : ℕ) → k < shape.keys → name_number (get_or words k 0) ≡ suc s → 0 < named shape words s = λ k s l e. omega (arith, below-term (λ j. only (suc s) (name_number (get_or words j 0))) shape.keys k l, ap (only (suc s)) e, only-same (suc s)) in
+    let one-named : (k s : ℕ) → k < shape.keys → name_number (get_or words k 0) ≡ suc s → 0 < named shape words s = λ k s l e. omega
+    (arith, below-term (λ j. only (suc s) (name_number (get_or words j 0))) shape.keys k l, ap (only (suc s)) e, only-same (suc s)) in
     subst (Core shape words' roles') (sym (append-nil log)) record {
       fits = core.fits;
       wide = length-set words i x ∙ wide;
       legal = core.legal;
-      shows = λ k l. subst (λ (w : ℕ). ShowsState shape words' w (state_of map k)) (sym (key k l)) (shows_more shape words words' (get_or words k 0) (state_of map k) (λ s j e near low. conts s j near low (one-named k s l e)) (core.shows k l));
-      places = λ s l. omega (arith, core.places s l, below-same (λ j. only (suc s) (name_number (get_or words' j 0))) (λ j. only (suc s) (name_number (get_or words j 0))) shape.keys (λ j near. ap (λ (y : ℕ). only (suc s) (name_number y)) (key j near)), total-set (keeps s) roles id r r' at, keeping s l);
-      counts = λ k s l e. let e' : name_number (get_or words k 0) ≡ suc s = ap name_number (sym (key k l)) ∙ e in ap (λ (y : ℕ). arrivals_of y % 2 ^ 40) (key k l) ∙ core.counts k s l e' ∙ sym (sums s (in_range shape words (get_or words k 0) (state_of map k) s (core.shows k l) e') (one-named k s l e'));
+      shows = λ k l. subst (λ (w : ℕ). ShowsState shape words' w (state_of map k)) (sym (key k l))
+          (shows_more shape words words' (get_or words k 0) (state_of map k) (λ s j e near low. conts s j near low (one-named k s l e))
+          (core.shows k l));
+      places = λ s l. omega (
+        arith,
+        core.places s l,
+        below-same (λ j. only (suc s) (name_number (get_or words' j 0)))
+            (λ j. only (suc s) (name_number (get_or words j 0))) shape.keys (λ j near. ap (λ (y : ℕ). only (suc s) (name_number y)) (key j near)),
+        total-set (keeps s) roles id r r' at,
+        keeping s l,
+      );
+      counts = λ k s l e. let e' : name_number (get_or words k 0) ≡ suc s = ap name_number (sym (key k l)) ∙ e in
+          ap (λ (y : ℕ). arrivals_of y % 2 ^ 40) (key k l) ∙ core.counts k s l e'
+          ∙ sym (sums s (in_range shape words (get_or words k 0) (state_of map k) s (core.shows k l) e') (one-named k s l e'));
       knows = λ j u there. ⊎_elim (λ (t : (j ≡ id) × (r' ≡ u)). subst (Knows shape words' map (held roles')) t.1 own) (λ (t : (j ≢ id) × (get_elem? roles j ≡ some u)). others j u t.0 t.1 (core.knows j u t.1)) (at_set roles id j r' u there);
       one = omega (arith, total-set is_writer roles id r r' at, core.one);
       few = omega (arith, total-set is_reader roles id r r' at, core.few);
     }
 
 -- the others after a writer's step are no writer
-pub no_writer : (shape : Shape) (words : List ℕ) (roles : List Role) (log : List Entry) (core : Core shape words roles log) (words' : List ℕ) (map' : PartialMap) (hold' : ℕ → ℕ) (id : ℕ) (desk : Desk) → get_elem? roles id ≡ some (Writer desk)
+pub no_writer : (shape : Shape) (words : List ℕ) (roles : List Role) (log : List Entry) (core : Core shape words roles log) (words' : List ℕ)
+    (map' : PartialMap) (hold' : ℕ → ℕ) (id : ℕ) (desk : Desk) → get_elem? roles id ≡ some (Writer desk)
     → ((s i : ℕ) → 0 < held roles s → s < shape.slots → i ≤ 2 * (bound_of shape) → get_or words' (content shape s i) 0 ≡ get_or words (content shape s i) 0)
     → (j : ℕ) (u : Role) → j ≢ id → get_elem? roles j ≡ some u → Knows shape words (map_after shape log) (held roles) u → Knows shape words' map' hold' u
 no_writer shape words roles log core words' map' hold' id desk at conts j u = let map = map_after shape log in elim u as (λ v. j ≢ id → get_elem? roles j ≡ some v → Knows shape words map (held roles) v → Knows shape words' map' hold' v) [

@@ -28,7 +28,8 @@ in_range shape words w (key.Asked number) s t e = absurd (omega (arith, t.0))
 in_range shape words w (key.Rows number m) s t e = let same = t.1 in let l = t.2 in omega arith
 
 -- two keys name different slots
-pub apart : (shape : Shape) (words : List ℕ) (roles : List Role) (log : List Entry) → Core shape words roles log → (j k s : ℕ) → j < shape.keys → k < shape.keys → j ≢ k → name_number (get_or words j 0) ≡ suc s → name_number (get_or words k 0) ≢ suc s
+pub apart : (shape : Shape) (words : List ℕ) (roles : List Role) (log : List Entry) → Core shape words roles log → (j k s : ℕ) → j < shape.keys
+    → k < shape.keys → j ≢ k → name_number (get_or words j 0) ≡ suc s → name_number (get_or words k 0) ≢ suc s
 apart shape words roles log core j k s l near ne e z = let r = in_range shape words (get_or words j 0) (state_of (map_after shape log) j) s (core.shows j l) e in
     let one : only (suc s) (name_number (get_or words j 0)) ≡ 1 = ap (only (suc s)) e ∙ only-same (suc s) in let two : only (suc s) (name_number (get_or words k 0)) ≡ 1 = ap (only (suc s)) z ∙ only-same (suc s) in
     absurd (omega (arith, below-terms (λ y. only (suc s) (name_number (get_or words y 0))) shape.keys j k l near ne, core.places s r))
@@ -54,12 +55,15 @@ on_key shape words roles log es core id c before after k x near at same-name leg
     let wide = core.wide in let fits = core.fits.bound in
     let other : (j : ℕ) → j ≢ k → get_or words' j 0 ≡ get_or words j 0 = λ j ne. get_or-set_other words k j x 0 ne in
     let here : get_or words' k 0 ≡ x = get_or-set_same words k x 0 (omega arith) in
-    let names : (j : ℕ) → name_number (get_or words' j 0) ≡ name_number (get_or words j 0) = λ j. dite (ℕ_discrete j k) (λ e. ap (λ (y : ℕ). name_number (get_or words' y 0)) e ∙ ap name_number here ∙ same-name ∙ ap (λ (y : ℕ). name_number (get_or words y 0)) (sym e)) (λ ne. ap name_number (other j ne)) in
+    let names : (j : ℕ) → name_number (get_or words' j 0) ≡ name_number (get_or words j 0) = λ j. dite (ℕ_discrete j k)
+    (λ e. ap (λ (y : ℕ). name_number (get_or words' y 0)) e ∙ ap name_number here ∙ same-name ∙ ap (λ (y : ℕ). name_number (get_or words y 0))
+    (sym e)) (λ ne. ap name_number (other j ne)) in
     let cont : (s i : ℕ) → get_or words' (content shape s i) 0 ≡ get_or words (content shape s i) 0 = λ s i. other (content shape s i) (λ e. omega arith) in
     let dep : (s : ℕ) → get_or words' (departures shape s) 0 ≡ get_or words (departures shape s) 0 = λ s. other (departures shape s) (λ e. omega arith) in
     let holding : (s : ℕ) → held roles' s + grips s before ≡ held roles s + grips s after = λ s. total-set (holds s) roles id (Reader c before) (Reader c after) at in
     let still : (s : ℕ) → name_number (get_or words k 0) ≢ suc s → held roles' s ≡ held roles s = λ s ne. omega (arith, holding s, quiet s ne) in
-    let here-named : (s : ℕ) → name_number (get_or words k 0) ≡ suc s → 1 ≤ named shape words s = λ s e. omega (arith, below-term (λ j. only (suc s) (name_number (get_or words j 0))) shape.keys k near, ap (only (suc s)) e, only-same (suc s)) in
+    let here-named : (s : ℕ) → name_number (get_or words k 0) ≡ suc s → 1 ≤ named shape words s = λ s e. omega
+    (arith, below-term (λ j. only (suc s) (name_number (get_or words j 0))) shape.keys k near, ap (only (suc s)) e, only-same (suc s)) in
     let unnamed : (s : ℕ) → s < shape.slots → 0 < total (keeps s) roles → name_number (get_or words k 0) ≢ suc s = λ s l kept e. omega (arith, here-named s e, core.places s l) in
     let left : (s : ℕ) → s < shape.slots → 0 < total (keeps s) roles → Left shape words words' map map' (held roles) (held roles') s = λ s l kept. let state = still s (unnamed s l kept) in record {
       contents = λ i _. cont s i;
@@ -67,7 +71,9 @@ on_key shape words roles log es core id c before after k x near at same-name leg
       deps = λ _. dep s;
       sum = ap (λ (p : ℕ × ℕ). (p.0 + p.1) % 2 ^ 40) (λ i. (dep s i, state i));
     } in
-    let others : (j : ℕ) (u : Role) → get_elem? roles j ≡ some u → Knows shape words map (held roles) u → Knows shape words' map' (held roles') u = λ j u. elim u as (λ v. get_elem? roles j ≡ some v → Knows shape words map (held roles) v → Knows shape words' map' (held roles') v) [
+    let others : (j : ℕ) (u : Role) → get_elem? roles j ≡ some u → Knows shape words map (held roles) u
+    → Knows shape words' map' (held roles') u = λ j u. elim u as (λ v. get_elem? roles j ≡ some v → Knows shape words map (held roles) v
+    → Knows shape words' map' (held roles') v) [
       | Writer desk ↦ λ there t. desk_more shape words words' map map' (held roles) (held roles') (λ y _. names y) stays desk same-number (λ s l kept. left s l (kept_by s roles j (Writer desk) there kept)) t
       | Reader other y ↦ λ there t. holding_more shape words words' map map' (held roles) (held roles') y (λ s i _ _ _. cont s i) t
       | Note ↦ λ there t. tt
@@ -77,9 +83,20 @@ on_key shape words roles log es core id c before after k x near at same-name leg
       wide = length-set words k x ∙ wide;
       legal = legal;
       shows = λ j l. dite (ℕ_discrete j k)
-          (λ e. subst (λ (y : ℕ). ShowsState shape words' (get_or words' y 0) (state_of map' y)) (sym e) (subst (λ (w : ℕ). ShowsState shape words' w (state_of map' k)) (sym here) (shows_more shape words words' x (state_of map' k) (λ s i _ _ _. cont s i) shown)))
-          (λ ne. subst (λ (w : ℕ). ShowsState shape words' w (state_of map' j)) (sym (other j ne)) (subst (ShowsState shape words' (get_or words j 0)) (sym (states j ne)) (shows_more shape words words' (get_or words j 0) (state_of map j) (λ s i _ _ _. cont s i) (core.shows j l))));
-      places = λ s l. omega (arith, core.places s l, below-same (λ j. only (suc s) (name_number (get_or words' j 0))) (λ j. only (suc s) (name_number (get_or words j 0))) shape.keys (λ j _. ap (only (suc s)) (names j)), total-set (keeps s) roles id (Reader c before) (Reader c after) at);
+          (λ e. subst (λ (y : ℕ). ShowsState shape words' (get_or words' y 0) (state_of map' y)) (sym e)
+          (subst (λ (w : ℕ). ShowsState shape words' w (state_of map' k)) (sym here)
+          (shows_more shape words words' x (state_of map' k) (λ s i _ _ _. cont s i) shown)))
+          (λ ne. subst (λ (w : ℕ). ShowsState shape words' w (state_of map' j)) (sym (other j ne))
+          (subst (ShowsState shape words' (get_or words j 0)) (sym (states j ne))
+          (shows_more shape words words' (get_or words j 0) (state_of map j) (λ s i _ _ _. cont s i) (core.shows j l))));
+      places = λ s l. omega (
+        arith,
+        core.places s l,
+        below-same (λ j. only (suc s) (name_number (get_or words' j 0)))
+            (λ j. only (suc s) (name_number (get_or words j 0))) shape.keys (λ j _. ap (only (suc s)) (names j)),
+        total-set (keeps s) roles id
+            (Reader c before) (Reader c after) at,
+      );
       counts = λ j s l e. dite (ℕ_discrete j k)
           (λ z. let e' : name_number (get_or words k 0) ≡ suc s = ap (λ (y : ℕ). name_number (get_or words y 0)) (sym z) ∙ (sym (names j) ∙ e) in let w : get_or words' j 0 ≡ x = ap (λ (y : ℕ). get_or words' y 0) z ∙ here in
           ap (λ (y : ℕ). arrivals_of y % 2 ^ 40) w ∙ counted s e' ∙ ap (λ (y : ℕ). (y + held roles' s) % 2 ^ 40) (sym (dep s)))

@@ -100,19 +100,42 @@ pub core_opens : (shape : Shape) → IsShape shape → (n : ℕ) → n ≤ shape
 core_opens shape fits n few = let words = words_at_opening shape in let slot = shape.first_count ∷ replicate (slot_room shape) 0 in let roles = Writer (opening_desk shape) ∷ readers_from 0 n in let all = all_readers n 0 in
     let hole : ℕ = hole_word shape.first_number false in let few_numbers = fits.number in let is_hole = hole_is shape.first_number (omega arith) in
     let key_hole : (k : ℕ) → k < shape.keys → get_or words k 0 ≡ hole = front shape.keys hole (repeated shape.slots slot) in
-    let wide : length words ≡ total_of (layout shape) = omega (arith, length-append (replicate shape.keys hole) (repeated shape.slots slot), length-replicate {A = ℕ} shape.keys hole, length-repeated (slot_room shape) shape.slots slot (ap suc (length-replicate (slot_room shape) 0))) in
+    let wide : length words ≡ total_of (layout shape) = omega (
+      arith,
+      length-append (replicate shape.keys hole) (repeated shape.slots slot),
+      length-replicate {A = ℕ} shape.keys hole,
+      length-repeated
+          (slot_room shape) shape.slots slot (ap suc (length-replicate (slot_room shape) 0)),
+    ) in
     let dep : (s : ℕ) → s < shape.slots → get_or words (departures shape s) 0 ≡ shape.first_count
-    = λ s near. past (replicate shape.keys hole) (repeated shape.slots slot) (departures shape s) (suc (slot_room shape) * s) (omega (arith, length-replicate {A = ℕ} shape.keys hole)) ∙ each_slot (slot_room shape) shape.slots s shape.first_count (replicate (slot_room shape) 0) (suc (slot_room shape) * s) (length-replicate (slot_room shape) 0) near refl in
+    = λ s near. past (replicate shape.keys hole) (repeated shape.slots slot) (departures shape s) (suc (slot_room shape) * s)
+    (omega (arith, length-replicate {A = ℕ} shape.keys hole)) ∙ each_slot (slot_room shape) shape.slots s shape.first_count
+    (replicate (slot_room shape) 0) (suc (slot_room shape) * s) (length-replicate (slot_room shape) 0) near refl in
     let nobody_holds : (s : ℕ) → held roles s ≡ 0 = λ s. omega (arith, no_weight (holds s) (λ c. refl) n 0) in
     let nameless : (k : ℕ) → k < shape.keys → name_number (get_or words k 0) ≡ 0 = λ k near. ap name_number (key_hole k near) ∙ is_hole.0 in record {
       fits = fits;
       wide = wide;
       legal = tt;
       shows = λ k near. subst (λ (p : ℕ × KeyState). ShowsState shape words p.0 p.1) (λ j. (sym (key_hole k near) j, sym (get_or-replicate shape.keys k (key.Hole shape.first_number) (key.Hole 0) near) j)) is_hole;
-      places = λ s near. omega (arith, below_none (λ k. only (suc s) (name_number (get_or words k 0))) shape.keys (λ k l. ap (only (suc s)) (nameless k l) ∙ only-other (suc s) 0 (λ z. omega arith)), no_weight (keeps s) (λ c. refl) n 0, unused-free s 0 (omega arith));
+      places = λ s near. omega (
+        arith,
+        below_none (λ k. only (suc s) (name_number (get_or words k 0))) shape.keys
+            (λ k l. ap (only (suc s)) (nameless k l) ∙ only-other (suc s) 0 (λ z. omega arith)),
+        no_weight (keeps s) (λ c. refl) n 0,
+        unused-free s 0
+            (omega arith),
+      );
       counts = λ k s near e. absurd (omega (arith, nameless k near));
       knows = λ j u. elim j as (λ v. get_elem? roles v ≡ some u → Knows shape words (map_after shape []) (held roles) u) [
-        | zero ↦ λ e. subst (Knows shape words (map_after shape []) (held roles)) (some-injective (Writer (opening_desk shape)) u e) (record { place = tt; room = omega arith; free = λ s _ near. (nobody_holds s, dep s near); retired = λ i x e. absurd (some-ne-none x (sym e)); numbers = first_numbers shape })
+        | zero ↦ λ e. subst (Knows shape words (map_after shape []) (held roles)) (some-injective (Writer (opening_desk shape)) u e)
+            (record {
+              place = tt;
+              room = omega arith;
+              free = λ s _ near. (nobody_holds s, dep s near);
+              retired = λ i x e. absurd
+                  (some-ne-none x (sym e));
+              numbers = first_numbers shape;
+            })
         | suc j ↦ λ e. let c = only_readers n 0 j u e in subst (Knows shape words (map_after shape []) (held roles)) c.1 tt
       ];
       one = omega (arith, no_weight is_writer (λ c. refl) n 0);

@@ -34,7 +34,8 @@ holds-le s (Reader r Nothing) = omega arith
 holds-le s (Reader r (On t m b)) = only-le s t
 holds-le s Note = omega arith
 
-pub polls : (shape : Shape) (words : List ℕ) (roles : List Role) (log : List Entry) (core : Core shape words roles log) (id : ℕ) (desk : Desk) → get_elem? roles id ≡ some (Writer desk) → (call : WriterCall) (rows : List Row) (poll : ℕ) → desk.place ≡ Searching call rows poll
+pub polls : (shape : Shape) (words : List ℕ) (roles : List Role) (log : List Entry) (core : Core shape words roles log) (id : ℕ) (desk : Desk)
+    → get_elem? roles id ≡ some (Writer desk) → (call : WriterCall) (rows : List Row) (poll : ℕ) → desk.place ≡ Searching call rows poll
     → let place = departures shape (retired_at desk poll).slot in
     Core shape (set words place (get_or words place 0)) (set roles id (Writer (polled shape desk call rows poll (get_or words place 0)).0)) (log ++ ending (call_of call) (polled shape desk call rows poll (get_or words place 0)).1)
 polls shape words roles log core id desk there call rows poll is_at = let known = core.knows id (Writer desk) there in let map = map_after shape log in
@@ -42,7 +43,8 @@ polls shape words roles log core id desk there call rows poll is_at = let known 
     let at_p : AtPlace shape words map (held roles) desk.fresh desk.retired (Searching call rows poll) = subst (AtPlace shape words map (held roles) desk.fresh desk.retired) is_at known.place in
     let here : get_elem? desk.retired poll ≡ some z = got_at desk.retired poll no_retired at_p.1 in let counted = known.retired poll z here in let count = counted.1 in
     let few = core.few in let fits = core.fits.readers in let at_most = total-le (holds slot) is_reader (holds-le slot) roles in
-    let keeps_so : (u : ℕ) → keeps u (Writer desk) ≡ unused u desk.fresh + total (λ (x : Retired). only u x.slot) desk.retired + 0 = λ u. ap (λ (y : Place). unused u desk.fresh + total (λ (x : Retired). only u x.slot) desk.retired + taken u y) is_at in
+    let keeps_so : (u : ℕ) → keeps u (Writer desk) ≡ unused u desk.fresh + total (λ (x : Retired). only u x.slot) desk.retired + 0 = λ u.
+    ap (λ (y : Place). unused u desk.fresh + total (λ (x : Retired). only u x.slot) desk.retired + taken u y) is_at in
     let Taken : Desk = taking_retired desk call rows poll found in
     let Rest : Desk × Step = cond {A = Desk × Step} (nat_lt (poll + 1) (length desk.retired)) (moved_to desk (Searching call rows (poll + 1)), Going) (moved_to desk Idle, no_slot shape desk) in
     by_cases (λ v. Core shape (set words place found) (set roles id (Writer (cond {A = Desk × Step} v (Taken, Going) Rest).0)) (log ++ ending (call_of call) (cond {A = Desk × Step} v (Taken, Going) Rest).1))
@@ -56,7 +58,17 @@ polls shape words roles log core id desk there call rows poll is_at = let known 
       retired = λ j x e. let y = at_remove desk.retired poll j x e in known.retired y.0 x y.1;
       numbers = known.numbers;
     }))
-    (λ no. by_cases (λ v. Core shape (set words place found) (set roles id (Writer (cond {A = Desk × Step} v (moved_to desk (Searching call rows (poll + 1)), Going) (moved_to desk Idle, no_slot shape desk)).0)) (log ++ ending (call_of call) (cond {A = Desk × Step} v (moved_to desk (Searching call rows (poll + 1)), Going) (moved_to desk Idle, no_slot shape desk)).1))
+    (λ no. by_cases (λ v. Core shape (set words place found)
+    (set roles id (Writer (cond {A = Desk × Step} v (moved_to desk (Searching call rows (poll + 1)), Going)
+    (moved_to desk Idle, no_slot shape desk)).0)) (log ++ ending (call_of call)
+    (cond {A = Desk × Step} v (moved_to desk (Searching call rows (poll + 1)), Going) (moved_to desk Idle, no_slot shape desk)).1))
     (nat_lt (poll + 1) (length desk.retired))
-    (λ more. goes_on shape words roles log core id desk there place (moved_to desk (Searching call rows (poll + 1))) (λ u. sym (keeps_so u)) (record { place = (at_p.0, ltb-true (poll + 1) (length desk.retired) more, at_p.2); room = known.room; free = known.free; retired = known.retired; numbers = known.numbers }))
+    (λ more. goes_on shape words roles log core id desk there place (moved_to desk (Searching call rows (poll + 1))) (λ u. sym (keeps_so u))
+    (record {
+      place = (at_p.0, ltb-true (poll + 1) (length desk.retired) more, at_p.2);
+      room = known.room;
+      free = known.free;
+      retired = known.retired;
+      numbers = known.numbers;
+    }))
     (λ none. goes_on shape words roles log core id desk there place (moved_to desk Idle) (λ u. sym (keeps_so u)) (idle_desk shape words map (held roles) desk known)))

@@ -27,17 +27,24 @@ use Rattle.nr_machine.specs.declared.roles.Role.{Role}
 use Rattle.nr_machine.specs.declared.roles.Role.TheVariants.{Writer}
 use Rattle.nr_machine.specs.declared.shape.Shape.{Shape}
 
-pub puts : (shape : Shape) (words : List ℕ) (roles : List Role) (log : List Entry) (core : Core shape words roles log) (id : ℕ) (desk : Desk) → get_elem? roles id ≡ some (Writer desk) → (call : WriterCall) (rows : List Row) (slot departed index : ℕ) → desk.place ≡ Putting call rows slot departed index → index ≤ 2 * length rows
+pub puts : (shape : Shape) (words : List ℕ) (roles : List Role) (log : List Entry) (core : Core shape words roles log) (id : ℕ) (desk : Desk)
+    → get_elem? roles id ≡ some (Writer desk) → (call : WriterCall) (rows : List Row) (slot departed index : ℕ)
+    → desk.place ≡ Putting call rows slot departed index → index ≤ 2 * length rows
     → Core shape (set words (content shape slot index) (get_or (encode rows) index 0)) (set roles id (Writer (moved_to desk (Putting call rows slot departed (index + 1))))) (log ++ [])
 puts shape words roles log core id desk there call rows slot departed index is_at low_enough =
     let desk' = moved_to desk (Putting call rows slot departed (index + 1)) in let map = map_after shape log in
     let mine = core.knows id (Writer desk) there in let putting : Puts shape words map (held roles) call rows slot departed index = subst (AtPlace shape words map (held roles) desk.fresh desk.retired) is_at mine.place in
-    let near : slot < shape.slots = putting.inside in let nobody_there : held roles slot ≡ 0 = putting.nobody in let short = putting.wants.row_set.1 in let wide = core.wide in let fits = core.fits.bound in let flat-size = length-row_words rows in let more : index < length (encode rows) = omega arith in
+    let near : slot < shape.slots = putting.inside in let nobody_there : held roles slot ≡ 0 = putting.nobody in
+    let short = putting.wants.row_set.1 in let wide = core.wide in let fits = core.fits.bound in let flat-size = length-row_words rows in
+    let more : index < length (encode rows) = omega arith in
     let w : ℕ = content shape slot index in let x : ℕ = get_or (encode rows) index 0 in let words' = set words w x in let roles' = set roles id (Writer desk') in
     let once = core.places slot near in let part = term_le (keeps slot) roles id (Writer desk) there in let one = only-same slot in
-    let keeps_so : (u : ℕ) → keeps u (Writer desk) ≡ unused u desk.fresh + total (λ (x : Retired). only u x.slot) desk.retired + only u slot = λ u. ap (λ (y : Place). unused u desk.fresh + total (λ (x : Retired). only u x.slot) desk.retired + taken u y) is_at in
+    let keeps_so : (u : ℕ) → keeps u (Writer desk) ≡ unused u desk.fresh + total (λ (x : Retired). only u x.slot) desk.retired + only u slot = λ u.
+    ap (λ (y : Place). unused u desk.fresh + total (λ (x : Retired). only u x.slot) desk.retired + taken u y) is_at in
     let all_of_it = keeps_so slot in
-    let cont : (s j : ℕ) → s ≢ slot → j ≤ 2 * (bound_of shape) → get_or words' (content shape s j) 0 ≡ get_or words (content shape s j) 0 = λ s j ne low. get_or-set_other words w (content shape s j) x 0 (λ z. ne (same_content shape s j slot index (omega arith) (omega arith) z)) in
+    let cont : (s j : ℕ) → s ≢ slot → j ≤ 2 * (bound_of shape) → get_or words' (content shape s j) 0 ≡ get_or words (content shape s j)
+    0 = λ s j ne low. get_or-set_other words w (content shape s j) x 0
+    (λ z. ne (same_content shape s j slot index (omega arith) (omega arith) z)) in
     let dep : (s : ℕ) → get_or words' (departures shape s) 0 ≡ get_or words (departures shape s) 0 = λ s. get_or-set_other words w (departures shape s) x 0 (λ z. content_apart shape slot index s (omega arith) (sym z)) in
     let here : get_or words' w 0 ≡ x = get_or-set_same words w x 0 (omega (arith, content_inside shape slot index near (omega arith))) in
     let still : (s : ℕ) → held roles' s ≡ held roles s = λ s. let same = total-set (holds s) roles id (Writer desk) (Writer desk') there in omega arith in
@@ -56,7 +63,9 @@ puts shape words roles log core id desk there call rows slot departed index is_a
       };
       room = mine.room;
       free = free_more shape words words' map map (held roles) (held roles') desk.fresh (λ s near' from. left s (λ z. let u = unused-free slot desk.fresh (omega arith) in omega arith)) mine.free;
-      retired = retired_more shape words words' map map (held roles) (held roles') desk.retired (λ s near' listed. left s (λ z. let l' : 0 < total (λ (x : Retired). only slot x.slot) desk.retired = subst (λ (y : ℕ). 0 < total (λ (x : Retired). only y x.slot) desk.retired) z listed in omega arith)) mine.retired;
+      retired = retired_more shape words words' map map (held roles) (held roles') desk.retired
+          (λ s near' listed. left s (λ z. let l' : 0 < total (λ (x : Retired). only slot x.slot) desk.retired = subst
+          (λ (y : ℕ). 0 < total (λ (x : Retired). only y x.slot) desk.retired) z listed in omega arith)) mine.retired;
       numbers = mine.numbers;
     } in
     off_keys shape words roles log core id (Writer desk) (Writer desk') w x (omega arith) there refl refl (λ s _. sym (keeps_so s))

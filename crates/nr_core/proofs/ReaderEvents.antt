@@ -65,7 +65,9 @@ after_arrive state log r k is_core ok = let shape = state.shape in let words = s
     let t = arrives shape (suc i) (suc i) k near words roles log core there_is in let w : ℕ = get_or words k 0 in let words' = set words k ((w + ARRIVE) % 2 ^ 64) in
     let state_now : KeyState = state_of (map_after shape log) k in
     let Told : Option KeyState → Type 0 = λ shows. IsCoreState (moved state (Arrive r k)) (log ++ answering r (model.Find k) find_reply shows) in
-    let finish : (x : Grip) (y : Reply) → t.after ≡ Reader (suc i) x → t.entries ≡ entry (suc i) (model.Find k) y ∷ [] → cond (is_filled w) (hold.On (slot_of w) None) hold.Nothing ≡ erased x → ((s : ℕ) (rows : List Row) (b : Bool) → x ≡ On s rows b → y ≡ reply.Rows rows) → Told (Some state_now)
+    let finish : (x : Grip) (y : Reply) → t.after ≡ Reader (suc i) x → t.entries ≡ entry (suc i) (model.Find k) y ∷ []
+    → cond (is_filled w) (hold.On (slot_of w) None) hold.Nothing ≡ erased x
+    → ((s : ℕ) (rows : List Row) (b : Bool) → x ≡ On s rows b → y ≡ reply.Rows rows) → Told (Some state_now)
     = λ x y role es held_so replied.
     let c1 : Core shape words' (set roles (suc i) (Reader (suc i) x)) (log ++ entry (suc i) (model.Find k) y ∷ []) = subst (λ (p : Role × List Entry). Core shape words' (set roles (suc i) p.0) (log ++ p.1)) (λ j. (role j, es j)) t.core in
     let reply_is : y ≡ find_reply state_now = reply_of shape log (suc i) (model.Find k) y c1.legal in
@@ -75,11 +77,18 @@ after_arrive state log r k is_core ok = let shape = state.shape in let words = s
       fit = fit_reader shape.readers roles state.holds state.desk f i low x (cond (is_filled w) (hold.On (slot_of w) None) hold.Nothing) held_so;
       found = subst (λ (p : ℕ × Reply). AllFound (set roles (suc i) (Reader (suc i) x)) (log ++ entry p.0 (model.Find k) p.1 ∷ [])) (λ j. (number j, reply_is j))
           (found_set roles log (entry (suc i) (model.Find k) y ∷ []) i x is_core.found (λ j ne. one_other (suc i) (suc j) (model.Find k) y (λ z. ne (omega arith)))
-          (λ s rows b is. (k, entries_of log (suc i), of-append (suc i) log (entry (suc i) (model.Find k) y ∷ []) ∙ ap (λ (l : List Entry). entries_of log (suc i) ++ l) (one_same (suc i) (suc i) (model.Find k) y refl ∙ ap (λ (a : Reply). entry (suc i) (model.Find k) a ∷ []) (replied s rows b is)))));
+          (λ s rows b is. (
+            k,
+            entries_of log (suc i),
+            of-append (suc i) log (entry (suc i) (model.Find k) y ∷ [])
+                ∙ ap (λ (l : List Entry). entries_of log (suc i) ++ l) (one_same (suc i) (suc i) (model.Find k) y refl
+                ∙ ap (λ (a : Reply). entry (suc i) (model.Find k) a ∷ []) (replied s rows b is)),
+          )));
     } in
     subst Told (sym (shown_is state roles log core f.writer k near)) (⊎_elim
     (λ (a : (s : ℕ) × (rows : List Row) × (name_number w ≡ suc s) × (s < shape.slots) × IsRowSet (bound_of shape) rows × (t.after ≡ Reader (suc i) (On s rows false)) × (t.entries ≡ entry (suc i) (model.Find k) (reply.Rows rows) ∷ [])).
-    let n = names_one w a.0 a.2 in finish (On a.0 a.1 false) (reply.Rows a.1) a.5 a.6 (ap (λ v. cond v (hold.On (slot_of w) None) hold.Nothing) n.0 ∙ ap (λ (s : ℕ). hold.On s None) n.1) (λ s rows b is. ap reply.Rows (same_rows a.0 s a.1 rows false b is)))
+    let n = names_one w a.0 a.2 in finish (On a.0 a.1 false) (reply.Rows a.1) a.5 a.6 (ap (λ v. cond v (hold.On (slot_of w) None) hold.Nothing) n.0
+    ∙ ap (λ (s : ℕ). hold.On s None) n.1) (λ s rows b is. ap reply.Rows (same_rows a.0 s a.1 rows false b is)))
     (λ (a : (name_number w ≡ 0) × (t.after ≡ Reader (suc i) Nothing) × (t.entries ≡ entry (suc i) (model.Find k) reply.Hole ∷ [])).
     finish Nothing reply.Hole a.1 a.2 (ap (λ v. cond v (hold.On (slot_of w) None) hold.Nothing) (names_none w a.0)) (λ s rows b is. absurd (no_grip s rows b is)))
     t.told)
@@ -93,14 +102,17 @@ after_ask state log r k is_core ok = let shape = state.shape in let words = stat
     let there_is : get_elem? roles (suc i) ≡ some (Reader (suc i) Nothing) = o.1 ∙ ap (λ (x : Grip). some (Reader (suc i) x)) free in
     let t = asks shape (suc i) (suc i) k near words roles log core there_is in let w : ℕ = get_or words k 0 in let words' = set words k (bit_or w 1) in
     let y : Reply = ask_word w in
-    let c0 : Core shape words' (set roles (suc i) (Reader (suc i) Nothing)) (log ++ entry (suc i) (model.Ask k) y ∷ []) = subst (λ (p : Role × List Entry). Core shape words' (set roles (suc i) p.0) (log ++ p.1)) (λ j. (t.told.0 j, t.told.1 j)) t.core in
+    let c0 : Core shape words' (set roles (suc i) (Reader (suc i) Nothing)) (log ++ entry (suc i) (model.Ask k) y ∷ []) = subst
+    (λ (p : Role × List Entry). Core shape words' (set roles (suc i) p.0) (log ++ p.1)) (λ j. (t.told.0 j, t.told.1 j)) t.core in
     let c1 : Core shape words' roles (log ++ entry (suc i) (model.Ask k) y ∷ []) = subst (λ (l : List Role). Core shape words' l (log ++ entry (suc i) (model.Ask k) y ∷ [])) (set_again roles (suc i) (Reader (suc i) Nothing) there_is) c0 in
     let state_now : KeyState = state_of (map_after shape log) k in let reply_is : y ≡ ask_reply state_now = reply_of shape log (suc i) (model.Ask k) y c1.legal in
     subst (λ shows. IsCoreState (moved state (Ask r k)) (log ++ answering r (model.Ask k) ask_reply shows)) (sym (shown_is state roles log core f.writer k near)) (record {
       roles = roles;
       core = subst (λ (p : ℕ × Reply). Core shape words' roles (log ++ entry p.0 (model.Ask k) p.1 ∷ [])) (λ j. (number j, reply_is j)) c1;
       fit = f;
-      found = subst (λ (p : ℕ × Reply). AllFound roles (log ++ entry p.0 (model.Ask k) p.1 ∷ [])) (λ j. (number j, reply_is j)) (subst (λ (l : List Role). AllFound l (log ++ entry (suc i) (model.Ask k) y ∷ [])) (set_again roles (suc i) (Reader (suc i) Nothing) there_is)
+      found = subst (λ (p : ℕ × Reply). AllFound roles (log ++ entry p.0 (model.Ask k) p.1 ∷ [])) (λ j. (number j, reply_is j))
+          (subst (λ (l : List Role). AllFound l (log ++ entry (suc i) (model.Ask k) y ∷ []))
+          (set_again roles (suc i) (Reader (suc i) Nothing) there_is)
           (found_set roles log (entry (suc i) (model.Ask k) y ∷ []) i Nothing is_core.found (λ j ne. one_other (suc i) (suc j) (model.Ask k) y (λ z. ne (omega arith))) (λ s rows b is. absurd (no_grip s rows b is))));
     })
 
@@ -124,7 +136,15 @@ after_depart state log r is_core ok = let shape = state.shape in let words = sta
     let there_is : get_elem? roles (suc i) ≡ some (Reader (suc i) (On s m b)) = o.1 ∙ ap (λ (y : Grip). some (Reader (suc i) y)) x.3 in
     let holds_it : get_or state.holds i hold.Nothing ≡ erased (On s m b) = o.2 ∙ ap erased x.3 in
     let t = departs shape (suc i) (suc i) s m b words roles log core there_is in
-    let Result : ℕ → Type 0 = λ u. IsCoreState (record { shape = shape; words = set words (departures shape u) ((get_or words (departures shape u) 0 + 1) % 2 ^ 64); holds = set state.holds i hold.Nothing; desk = state.desk; made = state.made ++ Add (departures shape u) 1 ∷ [] }) (log ++ []) in
+    let Result : ℕ → Type 0 = λ u. IsCoreState (record {
+      shape = shape;
+      words = set words (departures shape u)
+          ((get_or words (departures shape u) 0 + 1) % 2 ^ 64);
+      holds = set state.holds i hold.Nothing;
+      desk = state.desk;
+      made = state.made ++ Add
+          (departures shape u) 1 ∷ [];
+    }) (log ++ []) in
     subst (λ (y : Hold). Result (slot_in y)) (sym holds_it) (record {
       roles = set roles (suc i) (Reader (suc i) Nothing);
       core = subst (λ (p : Role × List Entry). Core shape (set words (departures shape s) ((get_or words (departures shape s) 0 + 1) % 2 ^ 64)) (set roles (suc i) p.0) (log ++ p.1)) (λ j. (t.told.0 j, t.told.1 j)) t.core;
@@ -179,12 +199,23 @@ after_read state log r p is_core ok = let shape = state.shape in let words = sta
     let there_is : get_elem? roles (suc i) ≡ some (Reader (suc i) (On s m b)) = o.1 ∙ ap (λ (y : Grip). some (Reader (suc i) y)) x.3 in
     let holds_it : get_or state.holds i hold.Nothing ≡ erased (On s m b) = o.2 ∙ ap erased x.3 in let b' : Bool = cond (nat_eq p 0) true b in
     let t = reads shape (suc i) (suc i) s m b p x.4 words roles log core there_is in let w : ℕ = get_or words (content shape s p) 0 in
-    let known : hold.On s (cond (nat_eq p 0) (Some w) (cond b (Some (length m)) None)) ≡ erased (On s m b') = ap (hold.On s) (by_cases (λ v. (v ≡ true → p ≡ 0) → cond v (Some w) (cond b (Some (length m)) None) ≡ cond (cond v true b) (Some (length m)) None) (nat_eq p 0)
+    let known : hold.On s (cond (nat_eq p 0) (Some w) (cond b (Some (length m)) None)) ≡ erased (On s m b') = ap (hold.On s)
+    (by_cases (λ v. (v ≡ true → p ≡ 0) → cond v (Some w) (cond b (Some (length m)) None) ≡ cond (cond v true b) (Some (length m)) None)
+    (nat_eq p 0)
     (λ _ zero_so. ap (λ (n : ℕ). Some n) (t.told.0 ∙ ap (λ (n : ℕ). get_or (encode m) n 0) (zero_so refl))) (λ _ _. refl) (eqb-true p 0)) in
-    let Result : Hold → Type 0 = λ y. IsCoreState (record { shape = shape; words = set words (content shape (slot_in y) p) (get_or words (content shape (slot_in y) p) 0); holds = set state.holds i (read_hold p (get_or words (content shape (slot_in y) p) 0) y); desk = state.desk; made = state.made ++ Load (content shape (slot_in y) p) ∷ [] }) (log ++ []) in
+    let Result : Hold → Type 0 = λ y. IsCoreState (record {
+      shape = shape;
+      words = set words (content shape (slot_in y) p)
+          (get_or words (content shape (slot_in y) p) 0);
+      holds = set state.holds i (read_hold p (get_or words (content shape (slot_in y) p) 0) y);
+      desk = state.desk;
+      made = state.made ++ Load (content shape (slot_in y) p) ∷ [];
+    }) (log ++ []) in
     subst Result (sym holds_it) (record {
       roles = set roles (suc i) (Reader (suc i) (On s m b'));
       core = subst (λ (call : Role × List Entry). Core shape (set words (content shape s p) w) (set roles (suc i) call.0) (log ++ call.1)) (λ j. (t.told.1 j, t.told.2 j)) t.core;
       fit = fit_reader shape.readers roles state.holds state.desk f i low (On s m b') (hold.On s (cond (nat_eq p 0) (Some w) (cond b (Some (length m)) None))) known;
-      found = found_set roles log [] i (On s m b') is_core.found (λ _ _. refl) (λ t rows a is. subst (λ (l : List Row). Found (log ++ []) (suc i) l) (same_rows s t m rows b' a is) (found_quiet log [] (suc i) m refl (is_core.found i s m b there_is)));
+      found = found_set roles log [] i (On s m b') is_core.found (λ _ _. refl)
+          (λ t rows a is. subst (λ (l : List Row). Found (log ++ []) (suc i) l) (same_rows s t m rows b' a is)
+          (found_quiet log [] (suc i) m refl (is_core.found i s m b there_is)));
     })

@@ -16,11 +16,18 @@ use Rattle.nr_machine.specs.declared.roles.Role.{Role}
 use Rattle.nr_machine.specs.declared.roles.Role.TheVariants.{Note, Reader, Writer}
 use Rattle.nr_machine.specs.declared.shape.Shape.{Shape}
 
-seated : (shape : Shape) (words : List ℕ) (roles : List Role) (log : List Entry) (role : Role) → Core shape words roles log → is_writer role ≡ 0 → is_reader role + total is_reader roles ≤ shape.readers → ((s : ℕ) → holds s role ≡ 0) → ((s : ℕ) → keeps s role ≡ 0)
+seated : (shape : Shape) (words : List ℕ) (roles : List Role) (log : List Entry) (role : Role) → Core shape words roles log → is_writer role ≡ 0
+    → is_reader role + total is_reader roles ≤ shape.readers → ((s : ℕ) → holds s role ≡ 0) → ((s : ℕ) → keeps s role ≡ 0)
     → Knows shape words (map_after shape log) (held (roles ++ role ∷ [])) role → Core shape words (roles ++ role ∷ []) log
 seated shape words roles log role core no_writer few no_hold no_keep own = let roles' = roles ++ role ∷ [] in let map = map_after shape log in
     let still : (s : ℕ) → held roles' s ≡ held roles s = λ s. omega (arith, total-append (holds s) roles (role ∷ []), no_hold s) in
-    let left : (s : ℕ) → Left shape words words map map (held roles) (held roles') s = λ s. record { contents = λ _ _. refl; nobody = λ z. still s ∙ z; deps = λ _. refl; sum = ap (λ (y : ℕ). (get_or words (departures shape s) 0 + y) % 2 ^ 40) (still s) } in
+    let left : (s : ℕ) → Left shape words words map map (held roles) (held roles') s = λ s. record {
+      contents = λ _ _. refl;
+      nobody = λ z. still s
+          ∙ z;
+      deps = λ _. refl;
+      sum = ap (λ (y : ℕ). (get_or words (departures shape s) 0 + y) % 2 ^ 40) (still s);
+    } in
     let others : (u : Role) → Knows shape words map (held roles) u → Knows shape words map (held roles') u = λ u. elim u as (λ v. Knows shape words map (held roles) v → Knows shape words map (held roles') v) [
       | Writer desk ↦ λ t. desk_more shape words words map map (held roles) (held roles') (λ _ _. refl) (λ _ _. refl) desk (λ _. refl) (λ s _ _. left s) t
       | Reader reader grip ↦ λ t. holding_more shape words words map map (held roles) (held roles') grip (λ _ _ _ _ _. refl) t

@@ -71,7 +71,9 @@ module _ (shape : Shape) (words : List ℕ) (map : PartialMap) (hold : ℕ → �
         retired = t.retired;
         numbers = t.numbers;
       })
-      (λ no. let full : shape.slots ≤ desk.fresh = ltb-false desk.fresh shape.slots no in by_cases (λ v. AtDesk shape words map hold (cond {A = Desk × Step} v (moved_to desk Idle, no_slot shape desk) (moved_to desk (Searching call rows 0), Going)).0) (nat_eq (length desk.retired) 0)
+      (λ no. let full : shape.slots ≤ desk.fresh = ltb-false desk.fresh shape.slots no in
+      by_cases (λ v. AtDesk shape words map hold (cond {A = Desk × Step} v (moved_to desk Idle, no_slot shape desk)
+      (moved_to desk (Searching call rows 0), Going)).0) (nat_eq (length desk.retired) 0)
       (λ _. t)
       (λ some_there. let n : length desk.retired ≢ 0 = eqb-false (length desk.retired) 0 some_there in record { place = (wants, omega arith, full); room = t.room; free = t.free; retired = t.retired; numbers = t.numbers }))
 
@@ -80,7 +82,9 @@ module _ (shape : Shape) (words : List ℕ) (map : PartialMap) (hold : ℕ → �
       (taking_fresh shape desk call rows, Going)
       (cond {A = Desk × Step} (nat_eq (length desk.retired) 0) (moved_to desk Idle, no_slot shape desk) (moved_to desk (Searching call rows 0), Going))).0) ≡ keeps s (Writer (moved_to desk Idle))) (nat_lt desk.fresh shape.slots)
       (λ yes. let u = unused-next s desk.fresh in omega arith)
-      (λ no. by_cases (λ v. keeps s (Writer (cond {A = Desk × Step} v (moved_to desk Idle, no_slot shape desk) (moved_to desk (Searching call rows 0), Going)).0) ≡ keeps s (Writer (moved_to desk Idle))) (nat_eq (length desk.retired) 0) (λ _. refl) (λ _. refl))
+      (λ no. by_cases (λ v. keeps s (Writer (cond {A = Desk × Step} v (moved_to desk Idle, no_slot shape desk)
+      (moved_to desk (Searching call rows 0), Going)).0) ≡ keeps s (Writer (moved_to desk Idle))) (nat_eq (length desk.retired) 0) (λ _. refl)
+      (λ _. refl))
 
   settle_quiet : (c : Call) → ending c (settled shape desk call rows).1 ≡ []
   settle_quiet c = by_cases (λ v. ending c (cond {A = Desk × Step} v
@@ -91,18 +95,29 @@ module _ (shape : Shape) (words : List ℕ) (map : PartialMap) (hold : ℕ → �
 
 module _ (shape : Shape) (words : List ℕ) (roles : List Role) (log : List Entry) (core : Core shape words roles log) (id : ℕ) (desk : Desk) (there : get_elem? roles id ≡ some (Writer desk)) (place : ℕ) where
   -- a step on a word that stays, which ends the call with a reply and changes no state
-  pub ends : (desk' : Desk) (c : Call) (y : Reply) → call_key c < shape.keys → reply_at (bound_of shape) c (state_of (map_after shape log) (call_key c)) ≡ y → state_after (bound_of shape) c (state_of (map_after shape log) (call_key c)) ≡ state_of (map_after shape log) (call_key c)
+  pub ends : (desk' : Desk) (c : Call) (y : Reply) → call_key c < shape.keys
+      → reply_at (bound_of shape) c (state_of (map_after shape log) (call_key c)) ≡ y
+      → state_after (bound_of shape) c (state_of (map_after shape log) (call_key c)) ≡ state_of (map_after shape log) (call_key c)
       → ((s : ℕ) → keeps s (Writer desk') ≡ keeps s (Writer desk)) → AtDesk shape words (map_after shape log) (held roles) desk' → Core shape (set words place (get_or words place 0)) (set roles id (Writer desk')) (log ++ entry 0 c y ∷ [])
   ends desk' c y near replies stays same own = desk_step shape words roles log (entry 0 c y ∷ []) core id desk desk' place there (legal-more shape log (entry 0 c y) core.legal (sym (replies_so shape log c ∙ replies)))
-      (λ j. dite (ℕ_discrete j (call_key c)) (λ e. ap (state_of (map_after shape (log ++ entry 0 c y ∷ []))) e ∙ state_same shape log (entry 0 c y) near ∙ stays ∙ ap (state_of (map_after shape log)) (sym e)) (λ ne. state_other shape log (entry 0 c y) j ne))
+      (λ j. dite (ℕ_discrete j (call_key c)) (λ e. ap (state_of (map_after shape (log ++ entry 0 c y ∷ []))) e
+      ∙ state_same shape log (entry 0 c y) near ∙ stays ∙ ap (state_of (map_after shape log)) (sym e))
+      (λ ne. state_other shape log (entry 0 c y) j ne))
       (λ s _. same s) own
 
   -- a step on a word that stays, after which the call goes on or has no slot
-  pub goes_on : (desk' : Desk) → ((s : ℕ) → keeps s (Writer desk') ≡ keeps s (Writer desk)) → AtDesk shape words (map_after shape log) (held roles) desk' → Core shape (set words place (get_or words place 0)) (set roles id (Writer desk')) (log ++ [])
-  goes_on desk' same own = desk_step shape words roles log [] core id desk desk' place there (subst (IsLegal (opening_map shape)) (sym (append-nil log)) core.legal) (λ j. ap (λ l. state_of (map_after shape l) j) (append-nil log)) (λ s _. same s) own
+  pub goes_on : (desk' : Desk) → ((s : ℕ) → keeps s (Writer desk') ≡ keeps s (Writer desk)) → AtDesk shape words (map_after shape log)
+      (held roles) desk' → Core shape (set words place (get_or words place 0)) (set roles id (Writer desk')) (log ++ [])
+  goes_on desk' same own = desk_step shape words roles log [] core id desk desk' place there
+      (subst (IsLegal (opening_map shape)) (sym (append-nil log)) core.legal) (λ j. ap (λ l. state_of (map_after shape l) j) (append-nil log))
+      (λ s _. same s) own
 
   -- a call that finds a slot for its set, or polls, or has none
   pub settles : (call : WriterCall) (rows : List Row) → ((s : ℕ) → keeps s (Writer (moved_to desk Idle)) ≡ keeps s (Writer desk)) → Wants shape words (map_after shape log) (held roles) call rows
       → Core shape (set words place (get_or words place 0)) (set roles id (Writer (settled shape desk call rows).0)) (log ++ ending (call_of call) (settled shape desk call rows).1)
-  settles call rows same wants = subst (λ (es : List Entry). Core shape (set words place (get_or words place 0)) (set roles id (Writer (settled shape desk call rows).0)) (log ++ es)) (sym (settle_quiet shape words (map_after shape log) (held roles) desk call rows (call_of call)))
-      (goes_on (settled shape desk call rows).0 (λ s. settle_keeps shape words (map_after shape log) (held roles) desk call rows s ∙ same s) (settle_desk shape words (map_after shape log) (held roles) desk call rows (idle_desk shape words (map_after shape log) (held roles) desk (core.knows id (Writer desk) there)) wants))
+  settles call rows same wants = subst (λ (es : List Entry). Core shape (set words place (get_or words place 0))
+      (set roles id (Writer (settled shape desk call rows).0)) (log ++ es))
+      (sym (settle_quiet shape words (map_after shape log) (held roles) desk call rows (call_of call)))
+      (goes_on (settled shape desk call rows).0 (λ s. settle_keeps shape words (map_after shape log) (held roles) desk call rows s ∙ same s)
+      (settle_desk shape words (map_after shape log) (held roles) desk call rows
+      (idle_desk shape words (map_after shape log) (held roles) desk (core.knows id (Writer desk) there)) wants))

@@ -40,13 +40,19 @@ spelt_set shape words s rows wide near sp = let short = sp.0.1 in let size = len
     place_is : (i : ℕ) → content shape s 0 + i ≡ content shape s i
     place_is i = omega arith
 
-pub shown_is : (state : State) (roles : List Role) (log : List Entry) → Core state.shape state.words roles log → get_elem? roles 0 ≡ some (Writer state.desk) → (k : ℕ) → k < state.shape.keys → shown state k ≡ Some (state_of (map_after state.shape log) k)
+pub shown_is : (state : State) (roles : List Role) (log : List Entry) → Core state.shape state.words roles log
+    → get_elem? roles 0 ≡ some (Writer state.desk) → (k : ℕ) → k < state.shape.keys → shown state k ≡ Some (state_of (map_after state.shape log) k)
 shown_is state roles log core writer_there k near = let shape = state.shape in let words = state.words in let w = get_or words k 0 in let z = state_of (map_after shape log) k in
     let listed : number_at state.desk k ≡ number_of z = (core.knows 0 (Writer state.desk) writer_there).numbers.agree k near in
     let Given : ℕ → Option KeyState = λ s. option_map (λ rows. key.Rows (number_at state.desk k) rows) (decode (slot_content shape words s)) in let B : Option KeyState = Given (slot_of w) in
     let C : Option KeyState = Some (cond (has_ask w) (key.Asked (slot_of w)) (key.Hole (slot_of w))) in
-    let go : (z : KeyState) → ShowsState shape words w z → number_at state.desk k ≡ number_of z → cond (is_filled w) B C ≡ Some z = λ z. elim z as (λ v. ShowsState shape words w v → number_at state.desk k ≡ number_of v → cond (is_filled w) B C ≡ Some v) [
-      | key.Hole n ↦ λ t _. let even = t.1 in ap (λ b. cond b B C) (names_none w t.0) ∙ ap (λ b. Some (cond {A = KeyState} b (key.Asked (slot_of w)) (key.Hole (slot_of w)))) (ne_eqb (w % 2) 1 (λ z. omega arith)) ∙ ap (λ (m : ℕ). Some (key.Hole m)) t.2
+    let go : (z : KeyState) → ShowsState shape words w z → number_at state.desk k ≡ number_of z → cond (is_filled w) B C ≡ Some z = λ z. elim z as
+    (λ v. ShowsState shape words w v → number_at state.desk k ≡ number_of v → cond (is_filled w) B C ≡ Some v) [
+      | key.Hole n ↦ λ t _. let even = t.1 in ap (λ b. cond b B C) (names_none w t.0)
+          ∙ ap (λ b. Some (cond {A = KeyState} b (key.Asked (slot_of w)) (key.Hole (slot_of w)))) (ne_eqb (w % 2) 1 (λ z. omega arith))
+          ∙ ap (λ (m : ℕ). Some (key.Hole m)) t.2
       | key.Asked n ↦ λ t _. ap (λ b. cond b B C) (names_none w t.0) ∙ ap (λ b. Some (cond {A = KeyState} b (key.Asked (slot_of w)) (key.Hole (slot_of w)))) (eq-eqb (w % 2) 1 t.1) ∙ ap (λ (m : ℕ). Some (key.Asked m)) t.2
-      | key.Rows number rows ↦ λ t same. let n = names_one w t.0 t.1 in ap (λ b. cond b B C) n.0 ∙ ap Given n.1 ∙ ap (option_map (λ rows. key.Rows (number_at state.desk k) rows)) (spelt_set shape words t.0 rows core.wide t.2 t.3) ∙ ap (λ (m : ℕ). Some (key.Rows m rows)) same
+      | key.Rows number rows ↦ λ t same. let n = names_one w t.0 t.1 in
+          ap (λ b. cond b B C) n.0 ∙ ap Given n.1 ∙ ap (option_map (λ rows. key.Rows (number_at state.desk k) rows))
+          (spelt_set shape words t.0 rows core.wide t.2 t.3) ∙ ap (λ (m : ℕ). Some (key.Rows m rows)) same
     ] in go z (core.shows k near) listed

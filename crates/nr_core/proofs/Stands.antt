@@ -66,7 +66,8 @@ erased_is (On t rows b) s n e = let z : suc t ≡ suc s = ap hold_number e in le
 within_words : (index : ℕ) (size : Option ℕ) (rows : List Row) → (size ≡ None) ⊎ (size ≡ Some (length rows)) → if_beyond index size ≡ None → index < length (encode rows)
 within_words index size rows known ok = ⊎_elim {A = size ≡ None} {B = size ≡ Some (length rows)}
     (λ unread. let g = guard (nat_eq index 0) None refuse.OutOfRange (ap (if_beyond index) (sym unread) ∙ ok) in let zero_is : index ≡ 0 = eqb-true index 0 g.0 in omega arith)
-    (λ read. let g = guard (nat_le index (2 * length rows)) None refuse.OutOfRange (ap (if_beyond index) (sym read) ∙ ok) in let low : index ≤ 2 * length rows = leb-true index (2 * length rows) g.0 in let size_of = length-row_words rows in omega arith)
+    (λ read. let g = guard (nat_le index (2 * length rows)) None refuse.OutOfRange (ap (if_beyond index) (sym read) ∙ ok) in
+    let low : index ≤ 2 * length rows = leb-true index (2 * length rows) g.0 in let size_of = length-row_words rows in omega arith)
     known
 
 -- a read that is not refused gives the word of the set at the index
@@ -103,19 +104,24 @@ holder story is_core r s n low e = let state = story.state in let size = is_core
     let part = term_le (holds s) is_core.roles (suc i) (Reader (suc i) (On s x.0 x.1)) there_is in let one = only-same s in (omega arith, (is_core.core.knows (suc i) (Reader (suc i) (On s x.0 x.1)) there_is).0)
 
 pub stands : (story : Story) → IsCoreState story.state story.history → Stands story
-stands story is_core = let state = story.state in let shape = state.shape in let core = is_core.core in let roles = is_core.roles in let sums = state_sums state roles is_core.fit in let desk = core.knows 0 (Writer state.desk) is_core.fit.writer in record {
-  legal = core.legal;
-  shows = shown_is state roles story.history core is_core.fit.writer;
-  numbered = desk.numbers.agree;
-  accounted = record {
-    placed = λ s near. omega (arith, core.places s near, (sums s).1);
-    named_in = named_inside state.shape state.words roles story.history core;
-    retired_in = λ i low. (desk.retired i (get_or state.desk.retired i no_retired) (got_at state.desk.retired i no_retired low)).0;
-    named_count = λ k s near e. core.counts k s near e ∙ ap (λ (n : ℕ). (get_or state.words (departures shape s) 0 + n) % 2 ^ 40) (sums s).0;
-    retired_count = λ i low. let x = get_or state.desk.retired i no_retired in (desk.retired i x (got_at state.desk.retired i no_retired low)).1 ∙ ap (λ (n : ℕ). (get_or state.words (departures shape x.slot) 0 + n) % 2 ^ 40) (sums x.slot).0;
-    unheld = λ s near mine. sym (sums s).0 ∙ dite (dec_le state.desk.fresh s) (λ l. (desk.free s l near).0)
-        (λ l. let u : unused s state.desk.fresh ≡ 0 = ap (λ b. cond {A = ℕ} b 1 0) (lt-leb state.desk.fresh s (omega arith)) in taken_nobody shape state.words (map_of story) (held roles) state.desk.fresh state.desk.retired s state.desk.place desk.place (omega arith));
-  };
-  held = λ r s n low e. holding story is_core r s n low e;
-  sent = λ k near. sends_are_answered_lem shape.keys (bound_of shape) shape.first_number k story.history core.legal near;
-}
+stands story is_core = let state = story.state in let shape = state.shape in let core = is_core.core in let roles = is_core.roles in
+    let sums = state_sums state roles is_core.fit in let desk = core.knows 0 (Writer state.desk) is_core.fit.writer in record {
+      legal = core.legal;
+      shows = shown_is state roles story.history core is_core.fit.writer;
+      numbered = desk.numbers.agree;
+      accounted = record {
+        placed = λ s near. omega (arith, core.places s near, (sums s).1);
+        named_in = named_inside state.shape state.words roles story.history core;
+        retired_in = λ i low. (desk.retired i (get_or state.desk.retired i no_retired) (got_at state.desk.retired i no_retired low)).0;
+        named_count = λ k s near e. core.counts k s near e ∙ ap (λ (n : ℕ). (get_or state.words (departures shape s) 0 + n) % 2 ^ 40) (sums s).0;
+        retired_count = λ i low. let x = get_or state.desk.retired i no_retired in
+            (desk.retired i x (got_at state.desk.retired i no_retired low)).1
+            ∙ ap (λ (n : ℕ). (get_or state.words (departures shape x.slot) 0 + n) % 2 ^ 40) (sums x.slot).0;
+        unheld = λ s near mine. sym (sums s).0 ∙ dite (dec_le state.desk.fresh s) (λ l. (desk.free s l near).0)
+            (λ l. let u : unused s state.desk.fresh ≡ 0 = ap (λ b. cond {A = ℕ} b 1 0) (lt-leb state.desk.fresh s (omega arith)) in
+            taken_nobody shape state.words (map_of story) (held roles) state.desk.fresh state.desk.retired s state.desk.place desk.place
+            (omega arith));
+      };
+      held = λ r s n low e. holding story is_core r s n low e;
+      sent = λ k near. sends_are_answered_lem shape.keys (bound_of shape) shape.first_number k story.history core.legal near;
+    }

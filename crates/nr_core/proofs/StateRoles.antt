@@ -160,7 +160,9 @@ weights s (u ∷ rest) (y ∷ l) i size at_each = let o = at_each 0 (omega arith
 pub state_sums : (state : State) (roles : List Role) → Fit state.shape.readers roles state.holds state.desk → (s : ℕ) → (held roles s ≡ total (on s) state.holds) × (total (keeps s) roles ≡ keeps s (Writer state.desk))
 state_sums state roles f s = go roles f.callers f.writer f.readers
   where
-    go : (l : List Role) → length l ≡ suc state.shape.readers → get_elem? l 0 ≡ some (Writer state.desk) → ((i : ℕ) → i < state.shape.readers → (x : Grip) × (get_elem? l (suc i) ≡ some (Reader (suc i) x)) × (get_or state.holds i hold.Nothing ≡ erased x))
+    go : (l : List Role) → length l ≡ suc state.shape.readers → get_elem? l 0 ≡ some (Writer state.desk)
+        → ((i : ℕ) → i < state.shape.readers → (x : Grip) × (get_elem? l (suc i) ≡ some (Reader (suc i) x))
+        × (get_or state.holds i hold.Nothing ≡ erased x))
         → (held l s ≡ total (on s) state.holds) × (total (keeps s) l ≡ keeps s (Writer state.desk))
     go [] size w r = absurd (omega arith)
     go (u ∷ rest) size w r = let size' = f.size in let role : u ≡ Writer state.desk = some-injective u (Writer state.desk) w in

@@ -141,7 +141,9 @@ pub polled_slots : (state : State) (polls : List Poll) (p : ℕ) → p < length 
     → map (λ (x : Poll). x.slot) (polls ++ poll_at state p ∷ []) ≡ map (λ (x : Retired). x.slot) (take (p + 1) state.desk.retired)
 polled_slots state polls p within slots = let plus_one : p + 1 ≡ suc p = omega arith in let s = (get_or state.desk.retired p no_retired).slot in
     map-append (λ (x : Poll). x.slot) polls (poll_at state p ∷ []) ∙ ap (λ (l : List ℕ). l ++ s ∷ []) slots
-    ∙ sym (ap (λ (j : ℕ). map (λ (x : Retired). x.slot) (take j state.desk.retired)) plus_one ∙ ap (map (λ (x : Retired). x.slot)) (take-suc state.desk.retired p no_retired within) ∙ map-append (λ (x : Retired). x.slot) (take p state.desk.retired) (get_or state.desk.retired p no_retired ∷ []))
+    ∙ sym (ap (λ (j : ℕ). map (λ (x : Retired). x.slot) (take j state.desk.retired)) plus_one ∙ ap (map (λ (x : Retired). x.slot))
+    (take-suc state.desk.retired p no_retired within) ∙ map-append (λ (x : Retired). x.slot) (take p state.desk.retired)
+    (get_or state.desk.retired p no_retired ∷ []))
 
 -- a sweep goes on by a slot that was found held, and its polls are no more than the readers
 sweep_more : (state : State) (log : List Entry) (polls : List Poll) (p c : ℕ) → IsCoreState state log → p < length state.desk.retired → c < state.shape.readers → Notes state polls p
@@ -182,9 +184,12 @@ reader_swept state words hs made polls step s = record { few = s.few; sweep = go
     go (Searching call rows p) t = keeps_notes state words hs made polls p step t
     go (Putting call rows u departed i) t = tt
 
-other_reader : (state : State) (i : ℕ) (x : Hold) → i < length state.holds → ((u : ℕ) → 0 < on u x → 0 < holds_at state i u) → (c u : ℕ) → 0 < on u (get_or (set state.holds i x) c hold.Nothing) → (0 < holds_at state c u) ⊎ (retirements_of state u ≡ 0)
+other_reader : (state : State) (i : ℕ) (x : Hold) → i < length state.holds → ((u : ℕ) → 0 < on u x → 0 < holds_at state i u) → (c u : ℕ)
+    → 0 < on u (get_or (set state.holds i x) c hold.Nothing) → (0 < holds_at state c u) ⊎ (retirements_of state u ≡ 0)
 other_reader state i x within own c u = dite (ℕ_discrete c i)
-    (λ same. λ more. inl (subst (λ (j : ℕ). 0 < holds_at state j u) (sym same) (own u (subst (λ (y : Hold). 0 < on u y) (ap (λ (j : ℕ). get_or (set state.holds i x) j hold.Nothing) same ∙ get_or-set_same state.holds i x hold.Nothing within) more))))
+    (λ same. λ more. inl (subst (λ (j : ℕ). 0 < holds_at state j u) (sym same)
+    (own u (subst (λ (y : Hold). 0 < on u y) (ap (λ (j : ℕ). get_or (set state.holds i x) j hold.Nothing) same
+    ∙ get_or-set_same state.holds i x hold.Nothing within) more))))
     (λ ne. λ more. inl (subst (λ (y : Hold). 0 < on u y) (get_or-set_other state.holds i c x hold.Nothing ne) more))
 
 read_same : (i w u : ℕ) (x : Hold) → on u (read_hold i w x) ≡ on u x
@@ -196,7 +201,17 @@ module _ (shape : Shape) (words : List ℕ) (hs : List Hold) (made : List Operat
   with_desk desk = record { shape = shape; words = words; holds = hs; desk = desk; made = made }
 
   no_notes : (desk : Desk) (polls : List Poll) → polls ≡ [] → Notes (with_desk desk) polls 0
-  no_notes desk polls none = subst (λ (l : List Poll). Notes (with_desk desk) l 0) (sym none) (record { notes = []; size = refl; polled = refl; slots = refl; which = λ i s c e. absurd (some-ne-none (s, c) (sym e)); noted = λ i s c e. absurd (some-ne-none (s, c) (sym e)); distinct = λ c. omega arith })
+  no_notes desk polls none = subst (λ (l : List Poll). Notes (with_desk desk) l 0) (sym none)
+      (record {
+        notes = [];
+        size = refl;
+        polled = refl;
+        slots = refl;
+        which = λ i s c e. absurd (some-ne-none (s, c) (sym e));
+        noted = λ i s c e.
+            absurd (some-ne-none (s, c) (sym e));
+        distinct = λ c. omega arith;
+      })
 
   abbrev Good : List Poll → Desk × Step → Type 0
   Good polls o = AtSweep (with_desk o.0) polls o.0.place
@@ -204,19 +219,24 @@ module _ (shape : Shape) (words : List ℕ) (hs : List Hold) (made : List Operat
   settle_good : (desk : Desk) (call : WriterCall) (rows : List Row) (polls : List Poll) → polls ≡ [] → Good polls (settled shape desk call rows)
   settle_good desk call rows polls none = by_cases (λ v. Good polls (cond {A = Desk × Step} v (taking_fresh shape desk call rows, Going)
       (cond {A = Desk × Step} (nat_eq (length desk.retired) 0) (moved_to desk Idle, no_slot shape desk) (moved_to desk (Searching call rows 0), Going)))) (nat_lt desk.fresh shape.slots) (λ _. tt)
-      (λ _. by_cases (λ v. Good polls (cond {A = Desk × Step} v (moved_to desk Idle, no_slot shape desk) (moved_to desk (Searching call rows 0), Going))) (nat_eq (length desk.retired) 0) (λ _. tt) (λ _. no_notes (moved_to desk (Searching call rows 0)) polls none))
+      (λ _. by_cases (λ v. Good polls (cond {A = Desk × Step} v (moved_to desk Idle, no_slot shape desk)
+      (moved_to desk (Searching call rows 0), Going))) (nat_eq (length desk.retired) 0) (λ _. tt)
+      (λ _. no_notes (moved_to desk (Searching call rows 0)) polls none))
 
   look_good : (desk : Desk) (call : WriterCall) (w : ℕ) → Good [] (looked shape desk call w)
   look_good desk (Find k) w = by_cases (λ v. Good [] (cond {A = Desk × Step} v (moved_to desk (Reading (Find k) (slot_of w) []), Going) (moved_to desk Idle, ended reply.Hole))) (is_filled w) (λ _. refl) (λ _. tt)
   look_good desk (Update k b) w = by_cases (λ v. Good [] (cond {A = Desk × Step} v (moved_to desk (Reading (Update k b) (slot_of w) []), Going) (moved_to desk Idle, ended reply.Dropped))) (is_filled w) (λ _. refl) (λ _. tt)
-  look_good desk (Replace k rows) w = by_cases (λ v. Good [] (cond {A = Desk × Step} v (settled shape desk (Replace k rows) rows) (moved_to desk Idle, ended reply.Dropped))) (is_filled w) (λ _. settle_good desk (Replace k rows) rows [] refl) (λ _. tt)
+  look_good desk (Replace k rows) w = by_cases (λ v. Good []
+      (cond {A = Desk × Step} v (settled shape desk (Replace k rows) rows) (moved_to desk Idle, ended reply.Dropped))) (is_filled w)
+      (λ _. settle_good desk (Replace k rows) rows [] refl) (λ _. tt)
   look_good desk (Evict k) w = by_cases (λ v. Good [] (cond {A = Desk × Step} v (moved_to desk (Leaving k), Going) (moved_to desk Idle, ended reply.Nothing))) (is_filled w) (λ _. tt) (λ _. tt)
   look_good desk (Fill k number rows) w = let call = Fill k number rows in let F : Desk × Step = fill_asked shape desk call number rows (slot_of w) in
       by_cases (λ v. Good [] (cond {A = Desk × Step} v (moved_to desk Idle, ended reply.Already) (cond {A = Desk × Step} (has_ask w) F (moved_to desk Idle, ended reply.NotAsked)))) (is_filled w) (λ _. tt)
       (λ _. by_cases (λ v. Good [] (cond {A = Desk × Step} v F (moved_to desk Idle, ended reply.NotAsked))) (has_ask w)
       (λ _. by_cases (λ v. Good [] (cond {A = Desk × Step} v (settled shape desk call rows) (moved_to desk Idle, ended reply.Stale))) (nat_eq (slot_of w) number) (λ _. settle_good desk call rows [] refl) (λ _. tt))
       (λ _. tt))
-  look_good desk (Cancel k) w = by_cases (λ v. Good [] (cond {A = Desk × Step} v (moved_to desk Idle, ended reply.Nothing) (cond {A = Desk × Step} (has_ask w) (cancel_asked desk k (slot_of w)) (moved_to desk Idle, ended reply.Nothing)))) (is_filled w) (λ _. tt)
+  look_good desk (Cancel k) w = by_cases (λ v. Good [] (cond {A = Desk × Step} v (moved_to desk Idle, ended reply.Nothing)
+      (cond {A = Desk × Step} (has_ask w) (cancel_asked desk k (slot_of w)) (moved_to desk Idle, ended reply.Nothing)))) (is_filled w) (λ _. tt)
       (λ _. by_cases (λ v. Good [] (cond {A = Desk × Step} v (cancel_asked desk k (slot_of w)) (moved_to desk Idle, ended reply.Nothing))) (has_ask w)
       (λ _. by_cases (λ v. Good [] (cond {A = Desk × Step} v (moved_to desk (Withdrawing k), Going) (moved_to desk Idle, ended reply.Worn))) (nat_lt (slot_of w) last_number) (λ _. tt) (λ _. tt))
       (λ _. tt))
@@ -238,7 +258,9 @@ module _ (shape : Shape) (words : List ℕ) (hs : List Hold) (made : List Operat
   decoded_good desk call (Some rows) polls none = decided_good desk call rows polls none
 
   read_good : (desk : Desk) (call : WriterCall) (s : ℕ) (got : List ℕ) (polls : List Poll) → polls ≡ [] → Good polls (read_on shape desk call s got)
-  read_good desk call s got polls none = by_cases (λ v. Good polls (cond {A = Desk × Step} v (decoded shape desk call (decode got)) (moved_to desk (Reading call s got), Going))) (nat_eq (length got) (2 * get_or got 0 0 + 1)) (λ _. decoded_good desk call (decode got) polls none) (λ _. none)
+  read_good desk call s got polls none = by_cases (λ v. Good polls
+      (cond {A = Desk × Step} v (decoded shape desk call (decode got)) (moved_to desk (Reading call s got), Going)))
+      (nat_eq (length got) (2 * get_or got 0 0 + 1)) (λ _. decoded_good desk call (decode got) polls none) (λ _. none)
 
 got_or : (l : List Hold) (j : ℕ) (x : Hold) → get_elem? l j ≡ some x → (get_or l j hold.Nothing ≡ x) × (j < length l)
 got_or [] j x e = absurd (some-ne-none x (sym e))
@@ -247,7 +269,8 @@ got_or (y ∷ l) (suc j) x e = let t = got_or l j x e in (t.0, omega (arith, t.1
 
 some_holder : (s : ℕ) (l : List Hold) (r : ℕ) → 0 < total (on s) l → 0 < length (holders_from r s l)
 some_holder s [] r more = absurd (omega arith)
-some_holder s (x ∷ l) r more = by_cases (λ v. (on s x ≡ cond v 1 0) → 0 < length (cond v (r ∷ holders_from (r + 1) s l) (holders_from (r + 1) s l))) (is_on s x) (λ _ _. omega arith) (λ _ none. some_holder s l (r + 1) (omega arith)) (counts_as x)
+some_holder s (x ∷ l) r more = by_cases (λ v. (on s x ≡ cond v 1 0) → 0 < length (cond v (r ∷ holders_from (r + 1) s l) (holders_from (r + 1) s l)))
+    (is_on s x) (λ _ _. omega arith) (λ _ none. some_holder s l (r + 1) (omega arith)) (counts_as x)
   where
     counts_as : (x : Hold) → on s x ≡ cond (is_on s x) 1 0
     counts_as hold.Nothing = refl
@@ -263,18 +286,39 @@ abbrev has_holder : Poll → Type 0
 has_holder x = 0 < length x.holders
 
 -- the writer's step after its look
-go_swept : (state : State) (log : List Entry) (polls : List Poll) → IsCoreState state log → Swept state polls → (p : Place) → state.desk.place ≡ p → (w : ℕ) → w ≡ get_or state.words (target_of (going state.shape state.desk p)) 0 → (words : List ℕ) (made : List Operation)
+go_swept : (state : State) (log : List Entry) (polls : List Poll) → IsCoreState state log → Swept state polls → (p : Place) → state.desk.place ≡ p
+    → (w : ℕ) → w ≡ get_or state.words (target_of (going state.shape state.desk p)) 0 → (words : List ℕ) (made : List Operation)
     → let desk' = (went state.shape state.desk p w).0 in Swept (record { shape = state.shape; words = words; holds = state.holds; desk = desk'; made = made })
-    (elim p as (λ _. List Poll) [ Idle ↦ polls | Reading call s got ↦ polls | Leaving k ↦ polls | Withdrawing k ↦ polls | Searching call rows i ↦ cond (nat_eq (w % 2 ^ 40) ((retired_at state.desk i).arrivals % 2 ^ 40)) polls (polls ++ poll_at state i ∷ []) | Putting call rows s e i ↦ polls ])
+    (elim p as (λ _. List Poll) [
+      | Idle ↦ polls
+      | Reading call s got ↦ polls
+      | Leaving k ↦ polls
+      | Withdrawing k ↦ polls
+      | Searching call rows i ↦ cond
+          (nat_eq (w % 2 ^ 40) ((retired_at state.desk i).arrivals % 2 ^ 40)) polls (polls ++ poll_at state i ∷ [])
+      | Putting call rows s e i ↦ polls
+    ])
 go_swept state log polls is_core s Idle is w w_is words made = record { few = s.few; sweep = subst (λ (p : Place). AtSweep (with_desk state.shape words state.holds made state.desk) polls p) (sym is) tt; held = s.held }
-go_swept state log polls is_core s (Reading call t got) is w w_is words made = record { few = s.few; sweep = read_good state.shape words state.holds made state.desk call t (got ++ w ∷ []) polls (subst (AtSweep state polls) is s.sweep); held = s.held }
+go_swept state log polls is_core s (Reading call t got) is w w_is words made = record {
+  few = s.few;
+  sweep = read_good state.shape words state.holds made state.desk call t (got ++ w ∷ []) polls
+      (subst (AtSweep state polls) is s.sweep);
+  held = s.held;
+}
 go_swept state log polls is_core s (Leaving k) is w w_is words made = record { few = s.few; sweep = tt; held = s.held }
 go_swept state log polls is_core s (Withdrawing k) is w w_is words made = record { few = s.few; sweep = tt; held = s.held }
-go_swept state log polls is_core s (Putting call rows t e i) is w w_is words made = record { few = s.few; sweep = by_cases (λ v. Good state.shape words state.holds made polls (cond {A = Desk × Step} v (moved_to state.desk (Putting call rows t e (i + 1)), Going) (swapped state.desk w, ended reply.Done))) (nat_le i (2 * length rows)) (λ _. tt) (λ _. tt); held = s.held }
+go_swept state log polls is_core s (Putting call rows t e i) is w w_is words made = record {
+  few = s.few;
+  sweep = by_cases (λ v. Good state.shape words state.holds made polls
+      (cond {A = Desk × Step} v (moved_to state.desk (Putting call rows t e (i + 1)), Going) (swapped state.desk w, ended reply.Done)))
+      (nat_le i (2 * length rows)) (λ _. tt) (λ _. tt);
+  held = s.held;
+}
 go_swept state log polls is_core sw (Searching call rows p) is w w_is words made =
     let shape = state.shape in let desk = state.desk in let z = get_or desk.retired p no_retired in let s = z.slot in let n : Notes state polls p = subst (AtSweep state polls) is sw.sweep in
     let known = is_core.core.knows 0 (Writer desk) is_core.fit.writer in
-    let at_p : AtPlace shape state.words (map_after shape log) (held is_core.roles) desk.fresh desk.retired (Searching call rows p) = subst (AtPlace shape state.words (map_after shape log) (held is_core.roles) desk.fresh desk.retired) is known.place in let within = at_p.1 in
+    let at_p : AtPlace shape state.words (map_after shape log) (held is_core.roles) desk.fresh desk.retired (Searching call rows p) = subst
+    (AtPlace shape state.words (map_after shape log) (held is_core.roles) desk.fresh desk.retired) is known.place in let within = at_p.1 in
     let count = (known.retired p z (got_at desk.retired p no_retired within)).1 in
     let Taken : Desk = taking_retired desk call rows p w in
     let Rest : Desk × Step = cond {A = Desk × Step} (nat_lt (p + 1) (length desk.retired)) (moved_to desk (Searching call rows (p + 1)), Going) (moved_to desk Idle, no_slot shape desk) in
@@ -287,22 +331,34 @@ go_swept state log polls is_core sw (Searching call rows p) is w w_is words made
     let more = sweep_more state log polls p who.0 is_core within (omega arith) n here desk refl in let few = more.1 in let polled = n.polled in
     record {
       few = omega (arith, length-append polls (poll_at state p ∷ []));
-      sweep = by_cases (λ v. Good shape words state.holds made (polls ++ poll_at state p ∷ []) (cond {A = Desk × Step} v (moved_to desk (Searching call rows (p + 1)), Going) (moved_to desk Idle, no_slot shape desk))) (nat_lt (p + 1) (length desk.retired))
+      sweep = by_cases (λ v. Good shape words state.holds made (polls ++ poll_at state p ∷ [])
+          (cond {A = Desk × Step} v (moved_to desk (Searching call rows (p + 1)), Going) (moved_to desk Idle, no_slot shape desk)))
+          (nat_lt (p + 1) (length desk.retired))
           (λ _. let m = more.0 in record { notes = m.notes; size = m.size; polled = m.polled; slots = m.slots; which = m.which; noted = m.noted; distinct = m.distinct }) (λ _. tt);
       held = all_more has_holder polls (poll_at state p) (record { slot = 0; holders = [] }) sw.held (some_holder s state.holds 1 held_there);
     })
 
 pub swept_event : (state : State) (log : List Entry) (polls : List Poll) (event : Event) → IsCoreState state log → Swept state polls → refusal state event ≡ None → Swept (moved state event) (polls_after state polls event)
 swept_event state log polls (Arrive r k) is_core s ok =
-    let g = guard (has_reader state.shape r && has_key state.shape k) (if_holding (hold_of state r)) refuse.OutOfRange ok in let b = both (has_reader state.shape r) (has_key state.shape k) g.0 in let i = reader_in state.shape r b.0 in let lo = i.0 in let hi = i.1 in let size = is_core.fit.size in
+    let g = guard (has_reader state.shape r && has_key state.shape k) (if_holding (hold_of state r)) refuse.OutOfRange ok in
+    let b = both (has_reader state.shape r) (has_key state.shape k) g.0 in let i = reader_in state.shape r b.0 in let lo = i.0 in let hi = i.1 in
+    let size = is_core.fit.size in
     reader_swept state (moved state (Arrive r k)).words (moved state (Arrive r k)).holds (moved state (Arrive r k)).made polls (arrive_step state log is_core r k (omega arith) (ltb-true k state.shape.keys b.1)) s
 swept_event state log polls (Ask r k) is_core s ok = reader_swept state (moved state (Ask r k)).words state.holds (moved state (Ask r k)).made polls (λ c u more. inl more) s
 swept_event state log polls (Read r p) is_core s ok =
-    let g = guard (has_reader state.shape r) (if_unreadable p (hold_of state r)) refuse.OutOfRange ok in let i = reader_in state.shape r g.0 in let lo = i.0 in let hi = i.1 in let size = is_core.fit.size in let w = get_or state.words (content state.shape (slot_in (hold_of state r)) p) 0 in
-    reader_swept state (moved state (Read r p)).words (moved state (Read r p)).holds (moved state (Read r p)).made polls (other_reader state (r - 1) (read_hold p w (hold_of state r)) (omega arith) (λ u more. omega (arith, read_same p w u (hold_of state r)))) s
+    let g = guard (has_reader state.shape r) (if_unreadable p (hold_of state r)) refuse.OutOfRange ok in let i = reader_in state.shape r g.0 in
+    let lo = i.0 in let hi = i.1 in let size = is_core.fit.size in
+    let w = get_or state.words (content state.shape (slot_in (hold_of state r)) p) 0 in
+    reader_swept state (moved state (Read r p)).words (moved state (Read r p)).holds (moved state (Read r p)).made polls
+    (other_reader state (r - 1) (read_hold p w (hold_of state r)) (omega arith) (λ u more. omega (arith, read_same p w u (hold_of state r)))) s
 swept_event state log polls (Depart r) is_core s ok =
     let g = guard (has_reader state.shape r) (if_not_holding (hold_of state r)) refuse.OutOfRange ok in let i = reader_in state.shape r g.0 in let lo = i.0 in let hi = i.1 in let size = is_core.fit.size in
     reader_swept state (moved state (Depart r)).words (moved state (Depart r)).holds (moved state (Depart r)).made polls (other_reader state (r - 1) hold.Nothing (omega arith) (λ u more. absurd (omega arith))) s
 swept_event state log polls (FindAgain r k) is_core s ok = reader_swept state (moved state (FindAgain r k)).words state.holds (moved state (FindAgain r k)).made polls (λ c u more. inl more) s
-swept_event state log polls (Start call) is_core s ok = record { few = omega arith; sweep = look_good state.shape (moved state (Start call)).words state.holds (moved state (Start call)).made state.desk call (get_or state.words (key_of call) 0); held = λ i low. absurd (omega arith) }
+swept_event state log polls (Start call) is_core s ok = record {
+  few = omega arith;
+  sweep = look_good state.shape (moved state (Start call)).words
+      state.holds (moved state (Start call)).made state.desk call (get_or state.words (key_of call) 0);
+  held = λ i low. absurd (omega arith);
+}
 swept_event state log polls Go is_core s ok = go_swept state log polls is_core s state.desk.place refl (get_or state.words (target_of (going state.shape state.desk state.desk.place)) 0) refl (moved state Go).words (moved state Go).made

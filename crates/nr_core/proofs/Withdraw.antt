@@ -48,7 +48,9 @@ withdraws shape words roles log core id desk there at is_at = let known = core.k
     let leaves : state_after (bound_of shape) (model.Cancel at) (state_of map at) ≡ key.Hole (n + 1) = ap (state_after (bound_of shape) (model.Cancel at)) p.asked ∙ c.1 in
     let shown : ShowsState shape words w (key.Asked n) = subst (ShowsState shape words w) p.asked (core.shows at p.near) in
     let numbers : List ℕ = set desk.numbers at (number_at desk at + 1) in
-    subst (λ (l : List Retired). Core shape (set words at x) (set roles id (Writer (record { place = Idle; fresh = desk.fresh; retired = l; numbers = numbers }))) (log ++ entry 0 (model.Cancel at) reply.Cancelled ∷ [])) (asked_retires_none shape words w n desk.retired shown)
+    subst (λ (l : List Retired). Core shape (set words at x)
+    (set roles id (Writer (record { place = Idle; fresh = desk.fresh; retired = l; numbers = numbers })))
+    (log ++ entry 0 (model.Cancel at) reply.Cancelled ∷ [])) (asked_retires_none shape words w n desk.retired shown)
     (swap_step shape words roles log core id desk there at x (model.Cancel at) reply.Cancelled numbers p.near refl (ap (reply_at (bound_of shape) (model.Cancel at)) p.asked ∙ c.0)
     (subst (ShowsState shape words x) (sym leaves) (hole.0, hole.1, hole.2 ∙ ap (λ (m : ℕ). m + 1) listed))
     (λ s. ap (taken s) is_at ∙ sym (ap (only (suc s)) hole.0 ∙ only-zero s)) (λ s e. absurd (omega (arith, hole.0)))

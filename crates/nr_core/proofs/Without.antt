@@ -56,21 +56,30 @@ IsWithout counts outcome = outcome.1 ≡ Ended (writer.NoSlot counts)
 
 module _ (shape : Shape) (desk : Desk) (counts : NoSlot) where
   pub settle_none : (call : WriterCall) (rows : List Row) → IsWithout counts (settled shape desk call rows) → NoneLeft shape desk (settled shape desk call rows) counts × (shape.slots ≤ desk.fresh) × (length desk.retired ≡ 0)
-  settle_none call rows = by_cases (λ v. let o = cond {A = Desk × Step} v (taking_fresh shape desk call rows, Going) (cond {A = Desk × Step} (nat_eq (length desk.retired) 0) (moved_to desk Idle, no_slot shape desk) (moved_to desk (Searching call rows 0), Going)) in
+  settle_none call rows = by_cases (λ v. let o = cond {A = Desk × Step} v (taking_fresh shape desk call rows, Going)
+      (cond {A = Desk × Step} (nat_eq (length desk.retired) 0) (moved_to desk Idle, no_slot shape desk)
+      (moved_to desk (Searching call rows 0), Going)) in
       IsWithout counts o → NoneLeft shape desk o counts × (shape.slots ≤ desk.fresh) × (length desk.retired ≡ 0)) (nat_lt desk.fresh shape.slots)
       (λ _ e. absurd (not_going counts e))
-      (λ full. by_cases (λ v. let o = cond {A = Desk × Step} v (moved_to desk Idle, no_slot shape desk) (moved_to desk (Searching call rows 0), Going) in IsWithout counts o → NoneLeft shape desk o counts × (shape.slots ≤ desk.fresh) × (length desk.retired ≡ 0)) (nat_eq (length desk.retired) 0)
+      (λ full. by_cases (λ v. let o = cond {A = Desk × Step} v (moved_to desk Idle, no_slot shape desk)
+      (moved_to desk (Searching call rows 0), Going) in IsWithout counts o → NoneLeft shape desk o counts × (shape.slots ≤ desk.fresh)
+      × (length desk.retired ≡ 0)) (nat_eq (length desk.retired) 0)
       (λ none e. (record { same = refl; counted = sym (ap counts_in e) }, ltb-false desk.fresh shape.slots full, eqb-true (length desk.retired) 0 none))
       (λ _ e. absurd (not_going counts e)))
 
   -- a look ends so at a fill of an asked key, and where a filled key's set is replaced
   pub look_none : (call : WriterCall) (w : ℕ) → IsWithout counts (looked shape desk call w)
-      → NoneLeft shape desk (looked shape desk call w) counts × (shape.slots ≤ desk.fresh) × (length desk.retired ≡ 0) × ((state : KeyState) (words : List ℕ) → ShowsState shape words w state → reply_at (bound_of shape) (call_of call) state ≡ reply.Done)
+      → NoneLeft shape desk (looked shape desk call w) counts × (shape.slots ≤ desk.fresh) × (length desk.retired ≡ 0)
+      × ((state : KeyState) (words : List ℕ) → ShowsState shape words w state → reply_at (bound_of shape) (call_of call) state ≡ reply.Done)
   look_none (Find k) w = by_cases (λ v. let o = cond {A = Desk × Step} v (moved_to desk (Reading (Find k) (slot_of w) []), Going) (moved_to desk Idle, ended reply.Hole) in
-      IsWithout counts o → NoneLeft shape desk o counts × (shape.slots ≤ desk.fresh) × (length desk.retired ≡ 0) × ((state : KeyState) (words : List ℕ) → ShowsState shape words w state → reply_at (bound_of shape) (model.Find k) state ≡ reply.Done)) (is_filled w)
+      IsWithout counts o → NoneLeft shape desk o counts × (shape.slots ≤ desk.fresh) × (length desk.retired ≡ 0)
+      × ((state : KeyState) (words : List ℕ) → ShowsState shape words w state → reply_at (bound_of shape) (model.Find k) state ≡ reply.Done))
+      (is_filled w)
       (λ _ e. absurd (not_going counts e)) (λ _ e. absurd (not_reply counts reply.Hole e))
   look_none (Update k batch) w = by_cases (λ v. let o = cond {A = Desk × Step} v (moved_to desk (Reading (Update k batch) (slot_of w) []), Going) (moved_to desk Idle, ended reply.Dropped) in
-      IsWithout counts o → NoneLeft shape desk o counts × (shape.slots ≤ desk.fresh) × (length desk.retired ≡ 0) × ((state : KeyState) (words : List ℕ) → ShowsState shape words w state → reply_at (bound_of shape) (model.Update k batch) state ≡ reply.Done)) (is_filled w)
+      IsWithout counts o → NoneLeft shape desk o counts × (shape.slots ≤ desk.fresh) × (length desk.retired ≡ 0)
+      × ((state : KeyState) (words : List ℕ) → ShowsState shape words w state → reply_at (bound_of shape) (model.Update k batch)
+      state ≡ reply.Done)) (is_filled w)
       (λ _ e. absurd (not_going counts e)) (λ _ e. absurd (not_reply counts reply.Dropped e))
   look_none (Replace k rows) w = by_cases (λ v. is_filled w ≡ v → let o = cond {A = Desk × Step} v (settled shape desk (Replace k rows) rows) (moved_to desk Idle, ended reply.Dropped) in
       IsWithout counts o → NoneLeft shape desk o counts × (shape.slots ≤ desk.fresh) × (length desk.retired ≡ 0) × ((state : KeyState) (words : List ℕ) → ShowsState shape words w state → replace_reply state ≡ reply.Done)) (is_filled w)
@@ -86,15 +95,20 @@ module _ (shape : Shape) (desk : Desk) (counts : NoSlot) where
       filled_state_of (key.Asked n) words shows filled = absurd (unfilled filled (names_none w shows.0))
       filled_state_of (key.Rows n old) words shows filled = refl
   look_none (Evict k) w = by_cases (λ v. let o = cond {A = Desk × Step} v (moved_to desk (Leaving k), Going) (moved_to desk Idle, ended reply.Nothing) in
-      IsWithout counts o → NoneLeft shape desk o counts × (shape.slots ≤ desk.fresh) × (length desk.retired ≡ 0) × ((state : KeyState) (words : List ℕ) → ShowsState shape words w state → reply_at (bound_of shape) (model.Evict k) state ≡ reply.Done)) (is_filled w)
+      IsWithout counts o → NoneLeft shape desk o counts × (shape.slots ≤ desk.fresh) × (length desk.retired ≡ 0)
+      × ((state : KeyState) (words : List ℕ) → ShowsState shape words w state → reply_at (bound_of shape) (model.Evict k) state ≡ reply.Done))
+      (is_filled w)
       (λ _ e. absurd (not_going counts e)) (λ _ e. absurd (not_reply counts reply.Nothing e))
-  look_none (Fill k number rows) w = by_cases (λ v. is_filled w ≡ v → let o = cond {A = Desk × Step} v (moved_to desk Idle, ended reply.Already) (cond {A = Desk × Step} (has_ask w) (fill_asked shape desk (Fill k number rows) number rows (slot_of w)) (moved_to desk Idle, ended reply.NotAsked)) in
+  look_none (Fill k number rows) w = by_cases (λ v. is_filled w ≡ v → let o = cond {A = Desk × Step} v (moved_to desk Idle, ended reply.Already)
+      (cond {A = Desk × Step} (has_ask w) (fill_asked shape desk (Fill k number rows) number rows (slot_of w))
+      (moved_to desk Idle, ended reply.NotAsked)) in
       IsWithout counts o → NoneLeft shape desk o counts × (shape.slots ≤ desk.fresh) × (length desk.retired ≡ 0) × ((state : KeyState) (words : List ℕ) → ShowsState shape words w state → fill_reply number state ≡ reply.Done)) (is_filled w)
       (λ _ _ e. absurd (not_reply counts reply.Already e))
       (λ unfilled _. by_cases (λ v. let o = cond {A = Desk × Step} v (fill_asked shape desk (Fill k number rows) number rows (slot_of w)) (moved_to desk Idle, ended reply.NotAsked) in
       IsWithout counts o → NoneLeft shape desk o counts × (shape.slots ≤ desk.fresh) × (length desk.retired ≡ 0) × ((state : KeyState) (words : List ℕ) → ShowsState shape words w state → fill_reply number state ≡ reply.Done)) (has_ask w)
       (λ asked. by_cases (λ v. let o = cond {A = Desk × Step} v (settled shape desk (Fill k number rows) rows) (moved_to desk Idle, ended reply.Stale) in
-      IsWithout counts o → NoneLeft shape desk o counts × (shape.slots ≤ desk.fresh) × (length desk.retired ≡ 0) × ((state : KeyState) (words : List ℕ) → ShowsState shape words w state → fill_reply number state ≡ reply.Done)) (nat_eq (slot_of w) number)
+      IsWithout counts o → NoneLeft shape desk o counts × (shape.slots ≤ desk.fresh) × (length desk.retired ≡ 0)
+      × ((state : KeyState) (words : List ℕ) → ShowsState shape words w state → fill_reply number state ≡ reply.Done)) (nat_eq (slot_of w) number)
       (λ own e. let n = settle_none (Fill k number rows) rows e in (n.0, n.1, n.2, λ state words shows. asked_state_of state words shows unfilled asked own))
       (λ _ e. absurd (not_reply counts reply.Stale e)))
       (λ _ e. absurd (not_reply counts reply.NotAsked e)))
@@ -110,7 +124,8 @@ module _ (shape : Shape) (desk : Desk) (counts : NoSlot) where
       (λ _. by_cases (λ v. let o = cond {A = Desk × Step} v (cancel_asked desk k (slot_of w)) (moved_to desk Idle, ended reply.Nothing) in
       IsWithout counts o → NoneLeft shape desk o counts × (shape.slots ≤ desk.fresh) × (length desk.retired ≡ 0) × ((state : KeyState) (words : List ℕ) → ShowsState shape words w state → cancel_reply state ≡ reply.Done)) (has_ask w)
       (λ _. by_cases (λ v. let o = cond {A = Desk × Step} v (moved_to desk (Withdrawing k), Going) (moved_to desk Idle, ended reply.Worn) in
-      IsWithout counts o → NoneLeft shape desk o counts × (shape.slots ≤ desk.fresh) × (length desk.retired ≡ 0) × ((state : KeyState) (words : List ℕ) → ShowsState shape words w state → cancel_reply state ≡ reply.Done)) (nat_lt (slot_of w) last_number)
+      IsWithout counts o → NoneLeft shape desk o counts × (shape.slots ≤ desk.fresh) × (length desk.retired ≡ 0)
+      × ((state : KeyState) (words : List ℕ) → ShowsState shape words w state → cancel_reply state ≡ reply.Done)) (nat_lt (slot_of w) last_number)
       (λ _ e. absurd (not_going counts e)) (λ _ e. absurd (not_reply counts reply.Worn e)))
       (λ _ e. absurd (not_reply counts reply.Nothing e)))
 
@@ -135,6 +150,8 @@ module _ (shape : Shape) (desk : Desk) (counts : NoSlot) where
   polled_none call rows p found = by_cases (λ v. let o = cond {A = Desk × Step} v (taking_retired desk call rows p found, Going) (polls_on shape desk call rows p) in
       IsWithout counts o → NoneLeft shape desk o counts × (length desk.retired ≤ p + 1) × (v ≡ false)) (same_count found (retired_at desk p).arrivals)
       (λ _ e. absurd (not_going counts e))
-      (λ _. by_cases (λ v. let o = cond {A = Desk × Step} v (moved_to desk (Searching call rows (p + 1)), Going) (moved_to desk Idle, no_slot shape desk) in IsWithout counts o → NoneLeft shape desk o counts × (length desk.retired ≤ p + 1) × (false ≡ false)) (nat_lt (p + 1) (length desk.retired))
+      (λ _. by_cases (λ v. let o = cond {A = Desk × Step} v (moved_to desk (Searching call rows (p + 1)), Going)
+      (moved_to desk Idle, no_slot shape desk) in IsWithout counts o → NoneLeft shape desk o counts × (length desk.retired ≤ p + 1)
+      × (false ≡ false)) (nat_lt (p + 1) (length desk.retired))
       (λ _ e. absurd (not_going counts e))
       (λ last e. (record { same = refl; counted = sym (ap counts_in e) }, ltb-false (p + 1) (length desk.retired) last, refl)))

@@ -39,16 +39,20 @@ use Rattle.nr_model.specs.declared.states.KeyState.TheVariants as key
 use Rattle.nr_model.specs.declared.calls.Call.TheVariants as model
 use Rattle.nr_model.specs.declared.calls.Reply.TheVariants as reply
 
-decide_all : (shape : Shape) (words : List ℕ) (roles : List Role) (log : List Entry) (core : Core shape words roles log) (id : ℕ) (desk : Desk) (there : get_elem? roles id ≡ some (Writer desk)) (place : ℕ) (call : WriterCall) (rows : List Row) → key_of call < shape.keys → (number : ℕ) → state_of (map_after shape log) (key_of call) ≡ key.Rows number rows → IsRowSet (bound_of shape) rows
+decide_all : (shape : Shape) (words : List ℕ) (roles : List Role) (log : List Entry) (core : Core shape words roles log) (id : ℕ) (desk : Desk)
+    (there : get_elem? roles id ≡ some (Writer desk)) (place : ℕ) (call : WriterCall) (rows : List Row) → key_of call < shape.keys → (number : ℕ)
+    → state_of (map_after shape log) (key_of call) ≡ key.Rows number rows → IsRowSet (bound_of shape) rows
     → ((u : ℕ) → keeps u (Writer (moved_to desk Idle)) ≡ keeps u (Writer desk)) → AtDesk shape words (map_after shape log) (held roles) (moved_to desk Idle)
     → Core shape (set words place (get_or words place 0)) (set roles id (Writer (decided shape desk call rows).0)) (log ++ ending (call_of call) (decided shape desk call rows).1)
-decide_all shape words roles log core id desk there place (Find k) rows near number full row_set same idle = ends shape words roles log core id desk there place (moved_to desk Idle) (model.Find k) (reply.Rows rows) near (ap (reply_at (bound_of shape) (model.Find k)) full) refl same idle
+decide_all shape words roles log core id desk there place (Find k) rows near number full row_set same idle = ends shape words roles log core id desk
+    there place (moved_to desk Idle) (model.Find k) (reply.Rows rows) near (ap (reply_at (bound_of shape) (model.Find k)) full) refl same idle
 decide_all shape words roles log core id desk there place (Fill k asked new) rows near number full row_set same idle = goes_on shape words roles log core id desk there place (moved_to desk Idle) same idle
 decide_all shape words roles log core id desk there place (Replace k new) rows near number full row_set same idle = goes_on shape words roles log core id desk there place (moved_to desk Idle) same idle
 decide_all shape words roles log core id desk there place (Evict k) rows near number full row_set same idle = goes_on shape words roles log core id desk there place (moved_to desk Idle) same idle
 decide_all shape words roles log core id desk there place (Cancel k) rows near number full row_set same idle = goes_on shape words roles log core id desk there place (moved_to desk Idle) same idle
 decide_all shape words roles log core id desk there place (Update k batch) rows near number full row_set same idle = let call = Update k batch in let c = model.Update k batch in let z = state_of (map_after shape log) k in
-    let go : (a : Result (List Row) ApplyFault) → applied (bound_of shape) rows batch ≡ a → Core shape (set words place (get_or words place 0)) (set roles id (Writer (renewed shape desk call a).0)) (log ++ ending c (renewed shape desk call a).1)
+    let go : (a : Result (List Row) ApplyFault) → applied (bound_of shape) rows batch ≡ a → Core shape (set words place (get_or words place 0))
+    (set roles id (Writer (renewed shape desk call a).0)) (log ++ ending c (renewed shape desk call a).1)
     = λ a. elim a as (λ v. applied (bound_of shape) rows batch ≡ v → Core shape (set words place (get_or words place 0)) (set roles id (Writer (renewed shape desk call v).0)) (log ++ ending c (renewed shape desk call v).1)) [
       | Ok new ↦ λ is. settles shape words roles log core id desk there place call new same (record {
         near = near;
@@ -61,7 +65,8 @@ decide_all shape words roles log core id desk there place (Update k batch) rows 
           (ap (state_after (bound_of shape) c) full ∙ ap (λ (r : Result (List Row) ApplyFault). key.Rows number (rows_or r rows)) is ∙ sym full) same idle
     ] in go (applied (bound_of shape) rows batch) refl
 
-pub reads_on : (shape : Shape) (words : List ℕ) (roles : List Role) (log : List Entry) (core : Core shape words roles log) (id : ℕ) (desk : Desk) → get_elem? roles id ≡ some (Writer desk) → (call : WriterCall) (slot : ℕ) (got : List ℕ) → desk.place ≡ Reading call slot got
+pub reads_on : (shape : Shape) (words : List ℕ) (roles : List Role) (log : List Entry) (core : Core shape words roles log) (id : ℕ) (desk : Desk)
+    → get_elem? roles id ≡ some (Writer desk) → (call : WriterCall) (slot : ℕ) (got : List ℕ) → desk.place ≡ Reading call slot got
     → let place = content shape slot (length got) in let o = read_on shape desk call slot (got ++ get_or words place 0 ∷ []) in
     Core shape (set words place (get_or words place 0)) (set roles id (Writer o.0)) (log ++ ending (call_of call) o.1)
 reads_on shape words roles log core id desk there call slot got is_at = let known = core.knows id (Writer desk) there in let map = map_after shape log in
@@ -79,7 +84,16 @@ reads_on shape words roles log core id desk there call slot got is_at = let know
     (decide_all shape words roles log core id desk there place call reading.rows reading.near reading.number reading.full (read_set shape words roles log core (key_of call) slot got reading) keeps_so idle))
     (λ no. let unfinished : length got' ≢ 2 * get_or got' 0 0 + 1 = eqb-false (length got') (2 * get_or got' 0 0 + 1) no in let more = reading.more in
     let same_len : suc (length got) ≡ length got' = omega arith in goes_on shape words roles log core id desk there place (moved_to desk (Reading call slot got')) keeps_so (record {
-      place = record { near = reading.near; names = reading.names; number = reading.number; rows = reading.rows; full = reading.full; part = read_next shape words roles log core (key_of call) slot got reading ∙ ap (λ (n : ℕ). take n (encode reading.rows)) same_len; more = omega arith };
+      place = record {
+        near = reading.near;
+        names = reading.names;
+        number = reading.number;
+        rows = reading.rows;
+        full = reading.full;
+        part = read_next
+            shape words roles log core (key_of call) slot got reading ∙ ap (λ (n : ℕ). take n (encode reading.rows)) same_len;
+        more = omega arith;
+      };
       room = known.room;
       free = known.free;
       retired = known.retired;

@@ -69,7 +69,8 @@ drawn_near : (keys : ℕ) (g : Lcg) → 0 < keys → drawn keys g < keys
 unfolding drawn
 drawn_near keys g some = omega arith
 
-pub works_few : (tries keys made : ℕ) (g : Lcg) (answered : ℕ) (known : List ℕ) (fault : Option LoadFault) (old new : Hands) (g' : Lcg) → 0 < keys → Works tries keys made g answered known fault old new g' → GainedFew keys old.reader new.reader (tries * made)
+pub works_few : (tries keys made : ℕ) (g : Lcg) (answered : ℕ) (known : List ℕ) (fault : Option LoadFault) (old new : Hands) (g' : Lcg) → 0 < keys
+    → Works tries keys made g answered known fault old new g' → GainedFew keys old.reader new.reader (tries * made)
 works_few tries keys zero g answered known fault old new g' some w = record { count = 0; low = omega arith; gained = gained_none keys old.reader new.reader (ap (λ (hands : Hands). hands.reader) w.2) }
 works_few tries keys (suc more) g answered known fault old new g' some w =
     let one = gets_few tries keys _ old w.0 w.3 w.1 (drawn_near keys g some) w.7 in

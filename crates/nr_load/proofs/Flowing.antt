@@ -37,14 +37,16 @@ GainsChange keys a b answer fills key base base' = (gained : Gained keys a b 0 0
 is_changed : (fourth : Bool) (is : Bool) (A B : Type 0) → is ≡ fourth → MatchBool fourth A B → MatchBool is A B
 is_changed fourth is A B same which = subst (λ (b : Bool). MatchBool b A B) (sym same) which
 
-pub change_evicts : (keys fills key : ℕ) (a b : Caller) (base base' : List ℕ) (answer : Evict) (done : Unit {0}) → key < keys → (fills % 4 == 0) ≡ true → base' ≡ base → EvictsKey key a b answer → GainsChange keys a b (Ok done) fills key base base'
+pub change_evicts : (keys fills key : ℕ) (a b : Caller) (base base' : List ℕ) (answer : Evict) (done : Unit {0}) → key < keys
+    → (fills % 4 == 0) ≡ true → base' ≡ base → EvictsKey key a b answer → GainsChange keys a b (Ok done) fills key base base'
 change_evicts keys fills key a b base base' evict.Evicted done low fourth same evicts = (evicts_gain keys key a b evict.Evicted low evicts, is_changed true (fills % 4 == 0) _ _ fourth ((reply.Evicted, refl), same))
 change_evicts keys fills key a b base base' evict.Nothing done low fourth same evicts = (evicts_gain keys key a b evict.Nothing low evicts, is_changed true (fills % 4 == 0) _ _ fourth ((reply.Nothing, refl), same))
 
 pub change_stays : (keys fills key : ℕ) (a b : Caller) (base base' : List ℕ) (done : Unit {0}) → (fills % 4 == 0) ≡ false → b ≡ a → StepsBase base key None base' → GainsChange keys a b (Ok done) fills key base base'
 change_stays keys fills key a b base base' done other same steps = (gained_none keys a b same, is_changed false (fills % 4 == 0) _ _ other (None, steps, refl))
 
-pub change_updates : (keys bound fills key : ℕ) (a b : Caller) (base base' : List ℕ) (batch : List Delta) (answer : Result (Unit {0}) UpdateFault) → key < keys → (fills % 4 == 0) ≡ false → StepsBase base key (Some batch) base' → UpdatesKey bound key batch a b answer
+pub change_updates : (keys bound fills key : ℕ) (a b : Caller) (base base' : List ℕ) (batch : List Delta) (answer : Result (Unit {0}) UpdateFault)
+    → key < keys → (fills % 4 == 0) ≡ false → StepsBase base key (Some batch) base' → UpdatesKey bound key batch a b answer
     → ((counts : NoSlot) → answer ≢ Err (update.NoSlot counts)) → GainsChange keys a b answer fills key base base'
 change_updates keys bound fills key a b base base' batch (Ok done) low other steps updates finds = (updates_gain keys bound key batch a b (Ok done) low updates, is_changed false (fills % 4 == 0) _ _ other (Some batch, steps, refl))
 change_updates keys bound fills key a b base base' batch (Err update.Dropped) low other steps updates finds = (updates_gain keys bound key batch a b (Err update.Dropped) low updates, (key, batch, reply.Dropped, refl, λ same. absurd (cc)))
@@ -96,7 +98,8 @@ module _ (old mid new : FlowSeen (List ℕ)) (key fills fills' : ℕ) (long : le
   filled = turns_gain GivesRow old mid (turn.Filled key) spends
 
   abbrev with_change : (answer : Result (Unit {0}) UpdateFault) → GainsChange mid.map.shape.keys mid.writer new.writer answer fills' key mid.source new.source → Gained old.map.shape.keys old.writer new.writer 0 1
-  with_change answer change = gained_then old.map.shape.keys old.writer mid.writer new.writer 0 1 0 0 filled (gained_of mid.map.shape.keys old.map.shape.keys mid.writer new.writer new.writer 0 0 (ap (λ (t : Table). t.shape.keys) map) refl change.0)
+  with_change answer change = gained_then old.map.shape.keys old.writer mid.writer new.writer 0 1 0 0 filled
+      (gained_of mid.map.shape.keys old.map.shape.keys mid.writer new.writer new.writer 0 0 (ap (λ (t : Table). t.shape.keys) map) refl change.0)
 
   filled_round : (later : List Entry) → Changes mid.writer.number fills' key mid.source later new.source
       → IsRound old.writer.number fills old.source (entry old.writer.number (call.Fill spends.post.upquery.key spends.post.upquery.number spends.answers.rows) reply.Done ∷ later) fills' new.source
@@ -140,9 +143,13 @@ pub so_far_none : (a w : Caller) (base : List ℕ) → w ≡ a → base ≡ repl
 so_far_none a w base same is = record { count = 0; gained = gained_none a.table.shape.keys a w same; fills_are = refl; turns = 0; rounds = (refl, refl, is) }
 
 -- one turn more gains
-abbrev with_turn : (a : Caller) (old new : FlowSeen (List ℕ)) (what : Turned) (fills fills' : ℕ) → old.map ≡ a.table → (far : SoFar a old.writer fills old.source) → (turn : TurnsOnce old new what fills fills') → Gained a.table.shape.keys a new.writer 0 (far.count + turn.count)
+abbrev with_turn : (a : Caller) (old new : FlowSeen (List ℕ)) (what : Turned) (fills fills' : ℕ) → old.map ≡ a.table
+    → (far : SoFar a old.writer fills old.source) → (turn : TurnsOnce old new what fills fills') → Gained a.table.shape.keys a new.writer 0
+    (far.count + turn.count)
 with_turn a old new what fills fills' own far turn =
-    gained_then a.table.shape.keys a old.writer new.writer 0 far.count 0 turn.count far.gained (gained_of old.map.shape.keys a.table.shape.keys old.writer new.writer new.writer 0 turn.count (ap (λ (t : Table). t.shape.keys) own) refl turn.gained)
+    gained_then a.table.shape.keys a old.writer new.writer 0 far.count 0 turn.count far.gained
+    (gained_of old.map.shape.keys a.table.shape.keys old.writer new.writer new.writer 0 turn.count (ap (λ (t : Table). t.shape.keys) own) refl
+    turn.gained)
 
 more_rounds : (by keys turns : ℕ) (before entries : List Entry) (what : Turned) (fills fills' : ℕ) (base base' : List ℕ) → what ≢ turned.Wrong → Rounds by keys turns before fills base → IsTurn what by fills base entries fills' base'
     → (more : ℕ) × Rounds by keys more (before ++ entries) fills' base'

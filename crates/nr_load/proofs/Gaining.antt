@@ -79,7 +79,9 @@ module _ {S : Type 0} (gives : S → ℕ → List Row → S → Type 0) where
   abbrev pub turns_gain : (old new : FlowSeen S) (answer : Turn) → Turns gives old answer new → Gained old.map.shape.keys old.writer new.writer 0 (fills_of answer)
   turns_gain old new turn.Idle turns = gained_none old.map.shape.keys old.writer new.writer (ap (λ (flow : FlowSeen S). flow.writer) turns.2)
   turns_gain old new (turn.Filled key) turns =
-      grown _ old.map.shape.keys old.writer new.writer _ 0 1 turns.answers.fills.gains (tells_fill old.map.shape.keys old.writer.number turns.post.upquery.key turns.post.upquery.number turns.answers.rows _ (near_post old new key (Ok tt) turns))
+      grown _ old.map.shape.keys old.writer new.writer _ 0 1 turns.answers.fills.gains
+      (tells_fill old.map.shape.keys old.writer.number turns.post.upquery.key turns.post.upquery.number turns.answers.rows _
+      (near_post old new key (Ok tt) turns))
   turns_gain old new (turn.Passed key) turns =
       passes old.map.shape.keys turns.2.post.upquery.key turns.2.post.upquery.number turns.2.answers.rows old.writer new.writer turns.0 turns.1 (near_post old new key (Err turns.0) turns.2) turns.2.answers.fills
   turns_gain old new (turn.Kept counts) turns = grown _ old.map.shape.keys old.writer new.writer [] 0 0 turns.answers.fills.grows (tells_none old.map.shape.keys)

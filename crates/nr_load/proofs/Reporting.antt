@@ -50,7 +50,8 @@ record Placed (seed gets at : ℕ) (readers : List Caller) (outcomes : List Outc
   pub answered : (other : ℕ) → get_or (map answered_of outcomes) at other ≡ outcome.worked.answered
 
 -- none made more than its gets, so where all made as many as that each made all
-placed : (seed gets : ℕ) (fault : Option LoadFault) (rs : List Caller) (os : List Outcome) → earliest fault os ≡ None → ServesFirst seed gets rs os → length os ≡ length rs → made_in os ≡ gets * length rs → (at : ℕ) → at < length rs → Placed seed gets at rs os
+placed : (seed gets : ℕ) (fault : Option LoadFault) (rs : List Caller) (os : List Outcome) → earliest fault os ≡ None → ServesFirst seed gets rs os
+    → length os ≡ length rs → made_in os ≡ gets * length rs → (at : ℕ) → at < length rs → Placed seed gets at rs os
 placed seed gets fault [] os none serves same all at low = absurd (omega (arith, low))
 placed seed gets fault (r ∷ rs) [] none serves same all at low = absurd (omega (arith, same))
 placed seed gets fault (r ∷ rs) (o ∷ os) none serves same all zero low = record {
@@ -99,11 +100,14 @@ module _ (t : Table) (plan : Plan) (joined : Joined) (e : Ended t plan.seed plan
         begins = draws.begins ∙ new;
         empty = draws.empty;
         generator = draws.generator;
-        works = subst (λ (fault : Option LoadFault). Works 1000000 plan.keys plan.gets (stream_of plan.seed (at + 1)) (get_or (map answered_of joined.outcomes.items) at other) (replicate plan.keys 0) fault draws.old draws.new draws.generator) (ap of_gets place.faultless)
+        works = subst (λ (fault : Option LoadFault). Works 1000000 plan.keys plan.gets (stream_of plan.seed (at + 1))
+            (get_or (map answered_of joined.outcomes.items) at other) (replicate plan.keys 0) fault draws.old draws.new draws.generator)
+            (ap of_gets place.faultless)
             (subst (λ (n : ℕ). Works 1000000 plan.keys plan.gets (stream_of plan.seed (at + 1)) n (replicate plan.keys 0) (of_gets place.outcome.worked.fault) draws.old draws.new draws.generator) (sym (place.answered other))
             (subst (λ (n : ℕ). Works 1000000 plan.keys plan.gets (stream_of plan.seed n) place.outcome.worked.answered (replicate plan.keys 0) (of_gets place.outcome.worked.fault) draws.old draws.new draws.generator) number
             (subst (λ (n : ℕ). Works 1000000 plan.keys n (stream_of plan.seed place.reader.number) place.outcome.worked.answered (replicate plan.keys 0) (of_gets place.outcome.worked.fault) draws.old draws.new draws.generator) place.made
-            (subst (λ (n : ℕ). Works 1000000 n place.outcome.worked.made (stream_of plan.seed place.reader.number) place.outcome.worked.answered (replicate n 0) (of_gets place.outcome.worked.fault) draws.old draws.new draws.generator) keys draws.works))));
+            (subst (λ (n : ℕ). Works 1000000 n place.outcome.worked.made (stream_of plan.seed place.reader.number) place.outcome.worked.answered
+            (replicate n 0) (of_gets place.outcome.worked.fault) draws.old draws.new draws.generator) keys draws.works))));
         all = account.reads at first inside ∙ ap (λ (r : Caller). r.mine) (place.is first ∙ sym draws.ends);
       }
 
@@ -117,7 +121,8 @@ module _ (t : Table) (plan : Plan) (joined : Joined) (e : Ended t plan.seed plan
       (subst (λ (n : ℕ). Tells plan.keys gained.entries 0 n) fills
       (subst (λ (n : ℕ). Tells n gained.entries 0 e.flowed.count) keys gained.tells))
 
-  rounds : (asked : ℕ) (account : IsAccount t joined.flowed.writer (map reader_of joined.outcomes.items) asked) → joined.flowed.fault ≡ None → (turns : ℕ) × (base : List ℕ) × Rounds 0 plan.keys turns (entries_of account.history 0) joined.flowed.fills base
+  rounds : (asked : ℕ) (account : IsAccount t joined.flowed.writer (map reader_of joined.outcomes.items) asked) → joined.flowed.fault ≡ None
+      → (turns : ℕ) × (base : List ℕ) × Rounds 0 plan.keys turns (entries_of account.history 0) joined.flowed.fills base
   rounds asked account faultless =
       let gained = e.flowed.gained in
       let told = e.flowed.rounds faultless in
@@ -143,7 +148,8 @@ module _ (t : Table) (plan : Plan) (joined : Joined) (e : Ended t plan.seed plan
       (opens_with_base t) account.callers obeys account.legal)
 
   -- the numbers of a report of such a load are those of its one history
-  pub comes : (report : LoadReport) → IsAccount t joined.flowed.writer (map reader_of joined.outcomes.items) report.asked → joined.is_whole ≡ true → earliest None joined.outcomes.items ≡ None → joined.flowed.fault ≡ None → made_in joined.outcomes.items ≡ plan.readers * plan.gets
+  pub comes : (report : LoadReport) → IsAccount t joined.flowed.writer (map reader_of joined.outcomes.items) report.asked → joined.is_whole ≡ true
+      → earliest None joined.outcomes.items ≡ None → joined.flowed.fault ≡ None → made_in joined.outcomes.items ≡ plan.readers * plan.gets
       → report.gets ≡ plan.readers * plan.gets → report.answered ≡ answered_in joined.outcomes.items → report.sends ≡ sends_in joined.outcomes.items
       → report.fills ≡ of_all is_fill joined.flowed.writer (map reader_of joined.outcomes.items) → joined.flowed.fills ≡ report.fills → report.sends ≡ report.fills + report.asked → ComesTo plan report
   comes report account whole none faultless all gets answered sends fills told balance = record {

@@ -69,7 +69,8 @@ module _ {Room : Type 0} (shows : Room → List Row → Type 0) where
       rest = ap (λ (l : List (Wanted Room)). drop end l) (sym split) ∙ subst (λ (n : ℕ). drop n (front ++ drop end keys) ≡ drop end keys) front_size (drop-append_seam front (drop end keys)) ∙ same_rest;
       on = λ last more so. subst (λ (l : List (Wanted Room)). FindsEach shows first wanted last l) (sym (append_assoc (take begin keys) found more) ∙ ap (λ (l : List (Wanted Room)). l ++ more) (sym taken))
           (grouped.on last (found ++ more) (subst (λ (l : List (Wanted Room)). FindsFrom shows begin now l last (found ++ more)) (ap (λ (l : List (Wanted Room)). group ++ l) (sym same_rest) ∙ whole ∙ grouped.rest)
-          (of_group groups group found (drop end wanted) more now next last (omega (arith, size, end_is, low)) (omega (arith, size, end_is)) most finds (subst (λ (place : ℕ). FindsFrom shows place next (drop end wanted) last more) (omega (arith, size)) so))));
+          (of_group groups group found (drop end wanted) more now next last (omega (arith, size, end_is, low)) (omega (arith, size, end_is)) most
+          finds (subst (λ (place : ℕ). FindsFrom shows place next (drop end wanted) last more) (omega (arith, size)) so))));
     }
       where
         begin : ℕ
@@ -100,7 +101,9 @@ module _ {Room : Type 0} (shows : Room → List Row → Type 0) where
         long_front = omega (arith, length-append (take begin keys) (found ++ drop end keys), length-append found (drop end keys), length-append group (drop end keys), ends, left, many, length-take-le begin keys (omega (arith, low)))
 
         same_rest : drop end keys ≡ drop end wanted
-        same_rest = subst (λ (n : ℕ). drop n keys ≡ drop n wanted) (omega (arith, size)) (sym (drop-drop (length group) begin keys) ∙ ap (λ (l : List (Wanted Room)). drop (length group) l) grouped.rest ∙ drop-drop (length group) begin wanted)
+        same_rest = subst (λ (n : ℕ). drop n keys ≡ drop n wanted) (omega (arith, size))
+            (sym (drop-drop (length group) begin keys) ∙ ap (λ (l : List (Wanted Room)). drop (length group) l) grouped.rest
+            ∙ drop-drop (length group) begin wanted)
 
         most : min (length (group ++ drop end wanted)) 16 ≡ length group
         most = omega (arith, ap (λ (l : List (Wanted Room)). length (group ++ l)) same_rest, ends, left, size, end_is)

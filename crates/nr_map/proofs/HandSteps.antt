@@ -41,7 +41,12 @@ module _ (key : ℕ) (old asked new : Handed) (vain : AsksInVain key old asked) 
 
   anew_still : {Room : Type 0} (shows : Room → List Row → Type 0) (before room : Room) (begun : ℕ) (answer : Found) → begun ≡ 1 + steps_to_depart asked.key
       → FindsAnew shows (steps_to_depart asked.key) key asked before new room answer → FindsAnew shows begun key old before new room answer
-  anew_still shows before room begun found.Rows is (gains, holds, shown) = (gains_still (reply.Rows new.rows) (steps_to_depart asked.key + 2 * length new.rows + 2) (begun + 2 * length new.rows + 2) (omega (arith, is)) gains, key_still holds, shown)
+  anew_still shows before room begun found.Rows is (gains, holds, shown) = (
+    gains_still (reply.Rows new.rows)
+        (steps_to_depart asked.key + 2 * length new.rows + 2) (begun + 2 * length new.rows + 2) (omega (arith, is)) gains,
+    key_still holds,
+    shown,
+  )
   anew_still shows before room begun found.Hole is (gains, holds, same) = (gains_still reply.Hole (steps_to_depart asked.key + 1) (begun + 1) (omega (arith, is)) gains, nothing_still holds, same)
 
   -- what is seen goes on from where the hand asked

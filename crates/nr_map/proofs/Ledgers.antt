@@ -121,7 +121,8 @@ count_at number (y ∷ l) (true ∷ flags) (suc i) short is kept = count_at numb
 count_at number (y ∷ l) (false ∷ flags) (suc i) short is kept = omega (arith, count_cons number y (unreaped l flags), count_at number l flags i (omega arith) is kept)
 
 -- a set put into a slot takes the place of the one that stood there, if it was not reaped
-count_put : (number : ℕ) (l : List ℕ) (flags : List Bool) (i x : ℕ) → i < length l → count_of_put (unreaped (set l i x) (set flags i false)) number + cond (get_or flags i false) 0 (one_if number (get_or l i 0)) ≡ count_of_put (unreaped l flags) number + one_if number x
+count_put : (number : ℕ) (l : List ℕ) (flags : List Bool) (i x : ℕ) → i < length l → count_of_put (unreaped (set l i x) (set flags i false))
+    number + cond (get_or flags i false) 0 (one_if number (get_or l i 0)) ≡ count_of_put (unreaped l flags) number + one_if number x
 count_put number [] flags i x low = absurd (omega arith)
 count_put number (y ∷ l) [] zero x low = omega (arith, count_cons number y (unreaped l []), count_cons number x (unreaped l []))
 count_put number (y ∷ l) [] (suc i) x low = omega (arith, count_cons number y (unreaped l []), count_cons number y (unreaped (set l i x) []), count_put number l [] i x (omega arith))
@@ -139,7 +140,8 @@ unreaped_more (y ∷ l) (true ∷ flags) x = unreaped_more l flags x
 unreaped_more (y ∷ l) (false ∷ flags) x = ap (λ (t : List ℕ). y ∷ t) (unreaped_more l flags x)
 
 -- a reap takes one away
-count_reaped : (number : ℕ) (l : List ℕ) (flags : List Bool) (i : ℕ) → i < length l → i < length flags → get_or flags i false ≡ false → count_of_put (unreaped l (set flags i true)) number + one_if number (get_or l i 0) ≡ count_of_put (unreaped l flags) number
+count_reaped : (number : ℕ) (l : List ℕ) (flags : List Bool) (i : ℕ) → i < length l → i < length flags → get_or flags i false ≡ false
+    → count_of_put (unreaped l (set flags i true)) number + one_if number (get_or l i 0) ≡ count_of_put (unreaped l flags) number
 count_reaped number [] flags i low short kept = absurd (omega arith)
 count_reaped number (y ∷ l) [] i low short kept = absurd (omega arith)
 count_reaped number (y ∷ l) (true ∷ flags) zero low short kept = absurd (cc)
@@ -197,7 +199,9 @@ rest_comes_out_once_lem writer gone left number ledger apart low = ap (λ (c : C
 pub nobody_holds_it_lem : NobodyHoldsIt
 nobody_holds_it_lem writer gone reader slot number ledger current holds let_go same =
     let placed = current.placed slot holds in let low = ledger.taken slot placed.1 in
-    let stands = count_at number (take writer.fresh writer.marks.puts) writer.marks.reaped slot (omega (arith, length_take writer.marks.puts writer.fresh (omega (arith, ledger.slots.0, ledger.slots.1)))) (get_take writer.marks.puts writer.fresh slot low ∙ placed.0 ∙ same) (current.kept slot holds) in
+    let stands = count_at number (take writer.fresh writer.marks.puts) writer.marks.reaped slot
+    (omega (arith, length_take writer.marks.puts writer.fresh (omega (arith, ledger.slots.0, ledger.slots.1))))
+    (get_take writer.marks.puts writer.fresh slot low ∙ placed.0 ∙ same) (current.kept slot holds) in
     dite (dec_le (put_count writer.mine) number) (λ high. absurd (let none = ledger.later number high in omega arith)) (λ low'. absurd (let one = ledger.put number (omega arith) in omega arith))
 
 module _ (steps : ℕ) (call : Call) (rows : List Row) (old new : Caller) (gone : List ℕ) (writes : old.number ≡ 0) (published : Publishes steps old call rows new) (ledger : Ledger old gone) where
@@ -234,24 +238,44 @@ module _ (steps : ℕ) (call : Call) (rows : List Row) (old new : Caller) (gone 
       let stands : standing new ≡ standing old ++ n ∷ [] = (λ j. unreaped (take (grown j) (puts_are j)) (flags_are j)) ∙ ap (λ (i : ℕ). unreaped (take (suc old.fresh) (set old.marks.puts i n)) (set flags i false)) fresh.1
       ∙ ap (λ (l : List ℕ). unreaped l (set flags old.fresh false)) (take_put old.marks.puts old.fresh n (omega (arith, ledger.slots.0, fresh.0)))
       ∙ ap (λ (i : ℕ). unreaped (take old.fresh old.marks.puts ++ n ∷ []) (set flags i false)) (sym size) ∙ unreaped_more (take old.fresh old.marks.puts) flags n in
-      let had : had_number old published.slot ≡ [] = ap (λ (b : Bool). cond {A = List ℕ} b (cond {A = List ℕ} (get_or flags published.slot false) [] (get_or old.marks.puts published.slot 0 ∷ [])) []) (le-ltb published.slot old.fresh (omega (arith, fresh.1))) in record {
+      let had : had_number old published.slot ≡ [] = ap (λ (b : Bool). cond {A = List ℕ} b
+      (cond {A = List ℕ} (get_or flags published.slot false) [] (get_or old.marks.puts published.slot 0 ∷ [])) [])
+      (le-ltb published.slot old.fresh (omega (arith, fresh.1))) in record {
         more = omega arith;
         room = omega (arith, fresh.0);
         low = omega (arith, fresh.1);
         was = λ at e there. (at, ap (λ (l : List Retired). get_elem? l at) (sym fresh.4) ∙ there);
-        counts = λ number. omega (arith, ap (λ (l : List ℕ). count_of_put l number) stands, count_both number (standing old) (published.number ∷ []), count_cons number published.number [], count_both number gone (had_number old published.slot), ap (λ (l : List ℕ). count_of_put l number) had);
+        counts = λ number. omega (
+          arith,
+          ap (λ (l : List ℕ). count_of_put l number) stands,
+          count_both number (standing old) (published.number ∷ []),
+          count_cons number published.number [],
+          count_both number gone (had_number old published.slot),
+          ap (λ (l : List ℕ). count_of_put l number)
+              had,
+        );
       })
       (λ taken. let grown : new.fresh ≡ old.fresh = published.fresh ∙ taken.6 in let puts = old.marks.puts in let x : ℕ = get_or puts published.slot 0 in
       let near = published.inside in let size = ledger.slots.0 in let wide = taken.0 in
       let flags = old.marks.reaped in let before : standing old ≡ unreaped puts flags = ap (λ (l : List ℕ). unreaped l flags) (take_all old.fresh puts (omega arith)) in
       let stands : standing new ≡ unreaped (set puts published.slot published.number) (set flags published.slot false) = (λ j. unreaped (take (grown j) (puts_are j)) (flags_are j))
       ∙ ap (λ (l : List ℕ). unreaped l (set flags published.slot false)) (take_all old.fresh (set puts published.slot published.number) (omega (arith, length-set puts published.slot published.number))) in
-      let one : List ℕ = cond {A = List ℕ} (get_or flags published.slot false) [] (x ∷ []) in let had : had_number old published.slot ≡ one = ap (λ (b : Bool). cond {A = List ℕ} b one []) (lt-ltb published.slot old.fresh (omega arith)) in record {
+      let one : List ℕ = cond {A = List ℕ} (get_or flags published.slot false) [] (x ∷ []) in
+      let had : had_number old published.slot ≡ one = ap (λ (b : Bool). cond {A = List ℕ} b one [])
+      (lt-ltb published.slot old.fresh (omega arith)) in record {
         more = omega arith;
         room = omega (arith, ledger.slots.1);
         low = omega arith;
         was = λ at e there. at_remove old.retired taken.1 at e (ap (λ (l : List Retired). get_elem? l at) (sym taken.7) ∙ there);
-        counts = λ number. omega (arith, ap (λ (l : List ℕ). count_of_put l number) stands, ap (λ (l : List ℕ). count_of_put l number) before, count_put number puts flags published.slot published.number (omega arith), count_both number gone (had_number old published.slot), ap (λ (l : List ℕ). count_of_put l number) had, count_had number x (get_or flags published.slot false));
+        counts = λ number. omega (
+          arith,
+          ap (λ (l : List ℕ). count_of_put l number) stands,
+          ap (λ (l : List ℕ). count_of_put l number) before,
+          count_put number puts flags published.slot published.number (omega arith),
+          count_both number gone (had_number old published.slot),
+          ap (λ (l : List ℕ). count_of_put l number) had,
+          count_had number x (get_or flags published.slot false),
+        );
       })
       published.took
 
@@ -260,7 +284,8 @@ module _ (steps : ℕ) (call : Call) (rows : List Row) (old new : Caller) (gone 
       (λ named. let near : named.0 < length old.marks.names = omega (arith, named.1, ap length names_are, length-set old.marks.names (call_key call) (suc published.slot)) in
       let is : get_or (set old.marks.names (call_key call) (suc published.slot)) named.0 0 ≡ suc slot = ap (λ (l : List ℕ). get_or l named.0 0) (sym names_are) ∙ named.2 in
       dite (ℕ_discrete named.0 (call_key call))
-      (λ same. let here : suc published.slot ≡ suc slot = sym (get_or-set_same old.marks.names (call_key call) (suc published.slot) 0 (omega arith)) ∙ ap (λ (i : ℕ). get_or (set old.marks.names (call_key call) (suc published.slot)) i 0) (sym same) ∙ is in omega (arith, moved.low))
+      (λ same. let here : suc published.slot ≡ suc slot = sym (get_or-set_same old.marks.names (call_key call) (suc published.slot) 0 (omega arith))
+      ∙ ap (λ (i : ℕ). get_or (set old.marks.names (call_key call) (suc published.slot)) i 0) (sym same) ∙ is in omega (arith, moved.low))
       (λ other. let low = ledger.taken slot (inl (named.0, near, sym (get_or-set_other old.marks.names (call_key call) named.0 (suc published.slot) 0 other) ∙ is)) in omega arith))
       (λ retired. ⊎_elim
       (λ before. let was = moved.was before.0 retired.1 before.1 in let low = ledger.taken slot (inr (was.0, retired.1, was.1, retired.3)) in omega arith)
@@ -270,7 +295,12 @@ module _ (steps : ℕ) (call : Call) (rows : List Row) (old new : Caller) (gone 
 
   ledger_goes_on : Ledger new (gone ++ had_number old published.slot)
   ledger_goes_on = let size = ap (λ (t : Table). t.shape.slots) published.gains.table in record {
-    slots = (ap length puts_are ∙ length-set old.marks.puts published.slot published.number ∙ ledger.slots.0 ∙ sym size, omega (arith, moved.room), ap length flags_are ∙ length-set old.marks.reaped published.slot false ∙ ledger.slots.2 ∙ sym size);
+    slots = (
+      ap length puts_are ∙ length-set old.marks.puts published.slot published.number ∙ ledger.slots.0
+          ∙ sym size,
+      omega (arith, moved.room),
+      ap length flags_are ∙ length-set old.marks.reaped published.slot false ∙ ledger.slots.2 ∙ sym size,
+    );
     taken = still_taken;
     put = λ number low. dite (ℕ_discrete published.number number)
         (λ same. let one = one_if_same number published.number same in let none = ledger.later number (omega (arith, number_is)) in omega (arith, moved.counts number))
@@ -293,7 +323,9 @@ waits_there flags (e ∷ retired) held later entry is =
     (λ _ _ rest. deeper held rest)
     (λ _ kept rest. here held rest kept deeper) refl is
   where
-    here : (held : List Retired) → e ∷ waiting flags retired ≡ held ++ entry ∷ later → get_or flags e.slot false ≡ false → ((held' : List Retired) → waiting flags retired ≡ held' ++ entry ∷ later → (at : ℕ) × (get_elem? (e ∷ retired) at ≡ some entry) × (get_or flags entry.slot false ≡ false))
+    here : (held : List Retired) → e ∷ waiting flags retired ≡ held ++ entry ∷ later → get_or flags e.slot false ≡ false
+        → ((held' : List Retired) → waiting flags retired ≡ held' ++ entry ∷ later → (at : ℕ) × (get_elem? (e ∷ retired) at ≡ some entry)
+        × (get_or flags entry.slot false ≡ false))
         → (at : ℕ) × (get_elem? (e ∷ retired) at ≡ some entry) × (get_or flags entry.slot false ≡ false)
     here [] rest kept deeper = let same : e ≡ entry = some-injective e entry (ap (λ (l : List Retired). get_elem? l 0) rest) in (0, ap some same, ap (λ (x : Retired). get_or flags x.slot false) (sym same) ∙ kept)
     here (h ∷ held) rest kept deeper = deeper held (ap (drop 1) rest)
@@ -303,7 +335,15 @@ reaped_once_lem held later entry notes steps old new gone waits is ledger =
     let there = waits_there old.marks.reaped old.retired held later entry waits in let slot : ℕ = entry.slot in let puts = old.marks.puts in let n : ℕ = get_or puts slot 0 in
     let low = ledger.taken slot (inr (there.0, entry, there.1, refl)) in let size = length_take puts old.fresh (omega (arith, ledger.slots.0, ledger.slots.1)) in
     let counts : (number : ℕ) → count_of_put (unreaped (take old.fresh puts) (set old.marks.reaped slot true)) number + count_of_put (gone ++ n ∷ []) number ≡ count_of_put (standing old) number + count_of_put gone number
-    = λ number. omega (arith, count_reaped number (take old.fresh puts) old.marks.reaped slot (omega arith) (omega (arith, ledger.slots.1, ledger.slots.2)) there.2, ap (one_if number) (get_take puts old.fresh slot low), count_both number gone (n ∷ []), count_cons number n []) in
+    = λ number. omega (
+      arith,
+      count_reaped number (take old.fresh puts) old.marks.reaped slot (omega arith)
+          (omega (arith, ledger.slots.1, ledger.slots.2)) there.2,
+      ap (one_if number) (get_take puts old.fresh slot low),
+      count_both number gone
+          (n ∷ []),
+      count_cons number n [],
+    ) in
     subst (λ (c : Caller). Ledger c (gone ++ n ∷ [])) (sym is) (record {
       slots = (ledger.slots.0, ledger.slots.1, length-set old.marks.reaped slot true ∙ ledger.slots.2);
       taken = ledger.taken;
@@ -337,19 +377,22 @@ quiet_puts steps call answer old new quiet gains = let none : puts_set (entry ol
     omega (arith, ap put_count gains.mine, total-append puts_set old.mine (entry old.number call answer ∷ []), none)
 
 -- the slots stay, and of the marks all but the polls
-same_slots : (old new : Caller) (gone : List ℕ) (polls : List Past) → new.table ≡ old.table → new.fresh ≡ old.fresh → new.retired ≡ old.retired → new.marks ≡ with_polls old.marks polls → put_count new.mine ≡ put_count old.mine → Ledger old gone → Ledger new gone
+same_slots : (old new : Caller) (gone : List ℕ) (polls : List Past) → new.table ≡ old.table → new.fresh ≡ old.fresh → new.retired ≡ old.retired
+    → new.marks ≡ with_polls old.marks polls → put_count new.mine ≡ put_count old.mine → Ledger old gone → Ledger new gone
 same_slots old new gone polls table fresh retired marks many = ledger_stays_lem old new gone table fresh (ap (λ (m : Marks). m.puts) marks) (ap (λ (m : Marks). m.reaped) marks)
     (λ slot lives. subst (λ (p : List Retired × Marks). Living p.0 p.1 slot) (λ j. (retired j, marks j)) lives) many
 
 pub quiet_leaves_lem : QuietLeaves
-quiet_leaves_lem steps call answer old new gone quiet gains stays = same_slots old new gone [] gains.table (ap (λ (s : Spare). s.fresh) stays.0) (ap (λ (s : Spare). s.retired) stays.0) stays.1 (quiet_puts steps call answer old new quiet gains)
+quiet_leaves_lem steps call answer old new gone quiet gains stays = same_slots old new gone [] gains.table (ap (λ (s : Spare). s.fresh) stays.0)
+    (ap (λ (s : Spare). s.retired) stays.0) stays.1 (quiet_puts steps call answer old new quiet gains)
 
 pub no_slot_leaves_lem : NoSlotLeaves
 no_slot_leaves_lem steps call counts old new gone without = same_slots old new gone new.marks.polls without.grows.table (ap (λ (s : Spare). s.fresh) without.slots) (ap (λ (s : Spare). s.retired) without.slots) without.marks
     (ap put_count without.grows.mine ∙ total-append puts_set old.mine [] ∙ omega arith)
 
 pub cancel_leaves_lem : CancelLeaves
-cancel_leaves_lem key old new cancel.Cancelled gone cancels = same_slots old new gone [] cancels.0.table (ap (λ (s : Spare). s.fresh) cancels.1) (ap (λ (s : Spare). s.retired) cancels.1) cancels.2 (quiet_puts 2 (model.Cancel key) reply.Cancelled old new refl cancels.0)
+cancel_leaves_lem key old new cancel.Cancelled gone cancels = same_slots old new gone [] cancels.0.table (ap (λ (s : Spare). s.fresh) cancels.1)
+    (ap (λ (s : Spare). s.retired) cancels.1) cancels.2 (quiet_puts 2 (model.Cancel key) reply.Cancelled old new refl cancels.0)
 cancel_leaves_lem key old new cancel.Nothing gone cancels = quiet_leaves_lem 1 (model.Cancel key) reply.Nothing old new gone refl cancels.0 cancels.1
 cancel_leaves_lem key old new cancel.Worn gone cancels = quiet_leaves_lem 1 (model.Cancel key) reply.Worn old new gone refl cancels.0 cancels.1
 

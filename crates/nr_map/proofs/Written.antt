@@ -116,9 +116,12 @@ is_key : (k key : ℕ) → (k == key) ≡ true → k ≡ key
 is_key k key is = ⊎_elim (λ (same : k ≡ key). same) (λ (other : k ≢ key). absurd (let no : true ≡ false = sym is ∙ ne_eqb k key other in cc)) (cases_eq k key)
 
 -- what one entry leaves of a key
-step_stays : (map : PartialMap) (key : ℕ) (e : Entry) (n : ℕ) (rows : List Row) → key < length map.states → e.reply ≡ reply_to map e.call → puts_at key e ≡ false → state_of (next map e.call) key ≡ Rows n rows → state_of map key ≡ Rows n rows
+step_stays : (map : PartialMap) (key : ℕ) (e : Entry) (n : ℕ) (rows : List Row) → key < length map.states → e.reply ≡ reply_to map e.call
+    → puts_at key e ≡ false → state_of (next map e.call) key ≡ Rows n rows → state_of map key ≡ Rows n rows
 step_stays map key e n rows near legal none is = ⊎_elim
-    (λ (same : call_key e.call ≡ key). subst (λ (k : ℕ). state_of map k ≡ Rows n rows) same (stays map.bound e.call (state_of map (call_key e.call)) n rows (ap is_done (sym legal) ∙ sym (of_key (is_done e.reply) (call_key e.call) key same) ∙ none)
+    (λ (same : call_key e.call ≡ key). subst (λ (k : ℕ). state_of map k ≡ Rows n rows) same
+    (stays map.bound e.call (state_of map (call_key e.call)) n rows
+    (ap is_done (sym legal) ∙ sym (of_key (is_done e.reply) (call_key e.call) key same) ∙ none)
     (sym (state_of-next_same map e.call (omega (arith, same))) ∙ ap (state_of (next map e.call)) same ∙ is)))
     (λ (elsewhere : call_key e.call ≢ key). sym (state_of-next_other map key e.call elsewhere) ∙ is)
     (cases_eq (call_key e.call) key)
@@ -132,7 +135,9 @@ step_filled map key e near legal none filled = ⊎_elim
 
 step_puts : (map : PartialMap) (key : ℕ) (e : Entry) → key < length map.states → e.reply ≡ reply_to map e.call → puts_at key e ≡ true → is_filled_key (state_of (next map e.call) key) ≡ true
 step_puts map key e near legal put = let parts = both_true (is_done e.reply) (call_key e.call == key) put in let same = is_key (call_key e.call) key parts.1 in
-    subst (λ (k : ℕ). is_filled_key (state_of (next map e.call) k) ≡ true) same (ap is_filled_key (state_of-next_same map e.call (omega (arith, same))) ∙ puts map.bound e.call (state_of map (call_key e.call)) (ap is_done (sym legal) ∙ parts.0))
+    subst (λ (k : ℕ). is_filled_key (state_of (next map e.call) k) ≡ true) same
+    (ap is_filled_key (state_of-next_same map e.call (omega (arith, same))) ∙ puts map.bound e.call (state_of map (call_key e.call))
+    (ap is_done (sym legal) ∙ parts.0))
 
 -- as many keys after an entry
 near_next : (map : PartialMap) (key : ℕ) (call : Call) → key < length map.states → key < length (next map call).states
@@ -145,7 +150,16 @@ last_put (e ∷ log) map key n rows near legal is = ⊎_elim
     (λ (put : puts_at key e ≡ true). inr (record { before = []; put = e; tail = log; is = refl; puts = put; none = no.none; number = no.number; rows_put = no.rows_had }))
     (λ (isnt : puts_at key e ≡ false). inl (record { none = omega (arith, count_by-cons (puts_at key) e log, ap one isnt, no.none); number = no.number; rows_had = step_stays map key e no.number rows near legal.0 isnt no.rows_had }))
     (cases_Bool (puts_at key e)))
-    (λ (last : LastPut (next map e.call) key log rows). inr (record { before = e ∷ last.before; put = last.put; tail = last.tail; is = ap (λ (l : List Entry). e ∷ l) last.is; puts = last.puts; none = last.none; number = last.number; rows_put = last.rows_put }))
+    (λ (last : LastPut (next map e.call) key log rows). inr (record {
+      before = e ∷ last.before;
+      put = last.put;
+      tail = last.tail;
+      is = ap (λ (l : List Entry). e ∷ l) last.is;
+      puts = last.puts;
+      none = last.none;
+      number = last.number;
+      rows_put = last.rows_put;
+    }))
     (last_put log (next map e.call) key n rows (near_next map key e.call near) legal.1 is)
 
 filled_on : (log : List Entry) (map : PartialMap) (key : ℕ) → key < length map.states → IsLegal map log → count_by (evicts_at key) log ≡ 0 → is_filled_key (state_of map key) ≡ true → is_filled_key (state_of (after map log) key) ≡ true

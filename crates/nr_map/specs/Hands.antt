@@ -67,7 +67,7 @@ pub record LetsGo (old new : Handed) : Type 0 where
   pub marks : new.reader.marks ≡ departed old.key old.reader.marks
 
 -- in that many steps the hand read of what it holds, and nothing else changed
-pub record ReadsHeld (steps : ℕ) (old new : Handed) : Type 0 where
+pub record CopiesHeld (steps : ℕ) (old new : Handed) : Type 0 where
   pub key_is : new.key ≡ old.key
   pub rows : new.rows ≡ old.rows
   pub rests : Rests steps old.reader new.reader

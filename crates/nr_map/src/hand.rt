@@ -1,6 +1,6 @@
 //! A reader that is idle or holds the set of a key, from call to call.
 ghost use Rattle.std.specs.Prelude.{◌≡◌, ◌<◌, ◌*◌, length, IsSome};
-ghost use Rattle.nr_map.specs.Hands.{AgainByHand, BecomesPin, LetsGo, PinsByHand, ReadsHeld, in_hand, idle};
+ghost use Rattle.nr_map.specs.Hands.{AgainByHand, BecomesPin, LetsGo, PinsByHand, CopiesHeld, in_hand, idle};
 ghost use Rattle.nr_board.specs.Callers.{KnowsOwn};
 ghost use Rattle.nr_board.specs.Meetings.{HearsNote, known_to, with_step};
 
@@ -144,7 +144,7 @@ impl Hand {
         requires holds { IsSome self.old.key }
         ensures own { self.new.reader.table ≡ map.now }
         ensures copied { R.shows rows.new self.old.rows }
-        ensures reads { ReadsHeld (2 * length self.old.rows) self.old self.new }
+        ensures reads { CopiesHeld (2 * length self.old.rows) self.old self.new }
     {
         if let Some(held) = self.held {
             map.board

@@ -38,7 +38,8 @@ use Rattle.nr_marks.proofs.PutNumbers.{nil_count, nil_number}
 
 -- a slot that is untouched after a step was so before it, and its content words stay
 abbrev pub Leaves : Shape → List ℕ → List ℕ → Place → Place → Type 0
-Leaves shape words words' place place' = (slot : ℕ) → slot < shape.slots → Untouched slot place' → Untouched slot place × ((index : ℕ) → index ≤ 2 * bound_of shape → get_or words' (content shape slot index) 0 ≡ get_or words (content shape slot index) 0)
+Leaves shape words words' place place' = (slot : ℕ) → slot < shape.slots → Untouched slot place' → Untouched slot place
+    × ((index : ℕ) → index ≤ 2 * bound_of shape → get_or words' (content shape slot index) 0 ≡ get_or words (content shape slot index) 0)
 
 -- what the core tells of the writer's step from a place
 abbrev pub Went : Shape → Desk → Place → Telling
@@ -52,7 +53,8 @@ pub nothing_ends : (log : List Entry) → QuietEnd log []
 nothing_ends log = (nil_number log, nil_count log)
 
 -- there is no slot where every slot was taken once and none is retired
-pub no_room_left : (shape : Shape) (words : List ℕ) (roles : List Role) (log : List Entry) (id : ℕ) (desk : Desk) (call : WriterCall) → Core shape words roles log → get_elem? roles id ≡ some (Writer desk) → ((slot : ℕ) → taken slot desk.place ≡ 0) → shape.slots ≤ desk.fresh
+pub no_room_left : (shape : Shape) (words : List ℕ) (roles : List Role) (log : List Entry) (id : ℕ) (desk : Desk) (call : WriterCall)
+    → Core shape words roles log → get_elem? roles id ≡ some (Writer desk) → ((slot : ℕ) → taken slot desk.place ≡ 0) → shape.slots ≤ desk.fresh
     → reply_at (bound_of shape) (call_of call) (state_of (map_after shape log) (key_of call)) ≡ reply.Done → (polls : List Past) → AllHeld desk.retired polls → length polls ≤ shape.readers → NoRoom shape call desk.retired polls log
 no_room_left shape words roles log id desk call core there free full done polls held few = record {
   done = replies_so shape log (call_of call) ∙ ap (λ (k : ℕ). reply_at (bound_of shape) (call_of call) (state_of (map_after shape log) k)) (key_same call) ∙ done;
@@ -66,11 +68,15 @@ no_room_left shape words roles log id desk call core there free full done polls 
     retired_inside slot l = let t = some_term (λ (x : Retired). only slot x.slot) desk.retired l in subst (λ (y : ℕ). y < shape.slots) (only-is slot t.1.slot t.3) ((core.knows id (Writer desk) there).retired t.0 t.1 t.2).0
 
 module _ {A : Type 0} (role : A → Role) (marks : A → Marks) where
-  pub desk_of : (shape : Shape) (words : List ℕ) (callers : List A) (log : List Entry) (id : ℕ) (me : A) (desk : Desk) → Marked role marks shape words callers log → get_elem? callers id ≡ some me → role me ≡ Writer desk → Desked role marks shape words callers log desk (marks me)
+  pub desk_of : (shape : Shape) (words : List ℕ) (callers : List A) (log : List Entry) (id : ℕ) (me : A) (desk : Desk)
+      → Marked role marks shape words callers log → get_elem? callers id ≡ some me → role me ≡ Writer desk
+      → Desked role marks shape words callers log desk (marks me)
   desk_of shape words callers log id me desk m at was = subst (λ r. KnowsMarks role marks shape words callers log r (marks me)) was (m.each id me at)
 
   -- a writer's step, after which its desk and marks are these
-  pub writer_step : (shape : Shape) (id : ℕ) (me : A) (operation : Operation) (tells : MarkTelling) (words : List ℕ) (callers : List A) (log : List Entry) → Core shape words (map role callers) log → Marked role marks shape words callers log → get_elem? callers id ≡ some me → (desk desk' : Desk) → role me ≡ Writer desk
+  pub writer_step : (shape : Shape) (id : ℕ) (me : A) (operation : Operation) (tells : MarkTelling) (words : List ℕ) (callers : List A)
+      (log : List Entry) → Core shape words (map role callers) log → Marked role marks shape words callers log → get_elem? callers id ≡ some me
+      → (desk desk' : Desk) → role me ≡ Writer desk
       → (after : Role) (entries : List Entry) → after ≡ Writer desk' → (now : Marks) (news : List Past) → AllSince role marks callers news → NotesPresent role marks callers (marks me).polls now.polls
       → Desked role marks shape (set words (target_of operation) (becomes operation (get_or words (target_of operation) 0))) callers (log ++ entries) desk' now
       → tells (get_or words (target_of operation) 0) after (log ++ entries) now news → Remarked role marks shape words callers log id me operation after entries tells
@@ -79,7 +85,9 @@ module _ {A : Type 0} (role : A → Role) (marks : A → Marks) where
     news = news;
     since = since;
     evolves = λ who _ _. evolves_writer role marks me who desk was;
-    marked = λ who is_role is_marks. marked_writer role marks shape words (set words (target_of operation) (becomes operation (get_or words (target_of operation) 0))) callers log (log ++ entries) id me who desk desk' core at was (is_role ∙ is) m
+    marked = λ who is_role is_marks. marked_writer role marks shape words
+        (set words (target_of operation) (becomes operation (get_or words (target_of operation) 0))) callers log (log ++ entries) id me who desk desk'
+        core at was (is_role ∙ is) m
         (subst (Desked role marks shape (set words (target_of operation) (becomes operation (get_or words (target_of operation) 0))) callers (log ++ entries) desk') (sym is_marks) own);
     noted = noted;
     told = told;
@@ -105,11 +113,13 @@ module _ {A : Type 0} (role : A → Role) (marks : A → Marks) where
   }
 
   -- the words of the keys stay, and the retired slots are fewer or the same
-  pub desk_stay : (shape : Shape) (words words' : List ℕ) (callers : List A) (log entries : List Entry) (desk desk' : Desk) (mine : Marks) (polls : List Past) → Desked role marks shape words callers log desk mine → ((i : ℕ) → i < shape.keys → get_or words' i 0 ≡ get_or words i 0)
+  pub desk_stay : (shape : Shape) (words words' : List ℕ) (callers : List A) (log entries : List Entry) (desk desk' : Desk) (mine : Marks)
+      (polls : List Past) → Desked role marks shape words callers log desk mine → ((i : ℕ) → i < shape.keys → get_or words' i 0 ≡ get_or words i 0)
       → QuietEnd log entries → ((s : ℕ) → retirements s desk'.retired ≤ retirements s desk.retired)
       → AllSince role marks callers polls → Sweeping role marks callers desk' polls desk'.place → Leaves shape words words' desk.place desk'.place
       → Desked role marks shape words' callers (log ++ entries) desk' (with_polls mine polls)
   desk_stay shape words words' callers log entries desk desk' mine polls t same quiet fewer noted sweep leaves =
       desk_keep shape words words' callers log (log ++ entries) desk desk' mine mine.names polls t t.wide.0 (λ i l. t.names i l ∙ sym (ap name_number (same i l))) (λ i s l e. ap name_number (sym (same i l)) ∙ e) quiet.0 quiet.1
-      (λ s l on. let b = below-same (λ j. only (suc s) (name_number (get_or words' j 0))) (λ j. only (suc s) (name_number (get_or words j 0))) shape.keys (λ j near. ap (λ (y : ℕ). only (suc s) (name_number y)) (same j near)) in let f = fewer s in omega arith)
+      (λ s l on. let b = below-same (λ j. only (suc s) (name_number (get_or words' j 0))) (λ j. only (suc s) (name_number (get_or words j 0)))
+      shape.keys (λ j near. ap (λ (y : ℕ). only (suc s) (name_number y)) (same j near)) in let f = fewer s in omega arith)
       noted sweep leaves

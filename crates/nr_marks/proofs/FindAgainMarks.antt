@@ -40,7 +40,8 @@ module _ {A : Type 0} (role : A → Role) (marks : A → Marks) where
   held_lives : (shape : Shape) (words : List ℕ) (callers : List A) (log : List Entry) → Core shape words (map role callers) log → (id : ℕ) (writer : A) (desk : Desk) → get_elem? callers id ≡ some writer → role writer ≡ Writer desk
       → (place reader slot : ℕ) (rows : List Row) (sized : Bool) (who : A) → get_elem? callers place ≡ some who → role who ≡ Reader reader (On slot rows sized) → (slot < shape.slots) × (0 < lives shape words desk slot)
   held_lives shape words callers log core id writer desk at was place reader slot rows sized who there is =
-      let roles = map role callers in let at' : get_elem? roles id ≡ some (Writer desk) = at_maps role callers id writer at ∙ ap some was in let there' : get_elem? roles place ≡ some (Reader reader (On slot rows sized)) = at_maps role callers place who there ∙ ap some is in
+      let roles = map role callers in let at' : get_elem? roles id ≡ some (Writer desk) = at_maps role callers id writer at ∙ ap some was in
+      let there' : get_elem? roles place ≡ some (Reader reader (On slot rows sized)) = at_maps role callers place who there ∙ ap some is in
       let mine = core.knows id (Writer desk) at' in let near = grip_near shape words (map_after shape log) (held roles) (On slot rows sized) slot (core.knows place (Reader reader (On slot rows sized)) there') refl in
       let part = term_le (holds slot) roles place (Reader reader (On slot rows sized)) there' in let one = only-same slot in let held_so : 0 < held roles slot = omega arith in
       let free = not_taken shape words (map_after shape log) (held roles) desk.fresh desk.retired slot desk.place held_so mine.place in
@@ -58,14 +59,17 @@ module _ {A : Type 0} (role : A → Role) (marks : A → Marks) where
         let finish : (b : Bool) (told : List Entry) → names_slot slot word ≡ b → entries ≡ told → ((k : ℕ) → put_number (log ++ told) k ≡ put_number log k) → put_count (log ++ told) ≡ put_count log
         → (((marks me).acts < (found_again b (marks me)).acts) × (b ≡ true)) ⊎ ((found_again b (marks me) ≡ marks me) × (b ≡ false)) → ((found_again b (marks me)).put ≡ (marks me).put) → ((found_again b (marks me)).polls ≡ (marks me).polls)
         → ComparesPuts b word (marks me).put (put_number log key) → Remarked role marks shape words callers log id me (Load key) after entries tells
-        = λ b told b_is is_entries numbers many moves same_put same_polls compares. let now = found_again b (marks me) in let kept : (k : ℕ) → put_number (log ++ entries) k ≡ put_number log k = λ k. ap (λ l. put_number (log ++ l) k) is_entries ∙ numbers k in
-        reader_step role marks shape id me known (Load key) (FindsAgain shape reader slot rows sized key) tells words callers log m at reader grip grip was after entries ans.0 (λ k _. names k) kept (ap (λ l. put_count (log ++ l)) is_entries ∙ many) now same_polls
+        = λ b told b_is is_entries numbers many moves same_put same_polls compares. let now = found_again b (marks me) in
+        let kept : (k : ℕ) → put_number (log ++ entries) k ≡ put_number log k = λ k. ap (λ l. put_number (log ++ l) k) is_entries ∙ numbers k in
+        reader_step role marks shape id me known (Load key) (FindsAgain shape reader slot rows sized key) tells words callers log m at reader grip
+        grip was after entries ans.0 (λ k _. names k) kept (ap (λ l. put_count (log ++ l)) is_entries ∙ many) now same_polls
         (⊎_elim (λ (t : ((marks me).acts < now.acts) × (b ≡ true)). inr t.0) (λ (t : (now ≡ marks me) × (b ≡ false)). inl (refl, ap (λ (k : Marks). k.acts) t.0, ap (λ (k : Marks). k.put) t.0)) moves)
         (λ j held u desk there writes t on. let kept = t.held id reader held me grip at was on in ((kept.0 ∙ sym same_put, kept.1), λ _. on)) (contents_loaded shape words key)
         (ap (λ (c : Bool). found_again c (marks me)) (sym b_is), refl, subst (λ (p : Bool × ℕ). ComparesPuts p.0 word (marks me).put p.1) (λ i. (sym b_is i, sym (kept key) i)) compares) in
         by_cases (λ _. Remarked role marks shape words callers log id me (Load key) after entries tells) (names_slot slot word)
         (λ yes. let same : name_number word ≡ suc slot = eqb-true (name_number word) (suc slot) yes in
-        finish true (e ∷ []) yes (ans.1 ∙ ap (λ (b : Bool). cond {A = List Entry} b (e ∷ []) []) yes) (λ k. quiet_number log e k refl) (quiet_count log e refl) (inl (omega arith, refl)) refl refl (sym (own.puts key slot near same).0 ∙ held_put))
+        finish true (e ∷ []) yes (ans.1 ∙ ap (λ (b : Bool). cond {A = List Entry} b (e ∷ []) []) yes) (λ k. quiet_number log e k refl)
+        (quiet_count log e refl) (inl (omega arith, refl)) refl refl (sym (own.puts key slot near same).0 ∙ held_put))
         (λ no. finish false [] no (ans.1 ∙ ap (λ (b : Bool). cond {A = List Entry} b (e ∷ []) []) no) (λ k. nil_number log k) (nil_count log) (inr (refl, refl)) refl refl
         (λ full same_number. let other : ℕ = name_number word - 1 in let names_other : name_number word ≡ suc other = omega arith in
         let living = held_lives shape words callers log core w.place w.who w.desk w.there w.is id reader slot rows sized me at was in

@@ -52,14 +52,17 @@ not_taken shape words at holders fresh retired slot (Reading a b c) l t = refl
 not_taken shape words at holders fresh retired slot (Leaving a) l t = refl
 not_taken shape words at holders fresh retired slot (Withdrawing a) l t = refl
 not_taken shape words at holders fresh retired slot (Searching a b c) l t = refl
-not_taken shape words at holders fresh retired slot (Putting a b mine c d) l t = dite (ℕ_discrete (only slot mine) 0) (λ z. z) (λ nz. absurd (let same = only-is slot mine (omega arith) in let z : holders slot ≡ 0 = ap holders (sym same) ∙ t.nobody in omega arith))
+not_taken shape words at holders fresh retired slot (Putting a b mine c d) l t = dite (ℕ_discrete (only slot mine) 0) (λ z. z)
+    (λ nz. absurd (let same = only-is slot mine (omega arith) in let z : holders slot ≡ 0 = ap holders (sym same) ∙ t.nobody in omega arith))
 
 pub grip_near : (shape : Shape) (words : List ℕ) (at : PartialMap) (holders : ℕ → ℕ) (x : Grip) (slot : ℕ) → Grips shape words at holders x → gripped x ≡ Some slot → slot < shape.slots
 grip_near shape words at holders Nothing slot t e = absurd (cc)
 grip_near shape words at holders (On s rows sized) slot t e = subst (λ (y : ℕ). y < shape.slots) (some_is s slot e) t.0
 
 module _ {A : Type 0} (role : A → Role) (marks : A → Marks) where
-  module _ (shape : Shape) (words : List ℕ) (callers : List A) (log : List Entry) (core : Core shape words (map role callers) log) (once : Once role marks callers) (id : ℕ) (me : A) (desk : Desk) (at : get_elem? callers id ≡ some me) (was : role me ≡ Writer desk) (own : Desked role marks shape words callers log desk (marks me)) where
+  module _ (shape : Shape) (words : List ℕ) (callers : List A) (log : List Entry) (core : Core shape words (map role callers) log)
+      (once : Once role marks callers) (id : ℕ) (me : A) (desk : Desk) (at : get_elem? callers id ≡ some me) (was : role me ≡ Writer desk)
+      (own : Desked role marks shape words callers log desk (marks me)) where
     -- what the writer's lists say of a reader as it is
     current : (place reader : ℕ) (who : A) (grip : Grip) → get_elem? callers place ≡ some who → role who ≡ Reader reader grip → Current desk.retired (marks me) (past reader grip (marks who))
     current place reader who grip there is = record {
@@ -70,7 +73,8 @@ module _ {A : Type 0} (role : A → Role) (marks : A → Marks) where
     }
       where
         living : (slot : ℕ) → gripped grip ≡ Some slot → Living desk.retired (marks me) slot
-        living slot on = let roles = map role callers in let at' : get_elem? roles id ≡ some (Writer desk) = at_maps role callers id me at ∙ ap some was in let there' : get_elem? roles place ≡ some (Reader reader grip) = at_maps role callers place who there ∙ ap some is in
+        living slot on = let roles = map role callers in let at' : get_elem? roles id ≡ some (Writer desk) = at_maps role callers id me at
+            ∙ ap some was in let there' : get_elem? roles place ≡ some (Reader reader grip) = at_maps role callers place who there ∙ ap some is in
             let mine = core.knows id (Writer desk) at' in let near = grip_near shape words (map_after shape log) (held roles) grip slot (core.knows place (Reader reader grip) there') on in
             let part = term_le (holds slot) roles place (Reader reader grip) there' in let one = grips_it grip slot on in let held_so : 0 < held roles slot = omega arith in
             let t = not_taken shape words (map_after shape log) (held roles) desk.fresh desk.retired slot desk.place held_so mine.place in
@@ -93,7 +97,9 @@ module _ {A : Type 0} (role : A → Role) (marks : A → Marks) where
         first P q l a b zero p e = subst P (some-injective q p e) a
         first P q l a b (suc n) p e = b n p e
 
-        newer : (o : Past) (told : List Past) (q : Past) (l : List Past) → q.reader ≡ o.reader → o.count ≤ q.count → ((n : ℕ) (o' : Past) → get_elem? told n ≡ some o' → (p : Past) × (get_elem? l n ≡ some p) × (p.reader ≡ o'.reader) × (o'.count ≤ p.count))
+        newer : (o : Past) (told : List Past) (q : Past) (l : List Past) → q.reader ≡ o.reader → o.count ≤ q.count
+            → ((n : ℕ) (o' : Past) → get_elem? told n ≡ some o' → (p : Past) × (get_elem? l n ≡ some p) × (p.reader ≡ o'.reader)
+            × (o'.count ≤ p.count))
             → (n : ℕ) (o' : Past) → get_elem? (o ∷ told) n ≡ some o' → (p : Past) × (get_elem? (q ∷ l) n ≡ some p) × (p.reader ≡ o'.reader) × (o'.count ≤ p.count)
         newer o told q l a b c zero o' e = subst (λ (y : Past). (p : Past) × (get_elem? (q ∷ l) 0 ≡ some p) × (p.reader ≡ y.reader) × (y.count ≤ p.count)) (some-injective o o' e) (q, refl, a, b)
         newer o told q l a b c (suc n) o' e = c n o' e
@@ -105,14 +111,17 @@ module _ {A : Type 0} (role : A → Role) (marks : A → Marks) where
         let own = desk_of role marks shape words callers log id me desk m at was in let words' = set words place (get_or words place 0) in
         let t = refreshed shape words callers log core once id me desk at was own told since in
         writer_step role marks shape id me (Load place) (WriterLearns shape (marks me) desk told) words callers log core m at desk desk was after entries (ans.0 ∙ was) (marks me) t.0 t.1 (λ place note here. inl here)
-        (desk_stay role marks shape words words' callers log entries desk desk (marks me) (marks me).polls own (λ j _. ap (λ l. get_or l j 0) (set-get_or words place 0)) (subst (QuietEnd log) (sym ans.1) (nothing_ends log)) (λ s. omega arith) own.noted own.sweep (λ s _ untouched. (untouched, contents_loaded shape words place s)))
+        (desk_stay role marks shape words words' callers log entries desk desk (marks me) (marks me).polls own
+        (λ j _. ap (λ l. get_or l j 0) (set-get_or words place 0)) (subst (QuietEnd log) (sym ans.1) (nothing_ends log)) (λ s. omega arith)
+        own.noted own.sweep (λ s _ untouched. (untouched, contents_loaded shape words place s)))
         (refl, t.2, subst (λ (l : List Entry). Lists desk (marks me) shape (log ++ l)) (sym ans.1) (subst (Lists desk (marks me) shape) (sym (append-nil log)) (listed role marks shape words callers log id me desk core at was own)))
 
     -- a reader compares itself with what it was told of itself
     pub learns_reader : (reader : ℕ) (grip : Grip) → role me ≡ Reader reader grip → CanMark role marks shape id me told (Load place) (LoadsWord (role me)) (ReaderLearns reader grip (marks me) told)
     learns_reader reader grip was words callers log core m once at since after entries ans =
         reader_step role marks shape id me told (Load place) (LoadsWord (role me)) (ReaderLearns reader grip (marks me) told) words callers log m at reader grip grip was after entries (ans.0 ∙ was)
-        (λ j _. ap (λ l. name_number (get_or l j 0)) (set-get_or words place 0)) (λ k. ap (λ l. put_number (log ++ l) k) ans.1 ∙ nil_number log k) (ap (λ l. put_count (log ++ l)) ans.1 ∙ nil_count log) (marks me) refl (inl (refl, refl, refl))
+        (λ j _. ap (λ l. name_number (get_or l j 0)) (set-get_or words place 0)) (λ k. ap (λ l. put_number (log ++ l) k) ans.1 ∙ nil_number log k)
+        (ap (λ l. put_count (log ++ l)) ans.1 ∙ nil_count log) (marks me) refl (inl (refl, refl, refl))
         (λ j slot u desk there writes t e. (t.held id reader slot me grip at was e, λ _. e)) (contents_loaded shape words place) (
           refl,
           refl,

@@ -39,9 +39,12 @@ module _ {A : Type 0} (role : A → Role) (marks : A → Marks) where
         there = here_after callers id before after at;
         grip = t.0;
         is = t.1;
-        least = ⊎_elim (λ (q : (gripped t.0 ≡ gripped s.grip) × ((marks after).acts ≡ (marks before).acts) × ((marks after).put ≡ (marks before).put)). let a = q.1 in omega arith) (λ (q : (marks before).acts < (marks after).acts). omega arith) t.2;
+        least = ⊎_elim (λ (q : (gripped t.0 ≡ gripped s.grip) × ((marks after).acts ≡ (marks before).acts)
+            × ((marks after).put ≡ (marks before).put)). let a = q.1 in omega arith) (λ (q : (marks before).acts < (marks after).acts). omega arith)
+            t.2;
         same = λ eq. ⊎_elim
-            (λ (q : (gripped t.0 ≡ gripped s.grip) × ((marks after).acts ≡ (marks before).acts) × ((marks after).put ≡ (marks before).put)). let b = s.same (sym acts ∙ sym q.1 ∙ eq) in (q.0 ∙ b.0, q.2 ∙ ap (λ (y : A). (marks y).put) same ∙ b.1))
+            (λ (q : (gripped t.0 ≡ gripped s.grip) × ((marks after).acts ≡ (marks before).acts) × ((marks after).put ≡ (marks before).put)).
+            let b = s.same (sym acts ∙ sym q.1 ∙ eq) in (q.0 ∙ b.0, q.2 ∙ ap (λ (y : A). (marks y).put) same ∙ b.1))
             (λ (q : (marks before).acts < (marks after).acts). absurd (omega arith)) t.2;
       })
       (λ ne. record { place = s.place; who = s.who; there = set_other callers id s.place after s.who ne s.there; grip = s.grip; is = s.is; least = s.least; same = s.same })
@@ -50,7 +53,8 @@ module _ {A : Type 0} (role : A → Role) (marks : A → Marks) where
   since_snoc callers more old s = record { place = s.place; who = s.who; there = at_left callers (more ∷ []) s.place s.who s.there; grip = s.grip; is = s.is; least = s.least; same = s.same }
 
   -- a retired slot has no other place
-  pub rests : (shape : Shape) (words : List ℕ) (callers : List A) (log : List Entry) (id : ℕ) (me : A) (desk : Desk) (s : ℕ) → Core shape words (map role callers) log → get_elem? callers id ≡ some me → role me ≡ Writer desk → 0 < retirements s desk.retired
+  pub rests : (shape : Shape) (words : List ℕ) (callers : List A) (log : List Entry) (id : ℕ) (me : A) (desk : Desk) (s : ℕ)
+      → Core shape words (map role callers) log → get_elem? callers id ≡ some me → role me ≡ Writer desk → 0 < retirements s desk.retired
       → (s < shape.slots) × (named shape words s ≡ 0) × (retirements s desk.retired ≡ 1)
   rests shape words callers log id me desk s core at is l =
       let at' : get_elem? (map role callers) id ≡ some (Writer desk) = at_maps role callers id me at ∙ ap some is in
@@ -128,7 +132,8 @@ module _ {A : Type 0} (role : A → Role) (marks : A → Marks) where
   }
 
   -- a writer's step: what its new desk knows of the others as they are
-  pub marked_writer : (shape : Shape) (words words' : List ℕ) (callers : List A) (log log' : List Entry) (id : ℕ) (me next : A) (desk desk' : Desk) → Core shape words (map role callers) log → get_elem? callers id ≡ some me → role me ≡ Writer desk → role next ≡ Writer desk'
+  pub marked_writer : (shape : Shape) (words words' : List ℕ) (callers : List A) (log log' : List Entry) (id : ℕ) (me next : A) (desk desk' : Desk)
+      → Core shape words (map role callers) log → get_elem? callers id ≡ some me → role me ≡ Writer desk → role next ≡ Writer desk'
       → Marked role marks shape words callers log → Desked role marks shape words' callers log' desk' (marks next) → Marked role marks shape words' (set callers id next) log'
   marked_writer shape words words' callers log log' id me next desk desk' core at was is m own = set_marked shape words words' callers log log' id next m
       (record { place = id; who = next; desk = desk'; there = here_after callers id me next at; is = is })
@@ -137,10 +142,16 @@ module _ {A : Type 0} (role : A → Role) (marks : A → Marks) where
       (λ place reader slot who grip there reads holds. ⊎_elim (λ (z : (place ≡ id) × (next ≡ who)). absurd (not_both (role next) desk' reader grip is (ap role z.1 ∙ reads)))
       (λ (z : (place ≢ id) × (get_elem? callers place ≡ some who)). (own.held place reader slot who grip z.1 reads holds, λ _. (place, who, grip, z.1, reads, holds))) (at_set callers id place next who there))
       (λ _ _ _. refl) own))
-      (λ j u desk'' ne there writes _. absurd (omega (arith, terms_le is_writer (map role callers) id j (Writer desk) (Writer desk'') ne (at_maps role callers id me at ∙ ap some was) (at_maps role callers j u there ∙ ap some writes), core.one)))
+      (λ j u desk'' ne there writes _. absurd (omega (
+        arith,
+        terms_le is_writer (map role callers) id j (Writer desk) (Writer desk'') ne
+            (at_maps role callers id me at ∙ ap some was) (at_maps role callers j u there ∙ ap some writes),
+        core.one,
+      )))
 
   -- a reader's step
-  pub marked_reader : (shape : Shape) (words words' : List ℕ) (callers : List A) (log log' : List Entry) (id : ℕ) (me next : A) (c : ℕ) (x y : Grip) → get_elem? callers id ≡ some me → role me ≡ Reader c x → role next ≡ Reader c y → Evolves role marks me next
+  pub marked_reader : (shape : Shape) (words words' : List ℕ) (callers : List A) (log log' : List Entry) (id : ℕ) (me next : A) (c : ℕ) (x y : Grip)
+      → get_elem? callers id ≡ some me → role me ≡ Reader c x → role next ≡ Reader c y → Evolves role marks me next
       → ((key : ℕ) → key < shape.keys → name_number (get_or words' key 0) ≡ name_number (get_or words key 0)) → ((key : ℕ) → put_number log' key ≡ put_number log key) → put_count log' ≡ put_count log
       → ((j slot : ℕ) (u : A) (desk : Desk) → get_elem? callers j ≡ some u → role u ≡ Writer desk → Desked role marks shape words callers log desk (marks u) → gripped y ≡ Some slot
       → Keeps (marks u) slot (marks next).put × (0 < retirements slot desk.retired → gripped x ≡ Some slot))

@@ -59,10 +59,13 @@ module _ {A : Type 0} (role : A → Role) (marks : A → Marks) where
       (λ ne. let two = terms_le (is_caller c) (map role callers) i j (Reader c x) (Reader c y) ne (at_maps role callers i me at ∙ ap some is) (at_maps role callers j w there ∙ ap some also) in
       let one : only c c ≡ 1 = only-same c in let most = once c in absurd (omega arith))
 
-  module _ (shape : Shape) (words : List ℕ) (callers : List A) (log : List Entry) (core : Core shape words (map role callers) log) (once : Once role marks callers) (id : ℕ) (me : A) (desk desk' : Desk) (at : get_elem? callers id ≡ some me) (was : role me ≡ Writer desk) (same : desk'.retired ≡ desk.retired) where
+  module _ (shape : Shape) (words : List ℕ) (callers : List A) (log : List Entry) (core : Core shape words (map role callers) log)
+      (once : Once role marks callers) (id : ℕ) (me : A) (desk desk' : Desk) (at : get_elem? callers id ≡ some me) (was : role me ≡ Writer desk)
+      (same : desk'.retired ≡ desk.retired) where
     -- one more note of a sweep
     noted : (polls : List Past) (poll : ℕ) (entry : Retired) → get_elem? desk.retired poll ≡ some entry → Sweeps role marks callers desk polls poll
-        → (place reader : ℕ) (who : A) (grip : Grip) → get_elem? callers place ≡ some who → role who ≡ Reader reader grip → gripped grip ≡ Some entry.slot → Sweeps role marks callers desk' (polls ++ past reader grip (marks who) ∷ []) (poll + 1)
+        → (place reader : ℕ) (who : A) (grip : Grip) → get_elem? callers place ≡ some who → role who ≡ Reader reader grip
+        → gripped grip ≡ Some entry.slot → Sweeps role marks callers desk' (polls ++ past reader grip (marks who) ∷ []) (poll + 1)
     noted polls poll entry here old place reader who grip there is on =
         let note : Past = past reader grip (marks who) in let slot : ℕ = entry.slot in let many = old.many in
         let listed = term_le (λ (y : Retired). only slot y.slot) desk.retired poll entry here in let one = only-same slot in
@@ -82,7 +85,8 @@ module _ {A : Type 0} (role : A → Role) (marks : A → Marks) where
               let one' : only slot r.0.slot ≡ 1 = ap (only slot) z ∙ one in absurd (omega arith)) in
               let le = only-le b reader in omega arith)
               (λ ne. let z = only-other b reader ne in let le = old.different b in omega arith);
-          other = λ i o e n s w y g is' on' rest. let rest' : 0 < retirements s desk.retired = subst (λ (l : List Retired). 0 < retirements s l) same rest in ⊎_elim (λ (z : get_elem? polls i ≡ some o). old.other i o z n s w y g is' on' rest')
+          other = λ i o e n s w y g is' on' rest. let rest' : 0 < retirements s desk.retired = subst (λ (l : List Retired). 0 < retirements s l) same
+              rest in ⊎_elim (λ (z : get_elem? polls i ≡ some o). old.other i o z n s w y g is' on' rest')
               (λ (z : (i ≡ length polls) × (note ≡ o)). let same_reader : reader ≡ o.reader = ap (λ (b : Past). b.reader) z.1 in let is'' : role w ≡ Reader reader y = is' ∙ ap (λ (b : ℕ). Reader b y) (sym same_reader) in
               let uw = same_caller callers once place n reader who w grip y there g is is'' in
               let xy : grip ≡ y = ap grip_in (sym is ∙ ap role uw ∙ is'') in ap (λ (b : Past). b.slot) (sym z.1) ∙ ap gripped xy ∙ on') (at_last polls note o i e);
@@ -101,11 +105,18 @@ module _ {A : Type 0} (role : A → Role) (marks : A → Marks) where
         let tells = PollsMarks shape (marks me) known desk call poll in
         let Goal : Type 0 = Remarked role marks shape words callers log id me (Load i) after entries tells in
         let stays : (j : ℕ) → j < shape.keys → get_or words' j 0 ≡ get_or words j 0 = λ j _. ap (λ l. get_or l j 0) (set-get_or words i 0) in
-        let finish : (desk' : Desk) (polls : List Past) → after ≡ Writer desk' → entries ≡ [] → ((s : ℕ) → retirements s desk'.retired ≤ retirements s desk.retired) → AllSince role marks callers polls → NotesPresent role marks callers (marks me).polls polls → Sweeping role marks callers desk' polls desk'.place
+        let finish : (desk' : Desk) (polls : List Past) → after ≡ Writer desk' → entries ≡ []
+        → ((s : ℕ) → retirements s desk'.retired ≤ retirements s desk.retired) → AllSince role marks callers polls
+        → NotesPresent role marks callers (marks me).polls polls → Sweeping role marks callers desk' polls desk'.place
         → tells word after (log ++ entries) (with_polls (marks me) polls) [] → Goal
-        = λ desk' polls is none fewer since noted sweep told. writer_step role marks shape id me (Load i) tells words callers log core m at desk desk' was after entries is (with_polls (marks me) polls) [] (no_places (Since role marks callers)) noted
-        (desk_stay role marks shape words words' callers log entries desk desk' (marks me) polls own stays (subst (QuietEnd log) (sym none) (nothing_ends log)) fewer since sweep (λ s _ _. (subst (Untouched s) (sym is_at) tt, contents_loaded shape words i s))) told in
-        let misses : same_count word entry.arrivals ≡ false → (desk' : Desk) → desk'.retired ≡ desk.retired → ((polls : List Past) → Sweeps role marks callers desk' polls (poll + 1) → Sweeping role marks callers desk' polls desk'.place) → after ≡ Writer desk' → entries ≡ [] → Goal
+        = λ desk' polls is none fewer since noted sweep told. writer_step role marks shape id me (Load i) tells words callers log core m at desk desk'
+        was after entries is (with_polls (marks me) polls) [] (no_places (Since role marks callers)) noted
+        (desk_stay role marks shape words words' callers log entries desk desk' (marks me) polls own stays
+        (subst (QuietEnd log) (sym none) (nothing_ends log)) fewer since sweep
+        (λ s _ _. (subst (Untouched s) (sym is_at) tt, contents_loaded shape words i s))) told in
+        let misses : same_count word entry.arrivals ≡ false → (desk' : Desk) → desk'.retired ≡ desk.retired
+        → ((polls : List Past) → Sweeps role marks callers desk' polls (poll + 1) → Sweeping role marks callers desk' polls desk'.place)
+        → after ≡ Writer desk' → entries ≡ [] → Goal
         = λ miss desk' same sweeping is none.
         let differs : word % 2 ^ 40 ≢ entry.arrivals % 2 ^ 40 = eqb-false (word % 2 ^ 40) (entry.arrivals % 2 ^ 40) miss in
         let someone : 0 < held roles slot = dite (ℕ_discrete (held roles slot) 0) (λ z. absurd (differs (omega arith))) (λ nz. omega arith) in
@@ -115,14 +126,19 @@ module _ {A : Type 0} (role : A → Role) (marks : A → Marks) where
         let sweep = noted shape words callers log core once id me desk desk' at was same (marks me).polls poll entry here sweeps f.0 c u y g.1 reads o.3 in let many = sweep.many in
         let since : AllSince role marks callers polls = λ n e there'. ⊎_elim (own.noted n e) (λ (z : (n ≡ length (marks me).polls) × (note ≡ e)). subst (Since role marks callers) z.1
         (record { place = f.0; who = u; there = g.1; grip = y; is = reads; least = omega arith; same = λ _. (refl, refl) })) (at_last (marks me).polls note e n there') in
-        let present : NotesPresent role marks callers (marks me).polls polls = λ n e there'. ⊎_elim inl (λ (z : (n ≡ length (marks me).polls) × (note ≡ e)). inr (subst (IsPresent role marks callers) z.1 (f.0, u, y, g.1, reads, refl))) (at_last (marks me).polls note e n there') in
-        let readers : (n : ℕ) (e : Past) → get_elem? polls n ≡ some e → (0 < e.reader) × (e.reader ≤ shape.readers) = λ n e there'. let w = since n e there' in subst (λ r. KnowsMarks role marks shape words callers log r (marks w.who)) w.is (m.each w.place w.who w.there) in
+        let present : NotesPresent role marks callers (marks me).polls polls = λ n e there'. ⊎_elim inl
+        (λ (z : (n ≡ length (marks me).polls) × (note ≡ e)). inr (subst (IsPresent role marks callers) z.1 (f.0, u, y, g.1, reads, refl)))
+        (at_last (marks me).polls note e n there') in
+        let readers : (n : ℕ) (e : Past) → get_elem? polls n ≡ some e → (0 < e.reader) × (e.reader ≤ shape.readers) = λ n e there'. let w = since n e
+        there' in subst (λ r. KnowsMarks role marks shape words callers log r (marks w.who)) w.is (m.each w.place w.who w.there) in
         let few : length polls ≤ shape.readers = few_of (λ (e : Past). e.reader) polls shape.readers sweep.different readers in
         let missed : Missed shape known (marks me).polls slot polls = record {
           note = note;
           more = refl;
           holds = o.3;
-          newer = λ n e there' same_reader. let w = sinces n e there' in let l = w.least in let z = same_caller callers once w.place f.0 c w.who u w.grip y w.there g.1 (w.is ∙ ap (λ (b : ℕ). Reader b w.grip) same_reader) reads in let n' : (marks w.who).acts ≡ (marks u).acts = ap (λ (b : A). (marks b).acts) z in omega arith;
+          newer = λ n e there' same_reader. let w = sinces n e there' in let l = w.least in
+              let z = same_caller callers once w.place f.0 c w.who u w.grip y w.there g.1 (w.is ∙ ap (λ (b : ℕ). Reader b w.grip) same_reader)
+              reads in let n' : (marks w.who).acts ≡ (marks u).acts = ap (λ (b : A). (marks b).acts) z in omega arith;
           range = subst (λ b. KnowsMarks role marks shape words callers log b (marks u)) reads (m.each f.0 u g.1);
           different = sweep.different;
           few = few;
@@ -142,10 +158,18 @@ module _ {A : Type 0} (role : A → Role) (marks : A → Marks) where
                 }) few),
           ),
         ) in
-        by_cases (λ b. same_count word entry.arrivals ≡ b → after ≡ Writer (cond {A = Desk × Step} b (taking_retired desk call rows poll word, Going) (polls_on shape desk call rows poll)).0 → entries ≡ ending (call_of call) (cond {A = Desk × Step} b (taking_retired desk call rows poll word, Going) (polls_on shape desk call rows poll)).1 → Goal)
+        by_cases (λ b. same_count word entry.arrivals ≡ b → after ≡ Writer
+        (cond {A = Desk × Step} b (taking_retired desk call rows poll word, Going) (polls_on shape desk call rows poll)).0
+        → entries ≡ ending (call_of call) (cond {A = Desk × Step} b (taking_retired desk call rows poll word, Going)
+        (polls_on shape desk call rows poll)).1 → Goal)
         (same_count word entry.arrivals)
-        (λ _ hit is none. finish (taking_retired desk call rows poll word) (marks me).polls is none (λ s. let gone = total-remove (λ (y : Retired). only s y.slot) desk.retired poll entry here in omega arith) own.noted (λ n e there'. inl there') tt (refl, subst (λ b. PollTells b shape (marks me) known desk call poll (log ++ entries) (marks me)) (sym hit) refl))
-        (λ _ miss. by_cases (λ b. after ≡ Writer (cond {A = Desk × Step} b (moved_to desk (Searching call rows (poll + 1)), Going) (moved_to desk Idle, no_slot shape desk)).0 → entries ≡ ending (call_of call) (cond {A = Desk × Step} b (moved_to desk (Searching call rows (poll + 1)), Going) (moved_to desk Idle, no_slot shape desk)).1 → Goal)
+        (λ _ hit is none. finish (taking_retired desk call rows poll word) (marks me).polls is none
+        (λ s. let gone = total-remove (λ (y : Retired). only s y.slot) desk.retired poll entry here in
+        omega arith) own.noted (λ n e there'. inl there') tt
+        (refl, subst (λ b. PollTells b shape (marks me) known desk call poll (log ++ entries) (marks me)) (sym hit) refl))
+        (λ _ miss. by_cases (λ b. after ≡ Writer (cond {A = Desk × Step} b (moved_to desk (Searching call rows (poll + 1)), Going)
+        (moved_to desk Idle, no_slot shape desk)).0 → entries ≡ ending (call_of call)
+        (cond {A = Desk × Step} b (moved_to desk (Searching call rows (poll + 1)), Going) (moved_to desk Idle, no_slot shape desk)).1 → Goal)
         (nat_lt (poll + 1) (length desk.retired))
         (λ _ is none. misses miss (moved_to desk (Searching call rows (poll + 1))) refl (λ polls t. t) is none)
         (λ _ is none. misses miss (moved_to desk Idle) refl (λ polls t. tt) is none))

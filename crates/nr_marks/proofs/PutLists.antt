@@ -26,7 +26,8 @@ puts_stay shape log e quiet = stay log e 0 shape.keys (λ key. quiet_number log 
 
 -- the number at the entry's key, and at another
 here : (log : List Entry) (e : Entry) (key : ℕ) → is_done e.reply ≡ true → call_key e.call ≡ key → put_number (log ++ e ∷ []) key ≡ put_count log
-here log e key done is = put_more log e key ∙ ap (λ (b : Bool). cond (b && nat_eq (call_key e.call) key) (put_count log) (put_number log key)) done ∙ ap (λ (b : Bool). cond b (put_count log) (put_number log key)) (eq-eqb (call_key e.call) key is)
+here log e key done is = put_more log e key ∙ ap (λ (b : Bool). cond (b && nat_eq (call_key e.call) key) (put_count log) (put_number log key)) done
+    ∙ ap (λ (b : Bool). cond b (put_count log) (put_number log key)) (eq-eqb (call_key e.call) key is)
 
 other : (log : List Entry) (e : Entry) (key : ℕ) → call_key e.call ≢ key → put_number (log ++ e ∷ []) key ≡ put_number log key
 other log e key ne = put_more log e key ∙ ap (λ (b : Bool). cond (is_done e.reply && b) (put_count log) (put_number log key)) (ne_eqb (call_key e.call) key ne) ∙ none (is_done e.reply)
@@ -39,10 +40,12 @@ later : (log : List Entry) (e : Entry) (at n : ℕ) → call_key e.call < at →
 later log e at zero low = refl
 later log e at (suc n) low = ap (λ (x : ℕ). x ∷ map (put_number (log ++ e ∷ [])) (range_with_len (at + 1) n)) (other log e at (λ z. omega arith)) ∙ ap (λ (l : List ℕ). put_number log at ∷ l) (later log e (at + 1) n (omega arith))
 
-changed : (log : List Entry) (e : Entry) → is_done e.reply ≡ true → (place at n : ℕ) → call_key e.call ≡ at + place → place < n → map (put_number (log ++ e ∷ [])) (range_with_len at n) ≡ set (map (put_number log) (range_with_len at n)) place (put_count log)
+changed : (log : List Entry) (e : Entry) → is_done e.reply ≡ true → (place at n : ℕ) → call_key e.call ≡ at + place → place < n
+    → map (put_number (log ++ e ∷ [])) (range_with_len at n) ≡ set (map (put_number log) (range_with_len at n)) place (put_count log)
 changed log e done place at zero is low = absurd (omega arith)
 changed log e done zero at (suc n) is low = ap (λ (x : ℕ). x ∷ map (put_number (log ++ e ∷ [])) (range_with_len (at + 1) n)) (here log e at done (omega arith)) ∙ ap (λ (l : List ℕ). put_count log ∷ l) (later log e (at + 1) n (omega arith))
-changed log e done (suc place) at (suc n) is low = ap (λ (x : ℕ). x ∷ map (put_number (log ++ e ∷ [])) (range_with_len (at + 1) n)) (other log e at (λ z. omega arith)) ∙ ap (λ (l : List ℕ). put_number log at ∷ l) (changed log e done place (at + 1) n (omega arith) (omega arith))
+changed log e done (suc place) at (suc n) is low = ap (λ (x : ℕ). x ∷ map (put_number (log ++ e ∷ [])) (range_with_len (at + 1) n))
+    (other log e at (λ z. omega arith)) ∙ ap (λ (l : List ℕ). put_number log at ∷ l) (changed log e done place (at + 1) n (omega arith) (omega arith))
 
 -- an entry that puts a set gives its key the next number
 pub puts_change : (shape : Shape) (log : List Entry) (e : Entry) → is_done e.reply ≡ true → call_key e.call < shape.keys → put_numbers shape (log ++ e ∷ []) ≡ set (put_numbers shape log) (call_key e.call) (put_count log)

@@ -77,7 +77,8 @@ grip_of Note = Nothing
 
 module _ {A : Type 0} (role : A → Role) (marks : A → Marks) (shape : Shape) (id : ℕ) (me : A) (known : List Past) where
   -- a reader's step that leaves what the keys name and puts nothing
-  pub reader_step : (operation : Operation) (answers : Telling) (tells : MarkTelling) (words : List ℕ) (callers : List A) (log : List Entry) → Marked role marks shape words callers log → get_elem? callers id ≡ some me → (reader : ℕ) (x y : Grip) → role me ≡ Reader reader x
+  pub reader_step : (operation : Operation) (answers : Telling) (tells : MarkTelling) (words : List ℕ) (callers : List A) (log : List Entry)
+      → Marked role marks shape words callers log → get_elem? callers id ≡ some me → (reader : ℕ) (x y : Grip) → role me ≡ Reader reader x
       → (after : Role) (entries : List Entry) → after ≡ Reader reader y
       → ((key : ℕ) → key < shape.keys → name_number (get_or (set words (target_of operation) (becomes operation (get_or words (target_of operation) 0))) key 0) ≡ name_number (get_or words key 0))
       → ((key : ℕ) → put_number (log ++ entries) key ≡ put_number log key) → put_count (log ++ entries) ≡ put_count log
@@ -87,7 +88,8 @@ module _ {A : Type 0} (role : A → Role) (marks : A → Marks) (shape : Shape) 
       → SameContents shape words (set words (target_of operation) (becomes operation (get_or words (target_of operation) 0)))
       → tells (get_or words (target_of operation) 0) after (log ++ entries) now [] → Remarked role marks shape words callers log id me operation after entries tells
   reader_step operation answers tells words callers log m at reader x y was after entries is names puts many now same_polls moves holds contents told =
-      let evolves : (who : A) → role who ≡ after → marks who ≡ now → Evolves role marks me who = λ who is_role is_marks c z e. let n : reader ≡ c = ap number_of (sym was ∙ e) in let g : gripped x ≡ gripped z = ap (λ r. gripped (grip_of r)) (sym was ∙ e) in (
+      let evolves : (who : A) → role who ≡ after → marks who ≡ now → Evolves role marks me who = λ who is_role is_marks c z e.
+      let n : reader ≡ c = ap number_of (sym was ∙ e) in let g : gripped x ≡ gripped z = ap (λ r. gripped (grip_of r)) (sym was ∙ e) in (
         y,
         is_role ∙ is ∙ ap (λ (b : ℕ). Reader b y) n,
         ⊎_elim
@@ -98,7 +100,9 @@ module _ {A : Type 0} (role : A → Role) (marks : A → Marks) (shape : Shape) 
         news = [];
         since = no_places (Since role marks callers);
         evolves = evolves;
-        marked = λ who is_role is_marks. marked_reader role marks shape words (set words (target_of operation) (becomes operation (get_or words (target_of operation) 0))) callers log (log ++ entries) id me who reader x y at was (is_role ∙ is) (evolves who is_role is_marks) names puts many
+        marked = λ who is_role is_marks. marked_reader role marks shape words
+            (set words (target_of operation) (becomes operation (get_or words (target_of operation) 0))) callers log (log ++ entries) id me who reader
+            x y at was (is_role ∙ is) (evolves who is_role is_marks) names puts many
             (λ j slot u desk there writes t e. let h = holds j slot u desk there writes t e in ((h.0.0 ∙ ap (λ (k : Marks). k.put) (sym is_marks), h.0.1), h.1)) contents m;
         noted = λ place note there. inl (ap (λ (l : List Past). get_elem? l place) (sym same_polls) ∙ there);
         told = told;
@@ -106,8 +110,12 @@ module _ {A : Type 0} (role : A → Role) (marks : A → Marks) (shape : Shape) 
 
   -- a step after which the reader holds the same
   same_hold : (operation : Operation) (answers : Telling) (reader : ℕ) (x : Grip) → role me ≡ Reader reader x
-      → ((words : List ℕ) (log entries : List Entry) (after : Role) → answers (get_or words (target_of operation) 0) after entries → (y : Grip) × (after ≡ Reader reader y) × (gripped y ≡ gripped x) × ((key : ℕ) → put_number (log ++ entries) key ≡ put_number log key) × (put_count (log ++ entries) ≡ put_count log))
-      → ((words : List ℕ) (roles : List Role) (log : List Entry) → Core shape words roles log → (key : ℕ) → key < shape.keys → name_number (get_or (set words (target_of operation) (becomes operation (get_or words (target_of operation) 0))) key 0) ≡ name_number (get_or words key 0))
+      → ((words : List ℕ) (log entries : List Entry) (after : Role) → answers (get_or words (target_of operation) 0) after entries → (y : Grip)
+      × (after ≡ Reader reader y) × (gripped y ≡ gripped x) × ((key : ℕ) → put_number (log ++ entries) key ≡ put_number log key)
+      × (put_count (log ++ entries) ≡ put_count log))
+      → ((words : List ℕ) (roles : List Role) (log : List Entry) → Core shape words roles log → (key : ℕ) → key < shape.keys
+      → name_number (get_or (set words (target_of operation) (becomes operation (get_or words (target_of operation) 0))) key 0) ≡ name_number
+      (get_or words key 0))
       → ((words : List ℕ) (roles : List Role) (log : List Entry) → Core shape words roles log → SameContents shape words (set words (target_of operation) (becomes operation (get_or words (target_of operation) 0))))
       → CanMark role marks shape id me known operation answers (KeepsMarks (marks me))
   same_hold operation answers reader x was told names contents words callers log core m once at since after entries ans = let a = told words log entries after ans in
@@ -133,7 +141,9 @@ module _ {A : Type 0} (role : A → Role) (marks : A → Marks) (shape : Shape) 
   departs_marked reader slot rows sized was words callers log core m once at since after entries ans =
       let i : ℕ = departures shape slot in let x : ℕ = (get_or words i 0 + 1) % 2 ^ 64 in
       reader_step (Add i 1) (Departs reader) (DepartsMarks (marks me)) words callers log m at reader (On slot rows sized) Nothing was after entries ans.0 (λ k l. ap name_number (names_behind words shape.keys i x (omega arith) k l))
-      (λ k. ap (λ l. put_number (log ++ l) k) ans.1 ∙ nil_number log k) (ap (λ l. put_count (log ++ l)) ans.1 ∙ nil_count log) (acted (marks me) (marks me).put) refl (inr (omega arith)) (λ j s u desk there writes t e. absurd (cc)) (contents_counted shape words slot x) (refl, refl)
+      (λ k. ap (λ l. put_number (log ++ l) k) ans.1 ∙ nil_number log k) (ap (λ l. put_count (log ++ l)) ans.1 ∙ nil_count log)
+      (acted (marks me) (marks me).put) refl (inr (omega arith)) (λ j s u desk there writes t e. absurd (cc))
+      (contents_counted shape words slot x) (refl, refl)
 
   pub arrives_marked : (reader key : ℕ) → key < shape.keys → role me ≡ Reader reader Nothing → CanMark role marks shape id me known (Add key ARRIVE) (Arrives shape reader key) (ArrivesMarks (marks me) key)
   arrives_marked reader key near was words callers log core m once at since after entries ans =
@@ -150,6 +160,7 @@ module _ {A : Type 0} (role : A → Role) (marks : A → Marks) (shape : Shape) 
       ))
       (contents_behind shape words key x near) (refl, refl) in
       ⊎_elim
-      (λ (t : (slot : ℕ) × (rows : List Row) × (name_number word ≡ suc slot) × (slot < shape.slots) × IsRowSet (bound_of shape) rows × (after ≡ Reader reader (On slot rows false)) × (entries ≡ entry reader (model.Find key) (reply.Rows rows) ∷ [])).
+      (λ (t : (slot : ℕ) × (rows : List Row) × (name_number word ≡ suc slot) × (slot < shape.slots) × IsRowSet (bound_of shape) rows
+      × (after ≡ Reader reader (On slot rows false)) × (entries ≡ entry reader (model.Find key) (reply.Rows rows) ∷ [])).
       finish (On t.0 t.1 false) (reply.Rows t.1) refl t.5 t.6 (λ slot on. t.2 ∙ ap suc (some_is t.0 slot on)))
       (λ (t : (name_number word ≡ 0) × (after ≡ Reader reader Nothing) × (entries ≡ entry reader (model.Find key) reply.Hole ∷ [])). finish Nothing reply.Hole refl t.1 t.2 (λ slot on. absurd (cc))) ans

@@ -73,7 +73,8 @@ module _ {A : Type 0} (role : A → Role) (marks : A → Marks) where
         let tells = ProbesMarks shape (marks me) entry in
         let Goal : Type 0 = Remarked role marks shape words callers log id me (Load i) after entries tells in
         let stays : (polls : List Past) → AllSince role marks callers polls → Desked role marks shape words' callers (log ++ entries) desk (with_polls (marks me) polls)
-        = λ polls since. desk_stay role marks shape words words' callers log entries desk desk (marks me) polls own (λ j _. ap (λ l. get_or l j 0) (set-get_or words i 0)) (subst (QuietEnd log) (sym ans.1) (nothing_ends log)) (λ s. omega arith) since
+        = λ polls since. desk_stay role marks shape words words' callers log entries desk desk (marks me) polls own
+        (λ j _. ap (λ l. get_or l j 0) (set-get_or words i 0)) (subst (QuietEnd log) (sym ans.1) (nothing_ends log)) (λ s. omega arith) since
         (subst (Sweeping role marks callers desk polls) (sym idle) tt) (λ s _ untouched. (untouched, contents_loaded shape words i s)) in
         let finish : (now : Marks) → NotesPresent role marks callers (marks me).polls now.polls → Desked role marks shape words' callers (log ++ entries) desk now → tells word after (log ++ entries) now [] → Goal
         = λ now noted desked told. writer_step role marks shape id me (Load i) tells words callers log core m at desk desk was after entries (ans.0 ∙ was) now [] (no_places (Since role marks callers)) noted desked told in
@@ -95,7 +96,9 @@ module _ {A : Type 0} (role : A → Role) (marks : A → Marks) where
         let note : Past = past c y (marks u) in let polls = (marks me).polls ++ note ∷ [] in
         let since : AllSince role marks callers polls = λ n e there'. ⊎_elim (own.noted n e) (λ (z : (n ≡ length (marks me).polls) × (note ≡ e)). subst (Since role marks callers) z.1
         (record { place = f.0; who = u; there = g.1; grip = y; is = reads; least = omega arith; same = λ _. (refl, refl) })) (at_last (marks me).polls note e n there') in
-        let present : NotesPresent role marks callers (marks me).polls polls = λ n e there'. ⊎_elim inl (λ (z : (n ≡ length (marks me).polls) × (note ≡ e)). inr (subst (IsPresent role marks callers) z.1 (f.0, u, y, g.1, reads, refl))) (at_last (marks me).polls note e n there') in
+        let present : NotesPresent role marks callers (marks me).polls polls = λ n e there'. ⊎_elim inl
+        (λ (z : (n ≡ length (marks me).polls) × (note ≡ e)). inr (subst (IsPresent role marks callers) z.1 (f.0, u, y, g.1, reads, refl)))
+        (at_last (marks me).polls note e n there') in
         let range = subst (λ b. KnowsMarks role marks shape words callers log b (marks u)) reads (m.each f.0 u g.1) in
         finish (with_polls (marks me) polls) present (stays polls since) (refl, subst (λ b. ProbeTells b shape (marks me) slot (with_polls (marks me) polls)) (sym miss) (note, refl, o.3, range.0, range.1)))
         refl

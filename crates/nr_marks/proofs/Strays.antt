@@ -58,7 +58,8 @@ strays_are keys rs (q ∷ qs) once cover = let t = strays_are keys rs qs once (�
     let head : (n : ℕ) → how_often q qs + how_often q keys ≡ n → cond {A = ℕ} (nat_eq (how_often q qs + how_often q keys) 0) 1 0 ≡ cond (nat_eq n 0) 1 0 = λ n e. ap (λ (y : ℕ). cond {A = ℕ} (nat_eq y 0) 1 0) e in
     dite (ℕ_discrete (how_often q qs) 0)
     (λ z. let m = stands-new qs rs q z in dite (ℕ_discrete (how_often q keys) 0) (λ y. let c = head 0 (omega arith) in omega arith) (λ ny. let c = head 1 (omega arith) in omega arith))
-    (λ nz. let m = stands-old qs rs q (omega arith) in let c : cond {A = ℕ} (nat_eq (how_often q qs + how_often q keys) 0) 1 0 ≡ 0 = ap (λ d. cond {A = ℕ} d 1 0) (ne_eqb (how_often q qs + how_often q keys) 0 (λ e. omega arith)) in omega arith)
+    (λ nz. let m = stands-old qs rs q (omega arith) in let c : cond {A = ℕ} (nat_eq (how_often q qs + how_often q keys) 0) 1
+    0 ≡ 0 = ap (λ d. cond {A = ℕ} d 1 0) (ne_eqb (how_often q qs + how_often q keys) 0 (λ e. omega arith)) in omega arith)
 
 all_stand : (qs rs : List ℕ) → ((i r : ℕ) → get_elem? rs i ≡ some r → 0 < how_often r qs) → total (stands qs) rs ≡ length rs
 all_stand qs [] h = refl
@@ -88,7 +89,8 @@ pinned_first : (p : Past) (ps : List Past) (q slot : ℕ) → p.slot ≡ Some sl
 pinned_first p ps q slot is rec zero e = (0, p, slot, refl, is, some-injective p.put q e)
 pinned_first p ps q slot is rec (suc j) e = pinned_later p ps q (rec j e)
 
-pinned_go : (p : Past) (ps : List Past) (q : ℕ) → ((j : ℕ) → get_elem? (pins ps) j ≡ some q → PinnedBy ps q) → (x : Option ℕ) → p.slot ≡ x → (j : ℕ) → get_elem? (cons_option (option_map (λ slot. p.put) p.slot) (pins ps)) j ≡ some q → PinnedBy (p ∷ ps) q
+pinned_go : (p : Past) (ps : List Past) (q : ℕ) → ((j : ℕ) → get_elem? (pins ps) j ≡ some q → PinnedBy ps q) → (x : Option ℕ) → p.slot ≡ x → (j : ℕ)
+    → get_elem? (cons_option (option_map (λ slot. p.put) p.slot) (pins ps)) j ≡ some q → PinnedBy (p ∷ ps) q
 pinned_go p ps q rec None is j e = pinned_later p ps q (rec j (ap (λ b. get_elem? (cons_option (option_map (λ slot. p.put) b) (pins ps)) j) (sym is) ∙ e))
 pinned_go p ps q rec (Some slot) is j e = pinned_first p ps q slot is rec j (ap (λ b. get_elem? (cons_option (option_map (λ slot. p.put) b) (pins ps)) j) (sym is) ∙ e)
 
@@ -100,7 +102,8 @@ pinned_by (p ∷ ps) i q e = pinned_go p ps q (λ j e'. pinned_by ps j q e') p.s
 pins_it : (readers : List Past) (n : ℕ) (p : Past) (slot : ℕ) → get_elem? readers n ≡ some p → p.slot ≡ Some slot → 0 < how_often p.put (pins readers)
 pins_it [] n p slot e is = absurd (some-ne-none p (sym e))
 pins_it (x ∷ xs) zero p slot e is = let same = some-injective x p e in let one = only-same p.put in
-    subst (λ (l : List ℕ). 0 < how_often p.put l) (sym (ap (λ b. cons_option (option_map (λ slot. x.put) b) (pins xs)) (ap (λ (y : Past). y.slot) same ∙ is))) (let o : only p.put x.put ≡ 1 = ap (λ (y : Past). only p.put y.put) same ∙ one in omega arith)
+    subst (λ (l : List ℕ). 0 < how_often p.put l) (sym (ap (λ b. cons_option (option_map (λ slot. x.put) b) (pins xs))
+    (ap (λ (y : Past). y.slot) same ∙ is))) (let o : only p.put x.put ≡ 1 = ap (λ (y : Past). only p.put y.put) same ∙ one in omega arith)
 pins_it (x ∷ xs) (suc n) p slot e is = let t = pins_it xs n p slot e is in more (pinned_put x) t
   where
     more : (pin : Option ℕ) → 0 < how_often p.put (pins xs) → 0 < how_often p.put (cons_option pin (pins xs))
@@ -111,7 +114,9 @@ named_at : (puts names : List ℕ) (i slot : ℕ) → i < length names → get_o
 named_at puts [] i slot l e = absurd (omega arith)
 named_at puts (zero ∷ names) zero slot l e = absurd (omega arith)
 named_at puts (zero ∷ names) (suc i) slot l e = named_at puts names i slot (omega arith) e
-named_at puts (suc t ∷ names) zero slot l e = let same : t ≡ slot = omega arith in let o : only (get_or puts slot 0) (get_or puts t 0) ≡ 1 = ap (λ (y : ℕ). only (get_or puts slot 0) (get_or puts y 0)) same ∙ only-same (get_or puts slot 0) in omega arith
+named_at puts (suc t ∷ names) zero slot l e = let same : t ≡ slot = omega arith in
+    let o : only (get_or puts slot 0) (get_or puts t 0) ≡ 1 = ap (λ (y : ℕ). only (get_or puts slot 0) (get_or puts y 0)) same
+    ∙ only-same (get_or puts slot 0) in omega arith
 named_at puts (suc t ∷ names) (suc i) slot l e = let r = named_at puts names i slot (omega arith) e in omega arith
 
 retired_put_at : (puts : List ℕ) (retired : List Retired) (i : ℕ) (entry : Retired) → get_elem? retired i ≡ some entry → get_elem? (retired_puts puts retired) i ≡ some (get_or puts entry.slot 0)
@@ -125,8 +130,10 @@ module _ (retired : List Retired) (marks : Marks) (next : ℕ) (readers : List P
   covered : (i q : ℕ) → get_elem? (pins readers) i ≡ some q → 1 ≤ how_often q (named_puts marks.puts marks.names) + how_often q (retired_puts marks.puts retired)
   covered i q e = let t = pinned_by readers i q e in let has = (gathered t.0 t.1 t.3).placed t.2 t.4 in
       let num : get_or marks.puts t.2 0 ≡ q = has.0 ∙ t.5 in
-      ⊎_elim (λ (y : (j : ℕ) × (j < length marks.names) × (get_or marks.names j 0 ≡ suc t.2)). let z = subst (λ (b : ℕ). 0 < how_often b (named_puts marks.puts marks.names)) num (named_at marks.puts marks.names y.0 t.2 y.1 y.2) in omega arith)
-      (λ (y : (j : ℕ) × (entry : Retired) × (get_elem? retired j ≡ some entry) × (entry.slot ≡ t.2)). let z = term_le (only q) (retired_puts marks.puts retired) y.0 (get_or marks.puts y.1.slot 0) (retired_put_at marks.puts retired y.0 y.1 y.2) in
+      ⊎_elim (λ (y : (j : ℕ) × (j < length marks.names) × (get_or marks.names j 0 ≡ suc t.2)). let z = subst
+      (λ (b : ℕ). 0 < how_often b (named_puts marks.puts marks.names)) num (named_at marks.puts marks.names y.0 t.2 y.1 y.2) in omega arith)
+      (λ (y : (j : ℕ) × (entry : Retired) × (get_elem? retired j ≡ some entry) × (entry.slot ≡ t.2)). let z = term_le (only q)
+      (retired_puts marks.puts retired) y.0 (get_or marks.puts y.1.slot 0) (retired_put_at marks.puts retired y.0 y.1 y.2) in
       let o : only q (get_or marks.puts y.1.slot 0) ≡ 1 = ap (only q) (ap (λ (b : ℕ). get_or marks.puts b 0) y.3 ∙ num) ∙ only-same q in omega arith) has.1
 
   counted : strays (named_puts marks.puts marks.names) (pins readers) ≡ total (stands (pins readers)) (retired_puts marks.puts retired)
@@ -148,8 +155,12 @@ module _ (retired : List Retired) (marks : Marks) (next : ℕ) (readers : List P
           subst (λ (b : ℕ). 0 < how_often b (pins readers)) (sym (cur.placed slot on).0 ∙ t.2) (pins_it readers w.0 p slot w.2 on)
 
   -- a slot that was retired has a new put number now: nobody had pinned it
-  pub one_not_stray : (retired' : List Retired) (marks' : Marks) (at : ℕ) (entry : Retired) → AllCurrent retired' marks' readers → get_elem? retired at ≡ some entry → next ≤ get_or marks'.puts entry.slot 0 → strays (named_puts marks.puts marks.names) (pins readers) < length retired
-  one_not_stray desk' marks' at entry after was least = let l = one_less (pins readers) (retired_puts marks.puts retired) at (get_or marks.puts entry.slot 0) (retired_put_at marks.puts retired at entry was) none in let c = counted in let b = length-retired_puts marks.puts retired in omega arith
+  pub one_not_stray : (retired' : List Retired) (marks' : Marks) (at : ℕ) (entry : Retired) → AllCurrent retired' marks' readers
+      → get_elem? retired at ≡ some entry → next ≤ get_or marks'.puts entry.slot 0 → strays (named_puts marks.puts marks.names)
+      (pins readers) < length retired
+  one_not_stray desk' marks' at entry after was least = let l = one_less (pins readers) (retired_puts marks.puts retired) at
+      (get_or marks.puts entry.slot 0) (retired_put_at marks.puts retired at entry was) none in let c = counted in
+      let b = length-retired_puts marks.puts retired in omega arith
     where
       here : Living retired marks entry.slot
       here = inr (at, entry, was, refl)

@@ -36,8 +36,10 @@ pub taken_are : (shape : Shape) (words : List ℕ) (roles : List Role) (log : Li
     → filled_count (map_after shape log) + length desk.retired ≡ desk.fresh
 taken_are shape words roles log id desk core there free =
     let mine = core.knows id (Writer desk) there in let room = mine.room in
-    let each : (slot : ℕ) → slot < shape.slots → (named shape words slot + unused slot desk.fresh) + retirements slot desk.retired ≡ 1 = λ slot near. omega (arith, retired_once shape words roles log core id desk there slot near, free slot) in
+    let each : (slot : ℕ) → slot < shape.slots → (named shape words slot + unused slot desk.fresh) + retirements slot desk.retired ≡ 1 = λ slot near.
+    omega (arith, retired_once shape words roles log core id desk there slot near, free slot) in
     let all = below-same (λ slot. (named shape words slot + unused slot desk.fresh) + retirements slot desk.retired) (λ _. 1) shape.slots each in
     let a = below-sum (λ slot. named shape words slot + unused slot desk.fresh) (λ slot. retirements slot desk.retired) shape.slots in let b = below-sum (named shape words) (λ slot. unused slot desk.fresh) shape.slots in
-    let r : below (λ slot. retirements slot desk.retired) shape.slots ≡ length desk.retired = exchanged (λ slot (x : Retired). only slot x.slot) desk.retired shape.slots ∙ each_once desk.retired shape.slots (λ i x e. (mine.retired i x e).0) in
+    let r : below (λ slot. retirements slot desk.retired) shape.slots ≡ length desk.retired = exchanged (λ slot (x : Retired). only slot x.slot)
+    desk.retired shape.slots ∙ each_once desk.retired shape.slots (λ i x e. (mine.retired i x e).0) in
     omega (arith, all, a, b, r, named_are_filled shape words roles log core, unused_below desk.fresh shape.slots room, below-one shape.slots)

@@ -71,7 +71,9 @@ shown_full shape words w (key.Hole number) slot t e = absurd (let z = t.0 in ome
 shown_full shape words w (key.Asked number) slot t e = absurd (let z = t.0 in omega arith)
 shown_full shape words w (key.Rows number rows) slot t e = refl
 
-module _ {A : Type 0} (role : A → Role) (marks : A → Marks) (shape : Shape) (words : List ℕ) (callers : List A) (log : List Entry) (id : ℕ) (me : A) (desk : Desk) (core : Core shape words (map role callers) log) (at : get_elem? callers id ≡ some me) (was : role me ≡ Writer desk) (own : Desked role marks shape words callers log desk (marks me)) where
+module _ {A : Type 0} (role : A → Role) (marks : A → Marks) (shape : Shape) (words : List ℕ) (callers : List A) (log : List Entry) (id : ℕ) (me : A)
+    (desk : Desk) (core : Core shape words (map role callers) log) (at : get_elem? callers id ≡ some me) (was : role me ≡ Writer desk)
+    (own : Desked role marks shape words callers log desk (marks me)) where
   there : get_elem? (map role callers) id ≡ some (Writer desk)
   there = at_maps role callers id me at ∙ ap some was
 
@@ -86,7 +88,8 @@ module _ {A : Type 0} (role : A → Role) (marks : A → Marks) (shape : Shape) 
   by_rest i entry e = let t = term_le (λ (x : Retired). only entry.slot x.slot) desk.retired i entry e in let one = only-same entry.slot in (((core.knows id (Writer desk) there).retired i entry e).0, omega arith)
 
   alive : (s : ℕ) → Living desk.retired (marks me) s → (s < shape.slots) × (0 < lives shape words desk s)
-  alive s l = ⊎_elim (λ (t : (i : ℕ) × (i < length (marks me).names) × (get_or (marks me).names i 0 ≡ suc s)). let wide = own.wide.0 in let l' = t.1 in let near : t.0 < shape.keys = omega arith in by_name t.0 s near (sym (own.names t.0 near) ∙ t.2))
+  alive s l = ⊎_elim (λ (t : (i : ℕ) × (i < length (marks me).names) × (get_or (marks me).names i 0 ≡ suc s)). let wide = own.wide.0 in
+      let l' = t.1 in let near : t.0 < shape.keys = omega arith in by_name t.0 s near (sym (own.names t.0 near) ∙ t.2))
       (λ (t : (i : ℕ) × (entry : Retired) × (get_elem? desk.retired i ≡ some entry) × (entry.slot ≡ s)). let r = by_rest t.0 t.1 t.2 in let e = t.3 in
       subst (λ (y : ℕ). (y < shape.slots) × (0 < lives shape words desk y)) e r) l
 
@@ -119,8 +122,12 @@ module _ {A : Type 0} (role : A → Role) (marks : A → Marks) (shape : Shape) 
 
   pub tidy : Tidy desk.retired (marks me) (put_count log)
   tidy = record {
-    once = λ number. let a = few_names number in let b = few_rests number in let c = named_often (marks me).puts (marks me).names number in let e = retired_often (marks me).puts desk.retired number in let f = count_is (named_puts (marks me).puts (marks me).names) number in let g = count_is (retired_puts (marks me).puts desk.retired) number in
-        dite (ℕ_discrete (total (name_has (marks me).puts number) (marks me).names) 0) (λ z. omega arith) (λ nz. dite (ℕ_discrete (total (λ (x : Retired). only number (get_or (marks me).puts x.slot 0)) desk.retired) 0) (λ z. omega arith) (λ nz'. absurd (not_both number (omega arith) (omega arith))));
+    once = λ number. let a = few_names number in let b = few_rests number in let c = named_often (marks me).puts (marks me).names number in
+        let e = retired_often (marks me).puts desk.retired number in let f = count_is (named_puts (marks me).puts (marks me).names) number in
+        let g = count_is (retired_puts (marks me).puts desk.retired) number in
+        dite (ℕ_discrete (total (name_has (marks me).puts number) (marks me).names) 0) (λ z. omega arith)
+        (λ nz. dite (ℕ_discrete (total (λ (x : Retired). only number (get_or (marks me).puts x.slot 0)) desk.retired) 0) (λ z. omega arith)
+        (λ nz'. absurd (not_both number (omega arith) (omega arith))));
     apart = λ s t l m e. let a = alive s l in let b = alive t m in own.apart s t a.0 b.0 a.1 b.1 e;
     fresh = λ s l. let a = alive s l in own.fresh s a.0 a.1;
   }

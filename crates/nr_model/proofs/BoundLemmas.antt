@@ -57,7 +57,9 @@ call_has bound (Cancel key) (Rows n rows) brings h = h
 step_has : (map : PartialMap) (call : Call) (key : ℕ) → key < length map.states → BringsRowSet map.bound call → HasRowSet map.bound (state_of map key) → HasRowSet map.bound (state_of (next map call) key)
 step_has map call key within brings h =
     ⊎_elim
-    (λ same. subst (λ k. HasRowSet map.bound (state_of map k) → HasRowSet map.bound (state_of (next map call) k)) same (λ own. subst (HasRowSet map.bound) (sym (state_of-next_same map call (omega (arith, same)))) (call_has map.bound call (state_of map (call_key call)) brings own)) h)
+    (λ same. subst (λ k. HasRowSet map.bound (state_of map k) → HasRowSet map.bound (state_of (next map call) k)) same
+    (λ own. subst (HasRowSet map.bound) (sym (state_of-next_same map call (omega (arith, same))))
+    (call_has map.bound call (state_of map (call_key call)) brings own)) h)
     (λ other. subst (HasRowSet map.bound) (sym (state_of-next_other map key call other)) h)
     (cases_eq (call_key call) key)
 

@@ -62,7 +62,9 @@ ordered_stay_lem rows h =
     let kept = order_keeps_rows_lem rows in counts_decide_lem (in_order rows) rows kept.0 h kept.2
 
 -- what a batch that is applied leaves
-pub applied_left : (bound : ℕ) (rows left : List Row) (batch : List Delta) → applied bound rows batch ≡ Ok left → (is_short (with_all rows (positive_rows batch)) (negative_rows batch) ≡ false) × (length left ≤ bound) × (left ≡ without_all (with_all rows (positive_rows batch)) (negative_rows batch))
+pub applied_left : (bound : ℕ) (rows left : List Row) (batch : List Delta) → applied bound rows batch ≡ Ok left
+    → (is_short (with_all rows (positive_rows batch)) (negative_rows batch) ≡ false) × (length left ≤ bound)
+    × (left ≡ without_all (with_all rows (positive_rows batch)) (negative_rows batch))
 applied_left bound rows left batch h =
     let rest : List Row = without_all (with_all rows (positive_rows batch)) (negative_rows batch) in
     ⊎_elim

@@ -25,7 +25,8 @@ next_run bound key cells = ap (take bound) (drop-drop (key * bound) bound cells 
 first_run : (bound : ℕ) (cells : List Row) → take bound (drop (zero * bound) cells) ≡ take bound cells
 first_run bound cells = let e : zero * bound ≡ 0 = omega arith in ap (λ n. take bound (drop n cells)) e
 
-pub state_at : (bound : ℕ) (heads : List Head) (cells : List Row) (key : ℕ) (h : Head) (state : KeyState) → key < length heads → get_or (states_in bound heads cells) key state ≡ state_in (get_or heads key h) (take bound (drop (key * bound) cells))
+pub state_at : (bound : ℕ) (heads : List Head) (cells : List Row) (key : ℕ) (h : Head) (state : KeyState) → key < length heads
+    → get_or (states_in bound heads cells) key state ≡ state_in (get_or heads key h) (take bound (drop (key * bound) cells))
 state_at bound [] cells key h state within = absurd (omega arith)
 state_at bound (first ∷ heads) cells zero h state within = ap (state_in first) (sym (first_run bound cells))
 state_at bound (first ∷ heads) cells (suc key) h state within =
@@ -50,7 +51,9 @@ run_between bound start cells now same =
     ap (λ n. take n (drop start now)) long ∙ ap (λ l. take bound (drop start l)) same
 
 -- the cells with a run put back between its start and its end, in the place of the old ones
-pub put_between : {Z : Type 0} (bound start : ℕ) (kept : Vec Row Z) (now run : List Row) → now ≡ kept.items → length (put_mid start bound kept.items run) ≡ length kept.items → (with_items kept (put_mid start (start + bound - start) now run)).items ≡ put_mid start bound kept.items run
+pub put_between : {Z : Type 0} (bound start : ℕ) (kept : Vec Row Z) (now run : List Row) → now ≡ kept.items
+    → length (put_mid start bound kept.items run) ≡ length kept.items
+    → (with_items kept (put_mid start (start + bound - start) now run)).items ≡ put_mid start bound kept.items run
 put_between bound start kept now run same fits =
     let long : start + bound - start ≡ bound = omega arith in
     let put : put_mid start (start + bound - start) now run ≡ put_mid start bound kept.items run = ap (λ n. put_mid start n now run) long ∙ ap (λ l. put_mid start bound l run) same in
@@ -82,7 +85,9 @@ put_first : (bound : ℕ) (cells run : List Row) → put_mid (zero * bound) boun
 put_first bound cells run = let e : zero * bound ≡ 0 = omega arith in ap (λ n. put_mid n bound cells run) e
 
 -- a key's new head and run change its state alone
-pub states_put : (bound : ℕ) (heads : List Head) (cells : List Row) (key : ℕ) (h : Head) (run : List Row) → key < length heads → length cells ≡ length heads * bound → length run ≡ bound → states_in bound (set heads key h) (put_mid (key * bound) bound cells run) ≡ set (states_in bound heads cells) key (state_in h run)
+pub states_put : (bound : ℕ) (heads : List Head) (cells : List Row) (key : ℕ) (h : Head) (run : List Row) → key < length heads
+    → length cells ≡ length heads * bound → length run ≡ bound → states_in bound (set heads key h) (put_mid (key * bound) bound cells run) ≡ set
+    (states_in bound heads cells) key (state_in h run)
 states_put bound [] cells key h run within room long = absurd (omega arith)
 states_put bound (first ∷ heads) cells zero h run within room long =
     rw (put_first bound cells run, take_at run (drop bound cells) bound long, drop_at run (drop bound cells) bound long) refl
@@ -91,7 +96,9 @@ states_put bound (first ∷ heads) cells (suc key) h run within room long =
     rw (first_put bound key keys cells run (omega arith) room, next_put bound key keys cells run (omega arith) room)
     (ap (λ l. state_in first (take bound cells) ∷ l) (states_put bound heads (drop bound cells) key h run (omega arith) (rest_room bound keys cells room) long))
 
-pub kept_put : (bound : ℕ) (heads : List Head) (cells : List Row) (key : ℕ) (h : Head) (run : List Row) → key < length heads → length cells ≡ length heads * bound → length run ≡ bound → AllKept bound heads cells → IsKeptRun h run → AllKept bound (set heads key h) (put_mid (key * bound) bound cells run)
+pub kept_put : (bound : ℕ) (heads : List Head) (cells : List Row) (key : ℕ) (h : Head) (run : List Row) → key < length heads
+    → length cells ≡ length heads * bound → length run ≡ bound → AllKept bound heads cells → IsKeptRun h run
+    → AllKept bound (set heads key h) (put_mid (key * bound) bound cells run)
 kept_put bound [] cells key h run within room long kept one = absurd (omega arith)
 kept_put bound (first ∷ heads) cells zero h run within room long kept one =
     rw (put_first bound cells run, take_at run (drop bound cells) bound long, drop_at run (drop bound cells) bound long) (one, kept.1)
@@ -131,7 +138,9 @@ length-put bound heads cells key run within room long =
     omega (arith, ends, front, length-append (take start cells) (run ++ drop bound (drop start cells)), length-append run (drop bound (drop start cells)), length-drop bound (drop start cells), length-drop start cells, long)
 
 -- what a call makes of the key's head and run, it makes of the map
-pub reply_made : (bound : ℕ) (heads : List Head) (cells : List Row) (call : Call) (key : ℕ) (h : Head) (answer : Reply) → key ≡ call_key call → key < length heads → answer ≡ reply_at bound call (state_in (get_or heads key h) (take bound (drop (key * bound) cells))) → answer ≡ reply_to (map_of bound heads cells) call
+pub reply_made : (bound : ℕ) (heads : List Head) (cells : List Row) (call : Call) (key : ℕ) (h : Head) (answer : Reply) → key ≡ call_key call
+    → key < length heads → answer ≡ reply_at bound call (state_in (get_or heads key h) (take bound (drop (key * bound) cells)))
+    → answer ≡ reply_to (map_of bound heads cells) call
 reply_made bound heads cells call key h answer at within made =
     made
     ∙ ap (reply_at bound call) (sym (state_at bound heads cells key h (Hole 0) within))

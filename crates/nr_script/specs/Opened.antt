@@ -6,8 +6,8 @@ use Rattle.nr_model.specs.declared.calls.Call.{Call}
 use Rattle.nr_model.specs.declared.calls.Call.TheVariants as calls
 use Rattle.nr_model.specs.Maps.{key_count, state_of, number_of}
 use Rattle.nr_alone.specs.Answers.{Answer}
-use Rattle.nr_alone.specs.declared.answer.Refusal.{Refusal as MapRefusal}
-use Rattle.nr_alone.specs.declared.answer.Refusal.TheVariants as map_refusals
+use Rattle.nr_alone.specs.declared.answer.PinRefusal.{PinRefusal as MapRefusal}
+use Rattle.nr_alone.specs.declared.answer.PinRefusal.TheVariants as map_refusals
 use Rattle.nr_alone.specs.MapState.{MapState, MapOutcome, answer_again, answer_call, answer_of_reader, answer_pinning, answer_show, answer_unpin, opened_map}
 use Rattle.nr_lines.specs.Dialogue.{IsOutcome}
 use Rattle.nr_lines.specs.declared.fault.LineError.{LineError}

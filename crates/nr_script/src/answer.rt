@@ -19,16 +19,16 @@ pub(crate) enum ScriptRefusal {
     NotHolding,
 }
 
-impl From<nr_alone::Refusal> for ScriptRefusal {
+impl From<nr_alone::PinRefusal> for ScriptRefusal {
     ghost use Rattle.std.specs.Prelude.{◌≡◌};
     ghost use Rattle.nr_script.specs.Opened.{refused};
 
     ghost from_gives = { λ map_refusal refusal. refusal ≡ refused map_refusal };
 
-    fn from(refusal: nr_alone::Refusal) -> ScriptRefusal {
+    fn from(refusal: nr_alone::PinRefusal) -> ScriptRefusal {
         match refusal {
-            nr_alone::Refusal::Holding => ScriptRefusal::Holding,
-            nr_alone::Refusal::NotHolding => ScriptRefusal::NotHolding,
+            nr_alone::PinRefusal::Holding => ScriptRefusal::Holding,
+            nr_alone::PinRefusal::NotHolding => ScriptRefusal::NotHolding,
         }
     }
 }

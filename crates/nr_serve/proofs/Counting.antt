@@ -119,8 +119,16 @@ module _ (id : ℕ) (me : Me (Unit {0}) Visit) where
         keeps,
         tt,
         subst (λ (b : _). AreCounts (stepped state place (either b next n) id me.1 (after (set state.words place next) me.0 (place ∷ []) 0) keeps)) (sym (eq-eqb n count hit))
-            (still_counts state are place next id me (place ∷ []) 0 there inside up (λ _. omega (arith, hit, next_is, one, sum)) (λ other not _. ap (λ (b : _). cond b 1 0 + 0) (ne_eqb place other (λ same. not (sym same)))) (λ _ at_last. let seen = closed at_last in omega (arith, seen, known)) (λ same. absurd (is_count same))),
-        (sees_more state are place next id me (place ∷ []) 0 there inside up, omega arith, subst (λ (b : _). MatchBool b (me.0.raised ++ place ∷ [] ≡ me.0.raised ++ place ∷ []) (me.0.raised ++ place ∷ [] ≡ me.0.raised)) (sym (eq-eqb n count hit)) refl),
+            (still_counts state are place next id me (place ∷ []) 0 there inside up (λ _. omega (arith, hit, next_is, one, sum))
+            (λ other not _. ap (λ (b : _). cond b 1 0 + 0) (ne_eqb place other (λ same. not (sym same))))
+            (λ _ at_last. let seen = closed at_last in omega (arith, seen, known)) (λ same. absurd (is_count same))),
+        (
+          sees_more state are place next id me (place ∷ []) 0 there inside up,
+          omega arith,
+          subst
+              (λ (b : _). MatchBool b (me.0.raised ++ place ∷ [] ≡ me.0.raised ++ place ∷ []) (me.0.raised ++ place ∷ [] ≡ me.0.raised))
+              (sym (eq-eqb n count hit)) refl,
+        ),
       ))
       (λ miss. (
         after (set state.words place n) me.0 [] 0,
@@ -128,7 +136,13 @@ module _ (id : ℕ) (me : Me (Unit {0}) Visit) where
         tt,
         subst (λ (b : _). AreCounts (stepped state place (either b next n) id me.1 (after (set state.words place n) me.0 [] 0) keeps)) (sym (ne_eqb n count miss))
             (still_counts state are place n id me [] 0 there inside (le_refl n) (λ is. let sum = are.counted place is in omega (arith, sum)) (λ other _ _. refl) (λ is. are.last place is) (still_closed state are place)),
-        (sees_more state are place n id me [] 0 there inside (le_refl n), omega arith, subst (λ (b : _). MatchBool b (me.0.raised ++ [] ≡ me.0.raised ++ place ∷ []) (me.0.raised ++ [] ≡ me.0.raised)) (sym (ne_eqb n count miss)) (append-nil me.0.raised)),
+        (
+          sees_more state are place n id me [] 0 there inside (le_refl n),
+          omega arith,
+          subst
+              (λ (b : _). MatchBool b (me.0.raised ++ [] ≡ me.0.raised ++ place ∷ []) (me.0.raised ++ [] ≡ me.0.raised)) (sym (ne_eqb n count miss))
+              (append-nil me.0.raised),
+        ),
       ))
 
 -- a new guest

@@ -56,9 +56,11 @@ gets_what_it_heard_lem finds_written old note asking new key tries rows_before r
     let known = heard.hears.seen.rest ++ heard.seen.rest in
     let more = known ++ there.front in
     let all_known : by.seen ≡ note.seen ++ known = heard.seen.is ∙ ap (λ (l : List Entry). l ++ heard.seen.rest) heard.hears.seen.is ∙ append_assoc note.seen heard.hears.seen.rest heard.seen.rest in
-    let begun : by.seen ++ there.front ≡ written ++ (since ++ more) = ap (λ (l : List Entry). l ++ there.front) all_known ∙ append_assoc note.seen known there.front ∙ ap (λ (l : List Entry). l ++ more) had ∙ append_assoc written since more in
+    let begun : by.seen ++ there.front ≡ written ++ (since ++ more) = ap (λ (l : List Entry). l ++ there.front) all_known
+    ∙ append_assoc note.seen known there.front ∙ ap (λ (l : List Entry). l ++ more) had ∙ append_assoc written since more in
     let place : new.reader.seen ≡ ((written ++ (since ++ more)) ++ find ∷ []) ++ there.back =
-    makes.seen.is ∙ ap (λ (l : List Entry). by.seen ++ l) there.is ∙ sym (append_assoc by.seen there.front (find ∷ there.back)) ∙ ap (λ (l : List Entry). l ++ find ∷ there.back) begun ∙ sym (append_assoc (written ++ (since ++ more)) (find ∷ []) there.back) in
+    makes.seen.is ∙ ap (λ (l : List Entry). by.seen ++ l) there.is ∙ sym (append_assoc by.seen there.front (find ∷ there.back))
+    ∙ ap (λ (l : List Entry). l ++ find ∷ there.back) begun ∙ sym (append_assoc (written ++ (since ++ more)) (find ∷ []) there.back) in
     let table : new.reader.table ≡ old.table = makes.table ∙ heard.table ∙ heard.hears.learns.table in
     let legal : IsLegal opening (((written ++ (since ++ more)) ++ find ∷ []) ++ there.back) = subst (IsLegal opening) place (subst (λ (t : Table). IsLegal (map_at_opening t) new.reader.seen) table sound.legal) in
     let keys : key < length opening.states = omega (arith, near, length-replicate old.table.shape.keys (Hole old.table.shape.first_number)) in record {

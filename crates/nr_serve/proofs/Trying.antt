@@ -56,7 +56,8 @@ pinned_through steps key a b pin reader posted gains rests =
     (record { makes = makes_by_rests steps pin.reader reader rests; posts = posts_none b.kept b.poster; sends = omega (arith, posted.sends) })
 
 -- a try that finds rows: the post, the find, and what became of the pin
-pub tries_pin : (key : ℕ) (a b c : Hands) (pin : Pinned) (answer : Got) (reader : Caller) (before rows : List Row) → Moves 0 a [] b → b.poster.tries ≡ a.poster.tries + kept_attempts a.kept → Gains 2 b.reader (call.Find key) (reply.Rows pin.rows) pin.reader
+pub tries_pin : (key : ℕ) (a b c : Hands) (pin : Pinned) (answer : Got) (reader : Caller) (before rows : List Row) → Moves 0 a [] b
+    → b.poster.tries ≡ a.poster.tries + kept_attempts a.kept → Gains 2 b.reader (call.Find key) (reply.Rows pin.rows) pin.reader
     → AnswersPin pin before answer reader rows → c ≡ record b { reader = reader } → TriesOnce key a before (tried.Ended answer) c rows
 tries_pin key a b c pin got.Rows reader before rows posted first gains answers is =
     let count : 2 + (2 * length pin.rows + 1) ≡ 2 * length pin.rows + 3 = omega arith in

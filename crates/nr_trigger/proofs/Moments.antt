@@ -23,7 +23,13 @@ pop-tells queue taking tries None new tells = empty-moment queue taking tries te
 pop-tells queue taking tries (Some post) new tells = tells.1
 
 pub full-moment : (queue : TableId) (room : ℕ) (posting : Posting) (tries : ℕ) → Held room (Moment (Poster posting)) → WasFull room (poster_seen queue posting tries)
-full-moment queue room posting tries (held, full, moment) = record { held = held; full = full; moment = moment; own = (moment.delivers.fits moment.place (Poster posting) moment.there).1; own_notes = (moment.delivers.fits moment.place (Poster posting) moment.there).2 }
+full-moment queue room posting tries (held, full, moment) = record {
+  held = held;
+  full = full;
+  moment = moment;
+  own = (moment.delivers.fits moment.place (Poster posting) moment.there).1;
+  own_notes = (moment.delivers.fits moment.place (Poster posting) moment.there).2;
+}
 
 pub push-tells : (queue : TableId) (room : ℕ) (posting : Posting) (tries : ℕ) (post : Post) (result : Result (Unit {0}) Post) (new : PassView)
     → MatchResult result (λ _. has_posted (Poster posting) post new) (λ back. (back ≡ post) × (new ≡ Poster posting) × Held room (Moment (Poster posting)))

@@ -5,7 +5,7 @@ use mathlib.Core.Option.{some}
 use Rattle.nr_trigger.specs.declared.post.Post.{Post}
 use Rattle.nr_trigger.specs.declared.post.Upquery.{Upquery}
 use Rattle.nr_trigger.specs.Posts.{Limits, notes_part, part}
-use Rattle.nr_trigger.specs.Views.{PassView, Posting, Opener, Spare, Taker, Poster}
+use Rattle.nr_trigger.specs.Views.{PassView, Posting, Opener, Leftover, Taker, Poster}
 use Rattle.nr_trigger.specs.Delivers.{Delivers, KnowsItsPart}
 use Rattle.nr_trigger.specs.Once.{ComesOutOnce, IsAmong}
 use Rattle.nr_trigger.proofs.Parts.{part-append}
@@ -23,7 +23,7 @@ own-part-has-it before after post none =
 -- the pass at a poster's place is that poster's
 place-is-posters : (posted taken : List Post) (limits : Limits) (passes number : ℕ) (view : PassView) → KnowsItsPart posted taken limits passes (number + 2) view → (posting : Posting) × (view ≡ Poster posting) × (posting.number ≡ number)
 place-is-posters posted taken limits passes number Opener fits = absurd (let first = fits.0 in omega (arith, first))
-place-is-posters posted taken limits passes number Spare fits = absurd (omega (arith, fits))
+place-is-posters posted taken limits passes number Leftover fits = absurd (omega (arith, fits))
 place-is-posters posted taken limits passes number (Taker taking) fits = absurd (let first = fits.0 in omega (arith, first))
 place-is-posters posted taken limits passes number (Poster posting) fits = (posting, refl, let place = fits.0 in omega (arith, place))
 

@@ -6,7 +6,7 @@ use lib.ListN.{get_elem?}
 use Rattle.crossbeam_queue.specs.Fifo.{Forks}
 use Rattle.nr_trigger.specs.declared.post.Post.{Post}
 use Rattle.nr_trigger.specs.Posts.{Limits, MayAllGo, without_notes}
-use Rattle.nr_trigger.specs.Views.{PassView, Opener, Spare, opening_taker}
+use Rattle.nr_trigger.specs.Views.{PassView, Opener, Leftover, opening_taker}
 use Rattle.nr_trigger.specs.Delivers.{Delivers, KnowsItsPart}
 use Rattle.nr_trigger.proofs.Places.{each-after-change, inside-or-last, place-is-inside}
 
@@ -29,14 +29,14 @@ opening-delivers = record {
   silent = λ number long. (refl, refl);
 }
 
-pub first-pass-becomes-takers : (limits : Limits) (place : ℕ) (view : PassView) → view ≡ Opener → Forks Delivers place view (opening_taker limits) Spare
+pub first-pass-becomes-takers : (limits : Limits) (place : ℕ) (view : PassView) → view ≡ Opener → Forks Delivers place view (opening_taker limits) Leftover
 first-pass-becomes-takers limits place view is held views old at =
     let me = subst (KnowsItsPart old.posted old.taken old.limits (length views) place) is (old.fits place view at) in
     let changed : List PassView = set views place (opening_taker limits) in
     let size : length changed ≡ length views = length-set views place (opening_taker limits) in
     let one : length views ≡ 1 = me.1 in
-    let two : length (changed ++ Spare ∷ []) ≡ 2 = omega (arith, length-append changed (Spare ∷ []), size, one) in
-    let F : ℕ → PassView → Type 0 = KnowsItsPart old.posted old.taken limits (length (changed ++ Spare ∷ [])) in
+    let two : length (changed ++ Leftover ∷ []) ≡ 2 = omega (arith, length-append changed (Leftover ∷ []), size, one) in
+    let F : ℕ → PassView → Type 0 = KnowsItsPart old.posted old.taken limits (length (changed ++ Leftover ∷ [])) in
     record {
       posted = old.posted;
       taken = old.taken;
@@ -48,7 +48,7 @@ first-pass-becomes-takers limits place view is held views old at =
           (λ (h : get_elem? changed at' ≡ some view).
           each-after-change F views place (opening_taker limits) (me.0, two, nothing-taken old.taken held old.posted old.whole me.2, refl)
           (λ at' view other there. let inside = place-is-inside views at' view there in absurd (other (omega (arith, inside, one, me.0)))) at' view h)
-          (λ (h : (at' ≡ length changed) × (Spare ≡ view)). subst (F at') h.1 (h.0 ∙ size ∙ one))
-          (inside-or-last changed Spare view at' there);
+          (λ (h : (at' ≡ length changed) × (Leftover ≡ view)). subst (F at') h.1 (h.0 ∙ size ∙ one))
+          (inside-or-last changed Leftover view at' there);
       silent = λ number long. old.silent number (omega (arith, one));
     }

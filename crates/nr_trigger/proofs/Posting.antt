@@ -5,7 +5,7 @@ use mathlib.Core.Option.{some}
 use lib.ListN.{get_elem?}
 use Rattle.crossbeam_queue.specs.Fifo.{Pushes}
 use Rattle.nr_trigger.specs.declared.post.Post.{Post}
-use Rattle.nr_trigger.specs.Views.{PassView, Posting, Opener, Spare, Taker, Poster, has_posted}
+use Rattle.nr_trigger.specs.Views.{PassView, Posting, Opener, Leftover, Taker, Poster, has_posted}
 use Rattle.nr_trigger.specs.Delivers.{Delivers, KnowsItsPart}
 use Rattle.nr_trigger.specs.Posts.{Limits, MayGo}
 use Rattle.nr_trigger.proofs.Parts.{one-more-may-go, other-part-stays, own-part-gains}
@@ -15,7 +15,7 @@ use Rattle.nr_trigger.proofs.Places.{each-after-change, place-is-inside}
 others-fit-a-post-more : (posted taken : List Post) (limits : Limits) (passes place at : ℕ) (post : Post) (view : PassView) → place ≢ at → at ≡ post.poster + 2 → at < passes
     → KnowsItsPart posted taken limits passes place view → KnowsItsPart (posted ++ post ∷ []) taken limits passes place view
 others-fit-a-post-more posted taken limits passes place at post Opener other spot inside fits = absurd (let one = fits.1 in omega (arith, one, inside, spot))
-others-fit-a-post-more posted taken limits passes place at post Spare other spot inside fits = fits
+others-fit-a-post-more posted taken limits passes place at post Leftover other spot inside fits = fits
 others-fit-a-post-more posted taken limits passes place at post (Taker taking) other spot inside fits = fits
 others-fit-a-post-more posted taken limits passes place at post (Poster posting) other spot inside fits =
     let others : post.poster ≢ posting.number = λ same. other (fits.0 ∙ ap (λ n. n + 2) (sym same) ∙ sym spot) in

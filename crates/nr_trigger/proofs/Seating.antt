@@ -6,14 +6,14 @@ use lib.ListN.{get_elem?}
 use Rattle.crossbeam_queue.specs.Fifo.{Forks}
 use Rattle.nr_trigger.specs.declared.post.Post.{Post}
 use Rattle.nr_trigger.specs.Posts.{Limits, notes_part, part}
-use Rattle.nr_trigger.specs.Views.{PassView, Taking, Opener, Spare, Taker, Poster, with_poster, next_poster}
+use Rattle.nr_trigger.specs.Views.{PassView, Taking, Opener, Leftover, Taker, Poster, with_poster, next_poster}
 use Rattle.nr_trigger.specs.Delivers.{Delivers, KnowsItsPart}
 use Rattle.nr_trigger.proofs.Places.{each-after-change, inside-or-last}
 
 -- another pass than the taker's fits among however many
 others-fit-among-more : (posted taken : List Post) (limits : Limits) (passes more place at : ℕ) (view : PassView) → place ≢ at → at ≡ 0 → KnowsItsPart posted taken limits passes place view → KnowsItsPart posted taken limits more place view
 others-fit-among-more posted taken limits passes more place at Opener other first fits = absurd (other (fits.0 ∙ sym first))
-others-fit-among-more posted taken limits passes more place at Spare other first fits = fits
+others-fit-among-more posted taken limits passes more place at Leftover other first fits = fits
 others-fit-among-more posted taken limits passes more place at (Taker taking) other first fits = absurd (other (fits.0 ∙ sym first))
 others-fit-among-more posted taken limits passes more place at (Poster posting) other first fits = fits
 

@@ -6,15 +6,16 @@ use lib.ListN.{get_elem?}
 use Rattle.crossbeam_queue.specs.Fifo.{Pops}
 use Rattle.nr_trigger.specs.declared.post.Post.{Post}
 use Rattle.nr_trigger.specs.Posts.{Limits, MayAllGo, MayGo}
-use Rattle.nr_trigger.specs.Views.{PassView, Taking, Opener, Spare, Taker, Poster, has_taken}
+use Rattle.nr_trigger.specs.Views.{PassView, Taking, Opener, Leftover, Taker, Poster, has_taken}
 use Rattle.nr_trigger.specs.Delivers.{Delivers, KnowsItsPart}
 use Rattle.nr_trigger.proofs.Parts.{each-may-go}
 use Rattle.nr_trigger.proofs.Places.{each-after-change}
 
 -- another pass than the taker's fits whatever was taken
-others-fit-what-was-taken : (posted taken more : List Post) (limits : Limits) (passes place at : ℕ) (view : PassView) → place ≢ at → at ≡ 0 → KnowsItsPart posted taken limits passes place view → KnowsItsPart posted more limits passes place view
+others-fit-what-was-taken : (posted taken more : List Post) (limits : Limits) (passes place at : ℕ) (view : PassView) → place ≢ at → at ≡ 0
+    → KnowsItsPart posted taken limits passes place view → KnowsItsPart posted more limits passes place view
 others-fit-what-was-taken posted taken more limits passes place at Opener other first fits = fits
-others-fit-what-was-taken posted taken more limits passes place at Spare other first fits = fits
+others-fit-what-was-taken posted taken more limits passes place at Leftover other first fits = fits
 others-fit-what-was-taken posted taken more limits passes place at (Taker taking) other first fits = absurd (other (fits.0 ∙ sym first))
 others-fit-what-was-taken posted taken more limits passes place at (Poster posting) other first fits = fits
 

@@ -4,13 +4,13 @@ use mathlib.Core.Option.{some}
 use lib.ListN.{get_elem?}
 use Rattle.nr_trigger.specs.declared.post.Post.{Post}
 use Rattle.nr_trigger.specs.Posts.{Limits, MayAllGo, notes_part, part}
-use Rattle.nr_trigger.specs.Views.{PassView, Opener, Spare, Taker, Poster}
+use Rattle.nr_trigger.specs.Views.{PassView, Opener, Leftover, Taker, Poster}
 
 -- What the pass at a place knows is so. The taker's is the first, and each poster's stands at the place of its number.
 module _ (posted taken : List Post) (limits : Limits) (passes place : ℕ) where
   abbrev pub KnowsItsPart : PassView → Type 0
   KnowsItsPart Opener = (place ≡ 0) × (passes ≡ 1) × (posted ≡ [])
-  KnowsItsPart Spare = place ≡ 1
+  KnowsItsPart Leftover = place ≡ 1
   KnowsItsPart (Taker taking) = (place ≡ 0) × (passes ≡ taking.made + 2) × (taking.taken ≡ taken) × (taking.limits ≡ limits)
   KnowsItsPart (Poster posting) = (place ≡ posting.number + 2) × (posting.posted ≡ part posting.number posted) × (posting.notes ≡ notes_part posting.number posted) × (posting.limits ≡ limits)
 

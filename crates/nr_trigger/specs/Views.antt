@@ -26,7 +26,7 @@ pub record Posting : Type 0 where
 pub data PassView : Type 0 where
   -- the first pass, and the one that is left over when it became the taker's
   Opener : PassView
-  Spare : PassView
+  Leftover : PassView
   Taker : Taking → PassView
   Poster : Posting → PassView
 
@@ -49,7 +49,7 @@ with_poster view = view
 
 abbrev pub next_poster : PassView → PassView
 next_poster (Taker old) = Poster (record { limits = old.limits; number = old.made; posted = []; notes = [] })
-next_poster view = Spare
+next_poster view = Leftover
 
 -- a push: nobody but a poster makes one
 abbrev pub has_posted : PassView → Post → PassView → Type 0

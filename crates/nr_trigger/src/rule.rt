@@ -34,11 +34,11 @@ pub struct Begins<L> {
 }
 
 impl<L: Limit> Split<View> for Begins<L> {
-    ghost use Rattle.nr_trigger.specs.Views.{Spare, opening_taker};
+    ghost use Rattle.nr_trigger.specs.Views.{Leftover, opening_taker};
 
     ghost left = { λ _. opening_taker L.limits };
 
-    ghost right = { λ _. Spare };
+    ghost right = { λ _. Leftover };
 }
 
 /// The taker makes the next poster.

@@ -36,7 +36,17 @@ returns c =
           c.meet_readers.new.reader,
           c.take_reader-friend.result,
           record { old = c.side-side.result.now; new = _; led = read; leads = refl; map = c.put.ensures.map ∙ c.take_reader-idle.ensures.map; old_hand = c.take_reader-idle.ensures.reader; new_hand = c.put.ensures.hand },
-          record { old = c.side-theirs.result.now; new = _; led = wrote; leads = refl; map = c.put-2.ensures.map ∙ c.take_reader-friend.ensures.map; old_hand = c.take_reader-friend.ensures.reader; new_hand = c.put-2.ensures.hand ∙ ap Idle c.meet_readers.ensures.other },
+          record {
+            old = c.side-theirs.result.now;
+            new = _;
+            led = wrote;
+            leads = refl;
+            map = c.put-2.ensures.map
+                ∙ c.take_reader-friend.ensures.map;
+            old_hand = c.take_reader-friend.ensures.reader;
+            new_hand = c.put-2.ensures.hand
+                ∙ ap Idle c.meet_readers.ensures.other;
+          },
           c.meet_readers.ensures.reader,
         ),
       )),

@@ -50,5 +50,12 @@ returns-in-Err c =
     inr (inr (
       (side, was),
       ap (λ handle. handle.live) (sym c.is_live-2.ensures.same) ∙ c.if-is_live.ensures.empty,
-      inr (inr (refl, c.pop.new.self.items, c.in-Some.next, record { old = side; new = _; was = was; is = refl; map = refl; writer = refl; had_spare = c.in-Some.ensures.items; has_spare = back }, ap (λ handle. handle.live) c.is_live-2.ensures.same)),
+      inr (inr (
+        refl,
+        c.pop.new.self.items,
+        c.in-Some.next,
+        record
+            { old = side; new = _; was = was; is = refl; map = refl; writer = refl; had_spare = c.in-Some.ensures.items; has_spare = back },
+        ap (λ handle. handle.live) c.is_live-2.ensures.same,
+      )),
     ))

@@ -11,7 +11,21 @@ returns-then-is_err c =
     inr (
       (side, was),
       (held, ap (λ handle. handle.live) (sym c.is_live-else-not-is_live.ensures.same) ∙ led),
-      inr (refl, side.spare.items, record { old = side; new = _; was = was; is = refl; map = refl; writer = refl; had_spare = refl; has_spare = c.try_reserve.ensures.items }, ap (λ handle. handle.live) c.is_live-else-not-is_live.ensures.same),
+      inr (
+        refl,
+        side.spare.items,
+        record {
+          old = side;
+          new = _;
+          was = was;
+          is = refl;
+          map = refl;
+          writer = refl;
+          had_spare = refl;
+          has_spare = c.try_reserve.ensures.items;
+        },
+        ap (λ handle. handle.live) c.is_live-else-not-is_live.ensures.same,
+      ),
     )
 
 pub unreachable-requires : goal.unreachable-requires

@@ -3,10 +3,35 @@ use Rattle.nr_c.specs.Numbers.{answer_other, answer_rows}
 use Rattle.nr_c.proofs.pins.nr_again.Goals as goal
 
 pub returns-then-not-has_key : goal.returns-then-not-has_key
-returns-then-not-has_key c = inr (inl (record { code_is = refl; stay = tt; held = c.side-side.result.now; was = ap (λ handle. handle.live) (sym c.is_live.ensures.same) ∙ c.side-side.ensures.value; is = refl; above = c.if-not-has_key.ensures.hasnt }))
+returns-then-not-has_key c = inr (inl (record {
+  code_is = refl;
+  stay = tt;
+  held = c.side-side.result.now;
+  was = ap (λ handle. handle.live)
+      (sym c.is_live.ensures.same) ∙ c.side-side.ensures.value;
+  is = refl;
+  above = c.if-not-has_key.ensures.hasnt;
+}))
 
 pub returns-then-not-holds : goal.returns-then-not-holds
-returns-then-not-holds c = inr (inr (record { held = c.side-side.result.now; was = ap (λ handle. handle.live) (sym c.is_live.ensures.same) ∙ c.side-side.ensures.value; below = c.if-not-has_key.ensures.has }, inl (record { code_is = refl; stay = tt; held = c.side-side.result.now; was = ap (λ handle. handle.live) (sym c.is_live.ensures.same) ∙ c.side-side.ensures.value; is = refl; hand = c.if-not-holds.ensures.none })))
+returns-then-not-holds c = inr (inr (
+  record {
+    held = c.side-side.result.now;
+    was = ap (λ handle. handle.live) (sym c.is_live.ensures.same)
+        ∙ c.side-side.ensures.value;
+    below = c.if-not-has_key.ensures.has;
+  },
+  inl
+      (record {
+        code_is = refl;
+        stay = tt;
+        held = c.side-side.result.now;
+        was = ap (λ handle. handle.live) (sym c.is_live.ensures.same)
+            ∙ c.side-side.ensures.value;
+        is = refl;
+        hand = c.if-not-holds.ensures.none;
+      }),
+))
 
 pub returns-then-found : goal.returns-then-found
 returns-then-found c = inr (inr (
@@ -16,7 +41,16 @@ returns-then-found c = inr (inr (
     ap (λ (b : Bool). cond {A = ℕ} b answer_rows answer_other) (sym c.if-found.true),
     c.again-found.ensures.hand.0,
     c.again-found.ensures.hand.1,
-    record { old = c.side-side.result.now; new = _; led = ap (λ handle. handle.live) (sym c.is_live.ensures.same) ∙ c.side-side.ensures.value; leads = refl; map = c.again-found.ensures.map; old_hand = c.again-found.ensures.hand.2; new_hand = c.again-found.ensures.hand.3 },
+    record {
+      old = c.side-side.result.now;
+      new = _;
+      led = ap (λ handle. handle.live) (sym c.is_live.ensures.same)
+          ∙ c.side-side.ensures.value;
+      leads = refl;
+      map = c.again-found.ensures.map;
+      old_hand = c.again-found.ensures.hand.2;
+      new_hand = c.again-found.ensures.hand.3;
+    },
     c.again-found.ensures.hand.4,
   )),
 ))
@@ -29,7 +63,16 @@ returns-else-found c = inr (inr (
     ap (λ (b : Bool). cond {A = ℕ} b answer_rows answer_other) (sym c.if-found.false),
     c.again-found.ensures.hand.0,
     c.again-found.ensures.hand.1,
-    record { old = c.side-side.result.now; new = _; led = ap (λ handle. handle.live) (sym c.is_live.ensures.same) ∙ c.side-side.ensures.value; leads = refl; map = c.again-found.ensures.map; old_hand = c.again-found.ensures.hand.2; new_hand = c.again-found.ensures.hand.3 },
+    record {
+      old = c.side-side.result.now;
+      new = _;
+      led = ap (λ handle. handle.live) (sym c.is_live.ensures.same)
+          ∙ c.side-side.ensures.value;
+      leads = refl;
+      map = c.again-found.ensures.map;
+      old_hand = c.again-found.ensures.hand.2;
+      new_hand = c.again-found.ensures.hand.3;
+    },
     c.again-found.ensures.hand.4,
   )),
 ))

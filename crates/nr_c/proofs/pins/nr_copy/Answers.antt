@@ -2,14 +2,31 @@ use Rattle.std.proofs.Common.{inl, inr, refl, ◌∙◌, ap, sym}
 use Rattle.nr_c.proofs.pins.nr_copy.Goals as goal
 
 pub returns-then-not-holds : goal.returns-then-not-holds
-returns-then-not-holds c = inr (inl (record { code_is = refl; stay = refl; held = c.side-side.result.now; was = ap (λ handle. handle.live) (sym c.is_live.ensures.same) ∙ c.side-side.ensures.value; is = refl; hand = c.if-not-holds.ensures.none }))
+returns-then-not-holds c = inr (inl (record {
+  code_is = refl;
+  stay = refl;
+  held = c.side-side.result.now;
+  was = ap (λ handle. handle.live)
+      (sym c.is_live.ensures.same) ∙ c.side-side.ensures.value;
+  is = refl;
+  hand = c.if-not-holds.ensures.none;
+}))
 
 pub returns : goal.returns
 returns c = inr (inr ((
   refl,
   c.side-side.result.now.hand,
   c.put_hand.new.self.hand,
-  record { old = c.side-side.result.now; new = c.put_hand.new.self; led = ap (λ handle. handle.live) (sym c.is_live.ensures.same) ∙ c.side-side.ensures.value; leads = refl; map = c.put_hand.ensures.map ∙ c.take_hand-hand.ensures.map; old_hand = refl; new_hand = refl },
+  record {
+    old = c.side-side.result.now;
+    new = c.put_hand.new.self;
+    led = ap (λ handle. handle.live) (sym c.is_live.ensures.same)
+        ∙ c.side-side.ensures.value;
+    leads = refl;
+    map = c.put_hand.ensures.map ∙ c.take_hand-hand.ensures.map;
+    old_hand = refl;
+    new_hand = refl;
+  },
   c.take_hand-hand.result,
   c.copy_to.new.self,
   c.take_hand-hand.ensures.hand,

@@ -2,13 +2,30 @@ use Rattle.std.proofs.Common.{inl, inr, refl, ◌∙◌, arith, ap, sym}
 use Rattle.nr_c.proofs.pins.nr_row_at.Goals as goal
 
 pub returns-then-not-holds : goal.returns-then-not-holds
-returns-then-not-holds c = inr (inl (record { code_is = refl; stay = refl; held = c.side-side.result.now; was = ap (λ handle. handle.live) (sym c.is_live.ensures.same) ∙ c.side-side.ensures.value; is = refl; hand = c.if-not-holds.ensures.none }))
+returns-then-not-holds c = inr (inl (record {
+  code_is = refl;
+  stay = refl;
+  held = c.side-side.result.now;
+  was = ap (λ handle. handle.live)
+      (sym c.is_live.ensures.same) ∙ c.side-side.ensures.value;
+  is = refl;
+  hand = c.if-not-holds.ensures.none;
+}))
 
 pub returns-then-place-len : goal.returns-then-place-len
 returns-then-place-len c = inr (inr (inr (
   refl,
   c.take_pin-pin.result,
-  record { old = c.side-side.result.now; new = _; led = ap (λ handle. handle.live) (sym c.is_live.ensures.same) ∙ c.side-side.ensures.value; leads = refl; map = c.put.ensures.map ∙ c.take_pin-pin.ensures.map; old_hand = c.take_pin-pin.ensures.pin; new_hand = c.put.ensures.hand },
+  record {
+    old = c.side-side.result.now;
+    new = _;
+    led = ap (λ handle. handle.live) (sym c.is_live.ensures.same)
+        ∙ c.side-side.ensures.value;
+    leads = refl;
+    map = c.put.ensures.map ∙ c.take_pin-pin.ensures.map;
+    old_hand = c.take_pin-pin.ensures.pin;
+    new_hand = c.put.ensures.hand;
+  },
   omega (arith, c.len.ensures.len, c.if-place-len.true),
   refl,
 )))
@@ -18,7 +35,16 @@ returns c = inr (inr (inl (
   refl,
   c.take_pin-pin.result,
   c.row.new.self,
-  record { old = c.side-side.result.now; new = _; led = ap (λ handle. handle.live) (sym c.is_live.ensures.same) ∙ c.side-side.ensures.value; leads = refl; map = c.put-2.ensures.map ∙ c.take_pin-pin.ensures.map; old_hand = c.take_pin-pin.ensures.pin; new_hand = c.put-2.ensures.hand },
+  record {
+    old = c.side-side.result.now;
+    new = _;
+    led = ap (λ handle. handle.live) (sym c.is_live.ensures.same)
+        ∙ c.side-side.ensures.value;
+    leads = refl;
+    map = c.put-2.ensures.map ∙ c.take_pin-pin.ensures.map;
+    old_hand = c.take_pin-pin.ensures.pin;
+    new_hand = c.put-2.ensures.hand;
+  },
   c.row.ensures.row,
   c.row.ensures.rows,
   c.row.ensures.rests,

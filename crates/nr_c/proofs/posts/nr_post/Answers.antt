@@ -11,7 +11,16 @@ both posted stays told (Err fault) one other = (one, other)
 
 pub returns-then-key-side : goal.returns-then-key-side
 returns-then-key-side c = inr (
-    let side = c.side-side.result.now in let above : side.poster.keys ≤ c.args.key = omega (arith, c.if-key-side.true, side.below) in inl (record { code_is = refl; stay = tt; held = side; was = ap (λ handle. handle.live) (sym c.is_live.ensures.same) ∙ c.side-side.ensures.value; is = refl; above = above }))
+    let side = c.side-side.result.now in let above : side.poster.keys ≤ c.args.key = omega (arith, c.if-key-side.true, side.below) in
+    inl (record {
+      code_is = refl;
+      stay = tt;
+      held = side;
+      was = ap (λ handle. handle.live) (sym c.is_live.ensures.same)
+          ∙ c.side-side.ensures.value;
+      is = refl;
+      above = above;
+    }))
 
 pub returns : goal.returns
 returns c = inr (
@@ -21,5 +30,23 @@ returns c = inr (
     let was = ap (λ handle. handle.live) (sym c.is_live.ensures.same) ∙ c.side-side.ensures.value in
     inr (
       record { held = side; was = was; below = below },
-      (side, was, record { old = side; new = _; was = was; is = refl; queue = refl; made = (c.try_post.ensures.own, c.try_post.ensures.tries, c.try_post.result, c.of_post.ensures, both _ _ _ c.try_post.result c.try_post.ensures.posted full) }),
+      (
+        side,
+        was,
+        record {
+          old = side;
+          new = _;
+          was = was;
+          is = refl;
+          queue = refl;
+          made = (
+            c.try_post.ensures.own,
+            c.try_post.ensures.tries,
+            c.try_post.result,
+            c.of_post.ensures,
+            both _ _ _ c.try_post.result
+                c.try_post.ensures.posted full,
+          );
+        },
+      ),
     ))

@@ -23,5 +23,16 @@ returns-in-Ok c = inr (
       is = refl;
       queue = refl;
       spare = refl;
-      made = (c.in-Ok.ensures.own, c.in-Ok.ensures.tries, inl (refl, c.in-Ok.trigger, taken, λ i. record { key = sym c.into_key.ensures i; number = sym c.number.ensures i }, subst (λ k. k < c.side-side.result.now.taker.keys) (sym c.into_key.ensures) below));
+      made = (
+        c.in-Ok.ensures.own,
+        c.in-Ok.ensures.tries,
+        inl (
+          refl,
+          c.in-Ok.trigger,
+          taken,
+          λ i. record { key = sym c.into_key.ensures i; number = sym c.number.ensures i },
+          subst
+              (λ k. k < c.side-side.result.now.taker.keys) (sym c.into_key.ensures) below,
+        ),
+      );
     })

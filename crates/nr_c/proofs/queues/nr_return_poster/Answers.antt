@@ -9,14 +9,30 @@ returns-then-is_err c =
     inr (
       (side, was),
       (held, ap (λ handle. handle.live) (sym c.is_live-else-not-is_live.ensures.same) ∙ led),
-      inr (refl, side.spare.items, record { old = side; new = _; was = was; is = refl; queue = refl; taker = refl; had_spare = refl; has_spare = c.try_reserve.ensures.items }, ap (λ handle. handle.live) c.is_live-else-not-is_live.ensures.same),
+      inr (
+        refl,
+        side.spare.items,
+        record {
+          old = side;
+          new = _;
+          was = was;
+          is = refl;
+          queue = refl;
+          taker = refl;
+          had_spare = refl;
+          has_spare = c.try_reserve.ensures.items;
+        },
+        ap (λ handle. handle.live) c.is_live-else-not-is_live.ensures.same,
+      ),
     )
 
 pub returns : goal.returns
 returns c =
     let side = c.side-side.result.now in let (held, led) = c.if-not-is_live-2.ensures.live in
     let was : c.args.taker.now.live ≡ side ∷ [] = ap (λ handle. handle.live) (sym c.is_live.ensures.same) ∙ c.side-side.ensures.value in
-    let back : c.push_reserved.new.self.items ≡ side.spare.items ++ held.poster ∷ [] = c.push_reserved.ensures.items ∙ ap (λ items. items ++ c.close.result ∷ []) c.try_reserve.ensures.items ∙ ap (λ (one : PosterSeen). side.spare.items ++ one ∷ []) (c.close.ensures.ends held led) in
+    let back : c.push_reserved.new.self.items ≡ side.spare.items ++ held.poster ∷ [] = c.push_reserved.ensures.items
+    ∙ ap (λ items. items ++ c.close.result ∷ []) c.try_reserve.ensures.items ∙ ap (λ (one : PosterSeen). side.spare.items ++ one ∷ [])
+    (c.close.ensures.ends held led) in
     inr (
       (side, was),
       (held, ap (λ handle. handle.live) (sym c.is_live-else-not-is_live.ensures.same) ∙ led),

@@ -21,7 +21,8 @@ returns-in_default-clause-gained c =
 pub returns-clause-gained : goal.returns-clause-gained
 returns-clause-gained c =
     let old = c.args.flow.now in let new = c.apply_rows.new.self in
-    change_updates old.map.shape.keys old.map.shape.rows c.args.fills c.args.key old.writer new.writer old.source new.source c.in-Some.deltas c.apply_rows.result c.requires.key.0 (ne_eqb (c.args.fills % 4) 0 (λ same. omega (arith, same, c.if-fills-eq0.false)))
+    change_updates old.map.shape.keys old.map.shape.rows c.args.fills c.args.key old.writer new.writer old.source new.source c.in-Some.deltas
+    c.apply_rows.result c.requires.key.0 (ne_eqb (c.args.fills % 4) 0 (λ same. omega (arith, same, c.if-fills-eq0.false)))
     (subst (λ (base : List ℕ). StepsBase old.source c.args.key (Some c.in-Some.deltas) base) (sym (ap (λ (flow : FlowSeen (List ℕ)). flow.source) c.apply_rows.ensures.rest))
     (subst (λ (base : List ℕ). StepsBase base c.args.key (Some c.in-Some.deltas) c.step.new.self) c.source.ensures.value
     (subst (λ (batch : Option (List Delta)). StepsBase c.source.result.now c.args.key batch c.step.new.self) c.in-Some.is c.step.ensures)))

@@ -10,7 +10,9 @@ use Rattle.nr_load.proofs.gets.load_gets.Goals as goal
 pub returns-then-is_closed-clause-works : goal.returns-then-is_closed-clause-works
 returns-then-is_closed-clause-works g c =
     let none : List ℕ = replicate c.args.draws.now.keys 0 in
-    subst (λ (fault : Option LoadFault). Works 1000000 c.args.draws.now.keys c.stopped.result.made c.args.draws.now.generator c.stopped.result.answered none (of_gets fault) c.args.client.now.hands c.loop-made.client.hands c.loop-made.draws.generator) (sym c.stopped.ensures.stopped.1)
+    subst (λ (fault : Option LoadFault). Works 1000000 c.args.draws.now.keys c.stopped.result.made c.args.draws.now.generator
+    c.stopped.result.answered none (of_gets fault) c.args.client.now.hands c.loop-made.client.hands c.loop-made.draws.generator)
+    (sym c.stopped.ensures.stopped.1)
     (subst (λ (n : ℕ). Works 1000000 c.args.draws.now.keys n c.args.draws.now.generator c.stopped.result.answered none None c.args.client.now.hands c.loop-made.client.hands c.loop-made.draws.generator) (sym c.stopped.ensures.made.0)
     (subst (λ (n : ℕ). Works 1000000 c.args.draws.now.keys c.loop-made.made c.args.draws.now.generator n none None c.args.client.now.hands c.loop-made.client.hands c.loop-made.draws.generator) (sym c.stopped.ensures.made.1)
     (ends 1000000 _ _ _ _ _ _ _ _ _ c.loop-made.invariant.begun)))
@@ -19,7 +21,9 @@ pub returns-clause-works : goal.returns-clause-works
 returns-clause-works g c =
     let none : List ℕ = replicate c.args.draws.now.keys 0 in
     let all : c.loop-made.made ≡ c.args.gets = omega arith in
-    subst (λ (fault : Option LoadFault). Works 1000000 c.args.draws.now.keys c.ended-2.result.made c.args.draws.now.generator c.ended-2.result.answered none (of_gets fault) c.args.client.now.hands c.loop-made.client.hands c.loop-made.draws.generator) (sym c.ended-2.ensures.fault)
+    subst (λ (fault : Option LoadFault). Works 1000000 c.args.draws.now.keys c.ended-2.result.made c.args.draws.now.generator
+    c.ended-2.result.answered none (of_gets fault) c.args.client.now.hands c.loop-made.client.hands c.loop-made.draws.generator)
+    (sym c.ended-2.ensures.fault)
     (subst (λ (n : ℕ). Works 1000000 c.args.draws.now.keys n c.args.draws.now.generator c.ended-2.result.answered none None c.args.client.now.hands c.loop-made.client.hands c.loop-made.draws.generator) (sym c.ended-2.ensures.made.0)
     (subst (λ (n : ℕ). Works 1000000 c.args.draws.now.keys c.args.gets c.args.draws.now.generator n none None c.args.client.now.hands c.loop-made.client.hands c.loop-made.draws.generator) (sym c.ended-2.ensures.made.1)
     (subst (λ (n : ℕ). Works 1000000 c.args.draws.now.keys n c.args.draws.now.generator c.loop-made.answered none None c.args.client.now.hands c.loop-made.client.hands c.loop-made.draws.generator) all
@@ -36,8 +40,10 @@ loop-made-preserved g c =
     let long : length got.new.known ≡ length c.loop-made.known.items = judged_long _ _ _ _ _ _ judged in
     let items : take c.loop-made.known.len (got.new.known ++ drop (length got.new.known) c.loop-made.known.items) ≡ got.new.known =
     take_at got.new.known (drop (length got.new.known) c.loop-made.known.items) c.loop-made.known.len (long ∙ sym (ap (λ (l : List ℕ). length l) c.as_mut_slice.ensures.value) ∙ c.as_mut_slice.ensures.len) in
-    let begun : Begins 1000000 keys (c.loop-made.made + 1) c.args.draws.now.generator (c.loop-made.answered + answers got.result.0) (replicate keys 0) c.args.client.now.hands got.new.known got.new.client.hands (drawn_on c.loop-made.draws.generator) =
-    goes_on 1000000 keys c.loop-made.made c.args.draws.now.generator c.loop-made.answered (replicate keys 0) c.args.client.now.hands c.loop-made.known.items c.loop-made.client.hands got.new.client.hands c.loop-made.draws.generator got.result.0 got.new.rows
+    let begun : Begins 1000000 keys (c.loop-made.made + 1) c.args.draws.now.generator (c.loop-made.answered + answers got.result.0) (replicate keys 0)
+    c.args.client.now.hands got.new.known got.new.client.hands (drawn_on c.loop-made.draws.generator) =
+    goes_on 1000000 keys c.loop-made.made c.args.draws.now.generator c.loop-made.answered (replicate keys 0) c.args.client.now.hands
+    c.loop-made.known.items c.loop-made.client.hands got.new.client.hands c.loop-made.draws.generator got.result.0 got.new.rows
     got.new.known so_far.begun gets judged in
     record {
       map = got.ensures.places.0 ∙ so_far.map;
@@ -47,9 +53,15 @@ loop-made-preserved g c =
       lobby = c.is_closed.ensures.looks.later.lobby ∙ so_far.lobby;
       few = omega (arith, so_far.few, c.answers_of-answered.ensures, answers_one got.result.0);
       long = ap (λ (l : List ℕ). length l) items ∙ long ∙ so_far.long;
-      begun = subst (λ (x : ℕ). Begins 1000000 keys (c.loop-made.made + 1) c.args.draws.now.generator (c.loop-made.answered + x) (replicate keys 0) c.args.client.now.hands (take c.loop-made.known.len (got.new.known ++ drop (length got.new.known) c.loop-made.known.items)) got.new.client.hands got.new.draws.generator) (sym c.answers_of-answered.ensures)
-          (subst (λ (x : Lcg). Begins 1000000 keys (c.loop-made.made + 1) c.args.draws.now.generator (c.loop-made.answered + answers got.result.0) (replicate keys 0) c.args.client.now.hands (take c.loop-made.known.len (got.new.known ++ drop (length got.new.known) c.loop-made.known.items)) got.new.client.hands x) (sym got.ensures.draws.1)
-          (subst (λ (known : List ℕ). Begins 1000000 keys (c.loop-made.made + 1) c.args.draws.now.generator (c.loop-made.answered + answers got.result.0) (replicate keys 0) c.args.client.now.hands known got.new.client.hands (drawn_on c.loop-made.draws.generator)) (sym items)
+      begun = subst (λ (x : ℕ). Begins 1000000 keys (c.loop-made.made + 1) c.args.draws.now.generator (c.loop-made.answered + x) (replicate keys 0)
+          c.args.client.now.hands (take c.loop-made.known.len (got.new.known ++ drop (length got.new.known) c.loop-made.known.items))
+          got.new.client.hands got.new.draws.generator) (sym c.answers_of-answered.ensures)
+          (subst (λ (x : Lcg). Begins 1000000 keys (c.loop-made.made + 1) c.args.draws.now.generator (c.loop-made.answered + answers got.result.0)
+          (replicate keys 0) c.args.client.now.hands (take c.loop-made.known.len
+          (got.new.known ++ drop (length got.new.known) c.loop-made.known.items)) got.new.client.hands x) (sym got.ensures.draws.1)
+          (subst (λ (known : List ℕ). Begins 1000000 keys (c.loop-made.made + 1) c.args.draws.now.generator
+          (c.loop-made.answered + answers got.result.0) (replicate keys 0) c.args.client.now.hands known got.new.client.hands
+          (drawn_on c.loop-made.draws.generator)) (sym items)
           begun));
     }
 
@@ -61,12 +73,17 @@ returns-in-Some-clause-works g c =
     let told = subst (λ (known : List ℕ). Judged (drawn c.loop-made.draws.keys c.loop-made.draws.generator) known got.result.0 got.new.rows got.result.1 got.new.known) c.as_mut_slice.ensures.value got.ensures.judged in
     let judged = subst (λ (k : ℕ). Judged k c.loop-made.known.items got.result.0 got.new.rows (Some c.in-Some.fault) got.new.known) key
     (subst (λ (fault : Option LoadFault). Judged (drawn c.loop-made.draws.keys c.loop-made.draws.generator) c.loop-made.known.items got.result.0 got.new.rows fault got.new.known) c.in-Some.is told) in
-    let works : Works 1000000 keys (c.loop-made.made + 1) c.args.draws.now.generator (c.loop-made.answered + answers got.result.0) (replicate keys 0) (Some c.in-Some.fault) c.args.client.now.hands got.new.client.hands (drawn_on c.loop-made.draws.generator) =
-    ends_with 1000000 keys c.loop-made.made c.args.draws.now.generator c.loop-made.answered (replicate keys 0) c.args.client.now.hands c.loop-made.known.items c.loop-made.client.hands got.new.client.hands c.loop-made.draws.generator got.result.0 got.new.rows
+    let works : Works 1000000 keys (c.loop-made.made + 1) c.args.draws.now.generator (c.loop-made.answered + answers got.result.0) (replicate keys 0)
+    (Some c.in-Some.fault) c.args.client.now.hands got.new.client.hands (drawn_on c.loop-made.draws.generator) =
+    ends_with 1000000 keys c.loop-made.made c.args.draws.now.generator c.loop-made.answered (replicate keys 0) c.args.client.now.hands
+    c.loop-made.known.items c.loop-made.client.hands got.new.client.hands c.loop-made.draws.generator got.result.0 got.new.rows
     got.new.known so_far.begun gets c.in-Some.fault judged in
     let fault : of_gets end.result.fault ≡ Some c.in-Some.fault = ap of_gets end.ensures.fault ∙ judged_told _ _ _ _ _ _ judged in
     let answered : end.result.answered ≡ c.loop-made.answered + answers got.result.0 = end.ensures.made.1 ∙ ap (λ (n : ℕ). c.loop-made.answered + n) c.answers_of-answered.ensures in
     subst (λ (n : ℕ). Works 1000000 keys n c.args.draws.now.generator end.result.answered (replicate keys 0) (of_gets end.result.fault) c.args.client.now.hands got.new.client.hands got.new.draws.generator) (sym end.ensures.made.0)
     (subst (λ (n : ℕ). Works 1000000 keys (c.loop-made.made + 1) c.args.draws.now.generator n (replicate keys 0) (of_gets end.result.fault) c.args.client.now.hands got.new.client.hands got.new.draws.generator) (sym answered)
-    (subst (λ (it : Option LoadFault). Works 1000000 keys (c.loop-made.made + 1) c.args.draws.now.generator (c.loop-made.answered + answers got.result.0) (replicate keys 0) it c.args.client.now.hands got.new.client.hands got.new.draws.generator) (sym fault)
-    (subst (λ (x : Lcg). Works 1000000 keys (c.loop-made.made + 1) c.args.draws.now.generator (c.loop-made.answered + answers got.result.0) (replicate keys 0) (Some c.in-Some.fault) c.args.client.now.hands got.new.client.hands x) (sym got.ensures.draws.1) works)))
+    (subst (λ (it : Option LoadFault). Works 1000000 keys (c.loop-made.made + 1) c.args.draws.now.generator
+    (c.loop-made.answered + answers got.result.0) (replicate keys 0) it c.args.client.now.hands got.new.client.hands got.new.draws.generator)
+    (sym fault)
+    (subst (λ (x : Lcg). Works 1000000 keys (c.loop-made.made + 1) c.args.draws.now.generator (c.loop-made.answered + answers got.result.0)
+    (replicate keys 0) (Some c.in-Some.fault) c.args.client.now.hands got.new.client.hands x) (sym got.ensures.draws.1) works)))

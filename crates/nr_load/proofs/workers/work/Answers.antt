@@ -20,7 +20,8 @@ returns g c =
     let table : c.args.shared.now.map ≡ c.args.reader.table = sym c.requires.own in
     let keys : c.open-draws.result.keys ≡ c.args.reader.table.shape.keys = c.open-draws.ensures.keys ∙ c.keys.ensures ∙ ap (λ (t : Table). t.shape.keys) table in
     let stream : c.open-draws.result.generator ≡ stream_of c.args.shared.now.plan.seed c.args.reader.number = c.open-draws.ensures.generator ∙ ap (stream_of c.args.shared.now.plan.seed) c.number.ensures.number in
-    let works : Works 1000000 c.args.reader.table.shape.keys load.result.made (stream_of c.args.shared.now.plan.seed c.args.reader.number) load.result.answered (replicate c.args.reader.table.shape.keys 0) (of_gets load.result.fault) old new load.new.draws.generator =
+    let works : Works 1000000 c.args.reader.table.shape.keys load.result.made (stream_of c.args.shared.now.plan.seed c.args.reader.number)
+    load.result.answered (replicate c.args.reader.table.shape.keys 0) (of_gets load.result.fault) old new load.new.draws.generator =
     subst (λ (k : ℕ). Works 1000000 k load.result.made (stream_of c.args.shared.now.plan.seed c.args.reader.number) load.result.answered (replicate k 0) (of_gets load.result.fault) old new load.new.draws.generator) keys
     (subst (λ (x : Lcg). Works 1000000 c.open-draws.result.keys load.result.made x load.result.answered (replicate c.open-draws.result.keys 0) (of_gets load.result.fault) old new load.new.draws.generator) stream load.ensures.works) in
     let some : 0 < c.args.reader.table.shape.keys = subst (λ (t : Table). 0 < t.shape.keys) table c.args.shared.now.keys.0 in

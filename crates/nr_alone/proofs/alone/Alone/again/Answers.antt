@@ -1,7 +1,7 @@
 use Rattle.std.proofs.Common.{◌<◌, sym, subst, arith, Ok, Result, refl}
 use Rattle.nr_model.specs.Maps.{key_count}
 use Rattle.nr_alone.specs.Answers.{Answer}
-use Rattle.nr_alone.specs.declared.answer.Refusal.{Refusal}
+use Rattle.nr_alone.specs.declared.answer.PinRefusal.{PinRefusal}
 use Rattle.nr_alone.specs.Alone.{log_of}
 use Rattle.nr_alone.specs.MapState.{MapState, answer_again}
 use Rattle.nr_alone.specs.Tokens.{AgainByToken}
@@ -22,7 +22,7 @@ invariant_of-self-2 c =
     let old = c.index_mut.result.now in let x = c.again_at.new.token in let answer = c.in_ok-answer.answer in
     let g = round_here map w0 tokens at x w' tokens' _ items _ refl c.gather_round.ensures in
     let low = place_here map w0 tokens at _ c.self.view_is c.requires.reader in
-    let made : AgainByToken c.args.key old x (Ok answer) = subst (λ (r : Result Answer Refusal). AgainByToken c.args.key old x r) c.in_ok-answer.was c.again_at.ensures in
+    let made : AgainByToken c.args.key old x (Ok answer) = subst (λ (r : Result Answer PinRefusal). AgainByToken c.args.key old x r) c.in_ok-answer.was c.again_at.ensures in
     let near : c.args.key < map.shape.keys =
     let low_key = subst (λ (s : MapState). c.args.key < key_count s.map) (sym c.self.view_is) c.requires.key in omega (arith, low_key, keys_are map (log_of w0 tokens.items)) in
     let said = says_again c.laws.ensures map w0 tokens.items c.self.invariant at old x low c.index_mut.ensures.value w' tokens' g c.args.key answer near made in
@@ -35,7 +35,7 @@ returns c =
     let old = c.index_mut.result.now in let x = c.again_at.new.token in let answer = c.in_ok-answer.answer in
     let g = round_here map w0 tokens at x w' tokens' _ items _ refl c.gather_round.ensures in
     let low = place_here map w0 tokens at _ c.self.view_is c.requires.reader in
-    let made : AgainByToken c.args.key old x (Ok answer) = subst (λ (r : Result Answer Refusal). AgainByToken c.args.key old x r) c.in_ok-answer.was c.again_at.ensures in
+    let made : AgainByToken c.args.key old x (Ok answer) = subst (λ (r : Result Answer PinRefusal). AgainByToken c.args.key old x r) c.in_ok-answer.was c.again_at.ensures in
     let near : c.args.key < map.shape.keys =
     let low_key = subst (λ (s : MapState). c.args.key < key_count s.map) (sym c.self.view_is) c.requires.key in omega (arith, low_key, keys_are map (log_of w0 tokens.items)) in
     let said = says_again c.laws.ensures map w0 tokens.items c.self.invariant at old x low c.index_mut.ensures.value w' tokens' g c.args.key answer near made in

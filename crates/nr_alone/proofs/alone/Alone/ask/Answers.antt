@@ -2,7 +2,7 @@ use Rattle.std.proofs.Common.{◌<◌, sym, subst, arith, Ok, Result}
 use Rattle.nr_model.specs.Maps.{key_count}
 use Rattle.nr_model.specs.declared.calls.Call.TheVariants as model
 use Rattle.nr_alone.specs.Answers.{Answer}
-use Rattle.nr_alone.specs.declared.answer.Refusal.{Refusal}
+use Rattle.nr_alone.specs.declared.answer.PinRefusal.{PinRefusal}
 use Rattle.nr_alone.specs.Alone.{log_of}
 use Rattle.nr_alone.specs.MapState.{MapState, answer_of_reader}
 use Rattle.nr_alone.specs.Tokens.{MakesCall}
@@ -23,7 +23,7 @@ invariant_of-self-2 c =
     let old = c.index_mut.result.now in let x = c.ask_at.new.token in let call = model.Ask c.args.key in let answer = c.in_ok-answer.answer in
     let g = round_after_note map w0 tokens at x w' tokens' _ items _ _ answer c.in_ok-answer.was c.ask_at.ensures.writer c.gather_round.ensures in
     let low = place_here map w0 tokens at _ c.self.view_is c.requires.reader in
-    let made : MakesCall c.self.inside.writer.seen call old x (Ok answer) = subst (λ (r : Result Answer Refusal). MakesCall c.self.inside.writer.seen call old x r) c.in_ok-answer.was c.ask_at.ensures.made in
+    let made : MakesCall c.self.inside.writer.seen call old x (Ok answer) = subst (λ (r : Result Answer PinRefusal). MakesCall c.self.inside.writer.seen call old x r) c.in_ok-answer.was c.ask_at.ensures.made in
     let said = says_call c.laws.ensures map w0 tokens.items c.self.invariant at old x low c.index_mut.ensures.value w' tokens' g c.self.inside.writer.seen call answer made in
     alone_here map w0 tokens at x w' tokens' _ items c.as_mut_slice.ensures.len g said.0
 
@@ -34,6 +34,6 @@ returns c =
     let old = c.index_mut.result.now in let x = c.ask_at.new.token in let call = model.Ask c.args.key in let answer = c.in_ok-answer.answer in
     let g = round_after_note map w0 tokens at x w' tokens' _ items _ _ answer c.in_ok-answer.was c.ask_at.ensures.writer c.gather_round.ensures in
     let low = place_here map w0 tokens at _ c.self.view_is c.requires.reader in
-    let made : MakesCall c.self.inside.writer.seen call old x (Ok answer) = subst (λ (r : Result Answer Refusal). MakesCall c.self.inside.writer.seen call old x r) c.in_ok-answer.was c.ask_at.ensures.made in
+    let made : MakesCall c.self.inside.writer.seen call old x (Ok answer) = subst (λ (r : Result Answer PinRefusal). MakesCall c.self.inside.writer.seen call old x r) c.in_ok-answer.was c.ask_at.ensures.made in
     let said = says_call c.laws.ensures map w0 tokens.items c.self.invariant at old x low c.index_mut.ensures.value w' tokens' g c.self.inside.writer.seen call answer made in
     answers_here map w0 tokens at x w' tokens' _ items c.as_mut_slice.ensures.len g (λ (s : MapState). answer_of_reader s at call) _ answer c.self.view_is said.1

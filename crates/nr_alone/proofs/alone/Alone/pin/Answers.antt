@@ -1,7 +1,7 @@
 use Rattle.std.proofs.Common.{◌<◌, sym, subst, arith, Ok, Result}
 use Rattle.nr_model.specs.Maps.{key_count, state_of}
 use Rattle.nr_alone.specs.Answers.{Answer}
-use Rattle.nr_alone.specs.declared.answer.Refusal.{Refusal}
+use Rattle.nr_alone.specs.declared.answer.PinRefusal.{PinRefusal}
 use Rattle.nr_alone.specs.Alone.{log_of}
 use Rattle.nr_alone.specs.MapState.{MapState, answer_pinning}
 use Rattle.nr_alone.specs.Tokens.{MakesPin}
@@ -22,7 +22,7 @@ invariant_of-self-2 c =
     let old = c.index_mut.result.now in let x = c.pin_at.new.token in let answer = c.in_ok-answer.answer in
     let g = round_after_note map w0 tokens at x w' tokens' _ items _ _ answer c.in_ok-answer.was c.pin_at.ensures.writer c.gather_round.ensures in
     let low = place_here map w0 tokens at _ c.self.view_is c.requires.reader in
-    let made : MakesPin c.self.inside.writer.seen c.args.key old x (Ok answer) = subst (λ (r : Result Answer Refusal). MakesPin c.self.inside.writer.seen c.args.key old x r) c.in_ok-answer.was c.pin_at.ensures.made in
+    let made : MakesPin c.self.inside.writer.seen c.args.key old x (Ok answer) = subst (λ (r : Result Answer PinRefusal). MakesPin c.self.inside.writer.seen c.args.key old x r) c.in_ok-answer.was c.pin_at.ensures.made in
     let near : c.args.key < map.shape.keys =
     let low_key = subst (λ (s : MapState). c.args.key < key_count s.map) (sym c.self.view_is) c.requires.key in omega (arith, low_key, keys_are map (log_of w0 tokens.items)) in
     let said = says_pin c.laws.ensures map w0 tokens.items c.self.invariant at old x low c.index_mut.ensures.value w' tokens' g c.self.inside.writer.seen c.args.key answer near made in
@@ -35,7 +35,7 @@ returns c =
     let old = c.index_mut.result.now in let x = c.pin_at.new.token in let answer = c.in_ok-answer.answer in
     let g = round_after_note map w0 tokens at x w' tokens' _ items _ _ answer c.in_ok-answer.was c.pin_at.ensures.writer c.gather_round.ensures in
     let low = place_here map w0 tokens at _ c.self.view_is c.requires.reader in
-    let made : MakesPin c.self.inside.writer.seen c.args.key old x (Ok answer) = subst (λ (r : Result Answer Refusal). MakesPin c.self.inside.writer.seen c.args.key old x r) c.in_ok-answer.was c.pin_at.ensures.made in
+    let made : MakesPin c.self.inside.writer.seen c.args.key old x (Ok answer) = subst (λ (r : Result Answer PinRefusal). MakesPin c.self.inside.writer.seen c.args.key old x r) c.in_ok-answer.was c.pin_at.ensures.made in
     let near : c.args.key < map.shape.keys =
     let low_key = subst (λ (s : MapState). c.args.key < key_count s.map) (sym c.self.view_is) c.requires.key in omega (arith, low_key, keys_are map (log_of w0 tokens.items)) in
     let said = says_pin c.laws.ensures map w0 tokens.items c.self.invariant at old x low c.index_mut.ensures.value w' tokens' g c.self.inside.writer.seen c.args.key answer near made in

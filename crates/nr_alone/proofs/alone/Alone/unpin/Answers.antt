@@ -1,6 +1,6 @@
 use Rattle.std.proofs.Common.{subst, Ok, Result, refl}
 use Rattle.nr_alone.specs.Answers.{Answer}
-use Rattle.nr_alone.specs.declared.answer.Refusal.{Refusal}
+use Rattle.nr_alone.specs.declared.answer.PinRefusal.{PinRefusal}
 use Rattle.nr_alone.specs.MapState.{MapState, answer_unpin}
 use Rattle.nr_alone.specs.Tokens.{Unpins}
 use Rattle.nr_alone.proofs.AfterLine.{alone_here, answers_here, place_here, round_here}
@@ -14,7 +14,7 @@ invariant_of-self-2 c =
     let old = c.index_mut.result.now in let x = c.unpin_at.new.token in let answer = c.in_ok-answer.answer in
     let g = round_here map w0 tokens at x w' tokens' _ items _ refl c.gather_round.ensures in
     let low = place_here map w0 tokens at _ c.self.view_is c.requires in
-    let made : Unpins old x (Ok answer) = subst (λ (r : Result Answer Refusal). Unpins old x r) c.in_ok-answer.was c.unpin_at.ensures in
+    let made : Unpins old x (Ok answer) = subst (λ (r : Result Answer PinRefusal). Unpins old x r) c.in_ok-answer.was c.unpin_at.ensures in
     let said = says_unpin c.laws.ensures map w0 tokens.items c.self.invariant at old x low c.index_mut.ensures.value w' tokens' g answer made in
     alone_here map w0 tokens at x w' tokens' _ items c.as_mut_slice.ensures.len g said.0
 
@@ -25,6 +25,6 @@ returns c =
     let old = c.index_mut.result.now in let x = c.unpin_at.new.token in let answer = c.in_ok-answer.answer in
     let g = round_here map w0 tokens at x w' tokens' _ items _ refl c.gather_round.ensures in
     let low = place_here map w0 tokens at _ c.self.view_is c.requires in
-    let made : Unpins old x (Ok answer) = subst (λ (r : Result Answer Refusal). Unpins old x r) c.in_ok-answer.was c.unpin_at.ensures in
+    let made : Unpins old x (Ok answer) = subst (λ (r : Result Answer PinRefusal). Unpins old x r) c.in_ok-answer.was c.unpin_at.ensures in
     let said = says_unpin c.laws.ensures map w0 tokens.items c.self.invariant at old x low c.index_mut.ensures.value w' tokens' g answer made in
     answers_here map w0 tokens at x w' tokens' _ items c.as_mut_slice.ensures.len g (λ (s : MapState). answer_unpin s at) _ answer c.self.view_is said.1

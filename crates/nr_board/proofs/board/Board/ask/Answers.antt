@@ -14,4 +14,5 @@ fetch_or-requires c = let shared = c.self.inside.table.shared in let about = c.s
     )
 
 pub returns : goal.returns
-returns c = let told = asked_seat c.args.self.now c.args.seat.now c.fetch_or.new.seat c.fetch_or.ensures.0 c.args.key c.fetch_or.result c.requires.reader c.fetch_or.ensures.2 in record { reader = told.0; gains = told.1; marks = c.fetch_or.ensures.2.marks }
+returns c = let told = asked_seat c.args.self.now c.args.seat.now c.fetch_or.new.seat c.fetch_or.ensures.0 c.args.key c.fetch_or.result
+    c.requires.reader c.fetch_or.ensures.2 in record { reader = told.0; gains = told.1; marks = c.fetch_or.ensures.2.marks }

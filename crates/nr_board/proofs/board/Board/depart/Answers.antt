@@ -21,4 +21,5 @@ fetch_add-requires c = let shared = c.self.inside.table.shared in let board = st
     )
 
 pub returns : goal.returns
-returns c = let told = departed_seat c.args.self.now c.args.seat.now c.fetch_add.new.seat c.fetch_add.ensures.0 c.args.begin c.requires.reader c.fetch_add.ensures.2 in record { reader = told.0; rests = told.1; marks = c.fetch_add.ensures.2.marks }
+returns c = let told = departed_seat c.args.self.now c.args.seat.now c.fetch_add.new.seat c.fetch_add.ensures.0 c.args.begin c.requires.reader
+    c.fetch_add.ensures.2 in record { reader = told.0; rests = told.1; marks = c.fetch_add.ensures.2.marks }

@@ -25,5 +25,6 @@ retire-requires g c = let looks = has_looked {before = c.args.seat.now} refl c.r
 
 pub returns : goal.returns
 returns g c = let looks = has_looked {before = c.args.seat.now} refl c.requires.own c.requires.rests c.requires.call c.look.ensures.leads c.look.ensures.marks in
-    let told = has_evicted looks (evict_leaves c.args.self.now.shape (desk_with c.args.spare.now Idle) c.args.key c.look.result (is_full c.look.result c.parts-found.ensures.parts c.if-not-found.false)) refl c.unpublish-old_word.ensures c.retire.ensures in
+    let told = has_evicted looks (evict_leaves c.args.self.now.shape (desk_with c.args.spare.now Idle) c.args.key c.look.result
+    (is_full c.look.result c.parts-found.ensures.parts c.if-not-found.false)) refl c.unpublish-old_word.ensures c.retire.ensures in
     record { rests = told.0; evicts = told.1 }

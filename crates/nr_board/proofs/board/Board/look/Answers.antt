@@ -14,7 +14,7 @@ use Rattle.nr_board.proofs.board.Board.look.Goals as goal
 use Rattle.nr_machine.specs.Slots.{bound_of}
 
 pub load-requires : goal.load-requires
-load-requires g c = let shared = c.self.inside.table.shared in let about = c.self.invariant in let seat = c.args.seat.now in let writer = c.requires.writer in let call = g.G.Given.call in
+load-requires g c = let shared = c.self.inside.table.shared in let about = c.self.invariant in let seat = c.args.seat.now in let writer = c.requires.writer in let call = g.G.BegunCall.call in
     let key_is : shared.key ≡ c.args.self.now.shape = about.0 ∙ ap (λ (t : Table). t.shape) c.self.view_is in let near : key_of call < shared.key.keys = omega (arith, c.requires.call, c.requires.key, ap (λ (s : Shape). s.keys) key_is) in
     let given : IsGivenCall (bound_of shared.key) call = subst (λ (s : Shape). IsGivenCall (bound_of s) call) (sym key_is) c.requires.given in
     let n : ℕ = shared.table_id.slots in (
@@ -26,6 +26,6 @@ load-requires g c = let shared = c.self.inside.table.shared in let about = c.sel
 
 pub returns : goal.returns
 returns g c = let before = c.args.seat.now in let told = c.load.ensures.2 in record {
-  leads = λ desk is. looked_seat c.args.self.now before c.load.new.seat c.load.ensures.0 c.requires.writer.writes.own desk g.G.Given.call c.load.result (told desk is);
+  leads = λ desk is. looked_seat c.args.self.now before c.load.new.seat c.load.ensures.0 c.requires.writer.writes.own desk g.G.BegunCall.call c.load.result (told desk is);
   marks = (told c.requires.writer.desk c.requires.writer.writes.role).marks.0;
 }

@@ -17,7 +17,9 @@ returns-then-not-found g c = let looks = has_looked {before = c.args.seat.now} r
 
 pub read_set-requires : goal.read_set-requires
 read_set-requires g c = let looks = has_looked {before = c.args.seat.now} refl c.requires.own c.requires.rests c.requires.call c.look.ensures.leads c.look.ensures.marks in
-    let reads = about_to_read looks (find_reads c.args.self.now.shape (desk_with c.args.spare.now Idle) c.args.key c.look.result (is_full c.look.result c.parts-found.ensures.parts c.if-not-found.false)) c.requires.call (slot_so c.look.result c.parts-found.ensures.parts) in
+    let reads = about_to_read looks (find_reads c.args.self.now.shape (desk_with c.args.spare.now Idle) c.args.key c.look.result
+    (is_full c.look.result c.parts-found.ensures.parts c.if-not-found.false)) c.requires.call
+    (slot_so c.look.result c.parts-found.ensures.parts) in
     record { writer = reads.0; slot = reads.1; key = subst (λ (call : WriterCall). key_of call < c.args.self.now.shape.keys) (sym c.requires.call) c.requires.key }
 
 pub returns : goal.returns

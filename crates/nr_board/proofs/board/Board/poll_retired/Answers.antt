@@ -44,7 +44,7 @@ entry_so : (entry : Retired) (spare before : Spare) (place : ℕ) → entry ≡ 
 entry_so entry spare before place is same = is ∙ ap (λ (s : Spare). get_or s.retired place no_retired) same
 
 pub returns-then-same_count : goal.returns-then-same_count
-returns-then-same_count g c = let map = c.args.self.now in let call = g.G.Given.call in let rows = c.args.rows.now in let spare = c.args.spare.now in let seat = c.args.seat.now in
+returns-then-same_count g c = let map = c.args.self.now in let call = g.G.BegunCall.call in let rows = c.args.rows.now in let spare = c.args.spare.now in let seat = c.args.seat.now in
     let rest = c.take_oldest.new.self in let oldest = c.in-Some.oldest in let is = c.in-Some.ensures in let found : ℕ = c.poll-first.result in let after = c.poll-first.new.seat in
     let goes = subst (λ (table : Table). GoesOn table found seat after) refl c.poll-first.ensures in let entry = first_is spare rest oldest is in
     subst (λ (p : Spare × ℕ). TakesSlot map call rows p.1 found spare p.0 seat after) (λ j. (rest_is spare rest oldest is j, (entry j).slot))
@@ -52,7 +52,7 @@ returns-then-same_count g c = let map = c.args.self.now in let call = g.G.Given.
     (ap (λ (e : Retired). same_count found e.arrivals) entry ∙ sym c.same_count.ensures ∙ c.if-same_count.true))
 
 pub loop-place-init : goal.loop-place-init
-loop-place-init g c = let map = c.args.self.now in let call = g.G.Given.call in let rows = c.args.rows.now in let spare = c.args.spare.now in let seat = c.args.seat.now in
+loop-place-init g c = let map = c.args.self.now in let call = g.G.BegunCall.call in let rows = c.args.rows.now in let spare = c.args.spare.now in let seat = c.args.seat.now in
     let rest = c.take_oldest.new.self in let oldest = c.in-Some.oldest in let is = c.in-Some.ensures in let found : ℕ = c.poll-first.result in let after = c.poll-first.new.seat in
     let goes = subst (λ (table : Table). GoesOn table found seat after) refl c.poll-first.ensures in (
       c.put_back.ensures ∙ sym is,
@@ -66,8 +66,8 @@ returns-then-same_count-2 g c = let map = c.args.self.now in let so_far = c.loop
     let entry = entry_so c.retired_at-entry.result _ _ place c.retired_at-entry.ensures so_far.0 in
     let goes = subst (λ (table : Table). GoesOn table found c.loop-place.seat c.poll-departures.new.seat) refl c.poll-departures.ensures in
     let after_is : c.take_retired.new.self ≡ record spare { retired = remove spare.retired place } = c.take_retired.ensures ∙ ap (λ (s : Spare). record s { retired = remove s.retired place }) so_far.0 in
-    subst (λ (p : Spare × ℕ). TakesSlot map g.G.Given.call c.args.rows.now p.1 found spare p.0 c.args.seat.now c.poll-departures.new.seat) (λ j. (sym after_is j, (sym entry j).slot))
-    (takes_at map g.G.Given.call c.args.rows.now spare c.args.seat.now c.loop-place.seat place so_far.1 low c.requires.none_fresh found c.poll-departures.new.seat goes
+    subst (λ (p : Spare × ℕ). TakesSlot map g.G.BegunCall.call c.args.rows.now p.1 found spare p.0 c.args.seat.now c.poll-departures.new.seat) (λ j. (sym after_is j, (sym entry j).slot))
+    (takes_at map g.G.BegunCall.call c.args.rows.now spare c.args.seat.now c.loop-place.seat place so_far.1 low c.requires.none_fresh found c.poll-departures.new.seat goes
     (ap (λ (e : Retired). same_count found e.arrivals) (sym entry) ∙ sym c.same_count-in-loop-place.ensures ∙ c.if-same_count-2.true))
 
 pub loop-place-preserved : goal.loop-place-preserved
@@ -76,6 +76,6 @@ loop-place-preserved g c = let so_far = c.loop-place.invariant in let spare = c.
     let entry = entry_so c.retired_at-entry.result _ _ place c.retired_at-entry.ensures so_far.0 in
     let goes = subst (λ (table : Table). GoesOn table found c.loop-place.seat c.poll-departures.new.seat) refl c.poll-departures.ensures in (
       so_far.0,
-      searched_more c.args.self.now g.G.Given.call c.args.rows.now spare c.args.seat.now c.loop-place.seat place so_far.1 low found c.poll-departures.new.seat goes
+      searched_more c.args.self.now g.G.BegunCall.call c.args.rows.now spare c.args.seat.now c.loop-place.seat place so_far.1 low found c.poll-departures.new.seat goes
           (ap (λ (e : Retired). same_count found e.arrivals) (sym entry) ∙ sym c.same_count-in-loop-place.ensures ∙ c.if-same_count-2.false),
     )

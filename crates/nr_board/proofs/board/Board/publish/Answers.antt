@@ -28,7 +28,9 @@ pub swap-requires : goal.swap-requires
 swap-requires c = let shared = c.self.inside.table.shared in let about = c.self.invariant in let seat = c.args.seat.now in let publishing = c.requires.writer in
     let rows = publishing.rows in let call = publishing.call in let slot : ℕ = c.args.slot in let last : ℕ = 2 * length rows + 1 in
     let at = record publishing.desk { place = Putting call rows slot c.args.departed last } in let word : ℕ = naming slot c.args.departed in
-    let operation : going shared.key at at.place ≡ Swap (key_of call) word = ap (λ (b : Bool). cond {A = Operation} b (Store (content shared.key slot last) (get_or (encode rows) last 0)) (Swap (key_of call) word)) (lt-leb last (2 * length rows) (omega arith)) in
+    let operation : going shared.key at at.place ≡ Swap (key_of call)
+    word = ap (λ (b : Bool). cond {A = Operation} b (Store (content shared.key slot last) (get_or (encode rows) last 0))
+    (Swap (key_of call) word)) (lt-leb last (2 * length rows) (omega arith)) in
     let n : ℕ = shared.table_id.slots in
     let told : ℕ → Me (Unit {0}) View → Type 0 = λ found after. (other : Desk) → seat.me.0.role ≡ Writer other → Went other found seat.me.0 after.0 in
     let allows = subst (λ (o : Operation). Allows (Kept shared.key) n seat.id seat.me (target_of o) (becomes o) told) operation

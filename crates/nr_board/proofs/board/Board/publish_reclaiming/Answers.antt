@@ -15,12 +15,16 @@ use Rattle.nr_board.specs.WriterSeats.{GoesOn, WritesAt}
 use Rattle.nr_board.proofs.board.Board.publish_reclaiming.Goals as goal
 
 pub returns : goal.returns
-returns g c = let map = c.args.self.now in let call = g.G.Given.call in let rows = c.args.rows.now in let steps : ℕ = c.in_ok-taken.ensures.0 in let took = c.in_ok-taken.ensures.1 in let slot = c.in_ok-taken.taken.slot in let departed = c.in_ok-taken.taken.departures in
+returns g c = let map = c.args.self.now in let call = g.G.BegunCall.call in let rows = c.args.rows.now in let steps : ℕ = c.in_ok-taken.ensures.0 in
+    let took = c.in_ok-taken.ensures.1 in let slot = c.in_ok-taken.taken.slot in let departed = c.in_ok-taken.taken.departures in
     let before = later steps c.args.seat.now in let at = c.take_reclaiming.new.seat in let mid = c.put_rows.new.seat in let last : ℕ = 2 * length rows + 1 in
     let writes = subst (λ (desk : Desk). WritesAt map (moved_to desk (Putting call rows slot departed last)) mid) (ap desk_of took.writes.role) c.put_rows.ensures.writer in
     let goes = subst (λ (table : Table). GoesOn table c.publish-named.result mid c.publish-named.new.seat) refl c.publish-named.ensures in
-    let put = published map call rows c.args.spare.now c.take_reclaiming.new.spare c.set_reaped.new.self slot departed took.polls before mid c.publish-named.new.seat c.publish-named.result took.took took.few took.slots took.numbers took.reaped (c.put_rows.ensures.marks ∙ took.marks ∙ ap (λ (m : Marks). with_polls before.me.0.marks m.polls) (sym c.put_rows.ensures.marks)) writes
-    (grows_both took.polls last (took.polls + last) (token before) (token at) [] (token mid) refl took.grows c.put_rows.ensures.grows) goes (c.set_reaped.ensures ∙ ap (λ (s : Spare). record s { reaped = slice_set s.reaped slot false }) c.retire.ensures) in
+    let put = published map call rows c.args.spare.now c.take_reclaiming.new.spare c.set_reaped.new.self slot departed took.polls before mid
+    c.publish-named.new.seat c.publish-named.result took.took took.few took.slots took.numbers took.reaped
+    (c.put_rows.ensures.marks ∙ took.marks ∙ ap (λ (m : Marks). with_polls before.me.0.marks m.polls) (sym c.put_rows.ensures.marks)) writes
+    (grows_both took.polls last (took.polls + last) (token before) (token at) [] (token mid) refl took.grows c.put_rows.ensures.grows) goes
+    (c.set_reaped.ensures ∙ ap (λ (s : Spare). record s { reaped = slice_set s.reaped slot false }) c.retire.ensures) in
     (steps, put.0, subst (λ (i : ℕ). HandsOut g.R.RowRoom.shows map.shape.rows c.args.spare.now i (set_in c.args.seat.now.me.0.marks i) c.args.had.now c.take_reclaiming.new.had steps c.in_ok-taken.given) (sym put.1) c.in_ok-taken.ensures.2)
 
 pub set_reaped-requires : goal.set_reaped-requires

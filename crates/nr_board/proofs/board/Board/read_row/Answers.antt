@@ -10,7 +10,9 @@ pub read-a-requires-clause-index : goal.read-a-requires-clause-index
 read-a-requires-clause-index c = let words = length-encode (rows_held c.args.seat.now.me.0.role) in omega (arith, c.requires.i)
 
 pub read-b-requires-clause-index : goal.read-b-requires-clause-index
-read-b-requires-clause-index c = let rows = rows_held c.args.seat.now.me.0.role in subst (λ (held : List Row). 2 * c.args.i + 2 < length (encode held)) (sym c.read-a.ensures.rows) (let words = length-encode rows in omega (arith, c.requires.i))
+read-b-requires-clause-index c = let rows = rows_held c.args.seat.now.me.0.role in
+    subst (λ (held : List Row). 2 * c.args.i + 2 < length (encode held)) (sym c.read-a.ensures.rows) (let words = length-encode rows in
+    omega (arith, c.requires.i))
 
 pub returns-clause-row : goal.returns-clause-row
 returns-clause-row c = let rows = rows_held c.args.seat.now.me.0.role in

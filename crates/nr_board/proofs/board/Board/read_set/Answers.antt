@@ -5,7 +5,7 @@ use Rattle.nr_board.specs.WriterSeats.{MapSeat}
 use Rattle.nr_board.proofs.board.Board.read_set.Goals as goal
 
 pub refill-requires : goal.refill-requires
-refill-requires g c = let map = c.args.self.now in let call = g.G.Given.call in let begin = c.content-begin.result in let mid = c.read_on-count.new.seat in
+refill-requires g c = let map = c.args.self.now in let call = g.G.BegunCall.call in let begin = c.content-begin.result in let mid = c.read_on-count.new.seat in
     let first = begins map c.args.self.now call begin c.args.slot c.read_on-count.result c.args.seat.now mid refl c.content-begin.ensures c.requires.key c.requires.writer c.read_on-count.ensures in record {
       count = first.0;
       row_set = (first.1.row_set.0, omega (arith, first.1.row_set.1, c.rows.ensures.value, c.rows.ensures.bounded));
@@ -13,7 +13,7 @@ refill-requires g c = let map = c.args.self.now in let call = g.G.Given.call in 
     }
 
 pub returns : goal.returns
-returns g c = let map = c.args.self.now in let call = g.G.Given.call in let begin = c.content-begin.result in let mid = c.read_on-count.new.seat in let source = c.refill.new.source in let gave = c.refill.ensures.gave in
+returns g c = let map = c.args.self.now in let call = g.G.BegunCall.call in let begin = c.content-begin.result in let mid = c.read_on-count.new.seat in let source = c.refill.new.source in let gave = c.refill.ensures.gave in
     let first = begins map c.args.self.now call begin c.args.slot c.read_on-count.result c.args.seat.now mid refl c.content-begin.ensures c.requires.key c.requires.writer c.read_on-count.ensures in
     let before : source.before.now.value ≡ c.args.seat.now = gave.3 ∙ c.of-before.ensures in
     let rows = rows_named map call mid in (

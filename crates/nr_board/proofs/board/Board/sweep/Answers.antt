@@ -17,7 +17,9 @@ is_reaped-requires c = let low : c.loop-place.place < length c.args.spare.now.re
 
 pub probe-departures-requires : goal.probe-departures-requires
 probe-departures-requires c = let low : c.loop-place.place < length c.args.spare.now.retired = omega (arith, c.loop-place-test.true, c.retired_len-place-end.ensures) in
-    subst (λ (e : Retired). ProbesAt c.args.self.now e c.loop-place.seat) (sym c.retired_at-entry.ensures) (probes_at c.args.self.now c.args.spare.now c.args.seat.now c.loop-place.seat c.loop-place.place c.loop-place.polled c.requires.rests c.loop-place.invariant low)
+    subst (λ (e : Retired). ProbesAt c.args.self.now e c.loop-place.seat) (sym c.retired_at-entry.ensures)
+    (probes_at c.args.self.now c.args.spare.now c.args.seat.now c.loop-place.seat c.loop-place.place c.loop-place.polled c.requires.rests
+    c.loop-place.invariant low)
 
 pub returns-then-same_count-clause-sweeps : goal.returns-then-same_count-clause-sweeps
 returns-then-same_count-clause-sweeps c = let spare = c.args.spare.now in let place : ℕ = c.loop-place.place in let found : ℕ = c.probe-departures.result in let after = c.probe-departures.new.seat in

@@ -20,5 +20,9 @@ returns-clause-finds g c = let word = c.arrive-word.result in let parts = c.part
     let held = c.arrive-word.ensures.held (is_full word parts c.if-not-found.false) in
     let rows = rows_held c.arrive-word.new.seat.me.0.role in let n = length rows in
     let rests = rests_both (2 * n + 1) 1 (2 * n + 2) _ _ _ (omega arith) c.load_rows.ensures.rests c.depart.ensures.rests in
-    let gains = grows_rests 1 (2 * n + 2) (2 * n + 3) _ _ _ _ (omega arith) held.1 rests in
-    (rows, subst (λ (was : Caller). Gains (2 * n + 3) was (model.Find c.args.key) (reply.Rows rows) (token c.depart.new.seat)) c.reader.view_is gains, c.load_rows.ensures.rows, subst (λ (t : Table). IsRowSet t.shape.rows rows) (c.self.view_is ∙ sym c.requires.own) held.0.holds.row_set)
+    let gains = grows_rests 1 (2 * n + 2) (2 * n + 3) _ _ _ _ (omega arith) held.1 rests in (
+      rows,
+      subst (λ (was : Caller). Gains (2 * n + 3) was (model.Find c.args.key) (reply.Rows rows) (token c.depart.new.seat)) c.reader.view_is gains,
+      c.load_rows.ensures.rows,
+      subst (λ (t : Table). IsRowSet t.shape.rows rows) (c.self.view_is ∙ sym c.requires.own) held.0.holds.row_set,
+    )

@@ -29,7 +29,8 @@ call-requires-clause-kept c =
 
 pub invariant_of-self : goal.invariant_of-self
 invariant_of-self c =
-    let rows = c.self.inside.rows in let heads = c.self.inside.heads.items in let cells = c.self.inside.cells.items in let key = c.key-key.result in let start = key * rows in let head : Head = c.index_mut.result.now in let call : Call = c.args.call.now in
+    let rows = c.self.inside.rows in let heads = c.self.inside.heads.items in let cells = c.self.inside.cells.items in let key = c.key-key.result in
+    let start = key * rows in let head : Head = c.index_mut.result.now in let call : Call = c.args.call.now in
     let within = has_head rows heads cells c.args.self.now key c.self.view_is (rw c.key-key.ensures c.requires.key) in
     let room = c.self.invariant.4.room in
     let read = run_between rows start cells c.deref_mut.result.now c.deref_mut.ensures.value in
@@ -49,7 +50,8 @@ invariant_of-self c =
 
 pub returns-clause-reply : goal.returns-clause-reply
 returns-clause-reply c =
-    let rows = c.self.inside.rows in let heads = c.self.inside.heads.items in let cells = c.self.inside.cells.items in let key = c.key-key.result in let start = key * rows in let head : Head = c.index_mut.result.now in let call : Call = c.args.call.now in
+    let rows = c.self.inside.rows in let heads = c.self.inside.heads.items in let cells = c.self.inside.cells.items in let key = c.key-key.result in
+    let start = key * rows in let head : Head = c.index_mut.result.now in let call : Call = c.args.call.now in
     let within = has_head rows heads cells c.args.self.now key c.self.view_is (rw c.key-key.ensures c.requires.key) in
     let room = c.self.invariant.4.room in
     let read = run_between rows start cells c.deref_mut.result.now c.deref_mut.ensures.value in
@@ -63,7 +65,8 @@ returns-clause-reply c =
 
 pub returns-clause-new : goal.returns-clause-new
 returns-clause-new c =
-    let rows = c.self.inside.rows in let heads = c.self.inside.heads.items in let cells = c.self.inside.cells.items in let key = c.key-key.result in let start = key * rows in let head : Head = c.index_mut.result.now in let call : Call = c.args.call.now in
+    let rows = c.self.inside.rows in let heads = c.self.inside.heads.items in let cells = c.self.inside.cells.items in let key = c.key-key.result in
+    let start = key * rows in let head : Head = c.index_mut.result.now in let call : Call = c.args.call.now in
     let within = has_head rows heads cells c.args.self.now key c.self.view_is (rw c.key-key.ensures c.requires.key) in
     let room = c.self.invariant.4.room in
     let read = run_between rows start cells c.deref_mut.result.now c.deref_mut.ensures.value in

@@ -28,7 +28,8 @@ returns-clause-value c =
     let rows = c.self.inside.rows in let heads = c.self.inside.heads.items in let cells = c.self.inside.cells.items in let start = c.args.key * rows in
     let within = has_head rows heads cells c.args.self.now c.args.key c.self.view_is c.requires in
     let long : start + rows - start ≡ rows = omega arith in
-    let read : state_in c.index.result.now (take (start + rows - start) (drop start c.deref.result.now)) ≡ state_in (get_or heads c.args.key c.index.result.now) (take rows (drop start cells)) = rw (long, c.deref.ensures.value, ← c.index.ensures) refl in
+    let read : state_in c.index.result.now (take (start + rows - start) (drop start c.deref.result.now)) ≡ state_in
+    (get_or heads c.args.key c.index.result.now) (take rows (drop start cells)) = rw (long, c.deref.ensures.value, ← c.index.ensures) refl in
     c.state.ensures.value ∙ read ∙ sym (state_at rows heads cells c.args.key c.index.result.now (Hole 0) within) ∙ ap (λ m. state_of m c.args.key) c.self.view_is
 
 pub returns-clause-few : goal.returns-clause-few
