@@ -104,6 +104,7 @@ impl Board {
         Ok((Board { table, shape }, seat))
     }
 
+    /// The sizes of the map.
     pub fn shape(&self) -> &Shape
         ensures { result.now ≡ self.now.shape }
     {
@@ -328,7 +329,7 @@ impl Board {
         words.swap::<Goes>(seat, key as usize, word)
     }
 
-    /// The writer makes the key a hole, which keeps its number: the word as it was.
+    /// The writer makes the key a hole, which keeps its ticket number: the word as it was.
     pub fn unpublish(&self, seat: &mut Seat, key: u32, number: u64) -> u64
         requires { IsLeaving self.now key number seat.old }
         ensures { GoesOn self.now result seat.old seat.new }
@@ -338,7 +339,7 @@ impl Board {
         words.swap::<Goes>(seat, key as usize, hole)
     }
 
-    /// The writer takes the key's request back: the key is a hole with the next number.
+    /// The writer takes the key's request back: the key is a hole with the next ticket number.
     pub fn withdraw(&self, seat: &mut Seat, key: u32, next: u64)
         requires { IsWithdrawing self.now key next seat.old }
         ensures { (found : ℕ) × GoesOn self.now found seat.old seat.new }

@@ -21,8 +21,10 @@ pub enum Sweep {
 }
 
 impl Board {
-    /// Writes the oldest retired set that waits and that nobody holds over the rows of the caller's.
-    /// The slot stays retired; whatever takes it gives out no set of it.
+    /// Writes the oldest retired set that waits and that nobody holds over the rows of the caller's
+    /// (`Set`): a poll of each set that waits, up to this one, and 2m + 1 reads for its m rows. The
+    /// slot stays retired, and what takes it gives out no set of it. `Held` after the polls, where
+    /// readers hold all that wait; `Nothing`, without a step, where none waits.
     pub fn reap<R: RowRoom>(&self, seat: &mut Seat, spare: &mut Spare, had: &mut R) -> Reaped
         requires own { (token seat.old).table ≡ self.now }
         requires rests { RestsAt (token seat.old).table spare.old seat.old }

@@ -1,4 +1,4 @@
-//! The writer's calls that also give out what the slot had that they took.
+//! The writer's calls that also give out the set which the slot that they take had before.
 ghost use Rattle.std.specs.Prelude.{◌≡◌, ◌<◌};
 ghost use Rattle.nr_model.specs.Batches.{IsBatch};
 ghost use Rattle.nr_model.specs.Rows.{IsRowSet};
@@ -14,6 +14,9 @@ use nr_core::Spare;
 use nr_model::{Delta, Pile, Row, RowRoom};
 
 impl Board {
+    /// As `fill_key`, and between the search and the put reads the set of m rows that the slot had
+    /// into `had`: 2m + 1 steps more. A slot that was never taken, or was reaped, has none to give
+    /// (`Nothing`); then, and where the fill is refused, `had` stays as it was.
     pub fn fill_reclaiming<G: BegunCall, R: RowRoom>(
         &self,
         seat: &mut Seat,
@@ -38,6 +41,7 @@ impl Board {
         }
     }
 
+    /// As `update_key`, and gives out what the slot had, as `fill_reclaiming`.
     pub fn update_reclaiming<G: BegunCall, R: RowRoom>(
         &self,
         seat: &mut Seat,
@@ -62,6 +66,7 @@ impl Board {
         }
     }
 
+    /// As `replace_key`, and gives out what the slot had, as `fill_reclaiming`.
     pub fn replace_reclaiming<G: BegunCall, R: RowRoom>(
         &self,
         seat: &mut Seat,

@@ -1,4 +1,6 @@
-//! The writer's calls, as its seat makes them.
+//! The writer's calls, as its seat makes them. A call has up to five parts, in this order: it looks,
+//! reads, searches for a slot, puts a set there, and publishes that slot. Its last step is its
+//! linearization point; a call that finds no slot has none, and adds no entry.
 ghost use Rattle.std.specs.Prelude.{◌≡◌, ◌<◌};
 ghost use Rattle.nr_model.specs.Batches.{IsBatch};
 ghost use Rattle.nr_model.specs.Rows.{IsRowSet};
@@ -17,8 +19,9 @@ use nr_words::parts;
 impl Board {
     ghost use Rattle.nr_board.specs.WriterAnswers.{LooksIn, FillsKey, UpdatesKey, ReplacesKey, EvictsKey, CancelsKey};
 
-    /// The writer's find: loads the key's word, and where that is filled the count and the rows of the
-    /// slot that it names. No reference count is written, since the writer alone puts slots anew.
+    /// The writer's find: loads the key's word, which ends the call at a hole, after 1 step; and
+    /// where it is filled the number of rows and the n rows of the slot that it names, 2n + 2 steps
+    /// in all. No arrival is counted, since nobody but the writer changes a slot.
     pub fn look_up<G: BegunCall, R: RowRoom>(
         &self,
         seat: &mut Seat,
@@ -42,10 +45,13 @@ impl Board {
         Found::Rows
     }
 
-    /// Answers a request: loads the key's word, which refuses a key that is filled or wasn't asked for,
-    /// and another number than the request's. Then it searches for a slot that nobody holds, stores the
-    /// rows there, where no reader can come yet, and swaps in the word that names it: the linearization
-    /// point.
+    /// Answers a request with n rows. The look, a load of the key's word, ends the call where the
+    /// key is a hole (`NotAsked`), filled (`Already`), or asked by another ticket number (`Stale`).
+    /// The search takes a slot that was never taken, without a step; else it polls the retired ones,
+    /// oldest first, for one whose departures are its arrivals, so that nobody holds it. Where there
+    /// is none (`NoSlot`) nothing has changed. The put stores the number of rows and the rows there,
+    /// where no reader can come yet. The publication is one swap of the key's word: it names the
+    /// slot, with arrivals that begin at the slot's departures. 2n + 3 steps and the polls.
     pub fn fill_key<G: BegunCall>(
         &self,
         seat: &mut Seat,
@@ -69,9 +75,13 @@ impl Board {
         Ok(())
     }
 
-    /// Loads the key's word and the set that it names, applies the batch to a copy, and stores the copy
-    /// in a slot that nobody holds. The swap that names the new slot is the linearization point, and
-    /// what it took out says how many readers arrived at the old slot, which is retired.
+    /// Changes the set of a filled key by a batch. The look ends the call at any other key
+    /// (`Dropped`). It reads the o rows of the slot that the key's word names into `pile`, where
+    /// readers see none of it, and applies the batch to this copy, which ends the call where a row
+    /// isn't there (`NoRow`) or too many would be left (`TooMany`). It searches, puts the n rows
+    /// that are left, and publishes, as a fill does. What the swap took out says how many readers
+    /// arrived at the old slot, a count that is final: with it the slot is retired. 2o + 2n + 4
+    /// steps and the polls.
     pub fn update_key<G: BegunCall>(
         &self,
         seat: &mut Seat,
@@ -95,7 +105,9 @@ impl Board {
         Ok(())
     }
 
-    /// Puts a set in place of the one that a filled key has, as an update does, but reads nothing of it.
+    /// Puts n rows in place of the set that a filled key has, as an update does, but reads nothing
+    /// of it: the look (`Dropped` where the key isn't filled), the search, the put and the
+    /// publication, 2n + 3 steps and the polls.
     pub fn replace_key<G: BegunCall>(
         &self,
         seat: &mut Seat,
@@ -118,8 +130,10 @@ impl Board {
         Ok(())
     }
 
-    /// Swaps in the word of a hole with the key's ticket number: the linearization point. What it took
-    /// out says which slot is retired, and how many readers have arrived there.
+    /// Makes a filled key a hole. The look ends the call at any other key (`Nothing`). One swap puts
+    /// in the word of a hole with the key's ticket number, which a filled key's word has no room for
+    /// and the writer's list keeps. What it took out says which slot is retired, and how many
+    /// readers have arrived there. 2 steps.
     pub fn evict_key<G: BegunCall>(&self, seat: &mut Seat, spare: &mut Spare, key: u32) -> Evict
         requires call { G.call ≡ writer.Evict key }
         requires own { (token seat.old).table ≡ self.now }
@@ -137,8 +151,11 @@ impl Board {
         Evict::Evicted
     }
 
-    /// Takes a request back: swaps in a hole whose ticket number is one higher, so that an answer to the
-    /// request is stale. Refused where the key has no request, or its number is the last.
+    /// Takes a request back. The look ends the call where the key has no request (`Nothing`), or one
+    /// with the last ticket number (`Worn`). One swap puts in a hole whose ticket number is one
+    /// higher, so no reader sees the flag cleared without the next number, and a fill by the old one
+    /// is stale. What the swap takes out is of no use: arrivals at a key that isn't filled count
+    /// nothing. 2 steps.
     pub fn cancel_key<G: BegunCall>(&self, seat: &mut Seat, spare: &mut Spare, key: u32) -> Cancel
         requires call { G.call ≡ writer.Cancel key }
         requires own { (token seat.old).table ≡ self.now }
