@@ -121,6 +121,7 @@ pub const NR_HELD: u32 = 35;
 /// To what takes a map apart: some of its readers are not back.
 pub const NR_READERS_OUT: u32 = 36;
 
+/// The number of a find's answer.
 pub fn of_found(found: Found) -> u32
     ensures { result ≡ found_code found }
 {
@@ -140,6 +141,7 @@ fn of_no_slot(counts: NoSlot) -> u32
     }
 }
 
+/// The number of a fill's answer.
 pub fn of_fill(answer: Result<(), FillFault>) -> u32
     ensures { result ≡ fill_code answer }
 {
@@ -152,6 +154,7 @@ pub fn of_fill(answer: Result<(), FillFault>) -> u32
     }
 }
 
+/// The number of an update's answer.
 pub fn of_update(answer: Result<(), UpdateFault>) -> u32
     ensures { result ≡ update_code answer }
 {
@@ -164,6 +167,7 @@ pub fn of_update(answer: Result<(), UpdateFault>) -> u32
     }
 }
 
+/// The number of a replacement's answer.
 pub fn of_replace(answer: Result<(), ReplaceFault>) -> u32
     ensures { result ≡ replace_code answer }
 {
@@ -183,6 +187,7 @@ fn of_reclaimed(given: Reclaimed) -> u32
     }
 }
 
+/// The number of a reclaiming fill's answer.
 pub fn of_fill_reclaiming(answer: Result<Reclaimed, FillFault>) -> u32
     ensures { result ≡ fill_reclaiming_code answer }
 {
@@ -192,6 +197,7 @@ pub fn of_fill_reclaiming(answer: Result<Reclaimed, FillFault>) -> u32
     }
 }
 
+/// The number of a reclaiming update's answer.
 pub fn of_update_reclaiming(answer: Result<Reclaimed, UpdateFault>) -> u32
     ensures { result ≡ update_reclaiming_code answer }
 {
@@ -201,6 +207,7 @@ pub fn of_update_reclaiming(answer: Result<Reclaimed, UpdateFault>) -> u32
     }
 }
 
+/// The number of a reclaiming replacement's answer.
 pub fn of_replace_reclaiming(answer: Result<Reclaimed, ReplaceFault>) -> u32
     ensures { result ≡ replace_reclaiming_code answer }
 {
@@ -210,6 +217,7 @@ pub fn of_replace_reclaiming(answer: Result<Reclaimed, ReplaceFault>) -> u32
     }
 }
 
+/// The number of a reap's answer.
 pub fn of_reaped(answer: Reaped) -> u32
     ensures { result ≡ reaped_code answer }
 {
@@ -220,6 +228,7 @@ pub fn of_reaped(answer: Reaped) -> u32
     }
 }
 
+/// The number of an eviction's answer.
 pub fn of_evict(answer: Evict) -> u32
     ensures { result ≡ evict_code answer }
 {
@@ -229,6 +238,7 @@ pub fn of_evict(answer: Evict) -> u32
     }
 }
 
+/// The number of a cancel's answer.
 pub fn of_cancel(answer: Cancel) -> u32
     ensures { result ≡ cancel_code answer }
 {
@@ -239,6 +249,7 @@ pub fn of_cancel(answer: Cancel) -> u32
     }
 }
 
+/// The number of a key's state.
 pub fn of_kind(kind: KeyKind) -> u32
     ensures { result ≡ kind_code kind }
 {
@@ -249,6 +260,7 @@ pub fn of_kind(kind: KeyKind) -> u32
     }
 }
 
+/// The number of a post's answer.
 pub fn of_post(answer: Result<(), PostFault>) -> u32
     ensures { result ≡ post_code answer }
 {
@@ -259,6 +271,7 @@ pub fn of_post(answer: Result<(), PostFault>) -> u32
     }
 }
 
+/// The number of a take that got no trigger.
 pub fn of_take_fault(fault: TakeFault) -> u32
     ensures { result ≡ take_code fault }
 {

@@ -22,7 +22,8 @@ use std::sync::Arc;
 /// Opens a map of that shape, and makes the writer's handle live. Answers `NR_DONE`; `NR_LIVE` where
 /// the handle is live already; `NR_BAD_SIZE` where a size is out of its limits, 1 to 65,536 keys, 1 to
 /// 131,072 slots and 1 to 1,024 readers, or 1 to 4,194,303 slots, 1 to as many keys and 1 to 65,535
-/// readers; with a first number up to 4,194,303 and 1 to 255 rows a key; or `NR_NO_MEMORY`. The handle stays as it was where it isn't done.
+/// readers; with a first ticket number up to 4,194,303 and 1 to 255 rows a key; or `NR_NO_MEMORY`.
+/// The handle stays as it was where it isn't done.
 #[unsafe(no_mangle)]
 pub extern "C" fn nr_open(alloc: Global, shape: &NrShape, writer: &mut NrWriter) -> u32
     ensures { WhenEmpty result (Opens (shape_of_sizes shape.now) result) writer.old.live writer.new.live }

@@ -48,7 +48,7 @@ fn find_idle(map: &ReaderMap, hand: &mut Hand, key: u32, rows: &mut NrRows) -> F
     }
 }
 
-/// Requests a key, in 1 step. Answers `NR_SEND`, and then `number` is the number of the request,
+/// Requests a key, in 1 step. Answers `NR_SEND`, and then `number` is the request's ticket number,
 /// which the sender of the upquery hands on to the fill; or `NR_WAITING` or `NR_FILLED`. `NR_NO_KEY`,
 /// or `NR_HOLDING` where the reader holds a set, with no step.
 #[unsafe(no_mangle)]

@@ -28,6 +28,7 @@ pub struct NrSizes {
 }
 
 impl NrShape {
+    /// The same sizes as the map's own calls take them.
     pub fn shape(self) -> Shape
         ensures { result ≡ shape_of_sizes self }
     {
@@ -43,6 +44,7 @@ impl NrShape {
 }
 
 impl NrSizes {
+    /// The sizes of a map.
     pub fn of(map: &ReaderMap) -> NrSizes
         ensures { result ≡ sizes_of map.now.shape }
     {

@@ -28,7 +28,7 @@ pub extern "C" fn nr_look(writer: &mut NrWriter, key: u32, rows: &mut NrRows) ->
     of_found(side.map.look_into(&mut side.writer, key, rows))
 }
 
-/// Fills a key that was asked for, by the number of its request, with rows in ascending order.
+/// Fills a key that was asked for, by its request's ticket number, with rows in ascending order.
 /// Answers `NR_NO_KEY`, `NR_TOO_MANY` where they are more than a key may have, and `NR_NOT_SORTED` where one is
 /// below the one before it, with no step; and else as the map's fill does: `NR_DONE`,
 /// `NR_NOT_ASKED`, `NR_ALREADY`, `NR_STALE`; or `NR_NO_SLOT` where readers hold slots, and else
@@ -139,7 +139,7 @@ pub extern "C" fn nr_state(writer: &mut NrWriter, key: u32) -> u32
     of_kind(side.map.state(&mut side.writer, key))
 }
 
-/// The number of a key's request, or of its next one where nobody asks: the answer to it names that
+/// A key's ticket number: that of its request, or of its next one where nobody asks. A fill names that
 /// number. Answers `NR_DONE` or `NR_NO_KEY`. No step.
 #[unsafe(no_mangle)]
 pub extern "C" fn nr_number(writer: &mut NrWriter, key: u32, number: &mut u64) -> u32

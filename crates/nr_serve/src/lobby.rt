@@ -157,6 +157,7 @@ impl Lobby {
         self.wake_all();
     }
 
+    /// Whether it was closed.
     pub fn is_closed(&self, guest: &mut Guest) -> bool
         requires { guest.old.lobby ≡ self.now }
         ensures looks { OnlyLooks guest.old guest.new }
