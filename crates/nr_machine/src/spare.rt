@@ -13,10 +13,11 @@ use std::alloc::{AllocError, Global};
 use std::collections::VecDeque;
 use std::marker::Model;
 
-/// Those from `fresh` on were never taken; the retired ones, oldest first, wait until their readers
-/// have departed. They are a queue, so that to take the oldest costs the same whatever their number,
-/// and it has room to retire all slots. A filled key's word has its slot, so its number stands here
-/// alone. The set in a reaped slot was given out, and a call that takes the slot gives out none.
+/// The writer's lists of slots and of ticket numbers. Slots from `fresh` on were never taken; the
+/// retired ones, oldest first, wait until their readers have departed. They are a queue, so that to
+/// take the oldest costs the same whatever their number, and it has room to retire all slots. A
+/// filled key's word has its slot, so its ticket number is here alone. The set in a reaped slot was
+/// given out, and a call that takes the slot gives out none.
 #[derive(Drop)]
 pub struct Spare {
     slots: u32,
@@ -84,7 +85,7 @@ impl Spare {
         self.retired.len()
     }
 
-    /// The retired slot at that place, of which the oldest has place 0.
+    /// The retired slot at that index, of which the oldest has index 0.
     pub fn retired_at(&self, place: usize) -> Retired
         requires { place < length self.now.retired }
         ensures { result ≡ slice_index_or self.now.retired place no_retired }
@@ -92,7 +93,7 @@ impl Spare {
         self.retired[place]
     }
 
-    /// Takes the retired slot at that place; the others keep their order.
+    /// Takes the retired slot at that index; the others keep their order.
     pub fn take_retired(&mut self, place: usize)
         requires { place < length self.old.retired }
         ensures { self.new ≡ record self.old { retired = remove self.old.retired place } }
@@ -100,7 +101,8 @@ impl Spare {
         self.retired.remove(place);
     }
 
-    /// Takes the oldest retired slot, if there is one. It costs less than to look at it and then take it.
+    /// Takes the oldest retired slot, if there is one. It costs less than to look at it and then
+    /// take it.
     pub fn take_oldest(&mut self) -> Option<Retired>
         ensures { TakesOldest self.old self.new result }
     {
@@ -129,7 +131,7 @@ impl Spare {
         }
     }
 
-    /// The key's number.
+    /// The key's ticket number.
     pub fn number(&self, key: u32) -> u64
         requires { key < length self.now.numbers }
         ensures { result ≡ slice_index self.now.numbers key }
@@ -137,7 +139,7 @@ impl Spare {
         self.numbers[key as usize]
     }
 
-    /// Gives the key another number.
+    /// Gives the key another ticket number.
     pub fn renumber(&mut self, key: u32, number: u64)
         requires { key < length self.old.numbers }
         ensures { self.new ≡ record self.old { numbers = slice_set self.old.numbers key number } }

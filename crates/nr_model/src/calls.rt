@@ -12,7 +12,7 @@ pub enum Call {
     Find(u32),
     /// Requests the rows of a key that is missing.
     Ask(u32),
-    /// Answers the request of that number with the key's rows.
+    /// Answers the request of that ticket number with the key's rows.
     Fill(u32, u64, RowSet),
     /// Applies a batch to the key's rows.
     Update(u32, Batch),
@@ -45,7 +45,7 @@ pub enum Reply {
     Rows(RowSet),
     /// To a find: the key is not filled.
     Hole,
-    /// To a request: nobody asked before, so the caller sends the upquery, with that number.
+    /// To a request: nobody asked before, so the caller sends the upquery, with that ticket number.
     Send(u64),
     /// To a request: an upquery is under way.
     Waiting,
@@ -55,7 +55,7 @@ pub enum Reply {
     Done,
     /// To a fill: nobody asked for the key.
     NotAsked,
-    /// To a fill: it answers a request of another number, which was cancelled.
+    /// To a fill: it answers a request of another ticket number, which was cancelled.
     Stale,
     /// To a fill: the key is filled.
     Already,
@@ -69,8 +69,8 @@ pub enum Reply {
     Evicted,
     /// To an eviction: the key was not filled. To a cancel: the key was not asked for.
     Nothing,
-    /// To a cancel: the request is taken back, and the key's next request gets the next number.
+    /// To a cancel: the request is taken back, and the key's next one gets the next ticket number.
     Cancelled,
-    /// To a cancel: the request has the last number, so it stays until its own fill.
+    /// To a cancel: the request has the last ticket number, so it stays until its own fill.
     Worn,
 }

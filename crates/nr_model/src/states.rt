@@ -7,7 +7,7 @@ use crate::rows::RowSet;
 /// The last ticket number that a key can have.
 pub const LAST_NUMBER: u64 = 4_194_303;
 
-/// A key is missing, missing with an upquery under way, or filled. In each state it has its ask
+/// A key is missing, missing with an upquery under way, or filled. In each state it has its ticket
 /// number: that of its next request, of the one under way, or of the one that was filled.
 #[derive(Clone, Copy, Debug)]
 pub enum KeyState {
