@@ -9,8 +9,8 @@ use nr_model::RowRoom;
 use std::alloc::{AllocError, Global};
 use std::marker::Model;
 
-/// The readers of one thread: one that holds nothing, and one or more hands. A key's place among the
-/// hands is its number modulo how many they are. It can't be dropped: it must be closed.
+/// The readers of one thread: one that holds nothing, and one or more hands. A key belongs to the
+/// hand whose index is the key modulo how many they are. It can't be dropped: it must be closed.
 pub struct Cache {
     once: Reader,
     hands: Vec<Hand>,
@@ -58,11 +58,11 @@ impl Cache {
         self.hands.len()
     }
 
-    /// Looks a key up. The hand of its place makes the find and keeps what it found
-    /// (`Hand::find_kept`) where it holds a set of the key, or the key was the last to miss there. Else
-    /// the key misses there, and the reader that holds nothing makes the find (`ReaderMap::find_into`).
-    /// Each find is one entry of the reader that makes it. Of two finds by two readers of the cache
-    /// neither knows of the other.
+    /// Looks a key up. The hand that it belongs to makes the find and keeps what it found
+    /// (`Hand::find_kept`) where it holds a set of the key, or the key was the last to miss there.
+    /// Else the key misses there, and the reader that holds nothing makes the find
+    /// (`ReaderMap::find_into`). Each find is one entry of the reader that makes it. Of two finds by
+    /// two readers of the cache neither knows of the other.
     pub fn find<R: RowRoom>(&mut self, map: &ReaderMap, key: u32, rows: &mut R) -> Found
         requires own { IsOf map.now self.old }
         requires key { key < map.now.shape.keys }
@@ -85,7 +85,8 @@ impl Cache {
         self.hands[place].key() == Some(key) || self.missed[place] == Some(key)
     }
 
-    /// Lets go all that is held, in 1 step for each set, as a thread does that finds nothing for a while.
+    /// Lets go all that is held, in 1 step for each set, as a thread does that finds nothing for a
+    /// while.
     pub fn let_go(&mut self, map: &ReaderMap)
         requires own { IsOf map.now self.old }
         ensures own { IsOf map.now self.new }
@@ -97,8 +98,8 @@ impl Cache {
         }
     }
 
-    /// The cache ends: what is held is let go, in 1 step for each set, and all readers come back, those
-    /// of the hands each in its hand and place.
+    /// The cache ends: what is held is let go, in 1 step for each set, and all readers come back,
+    /// those of the hands each in its hand, in their order.
     pub fn close(self, map: &ReaderMap) -> (Reader, Vec<Hand>)
         requires own { IsOf map.now self }
         ensures once { result.0 ≡ self.once }

@@ -11,9 +11,9 @@ use std::marker::Brand;
 impl ReaderMap {
     ghost use Rattle.nr_board.specs.WriterAnswers.{CancelsKey};
 
-    /// Takes the request of a key back: an asked key is a hole with the next number, so its next
-    /// request is sent anew, and a late answer to the old one is stale. Nothing happens where the
-    /// key is not asked, and where its number is the last one, 4,194,303 (`Worn`): that request
+    /// Takes the request of a key back: an asked key is a hole with the next ticket number, so its
+    /// next request is sent, and a late fill for the old one is stale. Nothing happens where the key
+    /// is not asked, and where its ticket number is the last one, 4,194,303 (`Worn`): that request
     /// stays, and its own fill alone ends it. Takes 2 steps, and 1 where nothing happens.
     pub fn cancel(&self, writer: &mut Writer, key: u32) -> Cancel
         requires own { writer.old.table ≡ self.now }
@@ -24,8 +24,8 @@ impl ReaderMap {
             .cancel_key::<Brand>(&mut writer.seat, &mut writer.spare, key)
     }
 
-    /// The number of a key, as the writer's list has it. A request of the key is sent with it, and
-    /// each cancel raises it by one. Takes no step.
+    /// The ticket number of a key, as the writer's list has it. A request of the key is sent with
+    /// it, and each cancel raises it by one. Takes no step.
     pub fn number(&self, writer: &Writer, key: u32) -> u64
         requires own { writer.now.table ≡ self.now }
         requires key { key < self.now.shape.keys }

@@ -104,7 +104,7 @@ impl ReaderMap {
     }
 
     /// Requests a key, in 1 step. Of the requests since the key became a hole the first is
-    /// answered `Send`, with the key's number, and no other.
+    /// answered `Send`, with the key's ticket number, and no other.
     pub fn ask(&self, reader: &mut Reader, key: u32) -> Asked
         requires own { reader.old.table ≡ self.now }
         requires key { key < self.now.shape.keys }

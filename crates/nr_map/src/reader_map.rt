@@ -33,10 +33,10 @@ impl Model for ReaderMap {
 }
 
 impl ReaderMap {
-    /// A map with its writer and its readers, in the order of their numbers. Refused where a size
-    /// is out of its limits: 1 to 65,536 keys, 1 to 131,072 slots and 1 to 1,024 readers; and then
+    /// A map with its writer and its readers, in the order of their numbers. Refused where a size is
+    /// out of its limits: 1 to 65,536 keys, 1 to 131,072 slots and 1 to 1,024 readers; and then
     /// where there is no memory. Every slot's count of departures begins at `first_count`, and every
-    /// key's number at 0. A key may have 15 rows.
+    /// key's ticket number at 0. A key may have 15 rows.
     pub fn open(
         alloc: Global,
         keys: u32,
@@ -58,7 +58,7 @@ impl ReaderMap {
         ReaderMap::open_with(alloc, &shape)
     }
 
-    /// A map of that shape with its tokens. Every key's number begins at `first_number`, 0 to
+    /// A map of that shape with its tokens. Every key's ticket number begins at `first_number`, 0 to
     /// 4,194,303, and a key may have `rows` rows, 1 to 255. What is out of its limits, as at `open`,
     /// is refused first, and then want of memory.
     pub fn open_with(

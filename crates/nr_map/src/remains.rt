@@ -8,8 +8,8 @@ use crate::writer::Writer;
 use nr_model::RowRoom;
 use std::marker::Model;
 
-/// What is left of a map: the set of each slot that was ever taken, filled keys' sets among them, but
-/// for those that were reaped.
+/// What is left of a map: the set of each slot that was ever taken, filled keys' sets among them,
+/// but for those that were reaped.
 #[derive(Drop)]
 pub struct Remains {
     map: ReaderMap,
@@ -29,8 +29,8 @@ impl Model for Remains {
 }
 
 impl ReaderMap {
-    /// Takes the map apart, once all its readers are back: nobody holds a set any more. The sets that
-    /// no call gave out come out of what remains. Takes no steps.
+    /// Takes the map apart, once all its readers are back: nobody holds a set any more. The sets
+    /// that no call gave out come out of what remains. Takes no steps.
     pub fn take_apart(self, writer: Writer, readers: Vec<Reader>) -> Remains
         requires own { writer.table ≡ self }
         requires all { length readers.items ≡ self.shape.readers }
@@ -46,9 +46,10 @@ impl ReaderMap {
     }
 
     /// Writes the set of the first slot from that one on that was ever taken and not reaped into the
-    /// caller's room, in 2n + 1 steps for n rows, and tells the slot after it. None where there is no
-    /// such slot; then the room stays as it is. This is for who has all tokens in one hand, so that
-    /// nobody holds the set, and can't give the map away; `Remains` is for all others.
+    /// caller's room, in 2n + 1 steps for n rows, and tells the slot after it. None where there is
+    /// no such slot; then the room stays as it is. For a caller that has all readers back, so that
+    /// nobody holds the set, which this call doesn't test, and that can't give the map away as
+    /// `Remains` needs.
     pub fn set_from<R: RowRoom>(&self, writer: &mut Writer, from: u32, rows: &mut R) -> Option<u32>
         requires own { writer.old.table ≡ self.now }
         ensures { ComesOut R.shows from writer.old rows.old writer.new rows.new result }

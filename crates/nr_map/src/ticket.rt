@@ -5,7 +5,7 @@ use nr_board::Board;
 use std::marker::Model;
 use std::snapshot::Snapshot;
 
-/// One request that was answered `Send`, with the number by which it is filled. It can't be
+/// One request that was answered `Send`, with its ticket number, by which it is filled. It can't be
 /// dropped: it must be spent by the sender of the upquery. Contracts see its map too.
 pub struct Ticket {
     key: u32,
@@ -44,7 +44,7 @@ impl Ticket {
         self.key
     }
 
-    /// The number that the key had: a fill names it.
+    /// The ticket number, which the fill names.
     pub fn number(&self) -> u64
         ensures { result ≡ self.now.number }
     {

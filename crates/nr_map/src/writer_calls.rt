@@ -36,8 +36,8 @@ impl ReaderMap {
             .look_up::<Brand, R>(&mut writer.seat, &writer.spare, key, rows)
     }
 
-    /// Fills a key that was asked for, by the number of its request, with at most `rows()` rows.
-    /// Refused where nobody asked, where the key is filled, where the key was asked with another
+    /// Fills a key that was asked for, by its request's ticket number, with at most `rows()` rows.
+    /// Refused where nobody asked, where the key is filled, where its request has another ticket
     /// number (`Stale`), and where it needs a slot and each one is a filled key's or held by a
     /// reader. Takes 1 step where it is refused by the key, 2n + 3 and the polls for n rows where
     /// it is done, and 1 and a poll of each retired slot where there is none.
@@ -140,8 +140,8 @@ impl ReaderMap {
             .replace_key::<Brand>(&mut writer.seat, &mut writer.spare, key, rows)
     }
 
-    /// Makes a filled key a hole, which keeps its number. Takes 2 steps, and 1 where the key is not
-    /// filled.
+    /// Makes a filled key a hole, which keeps its ticket number. Takes 2 steps, and 1 where the key
+    /// is not filled.
     pub fn evict(&self, writer: &mut Writer, key: u32) -> Evict
         requires own { writer.old.table ≡ self.now }
         requires key { key < self.now.shape.keys }

@@ -24,8 +24,8 @@ pub enum Turn {
     Idle,
     /// The key is filled.
     Filled(u32),
-    /// The key needs no fill: it is filled already, or nobody asks for it any more, or by a request
-    /// of another number.
+    /// The key needs no fill: it is filled already, or nobody asks for it any more, or its request
+    /// has another ticket number.
     Passed(u32),
     /// There was no slot for the rows; the trigger is kept and tried first in the next turn.
     Kept(NoSlot),
@@ -87,10 +87,10 @@ impl<'a, S: Source> Dataflow<'a, S> {
     }
 
     /// Takes the trigger that is kept, or else the next one of the queue, asks the source for its
-    /// key's rows, and fills the key by the trigger's number. Raises the lobby for the key where
-    /// that spends the trigger. A trigger that is kept is tried again in the next turn, with rows that the
-    /// source is asked for anew; on a map with a slot for each key, each reader and one more, none
-    /// is ever kept. May wait for a thread that is within a call of its own.
+    /// key's rows, and fills the key by the trigger's ticket number. Raises the lobby for the key
+    /// where that spends the trigger. A trigger that is kept is tried again in the next turn, with
+    /// rows that the source is asked for again; on a map with a slot for each key, each reader and
+    /// one more, none is ever kept. May wait for a thread that is within a call of its own.
     pub fn turn<R: Wait>(&mut self, rt: &R) -> Turn
         ensures turns { Turns S.gives self.old result self.new }
         ensures places { (self.new.map ≡ self.old.map) × (self.new.queue ≡ self.old.queue) }
@@ -201,8 +201,8 @@ impl<'a, S: Source> Dataflow<'a, S> {
         self.map.update_rows(&mut self.writer, key, deltas)
     }
 
-    /// Puts a set whole in place of a filled key's, as the map's `replace` does. On a map with a slot
-    /// for each key, each reader and one more there always is a slot.
+    /// Puts a set whole in place of a filled key's, as the map's `replace` does. On a map with a
+    /// slot for each key, each reader and one more there always is a slot.
     pub fn replace(&mut self, key: u32, rows: &RowSet) -> Result<(), ReplaceFault>
         requires key { key < self.old.map.shape.keys }
         requires few { length rows.now ≤ self.old.map.shape.rows }
@@ -224,7 +224,7 @@ impl<'a, S: Source> Dataflow<'a, S> {
     }
 
     /// Takes the request of a key back, as the map's `cancel` does. Raises the lobby for the key
-    /// where it did, so that clients that wait for the key ask for it anew.
+    /// where it did, so that clients that wait for the key request it again.
     pub fn cancel<R: Wait>(&mut self, rt: &R, key: u32) -> Cancel
         requires key { key < self.old.map.shape.keys }
         ensures cancels { CancelsKey key self.old.writer self.new.writer result }

@@ -16,10 +16,11 @@ use std::sync::atomic::{AtomicU64, Ordering};
 /// How many groups of keys have a count and sleepers of their own.
 const GROUPS: u32 = 64;
 
-/// The place of the count of the whole lobby.
+/// The index of the count of the whole lobby.
 const WHOLE_AT: usize = 512;
 
-/// How often a thread looks before it goes to sleep, since to sleep and wake takes longer than a fill.
+/// How often a thread looks before it goes to sleep, since to sleep and wake takes longer than a
+/// fill.
 const LOOKS: u32 = 1_000;
 
 /// Counts that only rise, one for each group of keys and one for all, with those who sleep until

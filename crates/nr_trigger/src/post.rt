@@ -4,7 +4,7 @@ ghost use Rattle.nr_trigger.specs.Posts.{upquery_of};
 
 use nr_map::{Note, Ticket};
 
-/// What a ticket names: the key whose rows are to be had, and which of its requests asked.
+/// What a ticket names: the key whose rows are wanted, and the request's ticket number.
 #[derive(Clone, Copy, Debug, PartialEq, Eq)]
 pub struct Upquery {
     pub key: u32,

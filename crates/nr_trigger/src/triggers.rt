@@ -43,7 +43,7 @@ impl Model for Triggers {
 impl Triggers {
     /// A queue with its posters and its taker. Refused where a size is out of its limits, a
     /// capacity of 1 to 65,536 tickets and 1 to 1,024 posters, and then where there is no memory.
-    /// Contracts are told a number above each key that will be posted.
+    /// Contracts are told a bound above each key that will be posted, a ghost value.
     pub fn open(
         alloc: Global,
         capacity: u32,
@@ -157,9 +157,10 @@ impl Triggers {
         Some(Trigger::of(self.pop(rt, taker)?))
     }
 
-    /// One attempt to put a request at the back, for callers that may not wait; theirs is the ticket's
-    /// end too. Nothing is posted where the queue is full, where another thread is in the way within a
-    /// call of its own, and where the queue has carried 2^62 requests. Waits for nobody.
+    /// One attempt to put a request at the back, for callers that may not wait; theirs is the
+    /// ticket's end too. Nothing is posted where the queue is full, where another thread is in the
+    /// way within a call of its own, and where the queue has carried 2^62 requests. Waits for
+    /// nobody.
     pub fn try_post(&self, poster: &mut Poster, upquery: Upquery) -> Result<(), PostFault>
         requires own { poster.old.queue ≡ self.now.id }
         requires key { upquery.key < poster.old.keys }
