@@ -34,7 +34,7 @@ pub enum Fault {
     Full,
     /// The queue was empty at one moment of the call.
     Empty,
-    /// Another thread was in the midst of a call of its own: the same call may be made again at once.
+    /// Another thread was within a call of its own: the same call may be made again at once.
     InTheWay,
 }
 
@@ -89,7 +89,7 @@ pub(crate) fn done(code: u32) -> Result<(), Fault> {
 pub enum Updated {
     /// The key has the new rows.
     Done,
-    /// The key isn't filled, so there was nothing to change: a fill to come brings the rows as they are by then.
+    /// The key isn't filled, so there was nothing to change: a later fill brings the rows as they are then.
     Dropped,
 }
 
@@ -97,7 +97,7 @@ pub enum Updated {
 #[derive(Debug, PartialEq, Eq)]
 #[must_use = "where it is `Send`, its ticket is to be sent"]
 pub enum Asked {
-    /// Nobody asked since the key became a hole: this ticket is to be sent to the writer.
+    /// This is the first request since the key became a hole: the ticket is to be sent to the writer.
     Send(Ticket),
     /// A request is under way.
     Waiting,
@@ -119,10 +119,10 @@ pub enum KeyKind {
 /// The answer to a cancel.
 #[derive(Clone, Copy, Debug, PartialEq, Eq)]
 pub enum Cancel {
-    /// The request is taken back: the next one is sent anew, and the old ticket fills nothing.
+    /// The request is taken back: the next one gets a ticket again, and the old ticket fills nothing.
     Cancelled,
     /// Nobody asks for the key.
     Nothing,
-    /// The request has the last number, 4,194,303: its own fill alone ends it.
+    /// The request has the last ticket number, 4,194,303: only its own fill ends it.
     Worn,
 }

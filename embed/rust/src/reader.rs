@@ -59,8 +59,8 @@ impl Reader {
     }
 
     /// As [`Reader::find`], and the reader holds the set until it finds another or makes another call. While the key keeps
-    /// that set, the next `find_kept` of it writes no word. A set that is held keeps its slot from being used anew, so a
-    /// reader that finds nothing for a while is told to [`Reader::let_go`]. With [`Reader::keeping`] nobody forgets that.
+    /// that set, the next `find_kept` of it writes no word. A set that is held keeps its slot from being used again, so a
+    /// reader that finds nothing for a while has to [`Reader::let_go`]. [`Reader::keeping`] does so by itself.
     pub fn find_kept<'a>(&mut self, key: u32, rows: &'a mut Rows) -> Option<&'a [Row]> {
         let key = self.map.checked(key);
         // SAFETY: the handle is live, the key was checked, and the rows are laid out as the header's.
@@ -68,14 +68,14 @@ impl Reader {
         self.holds.then(|| rows.as_slice())
     }
 
-    /// Whether the key has the set still that the reader holds, by [`Reader::find_kept`].
+    /// Whether the key still has the set that the reader holds since its last [`Reader::find_kept`].
     pub(crate) fn again(&mut self, key: u32) -> bool {
         let key = self.map.checked(key);
         // SAFETY: the handle is live, and the key was checked. Where it holds nothing the answer is another.
         unsafe { ffi::nr_again(&mut self.handle, key) == ffi::NR_ROWS }
     }
 
-    /// Finds by [`Reader::find_kept`] whose hold ends with what this gives, however that scope is left.
+    /// Finds by [`Reader::find_kept`], whose hold ends when the value that this gives is dropped.
     ///
     /// ```
     /// # let mut map = nr::ReaderMap::open(&nr::Shape::new(1, 3, 1))?;

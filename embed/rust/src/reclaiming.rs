@@ -23,7 +23,7 @@ pub enum Reaped<'a> {
     Nothing,
 }
 
-/// Calls for rows that refer to more, as to a place in a store. A set that was replaced or evicted waits in its slot. It
+/// Calls for rows that refer to more, as by an index in a store. A set that was replaced or evicted waits in its slot. It
 /// comes back when one of these calls takes that slot, when [`Writer::reap`] finds it, or out of the [`Remains`] of its
 /// map: once, and when no reader holds it and none can find it, so that what its rows refer to can be freed. Where
 /// [`Writer::fill`], [`Writer::update`] or [`Writer::replace`] takes the slot, its set doesn't come back.
@@ -135,8 +135,8 @@ fn reclaimed(code: u32, had: &Rows) -> Result<Reclaimed<'_>, Fault> {
     }
 }
 
-/// What is left of a map that was taken apart: each set that was put and that no call gave out or put another one over,
-/// filled keys' sets among them.
+/// What is left of a map that was taken apart: each set, filled keys' sets among them, that no call gave out or
+/// overwrote.
 #[derive(Debug)]
 pub struct Remains(Handle);
 

@@ -103,7 +103,7 @@ impl Delta {
 pub struct Shape {
     /// At least 1.
     pub keys: u32,
-    /// At least 1. With one for each key, each reader and one more no fill or update finds no slot.
+    /// At least 1. With one for each key, each reader and one more, each write finds a slot.
     pub slots: u32,
     /// At least 1.
     pub readers: u32,
@@ -111,7 +111,7 @@ pub struct Shape {
     pub rows: u32,
     /// Where the slots' departures begin. 0 but in tests.
     pub first_count: u64,
-    /// The first number of requests, up to 4,194,303. 0 but in tests.
+    /// The first ticket number of each key, up to 4,194,303. 0 but in tests.
     pub first_number: u64,
 }
 

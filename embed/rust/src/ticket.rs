@@ -34,7 +34,7 @@ impl Ticket {
         self.key
     }
 
-    /// The number of the request, which grows with each cancel of its key.
+    /// The ticket number, which each cancel of the key raises.
     pub fn number(&self) -> u64 {
         self.number
     }

@@ -46,7 +46,7 @@ impl Writer {
     /// Answers a request with the key's rows, in ascending order. Where it is refused the ticket comes back, and
     /// nothing has changed: with [`Fault::NoSlot`] it fills the key once a key was evicted or a reader released its
     /// set; with [`Fault::AllFilled`] once a key was evicted; with [`Fault::TooMany`] or [`Fault::NotSorted`] by other
-    /// rows; with [`Fault::NotAsked`], [`Fault::Stale`] or [`Fault::Already`] never, since the request is no more.
+    /// rows; with [`Fault::NotAsked`], [`Fault::Stale`] or [`Fault::Already`] never, since the request is over.
     /// Panics where the ticket is of another map.
     pub fn fill(&mut self, ticket: Ticket, rows: &[Row]) -> Result<(), Unfilled> {
         self.map.owns(&ticket);
@@ -56,7 +56,7 @@ impl Writer {
         done(code).map_err(|fault| Unfilled { fault, ticket })
     }
 
-    /// Applies 1 to 64 signed rows to the rows of a key, whole or not at all; of a key that isn't filled the batch is
+    /// Applies 1 to 64 signed rows to the rows of a key, whole or not at all; at a key that isn't filled the batch is
     /// [`Updated::Dropped`]. Refused with [`Fault::BadBatch`], [`Fault::NoRow`], [`Fault::TooMany`],
     /// [`Fault::NoSlot`] or [`Fault::AllFilled`]; then nothing has changed.
     pub fn update(&mut self, key: u32, deltas: &[Delta]) -> Result<Updated, Fault> {
@@ -68,7 +68,7 @@ impl Writer {
         }
     }
 
-    /// Puts rows in ascending order whole in place of a key's; of a key that isn't filled they are [`Updated::Dropped`].
+    /// Puts rows in ascending order in place of all of a key's; at a key that isn't filled they are [`Updated::Dropped`].
     /// Refused with [`Fault::TooMany`], [`Fault::NotSorted`], [`Fault::NoSlot`] or [`Fault::AllFilled`]; then nothing has
     /// changed.
     pub fn replace(&mut self, key: u32, rows: &[Row]) -> Result<Updated, Fault> {
@@ -80,14 +80,14 @@ impl Writer {
         }
     }
 
-    /// Makes a filled key a hole; whether it was filled.
+    /// Makes a filled key a hole, and tells whether it was filled.
     pub fn evict(&mut self, key: u32) -> bool {
         let key = self.map.checked(key);
         // SAFETY: the handle is live, and the key was checked.
         unsafe { ffi::nr_evict(&mut self.handle, key) == ffi::NR_EVICTED }
     }
 
-    /// Takes the request of a key back, as where its ticket was lost: the next one is sent anew.
+    /// Takes the request of a key back, as where its ticket was lost: the next one gets a ticket again.
     pub fn cancel(&mut self, key: u32) -> Cancel {
         let key = self.map.checked(key);
         // SAFETY: the handle is live, and the key was checked.
@@ -98,9 +98,9 @@ impl Writer {
         }
     }
 
-    /// Takes the request of a ticket back, as where its rows can't be told: the key's next one is sent anew. Of a ticket
-    /// whose request is no more this changes nothing. The ticket comes back where it has the last number, 4,194,303:
-    /// then a fill by it alone ends the request. Panics where it is of another map.
+    /// Takes the request of a ticket back, as where its rows can't be told: the key's next one gets a ticket again. Of a
+    /// ticket whose request is over this changes nothing. The ticket comes back where it has the last ticket number,
+    /// 4,194,303: then only a fill by it ends the request. Panics where it is of another map.
     pub fn cancel_ticket(&mut self, ticket: Ticket) -> Result<(), Ticket> {
         self.map.owns(&ticket);
         let key = ticket.key();
@@ -121,7 +121,7 @@ impl Writer {
         }
     }
 
-    /// The number of a key's request, or of its next one.
+    /// A key's ticket number: that of its request, or of its next one.
     pub fn number(&mut self, key: u32) -> u64 {
         let key = self.map.checked(key);
         let mut number = 0;
