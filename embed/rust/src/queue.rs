@@ -15,8 +15,8 @@ pub struct Queue {
 }
 
 impl Queue {
-    /// Opens a queue for 1 to 4,194,303 tickets of the writer's map, with 1 to 65,535 posters. A map's tickets fit into as
-    /// many places as it has keys, where none is taken back. Refused with [`Fault::BadSize`] or [`Fault::NoMemory`].
+    /// Opens a queue for 1 to 4,194,303 tickets of the writer's map, with 1 to 65,535 posters. A capacity of the map's
+    /// number of keys holds all its tickets, where none is cancelled. Refused with [`Fault::BadSize`] or [`Fault::NoMemory`].
     pub fn open(writer: &Writer, capacity: u32, posters: u32) -> Result<Queue, Fault> {
         let map = writer.map;
         let (out, ins) = ends::open(map.keys, capacity, posters)?;

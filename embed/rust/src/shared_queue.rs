@@ -92,7 +92,7 @@ pub struct SharedTaker {
 }
 
 impl SharedTaker {
-    /// Takes the ticket at the front, with the place of its map among the writers that the queue was opened with. Refused
+    /// Takes the ticket at the front, with the index of its map among the writers that the queue was opened with. Refused
     /// with [`Fault::Empty`] or [`Fault::InTheWay`].
     pub fn take(&mut self) -> Result<(usize, Ticket), Fault> {
         let (key, number) = self.end.take()?;
