@@ -1,4 +1,4 @@
--- Slot accounting in a state: each slot's one place, and its counts.
+-- Slot accounting: the one state that each slot is in, and its counts.
 use Rattle.std.specs.Prelude.{◌≡◌, ℕ, suc, ◌+◌, ◌<◌}
 use Rattle.nr_machine.specs.declared.places.Hold.{Hold}
 use Rattle.nr_machine.specs.declared.places.Hold.TheVariants.{Nothing, On}
@@ -18,11 +18,11 @@ on slot (On held size) = only slot held
 abbrev pub held_by : State → ℕ → ℕ
 held_by state slot = total (on slot) state.holds
 
--- in how many places the slot is: named by a key, free, retired, or taken by the writer's call
+-- in how many states the slot is: named by a key, free, retired, or taken by the writer's call
 abbrev pub places : State → ℕ → ℕ
 places state slot = named state.shape state.words slot + (unused slot state.desk.fresh + retirements slot state.desk.retired + taken slot state.desk.place)
 
--- each slot has one place, and named and retired slots are slots of the map; a named or retired slot's arrivals are its departures and holders; a free or taken slot has no holder
+-- each slot is in one state, and named and retired slots are slots of the map; a named or retired slot's arrivals are its departures and holders; a free or taken slot has no holder
 pub record Accounted (state : State) : Type 0 where
   pub placed : (slot : ℕ) → slot < state.shape.slots → places state slot ≡ 1
   pub named_in : (at slot : ℕ) → at < state.shape.keys → name_number (word state at) ≡ suc slot → slot < state.shape.slots

@@ -33,12 +33,12 @@ use Rattle.nr_machine.specs.Story.{call_of, map_after, opening_map}
 abbrev pub Counts : Shape → List ℕ → (ℕ → ℕ) → ℕ → ℕ → Type 0
 Counts shape words holders slot arrivals = arrivals % 2 ^ 40 ≡ (slice_index words (departures shape slot) + holders slot) % 2 ^ 40
 
--- the list has each key's number
+-- the list has each key's ticket number
 pub record AreNumbers (shape : Shape) (map : PartialMap) (numbers : List ℕ) : Type 0 where
   pub each : length numbers ≡ shape.keys
   pub agree : (at : ℕ) → at < shape.keys → slice_index numbers at ≡ number_of (state_of map at)
 
--- the key is asked, and its number is not the last one
+-- the key is asked, and its ticket number is not the last one
 pub record Withdraws (shape : Shape) (map : PartialMap) (at : ℕ) : Type 0 where
   pub near : at < shape.keys
   pub number : ℕ
@@ -81,7 +81,7 @@ module _ (shape : Shape) (words : List ℕ) (map : PartialMap) (holders : ℕ �
   AtPlace fresh retired (Searching call rows poll) = Wants call rows × (poll < length retired) × (shape.slots ≤ fresh)
   AtPlace fresh retired (Putting call rows slot departed index) = Puts call rows slot departed index
 
-  -- what the writer knows: its place, that free slots are untouched and retired ones counted, and the keys' numbers
+  -- what the writer knows: its stage, that free slots are untouched and retired ones counted, and the keys' ticket numbers
   pub record AtDesk (desk : Desk) : Type 0 where
     pub place : AtPlace desk.fresh desk.retired desk.place
     pub room : desk.fresh ≤ shape.slots
@@ -99,7 +99,7 @@ module _ (shape : Shape) (words : List ℕ) (map : PartialMap) (holders : ℕ �
   Knows (Reader reader grip) = Grips grip
   Knows Note = Unit {0}
 
--- a key's word shows the key's state, and its number where it is not filled
+-- a key's word shows the key's state, and its ticket number where it is not filled
 abbrev pub ShowsState : Shape → List ℕ → ℕ → KeyState → Type 0
 ShowsState shape words word (key.Hole number) = (name_number word ≡ 0) × (word % 2 ≡ 0) × (slot_of word ≡ number)
 ShowsState shape words word (key.Asked number) = (name_number word ≡ 0) × (word % 2 ≡ 1) × (slot_of word ≡ number)
@@ -111,7 +111,7 @@ pub record Core (shape : Shape) (words : List ℕ) (roles : List Role) (log : Li
   pub legal : IsLegal (opening_map shape) log
   -- the words show the map after the history
   pub shows : (at : ℕ) → at < shape.keys → ShowsState shape words (slice_index words at) (state_of (map_after shape log) at)
-  -- each slot has exactly one place: named by a key, free, retired or taken
+  -- each slot is in exactly one state: named by a key, free, retired or taken
   pub places : (slot : ℕ) → slot < shape.slots → named shape words slot + total (keeps slot) roles ≡ 1
   -- a named slot's arrivals, in its key's word, are counted
   pub counts : (at slot : ℕ) → at < shape.keys → name_number (slice_index words at) ≡ suc slot → Counts shape words (held roles) slot (arrivals_of (slice_index words at))

@@ -41,7 +41,7 @@ performed memory one = record {
   made = memory.made ++ one ∷ [];
 }
 
--- the next operation of the writer's call at a place
+-- the next operation of the writer's call at a stage
 abbrev pub going : Shape → Desk → Place → Operation
 going shape desk Idle = Load 0
 going shape desk (Reading call slot got) = Load (content shape slot (length got))

@@ -1,4 +1,4 @@
--- The parts in which the machine keeps its state. The writer's place in its call is a stage, which is numbers alone, and beside it the call, the set that it puts and the words that it has read.
+-- The parts in which the machine keeps its state. The writer's stage in its call is numbers alone, and beside it the call, the set that it puts and the words that it has read.
 use Rattle.std.specs.Prelude.{ℕ, List}
 use Rattle.nr_model.specs.declared.rows.Row.{Row}
 use Rattle.nr_machine.specs.declared.calls.WriterCall.{WriterCall}
@@ -9,7 +9,7 @@ use Rattle.nr_machine.specs.declared.places.Stage.TheVariants as stage
 use Rattle.nr_machine.specs.declared.machine.Machine.{Machine}
 use Rattle.nr_machine.specs.States.{State}
 
--- the place that the parts make
+-- the writer's place that the parts make
 abbrev pub placed : Stage → WriterCall → List Row → List ℕ → Place
 placed stage.Idle call rows got = Idle
 placed (stage.Reading slot) call rows got = Reading call slot got

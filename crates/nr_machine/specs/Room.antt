@@ -17,7 +17,7 @@ RoomOf shape Nothing = Unit {0}
 RoomOf shape (On slot None) = slot < shape.slots
 RoomOf shape (On slot (Some size)) = (slot < shape.slots) × (2 * size < slot_room shape)
 
--- what the writer's next step needs at its place
+-- what the writer's next step needs at its stage
 abbrev pub RoomForStep : State → Place → Type 0
 RoomForStep state Idle = Unit {0}
 RoomForStep state (Reading call slot got) = (slot < state.shape.slots) × (length got < slot_room state.shape)

@@ -36,7 +36,7 @@ pub data Event : Type 0 where
   Start : (call : WriterCall) → Event
   Go : Event
 
--- the word at a place; what a reader holds, and the slot of a hold
+-- the word at an index; what a reader holds, and the slot of a hold
 abbrev pub word : State → ℕ → ℕ
 word state place = slice_index state.words place
 
@@ -47,7 +47,7 @@ abbrev pub slot_in : Hold → ℕ
 slot_in Nothing = 0
 slot_in (On slot size) = slot
 
--- the retired slot at a place of the list
+-- the retired slot at an index of the list
 abbrev pub no_retired : Retired
 no_retired = record { slot = 0; arrivals = 0 }
 

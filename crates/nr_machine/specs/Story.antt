@@ -63,7 +63,7 @@ ending call Going = []
 ending call (Ended (writer.Reply reply)) = entry 0 call reply ∷ []
 ending call (Ended (writer.NoSlot counts)) = []
 
--- the same, of the call that is at a place
+-- the same, of the call that is at a stage
 abbrev pub ending_at : Place → Step → List Entry
 ending_at Idle step = []
 ending_at (Reading call slot got) step = ending (call_of call) step
@@ -102,7 +102,7 @@ holders state slot = holders_from 1 slot state.holds
 abbrev pub poll_at : State → ℕ → Poll
 poll_at state poll = record { slot = (retired_at state.desk poll).slot; holders = holders state (retired_at state.desk poll).slot }
 
--- the polls of a call that is at a place, after its next step
+-- the polls of a call that is at a stage, after its next step
 abbrev pub polls_at : State → List Poll → Place → List Poll
 polls_at state polls Idle = polls
 polls_at state polls (Reading call slot got) = polls

@@ -21,7 +21,7 @@ use Rattle.nr_machine.specs.Slots.{bound_of}
 use Rattle.nr_machine.specs.States.{number_at, retired_at}
 use Rattle.nr_words.specs.SetWords.{decode}
 
--- the desk with the writer at another place of its call
+-- the desk with the writer at another stage of its call
 abbrev pub moved_to : Desk → Place → Desk
 moved_to desk place = record desk { place = place }
 
@@ -90,7 +90,7 @@ abbrev pub read_on : Shape → Desk → WriterCall → ℕ → List ℕ → Desk
 read_on shape desk call slot got =
     (if length got == 2 * slice_index got 0 + 1 then decoded shape desk call (decode got) else (moved_to desk (Reading call slot got), Going))
 
--- the desk after the retired slot at a place was taken for the set, whose departures were found
+-- the desk after the retired slot at an index was taken for the set, whose departures were found
 abbrev pub taking_retired : Desk → WriterCall → List Row → ℕ → ℕ → Desk
 taking_retired desk call rows poll found = record desk { place = Putting call rows (retired_at desk poll).slot found 0; retired = remove desk.retired poll }
 
@@ -99,7 +99,7 @@ abbrev pub polls_on : Shape → Desk → WriterCall → List Row → ℕ → Des
 polls_on shape desk call rows poll =
     (if nat_lt (poll + 1) (length desk.retired) then (moved_to desk (Searching call rows (poll + 1)), Going) else (moved_to desk Idle, no_slot shape desk))
 
--- a poll of the retired slot at a place of the list: where its departures are its arrivals, no reader holds it
+-- a poll of the retired slot at an index of the list: where its departures are its arrivals, no reader holds it
 abbrev pub polled : Shape → Desk → WriterCall → List Row → ℕ → ℕ → Desk × Step
 polled shape desk call rows poll found =
     (if same_count found (retired_at desk poll).arrivals then (taking_retired desk call rows poll found, Going) else polls_on shape desk call rows poll)
@@ -121,7 +121,7 @@ abbrev pub put_on : Desk → WriterCall → List Row → ℕ → ℕ → ℕ →
 put_on desk call rows slot departed index found =
     (if nat_le index (2 * length rows) then (moved_to desk (Putting call rows slot departed (index + 1)), Going) else (swapped desk found, ended reply.Done))
 
--- the writer's next step from a place
+-- the writer's next step from a stage
 abbrev pub went : Shape → Desk → Place → ℕ → Desk × Step
 went shape desk Idle found = (desk, Going)
 went shape desk (Reading call slot got) found = read_on shape desk call slot (got ++ found ∷ [])

@@ -82,7 +82,7 @@ PutsMarks false marks at slot rows = PublishesMarks marks at slot rows
 abbrev pub UnpublishesMarks : Marks → ℕ → MarkTelling
 UnpublishesMarks marks at word after log now news = (now ≡ without_name marks at) × (news ≡ [])
 
--- the writer's later steps, by its place
+-- the writer's later steps, by its stage
 abbrev pub went_marks : Shape → Marks → List Past → Desk → Place → MarkTelling
 went_marks shape marks known desk Idle = KeepsMarks marks
 went_marks shape marks known desk (Reading call slot got) = ReadsOnMarks shape marks desk call slot got

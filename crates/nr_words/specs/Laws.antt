@@ -33,7 +33,7 @@ DecodeUndoesEncode =
 abbrev pub DecodeReadsWhatCounts : Type 0
 DecodeReadsWhatCounts = (words : List ℕ) → decode words ≡ decode (take (content_words (row_count words)) words)
 
--- two words of a layout lie in two places
+-- two words of a layout have two indexes
 abbrev pub PlacesDiffer : Type 0
 PlacesDiffer =
     (layout : Layout) (word other : Word) →
@@ -42,7 +42,7 @@ PlacesDiffer =
     place_of layout word ≡ place_of layout other →
     word ≡ other
 
--- the places of a layout's words are those below its total
+-- the indexes of a layout's words are those below its total
 abbrev pub PlacesAreBelowTotal : Type 0
 PlacesAreBelowTotal =
     (layout : Layout) (place : ℕ) →
