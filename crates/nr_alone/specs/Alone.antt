@@ -47,7 +47,7 @@ pub record IsKnown (log : List Entry) (writer : Caller) (token : ReaderToken) : 
   pub current : Current writer.retired writer.marks (how_of token)
   pub heard : StartsWith (caller_in token).seen log
 
--- the token at a place is of the map, and its reader's number is the next one
+-- the token at an index is of the map, and its reader's number is the next one
 pub record IsToken (map : Table) (at : ℕ) (token : ReaderToken) : Type 0 where
   pub table : (caller_in token).table ≡ map
   pub number : (caller_in token).number ≡ suc at

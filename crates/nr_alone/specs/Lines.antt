@@ -7,7 +7,7 @@ use Rattle.nr_alone.specs.declared.reader_token.ReaderToken.{ReaderToken}
 use Rattle.nr_alone.specs.Tokens.{how_of, mine_of, pin_of}
 use Rattle.nr_alone.specs.Alone.{IsAlone, IsToken, calls_of, log_of}
 
--- the writer, or the reader at that place, made these calls, of which there is at most one
+-- the writer, or the reader at that index, made these calls, of which there is at most one
 pub record IsLine (table : Table) (w0 : Caller) (tokens0 : List ReaderToken) (w : Caller) (tokens : List ReaderToken) (first : ℕ) (es : List Entry) : Type 0 where
   pub low : first < length tokens
   pub few : length es ≤ 1

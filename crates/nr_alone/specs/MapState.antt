@@ -67,7 +67,7 @@ abbrev pub answer_call : MapState → Call → MapOutcome
 answer_call state call =
     if is_done (reply_to state.map call) && is_full state then (Ok answers.NoSlot, state) else (Ok (answers.Reply (reply_to state.map call)), after_call state call)
 
--- the readers stand at their places, from 0
+-- the readers stand by their numbers, from index 0
 abbrev pub pin_at : MapState → ℕ → Option Pin
 pin_at state at = slice_index_or state.pins at None
 

@@ -123,7 +123,7 @@ has_departed step before found after = Departed before.0 after.0
 
 -- THE WRITER'S STEPS
 
--- what the writer's place asks: its slots are slots of the map, there is room to retire one where the call will, and the number of a hole fits its bits
+-- what the writer's stage asks: its slots are slots of the map, there is room to retire one where the call will, and the number of a hole fits its bits
 abbrev pub RoomAt : Shape → Desk → Place → Type 0
 RoomAt shape desk Idle = Unit {0}
 RoomAt shape desk (Reading call slot got) = (slot < shape.slots) × (length got ≤ 2 * (bound_of shape))
@@ -165,7 +165,7 @@ pub record Looked (desk : Desk) (call : WriterCall) (found : ℕ) (old new : Vie
   pub leads : Leads (call_of call) (looked old.shape desk call found) old new
   pub marks : LooksMarks old.shape old.marks desk call found new.role new.seen new.marks []
 
--- the call that is at a place
+-- the call that is at a stage
 abbrev pub call_at : Place → Call
 call_at Idle = model.Evict 0
 call_at (Reading call slot got) = call_of call

@@ -115,7 +115,7 @@ pub record LeadsIn (steps : ℕ) (table : Table) (call : Call) (outcome : Desk �
 abbrev pub LeadsTo : Table → Call → Desk × Step → MapSeat → MapSeat → Type 0
 LeadsTo = LeadsIn 1
 
--- one step from the place in the call
+-- one step from the stage of the call
 pub record GoesTo (table : Table) (desk : Desk) (found : ℕ) (old new : MapSeat) : Type 0 where
   pub leads : LeadsTo table (call_at desk.place) (went table.shape desk desk.place found) old new
   pub log : List Entry

@@ -24,7 +24,7 @@ AreOf table hands = All (λ hand. hand.reader.table ≡ table) hands
 abbrev pub IsOf : Table → Cached → Type 0
 IsOf table cache = (cache.once.table ≡ table) × AreOf table cache.hands
 
--- a key's place among that many hands
+-- the index of a key's hand among that many
 abbrev pub place_of_key : ℕ → ℕ → ℕ
 place_of_key key many = key % many
 
@@ -40,7 +40,7 @@ key_of_hand (Some hand) = hand.key
 abbrev pub takes_key : ℕ → ℕ → Cached → Bool
 takes_key place key cache = is_key key (key_of_hand (slice_get cache.hands place)) || is_key key (slice_index_or cache.missed place None)
 
--- the hand of the key's place makes the find and keeps its hold, and all else stays
+-- the key's hand makes the find and keeps its hold, and all else stays
 pub record FindsAtPlace {Room : Type 0} (shows : Room → List Row → Type 0) (key : ℕ) (old : Cached) (before : Room) (new : Cached) (room : Room) (answer : Found) : Type 0 where
   pub hand : Handed
   pub found : Handed
@@ -48,7 +48,7 @@ pub record FindsAtPlace {Room : Type 0} (shows : Room → List Row → Type 0) (
   pub finds : FindsKept shows key hand before found room answer
   pub rest : new ≡ record old { hands = slice_set old.hands (place_of_key key (length old.hands)) found }
 
--- the reader that holds nothing makes the find, and the key has missed at its place
+-- the reader that holds nothing makes the find, and the key has missed at its hand
 pub record FindsByHand {Room : Type 0} (shows : Room → List Row → Type 0) (key : ℕ) (old : Cached) (before : Room) (new : Cached) (room : Room) (answer : Found) : Type 0 where
   pub finds : FindsIn shows key old.once before new.once room answer
   pub holds : new.once.holds ≡ None
@@ -61,7 +61,7 @@ FindsByCache shows key old before new room answer =
     (takes_key (place_of_key key (length old.hands)) key old ≡ true → FindsAtPlace shows key old before new room answer)
     × (takes_key (place_of_key key (length old.hands)) key old ≡ false → FindsByHand shows key old before new room answer)
 
--- those before that place were let go, and the others are as they were
+-- those before that index were let go, and the others are as they were
 pub record LetGoBelow (below : ℕ) (old new : List Handed) : Type 0 where
   pub length_is : length new ≡ length old
   pub gone : (place : ℕ) (spare : Handed) → place < below → LetsGo (slice_index_or old place spare) (slice_index_or new place spare)

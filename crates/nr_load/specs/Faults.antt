@@ -3,7 +3,7 @@ use Rattle.std.specs.Prelude.{ℕ, if◌then◌else◌, nat_le, Option, None, So
 use Rattle.nr_load.specs.declared.fault.LoadFault.{LoadFault}
 use Rattle.nr_load.specs.declared.fault.LoadFault.TheVariants.{Memory, Thread, Barred, WrongRows}
 
--- the place of a fault among their names
+-- the index of a fault among their names
 abbrev pub rank : LoadFault → ℕ
 rank Memory = 0
 rank Thread = 1

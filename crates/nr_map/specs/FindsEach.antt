@@ -23,11 +23,11 @@ FindsList shows old (wanted ∷ others) new (found ∷ rest) = (next : Caller) �
 FindsList shows old [] new (found ∷ rest) = ⊥
 FindsList shows old (wanted ∷ others) new [] = ⊥
 
--- the loads before the find of the key at that place, from which on so many are left: two for each key of a group of sixteen, before its first
+-- the loads before the find of the key at that index, from which on so many are left: two for each key of a group of sixteen, before its first
 abbrev pub loads_at : ℕ → ℕ → ℕ
 loads_at place left = if (place % 16 == 0) then 2 * min left 16 else 0
 
--- the same with these loads, from that place of a list on
+-- the same with these loads, from that index of a list on
 abbrev pub FindsFrom : {Room : Type 0} → (Room → List Row → Type 0) → ℕ → Caller → List (Wanted Room) → Caller → List (Wanted Room) → Type 0
 FindsFrom shows place old [] new [] = new ≡ old
 FindsFrom shows place old (wanted ∷ others) new (found ∷ rest) = (next : Caller) × FindsWanted shows (with_loads (loads_at place (length (wanted ∷ others))) old) wanted next found × FindsFrom shows (place + 1) next others new rest

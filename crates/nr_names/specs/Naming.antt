@@ -1,4 +1,4 @@
--- Names and their numbers: the names in the order in which they came, each one's place being its number.
+-- Names and their numbers: the names in the order in which they came, each one's index being its key number.
 use Rattle.std.specs.Prelude.{◌≡◌, ◌≤◌, ◌<◌, ◌↔◌, ◌==◌, ℕ, Bool, ◌&&◌, if◌then◌else◌, nat_lt, List, [], ◌∷◌, ◌++◌, length, All, position, slice_get, Option, Some, None, is_none, Result, Ok, Err, is_ok}
 use Rattle.std.specs.Str.{bytes_eq}
 use Rattle.nr_names.specs.declared.faults.NameFault.{NameFault}

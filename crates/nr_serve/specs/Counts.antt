@@ -7,7 +7,7 @@ use Rattle.atomic_table.specs.Table.{Me, State, Step}
 use Rattle.nr_machine.specs.Sums.{only, total}
 use Rattle.nr_serve.specs.Hands.{capped, last_count}
 
--- what a guest knows and did: each number as it last saw them all, the places of the counts that it raised, oldest first, and how often it closed the lobby
+-- what a guest knows and did: each number as it last saw them all, the indexes of the counts that it raised, oldest first, and how often it closed the lobby
 pub record Visit : Type 0 where
   pub seen : List ℕ
   pub raised : List ℕ
@@ -23,7 +23,7 @@ pub record GuestSeen : Type 0 where
 abbrev pub new_guest : Visit
 new_guest = record { seen = []; raised = []; closes = 0 }
 
--- the place of the number that is above 0 once the lobby is closed; at each other place is a count
+-- the index of the number that is above 0 once the lobby is closed; at each other index is a count
 abbrev pub closed_at : ℕ
 closed_at = 520
 
@@ -50,7 +50,7 @@ pub record OnlyLooks (old new : GuestSeen) : Type 0 where
 abbrev pub IsNew : GuestSeen → Type 0
 IsNew guest = (guest.raised ≡ []) × (guest.closes ≡ 0)
 
--- the place of the count of a key's group, and of the count of the whole lobby
+-- the index of the count of a key's group, and of the count of the whole lobby
 abbrev pub group_at : ℕ → ℕ
 group_at key = 8 * (key % 64)
 
@@ -61,7 +61,7 @@ whole_at = 512
 abbrev pub raises_for : ℕ → List ℕ
 raises_for key = group_at key ∷ whole_at ∷ []
 
--- the places of the counts of that many groups
+-- the indexes of the counts of that many groups
 abbrev pub groups_below : ℕ → List ℕ
 groups_below zero = []
 groups_below (suc n) = groups_below n ++ (8 * n) ∷ []

@@ -6,7 +6,7 @@ use Rattle.nr_trigger.specs.declared.post.Post.{Post}
 use Rattle.nr_trigger.specs.Posts.{Limits, MayAllGo, notes_part, part}
 use Rattle.nr_trigger.specs.Views.{PassView, Opener, Leftover, Taker, Poster}
 
--- What the pass at a place knows is so. The taker's is the first, and each poster's stands at the place of its number.
+-- What the pass at an index knows is so. The taker's is the first, and each poster's stands at the index of its number.
 module _ (posted taken : List Post) (limits : Limits) (passes place : ℕ) where
   abbrev pub KnowsItsPart : PassView → Type 0
   KnowsItsPart Opener = (place ≡ 0) × (passes ≡ 1) × (posted ≡ [])
