@@ -231,9 +231,9 @@ typedef struct nr_poster {
    writes nothing while the key keeps its set.
    Preloading. To fill keys before anybody reads, request each by a reader (nr_ask), and fill it by the ticket
    number that it tells.
-   Your own data. Who finds a set sees all that the writer's thread had written to memory before it put the set.
-   The thread to which a set comes back (NR_GIVEN) sees all that readers had done before they released it. Who takes
-   a request sees all that its poster had written before it posted it.
+   Your own data. A thread that finds a set sees all that the writer's thread had written to memory before it put
+   the set. The thread to which a set comes back (NR_GIVEN) sees all that readers had done before they released it.
+   The thread that takes a request sees all that the posting thread had written before it posted that request.
    Rows that refer to data, as by an index in a store. A reader may use the data while it holds the set (nr_pin,
    nr_find_kept). The data is freed once the set comes back, which each set does once: from a call that takes its
    slot (nr_fill_reclaiming, nr_update_reclaiming, nr_replace_reclaiming), from nr_reap, or from nr_next when the
