@@ -83,8 +83,8 @@ pub fn room_for_replacements()
     ensures { RoomForReplacements }
 {}
 
-/// After a call that was answered `NoSlot` `slot_counts` tells what the answer told, and that no slot
-/// is free.
+/// After a call that was answered `NoSlot` `slot_counts` tells what the answer told, and that no
+/// slot is free.
 pub fn counts_at_no_slot()
     ensures { CountsAtNoSlot }
 {}
@@ -95,21 +95,21 @@ pub fn finds_written()
     ensures { FindsWritten }
 {}
 
-/// So who hears a note whose maker had seen a put of a key, by its own fill or update or by another
-/// note, finds the key's rows of that put or of a later one, or a hole where the key was evicted
-/// since. It may make other calls between.
+/// So a caller that hears a note whose maker had seen a put of a key, by its own fill or update or
+/// by another note, finds the key's rows of that put or of a later one, or a hole where the key was
+/// evicted since. It may make other calls between.
 pub fn finds_what_it_heard()
     ensures { FindsWhatItHeard }
 {}
 
-/// Who hears a note reads nothing older than its maker had seen: the find's answer is that of a
-/// history which begins with all of it. So a thread's second reader that met the first never goes
-/// back behind what the first one read.
+/// A caller that hears a note reads nothing older than its maker had seen: the find's answer is that
+/// of a history which begins with all of it. So a thread's second reader that met the first never
+/// goes back behind what the first one read.
 pub fn reads_no_older()
     ensures { ReadsNoOlder }
 {}
 
-/// Who hears a note has all calls that its maker had made.
+/// A caller that hears a note has all calls that its maker had made.
 pub fn hears_all_calls()
     ensures { HearsAllCalls }
 {}

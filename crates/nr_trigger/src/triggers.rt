@@ -113,7 +113,7 @@ impl Triggers {
         }
     }
 
-    /// As `post`, with a note of what the asker had seen, for who takes the trigger. Both come back
+    /// As `post`, with a note of what the asker had seen, for the trigger's taker. Both come back
     /// where the queue was full at one moment of the call.
     pub fn post_with<R: Wait>(
         &self,
