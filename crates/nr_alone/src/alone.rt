@@ -85,7 +85,7 @@ impl Alone {
         self.map.readers()
     }
 
-    /// The number of a key as it stands, by which a fill answers the key's request.
+    /// The ticket number of a key as it stands, by which a fill answers the key's request.
     pub fn number(&self, key: u32) -> u64
         requires { key < key_count self.now.map }
         ensures { result ≡ number_of (state_of self.now.map key) }
@@ -148,7 +148,7 @@ impl Alone {
         Ok(answer)
     }
 
-    /// Shows the set that a reader has pinned: its rows are written into the set.
+    /// Shows the set that a reader has pinned: its rows are written into the caller's.
     pub fn show<'a>(&mut self, at: usize, rows: &'a mut RowSet) -> Result<Answer<'a>, PinRefusal>
         requires { at < length self.old.pins }
         ensures { answer_show self.old at ≡ (result, self.new) }

@@ -30,7 +30,9 @@ impl Model for Cache {
 }
 
 impl Cache {
-    /// A cache of those readers, which hold nothing: the first finds what no hand keeps.
+    /// A cache of those readers, which hold nothing: the first finds what no hand keeps, and each of
+    /// the others, of which there is at least one, is a hand's. Refused where there is no memory,
+    /// and then the readers are gone. No step.
     pub fn of(alloc: Global, once: Reader, readers: Vec<Reader>) -> Result<Cache, AllocError>
         requires some { 0 < length readers.items }
         ensures once { IfOk result (λ cache. cache.once ≡ once) }

@@ -13,7 +13,7 @@ use std::alloc::Global;
 impl<K: Keys> Names<K> {
     /// Opens a table for as many names as there are keys, from 1 to 65,536, with none interned.
     ///
-    /// Refused with `Memory` where the room for the names' places can't be had.
+    /// Refused with `Memory` where there is none for the list of names.
     pub fn open(alloc: Global, keys: u32) -> Result<Names<K>, NameFault>
         requires some { 0 < keys }
         requires within { keys ≤ MAX_KEYS }

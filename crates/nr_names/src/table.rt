@@ -38,7 +38,7 @@ impl Model for NameTable {
 impl NameTable {
     /// Opens a table for as many names as there are keys, from 1 to 65,536, with none interned.
     ///
-    /// Refused with `Memory` where the room for the names' places can't be had.
+    /// Refused with `Memory` where there is none for the list of names.
     pub fn open(alloc: Global, keys: u32) -> Result<NameTable, NameFault>
         requires some { 0 < keys }
         requires within { keys ≤ MAX_KEYS }
