@@ -87,7 +87,7 @@ impl Machine {
         self.layout.rows
     }
 
-    /// The number of the key.
+    /// The ticket number of the key.
     pub fn number(&self, key: u32) -> u64
         requires listed { length self.now.spare.numbers ≡ self.now.layout.keys }
         requires key { key < self.now.layout.keys }

@@ -35,7 +35,7 @@ impl Shape {
     ghost use Rattle.nr_machine.specs.Sizes.{IsBadLargeShape, IsBadShape};
 
     /// Whether an opening refuses the shape: a number of keys, slots or readers is out of its
-    /// limits, the first number is over 4,194,303, or a key may have no row or more than 255.
+    /// limits, the first ticket number is over 4,194,303, or a key may have no row or more than 255.
     pub fn is_bad(&self) -> bool
         ensures { IsTrue result ↔ IsBadShape self.now }
     {
@@ -44,8 +44,9 @@ impl Shape {
             || is_bad_size(MAX_READERS, self.readers)
             || self.is_bad_for_keys()
     }
-    /// Whether the opening of a large map refuses the shape: it has no slot or more than 4,194,303, no
-    /// key or more than slots, no reader or more than 65,535, or what is out of its limits as above.
+    /// Whether the opening of a large map refuses the shape: it has no slot or more than 4,194,303,
+    /// no key or more than slots, no reader or more than 65,535, or what is out of its limits as
+    /// above.
     pub fn is_bad_large(&self) -> bool
         ensures { IsTrue result ↔ IsBadLargeShape self.now }
     {

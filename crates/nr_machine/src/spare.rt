@@ -40,7 +40,7 @@ impl Model for Spare {
 }
 
 impl Spare {
-    /// All the slots of a new map, and the first number for each key.
+    /// All the slots of a new map, and the first ticket number for each key.
     pub fn open(alloc: Global, shape: &Shape) -> Result<Spare, AllocError>
         ensures { IfOk result (λ spare. spare ≡ record { slots = shape.now.slots; fresh = 0; retired = []; numbers = replicate shape.now.keys shape.now.first_number; reaped = replicate shape.now.slots false }) }
     {

@@ -50,7 +50,7 @@ impl Words {
         })
     }
 
-    /// The word at the place.
+    /// The word at that index.
     pub fn load(&mut self, place: u64) -> u64
         requires { place < length self.old.cells }
         ensures found { result ≡ slice_index self.old.cells place }

@@ -96,7 +96,7 @@ impl Batch {
         self.len
     }
 
-    /// The signed row at that place, from 0, or `None` behind the last one.
+    /// The signed row at that index, from 0, or `None` behind the last one.
     pub fn get(&self, i: usize) -> Option<Delta>
         ensures { result ≡ slice_get self.now i }
     {

@@ -41,13 +41,14 @@ pub fn sends_are_answered()
     ensures { SendsAreAnswered }
 {}
 
-/// A key's number is the first number and one more for each cancel; it never passes the last one.
+/// A key's ticket number is the first one and one more for each cancel; it never passes the last
+/// one.
 pub fn numbers_count_cancels()
     ensures { NumbersCountCancels }
 {}
 
-/// A request that is sent tells the first number and one more for each cancel before it, and a
-/// fill is done under that number alone: an answer to a request that was cancelled never fills.
+/// A request that is sent tells the first ticket number and one more for each cancel before it, and
+/// a fill is done by that one alone: an answer to a request that was cancelled never fills.
 pub fn answers_fit_their_requests()
     ensures { AnswersFitTheirRequests }
 {}
