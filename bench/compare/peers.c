@@ -75,14 +75,17 @@ static _Thread_local struct {
   uint32_t kept, missed;
 } places[MOST_HANDS / READERS];
 
-/* A find by the cache: a hand takes a key that misses at its place twice with no other key's miss in between. */
+/* A find by the cache: a hand takes a key that misses at its place twice with no other key's miss in between. The number
+   of hands is a power of two. */
 static uint32_t find_by_hands(const job *j, uint32_t key, nr_rows *found) {
-  uint32_t place = key % (uint32_t)j->hands;
-  if (places[place].kept != key + 1 && places[place].missed != key + 1) {
-    places[place].missed = key + 1;
-    return j->map->find(&j->map->reader[j->id].handle, key, found);
+  uint32_t place = key & (uint32_t)(j->hands - 1);
+  if (places[place].kept != key + 1) {
+    if (places[place].missed != key + 1) {
+      places[place].missed = key + 1;
+      return j->map->find(&j->map->reader[j->id].handle, key, found);
+    }
+    places[place].kept = key + 1;
   }
-  places[place].kept = key + 1;
   return j->map->find_kept(&j->map->hand[j->id * (MOST_HANDS / READERS) + (int)place], key, found);
 }
 

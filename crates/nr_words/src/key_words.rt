@@ -75,8 +75,8 @@ pub fn names(word: u64, slot: u32) -> bool
     requires { slot < 2 ^ 22 }
     ensures { result ≡ (is_filled word && (slot_of word == slot)) }
 {
-    // Whether the key is asked too is all the same.
-    word % ARRIVE / 2 == naming(slot, 0) / 2
+    // All below the arrivals but ASK, which means nothing in a filled word.
+    word % ARRIVE - word % 2 == naming(slot, 0)
 }
 
 /// The parts of any word.
