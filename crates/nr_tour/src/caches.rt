@@ -2,20 +2,12 @@
 ghost use Rattle.std.specs.Prelude.{◌≡◌, ◌<◌, length, All, IfOk};
 ghost use Rattle.nr_held.specs.Caches.{AreOf, IsOf};
 
-use crate::calls::ask_and_fill;
-use crate::opening::opened;
 use nr_held::Cache;
-use nr_map::{Found, Hand, Reader, ReaderMap};
+use nr_map::{Hand, Reader, ReaderMap};
 use nr_model::{OpenFault, RowSet};
+use nr_tour_parts::{Page, ask_and_fill, opened};
 use std::alloc::Global;
-use std::io::{self, Print};
-
-#[derive(Drop)]
-pub struct Cached {
-    hands: usize,
-    found: [Found; 4],
-    rows: RowSet,
-}
+use std::io::Print;
 
 // A list of one reader.
 fn list_of(alloc: Global, map: &ReaderMap, reader: Reader) -> Result<Vec<Reader>, OpenFault>
@@ -47,7 +39,7 @@ fn cache_of(
 }
 
 // Finds a key until its hand keeps it, and once more after the hand let it go.
-fn find_often(map: &ReaderMap, cache: &mut Cache) -> Cached
+fn find_often(map: &ReaderMap, cache: &mut Cache, page: &mut Page)
     requires own { IsOf map.now cache.old }
     requires key { 0 < map.now.shape.keys }
     ensures own { IsOf map.now cache.new }
@@ -61,11 +53,9 @@ fn find_often(map: &ReaderMap, cache: &mut Cache) -> Cached
     // A thread that finds nothing for a while lets go, so that no slot waits for it.
     cache.let_go(map);
     let fourth = cache.find(map, 0, &mut rows);
-    Cached {
-        hands: cache.len(),
-        found: [first, second, third, fourth],
-        rows,
-    }
+    page.line("hands ", &cache.len());
+    page.line("it finds ", &[first, second, third, fourth]);
+    page.more(": ", &rows.as_slice());
 }
 
 // The hands come back with their readers, which hold nothing now. A hand can't be dropped.
@@ -78,30 +68,22 @@ fn end(map: &ReaderMap, mut hands: Vec<Hand>)
     hands.destroy_empty();
 }
 
-fn find_and_close(map: &ReaderMap, mut cache: Cache) -> Cached
+fn find_and_close(map: &ReaderMap, mut cache: Cache, page: &mut Page)
     requires own { IsOf map.now cache }
     requires key { 0 < map.now.shape.keys }
 {
-    let told = find_often(map, &mut cache);
+    find_often(map, &mut cache, page);
     let (_once, hands) = cache.close(map);
     end(map, hands);
-    told
 }
 
 /// A cache of one hand finds key 0 four times.
-pub fn found_often(alloc: Global) -> Result<Cached, OpenFault> {
-    let (map, mut writer, mut one, two) = opened(alloc, 2, 5)?;
+pub fn show<R: AllocGlobal + Print>(rt: &R) -> anyhow::Result<()> {
+    let mut page = Page::titled(rt.alloc(), "A cache")?;
+    let (map, mut writer, mut one, two) = opened(rt.alloc(), 2, 5)?;
     ask_and_fill(&map, &mut one, &mut writer);
-    let readers = list_of(alloc, &map, two)?;
-    let cache = cache_of(alloc, &map, one, readers)?;
-    Ok(find_and_close(&map, cache))
-}
-
-pub fn show<R: Print>(rt: &R, told: &Cached) -> io::Result<()> {
-    println!(rt;
-        "A cache\n  hands {}\n  it finds {:?}: {:?}",
-        told.hands,
-        told.found,
-        told.rows.as_slice()
-    )
+    let readers = list_of(rt.alloc(), &map, two)?;
+    let cache = cache_of(rt.alloc(), &map, one, readers)?;
+    find_and_close(&map, cache, &mut page);
+    page.print(rt)
 }

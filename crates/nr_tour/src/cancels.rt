@@ -1,43 +1,38 @@
 //! A request is taken back.
+ghost use Rattle.std.specs.Prelude.{◌≡◌, ◌<◌};
 
-use crate::calls::{ROWS, Told, ask, set_of};
-use crate::opening::opened;
-use nr_map::{Cancel, FillFault};
-use nr_model::OpenFault;
-use std::alloc::Global;
-use std::io::{self, Print};
+use nr_map::{Reader, ReaderMap, Writer};
+use nr_tour_parts::{Page, ROWS, ask, opened, set_of};
+use std::io::Print;
 
-#[derive(Drop)]
-pub struct TakenBack {
-    first: Told,
-    cancelled: Cancel,
-    second: Told,
-    late: Result<(), FillFault>,
-    filled: Result<(), FillFault>,
+// An upquery was lost on its way, or so the dataflow thinks: it takes the request back, and the next
+// one is sent under the next number. Should the old answer come after all, it is stale.
+fn take_back(
+    map: &ReaderMap,
+    writer: &mut Writer,
+    one: &mut Reader,
+    two: &mut Reader,
+    page: &mut Page,
+)
+    requires readers { (one.old.table ≡ map.now) × (two.old.table ≡ map.now) }
+    requires writer { writer.old.table ≡ map.now }
+    requires key { 0 < map.now.shape.keys }
+{
+    let rows = set_of(map, &ROWS);
+    page.line("a request: ", &ask(map, one, 0));
+    let cancelled = map.cancel(writer, 0);
+    let second = ask(map, two, 0);
+    let late = map.fill(writer, 0, 0, &rows);
+    let filled = map.fill(writer, 0, 1, &rows);
+    page.line("it is taken back: ", &cancelled);
+    page.line("the next one: ", &second);
+    page.line("the first answer: ", &late);
+    page.line("the second: ", &filled);
 }
 
-/// An upquery was lost on its way, or so the dataflow thinks: it takes the request back, and the next
-/// one is sent under the next number. Should the old answer come after all, it is stale.
-pub fn taken_back(alloc: Global) -> Result<TakenBack, OpenFault> {
-    let (map, mut writer, mut one, mut two) = opened(alloc, 2, 5)?;
-    let rows = set_of(&map, &ROWS);
-    let first = ask(&map, &mut one, 0);
-    let cancelled = map.cancel(&mut writer, 0);
-    let second = ask(&map, &mut two, 0);
-    let late = map.fill(&mut writer, 0, 0, &rows);
-    let filled = map.fill(&mut writer, 0, 1, &rows);
-    Ok(TakenBack {
-        first,
-        cancelled,
-        second,
-        late,
-        filled,
-    })
-}
-
-pub fn show<R: Print>(rt: &R, told: &TakenBack) -> io::Result<()> {
-    println!(rt;
-        "A cancel\n  a request: {:?}\n  it is taken back: {:?}\n  the next one: {:?}\n  the first answer: {:?}\n  the second: {:?}",
-        told.first, told.cancelled, told.second, told.late, told.filled
-    )
+pub fn show<R: AllocGlobal + Print>(rt: &R) -> anyhow::Result<()> {
+    let mut page = Page::titled(rt.alloc(), "A cancel")?;
+    let (map, mut writer, mut one, mut two) = opened(rt.alloc(), 2, 5)?;
+    take_back(&map, &mut writer, &mut one, &mut two, &mut page);
+    page.print(rt)
 }

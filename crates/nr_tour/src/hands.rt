@@ -1,37 +1,18 @@
 //! A reader that keeps the set that it found, from one find to the next.
 ghost use Rattle.std.specs.Prelude.{◌≡◌, ◌<◌};
 
-use crate::calls::ask_and_fill;
-use crate::opening::opened;
-use nr_map::{Found, Hand, Reader, ReaderMap, Writer};
-use nr_model::{Batch, OpenFault, RowSet};
-use std::alloc::Global;
-use std::io::{self, Print};
+use nr_map::{Hand, Reader, ReaderMap, Writer};
+use nr_model::{Batch, RowSet};
+use nr_tour_parts::{Page, ask_and_fill, opened};
+use std::io::Print;
 
-#[derive(Drop)]
-pub struct Told {
-    kept: Kept,
-    pinned: Pinned,
-}
-
-#[derive(Drop)]
-struct Kept {
-    found: [Found; 3],
-    before: RowSet,
-    after: RowSet,
-    held: Option<u32>,
-}
-
-#[derive(Drop)]
-struct Pinned {
-    pinned: (bool, u32),
-    again: bool,
-    once: Found,
-    left: Option<u32>,
-    reader: u32,
-}
-
-fn keep_over_update(map: &ReaderMap, writer: &mut Writer, hand: &mut Hand, change: &Batch) -> Kept
+fn keep_over_update(
+    map: &ReaderMap,
+    writer: &mut Writer,
+    hand: &mut Hand,
+    change: &Batch,
+    page: &mut Page,
+)
     requires hand { hand.old.reader.table ≡ map.now }
     requires writer { writer.old.table ≡ map.now }
     requires key { 0 < map.now.shape.keys }
@@ -49,12 +30,10 @@ fn keep_over_update(map: &ReaderMap, writer: &mut Writer, hand: &mut Hand, chang
     // Now it has another: the hand lets the old one go, and holds the new one.
     let third = hand.find_kept(map, 0, &mut after);
     let held = hand.key();
-    Kept {
-        found: [first, second, third],
-        before,
-        after,
-        held,
-    }
+    page.line("it finds ", &[first, second, third]);
+    page.more(": ", &before.as_slice());
+    page.line("and after an update ", &after.as_slice());
+    page.line("it holds the set of ", &held);
 }
 
 // What a hand holds can be kept as a pin for a while, and be given back to a hand.
@@ -81,7 +60,7 @@ fn copy_again(map: &ReaderMap, hand: &mut Hand, rows: &mut RowSet) -> bool
     again
 }
 
-fn pin_anew(map: &ReaderMap, mut hand: Hand) -> Pinned
+fn pin_anew(map: &ReaderMap, mut hand: Hand, page: &mut Page)
     requires own { hand.reader.table ≡ map.now }
     requires key { 0 < map.now.shape.keys }
 {
@@ -90,55 +69,38 @@ fn pin_anew(map: &ReaderMap, mut hand: Hand) -> Pinned
     hand.release(map);
     let pinned = hand.pin(map, 0);
     let again = copy_again(map, &mut hand, &mut after);
-    let count = hand.len();
+    page.line(
+        "it pins the key anew, and its rows: ",
+        &(pinned, hand.len()),
+    );
+    page.line("the key has this set still: ", &again);
     let once = hand.find(map, 0, &mut after);
-    let left = hand.key();
-    let reader = hand.number();
+    page.line("a find that keeps nothing: ", &once);
+    page.more(", ", &hand.key());
+    page.line("its reader: ", &hand.number());
     hand.into_reader(map);
-    Pinned {
-        pinned: (pinned, count),
-        again,
-        once,
-        left,
-        reader,
-    }
 }
 
-fn keep_and_pin(map: &ReaderMap, writer: &mut Writer, reader: Reader, change: &Batch) -> Told
+fn keep_and_pin(
+    map: &ReaderMap,
+    writer: &mut Writer,
+    reader: Reader,
+    change: &Batch,
+    page: &mut Page,
+)
     requires own { (reader.table ≡ map.now) × (writer.old.table ≡ map.now) }
     requires key { 0 < map.now.shape.keys }
 {
     let mut hand = Hand::of(reader);
-    let kept = keep_over_update(map, writer, &mut hand, change);
-    let pinned = pin_anew(map, through_pin(map, hand));
-    Told { kept, pinned }
+    keep_over_update(map, writer, &mut hand, change, page);
+    pin_anew(map, through_pin(map, hand), page);
 }
 
 /// One reader finds key 0 three times, with an update before the last.
-pub fn kept_in_hand(alloc: Global, change: &Batch) -> Result<Told, OpenFault> {
-    let (map, mut writer, mut one, _two) = opened(alloc, 2, 5)?;
+pub fn show<R: AllocGlobal + Print>(rt: &R, change: &Batch) -> anyhow::Result<()> {
+    let mut page = Page::titled(rt.alloc(), "A hand")?;
+    let (map, mut writer, mut one, _two) = opened(rt.alloc(), 2, 5)?;
     ask_and_fill(&map, &mut one, &mut writer);
-    Ok(keep_and_pin(&map, &mut writer, one, change))
-}
-
-pub fn show<R: Print>(rt: &R, told: &Told) -> io::Result<()> {
-    show_kept(rt, &told.kept)?;
-    show_pinned(rt, &told.pinned)
-}
-
-fn show_kept<R: Print>(rt: &R, kept: &Kept) -> io::Result<()> {
-    println!(rt;
-        "A hand\n  it finds {:?}: {:?}\n  and after an update {:?}\n  it holds the set of {:?}",
-        kept.found,
-        kept.before.as_slice(),
-        kept.after.as_slice(),
-        kept.held
-    )
-}
-
-fn show_pinned<R: Print>(rt: &R, pinned: &Pinned) -> io::Result<()> {
-    println!(rt;
-        "  it pins the key anew, and its rows: {:?}\n  the key has this set still: {}\n  a find that keeps nothing: {:?}, {:?}\n  its reader: {}",
-        pinned.pinned, pinned.again, pinned.once, pinned.left, pinned.reader
-    )
+    keep_and_pin(&map, &mut writer, one, change, &mut page);
+    page.print(rt)
 }

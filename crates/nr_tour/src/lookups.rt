@@ -1,49 +1,37 @@
 //! A key is missing, is asked for once, and is found once it is filled.
-use crate::calls::{Told, ask, fill};
-use crate::opening::opened;
-use nr_map::{FillFault, Found};
-use nr_model::{OpenFault, RowSet};
-use std::alloc::Global;
-use std::io::{self, Print};
+ghost use Rattle.std.specs.Prelude.{◌≡◌, ◌<◌};
 
-#[derive(Drop)]
-pub struct FirstRead {
-    missing: Found,
-    first: Told,
-    second: Told,
-    filled: Result<(), FillFault>,
-    found: Found,
-    rows: RowSet,
-}
+use nr_map::{Reader, ReaderMap, Writer};
+use nr_model::RowSet;
+use nr_tour_parts::{Page, ask, fill, opened};
+use std::io::Print;
 
-/// Two readers want key 0 of a new map.
-pub fn first_read(alloc: Global) -> Result<FirstRead, OpenFault> {
-    let (map, mut writer, mut one, mut two) = opened(alloc, 2, 5)?;
+// Two readers want key 0.
+fn find_first(
+    map: &ReaderMap,
+    writer: &mut Writer,
+    one: &mut Reader,
+    two: &mut Reader,
+    page: &mut Page,
+)
+    requires readers { (one.old.table ≡ map.now) × (two.old.table ≡ map.now) }
+    requires writer { writer.old.table ≡ map.now }
+    requires key { 0 < map.now.shape.keys }
+{
     // A hole leaves the caller's set as it is, so one set serves for many finds.
     let mut rows = RowSet::new();
-    let missing = map.find(&mut one, 0, &mut rows);
-    let first = ask(&map, &mut one, 0);
-    let second = ask(&map, &mut two, 0);
-    let filled = fill(&map, &mut writer, 0);
-    let found = map.find(&mut two, 0, &mut rows);
-    Ok(FirstRead {
-        missing,
-        first,
-        second,
-        filled,
-        found,
-        rows,
-    })
+    page.line("reader 1 finds ", &map.find(one, 0, &mut rows));
+    page.line("it asks: ", &ask(map, one, 0));
+    page.line("reader 2 asks: ", &ask(map, two, 0));
+    page.line("the fill: ", &fill(map, writer, 0));
+    page.line("reader 2 finds ", &map.find(two, 0, &mut rows));
+    page.more(": ", &rows.as_slice());
 }
 
-pub fn show<R: Print>(rt: &R, told: &FirstRead) -> io::Result<()> {
-    println!(rt;
-        "A first read\n  reader 1 finds {:?}\n  it asks: {:?}\n  reader 2 asks: {:?}\n  the fill: {:?}\n  reader 2 finds {:?}: {:?}",
-        told.missing,
-        told.first,
-        told.second,
-        told.filled,
-        told.found,
-        told.rows.as_slice()
-    )
+/// The map is new.
+pub fn show<R: AllocGlobal + Print>(rt: &R) -> anyhow::Result<()> {
+    let mut page = Page::titled(rt.alloc(), "A first read")?;
+    let (map, mut writer, mut one, mut two) = opened(rt.alloc(), 2, 5)?;
+    find_first(&map, &mut writer, &mut one, &mut two, &mut page);
+    page.print(rt)
 }

@@ -4,26 +4,10 @@ ghost use Rattle.nr_model.specs.Histories.{entries_of};
 ghost use Rattle.nr_board.specs.Meetings.{with_step};
 ghost use Rattle.nr_board.specs.Rule.{StartsWith};
 
-use crate::calls::{ask, fill};
-use crate::opening::opened;
-use nr_map::{FillFault, Found, KeyKind, Pin, Reader, ReaderMap, Writer};
-use nr_model::{OpenFault, RowSet};
-use std::alloc::Global;
-use std::io::{self, Print};
-
-#[derive(Drop)]
-pub struct Met {
-    before: KeyKind,
-    after: KeyKind,
-    informed: Informed,
-    held: Option<RowSet>,
-}
-
-#[derive(Drop)]
-struct Informed {
-    filled: Result<(), FillFault>,
-    found: Found,
-}
+use nr_map::{Pin, Reader, ReaderMap, Writer};
+use nr_model::RowSet;
+use nr_tour_parts::{Page, ask, fill, opened};
+use std::io::Print;
 
 // The writer learns what a reader did: its history then has exactly the reader's calls, and the
 // reader's has the writer's.
@@ -65,62 +49,62 @@ fn gather_holder(map: &ReaderMap, writer: &mut Writer, pin: &mut Pin)
     map.gather_pin(writer, pin);
 }
 
-// The writer fills key 0 and tells the reader, whose find then comes after the fill.
-fn fill_and_inform(map: &ReaderMap, writer: &mut Writer, reader: &mut Reader) -> Informed
-    requires own { (reader.old.table ≡ map.now) × (writer.old.table ≡ map.now) }
-    requires key { 0 < map.now.shape.keys }
-    ensures own { (reader.new.table ≡ map.now) × (writer.new.table ≡ map.now) }
-{
-    let filled = fill(map, writer, 0);
-    inform(map, writer, reader);
-    let found = map.find(reader, 0, &mut RowSet::new());
-    Informed { filled, found }
-}
-
-// The rows of a pin that was gathered while its key was evicted. None where the key was a hole.
-fn held_meanwhile(map: &ReaderMap, writer: &mut Writer, reader: Reader) -> Option<RowSet>
+// The rows of a pin that was gathered while its key was evicted. Where the key is a hole there is
+// nothing to tell.
+fn hold_meanwhile(map: &ReaderMap, writer: &mut Writer, reader: Reader, page: &mut Page)
     requires own { (reader.table ≡ map.now) × (writer.old.table ≡ map.now) }
     requires key { 0 < map.now.shape.keys }
 {
     let mut pin = match map.pin(reader, 0) {
         Ok(pin) => pin,
-        Err(_) => return None,
+        Err(_) => return,
     };
     map.evict(writer, 0);
     gather_holder(map, writer, &mut pin);
     let mut rows = RowSet::new();
     pin.copy_to(map, &mut rows);
+    page.line("a pin that was gathered has ", &rows.as_slice());
     pin.release(map);
-    Some(rows)
 }
 
-/// Reader 1 asks for key 0, the writer gathers it, and it tells reader 2. A proof may then say that
-/// the writer and reader 2 know of the request; the run shows only what the key is. Then the writer
-/// fills the key and tells reader 1, which holds the set while it is gathered once more.
-pub fn learnt(alloc: Global) -> Result<Met, OpenFault> {
-    let (map, mut writer, mut one, mut two) = opened(alloc, 2, 5)?;
-    let before = map.state(&mut writer, 0);
-    ask(&map, &mut one, 0);
-    gather(&map, &mut writer, &mut one);
-    let after = map.state(&mut writer, 0);
-    tell(&map, &mut one, &mut two);
-    let informed = fill_and_inform(&map, &mut writer, &mut one);
-    let held = held_meanwhile(&map, &mut writer, one);
-    Ok(Met {
-        before,
-        after,
-        informed,
-        held,
-    })
+// Reader 1 asks for key 0, the writer gathers it, and it tells reader 2. A proof may then say that the
+// writer and reader 2 know of the request; the run shows only what the key is.
+fn ask_and_learn(
+    map: &ReaderMap,
+    writer: &mut Writer,
+    one: &mut Reader,
+    two: &mut Reader,
+    page: &mut Page,
+)
+    requires readers { (one.old.table ≡ map.now) × (two.old.table ≡ map.now) }
+    requires writer { writer.old.table ≡ map.now }
+    requires key { 0 < map.now.shape.keys }
+    ensures own { (one.new.table ≡ map.now) × (writer.new.table ≡ map.now) }
+{
+    page.line("the key before the request: ", &map.state(writer, 0));
+    ask(map, one, 0);
+    gather(map, writer, one);
+    page.line("after it: ", &map.state(writer, 0));
+    tell(map, one, two);
 }
 
-pub fn show<R: Print>(rt: &R, told: &Met) -> io::Result<()> {
-    println!(rt;
-        "A meeting\n  the key before the request: {:?}\n  after it: {:?}\n  after a fill, {:?}, whoever was told finds {:?}",
-        told.before, told.after, told.informed.filled, told.informed.found
-    )?;
-    if let Some(rows) = &told.held {
-        println!(rt; "  a pin that was gathered has {:?}", rows.as_slice())?;
-    }
-    Ok(())
+// The writer fills key 0 and tells the reader, whose find then comes after the fill.
+fn fill_and_inform(map: &ReaderMap, writer: &mut Writer, reader: &mut Reader, page: &mut Page)
+    requires own { (reader.old.table ≡ map.now) × (writer.old.table ≡ map.now) }
+    requires key { 0 < map.now.shape.keys }
+    ensures own { (reader.new.table ≡ map.now) × (writer.new.table ≡ map.now) }
+{
+    page.line("after a fill, ", &fill(map, writer, 0));
+    inform(map, writer, reader);
+    let found = map.find(reader, 0, &mut RowSet::new());
+    page.more(", whoever was told finds ", &found);
+}
+
+pub fn show<R: AllocGlobal + Print>(rt: &R) -> anyhow::Result<()> {
+    let mut page = Page::titled(rt.alloc(), "A meeting")?;
+    let (map, mut writer, mut one, mut two) = opened(rt.alloc(), 2, 5)?;
+    ask_and_learn(&map, &mut writer, &mut one, &mut two, &mut page);
+    fill_and_inform(&map, &mut writer, &mut one, &mut page);
+    hold_meanwhile(&map, &mut writer, one, &mut page);
+    page.print(rt)
 }

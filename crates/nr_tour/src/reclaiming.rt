@@ -1,15 +1,12 @@
 //! Rows that refer to texts, which are freed when nobody can see their set any more.
 ghost use Rattle.std.specs.Prelude.{◌≡◌, ◌<◌};
 
-use crate::calls::ask;
 use crate::texts::Texts;
-use nr_map::{
-    FillFault, Pin, Reader, ReaderMap, Reaped, Reclaimed, Remains, ReplaceFault, UpdateFault,
-    Writer,
-};
+use nr_map::{FillFault, Pin, Reader, ReaderMap, Reaped, Reclaimed, Remains, Writer};
 use nr_model::{Delta, OpenFault, Pile, Row};
+use nr_tour_parts::{Page, ask, ask_and_fill, opened};
 use std::alloc::Global;
-use std::io::{self, Print};
+use std::io::Print;
 
 const FIRST: [Row; 1] = [Row { a: 1, b: 0 }];
 
@@ -27,29 +24,6 @@ const CHANGE: [Delta; 2] = [
     },
 ];
 
-#[derive(Drop)]
-pub struct GivenBack {
-    filled: Result<Reclaimed, FillFault>,
-    held: Option<Held>,
-    freed: Freed,
-    left: usize,
-}
-
-#[derive(Drop)]
-struct Held {
-    changed: Result<Reclaimed, UpdateFault>,
-    reaped: Reaped,
-    read: Option<String>,
-}
-
-#[derive(Drop)]
-struct Freed {
-    replaced: Result<Reclaimed, ReplaceFault>,
-    after_replacement: usize,
-    reaped: Reaped,
-    after_reap: usize,
-}
-
 // A slot that was never taken had no set, so nothing comes back.
 fn fill(map: &ReaderMap, writer: &mut Writer) -> Result<Reclaimed, FillFault>
     requires own { writer.old.table ≡ map.now }
@@ -61,65 +35,45 @@ fn fill(map: &ReaderMap, writer: &mut Writer) -> Result<Reclaimed, FillFault>
     map.fill_reclaiming(writer, 0, number, &FIRST, &mut Pile::new())
 }
 
-// The text that a held set refers to, read where it stands, and copied only to be shown.
-fn read_text(alloc: Global, map: &ReaderMap, pin: &mut Pin, texts: &Texts) -> Option<String>
+// The text that a held set refers to is read where it stands.
+fn read_text(map: &ReaderMap, pin: &mut Pin, texts: &Texts, page: &mut Page)
     requires own { pin.old.reader.table ≡ map.now }
     ensures own { pin.new.reader.table ≡ map.now }
 {
-    if pin.len() == 0 {
-        return None;
+    if 0 < pin.len() {
+        let row = pin.row(map, 0);
+        page.line("the pin's text: ", &texts.get(row));
     }
-    let row = pin.row(map, 0);
-    let text = texts.get(row)?;
-    String::from_str(alloc, text).ok()
 }
 
-// The key gets its second set. The pin holds the first, so that waits, and its text is there.
+// The key gets its second set while a pin holds the first, so that waits, and its text is there. The
+// reader comes back, and holds nothing.
 fn change_beside(
-    alloc: Global,
-    map: &ReaderMap,
-    writer: &mut Writer,
-    pin: &mut Pin,
-    texts: &Texts,
-) -> Held
-    requires own { (pin.old.reader.table ≡ map.now) × (writer.old.table ≡ map.now) }
-    requires key { 0 < map.now.shape.keys }
-    ensures own { (pin.new.reader.table ≡ map.now) × (writer.new.table ≡ map.now) }
-{
-    let mut had = Pile::new();
-    let changed = map.update_reclaiming(writer, 0, &CHANGE, &mut had);
-    let reaped = map.reap(writer, &mut had);
-    let read = read_text(alloc, map, pin, texts);
-    Held {
-        changed,
-        reaped,
-        read,
-    }
-}
-
-// The reader comes back, and holds nothing.
-fn hold(
-    alloc: Global,
     map: &ReaderMap,
     writer: &mut Writer,
     reader: Reader,
     texts: &Texts,
-) -> (Option<Held>, Reader)
+    page: &mut Page,
+) -> Reader
     requires own { (reader.table ≡ map.now) × (writer.old.table ≡ map.now) }
     requires key { 0 < map.now.shape.keys }
-    ensures own { (result.1.table ≡ map.now) × (writer.new.table ≡ map.now) }
+    ensures own { (result.table ≡ map.now) × (writer.new.table ≡ map.now) }
 {
     let mut pin = match map.pin(reader, 0) {
         Ok(pin) => pin,
-        Err(reader) => return (None, reader),
+        Err(reader) => return reader,
     };
-    let held = change_beside(alloc, map, writer, &mut pin, texts);
-    (Some(held), pin.release(map))
+    let mut had = Pile::new();
+    let changed = map.update_reclaiming(writer, 0, &CHANGE, &mut had);
+    page.line("an update beside a pin: ", &changed);
+    page.line("a reap: ", &map.reap(writer, &mut had));
+    read_text(map, &mut pin, texts, page);
+    pin.release(map)
 }
 
 // The replacement takes the slot of the first set, whose text is freed. The second set waits in its
 // slot until the reap.
-fn free_two(map: &ReaderMap, writer: &mut Writer, texts: &mut Texts) -> Freed
+fn free_two(map: &ReaderMap, writer: &mut Writer, texts: &mut Texts, page: &mut Page)
     requires own { writer.old.table ≡ map.now }
     requires key { 0 < map.now.shape.keys }
     requires rows { 0 < map.now.shape.rows }
@@ -130,17 +84,14 @@ fn free_two(map: &ReaderMap, writer: &mut Writer, texts: &mut Texts) -> Freed
     if let Ok(Reclaimed::Set) = replaced {
         texts.free(had.as_slice());
     }
-    let after_replacement = texts.count();
+    page.line("a replacement: ", &replaced);
+    page.more(", and texts left: ", &texts.count());
     let reaped = map.reap(writer, &mut had);
     if let Reaped::Set = reaped {
         texts.free(had.as_slice());
     }
-    Freed {
-        replaced,
-        after_replacement,
-        reaped,
-        after_reap: texts.count(),
-    }
+    page.line("a reap: ", &reaped);
+    page.more(", and texts left: ", &texts.count());
 }
 
 // At the end of a map each set comes out that no call gave out, the filled keys' too: at most one for
@@ -154,42 +105,64 @@ fn free_rest(mut remains: Remains, slots: u32, texts: &mut Texts) {
     }
 }
 
-/// A key whose set is put three times, each time with a row that refers to another text, in a map of
-/// two slots.
-pub fn given_back(alloc: Global) -> Result<GivenBack, OpenFault> {
-    let mut texts = Texts::of_three(alloc)?;
-    let (map, mut writer, mut readers) = ReaderMap::open(alloc, 1, 2, 1, 0)?;
-    let Some(mut reader) = readers.pop() else {
-        unreachable!()
-    };
-    ask(&map, &mut reader, 0);
-    let filled = fill(&map, &mut writer);
-    let (held, reader) = hold(alloc, &map, &mut writer, reader, &texts);
-    let freed = free_two(&map, &mut writer, &mut texts);
-    readers.push(reader).map_err(|_| OpenFault::Memory)?;
-    free_rest(map.take_apart(writer, readers), 2, &mut texts);
-    Ok(GivenBack {
-        filled,
-        held,
-        freed,
-        left: texts.count(),
-    })
+// Each put has a row that refers to another text.
+fn put_three(
+    map: &ReaderMap,
+    writer: &mut Writer,
+    mut reader: Reader,
+    texts: &mut Texts,
+    page: &mut Page,
+) -> Reader
+    requires own { (reader.table ≡ map.now) × (writer.old.table ≡ map.now) }
+    requires key { 0 < map.now.shape.keys }
+    requires rows { 0 < map.now.shape.rows }
+    ensures own { (result.table ≡ map.now) × (writer.new.table ≡ map.now) }
+{
+    ask(map, &mut reader, 0);
+    page.line("a fill: ", &fill(map, writer));
+    let reader = change_beside(map, writer, reader, texts, page);
+    free_two(map, writer, texts, page);
+    reader
 }
 
-pub fn show<R: Print>(rt: &R, told: &GivenBack) -> io::Result<()> {
-    println!(rt; "Given back\n  a fill: {:?}", told.filled)?;
-    if let Some(held) = &told.held {
-        println!(rt;
-            "  an update beside a pin: {:?}\n  a reap: {:?}\n  the pin's text: {:?}",
-            held.changed, held.reaped, held.read
-        )?;
-    }
-    println!(rt;
-        "  a replacement: {:?}, and texts left: {}\n  a reap: {:?}, and texts left: {}\n  at the end of the map: {}",
-        told.freed.replaced,
-        told.freed.after_replacement,
-        told.freed.reaped,
-        told.freed.after_reap,
-        told.left
-    )
+// A key whose set is put three times, in a map of two slots.
+fn give_back(alloc: Global, texts: &mut Texts, page: &mut Page) -> Result<(), OpenFault> {
+    let (map, mut writer, mut readers) = ReaderMap::open(alloc, 1, 2, 1, 0)?;
+    let Some(reader) = readers.pop() else {
+        unreachable!()
+    };
+    let reader = put_three(&map, &mut writer, reader, texts, page);
+    readers.push(reader).map_err(|_| OpenFault::Memory)?;
+    free_rest(map.take_apart(writer, readers), 2, texts);
+    page.line("at the end of the map: ", &texts.count());
+    Ok(())
+}
+
+// The sets of a map that isn't given away come out where they lie. Here one of two slots was taken.
+fn leave_in_place(map: &ReaderMap, writer: &mut Writer, page: &mut Page)
+    requires own { writer.old.table ≡ map.now }
+{
+    let mut rows = Pile::new();
+    let first = map.set_from(writer, 0, &mut rows);
+    let second = match first {
+        Some(next) => map.set_from(writer, next, &mut rows),
+        None => None,
+    };
+    page.line("where it lies: ", &[first, second]);
+    page.more(": ", &rows.as_slice());
+}
+
+fn fill_and_leave(alloc: Global, page: &mut Page) -> Result<(), OpenFault> {
+    let (map, mut writer, mut one, _two) = opened(alloc, 1, 2)?;
+    ask_and_fill(&map, &mut one, &mut writer);
+    leave_in_place(&map, &mut writer, page);
+    Ok(())
+}
+
+pub fn show<R: AllocGlobal + Print>(rt: &R) -> anyhow::Result<()> {
+    let mut page = Page::titled(rt.alloc(), "Given back")?;
+    let mut texts = Texts::of_three(rt.alloc())?;
+    give_back(rt.alloc(), &mut texts, &mut page)?;
+    fill_and_leave(rt.alloc(), &mut page)?;
+    page.print(rt)
 }

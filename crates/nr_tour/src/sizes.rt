@@ -7,20 +7,17 @@ ghost use Rattle.nr_model.specs.Rows.{IsRowSet};
 ghost use Rattle.nr_board.specs.Callers.{map_seen};
 ghost use Rattle.nr_map.specs.SlotBounds.{HasRoomForAll};
 
-use crate::calls::{ROWS, ask, set_of};
-use nr_map::{FillFault, KeyKind, NoSlot, Reader, ReaderMap, Shape, UpdateFault, Writer, laws};
-use nr_model::{Batch, OpenFault};
+use nr_map::{KeyKind, NoSlot, Reader, ReaderMap, Shape, UpdateFault, Writer, laws};
+use nr_model::{Batch, Delta, OpenFault, Row};
+use nr_tour_parts::{Page, ask, fill};
 use std::alloc::Global;
-use std::io::{self, Print};
+use std::io::Print;
 
-#[derive(Drop)]
-pub struct Small {
-    sizes: [u32; 4],
-    filled: Result<(), FillFault>,
-    changed: Result<(), UpdateFault>,
-    refused: Result<(), UpdateFault>,
-    state: KeyKind,
-}
+/// A change that only brings a row.
+pub const MORE: [Delta; 1] = [Delta {
+    plus: true,
+    row: Row { a: 1, b: 1 },
+}];
 
 // A slot for each filled key, one for each reader, which may hold an old set, and one for the set
 // that is being written.
@@ -77,27 +74,30 @@ fn state_now(map: &ReaderMap, writer: &mut Writer, key: u32) -> KeyKind
     map.state(writer, key)
 }
 
-/// Key 0 is filled with two rows, changed to two others, and refuses a third.
-pub fn kept_small(alloc: Global, change: &Batch, more: &Batch) -> Result<Small, OpenFault> {
-    let (map, mut writer, mut reader) = opened_small(alloc)?;
-    ask(&map, &mut reader, 0);
-    let filled = map.fill(&mut writer, 0, 0, &set_of(&map, &ROWS));
-    let changed = update(&map, &mut writer, 0, change);
-    let refused = update(&map, &mut writer, 0, more);
-    let state = state_now(&map, &mut writer, 0);
-    Ok(Small {
-        sizes: [map.keys(), map.slots(), map.readers(), map.rows()],
-        filled,
-        changed,
-        refused,
-        state,
-    })
+fn show_sizes(map: &ReaderMap, page: &mut Page) {
+    page.line("keys ", &map.keys());
+    page.more(", slots ", &map.slots());
+    page.more(", readers ", &map.readers());
+    page.more(", rows a key ", &map.rows());
 }
 
-pub fn show<R: Print>(rt: &R, told: &Small) -> io::Result<()> {
-    let [keys, slots, readers, rows] = told.sizes;
-    println!(rt;
-        "Other sizes\n  keys {keys}, slots {slots}, readers {readers}, rows a key {rows}\n  a fill: {:?}\n  an update: {:?}\n  a third row: {:?}\n  the key: {:?}",
-        told.filled, told.changed, told.refused, told.state
-    )
+fn keep_small(map: &ReaderMap, writer: &mut Writer, change: &Batch, more: &Batch, page: &mut Page)
+    requires own { writer.old.table ≡ map.now }
+    requires key { 0 < map.now.shape.keys }
+    requires room { HasRoomForAll map.now }
+{
+    page.line("a fill: ", &fill(map, writer, 0));
+    page.line("an update: ", &update(map, writer, 0, change));
+    page.line("a third row: ", &update(map, writer, 0, more));
+    page.line("the key: ", &state_now(map, writer, 0));
+}
+
+/// Key 0 is filled with two rows, changed to two others, and refuses a third.
+pub fn show<R: AllocGlobal + Print>(rt: &R, change: &Batch, more: &Batch) -> anyhow::Result<()> {
+    let mut page = Page::titled(rt.alloc(), "Other sizes")?;
+    let (map, mut writer, mut reader) = opened_small(rt.alloc())?;
+    show_sizes(&map, &mut page);
+    ask(&map, &mut reader, 0);
+    keep_small(&map, &mut writer, change, more, &mut page);
+    page.print(rt)
 }

@@ -1,19 +1,11 @@
 //! A token for each thread: the map is shared, and a token moves to the thread that calls with it.
 ghost use Rattle.std.specs.Prelude.{◌≡◌, ◌<◌};
 
-use crate::calls::{Told, ask, fill};
-use crate::opening::opened;
-use nr_map::{Found, Reader, ReaderMap};
-use nr_model::{OpenFault, RowSet};
-use std::alloc::Global;
-use std::io::{self, Print};
+use nr_map::{Found, Reader, ReaderMap, Writer};
+use nr_model::RowSet;
+use nr_tour_parts::{Page, Told, ask, fill, opened};
+use std::io::Print;
 use std::thread::{Threads, join};
-
-#[derive(Drop)]
-pub struct AtOnce {
-    sends: u32,
-    later: (Told, Told),
-}
 
 // What each thread does: finds the key, and asks for it where it is a hole.
 fn find_or_ask(map: &ReaderMap, mut reader: Reader, key: u32) -> (Told, Reader)
@@ -62,22 +54,33 @@ fn sends_of(told: Told) -> u32
     }
 }
 
-/// Two threads miss key 0 at once. Which of them is told to send depends on them; that just one is
-/// doesn't.
-pub fn asked_at_once<R: Threads + Sync>(rt: &R, alloc: Global) -> Result<AtOnce, OpenFault> {
-    let (map, mut writer, one, two) = opened(alloc, 2, 5)?;
-    let ((first, one), (second, two)) = both(rt, &map, one, two);
-    let _filled = fill(&map, &mut writer, 0);
-    let ((third, _one), (fourth, _two)) = both(rt, &map, one, two);
-    Ok(AtOnce {
-        sends: sends_of(first) + sends_of(second),
-        later: (third, fourth),
-    })
+// Two threads miss key 0 at once. Which of them is told to send depends on them; that just one is
+// doesn't.
+fn ask_at_once<R: Threads + Sync>(
+    rt: &R,
+    map: &ReaderMap,
+    writer: &mut Writer,
+    one: Reader,
+    two: Reader,
+    page: &mut Page,
+)
+    requires readers { (one.table ≡ map.now) × (two.table ≡ map.now) }
+    requires writer { writer.old.table ≡ map.now }
+    requires key { 0 < map.now.shape.keys }
+{
+    let ((first, one), (second, two)) = both(rt, map, one, two);
+    let _filled = fill(map, writer, 0);
+    let ((third, _one), (fourth, _two)) = both(rt, map, one, two);
+    page.line(
+        "requests to be sent: ",
+        &(sends_of(first) + sends_of(second)),
+    );
+    page.line("after the fill: ", &(third, fourth));
 }
 
-pub fn show<R: Print>(rt: &R, told: &AtOnce) -> io::Result<()> {
-    println!(rt;
-        "Two threads\n  requests to be sent: {}\n  after the fill: {:?}",
-        told.sends, told.later
-    )
+pub fn show<R: AllocGlobal + Print + Threads + Sync>(rt: &R) -> anyhow::Result<()> {
+    let mut page = Page::titled(rt.alloc(), "Two threads")?;
+    let (map, mut writer, one, two) = opened(rt.alloc(), 2, 5)?;
+    ask_at_once(rt, &map, &mut writer, one, two, &mut page);
+    page.print(rt)
 }

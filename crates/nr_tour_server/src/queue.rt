@@ -1,21 +1,12 @@
 //! Tickets on their way from the readers to the dataflow.
 ghost use Rattle.std.specs.Prelude.{◌≡◌, ◌<◌, ◌≤◌, IfOk, MatchOption};
 
-use crate::calls::{ROWS, set_of};
-use crate::opening::opened;
 use nr_map::{Asked, FillFault, Reader, ReaderMap, Ticket, Writer};
 use nr_model::OpenFault;
+use nr_tour_parts::{Page, ROWS, opened, set_of};
 use nr_trigger::{Poster, Taker, Triggers};
 use std::alloc::Global;
-use std::io::{self, Print};
 use std::sync::Wait;
-
-#[derive(Drop)]
-pub struct Queued {
-    was_full: bool,
-    answers: [Option<(u32, Result<(), FillFault>)>; 3],
-    kept: (bool, bool),
-}
 
 // A queue for that many tickets of keys below 2, with one poster and the taker. A poster and a taker
 // are of this one queue. The number of keys is told to contracts alone, in this function's
@@ -127,7 +118,8 @@ fn post_in_turn<R: Wait>(
     poster: &mut Poster,
     writer: &mut Writer,
     taker: &mut Taker,
-) -> Queued
+    page: &mut Page,
+)
     requires map { (reader.old.table ≡ map.now) × (writer.old.table ≡ map.now) × (map.now.shape.keys ≡ 2) }
     requires poster { (poster.old.queue ≡ triggers.now.id) × (poster.old.keys ≡ 2) }
     requires taker { (taker.old.queue ≡ triggers.now.id) × (taker.old.keys ≡ 2) }
@@ -136,20 +128,18 @@ fn post_in_turn<R: Wait>(
     let second = request(map, reader, 1);
     let first = post(rt, triggers, poster, first);
     let second = post(rt, triggers, poster, second);
-    let was_full = second.is_some();
+    page.line("the second ticket comes back: ", &second.is_some());
     let one = answer_next(rt, map, triggers, writer, taker);
     let second = post(rt, triggers, poster, second);
     let two = answer_next(rt, map, triggers, writer, taker);
     let none = answer_next(rt, map, triggers, writer, taker);
-    Queued {
-        was_full,
-        answers: [one, two, none],
-        kept: (spend(first), spend(second)),
-    }
+    page.line("answers: ", &[one, two, none]);
+    page.line("tickets left: ", &(spend(first), spend(second)));
 }
 
 /// Reader 1 misses both keys, and the dataflow answers in the order of the tickets.
-pub fn passed_on<R: Wait>(rt: &R, alloc: Global) -> Result<Queued, OpenFault> {
+pub fn passed_on<R: Wait>(rt: &R, alloc: Global) -> Result<Page, OpenFault> {
+    let mut page = Page::titled(alloc, "A queue of one")?;
     let Server {
         map,
         mut writer,
@@ -158,7 +148,7 @@ pub fn passed_on<R: Wait>(rt: &R, alloc: Global) -> Result<Queued, OpenFault> {
         mut poster,
         mut taker,
     } = opened_server(alloc, 1)?;
-    Ok(post_in_turn(
+    post_in_turn(
         rt,
         &map,
         &triggers,
@@ -166,12 +156,7 @@ pub fn passed_on<R: Wait>(rt: &R, alloc: Global) -> Result<Queued, OpenFault> {
         &mut poster,
         &mut writer,
         &mut taker,
-    ))
-}
-
-pub fn show<R: Print>(rt: &R, told: &Queued) -> io::Result<()> {
-    println!(rt;
-        "A queue of one\n  the second ticket comes back: {}\n  answers: {:?}\n  tickets left: {:?}",
-        told.was_full, told.answers, told.kept
-    )
+        &mut page,
+    );
+    Ok(page)
 }

@@ -1,41 +1,11 @@
 //! Rows, and the calls that several chapters make.
 ghost use Rattle.std.specs.Prelude.{◌≡◌, ◌<◌, ◌≤◌, length};
 
-use nr_map::{Asked, FillFault, Found, Reader, ReaderMap, UpdateFault, Writer};
-use nr_model::{Batch, Delta, Row, RowSet};
+use nr_map::{Asked, FillFault, Reader, ReaderMap, Writer};
+use nr_model::{Row, RowSet};
 
 /// A key's rows, as the source of an answer may have them: in any order.
 pub const ROWS: [Row; 2] = [Row { a: 7, b: 1 }, Row { a: 3, b: 9 }];
-
-/// A change of them: one row goes and another comes.
-pub const CHANGE: [Delta; 2] = [
-    Delta {
-        plus: false,
-        row: Row { a: 7, b: 1 },
-    },
-    Delta {
-        plus: true,
-        row: Row { a: 8, b: 2 },
-    },
-];
-
-/// The change of key 1 where its row is `1:100` and will be `1:200`.
-pub const RISE: [Delta; 2] = [
-    Delta {
-        plus: false,
-        row: Row { a: 1, b: 100 },
-    },
-    Delta {
-        plus: true,
-        row: Row { a: 1, b: 200 },
-    },
-];
-
-/// A change that only brings a row.
-pub const MORE: [Delta; 1] = [Delta {
-    plus: true,
-    row: Row { a: 1, b: 1 },
-}];
 
 /// The set of those rows. `fill` takes at most `rows()` of them, so where there are more this is the
 /// empty set.
@@ -93,27 +63,4 @@ pub fn ask_and_fill(map: &ReaderMap, reader: &mut Reader, writer: &mut Writer)
 {
     ask(map, reader, 0);
     fill(map, writer, 0).ok();
-}
-
-/// Changes a key's rows.
-pub fn update(
-    map: &ReaderMap,
-    writer: &mut Writer,
-    key: u32,
-    change: &Batch,
-) -> Result<(), UpdateFault>
-    requires own { writer.old.table ≡ map.now }
-    requires key { key < map.now.shape.keys }
-    ensures { writer.new.table ≡ map.now }
-{
-    map.update(writer, key, change)
-}
-
-/// Finds a key's rows.
-pub fn find(map: &ReaderMap, reader: &mut Reader, key: u32, rows: &mut RowSet) -> Found
-    requires own { reader.old.table ≡ map.now }
-    requires key { key < map.now.shape.keys }
-    ensures { reader.new.table ≡ map.now }
-{
-    map.find(reader, key, rows)
 }

@@ -1,8 +1,8 @@
 use Rattle.std.proofs.Common.{◌<◌, ap, arith, subst}
 use Rattle.nr_board.specs.Callers.{Table}
 use Rattle.nr_map.specs.Written.{FindsAfter, answered}
-use Rattle.nr_tour.proofs.HeardNotes.{finds_after}
-use Rattle.nr_tour.proofs.notes.hear_and_find.Goals as goal
+use Rattle.nr_tour_server.proofs.HeardNotes.{finds_after}
+use Rattle.nr_tour_server.proofs.notes.hear_and_find.Goals as goal
 
 pub returns : goal.returns
 returns c = let reader = c.args.reader in let own = c.requires.own.0 in

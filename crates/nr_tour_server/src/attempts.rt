@@ -1,20 +1,12 @@
 //! The queue for a thread that may not wait: each call makes one attempt.
 ghost use Rattle.std.specs.Prelude.{◌≡◌, ◌<◌, ◌≤◌, MatchOption};
 
-use crate::calls::{ROWS, set_of};
 use crate::queue::{Server, opened_server};
 use nr_map::{Asked, FillFault, Reader, ReaderMap, Writer};
 use nr_model::OpenFault;
+use nr_tour_parts::{Page, ROWS, set_of};
 use nr_trigger::{PostFault, Poster, Taker, Triggers, Upquery};
 use std::alloc::Global;
-use std::io::{self, Print};
-
-#[derive(Drop)]
-pub struct Attempts {
-    back: Option<Upquery>,
-    answers: [Option<(u32, Result<(), FillFault>)>; 3],
-    left: [Option<Upquery>; 2],
-}
 
 // Requests a key, and gives what the ticket of a request that is to be sent names. The ticket is spent
 // here, so the owner of the request owes its upquery now.
@@ -77,7 +69,8 @@ fn post_in_turn(
     poster: &mut Poster,
     writer: &mut Writer,
     taker: &mut Taker,
-) -> Attempts
+    page: &mut Page,
+)
     requires map { (reader.old.table ≡ map.now) × (writer.old.table ≡ map.now) × (map.now.shape.keys ≡ 2) }
     requires poster { (poster.old.queue ≡ triggers.now.id) × (poster.old.keys ≡ 2) }
     requires taker { (taker.old.queue ≡ triggers.now.id) × (taker.old.keys ≡ 2) }
@@ -86,19 +79,18 @@ fn post_in_turn(
     let second = request(map, reader, 1);
     let first = try_post(triggers, poster, first);
     let back = try_post(triggers, poster, second);
+    page.line("the second request: ", &back);
     let one = try_answer(map, triggers, writer, taker);
     let second = try_post(triggers, poster, back);
     let two = try_answer(map, triggers, writer, taker);
     let none = try_answer(map, triggers, writer, taker);
-    Attempts {
-        back,
-        answers: [one, two, none],
-        left: [first, second],
-    }
+    page.line("answers: ", &[one, two, none]);
+    page.line("requests left: ", &[first, second]);
 }
 
 /// Nobody else calls here, so no attempt fails for a thread that is in the way.
-pub fn passed_on(alloc: Global) -> Result<Attempts, OpenFault> {
+pub fn passed_on(alloc: Global) -> Result<Page, OpenFault> {
+    let mut page = Page::titled(alloc, "One attempt")?;
     let Server {
         map,
         mut writer,
@@ -107,19 +99,14 @@ pub fn passed_on(alloc: Global) -> Result<Attempts, OpenFault> {
         mut poster,
         mut taker,
     } = opened_server(alloc, 1)?;
-    Ok(post_in_turn(
+    post_in_turn(
         &map,
         &triggers,
         &mut reader,
         &mut poster,
         &mut writer,
         &mut taker,
-    ))
-}
-
-pub fn show<R: Print>(rt: &R, told: &Attempts) -> io::Result<()> {
-    println!(rt;
-        "One attempt\n  the second request: {:?}\n  answers: {:?}\n  requests left: {:?}",
-        told.back, told.answers, told.left
-    )
+        &mut page,
+    );
+    Ok(page)
 }

@@ -6,14 +6,14 @@ use crate::source::Shelf;
 use nr_map::{Reader, ReaderMap, Writer};
 use nr_model::{OpenFault, RowSet};
 use nr_serve::{Client, Dataflow, Got, Lobby, OpenGate, Turn};
+use nr_tour_parts::Page;
 use nr_trigger::{Poster, Taker, Triggers};
 use std::alloc::Global;
-use std::io::{self, Print};
 use std::sync::Wait;
 use std::thread::{self, Threads};
 
 #[derive(Drop)]
-pub struct Served {
+struct Served {
     got: Got,
     rows: RowSet,
     sends: u64,
@@ -113,10 +113,8 @@ fn serve_beside<R: Threads + Wait + Sync>(
 }
 
 /// A client gets key 1 while the dataflow takes turns.
-pub fn waited_for<R: Threads + Wait + Sync>(
-    rt: &R,
-    alloc: Global,
-) -> Result<Option<Served>, OpenFault> {
+pub fn waited_for<R: Threads + Wait + Sync>(rt: &R, alloc: Global) -> Result<Page, OpenFault> {
+    let mut page = Page::titled(alloc, "A client")?;
     let Server {
         map,
         writer,
@@ -126,17 +124,11 @@ pub fn waited_for<R: Threads + Wait + Sync>(
         taker,
     } = opened_server(alloc, 4)?;
     let lobby = Lobby::open(alloc)?;
-    Ok(serve_beside(rt, &map, &triggers, reader, poster, writer, taker, &lobby))
-}
-
-pub fn show<R: Print>(rt: &R, told: &Option<Served>) -> io::Result<()> {
-    let Some(told) = told else {
-        return println!(rt; "A client\n  there was no thread for the dataflow");
-    };
-    println!(rt;
-        "A client\n  it got {:?}: {:?}\n  requests to be sent: {}",
-        told.got,
-        told.rows.as_slice(),
-        told.sends
-    )
+    let served = serve_beside(rt, &map, &triggers, reader, poster, writer, taker, &lobby);
+    if let Some(served) = served {
+        page.line("it got ", &served.got);
+        page.more(": ", &served.rows.as_slice());
+        page.line("requests to be sent: ", &served.sends);
+    }
+    Ok(page)
 }

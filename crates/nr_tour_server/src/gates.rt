@@ -1,24 +1,15 @@
 //! A gate of one's own, which holds clients back between their look-up and their rows.
 ghost use Rattle.std.specs.Prelude.{◌≡◌};
 
-use crate::calls::{ask, fill};
 use crate::queue::{Server, opened_server};
 use nr_map::{Reader, ReaderMap};
 use nr_model::{OpenFault, RowSet};
 use nr_serve::{Client, Gate, Got, Lobby};
+use nr_tour_parts::{Page, ask_and_fill};
 use nr_trigger::{Poster, Triggers};
 use std::alloc::Global;
-use std::io::{self, Print};
 use std::sync::Wait;
 use std::sync::atomic::{AtomicU64, Ordering};
-
-#[derive(Drop)]
-pub struct Gated {
-    got: Got,
-    rows: RowSet,
-    asked: u64,
-    answered: u64,
-}
 
 /// Says no once, and then lets everybody pass. Clients in many threads ask it at once, so it counts
 /// in atomics.
@@ -61,7 +52,7 @@ fn get_through<R: Wait>(
     (got, rows)
 }
 
-fn get_filled<R: Wait>(rt: &R, server: Server, lobby: &Lobby) -> Gated
+fn get_filled<R: Wait>(rt: &R, server: Server, lobby: &Lobby, page: &mut Page)
     requires map { (server.writer.table ≡ server.map) × (server.reader.table ≡ server.map) × (server.map.shape.keys ≡ 2) }
     requires queue { (server.poster.queue ≡ server.triggers.id) × (server.poster.keys ≡ 2) }
 {
@@ -73,34 +64,26 @@ fn get_filled<R: Wait>(rt: &R, server: Server, lobby: &Lobby) -> Gated
         poster,
         taker: _,
     } = server;
-    ask(&map, &mut reader, 0);
-    let _filled = fill(&map, &mut writer, 0);
+    ask_and_fill(&map, &mut reader, &mut writer);
     let gate = Second {
         asked: AtomicU64::new(0),
         answered: AtomicU64::new(0),
     };
     let (got, rows) = get_through(rt, &map, &triggers, lobby, &gate, reader, poster);
-    Gated {
-        got,
-        rows,
-        asked: gate.asked.load(Ordering::SeqCst),
-        answered: gate.answered.load(Ordering::SeqCst),
-    }
+    page.line("it was asked ", &gate.asked.load(Ordering::SeqCst));
+    page.more(
+        " times, and told of ",
+        &gate.answered.load(Ordering::SeqCst),
+    );
+    page.more(" answer\n  the client got ", &got);
+    page.more(": ", &rows.as_slice());
 }
 
 /// A client finds key 0 filled, and has its rows once the gate lets it pass.
-pub fn held_back<R: Wait>(rt: &R, alloc: Global) -> Result<Gated, OpenFault> {
+pub fn held_back<R: Wait>(rt: &R, alloc: Global) -> Result<Page, OpenFault> {
+    let mut page = Page::titled(alloc, "A gate")?;
     let server = opened_server(alloc, 1)?;
     let lobby = Lobby::open(alloc)?;
-    Ok(get_filled(rt, server, &lobby))
-}
-
-pub fn show<R: Print>(rt: &R, told: &Gated) -> io::Result<()> {
-    println!(rt;
-        "A gate\n  it was asked {} times, and told of {} answer\n  the client got {:?}: {:?}",
-        told.asked,
-        told.answered,
-        told.got,
-        told.rows.as_slice()
-    )
+    get_filled(rt, server, &lobby, &mut page);
+    Ok(page)
 }

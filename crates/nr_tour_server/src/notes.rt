@@ -3,22 +3,13 @@ ghost use Rattle.std.specs.Prelude.{◌≡◌, ◌<◌, IfOk};
 ghost use Rattle.nr_board.specs.Meetings.{HearsNote};
 ghost use Rattle.nr_map.specs.Written.{FindsAfter, answered};
 
-use crate::calls::{ROWS, set_of};
-use crate::opening::opened;
-use nr_map::{Asked, FillFault, Found, Note, Pin, Reader, ReaderMap, Writer, laws};
+use nr_map::{Asked, FillFault, Found, Note, Reader, ReaderMap, Writer, laws};
 use nr_model::{OpenFault, RowSet};
+use nr_tour_parts::{Page, ROWS, opened, set_of};
 use nr_trigger::{Poster, Taker, Triggers};
 use std::alloc::Global;
-use std::io::{self, Print};
 use std::sync::Wait;
 use std::thread::{Threads, join};
-
-#[derive(Drop)]
-pub struct Acknowledged {
-    filled: Option<Result<(), FillFault>>,
-    found: Found,
-    held: Option<RowSet>,
-}
 
 // A queue for the map, whose tickets may have notes of it.
 fn queue_for(alloc: Global, map: &ReaderMap) -> Result<(Triggers, Poster, Taker), OpenFault>
@@ -124,81 +115,48 @@ fn found_there<R: Threads + Sync>(rt: &R, map: &ReaderMap, reader: Reader, note:
     found
 }
 
-// A message for two: a reader that passes it on splits its note for them.
-fn pass_on(map: &ReaderMap, reader: &mut Reader, note: Note) -> (Note, Note)
-    requires own { (reader.old.table ≡ map.now) × (note.table ≡ map.now) }
-    ensures own { reader.new.table ≡ map.now }
-    ensures notes { (result.0 ≡ note) × (result.1 ≡ note) }
-{
-    map.split_note(reader, note)
-}
-
-// A reader that was told tells the writer.
-fn hear_and_tell(map: &ReaderMap, writer: &mut Writer, reader: &mut Reader, note: Note)
-    requires own { (reader.old.table ≡ map.now) × (writer.old.table ≡ map.now) × (note.table ≡ map.now) }
-    ensures own { (reader.new.table ≡ map.now) × (writer.new.table ≡ map.now) }
-{
-    hear(map, reader, note);
-    map.hear_writer(writer, map.note(reader));
-}
-
-// A pin makes a note and hears one as its reader does, and keeps its set.
-fn tell_and_hear(map: &ReaderMap, writer: &mut Writer, pin: &mut Pin)
-    requires own { (pin.old.reader.table ≡ map.now) × (writer.old.table ≡ map.now) }
-    ensures own { pin.new.reader.table ≡ map.now }
-{
-    map.hear_writer(writer, map.note_pin(pin));
-    map.hear_pin(pin, acknowledge(map, writer));
-}
-
-// One that was told tells the writer, and it tells one that holds a set. None where the key was a hole.
-fn held_meanwhile(
+// A reader that was told tells the writer, and the writer tells a pin. A pin makes a note and hears one
+// as its reader does, and keeps its set. Where the key is a hole there is nothing to tell.
+fn hold_meanwhile(
     map: &ReaderMap,
     writer: &mut Writer,
     mut reader: Reader,
     note: Note,
-) -> Option<RowSet>
+    page: &mut Page,
+)
     requires own { (reader.table ≡ map.now) × (writer.old.table ≡ map.now) × (note.table ≡ map.now) }
     requires key { 0 < map.now.shape.keys }
 {
-    hear_and_tell(map, writer, &mut reader, note);
+    hear(map, &mut reader, note);
+    map.hear_writer(writer, map.note(&mut reader));
     let mut pin = match map.pin(reader, 0) {
         Ok(pin) => pin,
-        Err(_) => return None,
+        Err(_) => return,
     };
-    tell_and_hear(map, writer, &mut pin);
+    map.hear_writer(writer, map.note_pin(&mut pin));
+    map.hear_pin(&mut pin, acknowledge(map, writer));
     let mut rows = RowSet::new();
     pin.copy_to(map, &mut rows);
+    page.line("a pin that told and heard has ", &rows.as_slice());
     pin.release(map);
-    Some(rows)
 }
 
-/// A reader asks for key 0, the writer fills it, and a note of that goes to a thread which finds the key.
+/// A reader asks for key 0, the writer fills it, and a note of that goes to a thread which finds the
+/// key. The message is for two: a reader that passes it on splits its note for them.
 pub fn written_and_read<R: Threads + Wait + Sync>(
     rt: &R,
     alloc: Global,
-) -> Result<Acknowledged, OpenFault> {
+) -> Result<Page, OpenFault> {
+    let mut page = Page::titled(alloc, "An acknowledged write")?;
     let (map, mut writer, mut one, two) = opened(alloc, 2, 5)?;
     let (triggers, mut poster, mut taker) = queue_for(alloc, &map)?;
     ask_and_tell(rt, &map, &triggers, &mut one, &mut poster);
     let filled = hear_and_fill(rt, &map, &triggers, &mut writer, &mut taker);
-    let (note, other) = pass_on(&map, &mut one, acknowledge(&map, &mut writer));
+    page.line("the fill: ", &filled);
+    let note = acknowledge(&map, &mut writer);
+    let (note, other) = map.split_note(&mut one, note);
     let found = found_there(rt, &map, two, note);
-    let held = held_meanwhile(&map, &mut writer, one, other);
-    Ok(Acknowledged {
-        filled,
-        found,
-        held,
-    })
-}
-
-pub fn show<R: Print>(rt: &R, told: &Acknowledged) -> io::Result<()> {
-    println!(rt;
-        "An acknowledged write\n  the fill: {:?}\n  the thread that heard of it finds {:?}",
-        told.filled, told.found
-    )?;
-    if let Some(rows) = &told.held {
-        println!(rt; "  a pin that told and heard has {:?}", rows.as_slice())?;
-    }
-    Ok(())
+    page.line("the thread that heard of it finds ", &found);
+    hold_meanwhile(&map, &mut writer, one, other, &mut page);
+    Ok(page)
 }

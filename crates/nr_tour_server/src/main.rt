@@ -1,0 +1,44 @@
+//! A tour of the queue and the server for their users: a chapter in each file, and what it prints in
+//! `stdout` beside this folder. Each chapter opens a map of its own, makes its calls, and writes a page
+//! of what they answered. Chapters on the map alone are in `nr_tour`.
+#![tactic(auto)]
+
+mod attempts;
+mod clients;
+mod flow;
+mod gates;
+mod large;
+mod lobbies;
+mod notes;
+mod queue;
+mod source;
+
+use crate::flow::RISE;
+use nr_model::Batch;
+use std::io::Print;
+use std::sync::Wait;
+use std::thread::Threads;
+
+// The queue, and what goes with a ticket.
+fn show_queue<R: AllocGlobal + Print + Threads + Wait + Sync>(rt: &R) -> anyhow::Result<()> {
+    let alloc = rt.alloc();
+    large::opened_large(alloc)?.print(rt)?;
+    notes::written_and_read(rt, alloc)?.print(rt)?;
+    queue::passed_on(rt, alloc)?.print(rt)?;
+    attempts::passed_on(alloc)?.print(rt)
+}
+
+// Clients, the dataflow and their lobby.
+fn show_server<R: AllocGlobal + Print + Threads + Wait + Sync>(rt: &R) -> anyhow::Result<()> {
+    let alloc = rt.alloc();
+    let rise = Batch::of(&RISE)?;
+    clients::waited_for(rt, alloc)?.print(rt)?;
+    flow::in_one_hand(rt, alloc, &rise)?.print(rt)?;
+    gates::held_back(rt, alloc)?.print(rt)?;
+    lobbies::raised_once(rt, alloc)?.print(rt)
+}
+
+fn main(rt: HostRuntime) -> anyhow::Result<()> {
+    show_queue(&rt)?;
+    show_server(&rt)
+}
