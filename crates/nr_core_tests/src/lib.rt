@@ -2,4 +2,20 @@
 #![tactic(auto)]
 
 #[cfg(test)]
-mod schedules;
+mod held;
+#[cfg(test)]
+mod lines;
+#[cfg(test)]
+mod numbers;
+#[cfg(test)]
+mod refusals;
+#[cfg(test)]
+mod replacements;
+#[cfg(test)]
+mod row_bounds;
+#[cfg(test)]
+mod running;
+#[cfg(test)]
+mod sizes;
+#[cfg(test)]
+mod writes;

@@ -1,9 +1,12 @@
 //! Whole loads. What is asserted does not depend on how the threads' steps fall.
+ghost use Rattle.std.specs.Prelude.{◌<◌, ◌≤◌};
+
 use nr_load::{LoadFault, LoadReport, Plan, run_load};
 use nr_serve::{Gate, OpenGate};
+use std::process::Abort;
+use std::sync::Wait;
 use std::sync::atomic::{AtomicBool, AtomicU64, Ordering};
-use std::test::Fail;
-use std::thread;
+use std::thread::{self, Threads};
 
 const LOOKS: u32 = 1_000_000;
 
@@ -86,8 +89,28 @@ impl Gate for Meeting {
     }
 }
 
+/// The report of a load that comes to its end.
+fn reported<R: Threads + Wait + Sync + Abort + AllocGlobal, G: Gate + Sync>(
+    rt: &R,
+    plan: &Plan,
+    gate: &G,
+) -> LoadReport
+    requires readers { (0 < plan.now.readers) × (plan.now.readers ≤ 1024) }
+    requires keys { (0 < plan.now.keys) × (plan.now.keys ≤ 65536) }
+{
+    match run_load(rt, rt.alloc(), plan, gate) {
+        Ok(report) => report,
+        Err(fault) => panic!(rt; "the load ended: {fault}"),
+    }
+}
+
+/// How many gets were made and answered, and whether the report is in balance.
+fn told(report: &LoadReport) -> (u64, u64, bool) {
+    (report.gets, report.answered, report.balance())
+}
+
 #[test]
-fn two_readers_meet_in_one_get(rt: HostRuntime) -> Result<(), Fail> {
+fn two_readers_meet_in_one_get(rt: HostRuntime) {
     let meeting = Meeting::new();
     let plan = Plan {
         seed: 1,
@@ -95,7 +118,7 @@ fn two_readers_meet_in_one_get(rt: HostRuntime) -> Result<(), Fail> {
         keys: 1,
         gets: 1,
     };
-    let report = run_load(&rt, rt.alloc(), &plan, &meeting)?;
+    let report = reported(&rt, &plan, &meeting);
     let wanted = LoadReport {
         gets: 2,
         answered: 2,
@@ -103,13 +126,11 @@ fn two_readers_meet_in_one_get(rt: HostRuntime) -> Result<(), Fail> {
         fills: 1,
         asked: 0,
     };
-    assert_eq!(rt; report, wanted);
-    assert!(rt; meeting.are_answered(1));
-    Ok(())
+    assert_eq!(rt; (report, meeting.are_answered(1)), (wanted, true));
 }
 
 #[test]
-fn two_readers_meet_in_each_of_fifty_gets(rt: HostRuntime) -> Result<(), Fail> {
+fn two_readers_meet_in_each_of_fifty_gets(rt: HostRuntime) {
     let meeting = Meeting::new();
     let plan = Plan {
         seed: 3,
@@ -117,25 +138,22 @@ fn two_readers_meet_in_each_of_fifty_gets(rt: HostRuntime) -> Result<(), Fail> {
         keys: 8,
         gets: 50,
     };
-    let report = run_load(&rt, rt.alloc(), &plan, &meeting)?;
-    assert_eq!(rt; (report.gets, report.answered), (100, 100));
-    assert!(rt; report.balance());
-    assert!(rt; meeting.are_answered(50));
-    Ok(())
+    let report = reported(&rt, &plan, &meeting);
+    assert_eq!(rt;
+        (told(&report), meeting.are_answered(50)),
+        ((100, 100, true), true)
+    );
 }
 
 #[test]
-fn four_readers_share_eight_keys(rt: HostRuntime) -> Result<(), Fail> {
+fn four_readers_share_eight_keys(rt: HostRuntime) {
     let plan = Plan {
         seed: 7,
         readers: 4,
         keys: 8,
         gets: 100,
     };
-    let report = run_load(&rt, rt.alloc(), &plan, &OpenGate)?;
-    assert_eq!(rt; (report.gets, report.answered), (400, 400));
-    assert!(rt; report.balance());
-    Ok(())
+    assert_eq!(rt; told(&reported(&rt, &plan, &OpenGate)), (400, 400, true));
 }
 
 /// Lets the dataflow run before each answer.
@@ -155,35 +173,36 @@ impl Gate for Yielding {
 /// leave all eight filled. A load makes fewer where it ends before a key that was evicted is got once
 /// more, which not all of them do.
 #[test]
-fn ten_fills_of_eight_keys_have_two_evictions(rt: HostRuntime) -> Result<(), Fail> {
-    let mut has_all = false;
+fn ten_fills_of_eight_keys_have_two_evictions(rt: HostRuntime) {
     for seed in 0..100 {
-        let plan = Plan {
-            seed,
-            readers: 1,
-            keys: 8,
-            gets: 400,
-        };
-        let report = run_load(&rt, rt.alloc(), &plan, &Yielding)?;
-        assert!(rt; report.fills <= 10 && report.asked == 0);
-        if report.fills == 10 {
-            has_all = true;
-            break;
+        if fills_of(&rt, seed) == 10 {
+            return;
         }
     }
-    assert!(rt; has_all);
-    Ok(())
+    panic!(rt; "no load has both evictions")
+}
+
+/// The fills of a load of eight keys, at most ten.
+fn fills_of<R: Threads + Wait + Sync + Abort + AllocGlobal>(rt: &R, seed: u64) -> u64 {
+    let plan = Plan {
+        seed,
+        readers: 1,
+        keys: 8,
+        gets: 400,
+    };
+    let report = reported(rt, &plan, &Yielding);
+    assert!(rt; report.fills <= 10 && report.asked == 0);
+    report.fills
 }
 
 #[test]
-fn readers_that_make_no_gets(rt: HostRuntime) -> Result<(), Fail> {
+fn readers_that_make_no_gets(rt: HostRuntime) {
     let plan = Plan {
         seed: 1,
         readers: 1,
         keys: 1,
         gets: 0,
     };
-    let report = run_load(&rt, rt.alloc(), &plan, &OpenGate)?;
     let wanted = LoadReport {
         gets: 0,
         answered: 0,
@@ -191,13 +210,12 @@ fn readers_that_make_no_gets(rt: HostRuntime) -> Result<(), Fail> {
         fills: 0,
         asked: 0,
     };
-    assert_eq!(rt; report, wanted);
-    Ok(())
+    assert_eq!(rt; reported(&rt, &plan, &OpenGate), wanted);
 }
 
 /// As many readers as there may be, on one key. The system may refuse so many threads.
 #[test]
-fn a_thousand_readers_on_one_key(rt: HostRuntime) -> Result<(), Fail> {
+fn a_thousand_readers_on_one_key(rt: HostRuntime) {
     let plan = Plan {
         seed: 1,
         readers: 1024,
@@ -205,13 +223,9 @@ fn a_thousand_readers_on_one_key(rt: HostRuntime) -> Result<(), Fail> {
         gets: 2,
     };
     match run_load(&rt, rt.alloc(), &plan, &OpenGate) {
-        Ok(report) => {
-            assert_eq!(rt; (report.gets, report.answered), (2048, 2048));
-            assert!(rt; report.balance());
-        }
+        Ok(report) => assert_eq!(rt; told(&report), (2048, 2048, true)),
         Err(fault) => assert_eq!(rt; fault, LoadFault::Thread),
     }
-    Ok(())
 }
 
 /// Lets nobody pass.
@@ -227,7 +241,7 @@ impl Gate for ShutGate {
 }
 
 #[test]
-fn a_gate_that_never_opens_ends_the_load(rt: HostRuntime) -> Result<(), Fail> {
+fn a_gate_that_never_opens_ends_the_load(rt: HostRuntime) {
     let plan = Plan {
         seed: 1,
         readers: 2,
@@ -236,12 +250,11 @@ fn a_gate_that_never_opens_ends_the_load(rt: HostRuntime) -> Result<(), Fail> {
     };
     let ended = run_load(&rt, rt.alloc(), &plan, &ShutGate);
     assert_eq!(rt; ended, Err(LoadFault::Barred));
-    Ok(())
 }
 
 /// Whichever request for memory is refused, a load says so or is not hurt.
 #[test]
-fn refused_memory_ends_a_load(rt: HostRuntime) -> Result<(), Fail> {
+fn refused_memory_ends_a_load(rt: HostRuntime) {
     let plan = Plan {
         seed: 5,
         readers: 2,
@@ -249,17 +262,13 @@ fn refused_memory_ends_a_load(rt: HostRuntime) -> Result<(), Fail> {
         gets: 3,
     };
     match run_load(&rt, rt.alloc(), &plan, &OpenGate) {
-        Ok(report) => {
-            assert_eq!(rt; (report.gets, report.answered), (6, 6));
-            assert!(rt; report.balance());
-        }
-        Err(fault) => assert!(rt; fault == LoadFault::Memory || fault == LoadFault::Thread),
+        Ok(report) => assert_eq!(rt; told(&report), (6, 6, true)),
+        Err(fault) => assert!(rt; matches!(fault, LoadFault::Memory | LoadFault::Thread)),
     }
-    Ok(())
 }
 
 #[test]
-fn a_report_that_is_off(rt: HostRuntime) -> Result<(), Fail> {
+fn a_report_that_is_off(rt: HostRuntime) {
     let report = LoadReport {
         gets: 2,
         answered: 2,
@@ -267,14 +276,15 @@ fn a_report_that_is_off(rt: HostRuntime) -> Result<(), Fail> {
         fills: 2,
         asked: 1,
     };
-    assert!(rt; report.balance());
-    assert!(rt; !LoadReport { fills: 3, ..report }.balance());
+    let more = LoadReport { fills: 3, ..report };
     let over = LoadReport {
         sends: 0,
         fills: u64::MAX,
         asked: 1,
         ..report
     };
-    assert!(rt; !over.balance());
-    Ok(())
+    assert_eq!(rt;
+        (report.balance(), more.balance(), over.balance()),
+        (true, false, false)
+    );
 }

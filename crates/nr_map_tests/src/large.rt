@@ -2,10 +2,9 @@
 
 use crate::calls::{Told, minus, plus};
 use crate::worked::Worked;
-use nr_map::{Found, MAX_READERS, MAX_SLOTS, MOST_SLOTS, Shape, UpdateFault};
+use nr_map::{MAX_READERS, MAX_SLOTS, MOST_SLOTS, Shape, UpdateFault};
 use nr_model::{MAX_KEYS, MAX_ROWS, Row, RowSet};
 use std::process::Abort;
-use std::test::Fail;
 
 fn of_sizes(keys: u32, slots: u32, readers: u32, rows: u32) -> Shape {
     Shape {
@@ -25,7 +24,7 @@ fn row_of(key: u32) -> [(u64, u64); 1] {
 
 fn fills<R: Abort>(rt: &R, worked: &mut Worked, key: u32) {
     worked.asks(rt, key, Told::Send(key, 0));
-    worked.fills(rt, key, 0, &row_of(key), Ok(()));
+    worked.fills(rt, key, 0, &row_of(key));
 }
 
 // A thousand keys here and there. The factor is a prime number that divides no number of keys, so no
@@ -51,11 +50,10 @@ fn fills_and_finds_many<R: Abort>(rt: &R, worked: &mut Worked) {
 }
 
 #[test]
-fn keys_of_the_largest_map_are_found(rt: HostRuntime) -> Result<(), Fail> {
+fn keys_of_the_largest_map_are_found(rt: HostRuntime) {
     let shape = of_sizes(MOST_SLOTS, MOST_SLOTS, 1, 1);
-    let mut worked = Worked::open_large(rt.alloc(), &shape)?;
+    let mut worked = Worked::open_large(&rt, &shape);
     fills_and_finds_many(&rt, &mut worked);
-    Ok(())
 }
 
 /// The rows `first:0` on, as many as a set has room for.
@@ -71,22 +69,18 @@ fn numbered(first: u64) -> RowSet {
 
 // A key that has as many rows as it may have takes none more, and one for another.
 fn is_full<R: Abort>(rt: &R, worked: &mut Worked, key: u32) {
-    let mut rows = RowSet::new();
     worked.asks(rt, key, Told::Send(key, 0));
-    worked.fills_set(rt, key, 0, &numbered(1), Ok(()));
+    worked.fills_set(rt, key, 0, &numbered(1));
     worked.updates(rt, key, &[plus(0, 0)], Err(UpdateFault::TooMany));
-    assert_eq!(rt; worked.find(rt, key, &mut rows), Found::Rows);
-    assert_eq!(rt; rows.as_slice(), numbered(1).as_slice());
+    worked.finds_set(rt, key, &numbered(1));
     worked.updates(rt, key, &[plus(0, 0), minus(255, 0)], Ok(()));
-    assert_eq!(rt; worked.find(rt, key, &mut rows), Found::Rows);
-    assert_eq!(rt; rows.as_slice(), numbered(0).as_slice());
+    worked.finds_set(rt, key, &numbered(0));
 }
 
 #[test]
-fn keys_of_the_largest_map_of_scripts_are_found(rt: HostRuntime) -> Result<(), Fail> {
+fn keys_of_the_largest_map_of_scripts_are_found(rt: HostRuntime) {
     let shape = of_sizes(MAX_KEYS, MAX_SLOTS, MAX_READERS, MAX_ROWS as u32);
-    let mut worked = Worked::open_with(rt.alloc(), &shape)?;
+    let mut worked = Worked::open_with(&rt, &shape);
     fills_and_finds_many(&rt, &mut worked);
     is_full(&rt, &mut worked, 1);
-    Ok(())
 }

@@ -140,7 +140,7 @@ fn both_of_map<R: Threads + Wait + Sync>(
 
 #[test]
 fn a_note_goes_by_a_channel(rt: HostRuntime) -> Result<(), Fail> {
-    let mut worked = Worked::open(rt.alloc(), 1, 3, 1, 0)?;
+    let mut worked = Worked::open(&rt, 1, 3, 1, 0);
     worked.asks(&rt, 0, Told::Send(0, 0));
     let Worked {
         map,

@@ -7,7 +7,6 @@ use nr_map::{KeyKind, Reader, ReaderMap, Writer};
 use nr_model::Row;
 use std::process::Abort;
 use std::sync::atomic::{AtomicBool, Ordering};
-use std::test::Fail;
 use std::thread::{self, Threads, join};
 
 const TURNS: u32 = 1_000_000;
@@ -143,8 +142,10 @@ fn holds_beside<R: Abort + Threads + Sync>(rt: &R, worked: Worked, two: Reader) 
     let ((held, reader), ((updated, writer), (asked, two))) = all_three(
         rt, &map, &flags, reader, two, writer,
     );
-    assert_eq!(rt; held, Some(Row { a: 5, b: 6 }));
-    assert!(rt; updated && asked);
+    assert_eq!(rt;
+        (held, updated, asked),
+        (Some(Row { a: 5, b: 6 }), true, true)
+    );
     let worked = Worked {
         map,
         writer,
@@ -155,14 +156,13 @@ fn holds_beside<R: Abort + Threads + Sync>(rt: &R, worked: Worked, two: Reader) 
 
 // Then the writer gathers both readers, finds its update, and knows of the request.
 #[test]
-fn pinned_set_outlives_an_update(rt: HostRuntime) -> Result<(), Fail> {
-    let (mut worked, two) = Worked::open_two(rt.alloc(), 2, 5, 0)?;
+fn pinned_set_outlives_an_update(rt: HostRuntime) {
+    let (mut worked, two) = Worked::open_two(&rt, 2, 5, 0);
     worked.asks(&rt, 0, Told::Send(0, 0));
-    worked.fills(&rt, 0, 0, &[(5, 6)], Ok(()));
+    worked.fills(&rt, 0, 0, &[(5, 6)]);
     let (mut worked, mut two) = holds_beside(&rt, worked, two);
     worked.map.gather(&mut worked.writer, &mut worked.reader);
     worked.map.gather(&mut worked.writer, &mut two);
     worked.looks(&rt, 0, &[(7, 8)]);
     worked.stands(&rt, 1, KeyKind::Asked);
-    Ok(())
 }

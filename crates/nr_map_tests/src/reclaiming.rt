@@ -6,7 +6,6 @@ use crate::worked::Worked;
 use nr_map::{Reader, ReaderMap, Reaped, Reclaimed, Writer};
 use nr_model::RowSet;
 use std::process::Abort;
-use std::test::Fail;
 
 /// What a replacement of key 0 by one row gives out. `None` where it was refused.
 fn replace(map: &ReaderMap, writer: &mut Writer, a: u64, had: &mut RowSet) -> Option<Reclaimed>
@@ -36,97 +35,115 @@ fn fill(map: &ReaderMap, writer: &mut Writer, a: u64, had: &mut RowSet) -> Optio
         .ok()
 }
 
-/// What three replacements give out while a reader holds the first set, and then a fourth after it let
-/// go.
-fn replace_beside_a_pin<R: Abort>(rt: &R, map: &ReaderMap, writer: &mut Writer, reader: Reader)
+/// What a call gave out, and the set that came with it.
+fn gave<R: Abort>(
+    rt: &R,
+    given: Option<Reclaimed>,
+    had: &RowSet,
+    wanted: Reclaimed,
+    pairs: &[(u64, u64)],
+) {
+    assert_eq!(rt; given, Some(wanted));
+    assert!(rt; pairs_are(had, pairs));
+}
+
+/// A replacement of key 0 gives that out.
+fn replaces<R: Abort>(
+    rt: &R,
+    map: &ReaderMap,
+    writer: &mut Writer,
+    a: u64,
+    wanted: Reclaimed,
+    pairs: &[(u64, u64)],
+)
+    requires own { writer.old.table ≡ map.now }
+    requires key { 0 < map.now.shape.keys }
+    ensures own { writer.new.table ≡ map.now }
+{
+    let mut had = RowSet::new();
+    let given = replace(map, writer, a, &mut had);
+    gave(rt, given, &had, wanted, pairs);
+}
+
+/// A reap gives that out.
+fn reaps<R: Abort>(
+    rt: &R,
+    map: &ReaderMap,
+    writer: &mut Writer,
+    wanted: Reaped,
+    pairs: &[(u64, u64)],
+)
+    requires own { writer.old.table ≡ map.now }
+    ensures own { writer.new.table ≡ map.now }
+{
+    let mut had = RowSet::new();
+    assert_eq!(rt; map.reap(writer, &mut had), wanted);
+    assert!(rt; pairs_are(&had, pairs));
+}
+
+/// A map of key 0, which is filled by two rows.
+fn filled<R: Abort + AllocGlobal>(rt: &R) -> Worked
+    ensures { result.shape.keys ≡ 1 }
+{
+    let mut worked = Worked::open(rt, 1, 3, 1, 0);
+    let mut had = RowSet::new();
+    worked.asks(rt, 0, Told::Send(0, 0));
+    let given = fill(&worked.map, &mut worked.writer, 1, &mut had);
+    gave(rt, given, &had, Reclaimed::Nothing, &[]);
+    worked
+}
+
+/// Three replacements while a reader holds the first set, and then a fourth after it let go.
+fn replaces_beside_a_pin<R: Abort>(rt: &R, map: &ReaderMap, writer: &mut Writer, reader: Reader)
     requires own { (writer.old.table ≡ map.now) × (reader.table ≡ map.now) }
     requires key { 0 < map.now.shape.keys }
 {
-    let mut had = RowSet::new();
     let Ok(pin) = map.pin(reader, 0) else {
-        return;
+        panic!(rt; "key 0 is a hole")
     };
-    let first = replace(map, writer, 2, &mut had);
-    let second = replace(map, writer, 3, &mut had);
-    let mut beside = RowSet::new();
-    let third = replace(map, writer, 4, &mut beside);
-    let _reader = pin.release(map);
-    let mut last = RowSet::new();
-    let fourth = replace(map, writer, 5, &mut last);
-    assert_eq!(rt;
-        (first, second),
-        (Some(Reclaimed::Nothing), Some(Reclaimed::Nothing))
-    );
-    assert!(rt; pairs_are(&had, &[]));
-    assert_eq!(rt;
-        (third, fourth),
-        (Some(Reclaimed::Set), Some(Reclaimed::Set))
-    );
-    assert!(rt; pairs_are(&beside, &[(2, 2)]));
-    assert!(rt; pairs_are(&last, &[(1, 1), (1, 1)]));
+    replaces(rt, map, writer, 2, Reclaimed::Nothing, &[]);
+    replaces(rt, map, writer, 3, Reclaimed::Nothing, &[]);
+    replaces(rt, map, writer, 4, Reclaimed::Set, &[(2, 2)]);
+    pin.release(map);
+    replaces(rt, map, writer, 5, Reclaimed::Set, &[(1, 1), (1, 1)]);
 }
 
 #[test]
-fn a_held_set_comes_back_after_its_reader_let_go(rt: HostRuntime) -> Result<(), Fail> {
-    let mut worked = Worked::open(rt.alloc(), 1, 3, 1, 0)?;
-    let mut had = RowSet::new();
-    worked.asks(&rt, 0, Told::Send(0, 0));
-    assert_eq!(rt;
-        fill(&worked.map, &mut worked.writer, 1, &mut had),
-        Some(Reclaimed::Nothing)
-    );
+fn a_held_set_comes_back_after_its_reader_let_go(rt: HostRuntime) {
     let Worked {
         map,
         mut writer,
         reader,
-    } = worked;
-    replace_beside_a_pin(&rt, &map, &mut writer, reader);
-    Ok(())
+    } = filled(&rt);
+    replaces_beside_a_pin(&rt, &map, &mut writer, reader);
 }
 
-/// What reaps give out while a reader holds the first set, and after it let go; then a replacement, which
-/// takes the slot of the first set.
-fn reap_beside_a_pin<R: Abort>(rt: &R, map: &ReaderMap, writer: &mut Writer, reader: Reader)
+/// Reaps while a reader holds the first set, and after it let go; then a replacement, which takes the
+/// slot of the first set.
+fn reaps_beside_a_pin<R: Abort>(rt: &R, map: &ReaderMap, writer: &mut Writer, reader: Reader)
     requires own { (writer.old.table ≡ map.now) × (reader.table ≡ map.now) }
     requires key { 0 < map.now.shape.keys }
 {
-    let mut had = RowSet::new();
     let Ok(pin) = map.pin(reader, 0) else {
-        return;
+        panic!(rt; "key 0 is a hole")
     };
-    let none = map.reap(writer, &mut had);
-    let _second = replace(map, writer, 2, &mut had);
-    let held = map.reap(writer, &mut had);
-    let _third = replace(map, writer, 3, &mut had);
-    let mut beside = RowSet::new();
-    let newer = map.reap(writer, &mut beside);
-    let _reader = pin.release(map);
-    let mut last = RowSet::new();
-    let older = map.reap(writer, &mut last);
-    let again = map.reap(writer, &mut had);
-    let taken = replace(map, writer, 4, &mut had);
-    assert_eq!(rt;
-        (none, held, newer),
-        (Reaped::Nothing, Reaped::Held, Reaped::Set)
-    );
-    assert!(rt; pairs_are(&beside, &[(2, 2)]));
-    assert_eq!(rt; (older, again), (Reaped::Set, Reaped::Nothing));
-    assert!(rt; pairs_are(&last, &[(1, 1), (1, 1)]));
-    assert_eq!(rt; taken, Some(Reclaimed::Nothing));
-    assert!(rt; pairs_are(&had, &[]));
+    reaps(rt, map, writer, Reaped::Nothing, &[]);
+    replaces(rt, map, writer, 2, Reclaimed::Nothing, &[]);
+    reaps(rt, map, writer, Reaped::Held, &[]);
+    replaces(rt, map, writer, 3, Reclaimed::Nothing, &[]);
+    reaps(rt, map, writer, Reaped::Set, &[(2, 2)]);
+    pin.release(map);
+    reaps(rt, map, writer, Reaped::Set, &[(1, 1), (1, 1)]);
+    reaps(rt, map, writer, Reaped::Nothing, &[]);
+    replaces(rt, map, writer, 4, Reclaimed::Nothing, &[]);
 }
 
 #[test]
-fn a_reap_gives_out_a_set_before_its_slot_is_taken(rt: HostRuntime) -> Result<(), Fail> {
-    let mut worked = Worked::open(rt.alloc(), 1, 3, 1, 0)?;
-    let mut had = RowSet::new();
-    worked.asks(&rt, 0, Told::Send(0, 0));
-    let _filled = fill(&worked.map, &mut worked.writer, 1, &mut had);
+fn a_reap_gives_out_a_set_before_its_slot_is_taken(rt: HostRuntime) {
     let Worked {
         map,
         mut writer,
         reader,
-    } = worked;
-    reap_beside_a_pin(&rt, &map, &mut writer, reader);
-    Ok(())
+    } = filled(&rt);
+    reaps_beside_a_pin(&rt, &map, &mut writer, reader);
 }

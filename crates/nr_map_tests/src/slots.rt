@@ -1,12 +1,11 @@
 //! Readers hold sets and let them go beside a writer that updates. What is asserted does not depend on how the
 //! threads' steps fall.
-ghost use Rattle.std.specs.Prelude.{◌≡◌, ◌<◌, IfOk};
+ghost use Rattle.std.specs.Prelude.{◌≡◌, ◌<◌};
 
 use crate::calls::{Told, UPDATED, minus, plus, update};
 use crate::worked::Worked;
 use nr_map::{Reader, ReaderMap, Writer};
-use std::alloc::Global;
-use std::test::Fail;
+use std::process::Abort;
 use std::thread::{Threads, join};
 
 const TURNS: u32 = 1_000;
@@ -113,13 +112,15 @@ fn update_beside<R: Threads + Sync>(
 }
 
 // A map of two keys with three readers.
-fn with_three(alloc: Global) -> Result<(Worked, Reader, Reader), Fail>
-    ensures keys { IfOk result (λ opened. opened.0.shape.keys ≡ 2) }
-    ensures readers { IfOk result (λ opened. (opened.1.table ≡ opened.0) × (opened.2.table ≡ opened.0)) }
+fn with_three<R: Abort + AllocGlobal>(rt: &R) -> (Worked, Reader, Reader)
+    ensures keys { result.0.shape.keys ≡ 2 }
+    ensures readers { (result.1.table ≡ result.0) × (result.2.table ≡ result.0) }
 {
-    let (map, writer, mut readers) = ReaderMap::open(alloc, 2, 6, 3, u64::MAX)?;
+    let Ok((map, writer, mut readers)) = ReaderMap::open(rt.alloc(), 2, 6, 3, u64::MAX) else {
+        panic!(rt; "the map does not open")
+    };
     match (readers.pop(), readers.pop(), readers.pop()) {
-        (Some(three), Some(two), Some(reader)) => Ok((
+        (Some(three), Some(two), Some(reader)) => (
             Worked {
                 map,
                 writer,
@@ -127,23 +128,23 @@ fn with_three(alloc: Global) -> Result<(Worked, Reader, Reader), Fail>
             },
             two,
             three,
-        )),
-        _ => Err(Fail::from("too few readers")),
+        ),
+        _ => panic!(rt; "too few readers"),
     }
 }
 
 #[test]
-fn updates_beside_pins_are_all_done(rt: HostRuntime) -> Result<(), Fail> {
-    let (mut worked, two, three) = with_three(rt.alloc())?;
+fn updates_beside_pins_are_all_done(rt: HostRuntime) {
+    let (mut worked, two, three) = with_three(&rt);
     worked.asks(&rt, 0, Told::Send(0, 0));
-    worked.fills(&rt, 0, 0, &[], Ok(()));
+    worked.fills(&rt, 0, 0, &[]);
     let Worked {
         map,
         writer,
         reader: one,
     } = worked;
-    let (updates, pins) = update_beside(&rt, &map, writer, one, two, three);
-    assert_eq!(rt; updates, TURNS);
-    assert_eq!(rt; pins, (TURNS, (TURNS, TURNS)));
-    Ok(())
+    assert_eq!(rt;
+        update_beside(&rt, &map, writer, one, two, three),
+        (TURNS, (TURNS, (TURNS, TURNS)))
+    );
 }

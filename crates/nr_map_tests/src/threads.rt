@@ -6,7 +6,6 @@ use crate::worked::Worked;
 use nr_map::{Evict, Found, Reader, ReaderMap, Writer};
 use nr_model::RowSet;
 use std::process::Abort;
-use std::test::Fail;
 use std::thread::{Threads, join};
 
 fn ask_once(map: &ReaderMap, mut reader: Reader) -> (Told, Reader)
@@ -40,37 +39,38 @@ fn both_ask<R: Threads + Sync>(
     )
 }
 
+fn is_one_sent(one: Told, other: Told) -> bool {
+    matches!(
+        (one, other),
+        (Told::Send(0, 0), Told::Waiting) | (Told::Waiting, Told::Send(0, 0))
+    )
+}
+
 #[test]
-fn one_of_two_requests_is_sent(rt: HostRuntime) -> Result<(), Fail> {
-    let (worked, two) = Worked::open_two(rt.alloc(), 1, 4, 0)?;
+fn one_of_two_requests_is_sent(rt: HostRuntime) {
+    let (worked, two) = Worked::open_two(&rt, 1, 4, 0);
     let Worked {
         map,
         writer,
         reader: one,
     } = worked;
     let ((first, reader), (second, _two)) = both_ask(&rt, &map, one, two);
-    assert!(rt;
-        (first, second) == (Told::Send(0, 0), Told::Waiting)
-            || (first, second) == (Told::Waiting, Told::Send(0, 0))
-    );
+    assert!(rt; is_one_sent(first, second));
     let mut worked = Worked {
         map,
         writer,
         reader,
     };
     is_filled_and_evicted(&rt, &mut worked);
-    Ok(())
 }
 
 // Key 0 is asked for.
 fn is_filled_and_evicted<R: Abort>(rt: &R, worked: &mut Worked) {
-    let mut rows = RowSet::new();
-    worked.fills(rt, 0, 0, &[(5, 6)], Ok(()));
+    worked.fills(rt, 0, 0, &[(5, 6)]);
     worked.looks(rt, 0, &[(5, 6)]);
     worked.finds(rt, 0, &[(5, 6)]);
     worked.evicts(rt, 0, Evict::Evicted);
-    assert_eq!(rt; worked.look(rt, 0, &mut rows), Found::Hole);
-    assert_eq!(rt; worked.find(rt, 0, &mut rows), Found::Hole);
+    worked.misses(rt, 0);
 }
 
 const TURNS: u64 = 20_000;
@@ -141,15 +141,14 @@ fn both_at_once<R: Threads + Sync>(
 }
 
 #[test]
-fn sets_are_found_whole(rt: HostRuntime) -> Result<(), Fail> {
-    let mut worked = Worked::open(rt.alloc(), 1, 3, 1, u64::MAX)?;
+fn sets_are_found_whole(rt: HostRuntime) {
+    let mut worked = Worked::open(&rt, 1, 3, 1, u64::MAX);
     worked.asks(&rt, 0, Told::Send(0, 0));
-    worked.fills(&rt, 0, 0, &marked(0), Ok(()));
+    worked.fills(&rt, 0, 0, &marked(0));
     let Worked {
         map,
         writer,
         reader,
     } = worked;
     assert_eq!(rt; both_at_once(&rt, &map, writer, reader), (true, true));
-    Ok(())
 }

@@ -1,14 +1,12 @@
 //! A map with its tokens, whose calls tests make one after another. Each method makes one call and
 //! asserts its answer, so that a test is a list of calls.
-ghost use Rattle.std.specs.Prelude.{◌≡◌, IfOk, IfSome};
+ghost use Rattle.std.specs.Prelude.{◌≡◌, ◌<◌, IfSome};
 
 use crate::calls::{Told, ask, evict, fill, find, look, pairs_are, rows_of, state, update};
-use nr_map::{Evict, FillFault, Found, KeyKind, Reader, ReaderMap, Shape, UpdateFault, Writer};
+use nr_map::{Evict, Found, KeyKind, Reader, ReaderMap, Shape, UpdateFault, Writer};
 use nr_model::{Delta, RowSet};
-use std::alloc::Global;
 use std::marker::Model;
 use std::process::Abort;
-use std::test::Fail;
 
 /// A map, its writer and one of its readers.
 #[derive(Drop)]
@@ -29,100 +27,138 @@ impl Model for Worked {
     ghost invariant = { λ worked. (worked.writer.table ≡ worked.map) × (worked.reader.table ≡ worked.map) };
 }
 
+// Goes on with a key that the map has.
+fn is_key<R: Abort>(rt: &R, map: &ReaderMap, key: u32)
+    ensures { key < map.now.shape.keys }
+{
+    assert!(rt; key < map.keys());
+}
+
+fn rows_are<R: Abort>(rt: &R, rows: &RowSet, pairs: &[(u64, u64)]) {
+    assert!(rt; pairs_are(rows, pairs));
+}
+
 impl Worked {
     /// A new map of those sizes, with its last reader.
-    pub(crate) fn open(
-        alloc: Global,
+    pub(crate) fn open<R: Abort + AllocGlobal>(
+        rt: &R,
         keys: u32,
         slots: u32,
         readers: u32,
         first_count: u64,
-    ) -> Result<Worked, Fail>
-        ensures { IfOk result (λ worked. worked.shape.keys ≡ keys) }
+    ) -> Worked
+        ensures { result.shape.keys ≡ keys }
     {
-        let (map, writer, mut readers) = ReaderMap::open(alloc, keys, slots, readers, first_count)?;
-        Worked::of(map, writer, readers.pop())
+        match ReaderMap::open(rt.alloc(), keys, slots, readers, first_count) {
+            Ok((map, writer, mut readers)) => Worked::of(rt, map, writer, readers.pop()),
+            Err(_) => panic!(rt; "the map does not open"),
+        }
     }
 
     /// A new map of that shape, with its last reader.
-    pub(crate) fn open_with(alloc: Global, shape: &Shape) -> Result<Worked, Fail> {
-        let (map, writer, mut readers) = ReaderMap::open_with(alloc, shape)?;
-        Worked::of(map, writer, readers.pop())
+    pub(crate) fn open_with<R: Abort + AllocGlobal>(rt: &R, shape: &Shape) -> Worked {
+        match ReaderMap::open_with(rt.alloc(), shape) {
+            Ok((map, writer, mut readers)) => Worked::of(rt, map, writer, readers.pop()),
+            Err(_) => panic!(rt; "the map does not open"),
+        }
     }
 
     /// A new map of that shape, which may be large, with its last reader.
-    pub(crate) fn open_large(alloc: Global, shape: &Shape) -> Result<Worked, Fail> {
-        let (map, writer, mut readers) = ReaderMap::open_large(alloc, shape)?;
-        Worked::of(map, writer, readers.pop())
+    pub(crate) fn open_large<R: Abort + AllocGlobal>(rt: &R, shape: &Shape) -> Worked {
+        match ReaderMap::open_large(rt.alloc(), shape) {
+            Ok((map, writer, mut readers)) => Worked::of(rt, map, writer, readers.pop()),
+            Err(_) => panic!(rt; "the map does not open"),
+        }
     }
 
     /// A new map of those sizes and two readers, with its first reader, and the second beside it.
-    pub(crate) fn open_two(
-        alloc: Global,
+    pub(crate) fn open_two<R: Abort + AllocGlobal>(
+        rt: &R,
         keys: u32,
         slots: u32,
         first_count: u64,
-    ) -> Result<(Worked, Reader), Fail>
-        ensures { IfOk result (λ opened. (opened.0.shape.keys ≡ keys) × (opened.1.table ≡ opened.0)) }
+    ) -> (Worked, Reader)
+        ensures { (result.0.shape.keys ≡ keys) × (result.1.table ≡ result.0) }
     {
-        let (map, writer, mut readers) = ReaderMap::open(alloc, keys, slots, 2, first_count)?;
+        let Ok((map, writer, mut readers)) = ReaderMap::open(
+            rt.alloc(),
+            keys,
+            slots,
+            2,
+            first_count,
+        ) else {
+            panic!(rt; "the map does not open")
+        };
         match (readers.pop(), readers.pop()) {
-            (Some(second), Some(reader)) => Ok((
+            (Some(second), Some(reader)) => (
                 Worked {
                     map,
                     writer,
                     reader,
                 },
                 second,
-            )),
-            _ => Err(Fail::from("too few readers")),
+            ),
+            _ => panic!(rt; "too few readers"),
         }
     }
 
-    fn of(map: ReaderMap, writer: Writer, reader: Option<Reader>) -> Result<Worked, Fail>
+    fn of<R: Abort>(rt: &R, map: ReaderMap, writer: Writer, reader: Option<Reader>) -> Worked
         requires writer { writer.table ≡ map }
         requires reader { IfSome reader (λ reader. reader.table ≡ map) }
-        ensures { IfOk result (λ worked. worked ≡ map) }
+        ensures { result ≡ map }
     {
         match reader {
-            Some(reader) => Ok(Worked {
+            Some(reader) => Worked {
                 map,
                 writer,
                 reader,
-            }),
-            None => Err(Fail::from("no reader")),
+            },
+            None => panic!(rt; "no reader"),
         }
     }
 
     pub(crate) fn asks<R: Abort>(&mut self, rt: &R, key: u32, told: Told)
         ensures { self.new ≡ self.old }
     {
-        assert!(rt; key < self.map.keys());
+        is_key(rt, &self.map, key);
         assert_eq!(rt; ask(&self.map, &mut self.reader, key), told);
     }
 
     /// Finds a key, and writes its rows into the set.
-    pub(crate) fn find<R: Abort>(&mut self, rt: &R, key: u32, rows: &mut RowSet) -> Found
+    fn find<R: Abort>(&mut self, rt: &R, key: u32, rows: &mut RowSet) -> Found
         ensures { self.new ≡ self.old }
     {
-        assert!(rt; key < self.map.keys());
+        is_key(rt, &self.map, key);
         find(&self.map, &mut self.reader, key, rows)
+    }
+
+    /// Looks a key up, and writes its rows into the set.
+    fn look<R: Abort>(&mut self, rt: &R, key: u32, rows: &mut RowSet) -> Found
+        ensures { self.new ≡ self.old }
+    {
+        is_key(rt, &self.map, key);
+        look(&self.map, &mut self.writer, key, rows)
+    }
+
+    /// What a find of the key finds.
+    fn found<R: Abort>(&mut self, rt: &R, key: u32) -> RowSet
+        ensures { self.new ≡ self.old }
+    {
+        let mut rows = RowSet::new();
+        assert_eq!(rt; self.find(rt, key, &mut rows), Found::Rows);
+        rows
     }
 
     pub(crate) fn finds<R: Abort>(&mut self, rt: &R, key: u32, pairs: &[(u64, u64)])
         ensures { self.new ≡ self.old }
     {
-        let mut rows = RowSet::new();
-        assert_eq!(rt; self.find(rt, key, &mut rows), Found::Rows);
-        assert!(rt; pairs_are(&rows, pairs));
+        rows_are(rt, &self.found(rt, key), pairs);
     }
 
-    /// Looks a key up, and writes its rows into the set.
-    pub(crate) fn look<R: Abort>(&mut self, rt: &R, key: u32, rows: &mut RowSet) -> Found
+    pub(crate) fn finds_set<R: Abort>(&mut self, rt: &R, key: u32, rows: &RowSet)
         ensures { self.new ≡ self.old }
     {
-        assert!(rt; key < self.map.keys());
-        look(&self.map, &mut self.writer, key, rows)
+        assert_eq!(rt; self.found(rt, key).as_slice(), rows.as_slice());
     }
 
     pub(crate) fn looks<R: Abort>(&mut self, rt: &R, key: u32, pairs: &[(u64, u64)])
@@ -130,35 +166,31 @@ impl Worked {
     {
         let mut rows = RowSet::new();
         assert_eq!(rt; self.look(rt, key, &mut rows), Found::Rows);
-        assert!(rt; pairs_are(&rows, pairs));
+        rows_are(rt, &rows, pairs);
     }
 
-    pub(crate) fn fills_set<R: Abort>(
-        &mut self,
-        rt: &R,
-        key: u32,
-        number: u64,
-        rows: &RowSet,
-        answer: Result<(), FillFault>,
-    )
+    /// A look by the writer and a find by the reader come to a hole.
+    pub(crate) fn misses<R: Abort>(&mut self, rt: &R, key: u32)
         ensures { self.new ≡ self.old }
     {
-        assert!(rt; key < self.map.keys());
+        let mut rows = RowSet::new();
+        let looked = self.look(rt, key, &mut rows);
+        let found = self.find(rt, key, &mut rows);
+        assert_eq!(rt; (looked, found), (Found::Hole, Found::Hole));
+    }
+
+    pub(crate) fn fills_set<R: Abort>(&mut self, rt: &R, key: u32, number: u64, rows: &RowSet)
+        ensures { self.new ≡ self.old }
+    {
+        is_key(rt, &self.map, key);
         let filled = fill(&self.map, &mut self.writer, key, number, rows);
-        assert_eq!(rt; filled, Some(answer));
+        assert_eq!(rt; filled, Some(Ok(())));
     }
 
-    pub(crate) fn fills<R: Abort>(
-        &mut self,
-        rt: &R,
-        key: u32,
-        number: u64,
-        pairs: &[(u64, u64)],
-        answer: Result<(), FillFault>,
-    )
+    pub(crate) fn fills<R: Abort>(&mut self, rt: &R, key: u32, number: u64, pairs: &[(u64, u64)])
         ensures { self.new ≡ self.old }
     {
-        self.fills_set(rt, key, number, &rows_of(pairs), answer);
+        self.fills_set(rt, key, number, &rows_of(pairs));
     }
 
     pub(crate) fn updates<R: Abort>(
@@ -170,7 +202,7 @@ impl Worked {
     )
         ensures { self.new ≡ self.old }
     {
-        assert!(rt; key < self.map.keys());
+        is_key(rt, &self.map, key);
         let updated = update(&self.map, &mut self.writer, key, deltas);
         assert_eq!(rt; updated, Some(answer));
     }
@@ -178,14 +210,14 @@ impl Worked {
     pub(crate) fn evicts<R: Abort>(&mut self, rt: &R, key: u32, answer: Evict)
         ensures { self.new ≡ self.old }
     {
-        assert!(rt; key < self.map.keys());
+        is_key(rt, &self.map, key);
         assert_eq!(rt; evict(&self.map, &mut self.writer, key), answer);
     }
 
     pub(crate) fn stands<R: Abort>(&mut self, rt: &R, key: u32, kind: KeyKind)
         ensures { self.new ≡ self.old }
     {
-        assert!(rt; key < self.map.keys());
+        is_key(rt, &self.map, key);
         assert_eq!(rt; state(&self.map, &mut self.writer, key), kind);
     }
 }

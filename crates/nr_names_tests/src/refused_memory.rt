@@ -4,87 +4,130 @@ ghost use Rattle.std.specs.Prelude.{◌≡◌, ◌<◌, ◌≤◌};
 ghost use Rattle.nr_names.specs.declared.table.TheConstants.{MAX_KEYS};
 
 use nr_names::{Keys, NameFault, NameTable, Names};
-use std::alloc::Global;
 use std::marker::Brand;
 use std::process::Abort;
 use std::sync::Wait;
-use std::test::Fail;
 use std::thread::{Threads, join};
 
-fn opened(alloc: Global) -> Result<NameTable, NameFault> {
-    match NameTable::open(alloc, 2) {
-        Err(NameFault::Memory) => NameTable::open(alloc, 2),
-        opened => opened,
-    }
+// What a name was answered: its number.
+type Reply = Result<u32, NameFault>;
+
+// Whether a call said what it was to say.
+fn says(rt: &impl Abort, told: Result<(), NameFault>, wanted: Result<(), NameFault>) {
+    assert_eq!(rt; told, wanted);
 }
 
-// Interns a name that is new. A refusal gives its number to no name.
-fn intern_new(rt: &(impl Abort + AllocGlobal), table: &mut NameTable, name: &str, number: u32) {
-    let mut reply = table.intern(name);
-    if reply == Err(NameFault::Memory) {
-        let mut text = String::new(rt.alloc());
-        assert_eq!(rt; table.name(number, &mut text), Err(NameFault::NoName));
-        reply = table.intern(name);
+fn reads(rt: &impl Abort, text: &str, wanted: &str) {
+    assert_eq!(rt; text, wanted);
+}
+
+fn opened(rt: &(impl Abort + AllocGlobal)) -> NameTable {
+    let opened = match NameTable::open(rt.alloc(), 2) {
+        Err(NameFault::Memory) => NameTable::open(rt.alloc(), 2),
+        opened => opened,
+    };
+    opened.expect(rt, "a table opens where one request for memory is refused")
+}
+
+// A refusal gives the number to no name.
+fn names_nothing(rt: &(impl Abort + AllocGlobal), table: &NameTable, number: u32) {
+    let mut text = String::new(rt.alloc());
+    says(rt, table.name(number, &mut text), Err(NameFault::NoName));
+}
+
+// Interns a name that is new.
+fn intern_new(
+    rt: &(impl Abort + AllocGlobal),
+    table: &mut NameTable,
+    name: &str,
+    number: u32,
+) -> Reply {
+    let reply = table.intern(name);
+    if reply != Err(NameFault::Memory) {
+        return reply;
     }
-    assert_eq!(rt; reply, Ok(number));
+    names_nothing(rt, table, number);
+    table.intern(name)
 }
 
 // Reads a name over a text. A refusal leaves the text as it was.
 fn read_over(rt: &impl Abort, table: &NameTable, number: u32, text: &mut String, before: &str) {
     let mut reply = table.name(number, text);
     if reply == Err(NameFault::Memory) {
-        assert_eq!(rt; text.as_str(), before);
+        reads(rt, text, before);
         reply = table.name(number, text);
     }
-    assert_eq!(rt; reply, Ok(()));
+    says(rt, reply, Ok(()));
+}
+
+// Reads the two names of a table, one over the other.
+fn reads_both(rt: &impl Abort, table: &NameTable, text: &mut String, first: &str, second: &str) {
+    read_over(rt, table, 0, text, "");
+    reads(rt, text, first);
+    read_over(rt, table, 1, text, first);
+    reads(rt, text, second);
+}
+
+// Number 2 names nothing, which leaves the text as it was.
+fn stays(rt: &impl Abort, table: &NameTable, text: &mut String, before: &str) {
+    says(rt, table.name(2, text), Err(NameFault::NoName));
+    reads(rt, text, before);
 }
 
 #[test]
-fn numbers_come_in_order(rt: HostRuntime) -> Result<(), Fail> {
-    let mut table = opened(rt.alloc())?;
+fn numbers_come_in_order(rt: HostRuntime) {
+    let mut table = opened(&rt);
+    let replies = [
+        intern_new(&rt, &mut table, "a", 0),
+        table.intern(""),
+        intern_new(&rt, &mut table, "b", 1),
+        table.intern("a"),
+        table.intern("c"),
+    ];
+    assert_eq!(rt;
+        replies,
+        [
+            Ok(0),
+            Err(NameFault::Empty),
+            Ok(1),
+            Ok(0),
+            Err(NameFault::Full)
+        ]
+    );
     let mut text = String::new(rt.alloc());
-    intern_new(&rt, &mut table, "a", 0);
-    assert_eq!(rt; table.intern(""), Err(NameFault::Empty));
-    intern_new(&rt, &mut table, "b", 1);
-    assert_eq!(rt; table.intern("a"), Ok(0));
-    assert_eq!(rt; table.intern("c"), Err(NameFault::Full));
-    read_over(&rt, &table, 1, &mut text, "");
-    assert_eq!(rt; text.as_str(), "b");
-    assert_eq!(rt; table.name(2, &mut text), Err(NameFault::NoName));
-    assert_eq!(rt; text.as_str(), "b");
-    Ok(())
+    reads_both(&rt, &table, &mut text, "a", "b");
+    stays(&rt, &table, &mut text, "b");
+}
+
+fn text_of<'a>(rt: &impl Abort, bytes: &'a [u8]) -> &'a str {
+    std::str::from_utf8(bytes).expect(rt, "bytes of ASCII")
 }
 
 #[test]
-fn names_have_at_most_255_bytes(rt: HostRuntime) -> Result<(), Fail> {
-    let mut table = opened(rt.alloc())?;
-    let mut text = String::new(rt.alloc());
+fn names_have_at_most_255_bytes(rt: HostRuntime) {
     let bytes = [b'x'; 256];
-    let longest = std::str::from_utf8(&bytes[..255])?;
-    let longer = std::str::from_utf8(&bytes)?;
-    assert_eq!(rt; table.intern(longer), Err(NameFault::TooLong));
-    intern_new(&rt, &mut table, "a", 0);
-    intern_new(&rt, &mut table, longest, 1);
-    read_over(&rt, &table, 0, &mut text, "");
-    read_over(&rt, &table, 1, &mut text, "a");
-    assert_eq!(rt; text.as_str(), longest);
-    Ok(())
+    let longest = text_of(&rt, &bytes[..255]);
+    let mut table = opened(&rt);
+    let replies = [
+        table.intern(text_of(&rt, &bytes)),
+        intern_new(&rt, &mut table, "a", 0),
+        intern_new(&rt, &mut table, longest, 1),
+    ];
+    assert_eq!(rt; replies, [Err(NameFault::TooLong), Ok(0), Ok(1)]);
+    reads_both(&rt, &table, &mut String::new(rt.alloc()), "a", longest);
 }
 
-fn opened_shared<K: Keys>(alloc: Global, keys: u32) -> Result<Names<K>, NameFault>
+fn opened_shared<K: Keys>(rt: &(impl Abort + AllocGlobal), keys: u32) -> Names<K>
     requires { (0 < keys) × (keys ≤ MAX_KEYS) × (keys ≡ K.keys) }
 {
-    match Names::open(alloc, keys) {
-        Err(NameFault::Memory) => Names::open(alloc, keys),
+    let opened = match Names::open(rt.alloc(), keys) {
+        Err(NameFault::Memory) => Names::open(rt.alloc(), keys),
         opened => opened,
-    }
+    };
+    opened.expect(rt, "a table opens where one request for memory is refused")
 }
 
-fn interned_shared<K: Keys>(
-    rt: &impl Wait,
-    names: &Names<K>,
-    name: &str,
-) -> Result<u32, NameFault> {
+fn interned_shared<K: Keys>(rt: &impl Wait, names: &Names<K>, name: &str) -> Reply {
     match names.intern(rt, name) {
         Err(NameFault::Memory) => names.intern(rt, name),
         reply => reply,
@@ -101,93 +144,166 @@ fn read_shared_over<K: Keys>(
 ) {
     let mut reply = names.name(rt, number, text);
     if reply == Err(NameFault::Memory) {
-        assert_eq!(rt; text.as_str(), before);
+        reads(rt, text, before);
         reply = names.name(rt, number, text);
     }
-    assert_eq!(rt; reply, Ok(()));
+    says(rt, reply, Ok(()));
 }
 
-fn gives_two_numbers<K: Keys, R: Threads + Wait + Abort + AllocGlobal + Sync>(
-    rt: &R,
-) -> Result<(), Fail>
+// Reads the two names of a table, one over the other.
+fn reads_both_shared<K: Keys>(rt: &(impl Wait + Abort), names: &Names<K>, text: &mut String) {
+    read_shared_over(rt, names, 0, text, "");
+    reads(rt, text, "a");
+    read_shared_over(rt, names, 1, text, "a");
+    reads(rt, text, "b");
+}
+
+// Number 2 names nothing, which leaves the text as it was.
+fn stays_shared<K: Keys>(rt: &(impl Wait + Abort), names: &Names<K>, text: &mut String) {
+    says(rt, names.name(rt, 2, text), Err(NameFault::NoName));
+    reads(rt, text, "b");
+}
+
+// The number is no name's yet.
+fn names_nothing_shared<K: Keys>(
+    rt: &(impl Wait + Abort + AllocGlobal),
+    names: &Names<K>,
+    number: u32,
+) {
+    let mut text = String::new(rt.alloc());
+    says(
+        rt,
+        names.name(rt, number, &mut text),
+        Err(NameFault::NoName),
+    );
+}
+
+// What two threads are answered that intern one name.
+fn both_intern<K: Keys, R: Threads + Wait + Sync>(rt: &R, names: &Names<K>) -> (Reply, Reply) {
+    join(
+        rt,
+        || interned_shared(rt, names, "a"),
+        || interned_shared(rt, names, "a"),
+    )
+}
+
+// What the calls are answered that come after those of the threads.
+fn intern_four<K: Keys>(rt: &impl Wait, names: &Names<K>) -> [Reply; 4] {
+    [
+        interned_shared(rt, names, "b"),
+        names.intern(rt, "c"),
+        names.intern(rt, "a"),
+        names.intern(rt, ""),
+    ]
+}
+
+fn gives_two_numbers<K: Keys, R: Threads + Wait + Abort + AllocGlobal + Sync>(rt: &R)
     requires { K.keys ≡ 2 }
 {
-    let names: Names<K> = opened_shared(rt.alloc(), 2)?;
-    let mut text = String::new(rt.alloc());
-    let (here, there) = join(
-        rt,
-        || interned_shared(rt, &names, "a"),
-        || interned_shared(rt, &names, "a"),
+    let names: Names<K> = opened_shared(rt, 2);
+    assert_eq!(rt; both_intern(rt, &names), (Ok(0), Ok(0)));
+    names_nothing_shared(rt, &names, 1);
+    assert_eq!(rt;
+        intern_four(rt, &names),
+        [Ok(1), Err(NameFault::Full), Ok(0), Err(NameFault::Empty)]
     );
-    assert_eq!(rt; here, Ok(0));
-    assert_eq!(rt; there, Ok(0));
-    assert_eq!(rt; names.name(rt, 1, &mut text), Err(NameFault::NoName));
-    assert_eq!(rt; interned_shared(rt, &names, "b"), Ok(1));
-    assert_eq!(rt; names.intern(rt, "c"), Err(NameFault::Full));
-    assert_eq!(rt; names.intern(rt, "a"), Ok(0));
-    read_shared_over(rt, &names, 0, &mut text, "");
-    assert_eq!(rt; text.as_str(), "a");
-    read_shared_over(rt, &names, 1, &mut text, "a");
-    assert_eq!(rt; text.as_str(), "b");
-    assert_eq!(rt; names.name(rt, 2, &mut text), Err(NameFault::NoName));
-    assert_eq!(rt; text.as_str(), "b");
-    assert_eq!(rt; names.intern(rt, ""), Err(NameFault::Empty));
-    Ok(())
+    let mut text = String::new(rt.alloc());
+    reads_both_shared(rt, &names, &mut text);
+    stays_shared(rt, &names, &mut text);
 }
 
 #[test]
-fn a_shared_table_gives_numbers(rt: HostRuntime) -> Result<(), Fail> {
-    gives_two_numbers::<Brand, _>(&rt)
+fn a_shared_table_gives_numbers(rt: HostRuntime) {
+    gives_two_numbers::<Brand, _>(&rt);
 }
 
 const WORDS: [&str; 5] = ["ant", "bee", "cow", "dog", "elk"];
 
 // What each word was answered, in the order of the words.
-type Answers = [Result<u32, NameFault>; 5];
+type Replies = [Reply; 5];
 
-fn forwards<K: Keys>(rt: &impl Wait, names: &Names<K>) -> Answers {
-    let mut answers = [Err(NameFault::NoName); 5];
+fn forwards<K: Keys>(rt: &impl Wait, names: &Names<K>) -> Replies {
+    let mut replies = [Err(NameFault::NoName); 5];
     for i in 0..5 {
-        answers[i] = interned_shared(rt, names, WORDS[i]);
+        replies[i] = interned_shared(rt, names, WORDS[i]);
     }
-    answers
+    replies
 }
 
-fn backwards<K: Keys>(rt: &impl Wait, names: &Names<K>) -> Answers {
-    let mut answers = [Err(NameFault::NoName); 5];
+fn backwards<K: Keys>(rt: &impl Wait, names: &Names<K>) -> Replies {
+    let mut replies = [Err(NameFault::NoName); 5];
     for i in 0..5 {
-        answers[4 - i] = interned_shared(rt, names, WORDS[4 - i]);
+        replies[4 - i] = interned_shared(rt, names, WORDS[4 - i]);
     }
-    answers
+    replies
 }
 
-// Two threads intern the same words, one of them from the end, so either may find a word new.
-fn agrees_on_five_words<K: Keys, R: Threads + Wait + Abort + AllocGlobal + Sync>(
+// What two threads are answered that intern the same words, one of them from the end, so either may find a
+// word new.
+fn both_intern_words<K: Keys, R: Threads + Wait + Sync>(
     rt: &R,
-) -> Result<(), Fail>
-    requires { K.keys ≡ 5 }
-{
-    let names: Names<K> = opened_shared(rt.alloc(), 5)?;
-    let (here, there) = join(rt, || forwards(rt, &names), || backwards(rt, &names));
-    assert_eq!(rt; here, there);
-    let mut text = String::new(rt.alloc());
+    names: &Names<K>,
+) -> (Replies, Replies) {
+    join(rt, || forwards(rt, names), || backwards(rt, names))
+}
+
+// The numbers have no gaps, and no two words share one.
+fn numbers_of(rt: &impl Abort, replies: &Replies) -> [u32; 5] {
+    let mut numbers = [0; 5];
     let mut named = [false; 5];
     for i in 0..5 {
-        let number = here[i].expect(rt, "a word that fits has a number");
-        assert!(rt; number < 5, "numbers have no gaps");
-        assert!(rt; !named[number as usize], "no two words share a number");
-        named[number as usize] = true;
-        let before = if i == 0 { "" } else { WORDS[i - 1] };
-        read_shared_over(rt, &names, number, &mut text, before);
-        assert_eq!(rt; text.as_str(), WORDS[i]);
-        assert_eq!(rt; names.intern(rt, WORDS[i]), Ok(number));
+        numbers[i] = replies[i].expect(rt, "a word that fits has a number");
+        assert!(rt; numbers[i] < 5, "numbers have no gaps");
+        named[numbers[i] as usize] = true;
     }
+    assert_eq!(rt; named, [true; 5], "no two words share a number");
+    numbers
+}
+
+// Reads a word by its number, over the word before it.
+fn reads_word<K: Keys>(
+    rt: &(impl Wait + Abort),
+    names: &Names<K>,
+    number: u32,
+    text: &mut String,
+    before: &str,
+    word: &str,
+) {
+    read_shared_over(rt, names, number, text, before);
+    reads(rt, text, word);
+    assert_eq!(rt; names.intern(rt, word), Ok(number));
+}
+
+fn reads_words<K: Keys>(
+    rt: &(impl Wait + Abort),
+    names: &Names<K>,
+    numbers: [u32; 5],
+    text: &mut String,
+) {
+    let mut before = "";
+    for i in 0..5 {
+        reads_word(rt, names, numbers[i], text, before, WORDS[i]);
+        before = WORDS[i];
+    }
+}
+
+fn agrees_on_five_words<K: Keys, R: Threads + Wait + Abort + AllocGlobal + Sync>(rt: &R)
+    requires { K.keys ≡ 5 }
+{
+    let names: Names<K> = opened_shared(rt, 5);
+    let (here, there) = both_intern_words(rt, &names);
+    assert_eq!(rt; here, there);
+    reads_words(
+        rt,
+        &names,
+        numbers_of(rt, &here),
+        &mut String::new(rt.alloc()),
+    );
     assert_eq!(rt; names.intern(rt, "fox"), Err(NameFault::Full));
-    assert_eq!(rt; names.name(rt, 5, &mut text), Err(NameFault::NoName));
-    Ok(())
+    names_nothing_shared(rt, &names, 5);
 }
 
 #[test]
-fn threads_agree_on_names_and_numbers(rt: HostRuntime) -> Result<(), Fail> {
-    agrees_on_five_words::<Brand, _>(&rt)
+fn threads_agree_on_names_and_numbers(rt: HostRuntime) {
+    agrees_on_five_words::<Brand, _>(&rt);
 }
