@@ -9,7 +9,7 @@ ghost use Rattle.nr_c.specs.Sizes.{TellsSizes, shape_of_sizes};
 
 use crate::codes::{NR_BAD_SIZE, NR_CLOSED, NR_DONE, NR_LIVE, NR_NO_MEMORY, NR_NO_READER};
 use crate::reader_handle::NrReader;
-use crate::reader_side::ReaderSide;
+use crate::reader_side::{APART, ReaderSide};
 use crate::sizes::{NrShape, NrSizes};
 use crate::writer_handle::NrWriter;
 use crate::writer_side::WriterSide;
@@ -61,6 +61,7 @@ fn opened(alloc: Global, shape: &NrShape) -> Result<Box<WriterSide, Global>, Ope
     let (map, writer, spare) = opened_map(alloc, &shape.shape())?;
     let map = Arc::new(alloc, map).map_err(|_| OpenFault::Memory)?;
     let side = WriterSide {
+        apart: [0; APART],
         map,
         writer,
         spare,

@@ -2,6 +2,7 @@
 ghost use Rattle.std.specs.Prelude.{◌≡◌, ◌≢◌, ◌<◌, ◌≤◌, All, length};
 ghost use Rattle.std.specs.Bool.{OnFalse, OnTrue};
 
+use crate::reader_side::APART;
 use nr_map::{Reader, ReaderMap, Writer};
 use std::alloc::Global;
 use std::sync::Arc;
@@ -9,6 +10,8 @@ use std::sync::Arc;
 /// The writer with its share of the map, and the readers that no handle has yet.
 #[derive(Drop)]
 pub struct WriterSide {
+    /// Keeps what the writer's calls write apart from the map, which lies before it and which readers load.
+    pub apart: [u64; APART],
     pub map: Arc<ReaderMap, Global>,
     pub writer: Writer,
     pub spare: Vec<Reader, Global>,
