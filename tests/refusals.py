@@ -146,7 +146,7 @@ def try_all(rt, crate, edits, kept):
     alone = [rt.must_fail(crate, edit, ["--jobs", "1"], kept) for edit in edits if edit not in found]
     for _, text in alone:
         kit.say(text)
-    passed = sum(not well for well, _ in alone)
+    passed = sum(kind not in (rt.REFUSED, rt.AT_LIMIT) for kind, _ in alone)
     return collections.Counter(refused=len(edits) - passed, passed=passed, alone=len(alone))
 
 
