@@ -1,6 +1,11 @@
 /* The functions of nr.h, which answer NULL in place of a handle. What they call is proved, and takes no pointer that
-   is NULL: embed/build gives it the names that begin with proved_. */
+   is NULL. embed/compile gives it the names that begin with proved_, and compiles it into these functions. */
 #include "../include/nr.h"
+
+uint32_t proved_nr_version(void);
+uint32_t nr_version(void) {
+  return proved_nr_version();
+}
 
 uint32_t proved_nr_open(const nr_shape *shape, nr_writer *writer);
 uint32_t nr_open(const nr_shape *shape, nr_writer *writer) {
