@@ -134,14 +134,17 @@ def try_group(rt, crate, group, kept):
 def try_all(rt, crate, edits, kept):
     """Tries the wrong bodies of a crate in turn, says what comes of each, and counts them: those that are refused, those that
     aren't, and those that had a check of the whole crate."""
-    bodies = [it for edit in edits if (it := read(rt, crate, edit))]
-    found = {}
-    for group in groups(bodies):
-        refused = try_group(rt, crate, group, kept)
-        for edit, line in refused.items():
-            path = pathlib.Path(edit)
-            kit.say(f"must-fail {crate.name}/{path.name}: refused: {line[:160]}")
-        found.update(refused)
+    found, left = {}, [it for edit in edits if (it := read(rt, crate, edit))]
+    tried = None
+    # A function's goals wait for those that it calls, so where one of these has a wrong body too, it is tried again after it.
+    while left and len(left) != tried:
+        tried = len(left)
+        for group in groups(left):
+            refused = try_group(rt, crate, group, kept)
+            for edit, line in refused.items():
+                kit.say(f"must-fail {crate.name}/{pathlib.Path(edit).name}: refused: {line[:160]}")
+            found.update(refused)
+        left = [it for it in left if it.edit not in found]
     # What is no edit is told as one that can't be read.
     alone = [rt.must_fail(crate, edit, ["--jobs", "1"], kept) for edit in edits if edit not in found]
     for _, text in alone:
