@@ -181,5 +181,7 @@ fn two_numbers(mut words: Words<'_>) -> Option<(u64, u64)>
     if words.next().is_some() {
         return None;
     }
-    Some((number(first)?, number(second)?))
+    let first = number(first)?;
+    let second = number(second)?;
+    Some((first, second))
 }

@@ -29,13 +29,21 @@ reader_alone command (reader ∷ []) = option_map command (number reader)
 reader_alone command other = None
 
 -- the command of a line's words
+abbrev pub reading : List ℕ → List (List ℕ) → Option Command
+reading name more =
+    if bytes_eq name (codes "find") then reader_and_key Find more
+    else if bytes_eq name (codes "ask") then reader_and_key Ask more
+    else if bytes_eq name (codes "pin") then reader_and_key Pin more
+    else if bytes_eq name (codes "show") then reader_alone Show more
+    else if bytes_eq name (codes "again") then reader_and_key Again more
+    else if bytes_eq name (codes "unpin") then reader_alone Unpin more
+    else None
+
 abbrev pub script_command : List (List ℕ) → Option Command
 script_command [] = None
 script_command (name ∷ more) =
     if bytes_eq name (codes "open") then option_map (λ opening. Open false opening) (opening_of_words more)
     else if bytes_eq name (codes "open-named") then option_map (λ opening. Open true opening) (opening_of_words more)
-    else if bytes_eq name (codes "find") then reader_and_key Find more
-    else if bytes_eq name (codes "ask") then reader_and_key Ask more
     else if bytes_eq name (codes "fill") then filling key Fill more
     else if bytes_eq name (codes "fill-as") then filling_as key FillAs more
     else if bytes_eq name (codes "update") then updating key Update more
@@ -43,8 +51,4 @@ script_command (name ∷ more) =
     else if bytes_eq name (codes "evict") then key_alone Evict more
     else if bytes_eq name (codes "cancel") then key_alone Cancel more
     else if bytes_eq name (codes "look") then key_alone Look more
-    else if bytes_eq name (codes "pin") then reader_and_key Pin more
-    else if bytes_eq name (codes "show") then reader_alone Show more
-    else if bytes_eq name (codes "again") then reader_and_key Again more
-    else if bytes_eq name (codes "unpin") then reader_alone Unpin more
-    else None
+    else reading name more

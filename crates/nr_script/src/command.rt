@@ -5,7 +5,7 @@ ghost use Rattle.nr_model.specs.declared.rows.TooMany.{TooMany};
 ghost use Rattle.std.specs.List.{list_all};
 ghost use Rattle.nr_script.specs.declared.command.Command.{Command};
 ghost use Rattle.nr_script.specs.declared.command.Command.TheVariants.{FillAs, Update};
-ghost use Rattle.nr_script.specs.Commands.{script_command, is_name_byte, key, reader_and_key, key_alone, reader_alone};
+ghost use Rattle.nr_script.specs.Commands.{script_command, reading, is_name_byte, key, reader_and_key, key_alone, reader_alone};
 ghost use Rattle.nr_text.specs.Grammar.{words, number, filling, filling_as, updating};
 ghost use Rattle.nr_text.specs.Words.{words_left};
 
@@ -126,14 +126,6 @@ pub(crate) fn parse<'a>(line: &'a [u8], given: &'a mut LineRoom) -> Option<Comma
         let sizes = Opening::parse(words)?;
         return Some(Command::Open { named: true, sizes });
     }
-    if name == b"find".as_slice() {
-        let (reader, key) = reader_and_key(words)?;
-        return Some(Command::Find { reader, key });
-    }
-    if name == b"ask".as_slice() {
-        let (reader, key) = reader_and_key(words)?;
-        return Some(Command::Ask { reader, key });
-    }
     if name == b"fill".as_slice() {
         let (key, rows) = key_and_rows(words, given)?;
         return Some(Command::Fill { key, rows });
@@ -160,6 +152,20 @@ pub(crate) fn parse<'a>(line: &'a [u8], given: &'a mut LineRoom) -> Option<Comma
         let key = key_alone(words)?;
         return Some(Command::Look { key });
     }
+    reading(name, words)
+}
+
+fn reading<'a>(name: &[u8], words: Words<'a>) -> Option<Command<'a>>
+    ensures { result ≡ reading name.now (words_left words.entry) }
+{
+    if name == b"find".as_slice() {
+        let (reader, key) = reader_and_key(words)?;
+        return Some(Command::Find { reader, key });
+    }
+    if name == b"ask".as_slice() {
+        let (reader, key) = reader_and_key(words)?;
+        return Some(Command::Ask { reader, key });
+    }
     if name == b"pin".as_slice() {
         let (reader, key) = reader_and_key(words)?;
         return Some(Command::Pin { reader, key });
@@ -182,12 +188,14 @@ pub(crate) fn parse<'a>(line: &'a [u8], given: &'a mut LineRoom) -> Option<Comma
 fn reader_and_key(mut words: Words<'_>) -> Option<(u64, KeyWord<'_>)>
     ensures { (made : ℕ → List ℕ → Command) → reader_and_key made (words_left words.entry) ≡ option_map (λ found. made found.0 found.1) result }
 {
-    let reader = words.next()?;
+    let spelled = words.next()?;
     let word = words.next()?;
     if words.next().is_some() {
         return None;
     }
-    Some((number(reader)?, key(word)?))
+    let reader = number(spelled)?;
+    let key = key(word)?;
+    Some((reader, key))
 }
 
 fn key_alone(mut words: Words<'_>) -> Option<KeyWord<'_>>
