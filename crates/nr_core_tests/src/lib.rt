@@ -1,4 +1,5 @@
-//! Tests of the step machine, by its public calls alone: worked schedules and the limits of sizes.
+//! Tests of the step machine and of a map's words, by public calls alone: worked schedules, the limits
+//! of sizes, worked words, sets and layouts.
 #![tactic(auto)]
 
 #[cfg(test)]
@@ -17,5 +18,7 @@ mod row_bounds;
 mod running;
 #[cfg(test)]
 mod sizes;
+#[cfg(test)]
+mod words;
 #[cfg(test)]
 mod writes;

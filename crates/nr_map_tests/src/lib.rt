@@ -1,6 +1,9 @@
-//! Tests of the running map, by its public calls alone: threads, the largest maps, and worked calls.
+//! Tests of the running map and of one in one hand, by public calls alone: threads, the largest maps,
+//! worked calls, and what is answered where the slots run out.
 #![tactic(auto)]
 
+#[cfg(test)]
+mod alone;
 #[cfg(test)]
 mod calls;
 #[cfg(test)]
