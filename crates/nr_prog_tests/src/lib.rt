@@ -1,13 +1,8 @@
-//! Tests of the program, by its public calls alone: its words, scripts, schedules and loads.
+//! Tests of the program's public calls, and of what it tells where a read or a write fails. What it writes for an input
+//! is tried by tests/rows.
 #![tactic(auto)]
 
 #[cfg(test)]
-mod arguments;
-#[cfg(test)]
-mod loads;
-#[cfg(test)]
-mod schedules;
-#[cfg(test)]
-mod scripts;
+mod calls;
 #[cfg(test)]
 mod streams;
