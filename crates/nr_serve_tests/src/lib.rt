@@ -1,18 +1,22 @@
-//! Tests of the dataflow's turns and the clients' gets, by their public calls alone: one after
-//! another, and in threads of their own.
+//! Tests of what runs in threads, by public calls alone: the tickets' way to the dataflow, its turns and the clients'
+//! gets, one after another and in threads of their own, and whole loads.
 #![tactic(auto)]
 
 #[cfg(test)]
 mod gates;
 #[cfg(test)]
+mod loads;
+#[cfg(test)]
 mod lobbies;
 #[cfg(test)]
 mod opened;
 #[cfg(test)]
+mod queues;
+#[cfg(test)]
 mod scenes;
 #[cfg(test)]
-mod threads;
-#[cfg(test)]
-mod told;
+mod tickets;
 #[cfg(test)]
 mod wakes;
+#[cfg(test)]
+mod works;

@@ -34,8 +34,8 @@ pub(crate) fn one_row(a: u64, b: u64) -> RowSet
     }
 }
 
-// A map of two keys with its one reader.
-fn one_reader(alloc: Global, slots: u32) -> Result<(ReaderMap, Writer, Reader), Fail>
+/// A map of two keys with its one reader.
+pub(crate) fn one_reader(alloc: Global, slots: u32) -> Result<(ReaderMap, Writer, Reader), Fail>
     ensures keys { IfOk result (λ opened. opened.0.shape.keys ≡ 2) }
     ensures writer { IfOk result (λ opened. opened.1.table ≡ opened.0) }
     ensures reader { IfOk result (λ opened. opened.2.table ≡ opened.0) }
@@ -102,19 +102,27 @@ impl Opened {
     }
 }
 
-// Ends a client, and spends the ticket that it kept.
-pub(crate) fn end_client<G: Gate>(client: Client<'_, G>) {
+/// Ends a client: whether it kept a ticket, which is spent.
+pub(crate) fn end_client<G: Gate>(client: Client<'_, G>) -> bool {
     let (_reader, _poster, kept) = client.end();
-    if let Some(ticket) = kept {
-        ticket.into_key();
+    match kept {
+        Some(ticket) => {
+            ticket.into_key();
+            true
+        }
+        None => false,
     }
 }
 
-// Ends a dataflow, and spends the trigger that it kept.
-pub(crate) fn end_flow(flow: Dataflow<'_, Plain>) {
+/// Ends a dataflow: whether it kept a trigger, which is spent.
+pub(crate) fn end_flow<S: Source + Drop>(flow: Dataflow<'_, S>) -> bool {
     let (_writer, _taker, kept, _source) = flow.end();
-    if let Some(trigger) = kept {
-        trigger.into_key();
+    match kept {
+        Some(trigger) => {
+            trigger.into_key();
+            true
+        }
+        None => false,
     }
 }
 

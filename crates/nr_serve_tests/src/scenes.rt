@@ -4,7 +4,7 @@ ghost use Rattle.std.specs.Prelude.{◌≡◌};
 use crate::gates::Noting;
 use crate::opened::{Opened, Plain, end_client, end_flow, gets, misses, turns};
 use nr_map::{Evict, NoSlot};
-use nr_model::RowSet;
+use nr_model::{Delta, Row, RowSet};
 use nr_serve::{Client, Dataflow, Got, Lobby, Turn};
 use std::alloc::Global;
 use std::process::Abort;
@@ -16,7 +16,11 @@ enum Scene {
     ClosedLobby,
     ShutGate,
     NoSlot,
+    Note,
 }
+
+/// What is added to the row `0:5`, with which key 0 is filled.
+const ADDED: Row = Row { a: 1, b: 7 };
 
 // A get that would sleep, if the lobby were open.
 fn gives_up<R: Abort + Wait>(rt: &R, lobby: &Lobby, client: &mut Client<'_, Noting>)
@@ -62,11 +66,33 @@ fn keeps_its_trigger<R: Abort + Wait>(
     assert_eq!(rt; bound, 15);
 }
 
+// The client is told of what the dataflow applied, and finds it.
+fn hears_and_finds<R: Abort + Wait>(
+    rt: &R,
+    client: &mut Client<'_, Noting>,
+    flow: &mut Dataflow<'_, Plain>,
+)
+    requires client { client.old.map.shape.keys ≡ 2 }
+    requires flow { flow.old.map ≡ client.old.map }
+{
+    misses(rt, client, 0);
+    turns(rt, flow, Turn::Filled(0));
+    let more = Delta {
+        plus: true,
+        row: ADDED,
+    };
+    let applied = flow.apply_rows(0, &[more]);
+    client.hear(flow.note());
+    let mut rows = RowSet::new();
+    gets(rt, client, 0, &mut rows, Got::Rows);
+    assert_eq!(rt; (applied.is_ok(), rows.get(1)), (true, Some(ADDED)));
+}
+
 impl Scene {
     fn slots(self) -> u32 {
         match self {
             Scene::NoSlot => 1,
-            Scene::ClosedLobby | Scene::ShutGate => 4,
+            Scene::ClosedLobby | Scene::ShutGate | Scene::Note => 4,
         }
     }
 
@@ -74,7 +100,7 @@ impl Scene {
     fn first(self) -> u64 {
         match self {
             Scene::ShutGate => 3,
-            Scene::ClosedLobby | Scene::NoSlot => 1,
+            Scene::ClosedLobby | Scene::NoSlot | Scene::Note => 1,
         }
     }
 
@@ -87,12 +113,13 @@ impl Scene {
         flow: &mut Dataflow<'_, Plain>,
     )
         requires client { client.old.map.shape.keys ≡ 2 }
-        requires flow { flow.old.map.shape.keys ≡ 2 }
+        requires flow { flow.old.map ≡ client.old.map }
     {
         match self {
             Scene::ClosedLobby => gives_up(rt, lobby, client),
             Scene::ShutGate => is_barred_and_passes(rt, gate, client, flow),
             Scene::NoSlot => keeps_its_trigger(rt, client, flow),
+            Scene::Note => hears_and_finds(rt, client, flow),
         }
     }
 }
@@ -135,4 +162,9 @@ fn a_gate_that_never_lets_pass_bars_a_get(rt: HostRuntime) -> Result<(), Fail> {
 #[test]
 fn a_turn_without_a_slot_keeps_its_trigger(rt: HostRuntime) -> Result<(), Fail> {
     play(&rt, rt.alloc(), Scene::NoSlot)
+}
+
+#[test]
+fn a_client_that_is_told_finds_what_was_applied(rt: HostRuntime) -> Result<(), Fail> {
+    play(&rt, rt.alloc(), Scene::Note)
 }

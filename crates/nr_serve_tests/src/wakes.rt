@@ -4,7 +4,7 @@
 ghost use Rattle.std.specs.Prelude.{◌≡◌};
 
 use crate::opened::{Opened, Plain, end_client, end_flow};
-use nr_map::{Reader, ReaderMap, Writer};
+use nr_map::{Cancel, Reader, ReaderMap, Writer};
 use nr_model::RowSet;
 use nr_serve::{Client, Dataflow, Got, Lobby, OpenGate, Turn};
 use nr_trigger::{Poster, Taker, Triggers};
@@ -39,7 +39,7 @@ enum Cause {
     Close,
 }
 
-// Gets key 0 in that many tries, and tells that it came back.
+// Gets key 0 in that many tries, and tells that it came back: how that ended, and how many requests were sent.
 fn gets<R: Wait>(
     rt: &R,
     map: &ReaderMap,
@@ -48,17 +48,19 @@ fn gets<R: Wait>(
     tokens: (Reader, Poster),
     tries: u32,
     came: &AtomicBool,
-) -> Got
+) -> (Got, u64)
     requires map { (tokens.0.table ≡ map.now) × (map.now.shape.keys ≡ 2) }
     requires queue { (tokens.1.queue ≡ triggers.now.id) × (tokens.1.keys ≡ 2) }
 {
     let (reader, poster) = tokens;
     let gate = OpenGate;
     let mut client = Client::open(map, reader, triggers, poster, lobby, &gate);
-    let got = client.get(rt, 0, tries, &mut RowSet::new());
+    let mut rows = RowSet::new();
+    let got = client.get(rt, 0, tries, &mut rows);
+    let sends = client.sends();
     end_client(client);
     came.store(true, Ordering::SeqCst);
-    got
+    (got, sends)
 }
 
 // One turn, which sleeps where nothing is posted; and tells that it came back.
@@ -81,8 +83,20 @@ fn turns<R: Wait>(
     came.store(true, Ordering::SeqCst);
 }
 
-// Fills key 0, which a client is to ask for.
-fn fills<R: Wait + Clock>(
+// Takes the request of key 0 back, once there is one.
+fn cancels<R: Wait + Clock>(rt: &R, flow: &mut Dataflow<'_, Plain>)
+    requires { flow.old.map.shape.keys ≡ 2 }
+{
+    for _ in 0..LOOKS {
+        if flow.cancel(rt, 0) == Cancel::Cancelled {
+            return;
+        }
+        pause(rt);
+    }
+}
+
+// Takes back the request of a client, which is to ask for key 0 once more, and fills the key then.
+fn cancels_and_fills<R: Wait + Clock>(
     rt: &R,
     map: &ReaderMap,
     triggers: &Triggers,
@@ -95,11 +109,12 @@ fn fills<R: Wait + Clock>(
     let (writer, taker) = tokens;
     let source = Plain { bound: 0 };
     let mut flow = Dataflow::open(map, writer, triggers, taker, source, lobby);
+    cancels(rt, &mut flow);
     for _ in 0..LOOKS {
+        pause(rt);
         if flow.turn(rt) == Turn::Filled(0) {
             break;
         }
-        pause(rt);
     }
     end_flow(flow);
 }
@@ -120,13 +135,34 @@ fn wakes_client<R: Wait + Clock>(
     pause(rt);
     let mut guest = lobby.guest();
     match cause {
-        Cause::Work => fills(rt, map, triggers, lobby, tokens),
+        Cause::Work => cancels_and_fills(rt, map, triggers, lobby, tokens),
         Cause::Close => lobby.close(&mut guest),
     }
     let is_awake = comes(rt, came);
     lobby.close(&mut guest);
     lobby.raise_for(rt, &mut guest, 0);
     is_awake
+}
+
+// Gives a dataflow work, or closes its lobby.
+fn stirs<R: Wait>(
+    rt: &R,
+    map: &ReaderMap,
+    triggers: &Triggers,
+    lobby: &Lobby,
+    tokens: (Reader, Poster),
+    cause: Cause,
+)
+    requires map { (tokens.0.table ≡ map.now) × (map.now.shape.keys ≡ 2) }
+    requires queue { (tokens.1.queue ≡ triggers.now.id) × (tokens.1.keys ≡ 2) }
+{
+    match cause {
+        Cause::Work => {
+            let unseen = AtomicBool::new(false);
+            gets(rt, map, triggers, lobby, tokens, 1, &unseen);
+        }
+        Cause::Close => lobby.close(&mut lobby.guest()),
+    }
 }
 
 // Lets a dataflow sleep, wakes it, and tells whether it came back before it was helped.
@@ -143,20 +179,14 @@ fn wakes_flow<R: Wait + Clock>(
     requires queue { (tokens.1.queue ≡ triggers.now.id) × (tokens.1.keys ≡ 2) }
 {
     pause(rt);
-    let mut guest = lobby.guest();
-    match cause {
-        Cause::Work => {
-            gets(rt, map, triggers, lobby, tokens, 1, &AtomicBool::new(false));
-        }
-        Cause::Close => lobby.close(&mut guest),
-    }
+    stirs(rt, map, triggers, lobby, tokens, cause);
     let is_awake = comes(rt, came);
-    lobby.close(&mut guest);
+    lobby.close(&mut lobby.guest());
     lobby.ring();
     is_awake
 }
 
-// How the get of a client ended that slept, and whether it was woken. The other side has a thread of its own.
+// How the get of a client ended that slept, its requests, and whether it was woken. The other side has a thread of its own.
 fn client_sleeps<R: Threads + Wait + Clock + Sync>(
     rt: &R,
     map: &ReaderMap,
@@ -165,7 +195,7 @@ fn client_sleeps<R: Threads + Wait + Clock + Sync>(
     here: (Reader, Poster),
     there: (Writer, Taker),
     cause: Cause,
-) -> Option<(Got, bool)>
+) -> Option<((Got, u64), bool)>
     requires map { (here.0.table ≡ map.now) × (there.0.table ≡ map.now) × (map.now.shape.keys ≡ 2) }
     requires queue { (here.1.queue ≡ triggers.now.id) × (there.1.queue ≡ triggers.now.id) }
     requires keys { (here.1.keys ≡ 2) × (there.1.keys ≡ 2) }
@@ -174,7 +204,7 @@ fn client_sleeps<R: Threads + Wait + Clock + Sync>(
     thread::scope(
         thread::scope_env(),
         rt,
-        |scope| -> Option<(Got, bool)>
+        |scope| -> Option<((Got, u64), bool)>
             requires map { (here.0.table ≡ map.now) × (there.0.table ≡ map.now) × (map.now.shape.keys ≡ 2) }
             requires queue { (here.1.queue ≡ triggers.now.id) × (there.1.queue ≡ triggers.now.id) }
             requires keys { (here.1.keys ≡ 2) × (there.1.keys ≡ 2) }
@@ -234,7 +264,7 @@ fn client_is_woken<R: Threads + Wait + Clock + Sync>(
     rt: &R,
     opened: Opened,
     cause: Cause,
-) -> Option<(Got, bool)> {
+) -> Option<((Got, u64), bool)> {
     let Opened {
         map,
         triggers,
@@ -280,17 +310,18 @@ fn flow_is_woken<R: Threads + Wait + Clock + Sync>(
     )
 }
 
+// The client requests the key twice, since the first request was taken back.
 #[test]
-fn a_fill_wakes_a_client(rt: HostRuntime) -> Result<(), Fail> {
+fn a_cancel_and_a_fill_wake_a_client(rt: HostRuntime) -> Result<(), Fail> {
     let woken = client_is_woken(&rt, Opened::open(rt.alloc(), 4)?, Cause::Work);
-    assert_eq!(rt; woken, Some((Got::Rows, true)));
+    assert_eq!(rt; woken, Some(((Got::Rows, 2), true)));
     Ok(())
 }
 
 #[test]
 fn a_close_wakes_a_client(rt: HostRuntime) -> Result<(), Fail> {
     let woken = client_is_woken(&rt, Opened::open(rt.alloc(), 4)?, Cause::Close);
-    assert_eq!(rt; woken, Some((Got::GaveUp, true)));
+    assert_eq!(rt; woken, Some(((Got::GaveUp, 1), true)));
     Ok(())
 }
 

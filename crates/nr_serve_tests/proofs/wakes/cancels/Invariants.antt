@@ -1,5 +1,5 @@
 use Rattle.std.proofs.Common.{◌≡◌}
-use Rattle.nr_serve_tests.proofs.threads.cancels.Given as goal
+use Rattle.nr_serve_tests.proofs.wakes.cancels.Given as goal
 
 abbrev pub invariant-loop : goal.invariant-loop
 invariant-loop g l = l.flow.map ≡ l.fn.flow.map

@@ -2,6 +2,7 @@
 ghost use Rattle.std.specs.Prelude.{◌≡◌, ◌<◌, IfOk};
 ghost use Rattle.nr_trigger.specs.Posts.{IsNoteOf};
 
+use crate::opened::one_reader;
 use nr_map::{Asked, FillFault, Note, Reader, ReaderMap, Ticket, Writer};
 use nr_model::RowSet;
 use nr_trigger::{Poster, Taker, Trigger, Triggers};
@@ -107,17 +108,6 @@ fn both_sides<R: Threads + Wait + Sync>(
     (is_posted, takes_and_fills(rt, map, triggers, writer, taker))
 }
 
-fn opened(alloc: Global) -> Result<(ReaderMap, Writer, Reader), Fail>
-    ensures keys { IfOk result (λ opened. opened.0.shape.keys ≡ 2) }
-    ensures tokens { IfOk result (λ opened. (opened.1.table ≡ opened.0) × (opened.2.table ≡ opened.0)) }
-{
-    let (map, writer, mut readers) = ReaderMap::open(alloc, 2, 4, 1, 0)?;
-    match readers.pop() {
-        Some(reader) => Ok((map, writer, reader)),
-        None => Err(Fail::from("no reader")),
-    }
-}
-
 fn queue_of(alloc: Global, map: &ReaderMap) -> Result<(Triggers, Poster, Taker), Fail>
     ensures queue { IfOk result (λ opened. (opened.1.queue ≡ opened.0.id) × (opened.2.queue ≡ opened.0.id)) }
     ensures keys { IfOk result (λ opened. (opened.1.keys ≡ map.now.shape.keys) × (opened.2.keys ≡ map.now.shape.keys)) }
@@ -132,7 +122,7 @@ fn queue_of(alloc: Global, map: &ReaderMap) -> Result<(Triggers, Poster, Taker),
 
 #[test]
 fn a_note_goes_with_its_ticket(rt: HostRuntime) -> Result<(), Fail> {
-    let (map, writer, reader) = opened(rt.alloc())?;
+    let (map, writer, reader) = one_reader(rt.alloc(), 4)?;
     let (triggers, poster, taker) = queue_of(rt.alloc(), &map)?;
     let sides = both_sides(&rt, &map, &triggers, (reader, poster), (writer, taker));
     assert_eq!(rt; sides, (true, Some((true, Ok(())))));

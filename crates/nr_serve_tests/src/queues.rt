@@ -1,6 +1,6 @@
-//! What is asserted does not depend on how the threads' steps fall. Each `open` is made once more where memory was
-//! refused, so the test of refused memory passes where any one allocation fails.
-ghost use Rattle.std.specs.Prelude.{◌≡◌, ◌<◌, ◌≤◌, ◌+◌, All, IfOk};
+//! Queues of tickets. What is asserted does not depend on how the threads' steps fall. In the test of refused memory each
+//! `open` is made once more where memory was refused, so it passes where any one allocation fails.
+ghost use Rattle.std.specs.Prelude.{◌≡◌, ◌<◌, ◌≤◌, ◌+◌, IfOk};
 
 use nr_map::{Asked, Reader, ReaderMap, Shape, Ticket, Writer};
 use nr_model::OpenFault;
@@ -12,18 +12,27 @@ use std::test::Fail;
 use std::thread;
 use std::thread::{Threads, join};
 
-// A queue for keys below 20.
-fn queue_of(
-    alloc: Global,
-    capacity: u32,
-    posters: u32,
-) -> Result<(Triggers, Vec<Poster>, Taker), OpenFault>
-    ensures taker { IfOk result (λ opened. opened.2.queue ≡ opened.0.id) }
-    ensures posters { IfOk result (λ opened. All (λ poster. (poster.queue ≡ opened.0.id) × (poster.keys ≡ 20)) opened.1.items) }
+// A map of keys below 20 with its two readers.
+fn map_of(alloc: Global) -> Result<(ReaderMap, Writer, Reader, Reader), Fail>
+    ensures keys { IfOk result (λ opened. opened.0.shape.keys ≡ 20) }
+    ensures tokens { IfOk result (λ opened. (opened.2.table ≡ opened.0) × (opened.3.table ≡ opened.0)) }
 {
-    match Triggers::open(alloc, capacity, posters) {
-        Err(OpenFault::Memory) => Triggers::open(alloc, capacity, posters),
-        opened => opened,
+    let (map, writer, mut readers) = ReaderMap::open(alloc, 20, 1, 2, 0)?;
+    match (readers.pop(), readers.pop()) {
+        (Some(one), Some(other)) => Ok((map, writer, one, other)),
+        _ => Err(Fail::from("no reader")),
+    }
+}
+
+// A queue of three places for keys below 20, with its two posters.
+fn queue_of(alloc: Global) -> Result<(Triggers, Taker, Poster, Poster), Fail>
+    ensures queue { IfOk result (λ opened. (opened.1.queue ≡ opened.0.id) × (opened.2.queue ≡ opened.0.id) × (opened.3.queue ≡ opened.0.id)) }
+    ensures keys { IfOk result (λ opened. (opened.2.keys ≡ 20) × (opened.3.keys ≡ 20)) }
+{
+    let (triggers, mut posters, taker) = Triggers::open(alloc, 3, 2)?;
+    match (posters.pop(), posters.pop()) {
+        (Some(one), Some(other)) => Ok((triggers, taker, one, other)),
+        _ => Err(Fail::from("no poster")),
     }
 }
 
@@ -47,7 +56,19 @@ fn taken(rt: &impl Wait, triggers: &Triggers, taker: &mut Taker) -> Option<u32>
     Some(triggers.take(rt, taker)?.into_key())
 }
 
-// A queue whose sizes may be large.
+// A queue that is opened by the second try, where memory was refused once.
+fn small_queue_of(
+    alloc: Global,
+    capacity: u32,
+    posters: u32,
+) -> Result<(Triggers, Vec<Poster>, Taker), OpenFault> {
+    match Triggers::open(alloc, capacity, posters) {
+        Err(OpenFault::Memory) => Triggers::open(alloc, capacity, posters),
+        opened => opened,
+    }
+}
+
+// The same of a queue whose sizes may be large.
 fn large_queue_of(
     alloc: Global,
     capacity: u32,
@@ -78,10 +99,9 @@ fn large_map_of(
     }
 }
 
-// Memory may be refused once: each is then opened by a second try.
 #[test]
 fn refused_memory_is_told_and_opens_nothing(rt: HostRuntime) {
-    assert!(rt; queue_of(rt.alloc(), 3, 2).is_ok());
+    assert!(rt; small_queue_of(rt.alloc(), 3, 2).is_ok());
     assert!(rt; large_queue_of(rt.alloc(), 65_537, 1_025).is_ok());
     assert!(rt; large_map_of(rt.alloc(), 131_073, 1_025).is_ok());
 }
@@ -212,14 +232,9 @@ fn assert_in_order(rt: &impl Abort, keys: [u32; 20]) {
 
 #[test]
 fn each_ticket_comes_once_and_in_order(rt: HostRuntime) -> Result<(), Fail> {
-    let (map, _writer, mut readers) = ReaderMap::open(rt.alloc(), 20, 1, 2, 0)?;
-    let (triggers, mut posters, taker) = queue_of(rt.alloc(), 3, 2)?;
-    let (Some(one), Some(two)) = (readers.pop(), readers.pop()) else {
-        return Err("too few readers".into());
-    };
-    if let (Some(first), Some(second)) = (posters.pop(), posters.pop()) {
-        let keys = all_at_once(&rt, &map, &triggers, (one, two), (first, second), taker);
-        assert_in_order(&rt, keys);
-    }
+    let (map, _writer, one, two) = map_of(rt.alloc())?;
+    let (triggers, taker, first, second) = queue_of(rt.alloc())?;
+    let keys = all_at_once(&rt, &map, &triggers, (one, two), (first, second), taker);
+    assert_in_order(&rt, keys);
     Ok(())
 }

@@ -1,4 +1,0 @@
-use Rattle.nr_trigger_tests.proofs.queues.queue_of.Given as goal
-
-abbrev pub ghost-open : goal.ghost-open
-ghost-open a = 20
