@@ -5,9 +5,8 @@ ghost use Rattle.nr_held.specs.Caches.{AreOf, IsOf};
 use nr_held::Cache;
 use nr_map::{Hand, Reader, ReaderMap};
 use nr_model::{OpenFault, RowSet};
-use nr_tour_parts::{Page, ask_and_fill, opened};
+use nr_tour_parts::{Page, opened_filled};
 use std::alloc::Global;
-use std::io::Print;
 
 // A list of one reader.
 fn list_of(alloc: Global, map: &ReaderMap, reader: Reader) -> Result<Vec<Reader>, OpenFault>
@@ -16,8 +15,10 @@ fn list_of(alloc: Global, map: &ReaderMap, reader: Reader) -> Result<Vec<Reader>
     ensures some { IfOk result (λ readers. 0 < length readers.items) }
 {
     let mut readers = Vec::new(alloc);
-    readers.push(reader).map_err(|_| OpenFault::Memory)?;
-    Ok(readers)
+    match readers.push(reader) {
+        Ok(()) => Ok(readers),
+        Err(_) => Err(OpenFault::Memory),
+    }
 }
 
 // A cache of those readers, one hand for each of the list.
@@ -68,22 +69,28 @@ fn end(map: &ReaderMap, mut hands: Vec<Hand>)
     hands.destroy_empty();
 }
 
-fn find_and_close(map: &ReaderMap, mut cache: Cache, page: &mut Page)
-    requires own { IsOf map.now cache }
+fn find_and_close(
+    alloc: Global,
+    map: &ReaderMap,
+    once: Reader,
+    readers: Vec<Reader>,
+) -> Result<Page, OpenFault>
+    requires once { once.table ≡ map.now }
+    requires own { All (λ reader. reader.table ≡ map.now) readers.items }
+    requires some { 0 < length readers.items }
     requires key { 0 < map.now.shape.keys }
 {
-    find_often(map, &mut cache, page);
+    let mut cache = cache_of(alloc, map, once, readers)?;
+    let mut page = Page::titled(alloc, "A cache");
+    find_often(map, &mut cache, &mut page);
     let (_once, hands) = cache.close(map);
     end(map, hands);
+    Ok(page)
 }
 
 /// A cache of one hand finds key 0 four times.
-pub fn show<R: AllocGlobal + Print>(rt: &R) -> anyhow::Result<()> {
-    let mut page = Page::titled(rt.alloc(), "A cache")?;
-    let (map, mut writer, mut one, two) = opened(rt.alloc(), 2, 5)?;
-    ask_and_fill(&map, &mut one, &mut writer);
-    let readers = list_of(rt.alloc(), &map, two)?;
-    let cache = cache_of(rt.alloc(), &map, one, readers)?;
-    find_and_close(&map, cache, &mut page);
-    page.print(rt)
+pub fn chapter(alloc: Global) -> Result<Page, OpenFault> {
+    let (map, _writer, one, two) = opened_filled(alloc, 2, 5)?;
+    let readers = list_of(alloc, &map, two)?;
+    find_and_close(alloc, &map, one, readers)
 }

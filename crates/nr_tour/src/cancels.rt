@@ -2,8 +2,9 @@
 ghost use Rattle.std.specs.Prelude.{◌≡◌, ◌<◌};
 
 use nr_map::{Reader, ReaderMap, Writer};
+use nr_model::OpenFault;
 use nr_tour_parts::{Page, ROWS, ask, opened, set_of};
-use std::io::Print;
+use std::alloc::Global;
 
 // An upquery was lost on its way, or so the dataflow thinks: it takes the request back, and the next
 // one is sent under the next number. Should the old answer come after all, it is stale.
@@ -30,9 +31,9 @@ fn take_back(
     page.line("the second: ", &filled);
 }
 
-pub fn show<R: AllocGlobal + Print>(rt: &R) -> anyhow::Result<()> {
-    let mut page = Page::titled(rt.alloc(), "A cancel")?;
-    let (map, mut writer, mut one, mut two) = opened(rt.alloc(), 2, 5)?;
+pub fn chapter(alloc: Global) -> Result<Page, OpenFault> {
+    let (map, mut writer, mut one, mut two) = opened(alloc, 2, 5)?;
+    let mut page = Page::titled(alloc, "A cancel");
     take_back(&map, &mut writer, &mut one, &mut two, &mut page);
-    page.print(rt)
+    Ok(page)
 }

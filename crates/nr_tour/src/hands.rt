@@ -2,9 +2,9 @@
 ghost use Rattle.std.specs.Prelude.{◌≡◌, ◌<◌};
 
 use nr_map::{Hand, Reader, ReaderMap, Writer};
-use nr_model::{Batch, RowSet};
-use nr_tour_parts::{Page, ask_and_fill, opened};
-use std::io::Print;
+use nr_model::{Batch, OpenFault, RowSet};
+use nr_tour_parts::{Page, opened_filled};
+use std::alloc::Global;
 
 fn keep_over_update(
     map: &ReaderMap,
@@ -97,10 +97,9 @@ fn keep_and_pin(
 }
 
 /// One reader finds key 0 three times, with an update before the last.
-pub fn show<R: AllocGlobal + Print>(rt: &R, change: &Batch) -> anyhow::Result<()> {
-    let mut page = Page::titled(rt.alloc(), "A hand")?;
-    let (map, mut writer, mut one, _two) = opened(rt.alloc(), 2, 5)?;
-    ask_and_fill(&map, &mut one, &mut writer);
+pub fn chapter(alloc: Global, change: &Batch) -> Result<Page, OpenFault> {
+    let (map, mut writer, one, _two) = opened_filled(alloc, 2, 5)?;
+    let mut page = Page::titled(alloc, "A hand");
     keep_and_pin(&map, &mut writer, one, change, &mut page);
-    page.print(rt)
+    Ok(page)
 }

@@ -2,9 +2,9 @@
 ghost use Rattle.std.specs.Prelude.{◌≡◌, ◌<◌};
 
 use nr_map::{Reader, ReaderMap, Writer};
-use nr_model::RowSet;
+use nr_model::{OpenFault, RowSet};
 use nr_tour_parts::{Page, ask, fill, opened};
-use std::io::Print;
+use std::alloc::Global;
 
 // Two readers want key 0.
 fn find_first(
@@ -29,9 +29,9 @@ fn find_first(
 }
 
 /// The map is new.
-pub fn show<R: AllocGlobal + Print>(rt: &R) -> anyhow::Result<()> {
-    let mut page = Page::titled(rt.alloc(), "A first read")?;
-    let (map, mut writer, mut one, mut two) = opened(rt.alloc(), 2, 5)?;
+pub fn chapter(alloc: Global) -> Result<Page, OpenFault> {
+    let (map, mut writer, mut one, mut two) = opened(alloc, 2, 5)?;
+    let mut page = Page::titled(alloc, "A first read");
     find_first(&map, &mut writer, &mut one, &mut two, &mut page);
-    page.print(rt)
+    Ok(page)
 }

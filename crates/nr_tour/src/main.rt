@@ -1,5 +1,5 @@
 //! A tour of the map for its users: a chapter in each file, and what it prints in `stdout` beside
-//! this folder. Each chapter opens a map of its own, makes its calls, and prints a page of what they
+//! this folder. Each chapter opens a map of its own, makes its calls, and writes a page of what they
 //! answered. Chapters over a queue and a server are in `nr_tour_server`.
 #![tactic(auto)]
 
@@ -21,25 +21,47 @@ mod upkeep;
 use crate::sizes::MORE;
 use crate::upkeep::CHANGE;
 use nr_model::Batch;
+use std::io::Print;
+use std::thread::Threads;
+
+// Finds and requests.
+fn show_reads<R: AllocGlobal + Print + Threads + Sync>(rt: &R) -> anyhow::Result<()> {
+    let alloc = rt.alloc();
+    lookups::chapter(alloc)?.print(rt)?;
+    many::chapter(alloc)?.print(rt)?;
+    threads::chapter(rt, alloc)?.print(rt)
+}
+
+// What the writer changes, and what readers keep meanwhile.
+fn show_changes<R: AllocGlobal + Print>(rt: &R, change: &Batch) -> anyhow::Result<()> {
+    let alloc = rt.alloc();
+    upkeep::chapter(alloc, change)?.print(rt)?;
+    pins::chapter(alloc, change)?.print(rt)?;
+    hands::chapter(alloc, change)?.print(rt)?;
+    caches::chapter(alloc)?.print(rt)
+}
+
+// Rooms, slots and sizes.
+fn show_places<R: AllocGlobal + Print>(rt: &R, change: &Batch) -> anyhow::Result<()> {
+    let alloc = rt.alloc();
+    rooms::chapter(alloc)?.print(rt)?;
+    reclaiming::chapter(alloc)?.print(rt)?;
+    slots::chapter(alloc, change)?.print(rt)?;
+    let more = Batch::of(&MORE)?;
+    sizes::chapter(alloc, change, &more)?.print(rt)
+}
+
+// What is taken back, and what one token tells another.
+fn show_meetings<R: AllocGlobal + Print>(rt: &R) -> anyhow::Result<()> {
+    let alloc = rt.alloc();
+    cancels::chapter(alloc)?.print(rt)?;
+    meetings::chapter(alloc)?.print(rt)
+}
 
 fn main(rt: HostRuntime) -> anyhow::Result<()> {
-    // Finds and requests.
-    lookups::show(&rt)?;
-    many::show(&rt)?;
-    threads::show(&rt)?;
-    // What the writer changes, and what readers keep meanwhile.
     let change = Batch::of(&CHANGE)?;
-    upkeep::show(&rt, &change)?;
-    pins::show(&rt, &change)?;
-    hands::show(&rt, &change)?;
-    caches::show(&rt)?;
-    // Rooms, slots and sizes.
-    rooms::show(&rt)?;
-    reclaiming::show(&rt)?;
-    slots::show(&rt, &change)?;
-    let more = Batch::of(&MORE)?;
-    sizes::show(&rt, &change, &more)?;
-    // What is taken back, and what one token tells another.
-    cancels::show(&rt)?;
-    meetings::show(&rt)
+    show_reads(&rt)?;
+    show_changes(&rt, &change)?;
+    show_places(&rt, &change)?;
+    show_meetings(&rt)
 }

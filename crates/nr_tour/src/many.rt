@@ -2,9 +2,9 @@
 ghost use Rattle.std.specs.Prelude.{◌≡◌, ◌<◌};
 
 use nr_map::{Reader, ReaderMap, Wanted, Writer};
-use nr_model::RowSet;
-use nr_tour_parts::{Page, ask, ask_and_fill, fill, opened};
-use std::io::Print;
+use nr_model::{OpenFault, RowSet};
+use nr_tour_parts::{Page, ask, fill, opened_filled};
+use std::alloc::Global;
 
 // Each key has a room of its own, and a key that stands twice is found twice.
 fn find_together(map: &ReaderMap, writer: &mut Writer, reader: &mut Reader, page: &mut Page)
@@ -37,12 +37,11 @@ fn load(map: &ReaderMap, reader: &mut Reader)
 }
 
 /// Key 0 is filled, and key 1 is filled between two looks at both.
-pub fn show<R: AllocGlobal + Print>(rt: &R) -> anyhow::Result<()> {
-    let mut page = Page::titled(rt.alloc(), "Many keys")?;
-    let (map, mut writer, mut one, _two) = opened(rt.alloc(), 2, 5)?;
-    ask_and_fill(&map, &mut one, &mut writer);
+pub fn chapter(alloc: Global) -> Result<Page, OpenFault> {
+    let (map, mut writer, mut one, _two) = opened_filled(alloc, 2, 5)?;
+    let mut page = Page::titled(alloc, "Many keys");
     ask(&map, &mut one, 1);
     load(&map, &mut one);
     find_together(&map, &mut writer, &mut one, &mut page);
-    page.print(rt)
+    Ok(page)
 }

@@ -5,9 +5,9 @@ ghost use Rattle.nr_board.specs.Meetings.{with_step};
 ghost use Rattle.nr_board.specs.Rule.{StartsWith};
 
 use nr_map::{Pin, Reader, ReaderMap, Writer};
-use nr_model::RowSet;
+use nr_model::{OpenFault, RowSet};
 use nr_tour_parts::{Page, ask, fill, opened};
-use std::io::Print;
+use std::alloc::Global;
 
 // The writer learns what a reader did: its history then has exactly the reader's calls, and the
 // reader's has the writer's.
@@ -100,11 +100,11 @@ fn fill_and_inform(map: &ReaderMap, writer: &mut Writer, reader: &mut Reader, pa
     page.more(", whoever was told finds ", &found);
 }
 
-pub fn show<R: AllocGlobal + Print>(rt: &R) -> anyhow::Result<()> {
-    let mut page = Page::titled(rt.alloc(), "A meeting")?;
-    let (map, mut writer, mut one, mut two) = opened(rt.alloc(), 2, 5)?;
+pub fn chapter(alloc: Global) -> Result<Page, OpenFault> {
+    let (map, mut writer, mut one, mut two) = opened(alloc, 2, 5)?;
+    let mut page = Page::titled(alloc, "A meeting");
     ask_and_learn(&map, &mut writer, &mut one, &mut two, &mut page);
     fill_and_inform(&map, &mut writer, &mut one, &mut page);
     hold_meanwhile(&map, &mut writer, one, &mut page);
-    page.print(rt)
+    Ok(page)
 }

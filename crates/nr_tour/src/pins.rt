@@ -2,9 +2,9 @@
 ghost use Rattle.std.specs.Prelude.{◌≡◌, ◌<◌};
 
 use nr_map::{Pin, Reader, ReaderMap, Writer};
-use nr_model::{Batch, Row, RowSet};
-use nr_tour_parts::{Page, ask_and_fill, opened};
-use std::io::Print;
+use nr_model::{Batch, OpenFault, Row, RowSet};
+use nr_tour_parts::{Page, opened_filled};
+use std::alloc::Global;
 
 // The first of the rows that a pin holds, which is read where it lies.
 fn first_row(map: &ReaderMap, pin: &mut Pin) -> Option<Row>
@@ -53,10 +53,9 @@ fn hold_over_update(
 }
 
 /// Reader 1 holds key 0's set while the key is updated; reader 2 finds the new one.
-pub fn show<R: AllocGlobal + Print>(rt: &R, change: &Batch) -> anyhow::Result<()> {
-    let mut page = Page::titled(rt.alloc(), "A pin")?;
-    let (map, mut writer, mut one, mut two) = opened(rt.alloc(), 2, 5)?;
-    ask_and_fill(&map, &mut one, &mut writer);
+pub fn chapter(alloc: Global, change: &Batch) -> Result<Page, OpenFault> {
+    let (map, mut writer, one, mut two) = opened_filled(alloc, 2, 5)?;
+    let mut page = Page::titled(alloc, "A pin");
     hold_over_update(&map, &mut writer, one, &mut two, change, &mut page);
-    page.print(rt)
+    Ok(page)
 }

@@ -4,9 +4,8 @@ ghost use Rattle.std.specs.Prelude.{◌≡◌, ◌<◌};
 use crate::texts::Texts;
 use nr_map::{FillFault, Pin, Reader, ReaderMap, Reaped, Reclaimed, Remains, Writer};
 use nr_model::{Delta, OpenFault, Pile, Row};
-use nr_tour_parts::{Page, ask, ask_and_fill, opened};
+use nr_tour_parts::{Page, ask, opened_filled};
 use std::alloc::Global;
-use std::io::Print;
 
 const FIRST: [Row; 1] = [Row { a: 1, b: 0 }];
 
@@ -153,16 +152,15 @@ fn leave_in_place(map: &ReaderMap, writer: &mut Writer, page: &mut Page)
 }
 
 fn fill_and_leave(alloc: Global, page: &mut Page) -> Result<(), OpenFault> {
-    let (map, mut writer, mut one, _two) = opened(alloc, 1, 2)?;
-    ask_and_fill(&map, &mut one, &mut writer);
+    let (map, mut writer, _one, _two) = opened_filled(alloc, 1, 2)?;
     leave_in_place(&map, &mut writer, page);
     Ok(())
 }
 
-pub fn show<R: AllocGlobal + Print>(rt: &R) -> anyhow::Result<()> {
-    let mut page = Page::titled(rt.alloc(), "Given back")?;
-    let mut texts = Texts::of_three(rt.alloc())?;
-    give_back(rt.alloc(), &mut texts, &mut page)?;
-    fill_and_leave(rt.alloc(), &mut page)?;
-    page.print(rt)
+pub fn chapter(alloc: Global) -> Result<Page, OpenFault> {
+    let mut texts = Texts::of_three(alloc)?;
+    let mut page = Page::titled(alloc, "Given back");
+    give_back(alloc, &mut texts, &mut page)?;
+    fill_and_leave(alloc, &mut page)?;
+    Ok(page)
 }

@@ -4,9 +4,9 @@ ghost use Rattle.nr_model.specs.Rows.{is_ascending};
 
 use crate::upkeep::CHANGE;
 use nr_map::{FillFault, Reader, ReaderMap, ReplaceFault, Writer};
-use nr_model::{Pile, Row};
-use nr_tour_parts::{Page, ask, ask_and_fill, opened};
-use std::io::Print;
+use nr_model::{OpenFault, Pile, Row};
+use nr_tour_parts::{Page, ask, opened_filled};
+use std::alloc::Global;
 
 // A fill from a slice whose rows are in order. None where they are more than a key may have.
 fn fill_from(
@@ -66,11 +66,10 @@ fn copy_rows(map: &ReaderMap, writer: &mut Writer, reader: &mut Reader, page: &m
 
 /// Key 0 is filled, and key 1 gets the same rows, of which one goes and another comes. Then key 0's
 /// set is replaced by key 1's.
-pub fn show<R: AllocGlobal + Print>(rt: &R) -> anyhow::Result<()> {
-    let mut page = Page::titled(rt.alloc(), "Another room")?;
-    let (map, mut writer, mut one, _two) = opened(rt.alloc(), 2, 5)?;
-    ask_and_fill(&map, &mut one, &mut writer);
+pub fn chapter(alloc: Global) -> Result<Page, OpenFault> {
+    let (map, mut writer, mut one, _two) = opened_filled(alloc, 2, 5)?;
+    let mut page = Page::titled(alloc, "Another room");
     ask(&map, &mut one, 1);
     copy_rows(&map, &mut writer, &mut one, &mut page);
-    page.print(rt)
+    Ok(page)
 }

@@ -11,7 +11,6 @@ use nr_map::{KeyKind, NoSlot, Reader, ReaderMap, Shape, UpdateFault, Writer, law
 use nr_model::{Batch, Delta, OpenFault, Row};
 use nr_tour_parts::{Page, ask, fill};
 use std::alloc::Global;
-use std::io::Print;
 
 /// A change that only brings a row.
 pub const MORE: [Delta; 1] = [Delta {
@@ -93,11 +92,11 @@ fn keep_small(map: &ReaderMap, writer: &mut Writer, change: &Batch, more: &Batch
 }
 
 /// Key 0 is filled with two rows, changed to two others, and refuses a third.
-pub fn show<R: AllocGlobal + Print>(rt: &R, change: &Batch, more: &Batch) -> anyhow::Result<()> {
-    let mut page = Page::titled(rt.alloc(), "Other sizes")?;
-    let (map, mut writer, mut reader) = opened_small(rt.alloc())?;
+pub fn chapter(alloc: Global, change: &Batch, more: &Batch) -> Result<Page, OpenFault> {
+    let (map, mut writer, mut reader) = opened_small(alloc)?;
+    let mut page = Page::titled(alloc, "Other sizes");
     show_sizes(&map, &mut page);
     ask(&map, &mut reader, 0);
     keep_small(&map, &mut writer, change, more, &mut page);
-    page.print(rt)
+    Ok(page)
 }

@@ -2,9 +2,9 @@
 ghost use Rattle.std.specs.Prelude.{◌≡◌, ◌<◌};
 
 use nr_map::{Reader, ReaderMap, Writer};
-use nr_model::Batch;
-use nr_tour_parts::{Page, ask, ask_and_fill, fill, opened};
-use std::io::Print;
+use nr_model::{Batch, OpenFault};
+use nr_tour_parts::{Page, ask, fill, opened_filled};
+use std::alloc::Global;
 
 // Of two slots key 0 has one, and a pin holds its old set in the other: there is none for key 1 until
 // the pin is released. The key stays asked meanwhile, so the same answer fills it later.
@@ -48,11 +48,10 @@ fn evict_another(map: &ReaderMap, writer: &mut Writer, change: &Batch, page: &mu
 
 /// A map of 2 keys, 2 readers and 2 slots only. With 5 it would never come to this: one for each
 /// key, each reader and one more.
-pub fn show<R: AllocGlobal + Print>(rt: &R, change: &Batch) -> anyhow::Result<()> {
-    let mut page = Page::titled(rt.alloc(), "No slot")?;
-    let (map, mut writer, mut one, mut two) = opened(rt.alloc(), 2, 2)?;
-    ask_and_fill(&map, &mut one, &mut writer);
+pub fn chapter(alloc: Global, change: &Batch) -> Result<Page, OpenFault> {
+    let (map, mut writer, one, mut two) = opened_filled(alloc, 2, 2)?;
+    let mut page = Page::titled(alloc, "No slot");
     wait_for_pin(&map, &mut writer, one, &mut two, change, &mut page);
     evict_another(&map, &mut writer, change, &mut page);
-    page.print(rt)
+    Ok(page)
 }

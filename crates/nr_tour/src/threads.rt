@@ -2,9 +2,9 @@
 ghost use Rattle.std.specs.Prelude.{◌≡◌, ◌<◌};
 
 use nr_map::{Found, Reader, ReaderMap, Writer};
-use nr_model::RowSet;
+use nr_model::{OpenFault, RowSet};
 use nr_tour_parts::{Page, Told, ask, fill, opened};
-use std::io::Print;
+use std::alloc::Global;
 use std::thread::{Threads, join};
 
 // What each thread does: finds the key, and asks for it where it is a hole.
@@ -78,9 +78,9 @@ fn ask_at_once<R: Threads + Sync>(
     page.line("after the fill: ", &(third, fourth));
 }
 
-pub fn show<R: AllocGlobal + Print + Threads + Sync>(rt: &R) -> anyhow::Result<()> {
-    let mut page = Page::titled(rt.alloc(), "Two threads")?;
-    let (map, mut writer, one, two) = opened(rt.alloc(), 2, 5)?;
+pub fn chapter<R: Threads + Sync>(rt: &R, alloc: Global) -> Result<Page, OpenFault> {
+    let (map, mut writer, one, two) = opened(alloc, 2, 5)?;
+    let mut page = Page::titled(alloc, "Two threads");
     ask_at_once(rt, &map, &mut writer, one, two, &mut page);
-    page.print(rt)
+    Ok(page)
 }

@@ -1,10 +1,10 @@
 //! What the dataflow does to a filled key.
 ghost use Rattle.std.specs.Prelude.{◌≡◌, ◌<◌};
 
-use nr_map::{Reader, ReaderMap, Writer};
-use nr_model::{Batch, Delta, Row, RowSet};
-use nr_tour_parts::{Page, ask_and_fill, opened, set_of};
-use std::io::Print;
+use nr_map::{ReaderMap, Writer};
+use nr_model::{Batch, Delta, OpenFault, Row, RowSet};
+use nr_tour_parts::{Page, opened_filled, set_of};
+use std::alloc::Global;
 
 /// A change of the rows that a fill brings: one goes and another comes.
 pub const CHANGE: [Delta; 2] = [
@@ -33,17 +33,10 @@ fn replace(map: &ReaderMap, writer: &mut Writer, page: &mut Page)
 
 // The change is applied whole or not at all: the second time there is no row `7:1` to take away, and
 // the third time no set.
-fn keep_up(
-    map: &ReaderMap,
-    writer: &mut Writer,
-    reader: &mut Reader,
-    change: &Batch,
-    page: &mut Page,
-)
-    requires own { (reader.old.table ≡ map.now) × (writer.old.table ≡ map.now) }
+fn keep_up(map: &ReaderMap, writer: &mut Writer, change: &Batch, page: &mut Page)
+    requires own { writer.old.table ≡ map.now }
     requires key { 0 < map.now.shape.keys }
 {
-    ask_and_fill(map, reader, writer);
     let mut rows = RowSet::new();
     page.line("an update: ", &map.update(writer, 0, change));
     map.look(writer, 0, &mut rows);
@@ -55,10 +48,10 @@ fn keep_up(
     page.line("an update of the hole: ", &dropped);
 }
 
-/// The writer fills key 0, changes it, replaces its set and evicts it.
-pub fn show<R: AllocGlobal + Print>(rt: &R, change: &Batch) -> anyhow::Result<()> {
-    let mut page = Page::titled(rt.alloc(), "Upkeep")?;
-    let (map, mut writer, mut one, _two) = opened(rt.alloc(), 2, 5)?;
-    keep_up(&map, &mut writer, &mut one, change, &mut page);
-    page.print(rt)
+/// Key 0 is filled; the writer changes it, replaces its set and evicts it.
+pub fn chapter(alloc: Global, change: &Batch) -> Result<Page, OpenFault> {
+    let (map, mut writer, _one, _two) = opened_filled(alloc, 2, 5)?;
+    let mut page = Page::titled(alloc, "Upkeep");
+    keep_up(&map, &mut writer, change, &mut page);
+    Ok(page)
 }

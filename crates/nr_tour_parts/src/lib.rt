@@ -7,5 +7,5 @@ mod opening;
 mod page;
 
 pub use crate::calls::{ROWS, Told, ask, ask_and_fill, fill, set_of};
-pub use crate::opening::opened;
+pub use crate::opening::{opened, opened_filled};
 pub use crate::page::Page;

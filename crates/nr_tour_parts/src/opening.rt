@@ -1,6 +1,7 @@
 //! How a map is opened.
-ghost use Rattle.std.specs.Prelude.{◌≡◌, IfOk};
+ghost use Rattle.std.specs.Prelude.{◌≡◌, ◌<◌, IfOk};
 
+use crate::calls::ask_and_fill;
 use nr_map::{Reader, ReaderMap, Writer};
 use nr_model::OpenFault;
 use std::alloc::Global;
@@ -20,5 +21,20 @@ pub fn opened(
     let (Some(two), Some(one)) = (readers.pop(), readers.pop()) else {
         unreachable!()
     };
+    Ok((map, writer, one, two))
+}
+
+/// The same, where key 0 was asked for by reader 1 and is filled.
+pub fn opened_filled(
+    alloc: Global,
+    keys: u32,
+    slots: u32,
+) -> Result<(ReaderMap, Writer, Reader, Reader), OpenFault>
+    requires key { 0 < keys }
+    ensures keys { IfOk result (λ opened. opened.0.shape.keys ≡ keys) }
+    ensures own { IfOk result (λ opened. (opened.1.table ≡ opened.0) × (opened.2.table ≡ opened.0) × (opened.3.table ≡ opened.0)) }
+{
+    let (map, mut writer, mut one, two) = opened(alloc, keys, slots)?;
+    ask_and_fill(&map, &mut one, &mut writer);
     Ok((map, writer, one, two))
 }

@@ -14,12 +14,17 @@ pub struct Page {
 
 impl Page {
     /// A page with its title alone.
-    pub fn titled(alloc: Global, title: &str) -> Result<Page, OpenFault> {
-        let text = String::from_str(alloc, title).map_err(|_| OpenFault::Memory)?;
-        Ok(Page {
-            text,
-            is_whole: true,
-        })
+    pub fn titled(alloc: Global, title: &str) -> Page {
+        match String::from_str(alloc, title) {
+            Ok(text) => Page {
+                text,
+                is_whole: true,
+            },
+            Err(_) => Page {
+                text: String::new(alloc),
+                is_whole: false,
+            },
+        }
     }
 
     /// A new line: a text, and a value after it.

@@ -90,7 +90,6 @@ fn post_in_turn(
 
 /// Nobody else calls here, so no attempt fails for a thread that is in the way.
 pub fn passed_on(alloc: Global) -> Result<Page, OpenFault> {
-    let mut page = Page::titled(alloc, "One attempt")?;
     let Server {
         map,
         mut writer,
@@ -99,6 +98,7 @@ pub fn passed_on(alloc: Global) -> Result<Page, OpenFault> {
         mut poster,
         mut taker,
     } = opened_server(alloc, 1)?;
+    let mut page = Page::titled(alloc, "One attempt");
     post_in_turn(
         &map,
         &triggers,

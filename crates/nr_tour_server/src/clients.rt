@@ -114,7 +114,6 @@ fn serve_beside<R: Threads + Wait + Sync>(
 
 /// A client gets key 1 while the dataflow takes turns.
 pub fn waited_for<R: Threads + Wait + Sync>(rt: &R, alloc: Global) -> Result<Page, OpenFault> {
-    let mut page = Page::titled(alloc, "A client")?;
     let Server {
         map,
         writer,
@@ -124,6 +123,7 @@ pub fn waited_for<R: Threads + Wait + Sync>(rt: &R, alloc: Global) -> Result<Pag
         taker,
     } = opened_server(alloc, 4)?;
     let lobby = Lobby::open(alloc)?;
+    let mut page = Page::titled(alloc, "A client");
     let served = serve_beside(rt, &map, &triggers, reader, poster, writer, taker, &lobby);
     if let Some(served) = served {
         page.line("it got ", &served.got);

@@ -105,9 +105,9 @@ fn end(client: Client<'_, OpenGate>, flow: Dataflow<'_, Shelf>) {
 
 /// A client and a dataflow in one hand.
 pub fn in_one_hand<R: Wait>(rt: &R, alloc: Global, by: &Batch) -> Result<Page, OpenFault> {
-    let mut page = Page::titled(alloc, "A dataflow")?;
     let server = opened_server(alloc, 4)?;
     let lobby = Lobby::open(alloc)?;
+    let mut page = Page::titled(alloc, "A dataflow");
     work(rt, server, &lobby, by, &mut page);
     Ok(page)
 }

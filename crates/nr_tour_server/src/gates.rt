@@ -81,9 +81,9 @@ fn get_filled<R: Wait>(rt: &R, server: Server, lobby: &Lobby, page: &mut Page)
 
 /// A client finds key 0 filled, and has its rows once the gate lets it pass.
 pub fn held_back<R: Wait>(rt: &R, alloc: Global) -> Result<Page, OpenFault> {
-    let mut page = Page::titled(alloc, "A gate")?;
     let server = opened_server(alloc, 1)?;
     let lobby = Lobby::open(alloc)?;
+    let mut page = Page::titled(alloc, "A gate");
     get_filled(rt, server, &lobby, &mut page);
     Ok(page)
 }

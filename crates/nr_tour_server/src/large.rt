@@ -12,7 +12,6 @@ fn has_queue(alloc: Global) -> bool {
 
 /// A map of 200,000 keys, of which the last is looked at.
 pub fn opened_large(alloc: Global) -> Result<Page, OpenFault> {
-    let mut page = Page::titled(alloc, "A large map")?;
     let shape = Shape {
         keys: 200_000,
         slots: 200_002,
@@ -22,6 +21,7 @@ pub fn opened_large(alloc: Global) -> Result<Page, OpenFault> {
         rows: 1,
     };
     let (map, mut writer, _readers) = ReaderMap::open_large(alloc, &shape)?;
+    let mut page = Page::titled(alloc, "A large map");
     page.line("keys ", &map.keys());
     page.more(", slots ", &map.slots());
     page.line("its last key: ", &map.state(&mut writer, 199_999));

@@ -8,8 +8,8 @@ use std::sync::Wait;
 /// A thread that waits counts first, and looks then: what is raised after its look has passed the
 /// count, so no wake-up is missed. Here nobody sleeps, since the lobby was raised, and then is closed.
 pub fn raised_once<R: Wait>(rt: &R, alloc: Global) -> Result<Page, OpenFault> {
-    let mut page = Page::titled(alloc, "A lobby")?;
     let lobby = Lobby::open(alloc)?;
+    let mut page = Page::titled(alloc, "A lobby");
     let mut guest = lobby.guest();
     let before = lobby.count(&mut guest);
     lobby.raise(rt, &mut guest);

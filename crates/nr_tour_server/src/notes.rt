@@ -147,9 +147,9 @@ pub fn written_and_read<R: Threads + Wait + Sync>(
     rt: &R,
     alloc: Global,
 ) -> Result<Page, OpenFault> {
-    let mut page = Page::titled(alloc, "An acknowledged write")?;
     let (map, mut writer, mut one, two) = opened(alloc, 2, 5)?;
     let (triggers, mut poster, mut taker) = queue_for(alloc, &map)?;
+    let mut page = Page::titled(alloc, "An acknowledged write");
     ask_and_tell(rt, &map, &triggers, &mut one, &mut poster);
     let filled = hear_and_fill(rt, &map, &triggers, &mut writer, &mut taker);
     page.line("the fill: ", &filled);

@@ -139,7 +139,6 @@ fn post_in_turn<R: Wait>(
 
 /// Reader 1 misses both keys, and the dataflow answers in the order of the tickets.
 pub fn passed_on<R: Wait>(rt: &R, alloc: Global) -> Result<Page, OpenFault> {
-    let mut page = Page::titled(alloc, "A queue of one")?;
     let Server {
         map,
         mut writer,
@@ -148,6 +147,7 @@ pub fn passed_on<R: Wait>(rt: &R, alloc: Global) -> Result<Page, OpenFault> {
         mut poster,
         mut taker,
     } = opened_server(alloc, 1)?;
+    let mut page = Page::titled(alloc, "A queue of one");
     post_in_turn(
         rt,
         &map,
