@@ -1,10 +1,11 @@
 """Wrong bodies of crates, crates/NAME/must-fail/*.edit: the prover must refuse each.
 
-One check tries many wrong bodies of a crate, each in a function of its own, and proves no other function but those that
-they call. A wrong body is refused where a goal of its own function is open. Where it stands in no function, or another
-one's goal shows it, a line `refused in: NAME` of the edit, which rt passes over, names that one, and the wrong body has a
-check for itself. What isn't refused so is tried as rt must-fail does. All checks of a crate keep what they proved in one
-folder, for the next.
+One check tries many wrong bodies of a crate, and proves no other function but those that they call. A wrong body stands in
+a copy of its function, of another name, so that the others call the right one. A function that has files of its proof, or
+is a trait's, is edited in its place, by one body a check. A wrong body is refused where a goal of its own function is
+open. Where it stands in no function, or another one's goal shows it, a line `refused in: NAME` of the edit, which rt passes
+over, names that one, and the wrong body has a check for itself. What isn't refused so is tried as rt must-fail does. All
+checks of a crate keep what they proved in one folder, for the next.
 """
 import collections
 import os
@@ -13,19 +14,37 @@ import re
 import shutil
 import subprocess
 import tempfile
+from typing import NamedTuple
 
 import kit
 
 HEAD = re.compile(r"( *)(?:pub(?:\([a-z]+\))? )?(?:const )?(?:unsafe )?(?:extern \"C\" )?fn (\w+)")
+OWNER = re.compile(r"(?:pub )?(?:impl|trait)\b")
+KIND = re.compile(r"impl(?:<.*?>)? (?:(?:\w+::)*(\w+)(?:<.*>)? for )?(\w+)")
 TOLD = re.compile(r"(?:note: )?(?:\./)?(\S+?):(\d+):\d+: (.*)")
 
-# A wrong body: the functions that must be refused, and where it stands, if that is the only one of them.
-Body = collections.namedtuple("Body", "edit texts functions path lines")
+
+class Function(NamedTuple):
+    name: str
+    first: int  # its first line, attributes among them, and its last, from 1
+    last: int
+    owner: tuple  # the lines that begin its impl block, of a free function none; None of a trait's
+
+
+class Body(NamedTuple):
+    """A wrong body: the functions that must be refused, where it stands, if that is the only one of them, and what to add to
+    that file for a copy, if it may be one."""
+
+    edit: str
+    texts: dict
+    functions: tuple
+    path: str = ""
+    lines: tuple = (0, 0)
+    copy: str = ""
 
 
 def function_at(lines, at):
-    """The function whose body has the line: the end of its name, and its first line, attributes among them, and its last.
-    None where there is none."""
+    """The function that has the line. None where there is none."""
     for number in range(at, -1, -1):
         head = HEAD.match(lines[number])
         if not head:
@@ -34,40 +53,64 @@ def function_at(lines, at):
         opens = (f"{indent}{{", f"{indent})")
         first = next(it for it in range(number, len(lines)) if it == number and lines[it].endswith("{") or lines[it].startswith(opens) and lines[it].endswith("{"))
         last = next(it for it in range(first, len(lines)) if lines[it] == f"{indent}}}")
-        if not first <= at <= last:
+        if at != number and not first <= at <= last:
             continue
         while number and lines[number - 1].startswith(f"{indent}#["):
             number -= 1
-        owner = next((lines[it] for it in range(number, -1, -1) if re.match(r"impl\b", lines[it])), "") if indent else ""
-        kind = re.match(r"impl(?:<.*?>)? (?:(?:\w+::)*(\w+)(?:<.*>)? for )?(\w+)", owner)
-        return f"{kind[2]}{kind[1] or ''}::{head[2]}" if kind else head[2], number + 1, last + 1
+        owner = next((it for it in range(number, -1, -1) if OWNER.match(lines[it])), number) if indent else number
+        kind = KIND.match(lines[owner]) if indent else None
+        name = f"{kind[2]}{kind[1] or ''}::{head[2]}" if kind else head[2]
+        opening = [it for it in lines[owner:number] if it == lines[owner] or it.startswith(f"{indent}ghost use ")]
+        is_free = not indent or kind and not kind[1] and lines[owner].endswith("{")
+        return Function(name, number + 1, last + 1, tuple(opening) if is_free else None)
     return None
 
 
-def read(rt, crate, edit):
-    """The wrong body, or None where nothing tells which function shows it."""
+def has_proof(folder, name):
+    """Whether a function has files of its proof."""
+    last = name.split("::")[-2:]
+    return any(it.is_dir() and [*it.parts[-len(last):]] == last for it in pathlib.Path(folder, "proofs").rglob(last[-1]))
+
+
+def copy_of(function, text, number):
+    """What a copy of the function of a text adds to its file, by another name."""
+    lines = text.split("\n")[function.first - 1 : function.last]
+    head = next(it for it, line in enumerate(lines) if HEAD.match(line))
+    lines[head] = re.sub(r"\bfn (\w+)", rf"fn \1_{number}", lines[head], count=1)
+    return "\n".join([*function.owner, *lines, "}"] if function.owner else lines)
+
+
+def read(rt, crate, edit, number):
+    """The wrong body, or None where nothing tells which function shows it. By the number its copy is told from others."""
     texts, why = rt.read_edit(edit, crate.folder)
     if why:
         return None
     named = re.findall(r"^refused in: (\S+)$", pathlib.Path(edit).read_text(), re.M)
     if named:
-        return Body(edit, texts, tuple(named), "", (0, 0))
-    found = set()
+        return Body(edit, texts, tuple(named))
+    found, is_within = set(), True
     for path, text in texts.items():
         old, new = pathlib.Path(crate.folder, path).read_text().split("\n"), text.split("\n")
-        changed = [at for at, (one, other) in enumerate(zip(old, new)) if one != other and not one.startswith("use ")]
+        changed = [at for at, (one, other) in enumerate(zip(old, new)) if one != other]
         if len(old) != len(new) or not path.startswith("src/"):
             return None
-        module = pathlib.Path(path).stem
         for at in changed:
+            if old[at].startswith("use "):
+                is_within = False
+                continue
             one = function_at(old, at)
             if not one:
                 return None
-            is_whole = "::" in one[0] or module in ("lib", "main")
-            found.add((one[0] if is_whole else f"{module}::{one[0]}", path, one[1:]))
-    functions = tuple(name for name, _, _ in found)
-    _, path, lines = found.pop()
-    return Body(edit, texts, functions, path, lines) if not found else Body(edit, texts, functions, "", (0, 0))
+            found.add((path, one))
+    module = lambda path, name: name if "::" in name or pathlib.Path(path).stem in ("lib", "main") else f"{pathlib.Path(path).stem}::{name}"
+    functions = tuple(module(path, one.name) for path, one in found)
+    if len(found) > 1:
+        return Body(edit, texts, functions)
+    path, one = found.pop()
+    if not is_within or one.owner is None or has_proof(crate.folder, functions[0]):
+        return Body(edit, texts, functions, path, (one.first, one.last))
+    copy = copy_of(one, texts[path], number)
+    return Body(edit, texts, (f"{functions[0]}_{number}",), path, copy=copy)
 
 
 def groups(bodies):
@@ -106,19 +149,31 @@ def is_unproved(body, said):
     return any(head[0].endswith(ends) and head[1].startswith(("not proved", "no proof")) for head in heads)
 
 
+def put(rt, room, group):
+    """Puts wrong bodies into the copy of a crate, and gives them with where they stand, and those that have to wait."""
+    tried, later = [], []
+    for body in (it for it in group if not it.copy):
+        # Its old text may stand in the new one of another.
+        texts, why = rt.read_edit(body.edit, room)
+        (later if why else tried).append(body)
+        for path, text in (texts or {}).items():
+            pathlib.Path(room, path).write_text(text)
+    for body in (it for it in group if it.copy):
+        file = pathlib.Path(room, body.path)
+        before = file.read_text() + "\n"
+        after = f"{before}{body.copy}\n"
+        file.write_text(after)
+        tried.append(body._replace(lines=(before.count("\n") + 1, after.count("\n"))))
+    return tried, later
+
+
 def try_group(rt, crate, group, kept):
     """What is said of each wrong body that is refused, all being tried by one check over what is kept."""
     with tempfile.TemporaryDirectory(prefix="rt-edit-") as room:
         for part in rt.rtlib.PARTS:
             if os.path.isdir(f"{crate.folder}/{part}"):
                 shutil.copytree(f"{crate.folder}/{part}", f"{room}/{part}")
-        tried, later = [], []
-        for body in group:
-            # Its old text may stand in the new one of another.
-            texts, why = rt.read_edit(body.edit, room)
-            (later if why else tried).append(body)
-            for path, text in (texts or {}).items():
-                pathlib.Path(room, path).write_text(text)
+        tried, later = put(rt, room, group)
         only = [word for body in tried for name in body.functions for word in ("--only", name)]
         words = [rt.rtlib.RATTLE, "check", *crate.words(["--jobs", "1", *only], keeps=False), "--incremental", kept]
         how = {"cwd": room, "stdin": subprocess.DEVNULL, "stdout": subprocess.PIPE, "stderr": subprocess.STDOUT}
@@ -131,10 +186,15 @@ def try_group(rt, crate, group, kept):
     return found
 
 
+def kinds_of_refusal(rt):
+    """What rt.must_fail says of a wrong body that is refused: a word of the kit's, or in other kits True."""
+    return {getattr(rt, name, True) for name in ("REFUSED", "AT_LIMIT")}
+
+
 def try_all(rt, crate, edits, kept):
     """Tries the wrong bodies of a crate in turn, says what comes of each, and counts them: those that are refused, those that
     aren't, and those that had a check of the whole crate."""
-    found, left = {}, [it for edit in edits if (it := read(rt, crate, edit))]
+    found, left = {}, [it for number, edit in enumerate(edits) if (it := read(rt, crate, edit, number))]
     tried = None
     # A function's goals wait for those that it calls, so where one of these has a wrong body too, it is tried again after it.
     while left and len(left) != tried:
@@ -149,7 +209,7 @@ def try_all(rt, crate, edits, kept):
     alone = [rt.must_fail(crate, edit, ["--jobs", "1"], kept) for edit in edits if edit not in found]
     for _, text in alone:
         kit.say(text)
-    passed = sum(kind not in (rt.REFUSED, rt.AT_LIMIT) for kind, _ in alone)
+    passed = sum(kind not in kinds_of_refusal(rt) for kind, _ in alone)
     return collections.Counter(refused=len(edits) - passed, passed=passed, alone=len(alone))
 
 
