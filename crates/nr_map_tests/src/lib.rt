@@ -1,9 +1,6 @@
-//! Tests of the running map and of one in one hand, by public calls alone: threads, the largest maps,
-//! worked calls, and what is answered where the slots run out.
+//! Tests of the running map by public calls alone: threads, the largest maps, and sets that come back.
 #![tactic(auto)]
 
-#[cfg(test)]
-mod alone;
 #[cfg(test)]
 mod calls;
 #[cfg(test)]

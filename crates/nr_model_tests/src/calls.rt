@@ -11,7 +11,7 @@ use std::alloc::Global;
 use std::process::Abort;
 use std::test::Fail;
 
-fn row(a: u64, b: u64) -> Row {
+pub(crate) fn row(a: u64, b: u64) -> Row {
     Row { a, b }
 }
 

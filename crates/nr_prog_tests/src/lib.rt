@@ -1,9 +1,18 @@
-//! Tests of the program's public calls, of lines that are served, and of what is told where a read or a write fails.
-//! What the program writes for an input is tried by tests/rows.
+//! Tests of scripts, schedules and the program by their public calls alone: readers and writers that fail or take
+//! little, damaged lines, inputs at their limit, refused memory. What the program writes for an input is tried by
+//! tests/rows.
 #![tactic(auto)]
 
 #[cfg(test)]
 mod calls;
+#[cfg(test)]
+mod devices;
+#[cfg(test)]
+mod faults;
+#[cfg(test)]
+mod lines;
+#[cfg(test)]
+mod refused_memory;
 #[cfg(test)]
 mod serving;
 #[cfg(test)]

@@ -15,8 +15,6 @@ mod queues;
 #[cfg(test)]
 mod scenes;
 #[cfg(test)]
-mod tickets;
-#[cfg(test)]
 mod wakes;
 #[cfg(test)]
 mod works;

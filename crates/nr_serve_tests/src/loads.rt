@@ -145,17 +145,6 @@ fn two_readers_meet_in_each_of_fifty_gets(rt: HostRuntime) {
     );
 }
 
-#[test]
-fn four_readers_share_eight_keys(rt: HostRuntime) {
-    let plan = Plan {
-        seed: 7,
-        readers: 4,
-        keys: 8,
-        gets: 100,
-    };
-    assert_eq!(rt; told(&reported(&rt, &plan, &OpenGate)), (400, 400, true));
-}
-
 /// Lets the dataflow run before each answer.
 #[derive(Drop)]
 struct Yielding;
@@ -193,24 +182,6 @@ fn fills_of<R: Threads + Wait + Sync + Abort + AllocGlobal>(rt: &R, seed: u64) -
     let report = reported(rt, &plan, &Yielding);
     assert!(rt; report.fills <= 10 && report.asked == 0);
     report.fills
-}
-
-#[test]
-fn readers_that_make_no_gets(rt: HostRuntime) {
-    let plan = Plan {
-        seed: 1,
-        readers: 1,
-        keys: 1,
-        gets: 0,
-    };
-    let wanted = LoadReport {
-        gets: 0,
-        answered: 0,
-        sends: 0,
-        fills: 0,
-        asked: 0,
-    };
-    assert_eq!(rt; reported(&rt, &plan, &OpenGate), wanted);
 }
 
 /// As many readers as there may be, on one key. The system may refuse so many threads.

@@ -34,16 +34,20 @@ pub(crate) fn one_row(a: u64, b: u64) -> RowSet
     }
 }
 
-/// A map of two keys with its one reader.
-pub(crate) fn one_reader(alloc: Global, slots: u32) -> Result<(ReaderMap, Writer, Reader), Fail>
-    ensures keys { IfOk result (λ opened. opened.0.shape.keys ≡ 2) }
+/// A map of that many keys with its two readers.
+pub(crate) fn two_readers(
+    alloc: Global,
+    keys: u32,
+    slots: u32,
+) -> Result<(ReaderMap, Writer, Reader, Reader), Fail>
+    ensures keys { IfOk result (λ opened. opened.0.shape.keys ≡ keys) }
     ensures writer { IfOk result (λ opened. opened.1.table ≡ opened.0) }
-    ensures reader { IfOk result (λ opened. opened.2.table ≡ opened.0) }
+    ensures readers { IfOk result (λ opened. (opened.2.table ≡ opened.0) × (opened.3.table ≡ opened.0)) }
 {
-    let (map, writer, mut readers) = ReaderMap::open(alloc, 2, slots, 1, 0)?;
-    match readers.pop() {
-        Some(reader) => Ok((map, writer, reader)),
-        None => Err(Fail::from("no reader")),
+    let (map, writer, mut readers) = ReaderMap::open(alloc, keys, slots, 2, 0)?;
+    match (readers.pop(), readers.pop()) {
+        (Some(one), Some(other)) => Ok((map, writer, one, other)),
+        _ => Err(Fail::from("no reader")),
     }
 }
 
@@ -88,7 +92,7 @@ impl Model for Opened {
 
 impl Opened {
     pub(crate) fn open(alloc: Global, slots: u32) -> Result<Opened, Fail> {
-        let (map, writer, reader) = one_reader(alloc, slots)?;
+        let (map, writer, reader, _other) = two_readers(alloc, 2, slots)?;
         let (triggers, taker, poster) = one_poster(alloc)?;
         Ok(Opened {
             map,

@@ -2,6 +2,7 @@
 //! `open` is made once more where memory was refused, so it passes where any one allocation fails.
 ghost use Rattle.std.specs.Prelude.{◌≡◌, ◌<◌, ◌≤◌, ◌+◌, IfOk};
 
+use crate::opened::two_readers;
 use nr_map::{Asked, Reader, ReaderMap, Shape, Ticket, Writer};
 use nr_model::OpenFault;
 use nr_trigger::{Poster, Taker, Triggers};
@@ -11,18 +12,6 @@ use std::sync::Wait;
 use std::test::Fail;
 use std::thread;
 use std::thread::{Threads, join};
-
-// A map of keys below 20 with its two readers.
-fn map_of(alloc: Global) -> Result<(ReaderMap, Writer, Reader, Reader), Fail>
-    ensures keys { IfOk result (λ opened. opened.0.shape.keys ≡ 20) }
-    ensures tokens { IfOk result (λ opened. (opened.2.table ≡ opened.0) × (opened.3.table ≡ opened.0)) }
-{
-    let (map, writer, mut readers) = ReaderMap::open(alloc, 20, 1, 2, 0)?;
-    match (readers.pop(), readers.pop()) {
-        (Some(one), Some(other)) => Ok((map, writer, one, other)),
-        _ => Err(Fail::from("no reader")),
-    }
-}
 
 // A queue of three places for keys below 20, with its two posters.
 fn queue_of(alloc: Global) -> Result<(Triggers, Taker, Poster, Poster), Fail>
@@ -232,7 +221,7 @@ fn assert_in_order(rt: &impl Abort, keys: [u32; 20]) {
 
 #[test]
 fn each_ticket_comes_once_and_in_order(rt: HostRuntime) -> Result<(), Fail> {
-    let (map, _writer, one, two) = map_of(rt.alloc())?;
+    let (map, _writer, one, two) = two_readers(rt.alloc(), 20, 1)?;
     let (triggers, taker, first, second) = queue_of(rt.alloc())?;
     let keys = all_at_once(&rt, &map, &triggers, (one, two), (first, second), taker);
     assert_in_order(&rt, keys);

@@ -1,6 +1,7 @@
 //! Words, sets and layouts, with what they must be.
 ghost use Rattle.std.specs.Prelude.{◌<◌, ◌^◌};
 
+use crate::calls::row;
 use nr_model::{MAX_ROWS, Row, RowSet};
 use nr_words::{
     ARRIVE, KeyParts, Layout, MAX_CONTENT_WORDS, decode, encode, hole_word, key_word, names,
@@ -8,10 +9,6 @@ use nr_words::{
 };
 use std::process::Abort;
 use std::test::Fail;
-
-fn row(a: u64, b: u64) -> Row {
-    Row { a, b }
-}
 
 /// The parts pack into the word, and the word gives them back.
 fn assert_packs(rt: &impl Abort, ask: bool, filled: bool, slot: u32, arrivals: u64, word: u64)
