@@ -80,6 +80,32 @@ def copy_of(function, text, number):
     return "\n".join([*function.owner, *lines, "}"] if function.owner else lines)
 
 
+def changed(folder, texts):
+    """The functions that an edit changes, each with its file, and whether it changes nothing else but imports. None where it
+    changes what is in no function."""
+    found, is_within = set(), True
+    for path, text in texts.items():
+        old, new = pathlib.Path(folder, path).read_text().split("\n"), text.split("\n")
+        if len(old) != len(new) or not path.startswith("src/"):
+            return None
+        for at, line in enumerate(old):
+            if line == new[at]:
+                continue
+            if line.startswith("use "):
+                is_within = False
+            elif one := function_at(old, at):
+                found.add((path, one))
+            else:
+                return None
+    return found, is_within
+
+
+def name_in(path, function):
+    """A function's name as a check takes it: with its type, or else with its module."""
+    module = pathlib.Path(path).stem
+    return function.name if "::" in function.name or module in ("lib", "main") else f"{module}::{function.name}"
+
+
 def read(rt, crate, edit, number):
     """The wrong body, or None where nothing tells which function shows it. By the number its copy is told from others."""
     texts, why = rt.read_edit(edit, crate.folder)
@@ -88,29 +114,14 @@ def read(rt, crate, edit, number):
     named = re.findall(r"^refused in: (\S+)$", pathlib.Path(edit).read_text(), re.M)
     if named:
         return Body(edit, texts, tuple(named))
-    found, is_within = set(), True
-    for path, text in texts.items():
-        old, new = pathlib.Path(crate.folder, path).read_text().split("\n"), text.split("\n")
-        changed = [at for at, (one, other) in enumerate(zip(old, new)) if one != other]
-        if len(old) != len(new) or not path.startswith("src/"):
-            return None
-        for at in changed:
-            if old[at].startswith("use "):
-                is_within = False
-                continue
-            one = function_at(old, at)
-            if not one:
-                return None
-            found.add((path, one))
-    module = lambda path, name: name if "::" in name or pathlib.Path(path).stem in ("lib", "main") else f"{pathlib.Path(path).stem}::{name}"
-    functions = tuple(module(path, one.name) for path, one in found)
-    if len(found) > 1:
-        return Body(edit, texts, functions)
+    found, is_within = changed(crate.folder, texts) or (set(), False)
+    names = tuple(name_in(path, one) for path, one in found)
+    if len(found) != 1:
+        return Body(edit, texts, names) if found else None
     path, one = found.pop()
-    if not is_within or one.owner is None or has_proof(crate.folder, functions[0]):
-        return Body(edit, texts, functions, path, (one.first, one.last))
-    copy = copy_of(one, texts[path], number)
-    return Body(edit, texts, (f"{functions[0]}_{number}",), path, copy=copy)
+    if not is_within or one.owner is None or has_proof(crate.folder, names[0]):
+        return Body(edit, texts, names, path, (one.first, one.last))
+    return Body(edit, texts, (f"{names[0]}_{number}",), path, copy=copy_of(one, texts[path], number))
 
 
 def groups(bodies):
