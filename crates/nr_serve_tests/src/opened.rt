@@ -46,7 +46,7 @@ pub(crate) fn two_readers(
 {
     let (map, writer, mut readers) = ReaderMap::open(alloc, keys, slots, 2, 0)?;
     match (readers.pop(), readers.pop()) {
-        (Some(one), Some(other)) => Ok((map, writer, one, other)),
+        (Some(two), Some(one)) => Ok((map, writer, one, two)),
         _ => Err(Fail::from("no reader")),
     }
 }
@@ -92,7 +92,7 @@ impl Model for Opened {
 
 impl Opened {
     pub(crate) fn open(alloc: Global, slots: u32) -> Result<Opened, Fail> {
-        let (map, writer, reader, _other) = two_readers(alloc, 2, slots)?;
+        let (map, writer, reader, _two) = two_readers(alloc, 2, slots)?;
         let (triggers, taker, poster) = one_poster(alloc)?;
         Ok(Opened {
             map,
