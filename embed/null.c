@@ -7,6 +7,11 @@ uint32_t nr_version(void) {
   return proved_nr_version();
 }
 
+uint32_t proved_nr_struct_size(uint32_t place);
+uint32_t nr_struct_size(uint32_t place) {
+  return proved_nr_struct_size(place);
+}
+
 uint32_t proved_nr_open(const nr_shape *shape, nr_writer *writer);
 uint32_t nr_open(const nr_shape *shape, nr_writer *writer) {
   return writer ? proved_nr_open(shape, writer) : NR_CLOSED;

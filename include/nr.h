@@ -114,10 +114,15 @@ static inline const char *nr_strerror(uint32_t answer) {
   }
 }
 
-/* The version of this header, 0.1.0, whose three numbers have 8 bits each; and that of the library's, which has to
-   be the same. */
-#define NR_VERSION 0x000100
+/* The version of this header, 0.2.0, whose three numbers have 8 bits each; and that of the library's, whose first two
+   have to be the same. */
+#define NR_VERSION 0x000200
 uint32_t nr_version(void);
+
+/* The bytes that a struct takes in the library, which have to be those that it takes by this header: for programs that
+   are linked anew or written in another language. Its place is that among the structs below, from nr_row at 0 to
+   nr_poster at 11, and beyond these the answer is 0. */
+uint32_t nr_struct_size(uint32_t place);
 
 /* VALUES */
 

@@ -51,6 +51,17 @@ static void wants(const char *what, uint64_t wanted, uint64_t got) {
   exit(1);
 }
 
+/* The library's own sizes are those of this compiler. */
+static void test_struct_sizes(void) {
+  const size_t sizes[] = {sizeof(nr_row), sizeof(nr_rows), sizeof(nr_wanted), sizeof(nr_delta), sizeof(nr_shape),
+    sizeof(nr_size), sizeof(nr_slots), sizeof(nr_writer), sizeof(nr_reader), sizeof(nr_remains), sizeof(nr_taker),
+    sizeof(nr_poster)};
+  const uint32_t structs = sizeof sizes / sizeof sizes[0];
+  for (uint32_t place = 0; place < structs; place++) wants("a struct's size", sizes[place], nr_struct_size(place));
+  wants("no struct's size", 0, nr_struct_size(structs));
+  wants("no struct's size at the last place", 0, nr_struct_size(UINT32_MAX));
+}
+
 static uint32_t opens(nr_shape shape) {
   nr_writer writer = {0};
   uint32_t answer = nr_open(&shape, &writer);
@@ -192,6 +203,7 @@ static void test_words(void) {
 
 int main(void) {
   test_words();
+  test_struct_sizes();
   test_shape();
   test_closing();
   test_slots();

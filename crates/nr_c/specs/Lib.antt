@@ -1,4 +1,5 @@
 pub mod Numbers
+pub mod Layout
 pub mod Codes
 pub mod RowCells
 pub mod Rows

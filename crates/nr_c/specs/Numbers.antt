@@ -112,6 +112,6 @@ answer_held = 35
 abbrev pub answer_readers_out : ℕ
 answer_readers_out = 36
 
--- the version 0.1.0, whose numbers have 8 bits each
+-- the version 0.2.0, whose numbers have 8 bits each
 abbrev pub version : ℕ
-version = 256
+version = 512

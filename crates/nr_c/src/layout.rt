@@ -1,5 +1,8 @@
 //! What C's header says of its values in memory. The fields of each lie in their order there, which
 //! the C test shows.
+ghost use Rattle.std.specs.Prelude.{◌≡◌};
+ghost use Rattle.nr_c.specs.Layout.{struct_size};
+
 use crate::many::NrWanted;
 use crate::poster_handle::NrPoster;
 use crate::reader_handle::NrReader;
@@ -37,3 +40,26 @@ const _: () = prove!(size_of::<NrTaker>() == 8);
 const _: () = prove!(size_of::<NrPoster>() == 8);
 
 const _: () = prove!(align_of::<NrRows>() == 8);
+
+/// How many bytes the struct takes that has this place among the header's, from 0; 0 beyond the last. No step.
+#[unsafe(no_mangle)]
+pub extern "C" fn nr_struct_size(place: u32) -> u32
+    ensures { result ≡ struct_size place }
+{
+    let size = match place {
+        0 => size_of::<Row>(),
+        1 => size_of::<NrRows>(),
+        2 => size_of::<NrWanted>(),
+        3 => size_of::<Delta>(),
+        4 => size_of::<NrShape>(),
+        5 => size_of::<NrSizes>(),
+        6 => size_of::<NrSlots>(),
+        7 => size_of::<NrWriter>(),
+        8 => size_of::<NrReader>(),
+        9 => size_of::<NrRemains>(),
+        10 => size_of::<NrTaker>(),
+        11 => size_of::<NrPoster>(),
+        _ => 0,
+    };
+    size as u32
+}

@@ -1,5 +1,5 @@
 //! What calls answer.
-use crate::{ffi, Ticket};
+use crate::{ffi, library, Ticket};
 use std::fmt;
 
 /// Why a call is refused. A later version may have more causes.
@@ -36,6 +36,8 @@ pub enum Fault {
     Empty,
     /// Another thread was within a call of its own: the same call may be made again at once.
     InTheWay,
+    /// The library that is linked has another version than this crate, or structs of other sizes.
+    OtherLibrary,
 }
 
 impl fmt::Display for Fault {
@@ -56,6 +58,7 @@ impl fmt::Display for Fault {
             Fault::Full => "the queue is full",
             Fault::Empty => "the queue is empty",
             Fault::InTheWay => "another thread is in the way",
+            Fault::OtherLibrary => library::IS_ANOTHER,
         })
     }
 }

@@ -43,6 +43,8 @@ pub const NR_GIVEN: u32 = 34;
 pub const NR_HELD: u32 = 35;
 
 extern "C" {
+    pub fn nr_version() -> u32;
+    pub fn nr_struct_size(place: u32) -> u32;
     pub fn nr_open(shape: *const Shape, writer: *mut Handle) -> u32;
     pub fn nr_open_reader(writer: *mut Handle, reader: *mut Handle) -> u32;
     pub fn nr_return_reader(writer: *mut Handle, reader: *mut Handle) -> u32;

@@ -115,6 +115,7 @@
 mod answers;
 mod ends;
 mod ffi;
+mod library;
 mod lobby;
 mod map;
 mod queue;

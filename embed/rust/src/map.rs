@@ -1,7 +1,7 @@
 //! A map, and what its tokens know of it.
 use crate::answers::done;
 use crate::ffi::{self, Handle};
-use crate::{Fault, Reader, Shape, Ticket, Writer};
+use crate::{library, Fault, Reader, Shape, Ticket, Writer};
 use std::sync::atomic::{AtomicU64, Ordering::Relaxed};
 
 /// A map's tokens as they come: its writer, and its readers, which share its memory. It goes with the last of them.
@@ -15,8 +15,9 @@ pub struct ReaderMap {
 
 impl ReaderMap {
     /// Opens a map of that shape: every key is a hole. Refused with [`Fault::BadSize`] where a size is out of its
-    /// limits, or with [`Fault::NoMemory`].
+    /// limits, with [`Fault::NoMemory`], or with [`Fault::OtherLibrary`] where another library than the crate's is linked.
     pub fn open(shape: &Shape) -> Result<ReaderMap, Fault> {
+        library::is_own()?;
         let mut handle = Handle::empty();
         // SAFETY: the handle isn't live, and the shape is laid out as the header's.
         done(unsafe { ffi::nr_open(shape, &mut handle) })?;

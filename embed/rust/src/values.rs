@@ -43,7 +43,7 @@ pub struct ValueMap<V> {
 impl<V> ValueMap<V> {
     /// Opens a map of that many keys, slots and readers, within the limits of a [`Shape`]: every key is a hole. With a
     /// slot for each key, each reader and one more no fill or replacement is refused for want of one. Refused with
-    /// [`Fault::BadSize`] or [`Fault::NoMemory`].
+    /// [`Fault::BadSize`], [`Fault::NoMemory`] or [`Fault::OtherLibrary`].
     pub fn open(keys: u32, slots: u32, readers: u32) -> Result<ValueMap<V>, Fault> {
         let shape = Shape { rows: 1, ..Shape::new(keys, slots, readers) };
         let ReaderMap { writer, readers } = ReaderMap::open(&shape)?;
