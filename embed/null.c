@@ -37,6 +37,21 @@ void nr_close_writer(nr_writer *writer) {
   if (writer) proved_nr_close_writer(writer);
 }
 
+uint32_t proved_nr_take_apart(nr_writer *writer, nr_remains *remains);
+uint32_t nr_take_apart(nr_writer *writer, nr_remains *remains) {
+  return writer && remains ? proved_nr_take_apart(writer, remains) : NR_CLOSED;
+}
+
+uint32_t proved_nr_next(nr_remains *remains, nr_rows *had);
+uint32_t nr_next(nr_remains *remains, nr_rows *had) {
+  return remains ? proved_nr_next(remains, had) : NR_CLOSED;
+}
+
+void proved_nr_close_remains(nr_remains *remains);
+void nr_close_remains(nr_remains *remains) {
+  if (remains) proved_nr_close_remains(remains);
+}
+
 uint32_t proved_nr_find(nr_reader *reader, uint32_t key, nr_rows *rows);
 uint32_t nr_find(nr_reader *reader, uint32_t key, nr_rows *rows) {
   return reader ? proved_nr_find(reader, key, rows) : NR_CLOSED;
@@ -127,21 +142,6 @@ uint32_t nr_replace_reclaiming(nr_writer *writer, uint32_t key, const nr_row *ro
 uint32_t proved_nr_reap(nr_writer *writer, nr_rows *had);
 uint32_t nr_reap(nr_writer *writer, nr_rows *had) {
   return writer ? proved_nr_reap(writer, had) : NR_CLOSED;
-}
-
-uint32_t proved_nr_take_apart(nr_writer *writer, nr_remains *remains);
-uint32_t nr_take_apart(nr_writer *writer, nr_remains *remains) {
-  return writer && remains ? proved_nr_take_apart(writer, remains) : NR_CLOSED;
-}
-
-uint32_t proved_nr_next(nr_remains *remains, nr_rows *had);
-uint32_t nr_next(nr_remains *remains, nr_rows *had) {
-  return remains ? proved_nr_next(remains, had) : NR_CLOSED;
-}
-
-void proved_nr_close_remains(nr_remains *remains);
-void nr_close_remains(nr_remains *remains) {
-  if (remains) proved_nr_close_remains(remains);
 }
 
 uint32_t proved_nr_evict(nr_writer *writer, uint32_t key);

@@ -209,15 +209,16 @@ typedef struct nr_poster {
    A get. Find the key. At a hole request it by nr_ask. The caller that is answered NR_SEND hands the key and its
    ticket number to the thread that writes, as by nr_post. That thread gets the key's rows and fills the key by
    that ticket number.
-   Waiting for a key. Note how often you were woken, look, request, sleep, in this order. The thread that fills
-   the key wakes after the fill. By a condition variable, with a count of fills under its lock:
+   Waiting for a key. Note how often you were woken, look, request, sleep, in this order. The thread that writes
+   wakes after each fill, and after each nr_cancel: the key stays a hole until somebody who waits requests it again.
+   By a condition variable, with a count of wake-ups under its lock:
 
      for (;;) {
-       uint64_t seen = fills_so_far();
+       uint64_t seen = wakes_so_far();
        if (nr_find(&client->reader, key, rows) == NR_ROWS) return;
        request(client, key);
        pthread_mutex_lock(&lock);
-       while (fills == seen) pthread_cond_wait(&filled, &lock);
+       while (wakes == seen) pthread_cond_wait(&woken, &lock);
        pthread_mutex_unlock(&lock);
      }
 
@@ -247,6 +248,9 @@ typedef struct nr_poster {
    So that little waits to be freed, open few slots beyond one a key and one a reader, since a call takes the slots
    that were never taken first, and call nr_reap after each write until it doesn't answer NR_GIVEN. Then only what
    readers hold waits. At most as many sets wait as there are slots.
+   Dropping what a key has, where the base changed and the rows are not to be updated. Call nr_cancel and then nr_evict:
+   the key may only be asked for, and then an eviction does nothing, and the fill that is under way puts rows that were
+   read before the change. Wake those who wait where the answer is NR_CANCELLED.
    Several maps behind one queue. Open it for the sum of their keys, and post each key with the number of keys
    of the maps before its own added. */
 
@@ -342,7 +346,9 @@ uint32_t nr_look(nr_writer *writer, uint32_t key, nr_rows *rows);
 /* Fills a key that was asked for, by its request's ticket number, with n rows in ascending order, duplicates
    kept. NR_TOO_MANY and NR_NOT_SORTED without a step; NR_NOT_ASKED, NR_ALREADY or NR_STALE after 1; NR_DONE
    after 2n + 3 and a poll of each slot that it tried, at most one more than there are readers; NR_NO_SLOT or
-   NR_ALL_FILLED after 1 and the polls. A poll is 1 step. */
+   NR_ALL_FILLED after 1 and the polls. A poll is 1 step. Owed: each answer to a request is used once. An eviction keeps
+   the key's ticket number, so an answer that came twice would fill a later request with its old rows, and nothing
+   tells. */
 uint32_t nr_fill(nr_writer *writer, uint32_t key, uint64_t number, const nr_row *rows, size_t n);
 
 /* Applies 1 to 64 signed rows to the rows of a filled key, whole or not at all. All rows to be added are added
@@ -370,11 +376,12 @@ uint32_t nr_replace_reclaiming(nr_writer *writer, uint32_t key, const nr_row *ro
    NR_GIVEN. */
 uint32_t nr_reap(nr_writer *writer, nr_rows *had);
 
-/* Makes a filled key a hole. NR_EVICTED after 2 steps, NR_NOTHING after 1. */
+/* Makes a filled key a hole. NR_EVICTED after 2 steps, NR_NOTHING after 1: a key that is asked for stays so, and a fill
+   that is under way puts its rows. Where these may be out of date call nr_cancel first. */
 uint32_t nr_evict(nr_writer *writer, uint32_t key);
 
 /* Cancels the request of a key: the next request is answered NR_SEND, and a late fill for the old one NR_STALE.
-   NR_CANCELLED after 2 steps; NR_NOTHING or NR_WORN after 1. */
+   NR_CANCELLED after 2 steps, and then those who wait for the key are to be woken; NR_NOTHING or NR_WORN after 1. */
 uint32_t nr_cancel(nr_writer *writer, uint32_t key);
 
 /* What a key is, in 1 step: NR_HOLE, NR_ASKED or NR_ROWS. */

@@ -1,6 +1,6 @@
 /* How a client waits for a key's rows, by a condition variable and by an eventfd, and how the dataflow waits
-   for requests. A thread that waits keeps one order: note how often it was woken, look, request, sleep. So a fill
-   that comes after the look ends the sleep. */
+   for requests. A thread that waits keeps one order: note how often it was woken, look, request, sleep. So a fill or
+   a cancel that comes after the look ends the sleep. */
 #define _GNU_SOURCE
 #include <inttypes.h>
 #include <pthread.h>
@@ -13,10 +13,10 @@
 
 enum { KEYS = 4 };
 
-/* How often a key was filled, under a lock; an eventfd for the client that sleeps on one, and the dataflow's. */
+/* How often the dataflow woke, under a lock; an eventfd for the client that sleeps on one, and the dataflow's. */
 static pthread_mutex_t lock = PTHREAD_MUTEX_INITIALIZER;
-static pthread_cond_t filled = PTHREAD_COND_INITIALIZER;
-static uint64_t fills;
+static pthread_cond_t woken = PTHREAD_COND_INITIALIZER;
+static uint64_t wakes;
 static int answer, bell;
 
 typedef struct client {
@@ -50,9 +50,9 @@ static void request(client *client, uint32_t key) {
   }
 }
 
-static uint64_t fills_so_far(void) {
+static uint64_t wakes_so_far(void) {
   pthread_mutex_lock(&lock);
-  uint64_t seen = fills;
+  uint64_t seen = wakes;
   pthread_mutex_unlock(&lock);
   return seen;
 }
@@ -60,11 +60,11 @@ static uint64_t fills_so_far(void) {
 /* By a condition variable. */
 static void get(client *client, uint32_t key, nr_rows *rows) {
   for (;;) {
-    uint64_t seen = fills_so_far();
+    uint64_t seen = wakes_so_far();
     if (nr_find(&client->reader, key, rows) == NR_ROWS) return;
     request(client, key);
     pthread_mutex_lock(&lock);
-    while (fills == seen) pthread_cond_wait(&filled, &lock);
+    while (wakes == seen) pthread_cond_wait(&woken, &lock);
     pthread_mutex_unlock(&lock);
   }
 }
@@ -95,19 +95,32 @@ static void *gets_by_eventfd(void *at) {
   return NULL;
 }
 
-/* Each key is requested once, and filled once: then the dataflow's work is done. */
+/* After a fill the key is there to be found, and after a cancel it is to be requested again. */
+static void wake(void) {
+  pthread_mutex_lock(&lock);
+  wakes++;
+  pthread_cond_broadcast(&woken);
+  pthread_mutex_unlock(&lock);
+  ring(answer);
+}
+
+/* Each key's first request is cancelled, as where its rows can't be had, and its second is filled: then the dataflow's
+   work is done. */
 static void serve(nr_writer *writer, nr_taker *taker) {
-  for (uint32_t done = 0; done < KEYS; done++) {
+  bool cancelled[KEYS] = {false};
+  for (uint32_t filled = 0; filled < KEYS;) {
     uint32_t key;
     uint64_t number;
     while (nr_take(taker, &key, &number) != NR_DONE) sleep_on(bell);
     nr_row row = {key, 0};
-    want(nr_fill(writer, key, number, &row, 1) == NR_DONE, "a fill");
-    pthread_mutex_lock(&lock);
-    fills++;
-    pthread_cond_broadcast(&filled);
-    pthread_mutex_unlock(&lock);
-    ring(answer);
+    if (cancelled[key]) {
+      want(nr_fill(writer, key, number, &row, 1) == NR_DONE, "a fill");
+      filled++;
+    } else {
+      want(nr_cancel(writer, key) == NR_CANCELLED, "a cancel");
+      cancelled[key] = true;
+    }
+    wake();
   }
 }
 

@@ -80,14 +80,16 @@ impl Writer {
         }
     }
 
-    /// Makes a filled key a hole, and tells whether it was filled.
+    /// Makes a filled key a hole, and tells whether it was filled. A key that is asked for stays so: where the rows that
+    /// are under way may be out of date, call [`Writer::cancel`] first.
     pub fn evict(&mut self, key: u32) -> bool {
         let key = self.map.checked(key);
         // SAFETY: the handle is live, and the key was checked.
         unsafe { ffi::nr_evict(&mut self.handle, key) == ffi::NR_EVICTED }
     }
 
-    /// Takes the request of a key back, as where its ticket was lost: the next one gets a ticket again.
+    /// Takes the request of a key back, as where its ticket was lost: the next one gets a ticket again. Those who wait for
+    /// the key are to be woken, to request it again.
     pub fn cancel(&mut self, key: u32) -> Cancel {
         let key = self.map.checked(key);
         // SAFETY: the handle is live, and the key was checked.

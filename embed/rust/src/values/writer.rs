@@ -83,7 +83,8 @@ impl<V> ValueWriter<V> {
         }
     }
 
-    /// Makes a filled key a hole; whether it was filled.
+    /// Makes a filled key a hole; whether it was filled. Where the value that is under way may be out of date, call
+    /// [`ValueWriter::cancel`] first.
     pub fn evict(&mut self, key: u32) -> bool {
         let evicted = self.writer.evict(key);
         drop(self.reap());
