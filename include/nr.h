@@ -425,7 +425,7 @@ uint32_t nr_gather_pin(nr_writer *writer, nr_reader *reader);
 /* Opens a queue of 1 to 4,194,303 requests of keys below `keys`, with 1 to 65,535 posters, and makes the
    taker's handle live: NR_DONE. NR_LIVE where it is live already, NR_BAD_SIZE or NR_NO_MEMORY, and then it stays as it
    was. A capacity of the map's number of keys holds all its requests, where none is cancelled or filled before it is
-   taken. */
+   taken. It takes 48 bytes for each request that it can hold, and as much again while it is opened. */
 uint32_t nr_open_queue(uint32_t keys, uint32_t capacity, uint32_t posters, nr_taker *taker);
 
 /* Makes a poster's handle live, that of the poster which was returned last, and else of a new one: NR_DONE. NR_LIVE
