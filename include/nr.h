@@ -420,7 +420,7 @@ uint32_t nr_gather_pin(nr_writer *writer, nr_reader *reader);
    first out. Of a map it knows only how many keys it has. What was taken, followed by what the queue holds, is what
    was posted: each request once, and each poster's in their order. A post or a take makes one attempt and waits for
    nobody. After NR_FULL, NR_EMPTY or NR_IN_THE_WAY nothing has changed, and it may be made again: at once after
-   NR_IN_THE_WAY. */
+   NR_IN_THE_WAY, which may come at any time, as NR_NO_MEMORY may of an opening: no contract bounds either. */
 
 /* Opens a queue of 1 to 4,194,303 requests of keys below `keys`, with 1 to 65,535 posters, and makes the
    taker's handle live: NR_DONE. NR_LIVE where it is live already, NR_BAD_SIZE or NR_NO_MEMORY, and then it stays as it

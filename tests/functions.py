@@ -8,8 +8,8 @@ BRANCHES = set("for if loop match while".split())
 TOKEN = re.compile(r"""//[^\n]*|\s+|"(?:\\.|[^"\\])*"|'(?:\\.|[^\\'])'|'\w+|\w+|::|=>|->|\|\||/\*|.""", re.S)
 CLOSED_BY = {"(": ")", "[": "]", "{": "}"}
 
-# A function: its file, the type or trait around it, its name, and where it, its body and what follows it begin.
-Function = namedtuple("Function", "file owner name start body end")
+# A function: its name, with that of the type or trait around it, and where it, its body and what follows it begin.
+Function = namedtuple("Function", "name start body end")
 # A call, a macro or a function that a path names: its name, where that stands, and where all of it ends.
 Call = namedtuple("Call", "name at end")
 
@@ -55,6 +55,9 @@ class File:
                 end = self.up_to(i, "{", ";")
                 self.spans.append((word, i, self.up_to(i, ";") if word == "use" else self.partner.get(end, end)))
 
+    def names(self):
+        return {function.name.rpartition(":")[2] for function in self.functions}
+
     def is_within(self, i, *kinds):
         return any(kind in kinds and start < i < end for kind, start, end in self.spans)
 
@@ -99,7 +102,7 @@ class File:
             elif self.words[i] == "fn":
                 body = self.up_to(i, "{", ";")
                 end = self.partner.get(body, body) + 1
-                yield Function(self, owner, self.words[i + 1], i, body, end)
+                yield Function(f"{owner}::{self.words[i + 1]}" if owner else self.words[i + 1], i, body, end)
                 i = end - 1
             i += 1
 
@@ -153,8 +156,8 @@ class File:
             i += 1
 
     def deeds(self, function, values):
-        """What it does in order, as words: its conditions and what its loops go over, where it ends or turns, its closures,
-        its calls with what they are given, and where it names one of these values."""
+        """What it does in order, as words: its conditions and what its loops go over, where it ends or turns, its
+        closures, its calls with what they are given, and where it names one of these values."""
         calls = {call.at: call.end for call in self.calls(function.body, function.end)}
         closures = set(self.closures(function.body, function.end))
         deeds, i = [], function.body
