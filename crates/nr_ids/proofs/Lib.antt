@@ -1,0 +1,6 @@
+mod Logs
+mod Steps
+mod Scanning
+mod Seats
+mod Calls
+mod LawProofs

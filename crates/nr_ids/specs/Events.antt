@@ -1,0 +1,89 @@
+-- What happens to a directory, newest first: each step of each caller is one event.
+use Rattle.std.specs.Prelude.{◌≡◌, ◌≢◌, ℕ, ◌+◌, ◌%◌, ◌^◌, ◌<◌, ◌==◌, cond, List, [], ◌∷◌, replicate}
+use Rattle.nr_ids.specs.declared.plan.Plan.{Plan}
+use Rattle.nr_ids.specs.Groups.{group_of, group_of_way, ways}
+
+pub data Event : Type 0 where
+  -- by the clerk: from now on a way has this name, or has none; a claim of a group is answered
+  named : ℕ → ℕ → Event
+  unnamed : ℕ → Event
+  cleared : ℕ → Event
+  -- by the caller of that number: its claim of an id's group is granted; it looked at a word
+  claimed : ℕ → ℕ → Event
+  looked : ℕ → Event
+
+-- the number of the caller whose step it was; the clerk's is 0
+abbrev pub maker : Event → ℕ
+maker (named way id) = 0
+maker (unnamed way) = 0
+maker (cleared group) = 0
+maker (claimed by id) = by
+maker (looked by) = by
+
+-- a caller's own steps
+abbrev pub own : ℕ → List Event → List Event
+own by [] = []
+own by (event ∷ log) = cond (maker event == by) (event ∷ own by log) (own by log)
+
+-- so many looks of a caller's
+abbrev pub looks : ℕ → ℕ → List Event
+looks count by = replicate count (looked by)
+
+-- the name of a way after these events, or 0
+abbrev pub name_of : List Event → ℕ → ℕ
+name_of [] way = 0
+name_of (named other id ∷ log) way = cond (other == way) id (name_of log way)
+name_of (unnamed other ∷ log) way = cond (other == way) 0 (name_of log way)
+name_of (cleared group ∷ log) way = name_of log way
+name_of (claimed by id ∷ log) way = name_of log way
+name_of (looked by ∷ log) way = name_of log way
+
+-- the turn of a group: how often it was claimed and cleared, so odd while a claim is open
+abbrev pub turn_of : Plan → List Event → ℕ → ℕ
+turn_of plan [] group = 0
+turn_of plan (named way id ∷ log) group = turn_of plan log group
+turn_of plan (unnamed way ∷ log) group = turn_of plan log group
+turn_of plan (cleared other ∷ log) group = cond (other == group) (turn_of plan log group + 1) (turn_of plan log group)
+turn_of plan (claimed by id ∷ log) group = cond (group_of plan id == group) (turn_of plan log group + 1) (turn_of plan log group)
+turn_of plan (looked by ∷ log) group = turn_of plan log group
+
+abbrev pub IsOpen : Plan → List Event → ℕ → Type 0
+IsOpen plan log group = turn_of plan log group % 2 ≡ 1
+
+abbrev pub IsClosed : Plan → List Event → ℕ → Type 0
+IsClosed plan log group = turn_of plan log group % 2 ≡ 0
+
+-- at this turn a group is worn out: it can't be claimed again
+abbrev pub last_turn : ℕ
+last_turn = 2 ^ 62
+
+-- no way has the id's name
+abbrev pub IsAbsent : List Event → ℕ → Type 0
+IsAbsent log id = (way : ℕ) → name_of log way ≢ id
+
+-- a way of the id's group that has no name gets the id's, which no way has, while a claim of the group is open
+pub record MayName (plan : Plan) (log : List Event) (way id : ℕ) : Type 0 where
+  pub inside : way < ways plan
+  pub real : 0 < id
+  pub group : group_of_way way ≡ group_of plan id
+  pub free : name_of log way ≡ 0
+  pub open_claim : IsOpen plan log (group_of plan id)
+  pub absent : IsAbsent log id
+
+-- a group is claimed for an id that no way has, while no claim of the group is open
+pub record MayClaim (plan : Plan) (log : List Event) (id : ℕ) : Type 0 where
+  pub real : 0 < id
+  pub closed : IsClosed plan log (group_of plan id)
+  pub early : turn_of plan log (group_of plan id) < last_turn
+  pub absent : IsAbsent log id
+
+abbrev pub May : Plan → List Event → Event → Type 0
+May plan log (named way id) = MayName plan log way id
+May plan log (unnamed way) = way < ways plan
+May plan log (cleared group) = (group < plan.groups) × IsOpen plan log group
+May plan log (claimed by id) = MayClaim plan log id
+May plan log (looked by) = Unit {0}
+
+abbrev pub IsLegal : Plan → List Event → Type 0
+IsLegal plan [] = Unit {0}
+IsLegal plan (event ∷ log) = May plan log event × IsLegal plan log

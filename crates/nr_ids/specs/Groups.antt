@@ -1,0 +1,29 @@
+-- The group of an id: a function of the id and of the key that the directory was opened with.
+use Rattle.std.specs.Prelude.{◌≡◌, ℕ, ◌*◌, ◌/◌, ◌%◌, ◌^◌, ◌<◌, ◌≤◌, ◌⊎◌, bit_or, bit_xor}
+use Rattle.nr_ids.specs.declared.plan.Plan.{Plan}
+use Rattle.nr_ids.specs.declared.plan.TheConstants.{MAX_GROUPS}
+
+abbrev pub IsPlan : Plan → Type 0
+IsPlan plan = (0 < plan.groups) × (plan.groups ≤ MAX_GROUPS)
+
+abbrev pub IsBadPlan : Plan → Type 0
+IsBadPlan plan = (plan.groups ≡ 0) ⊎ (MAX_GROUPS < plan.groups)
+
+-- an id's product with an odd number, whose high half goes into its low half
+abbrev pub folded : ℕ → ℕ
+folded id = let product = id * 13787848793156543929 % 2 ^ 64 in bit_xor product (product / 2 ^ 32)
+
+-- its product with the key, made odd
+unfoldable pub mixed : ℕ → ℕ → ℕ
+mixed key id = folded id * bit_or key 1 % 2 ^ 64
+
+-- the high half, scaled to the groups
+unfoldable pub group_of : Plan → ℕ → ℕ
+group_of plan id = mixed plan.key id / 2 ^ 32 * plan.groups / 2 ^ 32
+
+-- ways 8g to 8g + 7 are the ways of group g
+abbrev pub ways : Plan → ℕ
+ways plan = 8 * plan.groups
+
+abbrev pub group_of_way : ℕ → ℕ
+group_of_way way = way / 8

@@ -1,0 +1,9 @@
+pub mod Groups
+pub mod Events
+pub mod Rule
+pub mod Plays
+pub mod Tokens
+pub mod Scans
+pub mod Looking
+pub mod Answers
+pub mod Laws

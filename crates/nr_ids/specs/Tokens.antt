@@ -1,0 +1,94 @@
+-- What contracts see of a token, and what a call adds to it.
+use Rattle.std.specs.Prelude.{◌≡◌, ◌≢◌, ℕ, ◌+◌, ◌<◌, true, List, [], ◌∷◌, ◌++◌, length}
+use Rattle.atomic_table.specs.Seated.{TableId}
+use Rattle.atomic_table.specs.declared.shared.Seat.{Seat}
+use Rattle.nr_ids.specs.declared.plan.Plan.{Plan}
+use Rattle.nr_ids.specs.Groups.{ways}
+use Rattle.nr_ids.specs.Events.{Event, claimed, own, looks, name_of, IsAbsent, IsLegal}
+use Rattle.nr_ids.specs.Rule.{View, BeginsWith}
+
+-- which directory it is, and what it was opened with
+pub record Opened : Type 0 where
+  pub id : TableId
+  pub plan : Plan
+
+pub record Token : Type 0 where
+  pub directory : Opened
+  -- 0 is the clerk, the others are the readers
+  pub number : ℕ
+  -- how many readers the clerk has made
+  pub made : ℕ
+  -- the events that it knows, newest first
+  pub seen : List Event
+  -- its atomic steps since the opening
+  pub steps : ℕ
+
+abbrev pub token : Seat ℕ View → Token
+token seat = record { directory = record { id = seat.table_id; plan = seat.me.0.plan }; number = seat.me.0.number; made = seat.me.0.made; seen = seat.me.0.seen; steps = seat.me.0.steps }
+
+-- the seat is a caller's of this directory
+pub record Sits (directory : Opened) (seat : Seat ℕ View) : Type 0 where
+  pub own : (token seat).directory ≡ directory
+  pub calls : seat.me.0.calls ≡ true
+  pub legal : IsLegal directory.plan seat.me.0.seen
+
+-- a token that has made no step and seen nothing
+abbrev pub fresh_token : Opened → ℕ → Token
+fresh_token directory number = record { directory = directory; number = number; made = 0; seen = []; steps = 0 }
+
+-- the token counts a step, and is else as it was
+abbrev pub with_step : Token → Token
+with_step token = record token { steps = token.steps + 1 }
+
+-- the token's own steps were just these, newest first; it knows a legal list of events, which begins with all that it knew
+pub record Grows (old : Token) (acts : List Event) (new : Token) : Type 0 where
+  pub directory : new.directory ≡ old.directory
+  pub number : new.number ≡ old.number
+  pub made : new.made ≡ old.made
+  pub rest : List Event
+  pub seen : new.seen ≡ rest ++ old.seen
+  pub acts_are : own old.number rest ≡ acts
+  pub legal : IsLegal old.directory.plan new.seen
+  pub steps : new.steps ≡ old.steps + length acts
+
+-- a moment within a call: after its first step, and no later than its last
+pub record Within (old new : Token) (moment : List Event) : Type 0 where
+  pub since : List Event
+  pub from : moment ≡ since ++ old.seen
+  pub begun : own old.number since ≢ []
+  pub later : List Event
+  pub until : new.seen ≡ later ++ moment
+
+-- the way has that name at the last event that the token knows
+pub record HasName (token : Token) (way id : ℕ) : Type 0 where
+  pub inside : way < ways token.directory.plan
+  pub has : name_of token.seen way ≡ id
+
+-- the clerk made a reader
+abbrev pub with_reader_made : Token → Token
+with_reader_made token = record (with_step token) { made = token.made + 1 }
+
+-- what a note tells
+pub record Known : Type 0 where
+  pub directory : Opened
+  pub seen : List Event
+
+abbrev pub known_to : Token → Known
+known_to token = record { directory = token.directory; seen = token.seen }
+
+-- after these steps a claim was granted to the token, at its last step: then the id had no way
+pub record WinsClaim (id : ℕ) (acts : List Event) (old new : Token) : Type 0 where
+  pub grows : Grows old (claimed old.number id ∷ acts) new
+  pub before : List Event
+  pub last : new.seen ≡ claimed old.number id ∷ before
+  pub absent : IsAbsent before id
+
+-- the token took a note in, and then by one look knew all that it knew before and all that the note told
+pub record Hears (old : Token) (note : Known) (new : Token) : Type 0 where
+  pub grows : Grows (with_step old) (looks 1 old.number) new
+  pub knows : BeginsWith new.seen note.seen
+
+-- what contracts see of a claim
+pub record Granted : Type 0 where
+  pub directory : Opened
+  pub id : ℕ

@@ -1,0 +1,195 @@
+//! The table of names and turns. It is private to this module, whose functions make one step each.
+ghost use Rattle.std.specs.Prelude.{◌≡◌, ◌≢◌, ◌<◌, ◌%◌, true, false, IfOk, [], ◌∷◌};
+ghost use Rattle.nr_ids.specs.Events.{MayName, cleared, last_turn, looked, name_of, named, turn_of, unnamed};
+ghost use Rattle.nr_ids.specs.Groups.{IsPlan, group_of, ways};
+ghost use Rattle.nr_ids.specs.Rule.{BeginsWith, counted, next_reader, note_of, opener, total, turn_place, with_note, with_reader};
+ghost use Rattle.nr_ids.specs.Scans.{Scanned};
+ghost use Rattle.nr_ids.specs.Tokens.{Grows, Sits, WinsClaim, token};
+
+use crate::plan::Plan;
+use crate::rule::{Claims, Clears, Law, LooksAtName, LooksAtTurn, Names, Notes, Seats, Unnames};
+use crate::view::View;
+use atomic_table::Table;
+use std::alloc::{AllocError, Global};
+use std::marker::Model;
+
+/// What a token makes its steps with.
+pub(crate) type Seat = atomic_table::Seat<u64, View>;
+
+/// A directory: which way of a map, eight of them a group, has which id. Only a token of it can make a
+/// step.
+#[derive(Drop)]
+pub struct Directory {
+    table: Table<u64, View, Plan, Law, Global>,
+    plan: Plan,
+}
+
+impl Model for Directory {
+    ghost use Rattle.std.specs.Prelude.{◌≡◌};
+    ghost use Rattle.nr_ids.specs.Groups.{IsPlan};
+    ghost use Rattle.nr_ids.specs.Rule.{total};
+    ghost use Rattle.nr_ids.specs.Tokens.{Opened};
+
+    ghost Value = { Opened };
+
+    ghost view = { λ directory. record { id = directory.table.shared.table_id; plan = directory.plan } };
+
+    ghost invariant = { λ directory. (directory.table.shared.key ≡ directory.plan) × (directory.table.shared.table_id.words ≡ total directory.plan) × IsPlan directory.plan };
+}
+
+impl Directory {
+    /// The table with the clerk's token. No way has a name.
+    pub(crate) fn lay(alloc: Global, plan: Plan) -> Result<(Directory, Seat), AllocError>
+        requires { IsPlan plan }
+        ensures directory { IfOk result (λ opened. opened.0.plan ≡ plan) }
+        ensures seat { IfOk result (λ opened. (opened.1.table_id ≡ opened.0.id) × (opened.1.me ≡ (opener plan, []))) }
+    {
+        let words = vec![in alloc; 0; 9 * plan.groups as usize]?;
+        let (table, seat) = Table::of_words(alloc, &words, &plan)?;
+        Ok((Directory { table, plan }, seat))
+    }
+
+    /// What the directory was opened with.
+    pub fn plan(&self) -> &Plan
+        ensures value { result.now ≡ self.now.plan }
+        ensures sizes { IsPlan result.now }
+    {
+        &self.plan
+    }
+
+    /// The clerk makes the next reader.
+    pub(crate) fn seat(&self, seat: &mut Seat) -> Seat
+        requires clerk { Sits self.now seat.old }
+        requires number { seat.old.me.0.number ≡ 0 }
+        ensures clerk { (seat.new.table_id ≡ seat.old.table_id) × (seat.new.me ≡ (with_reader seat.old.me.0, seat.old.me.1)) }
+        ensures reader { (result.table_id ≡ seat.old.table_id) × (result.me ≡ (next_reader seat.old.me.0, [])) }
+    {
+        let words = &self.table.shared;
+        words.split_seat::<Seats>(seat)
+    }
+
+    /// A look at a way's name.
+    pub(crate) fn look(&self, seat: &mut Seat, way: u32) -> u64
+        requires caller { Sits self.now seat.old }
+        requires way { way < ways self.now.plan }
+        ensures caller { Sits self.now seat.new }
+        ensures grows { Grows (token seat.old) (looked seat.old.me.0.number ∷ []) (token seat.new) }
+        ensures value { result ≡ name_of seat.new.me.0.seen way }
+    {
+        let words = &self.table.shared;
+        words.load::<LooksAtName>(seat, way as usize)
+    }
+
+    /// A look at a group's turn.
+    pub(crate) fn look_at_turn(&self, seat: &mut Seat, group: u32) -> u64
+        requires caller { Sits self.now seat.old }
+        requires group { group < self.now.plan.groups }
+        ensures caller { Sits self.now seat.new }
+        ensures grows { Grows (token seat.old) (looked seat.old.me.0.number ∷ []) (token seat.new) }
+        ensures value { result ≡ turn_of self.now.plan seat.new.me.0.seen group }
+        ensures early { result % 2 ≡ 1 → result < last_turn }
+    {
+        let words = &self.table.shared;
+        let place = self.turn_place(group);
+        words.load::<LooksAtTurn>(seat, place)
+    }
+
+    /// Claims the group of an id, which a scan after a look at the group's turn didn't find: whether the
+    /// turn was still the same. Then no way has the id at that moment.
+    pub(crate) fn claim(&self, seat: &mut Seat, id: u64, was: u64) -> bool
+        requires caller { Sits self.now seat.old }
+        requires id { 0 < id }
+        requires closed { was % 2 ≡ 0 }
+        requires early { was < last_turn }
+        requires scanned { Scanned self.now.plan seat.old.me.0.seen id was 8 }
+        ensures caller { Sits self.now seat.new }
+        ensures won { result ≡ true → WinsClaim id [] (token seat.old) (token seat.new) }
+        ensures lost { result ≡ false → Grows (token seat.old) (looked seat.old.me.0.number ∷ []) (token seat.new) × (turn_of self.now.plan seat.new.me.0.seen (group_of self.now.plan id) ≢ was) }
+    {
+        let words = &self.table.shared;
+        let place = self.turn_place(self.plan.group_of(id));
+        let found = words.compare_exchange_with::<Claims>(seat, place, was, was + 1, &id);
+        found == was
+    }
+
+    /// The clerk names a way of the id's group that has no name, where a claim of the group is open and
+    /// no way has the id.
+    pub(crate) fn name(&self, seat: &mut Seat, way: u32, id: u64)
+        requires clerk { Sits self.now seat.old }
+        requires number { seat.old.me.0.number ≡ 0 }
+        requires may { MayName self.now.plan seat.old.me.0.seen way id }
+        ensures clerk { Sits self.now seat.new }
+        ensures grows { Grows (token seat.old) (named way id ∷ []) (token seat.new) }
+    {
+        let words = &self.table.shared;
+        words.store::<Names>(seat, way as usize, id);
+    }
+
+    /// The clerk takes a way's name.
+    pub(crate) fn unname_way(&self, seat: &mut Seat, way: u32)
+        requires clerk { Sits self.now seat.old }
+        requires number { seat.old.me.0.number ≡ 0 }
+        requires way { way < ways self.now.plan }
+        ensures clerk { Sits self.now seat.new }
+        ensures grows { Grows (token seat.old) (unnamed way ∷ []) (token seat.new) }
+    {
+        let words = &self.table.shared;
+        words.store::<Unnames>(seat, way as usize, 0);
+    }
+
+    /// The clerk closes the claim of a group, whose turn is `was`.
+    pub(crate) fn close(&self, seat: &mut Seat, group: u32, was: u64)
+        requires clerk { Sits self.now seat.old }
+        requires number { seat.old.me.0.number ≡ 0 }
+        requires group { group < self.now.plan.groups }
+        requires was { turn_of self.now.plan seat.old.me.0.seen group ≡ was }
+        requires open_claim { was % 2 ≡ 1 }
+        requires early { was < last_turn }
+        ensures clerk { Sits self.now seat.new }
+        ensures grows { Grows (token seat.old) (cleared group ∷ []) (token seat.new) }
+    {
+        let words = &self.table.shared;
+        let place = self.turn_place(group);
+        words.store::<Clears>(seat, place, was + 1);
+    }
+
+    /// A look at word 0, by which the token knows all that a note told it which it took in last.
+    pub(crate) fn learn(&self, seat: &mut Seat)
+        requires caller { Sits self.now seat.old }
+        ensures caller { Sits self.now seat.new }
+        ensures grows { Grows (token seat.old) (looked seat.old.me.0.number ∷ []) (token seat.new) }
+        ensures heard { BeginsWith seat.new.me.0.seen seat.old.me.0.told }
+    {
+        let words = &self.table.shared;
+        words.load::<LooksAtName>(seat, 0);
+    }
+
+    /// A note of what the token has seen. Else the token stays as it is, but for the step.
+    pub(crate) fn note_seat(&self, seat: &mut Seat) -> Seat
+        requires { seat.old.table_id ≡ self.now.id }
+        ensures maker { (seat.new.table_id ≡ seat.old.table_id) × (seat.new.me ≡ (counted seat.old.me.0, seat.old.me.1)) }
+        ensures note { (result.table_id ≡ seat.old.table_id) × (result.me ≡ (note_of seat.old.me.0, [])) }
+    {
+        let words = &self.table.shared;
+        words.split_seat::<Notes>(seat)
+    }
+
+    /// The token takes a note in, of which its next look tells.
+    pub(crate) fn take_note(&self, seat: &mut Seat, note: Seat)
+        requires own { (seat.old.table_id ≡ self.now.id) × (note.table_id ≡ self.now.id) }
+        requires note { (note.me.0.calls ≡ false) × (note.me.1 ≡ []) }
+        ensures own { seat.new.table_id ≡ seat.old.table_id }
+        ensures took { seat.new.me ≡ (with_note seat.old.me.0 note.me.0, seat.old.me.1) }
+    {
+        let words = &self.table.shared;
+        words.join_seat::<Notes>(seat, note);
+    }
+
+    fn turn_place(&self, group: u32) -> usize
+        requires { group < self.now.plan.groups }
+        ensures value { result ≡ turn_place self.now.plan group }
+        ensures inside { result < total self.now.plan }
+    {
+        8 * self.plan.groups as usize + group as usize
+    }
+}

@@ -1,0 +1,38 @@
+//! Laws over the definitions alone. Nothing runs here: each function's contract is the law.
+ghost use Rattle.nr_ids.specs.Laws.{ClerkKnows, FindsWhatItKnew, InGroup, OneClaim, OneNaming, OneWay, TurnCounts};
+
+/// An id has at most one way.
+pub fn one_way()
+    ensures { OneWay }
+{}
+
+/// An id's way is one of its group.
+pub fn in_group()
+    ensures { InGroup }
+{}
+
+/// A group's claim is granted once between two clearings.
+pub fn one_claim()
+    ensures { OneClaim }
+{}
+
+/// An id is named once for each absence: between two namings its first way lost its name.
+pub fn one_naming()
+    ensures { OneNaming }
+{}
+
+/// A group's turn is how often it was claimed and cleared.
+pub fn turn_counts()
+    ensures { TurnCounts }
+{}
+
+/// What the clerk knows of names is exact.
+pub fn clerk_knows()
+    ensures { ClerkKnows }
+{}
+
+/// A token that knows, as by a note, that a way has an id's name finds it there, unless the name was
+/// taken since.
+pub fn finds_what_it_knew()
+    ensures { FindsWhatItKnew }
+{}

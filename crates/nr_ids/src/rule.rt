@@ -1,0 +1,93 @@
+//! The rule of the table, and what each kind of step tells.
+use crate::plan::Plan;
+use crate::view::View;
+use atomic_table::{Join, Play, Split, TableRule};
+
+pub struct Law;
+
+impl TableRule<u64, View, Plan> for Law {
+    ghost use Rattle.nr_ids.specs.Rule.{Kept, opener};
+
+    ghost holds = { Kept };
+
+    ghost first = { opener };
+}
+
+/// The clerk makes a reader.
+pub struct Seats;
+
+impl Split<View> for Seats {
+    ghost use Rattle.nr_ids.specs.Rule.{next_reader, with_reader};
+
+    ghost left = { with_reader };
+
+    ghost right = { next_reader };
+}
+
+/// A note is made of what a token has seen, and taken in by another.
+pub struct Notes;
+
+impl Split<View> for Notes {
+    ghost use Rattle.nr_ids.specs.Rule.{counted, note_of};
+
+    ghost left = { counted };
+
+    ghost right = { note_of };
+}
+
+impl Join<View> for Notes {
+    ghost use Rattle.nr_ids.specs.Rule.{spent, with_note};
+
+    ghost both = { with_note };
+
+    ghost spent = { spent };
+}
+
+pub struct LooksAtName;
+
+impl Play<u64, View> for LooksAtName {
+    ghost use Rattle.nr_ids.specs.Plays.{has_looked_at_name};
+
+    ghost then = { has_looked_at_name };
+}
+
+pub struct LooksAtTurn;
+
+impl Play<u64, View> for LooksAtTurn {
+    ghost use Rattle.nr_ids.specs.Plays.{has_looked_at_turn};
+
+    ghost then = { has_looked_at_turn };
+}
+
+/// A claim, or a look where the turn was another.
+pub struct Claims;
+
+impl Play<u64, View> for Claims {
+    ghost use Rattle.nr_ids.specs.Plays.{has_claimed};
+
+    ghost then = { has_claimed };
+}
+
+pub struct Names;
+
+impl Play<u64, View> for Names {
+    ghost use Rattle.nr_ids.specs.Plays.{has_named};
+
+    ghost then = { has_named };
+}
+
+pub struct Unnames;
+
+impl Play<u64, View> for Unnames {
+    ghost use Rattle.nr_ids.specs.Plays.{has_unnamed};
+
+    ghost then = { has_unnamed };
+}
+
+pub struct Clears;
+
+impl Play<u64, View> for Clears {
+    ghost use Rattle.nr_ids.specs.Plays.{has_cleared};
+
+    ghost then = { has_cleared };
+}
