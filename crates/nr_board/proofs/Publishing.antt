@@ -18,7 +18,7 @@ use Rattle.nr_board.specs.Callers.{Caller, Grows, Table, map_at_opening, token, 
 use Rattle.nr_board.specs.Entries.{AreCallers}
 use Rattle.nr_machine.specs.Spares.{Spare}
 use Rattle.nr_board.specs.Spares.{TookByPolls, desk_with}
-use Rattle.nr_marks.specs.Marks.{Marks, Past, with_name, with_polls}
+use Rattle.nr_marks.specs.Marks.{Marks, with_name, with_polls}
 use Rattle.nr_marks.specs.MarkSteps.{PutsMarks}
 use Rattle.nr_board.specs.Plays.{SwapsOrPuts}
 use Rattle.nr_machine.specs.States.{key_of}
@@ -83,15 +83,14 @@ published table call rows spare mid_spare after_spare slot departed polls before
     let leads = subst (λ (o : Desk × Step). LeadsIn 1 table (call_of call) o mid after) outcome told.leads in
     let marks = subst (λ (b : Bool). PutsMarks b mid.me.0.marks (key_of call) slot rows found after.me.0.role after.me.0.seen after.me.0.marks []) (lt-leb last (2 * length rows) (omega arith)) told.marks in
     let swaps = subst (λ (b : Bool). SwapsOrPuts b table.shape (key_of call) found told.log mid.me.0.marks) (lt-leb last (2 * length rows) (omega arith)) told.finds in
-    let same_names : get_or before.me.0.marks.names (key_of call) 0 ≡ get_or mid.me.0.marks.names (key_of call) 0 = ap (λ (m : Marks). get_or m.names (key_of call) 0) (sym only_polls) in
-    let same_polls : after.me.0.marks.polls ≡ mid.me.0.marks.polls = ap (λ (m : Marks). m.polls) marks.3 in (
+    let same_names : get_or before.me.0.marks.names (key_of call) 0 ≡ get_or mid.me.0.marks.names (key_of call) 0 = ap (λ (m : Marks). get_or m.names (key_of call) 0) (sym only_polls) in (
       record {
         slot = slot;
         inside = writes.room.place.0;
         log = told.log;
         seen = told.seen ∙ ap (λ (o : Desk × Step). told.log ++ ending (call_of call) o.1) outcome;
         swaps = record { state = swaps.state; name = same_names ∙ swaps.name };
-        marks = marks.3 ∙ ap (λ (m : Marks). with_name m (key_of call) slot marks.0 rows) only_polls ∙ ap (λ (l : List Past). with_name (with_polls before.me.0.marks l) (key_of call) slot marks.0 rows) (sym same_polls);
+        marks = marks.3 ∙ ap (λ (m : Marks). with_name m (key_of call) slot marks.0 rows) only_polls;
         number = marks.0;
         count = marks.1;
         put = marks.2;

@@ -1,19 +1,22 @@
 -- A reap, poll by poll: the slots whose sets wait are split into those that were found held and those that are still to be polled.
-use Rattle.std.proofs.Common.{◌≡◌, ◌∙◌, ℕ, zero, suc, ◌+◌, ◌*◌, ◌<◌, ◌≤◌, Bool, true, false, cond, List, [], ◌∷◌, ◌++◌, ap, append-nil, append_assoc, arith, drop, get_or, length, length-append, map, refl, subst, sym}
-use Rattle.std.proofs.lemmas.Bool.{le-ltb, lt-ltb, ltb-true}
+use Rattle.std.proofs.Common.{◌≡◌, ◌∙◌, ℕ, zero, suc, ◌+◌, ◌<◌, ◌≤◌, Bool, true, false, cond, List, [], ◌∷◌, ◌++◌, ap, append-nil, append_assoc, arith, drop, get_or, length, length-append, refl, subst, sym, ◌≢◌, ⊎_elim}
+use Rattle.std.proofs.lemmas.Bool.{lt-ltb, ltb-true}
 use Rattle.std.specs.Prelude.{Some, nat_lt}
 use lib.ListN.{get_elem?}
-use mathlib.Core.Option.{some, some-injective}
+use mathlib.Core.Logic.{dite}
+use mathlib.Core.Option.{some, some-injective, some-ne-none}
+use native.Mathlib.Decide.{ℕ_discrete}
 use Rattle.atomic_table.specs.Table.{Allows, Me}
-use Rattle.atomic_table.specs.Seated.{TableId}
 use Rattle.nr_model.specs.Histories.{entries_of}
 use Rattle.nr_words.specs.KeyWords.{same_count}
 use Rattle.nr_core.proofs.Learn.{learns}
+use Rattle.nr_core.proofs.Sums.{only-is, only-le, only-other, some_term, total-append}
 use Rattle.nr_core.proofs.WordPlaces.{same_departures}
 use Rattle.nr_core.specs.Core.{AreNumbers}
 use Rattle.nr_core.specs.Roles.{is_reader, is_writer}
 use Rattle.nr_core.specs.Steps.{LoadsWord}
 use Rattle.nr_machine.specs.Slots.{departures}
+use Rattle.nr_machine.specs.Sums.{only, total}
 use Rattle.nr_machine.specs.Spares.{Spare}
 use Rattle.nr_machine.specs.States.{no_retired}
 use Rattle.nr_machine.specs.declared.operation.Operation.TheVariants.{Load}
@@ -22,6 +25,7 @@ use Rattle.nr_machine.specs.declared.places.Retired.{Retired}
 use Rattle.nr_machine.specs.declared.roles.Desk.{Desk}
 use Rattle.nr_machine.specs.declared.roles.Role.TheVariants.{Writer}
 use Rattle.nr_machine.specs.declared.shape.Shape.{Shape}
+use Rattle.nr_marks.proofs.ListPlaces.{at_last, at_left, before as before_at, inside, some_is}
 use Rattle.nr_marks.proofs.ReapMarks.{probes_marked}
 use Rattle.nr_marks.specs.Marks.{Marks, Past, with_polls, with_reaped}
 use Rattle.nr_marks.specs.MarkSteps.{ProbeTells, ProbesMarks}
@@ -32,7 +36,7 @@ use Rattle.nr_board.specs.Callers.{Caller, Table, caller_of, map_seen, token}
 use Rattle.nr_board.specs.Entries.{AreCallers}
 use Rattle.nr_board.specs.Plays.{Room}
 use Rattle.nr_board.specs.Recalls.{RecallsAt}
-use Rattle.nr_board.specs.Reaping.{HeldEach, ProbesAt, ProbesTo, SweepsFor, SweptTo, probed, reaping, waiting}
+use Rattle.nr_board.specs.Reaping.{HeldEach, ProbesAt, ProbesTo, SweepsFor, SweptTo, probed, waiting}
 use Rattle.nr_board.specs.Rule.{Kept, marks_of, role_of}
 use Rattle.nr_board.specs.Spares.{desk_with}
 use Rattle.nr_board.specs.Views.{View, caller_number, desk_of}
@@ -99,17 +103,51 @@ module _ (flags : List Bool) (l : List Retired) (place : ℕ) (low : place < len
   waits_there : flag flags entry_there.slot ≡ false → waiting flags (drop place l) ≡ entry_there ∷ waiting flags (drop (place + 1) l)
   waits_there stays = ap (waiting flags) drop_next ∙ ap (λ (b : Bool). cond {A = List Retired} b (waiting flags (drop (place + 1) l)) (entry_there ∷ waiting flags (drop (place + 1) l))) stays
 
-held_more : (slots : List Retired) (notes : List Past) (entry : Retired) (note : Past) → HeldEach slots notes → note.slot ≡ Some entry.slot → HeldEach (slots ++ entry ∷ []) (notes ++ note ∷ [])
-held_more slots notes entry note each on = map_more (λ (n : Past). n.slot) notes note ∙ (λ j. each j ++ on j ∷ []) ∙ sym (map_more (λ (e : Retired). Some e.slot) slots entry)
-  where
-    map_more : {A B : Type 0} (f : A → B) (l : List A) (x : A) → map f (l ++ x ∷ []) ≡ map f l ++ f x ∷ []
-    map_more f [] x = refl
-    map_more f (y ∷ l) x = ap (λ t. f y ∷ t) (map_more f l x)
+-- the element at the end of a list
+at_end : {A : Type 0} (l : List A) (x : A) (at : ℕ) → at ≡ length l → get_elem? (l ++ x ∷ []) at ≡ some x
+at_end [] x zero e = refl
+at_end [] x (suc at) e = absurd (omega arith)
+at_end (y ∷ l) x zero e = absurd (omega arith)
+at_end (y ∷ l) x (suc at) e = at_end l x at (omega arith)
 
-none_polled : (slots : List Retired) (notes : List Past) → HeldEach slots notes → false ≡ nat_lt 0 (length notes) → (slots ≡ []) × (notes ≡ [])
-none_polled [] [] each none = (refl, refl)
-none_polled (x ∷ slots) [] each none = absurd (let z = ap length each in omega arith)
-none_polled slots (n ∷ notes) each none = absurd (let gone = lt-ltb 0 (length (n ∷ notes)) (omega arith) in let clash : false ≡ true = none ∙ gone in cc)
+-- one behind another list
+at_behind : {A : Type 0} (l m : List A) (at : ℕ) → get_elem? (l ++ m) (length l + at) ≡ get_elem? m at
+at_behind [] m at = ap (get_elem? m) (omega arith)
+at_behind (x ∷ l) m at = let next : length (x ∷ l) + at ≡ suc (length l + at) = omega arith in ap (get_elem? (x ∷ l ++ m)) next ∙ at_behind l m at
+
+none_held : (readers : ℕ) → HeldEach readers [] []
+none_held readers = record {
+  held = record { many = refl; slots = λ at entry there. absurd (some-ne-none entry (sym there)); different = λ reader. omega arith };
+  range = λ at note there. absurd (some-ne-none note (sym there));
+}
+
+-- one slot more, held by a reader that holds none of the others
+module _ (readers : ℕ) (slots : List Retired) (notes : List Past) (entry : Retired) (note : Past) (each : HeldEach readers slots notes) (on : note.slot ≡ Some entry.slot)
+    (low : 0 < note.reader) (high : note.reader ≤ readers) (apart : (at : ℕ) (old : Past) → get_elem? notes at ≡ some old → old.reader ≢ note.reader) where
+  once : (reader : ℕ) → total (λ (old : Past). only reader old.reader) (notes ++ note ∷ []) ≤ 1
+  once reader = let more = total-append (λ (old : Past). only reader old.reader) notes (note ∷ []) in let most = each.held.different reader in dite (ℕ_discrete note.reader reader)
+      (λ same. let le = only-le reader note.reader in dite (ℕ_discrete (total (λ (old : Past). only reader old.reader) notes) 0) (λ none. omega arith)
+      (λ some_one. let t = some_term (λ (old : Past). only reader old.reader) notes (omega arith) in absurd (apart t.0 t.1 t.2 (only-is reader t.1.reader t.3 ∙ sym same))))
+      (λ other. let none = only-other reader note.reader other in omega arith)
+
+  held_more : HeldEach readers (slots ++ entry ∷ []) (notes ++ note ∷ [])
+  held_more = let many = each.held.many in record {
+    held = record {
+      many = omega (arith, length-append notes (note ∷ []), length-append slots (entry ∷ []));
+      slots = λ at e there. ⊎_elim
+          (λ (old : get_elem? slots at ≡ some e). let was = each.held.slots at e old in (was.0, at_left notes (note ∷ []) at was.0 was.1, was.2))
+          (λ (new : (at ≡ length slots) × (entry ≡ e)). (note, at_end notes note at (omega (arith, new.0)), on ∙ ap (λ (x : Retired). Some x.slot) new.1))
+          (at_last slots entry e at there);
+      different = once;
+    };
+    range = λ at old there. ⊎_elim (λ (was : get_elem? notes at ≡ some old). each.range at old was)
+        (λ (new : (at ≡ length notes) × (note ≡ old)). subst (λ (n : Past). (0 < n.reader) × (n.reader ≤ readers)) new.1 (low, high)) (at_last notes note old at there);
+  }
+
+none_polled : (readers : ℕ) (slots : List Retired) (notes : List Past) → HeldEach readers slots notes → false ≡ nat_lt 0 (length notes) → (slots ≡ []) × (notes ≡ [])
+none_polled readers [] [] each none = (refl, refl)
+none_polled readers (x ∷ slots) [] each none = absurd (let z = each.held.many in omega arith)
+none_polled readers slots (n ∷ notes) each none = absurd (let gone = lt-ltb 0 (length (n ∷ notes)) (omega arith) in let clash : false ≡ true = none ∙ gone in cc)
 
 -- THE SWEEP
 
@@ -120,7 +158,16 @@ probed_none view = λ j. record view { steps = same j; marks = with_polls view.m
     same = omega arith
 
 pub swept_none : (spare : Spare) (seat : MapSeat) → SweptTo spare seat seat 0 false
-swept_none spare seat = record { held = []; notes = []; split = refl; each = refl; own = refl; view = sym (probed_none seat.me.0); flag = refl }
+swept_none spare seat = record {
+  held = [];
+  notes = [];
+  split = refl;
+  each = none_held seat.me.0.shape.readers;
+  earlier = λ at entry there. absurd (some-ne-none entry (sym there));
+  own = refl;
+  view = sym (probed_none seat.me.0);
+  flag = refl;
+}
 
 module _ (spare : Spare) (before mid : MapSeat) (place : ℕ) (polled : Bool) (so_far : SweptTo spare before mid place polled) (low : place < length spare.retired) where
   abbrev this : Retired
@@ -132,6 +179,7 @@ module _ (spare : Spare) (before mid : MapSeat) (place : ℕ) (polled : Bool) (s
     notes = so_far.notes;
     split = so_far.split ∙ ap (λ (l : List Retired). so_far.held ++ l) (waits_not spare.reaped spare.retired place low gone);
     each = so_far.each;
+    earlier = λ at entry there. let e = so_far.earlier at entry there in (e.0, (let low = e.1 in omega arith), e.2);
     own = so_far.own;
     view = so_far.view;
     flag = so_far.flag;
@@ -141,14 +189,26 @@ module _ (spare : Spare) (before mid : MapSeat) (place : ℕ) (polled : Bool) (s
     split_here : waiting spare.reaped spare.retired ≡ so_far.held ++ this ∷ waiting spare.reaped (drop (place + 1) spare.retired)
     split_here = so_far.split ∙ ap (λ (l : List Retired). so_far.held ++ l) (waits_there spare.reaped spare.retired place low stays)
 
-    pub swept_more : same_count found this.arrivals ≡ false → SweptTo spare before after (place + 1) true
-    swept_more apart = let told = subst (λ (b : Bool). ProbeTells b shape mid.me.0.marks this.slot after.me.0.marks) apart tells.1 in
-        let note : Past = told.0 in let notes = so_far.notes ++ note ∷ [] in let longer = length-append so_far.notes (note ∷ []) in
+    pub swept_more : (table : Table) → shape ≡ table.shape → RestsAt table spare before → same_count found this.arrivals ≡ false → SweptTo spare before after (place + 1) true
+    swept_more table sized rests apart = let told = subst (λ (b : Bool). ProbeTells b shape mid.me.0.marks this.slot after.me.0.marks) apart tells.1 in
+        let note : Past = told.0 in let notes = so_far.notes ++ note ∷ [] in let polls_are : mid.me.0.marks.polls ≡ before.me.0.marks.polls ++ so_far.notes = ap (λ (v : View). v.marks.polls) so_far.view in
+        let readers : shape.readers ≡ before.me.0.shape.readers = ap (λ (s : Shape). s.readers) sized ∙ sym (ap (λ (t : Table). t.shape.readers) rests.writes.own) in
+        let here : get_elem? spare.retired place ≡ some this = at_get spare.retired place low in
+        let another : (at : ℕ) (old : Past) → get_elem? so_far.notes at ≡ some old → old.reader ≢ note.reader
+        = λ at old there same. let entry = before_at so_far.held at (omega (arith, inside so_far.notes at old there, so_far.each.held.many)) in
+        let its = so_far.each.held.slots at entry.0 entry.1 in let its_slot : old.slot ≡ Some entry.0.slot = ap (λ (p : Past). p.slot) (some-injective old its.0 (sym there ∙ its.1)) ∙ its.2 in
+        let as_here : old.slot ≡ note.slot = told.5 (length before.me.0.marks.polls + at) old (ap (λ (l : List Past). get_elem? l (length before.me.0.marks.polls + at)) polls_are
+        ∙ at_behind before.me.0.marks.polls so_far.notes at ∙ there) same in
+        let one_slot : entry.0.slot ≡ this.slot = some_is entry.0.slot this.slot (sym its_slot ∙ as_here ∙ told.2) in let at_before = so_far.earlier at entry.0 entry.1 in
+        let one_place = rests.writes.room.apart at_before.0 place entry.0 this at_before.2 here one_slot in let early = at_before.1 in absurd (omega arith) in
+        let longer = length-append so_far.notes (note ∷ []) in
         let steps : before.me.0.steps + (length so_far.notes + 0) + 1 ≡ before.me.0.steps + (length notes + 0) = omega (arith, longer) in record {
           held = so_far.held ++ this ∷ [];
           notes = notes;
           split = split_here ∙ sym (append_assoc so_far.held (this ∷ []) (waiting spare.reaped (drop (place + 1) spare.retired)));
-          each = held_more so_far.held so_far.notes this note so_far.each told.2;
+          each = held_more before.me.0.shape.readers so_far.held so_far.notes this note so_far.each told.2 told.3 (let high = told.4 in omega arith) another;
+          earlier = λ at entry there. ⊎_elim (λ (old : get_elem? so_far.held at ≡ some entry). let e = so_far.earlier at entry old in (e.0, (let early = e.1 in omega arith), e.2))
+              (λ (new : (at ≡ length so_far.held) × (this ≡ entry)). (place, omega arith, here ∙ ap some new.1)) (at_last so_far.held this entry at there);
           own = own ∙ so_far.own;
           view = tells.0 ∙ (λ j. record mid.me.0 { steps = mid.me.0.steps + 1; marks = told.1 j })
               ∙ ap (λ (v : View). record v { steps = v.steps + 1; marks = with_polls v.marks (v.marks.polls ++ note ∷ []) }) so_far.view
@@ -178,10 +238,10 @@ module _ (spare : Spare) (before after : MapSeat) (place : ℕ) (all : length sp
   all_held polled so_far = so_far.split ∙ ap (λ (l : List Retired). so_far.held ++ waiting spare.reaped l) (drop_all spare.retired place all) ∙ append-nil so_far.held
 
   pub sweeps_held : SweptTo spare before after place true → SweepsFor spare before after sweep.Held
-  sweeps_held so_far = (so_far.notes, ltb-true 0 (length so_far.notes) (sym so_far.flag), subst (λ (l : List Retired). HeldEach l so_far.notes) (sym (all_held true so_far)) so_far.each, so_far.view)
+  sweeps_held so_far = (so_far.notes, ltb-true 0 (length so_far.notes) (sym so_far.flag), subst (λ (l : List Retired). HeldEach before.me.0.shape.readers l so_far.notes) (sym (all_held true so_far)) so_far.each, so_far.view)
 
   pub sweeps_nothing : SweptTo spare before after place false → SweepsFor spare before after sweep.Nothing
-  sweeps_nothing so_far = let none = none_polled so_far.held so_far.notes so_far.each so_far.flag in
+  sweeps_nothing so_far = let none = none_polled before.me.0.shape.readers so_far.held so_far.notes so_far.each so_far.flag in
       (all_held false so_far ∙ none.0, so_far.view ∙ ap (λ (l : List Past). probed l 0 before.me.0) none.1 ∙ probed_none before.me.0)
 
 -- THE SEAT

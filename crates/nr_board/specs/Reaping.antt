@@ -1,5 +1,5 @@
 -- A reap: the writer polls the retired slots whose sets wait, oldest first, and gives out the set of the first that no reader holds. The slot stays retired, and its set is reaped.
-use Rattle.std.specs.Prelude.{◌≡◌, ℕ, ◌+◌, ◌*◌, ◌<◌, if◌then◌else◌, Bool, false, List, [], ◌∷◌, ◌++◌, drop, length, map, nat_lt, slice_index_or, Some}
+use Rattle.std.specs.Prelude.{◌≡◌, ℕ, ◌+◌, ◌*◌, ◌<◌, ◌≤◌, if◌then◌else◌, Bool, false, List, [], ◌∷◌, ◌++◌, drop, length, nat_lt, slice_index_or}
 use mathlib.Core.Option.{some}
 use lib.ListN.{get_elem?}
 use Rattle.nr_model.specs.Rows.{IsRowSet}
@@ -14,6 +14,7 @@ use Rattle.nr_machine.specs.declared.roles.Role.TheVariants.{Writer}
 use Rattle.nr_machine.specs.declared.shape.Shape.{Shape}
 use Rattle.nr_marks.specs.Marks.{Past, set_in, with_polls, with_reaped}
 use Rattle.nr_marks.specs.MarkSteps.{ProbeTells}
+use Rattle.nr_marks.specs.PollNotes.{AllHeld}
 use Rattle.nr_board.specs.declared.answers.Reaped.{Reaped}
 use Rattle.nr_board.specs.declared.answers.Reaped.TheVariants as reaped
 use Rattle.nr_board.specs.declared.reaping.Sweep.{Sweep}
@@ -52,9 +53,10 @@ abbrev pub waiting : List Bool → List Retired → List Retired
 waiting flags [] = []
 waiting flags (entry ∷ retired) = (if slice_index_or flags entry.slot false then waiting flags retired else entry ∷ waiting flags retired)
 
--- each of these slots was polled, in their order, and held by a reader
-abbrev pub HeldEach : List Retired → List Past → Type 0
-HeldEach slots notes = map (λ (note : Past). note.slot) notes ≡ map (λ (entry : Retired). Some entry.slot) slots
+-- each of these slots was polled, in their order, and held by one of that many readers, each by another one
+pub record HeldEach (readers : ℕ) (slots : List Retired) (notes : List Past) : Type 0 where
+  pub held : AllHeld slots notes
+  pub range : (at : ℕ) (note : Past) → get_elem? notes at ≡ some note → (0 < note.reader) × (note.reader ≤ readers)
 
 -- after those polls, and that many steps more
 abbrev pub probed : List Past → ℕ → View → View
@@ -64,9 +66,9 @@ abbrev pub reaping : ℕ → View → View
 reaping slot view = record view { marks = with_reaped view.marks slot }
 
 abbrev pub SweepsFor : Spare → MapSeat → MapSeat → Sweep → Type 0
-SweepsFor spare old new (sweep.Free slot) = (held later : List Retired) × (entry : Retired) × (notes : List Past) × (waiting spare.reaped spare.retired ≡ held ++ entry ∷ later) × HeldEach held notes
+SweepsFor spare old new (sweep.Free slot) = (held later : List Retired) × (entry : Retired) × (notes : List Past) × (waiting spare.reaped spare.retired ≡ held ++ entry ∷ later) × HeldEach old.me.0.shape.readers held notes
     × (slot ≡ entry.slot) × (slot < spare.slots) × (new.me.0 ≡ reaping slot (probed notes 1 old.me.0))
-SweepsFor spare old new sweep.Held = (notes : List Past) × (0 < length notes) × HeldEach (waiting spare.reaped spare.retired) notes × (new.me.0 ≡ probed notes 0 old.me.0)
+SweepsFor spare old new sweep.Held = (notes : List Past) × (0 < length notes) × HeldEach old.me.0.shape.readers (waiting spare.reaped spare.retired) notes × (new.me.0 ≡ probed notes 0 old.me.0)
 SweepsFor spare old new sweep.Nothing = (waiting spare.reaped spare.retired ≡ []) × (new.me.0 ≡ old.me.0)
 
 -- the sweep so far
@@ -74,7 +76,9 @@ pub record SweptTo (spare : Spare) (before now : MapSeat) (place : ℕ) (polled 
   pub held : List Retired
   pub notes : List Past
   pub split : waiting spare.reaped spare.retired ≡ held ++ waiting spare.reaped (drop place spare.retired)
-  pub each : HeldEach held notes
+  pub each : HeldEach before.me.0.shape.readers held notes
+  -- each of them stands before the place in the list
+  pub earlier : (at : ℕ) (entry : Retired) → get_elem? held at ≡ some entry → (other : ℕ) × (other < place) × (get_elem? spare.retired other ≡ some entry)
   pub own : now.table_id ≡ before.table_id
   pub view : now.me.0 ≡ probed notes 0 before.me.0
   pub flag : polled ≡ nat_lt 0 (length notes)
@@ -88,10 +92,10 @@ after_polls notes more caller = record caller { steps = caller.steps + (length n
 abbrev pub with_reap : ℕ → Caller → Caller
 with_reap slot caller = record caller { marks = with_reaped caller.marks slot }
 
--- A reap gives out the oldest set that waits and that nobody holds, by a poll of each up to it and a load of each word. Or each that waits was held at its poll, or none waits. Else the token is as it was.
+-- A reap gives out the oldest set that waits and that nobody holds, by a poll of each up to it and a load of each word. Or each that waits was held at its poll, each by another reader, or none waits. Else the token is as it was.
 abbrev pub ReapsIn : {Room : Type 0} → (Room → List Row → Type 0) → Caller → Room → Caller → Room → Reaped → Type 0
-ReapsIn shows old before new after reaped.Set = (held later : List Retired) × (entry : Retired) × (notes : List Past) × (waiting old.marks.reaped old.retired ≡ held ++ entry ∷ later) × HeldEach held notes
+ReapsIn shows old before new after reaped.Set = (held later : List Retired) × (entry : Retired) × (notes : List Past) × (waiting old.marks.reaped old.retired ≡ held ++ entry ∷ later) × HeldEach old.table.shape.readers held notes
     × shows after (set_in old.marks entry.slot) × IsRowSet old.table.shape.rows (set_in old.marks entry.slot)
     × (new ≡ with_reap entry.slot (after_polls notes (1 + (2 * length (set_in old.marks entry.slot) + 1)) old))
-ReapsIn shows old before new after reaped.Held = (notes : List Past) × (0 < length notes) × HeldEach (waiting old.marks.reaped old.retired) notes × (new ≡ after_polls notes 0 old) × (after ≡ before)
+ReapsIn shows old before new after reaped.Held = (notes : List Past) × (0 < length notes) × HeldEach old.table.shape.readers (waiting old.marks.reaped old.retired) notes × (new ≡ after_polls notes 0 old) × (after ≡ before)
 ReapsIn shows old before new after reaped.Nothing = (waiting old.marks.reaped old.retired ≡ []) × (new ≡ old) × (after ≡ before)

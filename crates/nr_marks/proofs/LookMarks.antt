@@ -38,10 +38,9 @@ use Rattle.nr_machine.specs.declared.roles.Role.TheVariants.{Writer}
 use Rattle.nr_machine.specs.declared.shape.Shape.{Shape}
 use Rattle.nr_machine.specs.declared.calls.WReply.TheVariants as writer
 use Rattle.nr_model.specs.declared.calls.Reply.TheVariants as reply
-use Rattle.nr_model.specs.declared.states.KeyState.TheVariants as key
 use Rattle.nr_marks.specs.Marks.{Marks, Past, with_polls}
 use Rattle.nr_marks.specs.PollNotes.{AllHeld, NoRoom}
-use Rattle.nr_marks.specs.Marked.{CanMark, Since, Sweeping, Sweeps, Untouched}
+use Rattle.nr_marks.specs.Marked.{CanMark, HoldNoOthers, Since, Sweeping, Sweeps, Untouched}
 use Rattle.nr_marks.specs.MarkSteps.{LooksMarks, ReadsOnMarks}
 use Rattle.nr_marks.proofs.ListPlaces.{at_maps, inside, no_places}
 use Rattle.nr_marks.proofs.PutNumbers.{quiet_count, quiet_number}
@@ -67,12 +66,15 @@ fault_quiet NoRow = refl
 fault_quiet TooMany = refl
 
 module _ {A : Type 0} (role : A → Role) (marks : A → Marks) where
+  pub none_hold : (callers : List A) (desk : Desk) → HoldNoOthers role marks callers desk []
+  none_hold callers desk at note here = absurd (some-ne-none note (sym here))
+
   pub no_notes : (callers : List A) (desk : Desk) → Sweeps role marks callers desk [] 0
   no_notes callers desk = record {
     many = refl;
     slots = λ at entry note _ g. absurd (some-ne-none note (sym g));
     different = λ reader. omega arith;
-    other = λ at note g _ _ _ _ _ _ _ _. absurd (some-ne-none note (sym g));
+    other = none_hold callers desk;
   }
 
   -- an outcome that leaves the retired slots and puts nothing, where no poll was made yet
@@ -80,6 +82,9 @@ module _ {A : Type 0} (role : A → Role) (marks : A → Marks) where
   Calm callers desk o = (o.0.retired ≡ desk.retired) × Sweeping role marks callers o.0 [] o.0.place × (step_puts o.1 ≡ false)
 
   module _ (shape : Shape) (callers : List A) (desk : Desk) where
+    none_now : HoldNoOthers role marks callers (moved_to desk Idle) []
+    none_now = none_hold callers (moved_to desk Idle)
+
     settled_calm : (call : WriterCall) (rows : List Row) → Calm callers desk (settled shape desk call rows)
     settled_calm call rows = by_cases (λ b. Calm callers desk
         (cond {A = Desk × Step} b (taking_fresh shape desk call rows, Going)
@@ -87,50 +92,52 @@ module _ {A : Type 0} (role : A → Role) (marks : A → Marks) where
         (moved_to desk (Searching call rows 0), Going)))) (nat_lt desk.fresh shape.slots)
         (λ _. (refl, tt, refl))
         (λ _. by_cases (λ b. Calm callers desk (cond {A = Desk × Step} b (moved_to desk Idle, no_slot shape desk)
-        (moved_to desk (Searching call rows 0), Going))) (nat_eq (length desk.retired) 0) (λ _. (refl, tt, refl))
+        (moved_to desk (Searching call rows 0), Going))) (nat_eq (length desk.retired) 0) (λ _. (refl, none_now, refl))
         (λ _. (refl, no_notes callers (moved_to desk (Searching call rows 0)), refl)))
 
     looked_calm : (call : WriterCall) (word : ℕ) → Calm callers desk (looked shape desk call word)
     looked_calm (Find k) word = by_cases (λ b. Calm callers desk (cond {A = Desk × Step} b (moved_to desk (Reading (Find k) (slot_of word) []), Going)
-        (moved_to desk Idle, ended reply.Hole))) (is_filled word) (λ _. (refl, refl, refl)) (λ _. (refl, tt, refl))
+        (moved_to desk Idle, ended reply.Hole))) (is_filled word) (λ _. (refl, refl, refl)) (λ _. (refl, none_now, refl))
     looked_calm (Fill k number rows) word = by_cases (λ b. Calm callers desk
         (cond {A = Desk × Step} b (moved_to desk Idle, ended reply.Already)
         (cond {A = Desk × Step} (has_ask word) (fill_asked shape desk (Fill k number rows) number rows (slot_of word))
-        (moved_to desk Idle, ended reply.NotAsked)))) (is_filled word) (λ _. (refl, tt, refl))
+        (moved_to desk Idle, ended reply.NotAsked)))) (is_filled word) (λ _. (refl, none_now, refl))
         (λ _. by_cases (λ b. Calm callers desk (cond {A = Desk × Step} b (fill_asked shape desk (Fill k number rows) number rows (slot_of word)) (moved_to desk Idle, ended reply.NotAsked))) (has_ask word)
         (λ _. by_cases (λ b. Calm callers desk (cond {A = Desk × Step} b (settled shape desk (Fill k number rows) rows)
         (moved_to desk Idle, ended reply.Stale))) (nat_eq (slot_of word) number) (λ _. settled_calm (Fill k number rows) rows)
-        (λ _. (refl, tt, refl)))
-        (λ _. (refl, tt, refl)))
+        (λ _. (refl, none_now, refl)))
+        (λ _. (refl, none_now, refl)))
     looked_calm (Update k batch) word = by_cases (λ b. Calm callers desk
         (cond {A = Desk × Step} b (moved_to desk (Reading (Update k batch) (slot_of word) []), Going) (moved_to desk Idle, ended reply.Dropped)))
-        (is_filled word) (λ _. (refl, refl, refl)) (λ _. (refl, tt, refl))
+        (is_filled word) (λ _. (refl, refl, refl)) (λ _. (refl, none_now, refl))
     looked_calm (Replace k rows) word = by_cases (λ b. Calm callers desk
         (cond {A = Desk × Step} b (settled shape desk (Replace k rows) rows) (moved_to desk Idle, ended reply.Dropped))) (is_filled word)
-        (λ _. settled_calm (Replace k rows) rows) (λ _. (refl, tt, refl))
-    looked_calm (Evict k) word = by_cases (λ b. Calm callers desk (cond {A = Desk × Step} b (moved_to desk (Leaving k), Going) (moved_to desk Idle, ended reply.Nothing))) (is_filled word) (λ _. (refl, tt, refl)) (λ _. (refl, tt, refl))
+        (λ _. settled_calm (Replace k rows) rows) (λ _. (refl, none_now, refl))
+    looked_calm (Evict k) word = by_cases (λ b. Calm callers desk (cond {A = Desk × Step} b (moved_to desk (Leaving k), Going) (moved_to desk Idle, ended reply.Nothing)))
+        (is_filled word) (λ _. (refl, refl, refl)) (λ _. (refl, none_now, refl))
     looked_calm (Cancel k) word = by_cases (λ b. Calm callers desk
         (cond {A = Desk × Step} b (moved_to desk Idle, ended reply.Nothing)
         (cond {A = Desk × Step} (has_ask word) (cancel_asked desk k (slot_of word)) (moved_to desk Idle, ended reply.Nothing)))) (is_filled word)
-        (λ _. (refl, tt, refl))
+        (λ _. (refl, none_now, refl))
         (λ _. by_cases (λ b. Calm callers desk (cond {A = Desk × Step} b (cancel_asked desk k (slot_of word)) (moved_to desk Idle, ended reply.Nothing))) (has_ask word)
-        (λ _. by_cases (λ b. Calm callers desk (cond {A = Desk × Step} b (moved_to desk (Withdrawing k), Going) (moved_to desk Idle, ended reply.Worn))) (nat_lt (slot_of word) last_number) (λ _. (refl, tt, refl)) (λ _. (refl, tt, refl)))
-        (λ _. (refl, tt, refl)))
+        (λ _. by_cases (λ b. Calm callers desk (cond {A = Desk × Step} b (moved_to desk (Withdrawing k), Going) (moved_to desk Idle, ended reply.Worn)))
+        (nat_lt (slot_of word) last_number) (λ _. (refl, refl, refl)) (λ _. (refl, none_now, refl)))
+        (λ _. (refl, none_now, refl)))
 
     renewed_calm : (call : WriterCall) (new : Result (List Row) ApplyFault) → Calm callers desk (renewed shape desk call new)
     renewed_calm call (Ok rows) = settled_calm call rows
-    renewed_calm call (Err fault) = (refl, tt, fault_quiet fault)
+    renewed_calm call (Err fault) = (refl, none_now, fault_quiet fault)
 
     decided_calm : (call : WriterCall) (rows : List Row) → Calm callers desk (decided shape desk call rows)
-    decided_calm (Find k) rows = (refl, tt, refl)
-    decided_calm (Fill k number new) rows = (refl, tt, refl)
+    decided_calm (Find k) rows = (refl, none_now, refl)
+    decided_calm (Fill k number new) rows = (refl, none_now, refl)
     decided_calm (Update k batch) rows = renewed_calm (Update k batch) (applied (bound_of shape) rows batch)
-    decided_calm (Replace k new) rows = (refl, tt, refl)
-    decided_calm (Evict k) rows = (refl, tt, refl)
-    decided_calm (Cancel k) rows = (refl, tt, refl)
+    decided_calm (Replace k new) rows = (refl, none_now, refl)
+    decided_calm (Evict k) rows = (refl, none_now, refl)
+    decided_calm (Cancel k) rows = (refl, none_now, refl)
 
     decoded_calm : (call : WriterCall) (found : Option (List Row)) → Calm callers desk (decoded shape desk call found)
-    decoded_calm call None = (refl, tt, refl)
+    decoded_calm call None = (refl, none_now, refl)
     decoded_calm call (Some rows) = decided_calm call rows
 
     read_calm : (call : WriterCall) (slot : ℕ) (got : List ℕ) → Calm callers desk (read_on shape desk call slot got)

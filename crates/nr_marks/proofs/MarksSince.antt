@@ -22,7 +22,7 @@ use Rattle.nr_machine.specs.declared.roles.Role.TheVariants.{Note, Reader, Write
 use Rattle.nr_machine.specs.declared.shape.Shape.{Shape}
 use Rattle.nr_marks.specs.Puts.{put_count, put_number}
 use Rattle.nr_marks.specs.Marks.{Marks, Past, gripped, set_in}
-use Rattle.nr_marks.specs.Marked.{Keeps, Desked, Evolves, HasWriter, KnowsMarks, Marked, Since, Sweeping, lives}
+use Rattle.nr_marks.specs.Marked.{Keeps, Desked, Evolves, HasWriter, HoldNoOthers, KnowsMarks, Marked, Since, Sweeping, lives}
 use Rattle.nr_marks.proofs.ListPlaces.{at_left, at_maps, set_other}
 
 -- the content words of the slots stay
@@ -72,8 +72,12 @@ module _ {A : Type 0} (role : A → Role) (marks : A → Marks) where
   HoldersStay callers callers' desk mine = (place reader slot : ℕ) (who : A) (grip : Grip) → get_elem? callers' place ≡ some who → role who ≡ Reader reader grip → gripped grip ≡ Some slot
       → Keeps mine slot (marks who).put × (0 < retirements slot desk.retired → HasHolder callers reader slot)
 
+  hold_no_others : (callers callers' : List A) (desk : Desk) (mine : Marks) → HoldersStay callers callers' desk mine → (polls : List Past) → HoldNoOthers role marks callers desk polls → HoldNoOthers role marks callers' desk polls
+  hold_no_others callers callers' desk mine stay polls other at note here place slot who grip there is holds rests =
+      let h = (stay place note.reader slot who grip there is holds).1 rests in other at note here h.0 slot h.1 h.2 h.3 h.4 h.5 rests
+
   sweeping_frame : (callers callers' : List A) (desk : Desk) (mine : Marks) → HoldersStay callers callers' desk mine → (polls : List Past) (p : Place) → Sweeping role marks callers desk polls p → Sweeping role marks callers' desk polls p
-  sweeping_frame callers callers' desk mine stay polls Idle t = t
+  sweeping_frame callers callers' desk mine stay polls Idle t = hold_no_others callers callers' desk mine stay polls t
   sweeping_frame callers callers' desk mine stay polls (Reading a b c) t = t
   sweeping_frame callers callers' desk mine stay polls (Leaving a) t = t
   sweeping_frame callers callers' desk mine stay polls (Withdrawing a) t = t
@@ -81,7 +85,7 @@ module _ {A : Type 0} (role : A → Role) (marks : A → Marks) where
     many = t.many;
     slots = t.slots;
     different = t.different;
-    other = λ at note here place slot who grip there is holds rests. let h = (stay place note.reader slot who grip there is holds).1 rests in t.other at note here h.0 slot h.1 h.2 h.3 h.4 h.5 rests;
+    other = hold_no_others callers callers' desk mine stay polls t.other;
   }
   sweeping_frame callers callers' desk mine stay polls (Putting a b c d e) t = t
 

@@ -172,5 +172,5 @@ module _ {A : Type 0} (role : A → Role) (marks : A → Marks) where
         (cond {A = Desk × Step} b (moved_to desk (Searching call rows (poll + 1)), Going) (moved_to desk Idle, no_slot shape desk)).1 → Goal)
         (nat_lt (poll + 1) (length desk.retired))
         (λ _ is none. misses miss (moved_to desk (Searching call rows (poll + 1))) refl (λ polls t. t) is none)
-        (λ _ is none. misses miss (moved_to desk Idle) refl (λ polls t. tt) is none))
+        (λ _ is none. misses miss (moved_to desk Idle) refl (λ polls t. t.other) is none))
         refl ans.0 ans.1

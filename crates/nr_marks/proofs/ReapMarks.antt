@@ -1,5 +1,5 @@
 -- A poll by a reap: where it finds its slot held it notes a reader that holds it, and else the slot's set is reaped, which no key names and nobody holds.
-use Rattle.std.proofs.Common.{Bool, inl, inr, List, [], ap, arith, false, get_or, get_or-set_other, length, map, refl, set, subst, suc, sym, true, ℕ, ⊎_elim, ◌%◌, ◌++◌, ◌+◌, ◌<◌, ◌^◌, ◌∙◌, ◌∷◌, ◌≡◌, ◌≢◌, ◌≤◌}
+use Rattle.std.proofs.Common.{inl, inr, List, [], ap, arith, false, get_or, get_or-set_other, length, map, refl, set, subst, suc, sym, true, ℕ, ⊎_elim, ◌%◌, ◌++◌, ◌<◌, ◌^◌, ◌∙◌, ◌∷◌, ◌≡◌, ◌≢◌, ◌≤◌}
 use Rattle.std.proofs.lemmas.Bool.{eqb-false, eqb-true}
 use Rattle.std.specs.Prelude.{Some}
 use lib.ListN.{get_elem?}
@@ -11,12 +11,11 @@ use Rattle.nr_model.specs.Histories.{Entry}
 use Rattle.nr_words.specs.KeyWords.{same_count}
 use Rattle.nr_core.proofs.Choices.{by_cases}
 use Rattle.nr_core.proofs.Sums.{below-term, only-le, only-same, some_term, term_le, total-le}
-use Rattle.nr_core.specs.Core.{Core}
-use Rattle.nr_core.specs.Roles.{held, holds, is_reader, retirements}
+use Rattle.nr_core.specs.Roles.{held, holds, is_reader}
 use Rattle.nr_core.specs.Steps.{LoadsWord}
 use Rattle.nr_machine.specs.declared.operation.Operation.TheVariants.{Load}
 use Rattle.nr_machine.specs.Slots.{departures, name_number}
-use Rattle.nr_machine.specs.Sums.{only, total}
+use Rattle.nr_machine.specs.Sums.{only}
 use Rattle.nr_machine.specs.declared.places.Place.TheVariants.{Idle}
 use Rattle.nr_machine.specs.declared.places.Retired.{Retired}
 use Rattle.nr_machine.specs.declared.roles.Desk.{Desk}
@@ -26,12 +25,12 @@ use Rattle.nr_machine.specs.declared.roles.Role.{Role}
 use Rattle.nr_machine.specs.declared.roles.Role.TheVariants.{Note, Reader, Writer}
 use Rattle.nr_machine.specs.declared.shape.Shape.{Shape}
 use Rattle.nr_marks.specs.Marks.{Marks, Past, gripped, past, with_polls, with_reaped}
-use Rattle.nr_marks.specs.Marked.{AllSince, CanMark, Desked, IsPresent, KnowsMarks, NotesPresent, Remarked, Since, Sweeping, Untouched}
-use Rattle.nr_marks.specs.MarkSteps.{ProbeTells, ProbesMarks}
+use Rattle.nr_marks.specs.Marked.{AllSince, CanMark, Desked, HoldNoOthers, IsPresent, KnowsMarks, NotesPresent, Remarked, Since, Sweeping}
+use Rattle.nr_marks.specs.MarkSteps.{NotedNowhereElse, ProbeTells, ProbesMarks}
 use Rattle.nr_marks.proofs.ListPlaces.{at_last, at_maps, at_unmap, no_places}
 use Rattle.nr_marks.proofs.MarksSince.{rests}
 use Rattle.nr_marks.proofs.DeskMarks.{QuietEnd, desk_of, desk_stay, nothing_ends, writer_step}
-use Rattle.nr_marks.proofs.PollMarks.{reader_of}
+use Rattle.nr_marks.proofs.PollMarks.{grip_in, reader_of, same_caller}
 use Rattle.nr_marks.proofs.ReaderMarks.{contents_loaded}
 use Rattle.nr_marks.proofs.SwapMarks.{grips_it}
 
@@ -72,10 +71,11 @@ module _ {A : Type 0} (role : A → Role) (marks : A → Marks) where
         let alone = rests role marks shape words callers log id me desk slot core at was (omega arith) in
         let tells = ProbesMarks shape (marks me) entry in
         let Goal : Type 0 = Remarked role marks shape words callers log id me (Load i) after entries tells in
-        let stays : (polls : List Past) → AllSince role marks callers polls → Desked role marks shape words' callers (log ++ entries) desk (with_polls (marks me) polls)
-        = λ polls since. desk_stay role marks shape words words' callers log entries desk desk (marks me) polls own
+        let others : HoldNoOthers role marks callers desk (marks me).polls = subst (Sweeping role marks callers desk (marks me).polls) idle own.sweep in
+        let stays : (polls : List Past) → AllSince role marks callers polls → HoldNoOthers role marks callers desk polls → Desked role marks shape words' callers (log ++ entries) desk (with_polls (marks me) polls)
+        = λ polls since others. desk_stay role marks shape words words' callers log entries desk desk (marks me) polls own
         (λ j _. ap (λ l. get_or l j 0) (set-get_or words i 0)) (subst (QuietEnd log) (sym ans.1) (nothing_ends log)) (λ s. omega arith) since
-        (subst (Sweeping role marks callers desk polls) (sym idle) tt) (λ s _ untouched. (untouched, contents_loaded shape words i s)) in
+        (subst (Sweeping role marks callers desk polls) (sym idle) others) (λ s _ untouched. (untouched, contents_loaded shape words i s)) in
         let finish : (now : Marks) → NotesPresent role marks callers (marks me).polls now.polls → Desked role marks shape words' callers (log ++ entries) desk now → tells word after (log ++ entries) now [] → Goal
         = λ now noted desked told. writer_step role marks shape id me (Load i) tells words callers log core m at desk desk was after entries (ans.0 ∙ was) now [] (no_places (Since role marks callers)) noted desked told in
         by_cases (λ b. same_count word entry.arrivals ≡ b → Goal) (same_count word entry.arrivals)
@@ -83,7 +83,7 @@ module _ {A : Type 0} (role : A → Role) (marks : A → Marks) where
         let same : word % 2 ^ 40 ≡ entry.arrivals % 2 ^ 40 = eqb-true (word % 2 ^ 40) (entry.arrivals % 2 ^ 40) hit in
         let nobody : held roles slot ≡ 0 = omega arith in
         finish (with_reaped (marks me) slot) (λ n e there'. inl there')
-        (desk_reaped shape words' callers (log ++ entries) desk (marks me) slot (stays (marks me).polls own.noted)
+        (desk_reaped shape words' callers (log ++ entries) desk (marks me) slot (stays (marks me).polls own.noted others)
         (λ key l e. let part = below-term (λ k. only (suc slot) (name_number (get_or words k 0))) shape.keys key l in
         let e' : name_number (get_or words key 0) ≡ suc slot = sym (ap (λ l. name_number (get_or l key 0)) (set-get_or words i 0)) ∙ e in
         let once_more : only (suc slot) (name_number (get_or words key 0)) ≡ 1 = ap (only (suc slot)) e' ∙ only-same (suc slot) in let none = alone.1 in omega arith)
@@ -100,5 +100,15 @@ module _ {A : Type 0} (role : A → Role) (marks : A → Marks) where
         (λ (z : (n ≡ length (marks me).polls) × (note ≡ e)). inr (subst (IsPresent role marks callers) z.1 (f.0, u, y, g.1, reads, refl)))
         (at_last (marks me).polls note e n there') in
         let range = subst (λ b. KnowsMarks role marks shape words callers log b (marks u)) reads (m.each f.0 u g.1) in
-        finish (with_polls (marks me) polls) present (stays polls since) (refl, subst (λ b. ProbeTells b shape (marks me) slot (with_polls (marks me) polls)) (sym miss) (note, refl, o.3, range.0, range.1)))
+        let elsewhere : NotedNowhereElse (marks me).polls note = λ n e there' same_reader.
+        others n e there' f.0 slot u y g.1 (reads ∙ ap (λ (b : ℕ). Reader b y) (sym same_reader)) o.3 (omega arith) ∙ sym o.3 in
+        let no_others : HoldNoOthers role marks callers desk polls
+        = λ n e there' place s who grip is_there is on retired. ⊎_elim (λ (z : get_elem? (marks me).polls n ≡ some e). others n e z place s who grip is_there is on retired)
+        (λ (z : (n ≡ length (marks me).polls) × (note ≡ e)). let is' : role who ≡ Reader c grip = is ∙ ap (λ (b : Past). Reader b.reader grip) (sym z.1) in
+        let uw = same_caller role marks callers once f.0 place c u who y grip g.1 is_there reads is' in
+        ap (λ (b : Past). b.slot) (sym z.1) ∙ ap gripped (ap grip_in (sym reads ∙ ap role uw ∙ is')) ∙ on) (at_last (marks me).polls note e n there') in
+        finish (with_polls (marks me) polls) present (stays polls since no_others) (
+          refl,
+          subst (λ b. ProbeTells b shape (marks me) slot (with_polls (marks me) polls)) (sym miss) (note, refl, o.3, range.0, range.1, elsewhere),
+        ))
         refl

@@ -1,7 +1,7 @@
 -- The marks of the first caller, of one more caller, and of one whose view changes beside its role.
 use Rattle.std.proofs.Common.{List, [], ap, arith, get_or, inl, refl, set, subst, suc, sym, zero, ℕ, ⊎_elim, ◌++◌, ◌<◌, ◌∙◌, ◌∷◌, ◌≡◌, ◌≢◌, ◌⊎◌}
 use Rattle.std.proofs.lemmas.List.{length-replicate}
-use Rattle.std.specs.Prelude.{None, Some, replicate, length}
+use Rattle.std.specs.Prelude.{None, Some, replicate}
 use lib.ListN.{get_elem?}
 use mathlib.Core.Logic.{dite}
 use native.Mathlib.Decide.{ℕ_discrete}
@@ -68,7 +68,7 @@ module _ {A : Type 0} (role : A → Role) (marks : A → Marks) where
         sets = λ slot l _. subst (SlotSpells shape words slot) (sym (empties shape.slots slot)) (blank_spells shape words slot (blank slot l));
         many = length-replicate shape.slots [];
         noted = no_places (Since role marks (me ∷ []));
-        sweep = tt;
+        sweep = λ at note here. absurd (some-ne-none note (sym here));
       }
 
       each : (place : ℕ) (who : A) → get_elem? (me ∷ []) place ≡ some who → KnowsMarks role marks shape words (me ∷ []) [] (role who) (marks who)

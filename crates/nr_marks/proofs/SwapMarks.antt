@@ -3,7 +3,7 @@ use Rattle.std.proofs.Common.{Bool, zero, List, [], ap, arith, cond, eq-eqb, fal
 use Rattle.std.specs.Prelude.{Some}
 use lib.ListN.{get_elem?}
 use mathlib.Core.Logic.{dite}
-use mathlib.Core.Option.{some}
+use mathlib.Core.Option.{some, some-ne-none}
 use native.Mathlib.Decide.{ℕ_discrete}
 use Rattle.nr_model.specs.Histories.{Entry}
 use Rattle.nr_model.specs.Maps.{call_key}
@@ -38,11 +38,12 @@ use Rattle.nr_model.specs.declared.states.KeyState.TheVariants as key
 use Rattle.nr_model.specs.declared.calls.Reply.TheVariants as reply
 use Rattle.nr_marks.specs.Puts.{put_count, put_number, puts_at}
 use Rattle.nr_marks.specs.Marks.{Marks, Past, gripped, with_name, without_name, set_in}
-use Rattle.nr_marks.specs.Marked.{CanMark, Desked, Since, Sweeping, lives, Untouched}
+use Rattle.nr_marks.specs.Marked.{CanMark, Desked, HoldNoOthers, Since, Sweeping, lives, Untouched}
 use Rattle.nr_marks.specs.MarkSteps.{KeepsMarks, PublishesMarks, UnpublishesMarks}
 use Rattle.nr_marks.proofs.ListPlaces.{at_maps, no_places, some_is}
 use Rattle.nr_marks.proofs.PutNumbers.{count_more, put_more, quiet_count, quiet_number}
 use Rattle.nr_marks.proofs.ReaderMarks.{names_behind, names_kept, contents_behind}
+use Rattle.nr_marks.proofs.LookMarks.{none_hold}
 use Rattle.nr_marks.proofs.DeskMarks.{QuietEnd, desk_keep, desk_of, desk_stay, nothing_ends, writer_step}
 use Rattle.nr_marks.proofs.MarksSince.{SameContents}
 use Rattle.nr_core.proofs.Frames.{spells_more}
@@ -84,7 +85,7 @@ module _ {A : Type 0} (role : A → Role) (marks : A → Marks) where
       → name_number (get_or words' n 0) ≡ suc t → ((i : ℕ) → i ≢ n → name_number (get_or words' i 0) ≡ name_number (get_or words i 0)) → lives shape words desk t ≡ 0
       → ((place reader : ℕ) (who : A) (grip : Grip) → get_elem? callers place ≡ some who → role who ≡ Reader reader grip → gripped grip ≡ Some t → ⊥)
       → put_number log' n ≡ put_count log → ((i : ℕ) → i ≢ n → put_number log' i ≡ put_number log i) → put_count log' ≡ suc (put_count log)
-      → ((s : ℕ) → s < shape.slots → 0 < lives shape words' desk' s → (s ≡ t) ⊎ (0 < lives shape words desk s)) → Sweeping role marks callers desk' mine.polls desk'.place
+      → ((s : ℕ) → s < shape.slots → 0 < lives shape words' desk' s → (s ≡ t) ⊎ (0 < lives shape words desk s)) → Sweeping role marks callers desk' [] desk'.place
       → (rows : List Row) → SlotSpells shape words' t rows → ((s : ℕ) → s ≢ t → Untouched s desk.place) → SameContents shape words words'
       → Desked role marks shape words' callers log' desk' (with_name mine n t (put_count log) rows)
   desk_put shape words words' callers log log' desk desk' mine n t own near in_range here others dead nobody number numbers many live sweep rows spelled before contents =
@@ -125,7 +126,7 @@ module _ {A : Type 0} (role : A → Role) (marks : A → Marks) where
             (subst (SlotSpells shape words' t) (sym (get_or-set_same mine.sets t rows [] (omega (arith, own.many)))) spelled)))
             (λ ne. subst (SlotSpells shape words' s) (sym (get_or-set_other mine.sets t s rows [] ne)) (spells_more shape words words' s (set_in mine s) (contents s) (own.sets s l (before s ne))));
         many = length-set mine.sets t rows ∙ own.many;
-        noted = own.noted;
+        noted = no_places (Since role marks callers);
         sweep = sweep;
       }
 
@@ -169,7 +170,7 @@ module _ {A : Type 0} (role : A → Role) (marks : A → Marks) where
         let n : ℕ = put_count log in
         let many : put_count (log ++ e ∷ []) ≡ suc n = let z = count_more log e in omega arith in
         writer_step role marks shape id me (Swap k x) (PublishesMarks (marks me) k slot rows) words callers log core m there desk desk' was after
-        entries ans.0 (with_name (marks me) k slot n rows) [] (no_places (Since role marks callers)) (λ place note here. inl here)
+        entries ans.0 (with_name (marks me) k slot n rows) [] (no_places (Since role marks callers)) (λ place note here. absurd (some-ne-none note (sym here)))
         (subst (λ l. Desked role marks shape words' callers (log ++ l) desk' (with_name (marks me) k slot n rows)) (sym ans.1)
         (desk_put shape words words' callers log (log ++ e ∷ []) desk desk' (marks me) k slot own near in_range (ap name_number here ∙ name) (λ i ne. ap name_number (other i ne)) (omega arith)
         (λ place reader who grip is_there is on. let l = term_le (holds slot) roles place (Reader reader grip) (at_maps role callers place who is_there ∙ ap some is) in let g = grips_it grip slot on in absurd (omega arith))
@@ -180,7 +181,7 @@ module _ {A : Type 0} (role : A → Role) (marks : A → Marks) where
         let at_k : only (suc s) (name_number (get_or words' k 0)) ≡ only s slot = ap (only (suc s)) (ap name_number here ∙ name) ∙ only-suc s slot in
         let more = total-append (λ (y : Retired). only s y.slot) desk.retired (unnamed word) in let gone = unnamed_sum s word in
         dite (ℕ_discrete s slot) (λ z. inl z) (λ ne. let none = only-other s slot (λ z. ne (sym z)) in inr (omega arith)))
-        tt rows spells (λ s ne. subst (Untouched s) (sym is_at) (λ e. absurd (ne (sym e)))) contents))
+        (none_hold role marks callers desk') rows spells (λ s ne. subst (Untouched s) (sym is_at) (λ e. absurd (ne (sym e)))) contents))
         (n, ap (λ l. put_count (log ++ l)) ans.1 ∙ many, get_or-set_same (marks me).puts slot n 0 (omega arith), refl, refl)
 
     pub unpublishes_marked : (k : ℕ) → desk.place ≡ Leaving k → role me ≡ Writer desk
@@ -194,6 +195,7 @@ module _ {A : Type 0} (role : A → Role) (marks : A → Marks) where
         let p : AtPlace shape words (map_after shape log) (held roles) desk.fresh desk.retired (Leaving k) = subst
         (AtPlace shape words (map_after shape log) (held roles) desk.fresh desk.retired) is_at (core.knows id (Writer desk) at').place in
         let reads = p.1 in let near : k < shape.keys = reads.near in let wide = core.wide in let wide' = own.wide.0 in
+        let quiet : (marks me).polls ≡ [] = subst (Sweeping role marks callers desk (marks me).polls) is_at own.sweep in
         let here : name_number (get_or words' k 0) ≡ 0 = ap name_number (get_or-set_same words k x 0 (omega arith)) ∙ hole_names_none (number_at desk k) in
         let other : (i : ℕ) → i ≢ k → get_or words' i 0 ≡ get_or words i 0 = λ i ne. get_or-set_other words k i x 0 ne in
         writer_step role marks shape id me (Swap k x) (UnpublishesMarks (marks me) k) words callers log core m there desk desk' was after entries
@@ -207,7 +209,7 @@ module _ {A : Type 0} (role : A → Role) (marks : A → Marks) where
         (λ s l on. let change = below-change (λ j. only (suc s) (name_number (get_or words' j 0))) (λ j. only (suc s) (name_number (get_or words j 0))) shape.keys k near (λ j ne. ap (λ (y : ℕ). only (suc s) (name_number y)) (other j ne)) in
         let at_k : only (suc s) (name_number (get_or words' k 0)) ≡ 0 = ap (only (suc s)) here ∙ only-zero s in
         let more = total-append (λ (y : Retired). only s y.slot) desk.retired (unnamed word) in let gone = unnamed_sum s word in omega arith)
-        own.noted tt (λ s _ _. (subst (Untouched s) (sym is_at) tt, contents_behind shape words k x near s))))
+        own.noted (subst (HoldNoOthers role marks callers desk') (sym quiet) (none_hold role marks callers desk')) (λ s _ _. (subst (Untouched s) (sym is_at) tt, contents_behind shape words k x near s))))
         (refl, refl)
 
     -- an asked key named no slot, and names none after
@@ -219,6 +221,7 @@ module _ {A : Type 0} (role : A → Role) (marks : A → Marks) where
         let at' : get_elem? roles id ≡ some (Writer desk) = at_maps role callers id me there ∙ ap some was in
         let p : Withdraws shape (map_after shape log) k = subst (AtPlace shape words (map_after shape log) (held roles) desk.fresh desk.retired) is_at
         (core.knows id (Writer desk) at').place in let near : k < shape.keys = p.near in let wide = core.wide in
+        let quiet : (marks me).polls ≡ [] = subst (Sweeping role marks callers desk (marks me).polls) is_at own.sweep in
         let shown : ShowsState shape words (get_or words k 0) (key.Asked p.number) = subst (ShowsState shape words (get_or words k 0)) p.asked (core.shows k near) in
         let same : (i : ℕ) → name_number (get_or words' i 0) ≡ name_number (get_or words i 0) = names_kept words k x (omega arith) (hole_names_none (number_at desk k + 1) ∙ sym shown.0) in
         writer_step role marks shape id me (Swap k x) (KeepsMarks (marks me)) words callers log core m there desk desk' was after entries ans.0 (marks me) [] (no_places (Since role marks callers)) (λ place note here. inl here)
@@ -226,5 +229,5 @@ module _ {A : Type 0} (role : A → Role) (marks : A → Marks) where
         (desk_keep role marks shape words words' callers log (log ++ e ∷ []) desk desk' (marks me) (marks me).names (marks me).polls own own.wide.0
         (λ i l. own.names i l ∙ sym (same i)) (λ i s l z. sym (same i) ∙ z) (λ i. quiet_number log e i refl) (quiet_count log e refl)
         (λ s l on. let b = below-same (λ j. only (suc s) (name_number (get_or words' j 0))) (λ j. only (suc s) (name_number (get_or words j 0))) shape.keys (λ j _. ap (only (suc s)) (same j)) in omega arith)
-        own.noted tt (λ s _ _. (subst (Untouched s) (sym is_at) tt, contents_behind shape words k x near s))))
+        own.noted (subst (HoldNoOthers role marks callers desk') (sym quiet) (none_hold role marks callers desk')) (λ s _ _. (subst (Untouched s) (sym is_at) tt, contents_behind shape words k x near s))))
         (refl, refl)

@@ -1,5 +1,7 @@
 -- What each kind of step tells of the marks.
 use Rattle.std.specs.Prelude.{◌≡◌, ◌≢◌, ℕ, suc, ◌+◌, ◌<◌, ◌≤◌, List, [], ◌∷◌, ◌++◌, length, slice_index, ◌*◌, nat_le, Bool, true, false, Some}
+use mathlib.Core.Option.{some}
+use lib.ListN.{get_elem?}
 use Rattle.nr_model.specs.Histories.{Entry}
 use Rattle.nr_model.specs.declared.rows.Row.{Row}
 use Rattle.nr_machine.specs.declared.shape.Shape.{Shape}
@@ -94,10 +96,14 @@ went_marks shape marks known desk (Putting call rows slot departed index) = Puts
 abbrev pub GoesMarks : Shape → Marks → List Past → Desk → MarkTelling
 GoesMarks shape marks known desk = went_marks shape marks known desk desk.place
 
+-- the reader was noted at no other slot
+abbrev pub NotedNowhereElse : List Past → Past → Type 0
+NotedNowhereElse polls note = (at : ℕ) (poll : Past) → get_elem? polls at ≡ some poll → poll.reader ≡ note.reader → poll.slot ≡ note.slot
+
 -- a poll by a reap: where no reader holds the slot its set is reaped; else a reader that holds it is noted
 abbrev pub ProbeTells : Bool → Shape → Marks → ℕ → Marks → Type 0
 ProbeTells true shape marks slot now = now ≡ with_reaped marks slot
-ProbeTells false shape marks slot now = (note : Past) × (now ≡ with_polls marks (marks.polls ++ note ∷ [])) × (note.slot ≡ Some slot) × (0 < note.reader) × (note.reader ≤ shape.readers)
+ProbeTells false shape marks slot now = (note : Past) × (now ≡ with_polls marks (marks.polls ++ note ∷ [])) × (note.slot ≡ Some slot) × (0 < note.reader) × (note.reader ≤ shape.readers) × NotedNowhereElse marks.polls note
 
 abbrev pub ProbesMarks : Shape → Marks → Retired → MarkTelling
 ProbesMarks shape marks entry word after log now news = (news ≡ []) × ProbeTells (same_count word entry.arrivals) shape marks entry.slot now

@@ -87,19 +87,23 @@ module _ {A : Type 0} (role : A → Role) (marks : A → Marks) where
       (place slot : ℕ) (who : A) (grip : Grip) → get_elem? callers place ≡ some who → role who ≡ Reader note.reader grip → gripped grip ≡ Some slot
       → 0 < retirements slot desk.retired → note.slot ≡ Some slot
 
+  -- nor does any that these notes tell of
+  abbrev pub HoldNoOthers : List A → Desk → List Past → Type 0
+  HoldNoOthers callers desk polls = (at : ℕ) (note : Past) → get_elem? polls at ≡ some note → HoldsNoOther callers desk note
+
   -- the notes of a call's polls: one for each slot polled, each of another reader, which holds no other retired slot
   pub record Sweeps (callers : List A) (desk : Desk) (polls : List Past) (poll : ℕ) : Type 0 where
     pub many : length polls ≡ poll
     pub slots : (at : ℕ) (entry : Retired) (note : Past) → get_elem? desk.retired at ≡ some entry → get_elem? polls at ≡ some note → note.slot ≡ Some entry.slot
     pub different : (reader : ℕ) → total (λ note. only reader note.reader) polls ≤ 1
-    pub other : (at : ℕ) (note : Past) → get_elem? polls at ≡ some note → HoldsNoOther callers desk note
+    pub other : HoldNoOthers callers desk polls
 
-  -- a call polls after it has read
+  -- a call polls after it has read; between calls the notes are of a call that put no set, or of reaps
   abbrev pub Sweeping : List A → Desk → List Past → Place → Type 0
-  Sweeping callers desk polls Idle = Unit {0}
+  Sweeping callers desk polls Idle = HoldNoOthers callers desk polls
   Sweeping callers desk polls (Reading call slot got) = polls ≡ []
-  Sweeping callers desk polls (Leaving at) = Unit {0}
-  Sweeping callers desk polls (Withdrawing at) = Unit {0}
+  Sweeping callers desk polls (Leaving at) = polls ≡ []
+  Sweeping callers desk polls (Withdrawing at) = polls ≡ []
   Sweeping callers desk polls (Searching call rows poll) = Sweeps callers desk polls poll
   Sweeping callers desk polls (Putting call rows slot departed index) = Unit {0}
 

@@ -27,7 +27,7 @@ pub record Marks : Type 0 where
   pub sets : List (List Row)
   -- whether that set was reaped: given out before its slot is taken again
   pub reaped : List Bool
-  -- the polls that found their slots held, of the last call and of the reaps since
+  -- the polls that found their slots held, of the last call, unless that put a set, and of the reaps since
   pub polls : List Past
 
 -- the slot that a reader holds
@@ -70,9 +70,9 @@ is_reaped marks slot = slice_index_or marks.reaped slot false
 abbrev pub with_reaped : Marks → ℕ → Marks
 with_reaped marks slot = record marks { reaped = slice_set marks.reaped slot true }
 
--- the key names the slot, into which that set was put, with that number
+-- the key names the slot, into which that set was put, with that number; what the call's polls noted is of no use then
 abbrev pub with_name : Marks → ℕ → ℕ → ℕ → List Row → Marks
-with_name marks key slot number rows = record marks { names = slice_set marks.names key (suc slot); puts = slice_set marks.puts slot number; sets = slice_set marks.sets slot rows; reaped = slice_set marks.reaped slot false }
+with_name marks key slot number rows = record marks { names = slice_set marks.names key (suc slot); puts = slice_set marks.puts slot number; sets = slice_set marks.sets slot rows; reaped = slice_set marks.reaped slot false; polls = [] }
 
 abbrev pub without_name : Marks → ℕ → Marks
 without_name marks key = record marks { names = slice_set marks.names key 0 }

@@ -43,7 +43,8 @@ loop-place-preserved c = let spare = c.args.spare.now in let place : ℕ = c.loo
           let apart = ap (λ (e : Retired). same_count found e.arrivals) (sym is) ∙ sym w.same_count.ensures ∙ w.if-same_count.false in
           subst (λ (b : Bool). SweptTo spare c.args.seat.now c.if-not-is_reaped.seat (place + 1) b) (sym w.polled-is)
           (subst (λ seat. SweptTo spare c.args.seat.now seat (place + 1) true) (sym w.seat-is)
-          (swept_more spare c.args.seat.now c.loop-place.seat place c.loop-place.polled c.loop-place.invariant low c.args.self.now.shape found w.probe-departures.new.seat w.probe-departures.ensures.own tells waits apart))
+          (swept_more spare c.args.seat.now c.loop-place.seat place c.loop-place.polled c.loop-place.invariant low c.args.self.now.shape found w.probe-departures.new.seat
+          w.probe-departures.ensures.own tells waits c.args.self.now refl c.requires.rests apart))
       | else-not-is_reaped w ↦
           let gone = ap (λ (e : Retired). get_or spare.reaped e.slot false) (sym is) ∙ sym c.is_reaped.ensures ∙ w.if-not-is_reaped.false in
           subst (λ (b : Bool). SweptTo spare c.args.seat.now c.if-not-is_reaped.seat (place + 1) b) (sym w.polled-is)
