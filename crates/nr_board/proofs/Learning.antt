@@ -10,7 +10,7 @@ use Rattle.nr_core.proofs.KeyWords.{names_none, names_one}
 use Rattle.nr_core.proofs.Learn.{learns}
 use Rattle.nr_core.specs.Core.{ShowsState, AreNumbers}
 use Rattle.nr_machine.specs.declared.operation.Operation.TheVariants.{Load}
-use Rattle.nr_core.specs.Roles.{is_by, is_reader, is_writer}
+use Rattle.nr_core.specs.Roles.{holds, is_by, is_reader, is_writer}
 use Rattle.nr_core.specs.Steps.{LoadsWord}
 use Rattle.nr_machine.specs.Story.{map_after, opening_map}
 use Rattle.nr_machine.specs.declared.roles.Role.{Role}
@@ -21,7 +21,7 @@ use Rattle.nr_marks.specs.Exact.{Lists}
 use Rattle.nr_marks.specs.MarkSteps.{ReaderLearns, WriterLearns}
 use Rattle.nr_marks.specs.Marked.{CanMark, MarkTelling}
 use Rattle.nr_marks.specs.Marks.{Marks, Past, gripped}
-use Rattle.nr_board.proofs.Lift.{Makes, allowed, makes}
+use Rattle.nr_board.proofs.Lift.{Makes, allowed, key_inside, key_no_count, lends_on, makes, sees_plain}
 use Rattle.nr_board.proofs.Moves.{ActsGo, chosen, learned, learned_own}
 use Rattle.nr_board.specs.Entries.{AreCallers, acts_told, to_depart}
 use Rattle.nr_board.specs.Kinds.{kind_of, kind_shown}
@@ -70,7 +70,9 @@ module _ (shape : Shape) (id : ℕ) (me : Me (Unit {0}) View) (at : ℕ) (near :
       → Makes shape id view (Load at) me.1 (λ found next. Learned at found view next)
   learns_by notes marks tell = let tells = LoadsWord view.role in
       makes shape id view (Load at) tells notes me.1 (λ found next. Learned at found view next) view.told_pasts (learns shape id view.role at) marks (λ state kept there. kept.told_pasts id view there)
-      (λ state kept there step marked. let found : ℕ = get_or state.words at 0 in let fits = kept.fits id view there in let sized = fits.sized call in
+      (sees_plain shape id view (Load at) tells notes (λ found next. Learned at found view next) (key_inside shape at near) (key_no_count shape at near)
+      (λ state kept there step. lends_on view step.after (λ slot. ap (holds slot) step.told.0)))
+      (λ state kept there step marked. let found : ℕ = get_or kept.counted at 0 in let fits = kept.fits id view there in let sized = fits.sized call in
       let callers : AreCallers shape step.entries = subst (AreCallers shape) (sym step.told.1) tt in
       let next = learned view step.after (kept.log ++ step.entries) step.entries marked.now marked.news in
       let same = still kept.log step.entries step.told.1 in let there_after = here_after (map role_of state.views) id view.role step.after (at_map role_of state.views id view there) in
@@ -100,7 +102,7 @@ module _ (shape : Shape) (id : ℕ) (me : Me (Unit {0}) View) (at : ℕ) (near :
           pasts = refl;
         };
         told = record { rest = fits.told.rest; is = sym same ∙ fits.told.is };
-        state = shows_kind shape state.words found (state_of (map_after shape kept.log) at) (kept.core.shows at near) ∙ (λ j. kind_of (state_of (map_after (sym sized j) (same j)) at));
+        state = shows_kind shape kept.counted found (state_of (map_after shape kept.log) at) (kept.core.shows at near) ∙ (λ j. kind_of (state_of (map_after (sym sized j) (same j)) at));
         news = marked.news;
         pasts = refl;
         told_pasts = refl;

@@ -1,3 +1,4 @@
+pub mod Counting
 pub mod Lift
 pub mod Entries
 pub mod Moves

@@ -1,15 +1,15 @@
 -- A step of the core is a step on the table: one lemma over all kinds of step.
-use Rattle.std.proofs.Common.{◌≡◌, ℕ, ◌≤◌, ◌≢◌, List, [], ◌++◌, map, set, get_or, cond, Bool, true, false, ⊎_elim, refl, sym, ap, ◌∙◌, subst, arith, append_assoc, append-nil}
+use Rattle.std.proofs.Common.{◌≡◌, ℕ, suc, ◌∷◌, ◌<◌, ◌≤◌, ◌≢◌, get_or-set_other, List, [], ◌++◌, map, set, get_or, cond, Bool, true, false, ⊎_elim, refl, sym, ap, ◌∙◌, subst, arith, append_assoc, append-nil}
 use mathlib.Core.Option.{some}
 use lib.ListN.{get_elem?}
-use lib.Seq.{map-set}
+use lib.Seq.{map-set, set-get_or}
 use Rattle.atomic_table.specs.Table.{State, keeps, stepped, Allows}
 use Rattle.atomic_table.proofs.Lists.{at_map}
 use Rattle.nr_model.specs.Histories.{Entry, entries_of}
 use Rattle.nr_core.proofs.Histories.{of-append}
 use Rattle.nr_core.proofs.Sums.{total-set, term_le, terms_le, at_set}
 use Rattle.nr_core.specs.Core.{Core}
-use Rattle.nr_core.specs.Roles.{is_by, is_reader, is_writer}
+use Rattle.nr_core.specs.Roles.{holds, is_by, is_reader, is_writer}
 use Rattle.nr_machine.specs.Operations.{becomes, target_of}
 use Rattle.nr_machine.specs.declared.operation.Operation.{Operation}
 use Rattle.nr_core.specs.Steps.{CanStep, Stepped, Telling}
@@ -23,6 +23,12 @@ use Rattle.nr_board.proofs.Entries.{callers_both}
 use Rattle.nr_board.specs.Entries.{AreCallers}
 use Rattle.nr_board.specs.Rule.{Fits, Kept, counts, marks_of, pasts_of, role_of, told_pasts_of}
 use Rattle.nr_board.specs.Views.{View}
+use Rattle.std.specs.Prelude.{nat_lt}
+use Rattle.nr_words.specs.Places.{total_of}
+use Rattle.nr_machine.specs.Slots.{content, departures, layout, slot_room}
+use Rattle.nr_core.proofs.WordPlaces.{content_apart}
+use Rattle.nr_board.specs.Announcing.{Counted, IsNoCount, announcers, lends, lent, says_at}
+use Rattle.nr_board.proofs.Counting.{announces_on, counted_alone, counted_load, counted_plain, counted_same, lent_same}
 
 abbrev Table : Type 0
 Table = State (Unit {0}) View
@@ -53,6 +59,10 @@ apart shape state kept id other view viewed caller at there ne his =
 pub knows_pasts : (shape : Shape) (id : ℕ) (view : View) (state : Table) → Kept shape state → get_elem? state.views id ≡ some view → AllSince role_of marks_of state.views view.pasts
 knows_pasts shape id view state kept at = kept.pasts id view at
 
+-- the words after an operation
+abbrev pub words_after : Operation → List ℕ → List ℕ
+words_after operation words = set words (target_of operation) (becomes operation (get_or words (target_of operation) 0))
+
 -- whatever the table is, the token can make the step, and `then` holds of the word that it finds and of its view after
 abbrev pub Makes : Shape → ℕ → View → Operation → List (ℕ × Unit {0}) → (ℕ → View → Type 0) → Type 0
 Makes shape id view operation carried then = (state : Table) → Kept shape state → get_elem? state.views id ≡ some view
@@ -64,16 +74,16 @@ allowed shape slots id view operation carried then can state kept wide at small 
 
 module _ (shape : Shape) (id : ℕ) (view : View) (operation : Operation) (tells : Telling) (notes : MarkTelling) where
   abbrev Step : (state : Table) → Kept shape state → Type 0
-  Step state kept = Stepped shape state.words (map role_of state.views) kept.log id view.role operation tells
+  Step state kept = Stepped shape kept.counted (map role_of state.views) kept.log id view.role operation tells
 
   -- its marks after the step
-  abbrev pub Marks : (state : Table) (kept : Kept shape state) → Stepped shape state.words (map role_of state.views) kept.log id view.role operation tells → Type 0
-  Marks state kept step = Remarked role_of marks_of shape state.words state.views kept.log id view operation step.after step.entries notes
+  abbrev pub Marks : (state : Table) (kept : Kept shape state) → Stepped shape kept.counted (map role_of state.views) kept.log id view.role operation tells → Type 0
+  Marks state kept step = Remarked role_of marks_of shape kept.counted state.views kept.log id view operation step.after step.entries notes
 
   -- the token's view after a step, which fits the history and tells what it should
   pub record Choice (state : Table) (kept : Kept shape state)
-      (step : Stepped shape state.words (map role_of state.views) kept.log id view.role operation tells)
-      (marked : Remarked role_of marks_of shape state.words state.views kept.log id view operation step.after step.entries notes)
+      (step : Stepped shape kept.counted (map role_of state.views) kept.log id view.role operation tells)
+      (marked : Remarked role_of marks_of shape kept.counted state.views kept.log id view operation step.after step.entries notes)
       (then : View → Type 0) : Type 0 where
     pub next : View
     pub role : next.role ≡ step.after
@@ -81,6 +91,7 @@ module _ (shape : Shape) (id : ℕ) (view : View) (operation : Operation) (tells
     pub marks : next.marks ≡ marked.now
     pub pasts : next.pasts ≡ marked.news ++ view.pasts
     pub told_pasts : next.told_pasts ≡ view.told_pasts
+    pub says : next.says ≡ view.says
     pub fits : Fits shape (kept.log ++ step.entries) next
     pub callers : AreCallers shape step.entries
     pub told : then next
@@ -88,23 +99,43 @@ module _ (shape : Shape) (id : ℕ) (view : View) (operation : Operation) (tells
   -- whatever the table is, the token has such a view
   abbrev pub Chooses : (ℕ → View → Type 0) → Type 0
   Chooses then = (state : Table) (kept : Kept shape state) → get_elem? state.views id ≡ some view
-      → (step : Step state kept) (marked : Marks state kept step) → Choice state kept step marked (then (get_or state.words (target_of operation) 0))
+      → (step : Step state kept) (marked : Marks state kept step) → Choice state kept step marked (then (get_or kept.counted (target_of operation) 0))
+
+  -- what the core sees goes along with the words
+  pub record Agrees (state : Table) (kept : Kept shape state) : Type 0 where
+    pub counts : Counted shape (lent state.views) (words_after operation state.words) (words_after operation kept.counted)
+    pub behind : (own : ℕ) → own < announcers shape → get_or (words_after operation state.words) (says_at shape own) 0 ≡ get_or state.words (says_at shape own) 0
+
+  -- the token holds by its word as before
+  abbrev pub Lends : Role → Type 0
+  Lends after = (slot : ℕ) → cond (nat_lt 0 view.says) (holds slot after) 0 ≡ lends slot view
+
+  -- whatever the table is, what the core sees goes along, and what the step tells of the word that the core sees it tells of the table's
+  abbrev pub Sees : (ℕ → View → Type 0) → Type 0
+  Sees then = (state : Table) (kept : Kept shape state) → get_elem? state.views id ≡ some view → (step : Step state kept)
+      → Agrees state kept × Lends step.after × ((next : View) → then (get_or kept.counted (target_of operation) 0) next → then (get_or state.words (target_of operation) 0) next)
 
   -- the rule after the step
   keeps_rule : (state : Table) (kept : Kept shape state) (carried : List (ℕ × Unit {0})) (then : View → Type 0) → get_elem? state.views id ≡ some view
-      → (step : Step state kept) (marked : Marks state kept step) (choice : Choice state kept step marked then)
+      → (step : Step state kept) (marked : Marks state kept step) (choice : Choice state kept step marked then) → Agrees state kept → Lends step.after
       → Kept shape (stepped state (target_of operation) (becomes operation (get_or state.words (target_of operation) 0)) id carried choice.next keeps)
-  keeps_rule state kept carried then at step marked choice =
+  keeps_rule state kept carried then at step marked choice agrees lend =
       let views = state.views in let next = choice.next in let views' = set views id next in let log' = kept.log ++ step.entries in
       let there = at_map role_of views id view at in
-      let known = knowing_step role_of marks_of pasts_of told_pasts_of shape state.words views kept.log id view operation step.after step.entries
+      let known = knowing_step role_of marks_of pasts_of told_pasts_of shape kept.counted views kept.log id view operation step.after step.entries
       notes at kept.pasts kept.told_pasts marked next choice.role choice.marks choice.pasts choice.told_pasts in
       let roles : map role_of views' ≡ set (map role_of views) id step.after = map-set role_of views id next ∙ ap (set (map role_of views) id) choice.role in
       let tally : (caller : ℕ) → total (counts caller) (map role_of views') ≡ total (counts caller) (map role_of views) = λ caller.
       let same : counts caller step.after ≡ counts caller view.role = ap (λ y. cond y 1 0) (step.same caller) in
-      omega (arith, ap (total (counts caller)) roles, total-set (counts caller) (map role_of views) id view.role step.after there) in record {
+      omega (arith, ap (total (counts caller)) roles, total-set (counts caller) (map role_of views) id view.role step.after there) in
+      let lend_so : (slot : ℕ) → lends slot next ≡ lends slot view = λ slot. (λ j. cond (nat_lt 0 (choice.says j)) (holds slot (choice.role j)) 0) ∙ lend slot in
+      let same_caller : (caller : ℕ) → is_by caller next.role ≡ is_by caller view.role = λ caller. ap (is_by caller) choice.role ∙ step.same caller in record {
         log = log';
-        core = subst (λ (rs : List Role). Core shape (set state.words (target_of operation) (becomes operation (get_or state.words (target_of operation) 0))) rs log') (sym roles) step.core;
+        counted = words_after operation kept.counted;
+        counts_words = counted_same shape (lent views) (lent views') _ _ (lent_same views id view next at lend_so) agrees.counts;
+        announced = announces_on shape kept.made state.words (words_after operation state.words) views id view next at
+            same_caller choice.says lend_so agrees.behind kept.announced;
+        core = subst (λ (rs : List Role). Core shape (words_after operation kept.counted) rs log') (sym roles) step.core;
         fits = λ j u e. ⊎_elim
             (λ (t : (j ≡ id) × (next ≡ u)). subst (Fits shape log') t.1 choice.fits)
             (λ (t : (j ≢ id) × (get_elem? views j ≡ some u)). other_fits shape kept.log step.entries u (kept.fits j u t.1)
@@ -131,15 +162,88 @@ module _ (shape : Shape) (id : ℕ) (view : View) (operation : Operation) (tells
 
   -- Where the core can make a step and its marks go along, so can the token.
   pub makes : (carried : List (ℕ × Unit {0})) (then : ℕ → View → Type 0) (known : List Past) → CanStep shape id view.role operation tells → CanMark role_of marks_of shape id view known operation tells notes
-      → ((state : Table) → Kept shape state → get_elem? state.views id ≡ some view → AllSince role_of marks_of state.views known) → Chooses then
+      → ((state : Table) → Kept shape state → get_elem? state.views id ≡ some view → AllSince role_of marks_of state.views known) → Sees then → Chooses then
       → Makes shape id view operation carried then
-  makes carried then known can can_mark knows chooses state kept at =
-      let step = can state.words (map role_of state.views) kept.log kept.core (at_map role_of state.views id view at) in
-      let marked = can_mark state.words state.views kept.log kept.core kept.marked kept.once at (knows state kept at) step.after step.entries step.told in
-      let choice = chooses state kept at step marked in
-      (choice.next, keeps_rule state kept carried (then (get_or state.words (target_of operation) 0)) at step marked choice, choice.told)
+  makes carried then known can can_mark knows sees chooses state kept at =
+      let step = can kept.counted (map role_of state.views) kept.log kept.core (at_map role_of state.views id view at) in
+      let marked = can_mark kept.counted state.views kept.log kept.core kept.marked kept.once at (knows state kept at) step.after step.entries step.told in
+      let choice = chooses state kept at step marked in let seen = sees state kept at step in
+      (choice.next, keeps_rule state kept carried (then (get_or kept.counted (target_of operation) 0)) at step marked choice seen.0 seen.1, seen.2 choice.next choice.told)
 
   pub lifts : (slots : ℕ) (carried : List (ℕ × Unit {0})) (then : ℕ → View → Type 0) (known : List Past) → CanStep shape id view.role operation tells → CanMark role_of marks_of shape id view known operation tells notes
-      → ((state : Table) → Kept shape state → get_elem? state.views id ≡ some view → AllSince role_of marks_of state.views known) → Chooses then
+      → ((state : Table) → Kept shape state → get_elem? state.views id ≡ some view → AllSince role_of marks_of state.views known) → Sees then → Chooses then
       → Allows (Kept shape) slots id (view, carried) (target_of operation) (becomes operation) (λ found after. then found after.0)
-  lifts slots carried then known can can_mark knows chooses = allowed shape slots id view operation carried then (makes carried then known can can_mark knows chooses)
+  lifts slots carried then known can can_mark knows sees chooses = allowed shape slots id view operation carried then (makes carried then known can can_mark knows sees chooses)
+
+-- the step of the core leaves the holds by the token's word
+abbrev pub KeepsLent : Shape → ℕ → View → Operation → Telling → Type 0
+KeepsLent shape id view operation tells =
+    (state : Table) (kept : Kept shape state) → get_elem? state.views id ≡ some view
+    → (step : Stepped shape kept.counted (map role_of state.views) kept.log id view.role operation tells)
+    → (slot : ℕ) → cond (nat_lt 0 view.says) (holds slot step.after) 0 ≡ lends slot view
+
+-- as long as no reader has a word, none says anything, and no slot is held by a word
+pub says_nothing : (shape : Shape) (id : ℕ) (view : View) (state : Table) (kept : Kept shape state) → get_elem? state.views id ≡ some view → view.says ≡ 0
+says_nothing shape id view state kept at = kept.announced.wordless id view at (λ own low. absurd (omega arith))
+
+none_lend : (views : List View) (slot : ℕ) → ((id : ℕ) (view : View) → get_elem? views id ≡ some view → view.says ≡ 0) → lent views slot ≡ 0
+none_lend [] slot silent = refl
+none_lend (view ∷ views) slot silent =
+    let none : lends slot view ≡ 0 = ap (λ (n : ℕ). cond (nat_lt 0 n) (holds slot view.role) 0) (silent 0 view refl) in
+    omega (arith, none, none_lend views slot (λ id other at. silent (suc id) other at))
+
+pub lent_nothing : (shape : Shape) (state : Table) (kept : Kept shape state) (slot : ℕ) → lent state.views slot ≡ 0
+lent_nothing shape state kept slot = none_lend state.views slot (λ id view at. says_nothing shape id view state kept at)
+
+module _ (shape : Shape) (id : ℕ) (view : View) (operation : Operation) (tells : Telling) (notes : MarkTelling) (then : ℕ → View → Type 0) where
+  -- a step on a word of the layout that is no count of departures is seen as it is
+  pub sees_plain : target_of operation < total_of (layout shape) → IsNoCount shape (target_of operation)
+      → KeepsLent shape id view operation tells
+      → Sees shape id view operation tells notes then
+  sees_plain low plain lend state kept at step =
+      let place = target_of operation in let same = kept.counts_words.same place low plain in let wide = kept.core.wide in (
+        record {
+          counts = subst (λ (x : ℕ). Counted shape (lent state.views) (set state.words place x) (words_after operation kept.counted)) (ap (becomes operation) same)
+              (counted_plain shape (lent state.views) state.words kept.counted place (becomes operation (get_or kept.counted place 0)) low plain (omega (arith, wide)) kept.counts_words);
+          behind = λ own _. get_or-set_other state.words place (says_at shape own) (becomes operation (get_or state.words place 0)) 0 (λ e. omega arith);
+        },
+        lend state kept at step,
+        λ next. subst (λ (found : ℕ). then found next) same,
+      )
+
+  -- and so is a load of a slot's departures, where nobody holds the slot by a word
+  pub sees_alone : (slot : ℕ) → target_of operation ≡ departures shape slot → ((word : ℕ) → becomes operation word ≡ word)
+      → ((state : Table) (kept : Kept shape state) → get_elem? state.views id ≡ some view → slot < shape.slots)
+      → KeepsLent shape id view operation tells
+      → Sees shape id view operation tells notes then
+  sees_alone slot at loads near lend state kept there step =
+      let place = target_of operation in let words = state.words in let counted = kept.counted in
+      let alone = counted_alone shape (lent state.views) words counted slot (near state kept there) (lent_nothing shape state kept slot) kept.counts_words in
+      let same : get_or counted place 0 ≡ get_or words place 0 = ap (λ (p : ℕ). get_or counted p 0) at ∙ alone ∙ sym (ap (λ (p : ℕ). get_or words p 0) at) in (
+        record {
+          counts = subst (λ (p : ℕ × ℕ). Counted shape (lent state.views) (set words place p.0) (set counted place p.1))
+              (λ j. (sym (loads (get_or words place 0)) j, sym (loads (get_or counted place 0)) j))
+              (counted_load shape (lent state.views) words counted place kept.counts_words);
+          behind = λ own _. ap (λ (l : List ℕ). get_or l (says_at shape own) 0) (ap (set words place) (loads (get_or words place 0)) ∙ set-get_or words place 0);
+        },
+        lend state kept there step,
+        λ next. subst (λ (found : ℕ). then found next) same,
+      )
+
+-- a role that holds as before holds by its word as before
+pub lends_on : (view : View) (after : Role) → ((slot : ℕ) → holds slot after ≡ holds slot view.role) → (slot : ℕ) → cond (nat_lt 0 view.says) (holds slot after) 0 ≡ lends slot view
+lends_on view after same slot = ap (λ (n : ℕ). cond (nat_lt 0 view.says) n 0) (same slot)
+
+-- a caller that says nothing holds nothing by a word
+pub silent_lends : (view : View) (after : Role) → view.says ≡ 0 → (slot : ℕ) → cond (nat_lt 0 view.says) (holds slot after) 0 ≡ lends slot view
+silent_lends view after silent slot = ap (λ (n : ℕ). cond (nat_lt 0 n) (holds slot after) 0) silent ∙ sym (ap (λ (n : ℕ). cond (nat_lt 0 n) (holds slot view.role) 0) silent)
+
+-- a content word and a key's word are no counts
+pub content_no_count : (shape : Shape) (slot index : ℕ) → index < slot_room shape → IsNoCount shape (content shape slot index)
+content_no_count shape slot index low other _ e = content_apart shape slot index other low e
+
+pub key_no_count : (shape : Shape) (key : ℕ) → key < shape.keys → IsNoCount shape key
+key_no_count shape key near slot _ e = omega arith
+
+pub key_inside : (shape : Shape) (key : ℕ) → key < shape.keys → key < total_of (layout shape)
+key_inside shape key near = omega arith

@@ -34,6 +34,7 @@ learned view after seen entries marks news = record {
   marks = marks;
   pasts = news ++ view.pasts;
   told_pasts = view.told_pasts;
+  says = view.says;
 }
 
 abbrev pub waited : View → Role → Marks → List Past → View
@@ -48,6 +49,7 @@ waited view after marks news = record {
   marks = marks;
   pasts = news ++ view.pasts;
   told_pasts = view.told_pasts;
+  says = view.says;
 }
 
 -- a reader's count of acts goes along with its entries, but for the departure that is to come
@@ -108,7 +110,7 @@ module _ (shape : Shape) (log : List Entry) (view : View) (fits : Fits shape log
 
 -- The two ways in which a step of the core becomes one of the token.
 module _ (shape : Shape) (id : ℕ) (view : View) (operation : Operation) (tells : Telling) (notes : MarkTelling) (state : State (Unit {0}) View) (kept : Kept shape state) (at : get_elem? state.views id ≡ some view)
-    (step : Stepped shape state.words (map role_of state.views) kept.log id view.role operation tells) (marked : Remarked role_of marks_of shape state.words state.views kept.log id view operation step.after step.entries notes)
+    (step : Stepped shape kept.counted (map role_of state.views) kept.log id view.role operation tells) (marked : Remarked role_of marks_of shape kept.counted state.views kept.log id view operation step.after step.entries notes)
     (same_number : caller_number step.after ≡ caller_number view.role) (sized : view.shape ≡ shape) (callers : AreCallers shape step.entries) (acts : ActsGo view step.after step.entries marked.now) where
   -- the view of a token that learns the history so far, with the step's entries
   abbrev pub learned_next : View
@@ -122,6 +124,7 @@ module _ (shape : Shape) (id : ℕ) (view : View) (operation : Operation) (tells
     marks = refl;
     pasts = refl;
     told_pasts = refl;
+    says = refl;
     fits = learned_fits shape kept.log view (kept.fits id view at) step.after step.same step.writer step.reader step.entries marked.now marked.news step.own acts;
     callers = callers;
     told = told;
@@ -145,6 +148,7 @@ module _ (shape : Shape) (id : ℕ) (view : View) (operation : Operation) (tells
     marks = refl;
     pasts = refl;
     told_pasts = refl;
+    says = refl;
     fits = subst (λ (entries : List Entry). Fits shape (kept.log ++ entries) waited_next) (sym none)
         (waited_fits shape kept.log view fits step.after step.same step.writer step.reader marked.now marked.news
         (subst (λ (entries : List Entry). ActsGo view step.after entries marked.now) none acts));

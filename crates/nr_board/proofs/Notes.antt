@@ -1,5 +1,5 @@
 -- Notes are split from a token and joined to another.
-use Rattle.std.proofs.Common.{◌≡◌, ℕ, ◌+◌, ◌≢◌, List, [], ◌∷◌, ◌++◌, map, set, ◌⊎◌, ⊎_elim, inl, inr, refl, sym, ap, ◌∙◌, subst, arith}
+use Rattle.std.proofs.Common.{◌≡◌, ℕ, suc, cond, ◌+◌, ◌≢◌, List, [], ◌∷◌, ◌++◌, map, set, ◌⊎◌, ⊎_elim, inl, inr, refl, sym, ap, ◌∙◌, subst, arith}
 use mathlib.Core.List.{map-append}
 use mathlib.Core.Option.{none, some}
 use lib.ListN.{get_elem?}
@@ -10,7 +10,7 @@ use Rattle.nr_model.specs.Histories.{Entry}
 use Rattle.nr_core.proofs.Seat.{notes}
 use Rattle.nr_core.proofs.Sums.{at_set, at_snoc, here_after, set_again, total-append}
 use Rattle.nr_core.specs.Core.{Core}
-use Rattle.nr_core.specs.Roles.{is_reader, is_writer}
+use Rattle.nr_core.specs.Roles.{holds, is_by, is_reader, is_writer}
 use Rattle.nr_machine.specs.Sums.{total}
 use Rattle.nr_machine.specs.declared.roles.Role.{Role}
 use Rattle.nr_machine.specs.declared.roles.Role.TheVariants.{Note, Writer}
@@ -27,6 +27,9 @@ use Rattle.nr_marks.specs.Marked.{AllSince, Since}
 use Rattle.nr_marks.specs.Marks.{told_by}
 use Rattle.nr_board.specs.Rule.{Fits, Kept, StartsWith, counts, marks_of, pasts_of, role_of, told_pasts_of}
 use Rattle.nr_board.specs.Views.{View, no_desk}
+use Rattle.std.specs.Prelude.{nat_lt}
+use Rattle.nr_board.specs.Announcing.{lends, lent}
+use Rattle.nr_board.proofs.Counting.{announces_more, announces_on, counted_same, lent_more, lent_same}
 
 -- a number that is no caller's has no entries
 note_fits : (shape : Shape) (log : List Entry) (view note : View) → note.role ≡ Note → StartsWith log note.seen → note.told ≡ [] → Fits shape log note
@@ -41,7 +44,7 @@ note_fits shape log view note is begins untold = record {
 
 -- a view that keeps its role, its marks, and what it knows of itself takes the place of one; what it was told of readers is so
 module _ (shape : Shape) (state : State (Unit {0}) View) (id : ℕ) (view next : View) (kept : Kept shape state)
-    (at : get_elem? state.views id ≡ some view) (same : next.role ≡ view.role) (alike : (next.marks ≡ view.marks) ⊎ (view.role ≡ Note)) where
+    (at : get_elem? state.views id ≡ some view) (same : next.role ≡ view.role) (alike : (next.marks ≡ view.marks) ⊎ (view.role ≡ Note)) (says : next.says ≡ view.says) where
   abbrev later : List View
   later = set state.views id next
 
@@ -51,9 +54,13 @@ module _ (shape : Shape) (state : State (Unit {0}) View) (id : ℕ) (view next :
   pub replaced : Fits shape kept.log next → (is_writer next.role ≡ 1 → next.made ≡ kept.made) → AllSince role_of marks_of state.views next.pasts
       → AllSince role_of marks_of state.views next.told_pasts → Kept shape (record { words = state.words; homes = state.homes; views = later })
   replaced fits made pasts told =
-      let evolves = evolves_alike role_of marks_of shape state.words state.views kept.log id view next at same alike in record {
+      let evolves = evolves_alike role_of marks_of shape kept.counted state.views kept.log id view next at same alike in
+      let lend : (slot : ℕ) → lends slot next ≡ lends slot view = λ slot j. cond (nat_lt 0 (says j)) (holds slot (same j)) 0 in record {
         log = kept.log;
-        core = subst (λ (rs : List Role). Core shape state.words rs kept.log) (sym same_roles) kept.core;
+        counted = kept.counted;
+        counts_words = counted_same shape (lent state.views) (lent later) state.words kept.counted (lent_same state.views id view next at lend) kept.counts_words;
+        announced = announces_on shape kept.made state.words state.words state.views id view next at (λ caller. ap (is_by caller) same) says lend (λ _ _. refl) kept.announced;
+        core = subst (λ (rs : List Role). Core shape kept.counted rs kept.log) (sym same_roles) kept.core;
         fits = at_any (Fits shape kept.log) fits kept.fits;
         callers = kept.callers;
         once = λ caller. omega (arith, kept.once caller, ap (total (counts caller)) same_roles);
@@ -61,7 +68,7 @@ module _ (shape : Shape) (state : State (Unit {0}) View) (id : ℕ) (view next :
         readers = ap (total is_reader) same_roles ∙ kept.readers;
         fresh = λ caller later. ap (total (counts caller)) same_roles ∙ kept.fresh caller later;
         silent = kept.silent;
-        marked = alike_marked role_of marks_of shape state.words state.views kept.log id view next at same alike kept.marked;
+        marked = alike_marked role_of marks_of shape kept.counted state.views kept.log id view next at same alike kept.marked;
         pasts = knowing_set role_of marks_of pasts_of state.views id view next at evolves pasts kept.pasts;
         told_pasts = knowing_set role_of marks_of told_pasts_of state.views id view next at evolves told kept.told_pasts;
         maker = at_any (λ (u : View). is_writer u.role ≡ 1 → u.made ≡ kept.made) made kept.maker;
@@ -80,7 +87,10 @@ adds_note shape source state kept begins since =
     let tally : (caller : ℕ) → total (counts caller) (map role_of views') ≡ total (counts caller) roles = λ caller. omega (arith, ap (total (counts caller)) more, total-append (counts caller) roles (Note ∷ [])) in
     record {
       log = kept.log;
-      core = subst (λ (rs : List Role). Core shape state.words rs kept.log) (sym more) (notes shape state.words roles kept.log kept.core);
+      counted = kept.counted;
+      counts_words = counted_same shape (lent views) (lent views') state.words kept.counted (lent_more views note refl) kept.counts_words;
+      announced = announces_more shape kept.made kept.made state.words views note refl (λ own his. absurd (cc)) (omega arith) kept.announced;
+      core = subst (λ (rs : List Role). Core shape kept.counted rs kept.log) (sym more) (notes shape kept.counted roles kept.log kept.core);
       fits = λ j u there. ⊎_elim (λ (t : get_elem? views j ≡ some u). kept.fits j u t) (λ (t : note ≡ u). subst (Fits shape kept.log) t (note_fits shape kept.log source note refl begins refl)) (at_snoc views note u j there);
       callers = kept.callers;
       once = λ caller. omega (arith, kept.once caller, tally caller);
@@ -90,7 +100,7 @@ adds_note shape source state kept begins since =
       silent = kept.silent;
       maker = λ j u there writes. ⊎_elim (λ (t : get_elem? views j ≡ some u). kept.maker j u t writes)
           (λ (t : note ≡ u). absurd (let none : is_writer Note ≡ is_writer u.role = ap (λ (y : View). is_writer y.role) t in omega arith)) (at_snoc views note u j there);
-      marked = seats_marked role_of marks_of shape state.words views kept.log note (λ reader grip reads. absurd (cc)) kept.marked tt;
+      marked = seats_marked role_of marks_of shape kept.counted views kept.log note (λ reader grip reads. absurd (cc)) kept.marked tt;
       pasts = knowing_snoc role_of marks_of pasts_of views note since kept.pasts;
       told_pasts = knowing_snoc role_of marks_of told_pasts_of views note (no_places (Since role_of marks_of views)) kept.told_pasts;
     }
@@ -107,7 +117,7 @@ module _ (shape : Shape) (id : ℕ) (view : View) (state : State (Unit {0}) View
   makes =
       let fits = kept.fits id view at in
       let own : Fits shape kept.log maker = record { begins = fits.begins; told = fits.told; own = fits.own; knows_own = fits.knows_own; acts = fits.acts; sized = fits.sized } in
-      replaced shape state id view maker kept at refl (inl refl) own (kept.maker id view at) (kept.pasts id view at) (kept.told_pasts id view at)
+      replaced shape state id view maker kept at refl (inl refl) refl own (kept.maker id view at) (kept.pasts id view at) (kept.told_pasts id view at)
 
   there : get_elem? counted.views id ≡ some maker
   there = here_after state.views id view maker at
@@ -125,7 +135,7 @@ pub loads_so : (shape : Shape) (slots id : ℕ) (me : Me (Unit {0}) View) (place
 loads_so shape slots id me place state kept homes at bounded =
     let view = me.0 in let next = has_noted view in let fits = kept.fits id view at in
     let own : Fits shape kept.log next = record { begins = fits.begins; told = fits.told; own = fits.own; knows_own = fits.knows_own; acts = fits.acts; sized = fits.sized } in
-    let rests = replaced shape state id view next kept at refl (inl refl) own (kept.maker id view at) (kept.pasts id view at) (kept.told_pasts id view at) in
+    let rests = replaced shape state id view next kept at refl (inl refl) refl own (kept.maker id view at) (kept.pasts id view at) (kept.told_pasts id view at) in
     (next, keeps, tt, subst (λ (words : List ℕ). Kept shape (record { words = words; homes = state.homes; views = set state.views id next })) (sym (set-get_or state.words place 0)) rests, refl)
 
 -- as contracts see the token
@@ -140,9 +150,9 @@ takes_so shape id view steps other note is state kept at apart beside =
     let both = record (told_by_note view note) { steps = steps } in let views = set state.views id both in
     let fits = kept.fits id view at in
     let mine : Fits shape kept.log both = record { begins = fits.begins; told = (kept.fits other note beside).begins; own = fits.own; knows_own = fits.knows_own; acts = fits.acts; sized = fits.sized } in
-    let taken = replaced shape state id view both kept at refl (inl refl) mine (kept.maker id view at) (kept.pasts id view at) (kept.pasts other note beside) in
+    let taken = replaced shape state id view both kept at refl (inl refl) refl mine (kept.maker id view at) (kept.pasts id view at) (kept.pasts other note beside) in
     replaced shape (record { words = state.words; homes = state.homes; views = views }) other note spent taken
-    (set_else state.views id other both apart ∙ beside) (sym is) (inr is)
+    (set_else state.views id other both apart ∙ beside) (sym is) (inr is) (sym (taken.announced.wordless other note (set_else state.views id other both apart ∙ beside) (λ own low. ap (is_by (suc own)) is)))
     (note_fits shape taken.log view spent refl (record { rest = taken.log; is = refl }) refl) (λ writes. absurd (omega arith))
     (no_places (Since role_of marks_of views)) (no_places (Since role_of marks_of views))
 

@@ -1,5 +1,5 @@
 -- The table at opening keeps the rule.
-use Rattle.std.proofs.Common.{Bool, [], ap, arith, cond, false, get_or, ne_eqb, refl, replicate, subst, suc, sym, true, zero, ℕ, ◌+◌, ◌<◌, ◌∷◌, ◌≡◌, ◌≤◌}
+use Rattle.std.proofs.Common.{Bool, [], ap, arith, cond, false, get_or, ne_eqb, refl, replicate, subst, suc, sym, true, zero, ℕ, ◌^◌, ◌+◌, ◌<◌, ◌∷◌, ◌≡◌, ◌≤◌}
 use mathlib.Core.Option.{some, some-injective, some-ne-none}
 use lib.ListN.{get_elem?}
 use Rattle.atomic_table.specs.Table.{opening}
@@ -9,7 +9,7 @@ use Rattle.nr_core.proofs.Opening.{blank_at_opening, core_opens}
 use Rattle.nr_core.specs.Core.{AreNumbers, ShowsState}
 use Rattle.nr_core.specs.Roles.{is_by}
 use Rattle.nr_machine.specs.Sizes.{IsShape}
-use Rattle.nr_machine.specs.Slots.{name_number, words_at_opening}
+use Rattle.nr_machine.specs.Slots.{departures, name_number, words_at_opening}
 use Rattle.nr_machine.specs.declared.shape.Shape.{Shape}
 use Rattle.nr_marks.proofs.ListPlaces.{no_places}
 use Rattle.nr_marks.proofs.SeatMarks.{opens_marked}
@@ -29,10 +29,27 @@ none_named : (shape : Shape) → IsShape shape → (key : ℕ) → key < shape.k
 none_named shape fits key near = let core = core_opens shape fits 0 (omega arith) in
     (subst (ShowsState shape (words_at_opening shape) (get_or (words_at_opening shape) key 0)) (get_or-replicate shape.keys key (states.Hole shape.first_number) (states.Hole 0) near) (core.shows key near)).0
 
-pub opens_so : (shape : Shape) → IsShape shape → Kept shape (opening (words_at_opening shape) [] (opener shape))
-opens_so shape fits = let view = opener shape in
+-- the departures begin at the first count
+first_counts : (shape : Shape) → IsShape shape → (slot : ℕ) → slot < shape.slots → get_or (words_at_opening shape) (departures shape slot) 0 ≡ shape.first_count
+first_counts shape fits slot near = (((core_opens shape fits 0 (omega arith)).knows 0 (Writer (opening_desk shape)) refl).free slot (omega arith) near).1
+
+pub opens_so : (shape : Shape) → IsShape shape → shape.first_count < 2 ^ 64 → Kept shape (opening (words_at_opening shape) [] (opener shape))
+opens_so shape fits small = let view = opener shape in
     let at_most : (y : Bool) → cond y 1 0 + 0 ≤ 1 = λ y. elim y as (λ z. cond z 1 0 + 0 ≤ 1) [ true ↦ omega arith | false ↦ omega arith ] in record {
       log = [];
+      counted = words_at_opening shape;
+      counts_words = record {
+        room = omega (arith, (core_opens shape fits 0 (omega arith)).wide);
+        same = λ _ _ _. refl;
+        less = λ slot near. let first = first_counts shape fits slot near in omega arith;
+        small = λ slot near. let first = first_counts shape fits slot near in omega arith;
+      };
+      announced = record {
+        says = λ id own u at his low. absurd (omega arith);
+        wordless = λ id u at _. ap (λ (v : View). v.says) (sym (only_one view id u at));
+        holds_it = λ id slot u at loud grips. absurd (let none : u.says ≡ 0 = ap (λ (v : View). v.says) (sym (only_one view id u at)) in omega arith);
+        unsaid = λ own _ low. absurd (omega arith);
+      };
       core = core_opens shape fits 0 (omega arith);
       fits = λ j u at. subst (Fits shape []) (only_one view j u at)
           (record {

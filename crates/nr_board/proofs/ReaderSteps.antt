@@ -1,5 +1,5 @@
 -- The reader's steps on the table: request, arrive, read, find again, depart.
-use Rattle.std.proofs.Common.{inr, ◌≡◌, ℕ, suc, ◌+◌, ◌-◌, ◌%◌, ◌^◌, ◌<◌, ◌≤◌, List, [], ◌∷◌, ◌++◌, Bool, true, false, cond, length, get_or, set, ⊎_elim, refl, sym, ap, ◌∙◌, subst, arith, eq-eqb}
+use Rattle.std.proofs.Common.{get_or-set_other, inr, ◌≡◌, ℕ, suc, ◌+◌, ◌-◌, ◌%◌, ◌^◌, ◌<◌, ◌≤◌, List, [], ◌∷◌, ◌++◌, Bool, true, false, cond, length, get_or, set, ⊎_elim, refl, sym, ap, ◌∙◌, subst, arith, eq-eqb}
 use Rattle.std.specs.Prelude.{None, Option, Some, bit_or}
 use mathlib.Core.Option.{none, some}
 use Rattle.atomic_table.specs.Table.{Allows, Me, State, step}
@@ -19,9 +19,9 @@ use Rattle.nr_core.proofs.Depart.{departs}
 use Rattle.nr_core.proofs.FindAgain.{finds_again}
 use Rattle.nr_core.proofs.KeyWords.{names_none, names_one}
 use Rattle.nr_core.proofs.Read.{reads}
-use Rattle.nr_core.specs.Roles.{is_by, is_reader}
+use Rattle.nr_core.specs.Roles.{holds, is_by, is_reader}
 use Rattle.nr_machine.specs.declared.operation.Operation.TheVariants.{Add, Load, Or}
-use Rattle.nr_machine.specs.Slots.{content, departures, name_number, bound_of, names_slot}
+use Rattle.nr_machine.specs.Slots.{content, departures, name_number, bound_of, names_slot, slot_room}
 use Rattle.nr_core.specs.Steps.{Arrives, Asks, CanStep, Departs, FindsAgain, ReadsHeld, ask_word}
 use Rattle.nr_machine.specs.Story.{entry, map_after}
 use Rattle.nr_machine.specs.declared.roles.Grip.{Grip}
@@ -33,7 +33,10 @@ use Rattle.nr_marks.proofs.FindAgainMarks.{finds_again_marked}
 use Rattle.nr_marks.proofs.ReaderMarks.{arrives_marked, asks_marked, departs_marked, reads_marked}
 use Rattle.nr_marks.specs.MarkSteps.{ArrivesMarks, DepartsMarks, FindsAgainMarks, KeepsMarks, found_again}
 use Rattle.nr_board.proofs.Learning.{shows_kind}
-use Rattle.nr_board.proofs.Lift.{Choice, knows_pasts, lifts}
+use Rattle.nr_board.proofs.Lift.{Choice, content_no_count, key_inside, key_no_count, knows_pasts, lends_on, lent_nothing, lifts, says_nothing, sees_plain, silent_lends}
+use Rattle.nr_board.proofs.Counting.{counted_departure}
+use Rattle.nr_board.specs.Announcing.{lent, says_at}
+use Rattle.nr_core.proofs.WordPlaces.{content_inside, departures_inside}
 use Rattle.nr_board.proofs.Moves.{ActsGo, learned, learning, waiting}
 use Rattle.nr_board.specs.Entries.{AreCallers, acts_told, is_reading, to_depart}
 use Rattle.nr_marks.specs.Marked.{KnowsMarks}
@@ -58,7 +61,7 @@ reader_shape shape log view grip is fits = fits.sized (let one : is_reader view.
 -- a reader's number is one of the map's
 reader_within : (shape : Shape) (id : ℕ) (view : View) (grip : Grip) (state : State (Unit {0}) View) (kept : Kept shape state)
     → get_elem? state.views id ≡ some view → view.role ≡ Reader (caller_number view.role) grip → caller_number view.role ≤ shape.readers
-reader_within shape id view grip state kept at is = (subst (λ r. KnowsMarks role_of marks_of shape state.words state.views kept.log r view.marks) is (kept.marked.each id view at)).1
+reader_within shape id view grip state kept at is = (subst (λ r. KnowsMarks role_of marks_of shape kept.counted state.views kept.log r view.marks) is (kept.marked.each id view at)).1
 
 -- a find or a request is an entry of the reader's
 reader_entry : (shape : Shape) (reader : ℕ) (call : Call) (answer : Reply) (entries : List Entry) → entries ≡ entry reader call answer ∷ []
@@ -76,12 +79,14 @@ pub asks_so : (shape : Shape) (slots id : ℕ) (me : Me (Unit {0}) View) (key : 
 asks_so shape slots id me key near idle = let view = me.0 in let reader = caller_number view.role in let tells = Asks reader key in
     lifts shape id view (Or key 1) tells (KeepsMarks view.marks) slots me.1 (λ found next. Asked key found view next) view.pasts (subst (λ r. CanStep shape id r (Or key 1) tells) (sym idle) (asks shape id reader key near))
     (asks_marked role_of marks_of shape id view view.pasts reader key near idle) (knows_pasts shape id view)
+    (sees_plain shape id view (Or key 1) tells (KeepsMarks view.marks) (λ found next. Asked key found view next) (key_inside shape key near) (key_no_count shape key near)
+    (λ state kept at step. lends_on view step.after (λ slot. ap (holds slot) (step.told.0 ∙ sym idle))))
     (λ state kept at step marked. let role : step.after ≡ view.role = step.told.0 ∙ sym idle in
     learning shape id view (Or key 1) tells (KeepsMarks view.marks) state kept at step marked (ap caller_number role) (reader_shape shape kept.log view Nothing idle (kept.fits id view at))
     (reader_entry shape reader (model.Ask key) _ step.entries step.told.1 near (reader_within shape id view Nothing state kept at idle) refl)
     (acts_so view step.after step.entries marked.now None None _ (ap (λ r. gripped (grip_of r)) idle) (ap (λ r. gripped (grip_of r)) step.told.0) step.told.1 (let same = ap (λ (m : Marks). m.acts) marked.told.0 in omega arith))
-    (λ next. Asked key (get_or state.words key 0) view next) (reader_is view.role Nothing idle) marked.told.1
-    (entry reader (model.Ask key) (ask_word (get_or state.words key 0)) ∷ []) step.told.1 (λ advances. record { role = role; gains = advances; marks = marked.told.0 }))
+    (λ next. Asked key (get_or kept.counted key 0) view next) (reader_is view.role Nothing idle) marked.told.1
+    (entry reader (model.Ask key) (ask_word (get_or kept.counted key 0)) ∷ []) step.told.1 (λ advances. record { role = role; gains = advances; marks = marked.told.0 }))
 
 -- what is true is not false
 differ : (b : Bool) (P : Type 0) → b ≡ true → b ≡ false → P
@@ -93,7 +98,9 @@ arrives_so shape slots id me key near idle = let view = me.0 in let reader = cal
     lifts shape id view (Add key ARRIVE) tells (ArrivesMarks view.marks key) slots me.1 (λ found next. Arrived key found view next) view.pasts
     (subst (λ r. CanStep shape id r (Add key ARRIVE) tells) (sym idle) (arrives shape id reader key near))
     (arrives_marked role_of marks_of shape id view view.pasts reader key near idle) (knows_pasts shape id view)
-    (λ state kept at step marked. let found : ℕ = get_or state.words key 0 in let sized = reader_shape shape kept.log view Nothing idle (kept.fits id view at) in
+    (sees_plain shape id view (Add key ARRIVE) tells (ArrivesMarks view.marks key) (λ found next. Arrived key found view next) (key_inside shape key near) (key_no_count shape key near)
+    (λ state kept at step. silent_lends view step.after (says_nothing shape id view state kept at)))
+    (λ state kept at step marked. let found : ℕ = get_or kept.counted key 0 in let sized = reader_shape shape kept.log view Nothing idle (kept.fits id view at) in
     let next = learned view step.after (kept.log ++ step.entries) step.entries marked.now marked.news in
     let choose : caller_number step.after ≡ reader → (told : List Entry) → AreCallers shape step.entries
     → ActsGo view step.after step.entries marked.now → step.entries ≡ told → (Advances view told next → Arrived key found view next)
@@ -131,18 +138,21 @@ arrives_so shape slots id me key near idle = let view = me.0 in let reader = cal
     }))
     step.told)
 
-pub reads_so : (shape : Shape) (slots id : ℕ) (me : Me (Unit {0}) View) (index : ℕ) → me.0.role ≡ holding me.0.role (is_sized (grip_of me.0.role)) → index < length (encode (rows_held me.0.role)) → me.0.shape ≡ shape
+pub reads_so : (shape : Shape) (slots id : ℕ) (me : Me (Unit {0}) View) (index : ℕ) → me.0.role ≡ holding me.0.role (is_sized (grip_of me.0.role)) → slot_held me.0.role < shape.slots
+    → index < slot_room shape → index < length (encode (rows_held me.0.role)) → me.0.shape ≡ shape
     → let place = content shape (slot_held me.0.role) index in Allows (Kept shape) slots id me place (λ word. word) (has_read_word (step slots place 0 0 none) me)
-reads_so shape slots id me index is low sized = let view = me.0 in let reader = caller_number view.role in let slot : ℕ = slot_held view.role in let rows = rows_held view.role in let sized_so = is_sized (grip_of view.role) in
+reads_so shape slots id me index is near short low sized = let view = me.0 in let reader = caller_number view.role in let slot : ℕ = slot_held view.role in let rows = rows_held view.role in let sized_so = is_sized (grip_of view.role) in
     let place : ℕ = content shape slot index in let tells = ReadsHeld reader slot rows sized_so index in
     lifts shape id view (Load place) tells (KeepsMarks view.marks) slots me.1 (λ found next. Read place found view next) view.pasts
     (subst (λ r. CanStep shape id r (Load place) tells) (sym is) (reads shape id reader slot rows sized_so index low))
     (reads_marked role_of marks_of shape id view view.pasts reader slot index rows sized_so is) (knows_pasts shape id view)
+    (sees_plain shape id view (Load place) tells (KeepsMarks view.marks) (λ found next. Read place found view next) (content_inside shape slot index near short) (content_no_count shape slot index short)
+    (λ state kept at step. lends_on view step.after (λ s. ap (holds s) step.told.1 ∙ sym (ap (holds s) is))))
     (λ state kept at step marked. let same : caller_number step.after ≡ reader = ap caller_number step.told.1 in
     waiting shape id view (Load place) tells (KeepsMarks view.marks) state kept at step marked same sized (subst (AreCallers shape) (sym step.told.2) tt)
     (acts_so view step.after step.entries marked.now (Some slot) (Some slot) [] (ap (λ r. gripped (grip_of r)) is)
     (ap (λ r. gripped (grip_of r)) step.told.1) step.told.2 (let same = ap (λ (m : Marks). m.acts) marked.told.0 in omega arith))
-    (λ next. Read place (get_or state.words place 0) view next) marked.told.1 step.told.2
+    (λ next. Read place (get_or kept.counted place 0) view next) marked.told.1 step.told.2
     (λ waits. record {
       value = let begins : content view.shape slot 0 ≡ content shape slot 0 = ap (λ (s : Shape). content s slot 0) sized in let back : index ≡ place - content view.shape slot 0 = omega arith in
           step.told.0 ∙ ap (λ (i : ℕ). get_or (encode rows) i 0) back;
@@ -157,11 +167,13 @@ finds_again_so shape slots id me key near is sized = let view = me.0 in let read
     let tells = FindsAgain shape reader slot rows sized_so key in let notes = FindsAgainMarks view.marks slot key in let e = entry reader (model.Find key) (reply.Rows rows) in
     lifts shape id view (Load key) tells notes slots me.1 (λ found next. FoundAgain key found view next) view.pasts (subst (λ r. CanStep shape id r (Load key) tells) (sym is) (finds_again shape id reader slot rows sized_so key near))
     (finds_again_marked role_of marks_of shape id view view.pasts reader slot key rows sized_so near is) (knows_pasts shape id view)
-    (λ state kept at step marked. let found : ℕ = get_or state.words key 0 in let names = names_slot slot found in
+    (sees_plain shape id view (Load key) tells notes (λ found next. FoundAgain key found view next) (key_inside shape key near) (key_no_count shape key near)
+    (λ state kept at step. lends_on view step.after (λ s. ap (holds s) step.told.0 ∙ sym (ap (holds s) is))))
+    (λ state kept at step marked. let found : ℕ = get_or kept.counted key 0 in let names = names_slot slot found in
     let role : step.after ≡ view.role = step.told.0 ∙ sym is in let within = reader_within shape id view _ state kept at is in
     let inside : (other : ℕ) → name_number found ≡ suc other → other < view.shape.slots = λ other so. subst (λ (s : Shape). other < s.slots) (sym sized) (step.told.2 other so) in
-    let log : List Entry = kept.log ++ step.entries in let kind : kind_shown found ≡ kind_of (state_of (map_after view.shape log) key) = sym (ap (λ (l : List ℕ). kind_shown (get_or l key 0)) (set-get_or state.words key 0))
-    ∙ shows_kind shape (set state.words key found) (get_or (set state.words key found) key 0) (state_of (map_after shape log) key) (step.core.shows key near) ∙ ap (λ (s : Shape). kind_of (state_of (map_after s log) key)) (sym sized) in
+    let log : List Entry = kept.log ++ step.entries in let kind : kind_shown found ≡ kind_of (state_of (map_after view.shape log) key) = sym (ap (λ (l : List ℕ). kind_shown (get_or l key 0)) (set-get_or kept.counted key 0))
+    ∙ shows_kind shape (set kept.counted key found) (get_or (set kept.counted key found) key 0) (state_of (map_after shape log) key) (step.core.shows key near) ∙ ap (λ (s : Shape). kind_of (state_of (map_after s log) key)) (sym sized) in
     let holds = ap (λ r. gripped (grip_of r)) is in let held = ap (λ r. gripped (grip_of r)) step.told.0 in
     let after = learned view step.after log step.entries marked.now marked.news in
     let choose : (told : List Entry) → AreCallers shape step.entries → step.entries ≡ told → marked.now.acts ≡ view.marks.acts + acts_told told
@@ -194,12 +206,20 @@ finds_again_so shape slots id me key near is sized = let view = me.0 in let read
       kind = kind;
     })))
 
-pub departs_so : (shape : Shape) (slots id : ℕ) (me : Me (Unit {0}) View) → me.0.role ≡ holding me.0.role (is_sized (grip_of me.0.role)) → me.0.shape ≡ shape
+pub departs_so : (shape : Shape) (slots id : ℕ) (me : Me (Unit {0}) View) → me.0.role ≡ holding me.0.role (is_sized (grip_of me.0.role)) → slot_held me.0.role < shape.slots → me.0.shape ≡ shape
     → let place = departures shape (slot_held me.0.role) in Allows (Kept shape) slots id me place (λ word. (word + 1) % 2 ^ 64) (has_departed (step slots place 1 0 none) me)
-departs_so shape slots id me is sized = let view = me.0 in let reader = caller_number view.role in let slot : ℕ = slot_held view.role in let rows = rows_held view.role in let sized_so = is_sized (grip_of view.role) in
+departs_so shape slots id me is near sized = let view = me.0 in let reader = caller_number view.role in let slot : ℕ = slot_held view.role in let rows = rows_held view.role in let sized_so = is_sized (grip_of view.role) in
     let place : ℕ = departures shape slot in let tells = Departs reader in
     lifts shape id view (Add place 1) tells (DepartsMarks view.marks) slots me.1 (λ found next. Departed view next) view.pasts (subst (λ r. CanStep shape id r (Add place 1) tells) (sym is) (departs shape id reader slot rows sized_so))
     (departs_marked role_of marks_of shape id view view.pasts reader slot rows sized_so is) (knows_pasts shape id view)
+    (λ state kept at step. let silent = says_nothing shape id view state kept at in let wide = kept.core.wide in let none = lent_nothing shape state kept slot in (
+      record {
+        counts = counted_departure shape (lent state.views) state.words kept.counted slot near (omega arith) (omega (arith, wide)) kept.counts_words;
+        behind = λ own _. get_or-set_other state.words place (says_at shape own) ((get_or state.words place 0 + 1) % 2 ^ 64) 0 (λ e. let inside = departures_inside shape slot near in omega arith);
+      },
+      silent_lends view step.after silent,
+      λ next told. told,
+    ))
     (λ state kept at step marked. waiting shape id view (Add place 1) tells (DepartsMarks view.marks) state kept at step marked (ap caller_number step.told.0) sized (subst (AreCallers shape) (sym step.told.1) tt)
     (acts_so view step.after step.entries marked.now (Some slot) None [] (ap (λ r. gripped (grip_of r)) is)
     (ap (λ r. gripped (grip_of r)) step.told.0) step.told.1 (let same = ap (λ (m : Marks). m.acts) marked.told.0 in omega arith))

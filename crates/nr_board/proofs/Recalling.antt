@@ -8,7 +8,9 @@ use Rattle.nr_model.specs.Rows.{IsRowSet}
 use Rattle.nr_model.specs.declared.rows.Row.{Row}
 use Rattle.nr_words.specs.SetWords.{encode}
 use Rattle.nr_core.specs.Roles.{is_reader, is_writer}
-use Rattle.nr_machine.specs.Slots.{bound_of, content}
+use Rattle.nr_machine.specs.Slots.{bound_of, content, slot_room}
+use Rattle.nr_core.proofs.WordPlaces.{content_inside}
+use Rattle.nr_board.proofs.Lift.{content_no_count}
 use Rattle.nr_machine.specs.declared.roles.Desk.{Desk}
 use Rattle.nr_machine.specs.declared.roles.Role.{Role}
 use Rattle.nr_machine.specs.declared.roles.Role.TheVariants.{Writer}
@@ -28,7 +30,7 @@ pub recalls_so : (shape : Shape) (slots id : ℕ) (me : Me (Unit {0}) View) (pla
 recalls_so shape slots id me place state kept homes at bounded =
     let view = me.0 in let next = has_noted view in let fits = kept.fits id view at in
     let own : Fits shape kept.log next = record { begins = fits.begins; told = fits.told; own = fits.own; knows_own = fits.knows_own; acts = fits.acts; sized = fits.sized } in
-    let rests = replaced shape state id view next kept at refl (inl refl) own (kept.maker id view at) (kept.pasts id view at) (kept.told_pasts id view at) in
+    let rests = replaced shape state id view next kept at refl (inl refl) refl own (kept.maker id view at) (kept.pasts id view at) (kept.told_pasts id view at) in
     let found : ℕ = get_or state.words place 0 in (
       next,
       keeps,
@@ -37,10 +39,14 @@ recalls_so shape slots id me place state kept homes at bounded =
       record {
         step = refl;
         finds = λ desk slot index is near untouched there.
-            let mine = subst (λ (r : Role). KnowsMarks role_of marks_of shape state.words state.views kept.log r view.marks) is (kept.marked.each id view at) in
+            let mine = subst (λ (r : Role). KnowsMarks role_of marks_of shape kept.counted state.views kept.log r view.marks) is (kept.marked.each id view at) in
             let size : view.shape ≡ shape = fits.sized (let one : is_writer view.role ≡ 1 = ap is_writer is in omega arith) in
             subst (λ (s : Shape). slot < s.slots → place ≡ content s slot index → IsWordOf (bound_of s) (set_in view.marks slot) index found) (sym size)
-            (λ low place_is. let spelled = mine.sets slot low untouched in (spelled.0, λ short. ap (λ (p : ℕ). get_or state.words p 0) place_is ∙ spelled.1 index short)) near there;
+            (λ low place_is. let spelled = mine.sets slot low untouched in (
+              spelled.0,
+              λ short. let room : index < slot_room shape = omega (arith, short, length-encode (set_in view.marks slot), spelled.0.1) in
+                  ap (λ (p : ℕ). get_or state.words p 0) place_is ∙ sym (kept.counts_words.same (content shape slot index) (content_inside shape slot index low room) (content_no_count shape slot index room)) ∙ spelled.1 index short,
+            )) near there;
       },
     )
 

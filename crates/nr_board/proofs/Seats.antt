@@ -1,5 +1,5 @@
 -- The writer makes the next reader.
-use Rattle.std.proofs.Common.{◌≡◌, ℕ, ◌+◌, ◌<◌, ◌≤◌, ◌≢◌, List, [], ◌∷◌, ◌++◌, map, set, cond, ne_eqb, Bool, true, false, ⊎_elim, inl, refl, sym, ap, ◌∙◌, subst, arith}
+use Rattle.std.proofs.Common.{◌≡◌, ℕ, suc, ◌+◌, ◌<◌, ◌≤◌, ◌≢◌, List, [], ◌∷◌, ◌++◌, map, set, cond, ne_eqb, Bool, true, false, ⊎_elim, inl, refl, sym, ap, ◌∙◌, subst, arith}
 use Rattle.std.proofs.lemmas.Bool.{eqb-true}
 use mathlib.Core.List.{map-append}
 use mathlib.Core.Logic.{dite}
@@ -24,6 +24,8 @@ use Rattle.nr_marks.specs.Marked.{Since}
 use Rattle.nr_board.specs.Rule.{Fits, Kept, counts, marks_of, pasts_of, role_of, told_pasts_of}
 use Rattle.nr_marks.specs.Marks.{gripped}
 use Rattle.nr_board.specs.Views.{View, grip_of, next_reader, with_reader}
+use Rattle.nr_board.specs.Announcing.{lent}
+use Rattle.nr_board.proofs.Counting.{announces_more, announces_on, counted_same, lent_more, lent_same}
 
 at_most_one : (y : Bool) → cond y 1 0 ≤ 1
 at_most_one y = elim y as (λ z. cond z 1 0 ≤ 1) [ true ↦ omega arith | false ↦ omega arith ]
@@ -39,10 +41,15 @@ seats_so shape id view writes few state kept at =
     let is_next : (caller : ℕ) → is_by caller next.role ≡ true → caller ≡ view.made + 1 = λ caller e. sym (eqb-true (view.made + 1) caller e) in
     let not_next : (caller : ℕ) → caller ≢ view.made + 1 → counts caller next.role ≡ 0 = λ caller ne. ap (λ y. cond y 1 0) (ne_eqb (view.made + 1) caller (λ e. ne (sym e))) in
     let silent : (caller : ℕ) → is_by caller next.role ≡ true → entries_of kept.log caller ≡ [] = λ caller e. kept.silent caller (omega (arith, is_next caller e)) in
-    let evolves = evolves_alike role_of marks_of shape state.words views kept.log id view left at refl (inl refl) in
+    let evolves = evolves_alike role_of marks_of shape kept.counted views kept.log id view left at refl (inl refl) in
     record {
       log = kept.log;
-      core = subst (λ (rs : List Role). Core shape state.words rs kept.log) (sym more) (seats shape state.words roles kept.log (view.made + 1) kept.core (omega (arith, kept.readers)));
+      counted = kept.counted;
+      counts_words = counted_same shape (lent views) (lent views') state.words kept.counted
+          (λ slot. lent_more (set views id left) next refl slot ∙ lent_same views id view left at (λ _. refl) slot) kept.counts_words;
+      announced = announces_more shape kept.made (kept.made + 1) state.words (set views id left) next refl (λ own his. let number = is_next (suc own) his in omega arith) (omega arith)
+          (announces_on shape kept.made state.words state.words views id view left at (λ _. refl) refl (λ _. refl) (λ _ _. refl) kept.announced);
+      core = subst (λ (rs : List Role). Core shape kept.counted rs kept.log) (sym more) (seats shape kept.counted roles kept.log (view.made + 1) kept.core (omega (arith, kept.readers)));
       fits = λ j u there. ⊎_elim
           (λ (t : get_elem? (set views id left) j ≡ some u). ⊎_elim
           (λ (q : (j ≡ id) × (left ≡ u)). subst (Fits shape kept.log) q.1 (record { begins = fits.begins; told = fits.told; own = fits.own; knows_own = fits.knows_own; acts = fits.acts; sized = fits.sized }))
@@ -64,8 +71,8 @@ seats_so shape id view writes few state kept at =
       readers = omega (arith, kept.readers, ap (total is_reader) more, total-append is_reader roles (next.role ∷ []));
       fresh = λ caller later. omega (arith, tally caller, not_next caller (λ e. omega arith), kept.fresh caller (omega arith));
       silent = λ caller later. kept.silent caller (omega arith);
-      marked = seats_marked role_of marks_of shape state.words (set views id left) kept.log next (λ reader grip reads. ap (λ r. gripped (grip_of r)) (sym reads))
-          (alike_marked role_of marks_of shape state.words views kept.log id view left at refl (inl refl) kept.marked) (omega arith, omega arith);
+      marked = seats_marked role_of marks_of shape kept.counted (set views id left) kept.log next (λ reader grip reads. ap (λ r. gripped (grip_of r)) (sym reads))
+          (alike_marked role_of marks_of shape kept.counted views kept.log id view left at refl (inl refl) kept.marked) (omega arith, omega arith);
       pasts = knowing_snoc role_of marks_of pasts_of (set views id left) next (no_places (Since role_of marks_of (set views id left))) (knowing_set role_of marks_of pasts_of views id view left at evolves (kept.pasts id view at) kept.pasts);
       told_pasts = knowing_snoc role_of marks_of told_pasts_of (set views id left) next (no_places (Since role_of marks_of (set views id left)))
           (knowing_set role_of marks_of told_pasts_of views id view left at evolves (kept.told_pasts id view at) kept.told_pasts);

@@ -13,7 +13,8 @@ use Rattle.nr_core.proofs.Learn.{learns}
 use Rattle.nr_core.proofs.Sums.{only-is, only-le, only-other, some_term, total-append}
 use Rattle.nr_core.proofs.WordPlaces.{same_departures}
 use Rattle.nr_core.specs.Core.{AreNumbers}
-use Rattle.nr_core.specs.Roles.{is_reader, is_writer}
+use Rattle.nr_core.specs.Roles.{holds, is_reader, is_writer}
+use Rattle.atomic_table.proofs.Lists.{at_map}
 use Rattle.nr_core.specs.Steps.{LoadsWord}
 use Rattle.nr_machine.specs.Slots.{departures}
 use Rattle.nr_machine.specs.Sums.{only, total}
@@ -29,7 +30,7 @@ use Rattle.nr_marks.proofs.ListPlaces.{at_last, at_left, before as before_at, in
 use Rattle.nr_marks.proofs.ReapMarks.{probes_marked}
 use Rattle.nr_marks.specs.Marks.{Marks, Past, with_polls, with_reaped}
 use Rattle.nr_marks.specs.MarkSteps.{ProbeTells, ProbesMarks}
-use Rattle.nr_board.proofs.Lift.{knows_pasts, lifts}
+use Rattle.nr_board.proofs.Lift.{knows_pasts, lends_on, lifts, sees_alone}
 use Rattle.nr_board.proofs.Moves.{ActsGo, waited, waiting as learns_nothing}
 use Rattle.nr_board.proofs.PollNotes.{at_get}
 use Rattle.nr_board.specs.Callers.{Caller, Table, caller_of, map_seen, token}
@@ -55,7 +56,11 @@ probes_so shape slots id me desk poll entry is idle here = let view = me.0 in le
     (λ found next. (other : Desk) (place : ℕ) (named : Retired) → view.role ≡ Writer other → other.place ≡ Idle → Room view.shape other
     → get_elem? other.retired place ≡ some named → at_word ≡ departures view.shape named.slot → ProbesTo view.shape named found view next)
     view.pasts (learns shape id view.role at_word) (probes_marked role_of marks_of shape id view view.pasts desk poll entry here idle is) (knows_pasts shape id view)
-    (λ state kept there step marked. let found : ℕ = get_or state.words at_word 0 in
+    (sees_alone shape id view (Load at_word) tells notes (λ found next. (other : Desk) (place : ℕ) (named : Retired) → view.role ≡ Writer other → other.place ≡ Idle → Room view.shape other
+    → get_elem? other.retired place ≡ some named → at_word ≡ departures view.shape named.slot → ProbesTo view.shape named found view next) entry.slot refl (λ _. refl)
+    (λ state kept at. ((kept.core.knows id (Writer desk) (at_map role_of state.views id view at ∙ ap some is)).retired poll entry here).0)
+    (λ state kept at step. lends_on view step.after (λ slot. ap (holds slot) step.told.0)))
+    (λ state kept there step marked. let found : ℕ = get_or kept.counted at_word 0 in
     let sized : view.shape ≡ shape = (kept.fits id view there).sized (let one : is_writer view.role ≡ 1 = ap is_writer is in omega arith) in
     let callers : AreCallers shape step.entries = subst (AreCallers shape) (sym step.told.1) tt in
     let acts : ActsGo view step.after step.entries marked.now = λ reads. absurd (let none : is_reader step.after ≡ 0 = ap is_reader (step.told.0 ∙ is) in omega arith) in

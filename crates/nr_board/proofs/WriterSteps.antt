@@ -1,5 +1,5 @@
 -- The writer's steps on the table: the look of each call, and every later step.
-use Rattle.std.proofs.Common.{eq-eqb, inl, inr, ⊎_elim, nat_le, ◌≡◌, ℕ, suc, ◌+◌, ◌-◌, ◌*◌, ◌<◌, ◌≤◌, List, [], ◌∷◌, ◌++◌, Bool, true, false, cond, map, set, get_or, le-leb, length, take, refl, sym, ap, ◌∙◌, subst, arith, append-nil}
+use Rattle.std.proofs.Common.{◌⊎◌, eq-eqb, inl, inr, ⊎_elim, nat_le, ◌≡◌, ℕ, suc, ◌+◌, ◌-◌, ◌*◌, ◌<◌, ◌≤◌, List, [], ◌∷◌, ◌++◌, Bool, true, false, cond, map, set, get_or, le-leb, length, take, refl, sym, ap, ◌∙◌, subst, arith, append-nil}
 use Rattle.std.specs.Prelude.{None, Some}
 use mathlib.Core.Option.{some}
 use lib.ListN.{get_elem?}
@@ -26,8 +26,8 @@ use Rattle.nr_machine.specs.declared.operation.Operation.TheVariants.{Load, Stor
 use Rattle.nr_machine.specs.Refusals.{if_not_busy}
 use Rattle.nr_core.specs.Roles.{held, holds, is_by, is_writer, taken, is_reader}
 use Rattle.nr_words.specs.KeyWords.{naming}
-use Rattle.nr_machine.specs.Slots.{content, bound_of, name_number}
-use Rattle.nr_machine.specs.States.{key_of}
+use Rattle.nr_machine.specs.Slots.{content, departures, bound_of, layout, name_number, slot_room}
+use Rattle.nr_machine.specs.States.{key_of, retired_at}
 use Rattle.nr_core.specs.Steps.{CanStep, Goes, Looks, Stepped, Telling}
 use Rattle.nr_machine.specs.Story.{call_of, ending, ending_at, map_after}
 use Rattle.nr_machine.specs.Writer.{ended, looked, moved_to, swapped, went}
@@ -52,7 +52,13 @@ use Rattle.nr_board.proofs.Brings.{given_brings, reads_no_fill, wants_brings, wr
 use Rattle.nr_board.proofs.Learning.{shows_kind}
 use Rattle.nr_board.proofs.Polled.{PolledAll, go_polled, look_polled}
 use Rattle.nr_marks.specs.Marks.{Marks, Past, gripped}
-use Rattle.nr_board.proofs.Lift.{Choice, knows_pasts, lifts}
+use Rattle.nr_board.proofs.Lift.{Choice, KeepsLent, content_no_count, key_inside, key_no_count, knows_pasts, lends_on, lifts, sees_alone, sees_plain}
+use Rattle.nr_board.proofs.PollNotes.{at_get}
+use Rattle.nr_board.specs.Announcing.{IsNoCount}
+use Rattle.nr_core.proofs.Counting.{named_inside}
+use Rattle.nr_core.proofs.WordPlaces.{content_inside}
+use Rattle.nr_words.specs.Places.{total_of}
+use Rattle.std.proofs.lemmas.Bool.{leb-true}
 use Rattle.nr_board.proofs.Moves.{ActsGo, learned, learning}
 use Rattle.nr_board.specs.Entries.{AreCallers, acts_told, to_depart}
 use Rattle.nr_board.proofs.Room.{room_at}
@@ -75,8 +81,8 @@ same_desk role desk other is also = sym (ap desk_of is) ∙ ap desk_of also
 
 module _ (shape : Shape) (id : ℕ) (view : View) (desk : Desk) (is : view.role ≡ Writer desk) (operation : Operation) (tells : Telling)
     (notes : MarkTelling) (state : State (Unit {0}) View) (kept : Kept shape state) (at : get_elem? state.views id ≡ some view)
-    (step : Stepped shape state.words (map role_of state.views) kept.log id view.role operation tells)
-    (marked : Remarked role_of marks_of shape state.words state.views kept.log id view operation step.after step.entries notes)
+    (step : Stepped shape kept.counted (map role_of state.views) kept.log id view.role operation tells)
+    (marked : Remarked role_of marks_of shape kept.counted state.views kept.log id view operation step.after step.entries notes)
     (no_news : marked.news ≡ []) (call : Call) (outcome : Desk × Step) (role_told : step.after ≡ Writer outcome.0)
     (entries_told : step.entries ≡ ending call outcome.1) (callers : AreCallers shape (ending call outcome.1)) where
   callers_told : AreCallers shape step.entries
@@ -127,11 +133,13 @@ looks_so shape slots id me desk call is idle given near = let view = me.0 in let
     lifts shape id view operation tells notes slots me.1 (λ found next. (other : Desk) → view.role ≡ Writer other → Looked other call found view next)
     view.pasts (subst (λ r. CanStep shape id r operation tells) (sym is) (looks shape id desk call idle given near))
     (looks_marked role_of marks_of shape id view view.pasts desk call idle near is) (knows_pasts shape id view)
-    (λ state kept at step marked. let found : ℕ = get_or state.words (key_of call) 0 in let outcome = looked shape desk call found in let c = call_of call in
+    (sees_plain shape id view operation tells notes (λ found next. (other : Desk) → view.role ≡ Writer other → Looked other call found view next) (key_inside shape (key_of call) near) (key_no_count shape (key_of call) near)
+    (λ state kept at step. lends_on view step.after (λ slot. ap (holds slot) step.told.0 ∙ sym (ap (holds slot) is))))
+    (λ state kept at step marked. let found : ℕ = get_or kept.counted (key_of call) 0 in let outcome = looked shape desk call found in let c = call_of call in
     let there : get_elem? (map role_of state.views) id ≡ some (Writer desk) = at_map role_of state.views id view at ∙ ap some is in
     let short : (counts : NoSlot) → outcome.1 ≡ Ended (writer.NoSlot counts) → Shortage shape kept.log desk c outcome counts
     × PolledAll shape desk.retired marked.now.polls = λ counts without. (
-      look_short shape state.words (map role_of state.views) kept.log kept.core id desk there counts call near without,
+      look_short shape kept.counted (map role_of state.views) kept.log kept.core id desk there counts call near without,
       look_polled shape
           view.marks desk call found step.after (kept.log ++ step.entries) marked.now marked.news marked.told (counts, without),
     ) in
@@ -230,23 +238,60 @@ notes_so shape state kept polls now present at note there = ⊎_elim inl
     let mine : acts_told (entries_of kept.log note.reader) ≡ acts_told p.1.mine = ap acts_told (fits.own note.reader (ap (is_by note.reader) p.4 ∙ eq-eqb note.reader note.reader refl)) in
     inr (omega arith)) (present at note there)
 
+-- an operation on a word of the layout that is no count of departures; a load of a slot's departures
+abbrev OnPlain : Shape → Operation → Type 0
+OnPlain shape operation = (target_of operation < total_of (layout shape)) × IsNoCount shape (target_of operation)
+
+abbrev Polls : Shape → Operation → Type 0
+Polls shape operation = (slot : ℕ) × (target_of operation ≡ departures shape slot) × ((word : ℕ) → becomes operation word ≡ word) × (slot < shape.slots)
+
+-- a later step of a call is one of these
+going_on : (shape : Shape) (words : List ℕ) (roles : List Role) (log : List Entry) → Core shape words roles log → (id : ℕ) (desk : Desk) → get_elem? roles id ≡ some (Writer desk) → (place : Place) → desk.place ≡ place → if_not_busy place ≡ None
+    → OnPlain shape (going shape desk place) ⊎ Polls shape (going shape desk place)
+going_on shape words roles log core id desk there place is busy = go place busy (subst (AtPlace shape words (map_after shape log) (held roles) desk.fresh desk.retired) is (core.knows id (Writer desk) there).place)
+  where
+    on_key : (key : ℕ) → key < shape.keys → (key < total_of (layout shape)) × IsNoCount shape key
+    on_key key near = (key_inside shape key near, key_no_count shape key near)
+
+    on_content : (slot index : ℕ) → slot < shape.slots → index < slot_room shape → (content shape slot index < total_of (layout shape)) × IsNoCount shape (content shape slot index)
+    on_content slot index near low = (content_inside shape slot index near low, content_no_count shape slot index low)
+
+    go : (at : Place) → if_not_busy at ≡ None → AtPlace shape words (map_after shape log) (held roles) desk.fresh desk.retired at → OnPlain shape (going shape desk at) ⊎ Polls shape (going shape desk at)
+    go Idle idle stands = absurd (no_some (Some refuse.NotBusy) refuse.NotBusy refl idle)
+    go (Reading call slot got) busy reads = let set = read_set shape words roles log core (key_of call) slot got reads in let few = reads.more in
+        inl (on_content slot (length got) (named_inside shape words roles log core (key_of call) slot reads.near reads.names) (omega (arith, set.1)))
+    go (Leaving key) busy stands = inl (on_key key stands.1.near)
+    go (Withdrawing key) busy stands = inl (on_key key stands.near)
+    go (Searching call rows poll) busy stands = inr ((retired_at desk poll).slot, refl, λ word. refl, ((core.knows id (Writer desk) there).retired poll (retired_at desk poll) (at_get desk.retired poll stands.1)).0)
+    go (Putting call rows slot departed index) busy stands = by_cases (λ b. OnPlain shape (cond {A = Operation} b (Store (content shape slot index) (get_or (encode rows) index 0)) (Swap (key_of call) (naming slot departed)))
+        ⊎ Polls shape (cond {A = Operation} b (Store (content shape slot index) (get_or (encode rows) index 0)) (Swap (key_of call) (naming slot departed)))) (nat_le index (2 * length rows))
+        (λ low. let few : index ≤ 2 * length rows = leb-true index (2 * length rows) low in let short = stands.wants.row_set.1 in inl (on_content slot index stands.inside (omega arith)))
+        (λ _. inl (on_key (key_of call) stands.wants.near))
+
 pub goes_so : (shape : Shape) (slots id : ℕ) (me : Me (Unit {0}) View) (desk : Desk) → me.0.role ≡ Writer desk → if_not_busy desk.place ≡ None
     → let operation = going shape desk desk.place in Allows (Kept shape) slots id me (target_of operation) (becomes operation) (λ found after. (other : Desk) → me.0.role ≡ Writer other → Went other found me.0 after.0)
 goes_so shape slots id me desk is busy = let view = me.0 in let tells = Goes shape desk in let notes = GoesMarks shape view.marks view.pasts desk in let operation = going shape desk desk.place in let c = call_at desk.place in
     lifts shape id view operation tells notes slots me.1 (λ found next. (other : Desk) → view.role ≡ Writer other → Went other found view next) view.pasts (subst (λ r. CanStep shape id r operation tells) (sym is) (goes shape id desk busy))
     (goes_marked role_of marks_of shape id view view.pasts desk is busy) (knows_pasts shape id view)
-    (λ state kept at step marked. let found : ℕ = get_or state.words (target_of operation) 0 in let outcome = went shape desk desk.place found in
+    (λ state kept at step. let core = kept.core in let there : get_elem? (map role_of state.views) id ≡ some (Writer desk) = at_map role_of state.views id view at ∙ ap some is in
+    let then : ℕ → View → Type 0 = λ found next. (other : Desk) → view.role ≡ Writer other → Went other found view next in
+    let lent_stays : KeepsLent shape id view operation tells = λ _ _ _ made. lends_on view made.after (λ slot. ap (holds slot) made.told.0 ∙ sym (ap (holds slot) is)) in
+    ⊎_elim
+    (λ (plain : OnPlain shape operation). sees_plain shape id view operation tells notes then plain.0 plain.1 lent_stays state kept at step)
+    (λ (polls : Polls shape operation). sees_alone shape id view operation tells notes then polls.0 polls.1 polls.2 (λ _ _ _. polls.3) lent_stays state kept at step)
+    (going_on shape kept.counted (map role_of state.views) kept.log core id desk there desk.place refl busy))
+    (λ state kept at step marked. let found : ℕ = get_or kept.counted (target_of operation) 0 in let outcome = went shape desk desk.place found in
     let there : get_elem? (map role_of state.views) id ≡ some (Writer desk) = at_map role_of state.views id view at ∙ ap some is in
-    let own = subst (λ r. KnowsMarks role_of marks_of shape state.words state.views kept.log r view.marks) is (kept.marked.each id view at) in let sweep = own.sweep in
+    let own = subst (λ r. KnowsMarks role_of marks_of shape kept.counted state.views kept.log r view.marks) is (kept.marked.each id view at) in let sweep = own.sweep in
     let short : (counts : NoSlot) → outcome.1 ≡ Ended (writer.NoSlot counts) → Shortage shape kept.log desk c outcome counts
     × PolledAll shape desk.retired marked.now.polls = λ counts without. (
-      go_short shape state.words (map role_of state.views) kept.log kept.core id desk there counts without,
+      go_short shape kept.counted (map role_of state.views) kept.log kept.core id desk there counts without,
       go_polled shape view.marks view.pasts
           desk found step.after (kept.log ++ step.entries) marked.now marked.news state.views desk.place sweep marked.told (counts, without),
     ) in
     let size = writer_shape shape kept.log view desk is (kept.fits id view at) in
     let entries : step.entries ≡ ending c outcome.1 = step.told.1 ∙ ending_there desk.place outcome.1 busy in
-    let callers = entries_there shape state.words (map role_of state.views) kept.log kept.core id desk there desk.place refl busy found in
+    let callers = entries_there shape kept.counted (map role_of state.views) kept.log kept.core id desk there desk.place refl busy found in
     let no_news = went_quiet shape view.marks view.pasts desk desk.place found step.after (kept.log ++ step.entries) marked.now marked.news marked.told in
     writes shape id view desk is operation tells notes state kept at step marked no_news c outcome step.told.0 entries callers (λ next. (other : Desk) → view.role ≡ Writer other → Went other found view next)
     (λ advances other also. let next = learned view step.after (kept.log ++ step.entries) step.entries marked.now marked.news in
@@ -254,7 +299,7 @@ goes_so shape slots id me desk is busy = let view = me.0 in let tells = Goes sha
       leads = subst (λ (s : Shape). Leads c (went s desk desk.place found) view next) (sym size) (leads_so shape id view desk is operation tells notes state kept at step marked no_news c outcome step.told.0 entries callers short advances);
       log = kept.log;
       seen = ap (λ (l : List Entry). kept.log ++ l) (entries ∙ ap (λ (s : Shape). ending c (went s desk desk.place found).1) (sym size));
-      finds = subst (λ (s : Shape). Finds s desk.place found kept.log view.marks) (sym size) (finds_so shape state.words (map role_of state.views) kept.log kept.core id desk there view.marks own.names desk.place refl);
+      finds = subst (λ (s : Shape). Finds s desk.place found kept.log view.marks) (sym size) (finds_so shape kept.counted (map role_of state.views) kept.log kept.core id desk there view.marks own.names desk.place refl);
       notes = notes_so shape state kept view.marks.polls marked.now.polls marked.noted;
       marks = subst (λ (p : Shape × List Past). GoesMarks p.0 view.marks view.pasts desk found step.after (kept.log ++ step.entries) marked.now p.1) (λ j. (sym size j, no_news j)) marked.told;
     })))

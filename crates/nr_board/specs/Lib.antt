@@ -3,6 +3,7 @@ pub mod TwoSeats
 pub mod Views
 pub mod Entries
 pub mod Callers
+pub mod Announcing
 pub mod Rule
 pub mod Notes
 pub mod Plays

@@ -12,6 +12,7 @@ use Rattle.nr_core.specs.Roles.{is_by, is_reader, is_writer}
 use Rattle.nr_marks.specs.Marked.{Knowing, Marked}
 use Rattle.nr_marks.specs.Marks.{Marks, Past, gripped}
 use Rattle.nr_board.specs.Entries.{AreCallers, acts_told, to_depart}
+use Rattle.nr_board.specs.Announcing.{Announces, Counted, lent}
 use Rattle.nr_board.specs.Views.{View, grip_of}
 
 abbrev pub role_of : View → Role
@@ -48,7 +49,10 @@ pub record Fits (shape : Shape) (log : List Entry) (view : View) : Type 0 where
 
 pub record Kept (shape : Shape) (state : State (Unit {0}) View) : Type 0 where
   pub log : List Entry
-  pub core : Core shape state.words (map role_of state.views) log
+  -- the words as the core sees them
+  pub counted : List ℕ
+  pub counts_words : Counted shape (lent state.views) state.words counted
+  pub core : Core shape counted (map role_of state.views) log
   pub fits : (id : ℕ) (view : View) → get_elem? state.views id ≡ some view → Fits shape log view
   pub callers : AreCallers shape log
   -- no two tokens are one caller
@@ -59,7 +63,8 @@ pub record Kept (shape : Shape) (state : State (Unit {0}) View) : Type 0 where
   pub fresh : (caller : ℕ) → made < caller → total (counts caller) (map role_of state.views) ≡ 0
   pub silent : (caller : ℕ) → made < caller → entries_of log caller ≡ []
   -- the marks agree with the words and the history, and what callers know of readers is so since then
-  pub marked : Marked role_of marks_of shape state.words state.views log
+  pub marked : Marked role_of marks_of shape counted state.views log
   pub pasts : Knowing role_of marks_of pasts_of state.views
   pub told_pasts : Knowing role_of marks_of told_pasts_of state.views
+  pub announced : Announces shape made state.words state.views
   pub maker : (id : ℕ) (view : View) → get_elem? state.views id ≡ some view → is_writer view.role ≡ 1 → view.made ≡ made

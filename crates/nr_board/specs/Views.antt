@@ -27,6 +27,8 @@ pub record View : Type 0 where
   -- how readers were when the writer learnt it, and what a note told of that
   pub pasts : List Past
   pub told_pasts : List Past
+  -- what a reader's own word says: 0, or one more than the slot that it announces
+  pub says : ℕ
 
 -- the number of the caller; the writer's is 0
 abbrev pub caller_number : Role → ℕ
@@ -73,11 +75,11 @@ no_shape = record { keys = 0; slots = 0; readers = 0; first_count = 0; first_num
 
 -- the first token is the writer's
 abbrev pub opener : Shape → View
-opener shape = record { role = Writer (opening_desk shape); shape = shape; made = 0; seen = []; told = []; mine = []; steps = 0; marks = opening_marks shape; pasts = []; told_pasts = [] }
+opener shape = record { role = Writer (opening_desk shape); shape = shape; made = 0; seen = []; told = []; mine = []; steps = 0; marks = opening_marks shape; pasts = []; told_pasts = []; says = 0 }
 
 -- the writer makes the next reader
 abbrev pub with_reader : View → View
 with_reader view = record view { made = view.made + 1 }
 
 abbrev pub next_reader : View → View
-next_reader view = record { role = Reader (view.made + 1) Nothing; shape = view.shape; made = 0; seen = []; told = []; mine = []; steps = 0; marks = no_marks; pasts = []; told_pasts = [] }
+next_reader view = record { role = Reader (view.made + 1) Nothing; shape = view.shape; made = 0; seen = []; told = []; mine = []; steps = 0; marks = no_marks; pasts = []; told_pasts = []; says = 0 }

@@ -6,6 +6,7 @@ ghost use Rattle.nr_model.specs.declared.calls.Call.TheVariants as model;
 ghost use Rattle.nr_model.specs.declared.calls.Reply.TheVariants as reply;
 ghost use Rattle.nr_words.specs.KeyWords.{is_filled, slot_of};
 ghost use Rattle.nr_words.specs.Places.{total_of};
+ghost use Rattle.nr_words.specs.Opening.{opening_words as words_opened};
 ghost use Rattle.nr_words.specs.SetWords.{encode};
 ghost use Rattle.nr_machine.specs.declared.roles.Desk.{Desk};
 ghost use Rattle.nr_machine.specs.declared.roles.Role.TheVariants.{Writer};
@@ -99,7 +100,7 @@ impl Board {
             slots: shape.slots,
             rows: shape.rows,
         };
-        let words = opening_words(alloc, layout, shape.first_count, shape.first_number)?;
+        let words = words_from(alloc, layout, shape.first_count, shape.first_number)?;
         let (table, seat) = Table::of_words(alloc, &words, &shape)?;
         Ok((Board { table, shape }, seat))
     }
@@ -440,4 +441,19 @@ impl Board {
             rows: self.shape.rows,
         }
     }
+}
+
+// The words at opening. A first count is a word, which a shape as such doesn't say.
+fn words_from(
+    alloc: Global,
+    layout: Layout,
+    first_count: u64,
+    first_number: u64,
+) -> Result<Vec<u64>, AllocError>
+    requires rows { layout.rows ≤ MAX_ROWS }
+    requires number { first_number < 2 ^ 22 }
+    ensures words { IfOk result (λ words. words.items ≡ words_opened layout first_count first_number) }
+    ensures count { IfOk result (λ words. first_count < 2 ^ 64) }
+{
+    opening_words(alloc, layout, first_count, first_number)
 }

@@ -41,7 +41,7 @@ find_leaves : (map : PartialMap) (k : ℕ) → next map (model.Find k) ≡ map
 find_leaves map k = ap (λ (states : List KeyState). record { bound = map.bound; states = states }) (set-get_or map.states k (key.Hole 0))
 
 -- a find that the map answers so is one entry more, and all else stays
-find_more : (shape : Shape) (words : List ℕ) (roles : List Role) (log : List Entry) → Core shape words roles log → (caller k : ℕ) (answer : Reply)
+pub find_more : (shape : Shape) (words : List ℕ) (roles : List Role) (log : List Entry) → Core shape words roles log → (caller k : ℕ) (answer : Reply)
     → find_reply (state_of (map_after shape log) k) ≡ answer → Core shape words roles (log ++ entry caller (model.Find k) answer ∷ [])
 find_more shape words roles log core caller k answer is = let e = entry caller (model.Find k) answer in let map = map_after shape log in
     let same : map_after shape (log ++ e ∷ []) ≡ map = now-more shape log e ∙ find_leaves map k in record {

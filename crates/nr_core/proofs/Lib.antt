@@ -3,6 +3,7 @@ pub mod Arrive
 pub mod Ask
 pub mod Read
 pub mod FindAgain
+pub mod HoldNamed
 pub mod Depart
 pub mod Look
 pub mod Go

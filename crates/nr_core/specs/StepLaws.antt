@@ -1,5 +1,5 @@
 -- The laws of the steps, each of one form, which is all that a map of running callers needs: whatever the core state is, a caller of that role can make that operation, and then the core state stands again, with the entries of its calls.
-use Rattle.std.specs.Prelude.{◌≡◌, ℕ, ◌<◌, ◌≤◌, List, [], ◌∷◌, ◌++◌, length, Bool, None}
+use Rattle.std.specs.Prelude.{◌≡◌, ℕ, suc, ◌-◌, ◌^◌, ◌<◌, ◌≤◌, List, [], ◌∷◌, ◌++◌, length, slice_index, Bool, None}
 use Rattle.nr_model.specs.declared.rows.Row.{Row}
 use Rattle.nr_model.specs.Histories.{Entry}
 use Rattle.nr_machine.specs.declared.shape.Shape.{Shape}
@@ -14,14 +14,14 @@ use Rattle.nr_words.specs.declared.key_words.TheConstants.{ARRIVE}
 use Rattle.nr_words.specs.SetWords.{encode}
 use Rattle.nr_machine.specs.Sums.{total}
 use Rattle.nr_machine.specs.Sizes.{IsShape}
-use Rattle.nr_machine.specs.Slots.{bound_of, departures, content, words_at_opening}
+use Rattle.nr_machine.specs.Slots.{bound_of, departures, content, name_number, words_at_opening}
 use Rattle.nr_machine.specs.States.{key_of, opening_desk}
 use Rattle.nr_machine.specs.Operations.{going}
 use Rattle.nr_machine.specs.Refusals.{if_not_busy}
 use Rattle.nr_machine.specs.Given.{IsGivenCall}
 use Rattle.nr_core.specs.Roles.{is_reader, readers_from}
 use Rattle.nr_core.specs.Core.{Core}
-use Rattle.nr_core.specs.Steps.{CanStep, Arrives, Asks, ReadsHeld, FindsAgain, Departs, Looks, Goes, LoadsWord}
+use Rattle.nr_core.specs.Steps.{CanStep, CanStepWhere, Arrives, Asks, LooksUp, HoldsNamed, ReadsHeld, FindsAgain, Departs, Looks, Goes, LoadsWord}
 
 -- a reader that holds nothing arrives at a key, or asks for it
 abbrev pub ArriveLaw : Type 0
@@ -29,6 +29,14 @@ ArriveLaw = (shape : Shape) (id reader at : ℕ) → at < shape.keys → CanStep
 
 abbrev pub AskLaw : Type 0
 AskLaw = (shape : Shape) (id reader at : ℕ) → at < shape.keys → CanStep shape id (Reader reader Nothing) (Or at 1) (Asks reader at)
+
+-- a reader that holds nothing looks a key up; where the key names a slot, it may hold that slot as if it had arrived
+abbrev pub LookUpLaw : Type 0
+LookUpLaw = (shape : Shape) (id reader at : ℕ) → at < shape.keys → CanStep shape id (Reader reader Nothing) (Load at) (LooksUp reader at)
+
+abbrev pub HoldNamedLaw : Type 0
+HoldNamedLaw = (shape : Shape) (id reader at slot : ℕ) → at < shape.keys
+    → CanStepWhere shape id (Reader reader Nothing) (Add (departures shape slot) (2 ^ 64 - 1)) (λ words. name_number (slice_index words at) ≡ suc slot) (HoldsNamed shape reader slot at)
 
 -- a reader that holds a slot reads a word of its set, or departs
 abbrev pub ReadLaw : Type 0

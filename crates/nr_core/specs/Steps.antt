@@ -45,6 +45,11 @@ abbrev pub CanStep : Shape → ℕ → Role → Operation → Telling → Type 0
 CanStep shape id role operation tells =
     (words : List ℕ) (roles : List Role) (log : List Entry) → Core shape words roles log → get_elem? roles id ≡ some role → Stepped shape words roles log id role operation tells
 
+-- the same where the words are so
+abbrev pub CanStepWhere : Shape → ℕ → Role → Operation → (List ℕ → Type 0) → Telling → Type 0
+CanStepWhere shape id role operation so tells =
+    (words : List ℕ) (roles : List Role) (log : List Entry) → Core shape words roles log → so words → get_elem? roles id ≡ some role → Stepped shape words roles log id role operation tells
+
 -- an arrive finds the key's set, and holds its slot, or finds a hole
 abbrev pub Arrives : Shape → ℕ → ℕ → Telling
 Arrives shape reader at word after entries =
@@ -69,6 +74,15 @@ FindsAgain shape reader slot rows sized at word after entries =
     (after ≡ Reader reader (On slot rows sized))
     × (entries ≡ (if names_slot slot word then entry reader (model.Find at) (reply.Rows rows) ∷ [] else []))
     × ((other : ℕ) → name_number word ≡ suc other → other < shape.slots)
+
+-- A load of a key's word by a reader that holds nothing: a hole is found, and else the word names a slot.
+abbrev pub LooksUp : ℕ → ℕ → Telling
+LooksUp reader at word after entries = (after ≡ Reader reader Nothing) × (entries ≡ (if is_filled word then [] else entry reader (model.Find at) reply.Hole ∷ []))
+
+-- Where a key names a slot, a reader that holds nothing may hold that slot from here on, as if it had arrived: a departure is taken back. It is a find of the key.
+abbrev pub HoldsNamed : Shape → ℕ → ℕ → ℕ → Telling
+HoldsNamed shape reader slot at word after entries =
+    (rows : List Row) × (slot < shape.slots) × IsRowSet (bound_of shape) rows × (after ≡ Reader reader (On slot rows false)) × (entries ≡ entry reader (model.Find at) (reply.Rows rows) ∷ [])
 
 abbrev pub Departs : ℕ → Telling
 Departs reader word after entries = (after ≡ Reader reader Nothing) × (entries ≡ [])

@@ -5,7 +5,7 @@
 //! (`CanStep`): whatever the core state is, a caller of that role can make that operation, then the
 //! core state stands again, and this is what the operation told the caller.
 ghost use Rattle.nr_core.specs.Laws.{EverySchedule, SlotBound, RunGoesOn};
-ghost use Rattle.nr_core.specs.StepLaws.{ArriveLaw, AskLaw, ReadLaw, FindAgainLaw, DepartLaw, LookLaw, GoLaw, LearnLaw, OpeningLaw, SeatLaw, NoteLaw};
+ghost use Rattle.nr_core.specs.StepLaws.{ArriveLaw, AskLaw, LookUpLaw, HoldNamedLaw, ReadLaw, FindAgainLaw, DepartLaw, LookLaw, GoLaw, LearnLaw, OpeningLaw, SeatLaw, NoteLaw};
 
 /// Whatever the callers attempt, in any order: the history is legal, the words show its map, the
 /// writer lists each key's number, each slot is accounted for, a held slot is not written, and each
@@ -33,6 +33,16 @@ pub fn arrives()
 /// A reader that holds nothing asks for a key, and its request is an entry.
 pub fn asks()
     ensures { AskLaw }
+{}
+
+/// A reader that holds nothing looks a key up: a hole is found.
+pub fn looks_up()
+    ensures { LookUpLaw }
+{}
+
+/// A reader may hold the slot that a key names as if it had arrived there.
+pub fn holds_named()
+    ensures { HoldNamedLaw }
 {}
 
 /// A reader that holds a slot reads a word of its set.

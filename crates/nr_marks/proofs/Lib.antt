@@ -3,6 +3,7 @@ pub mod PutNumbers
 pub mod MarksSince
 pub mod Knowing
 pub mod ReaderMarks
+pub mod HoldNamedMarks
 pub mod TakenSlots
 pub mod DeskMarks
 pub mod LookMarks

@@ -54,7 +54,7 @@ names_behind words keys i x behind key l = get_or-set_other words i key x 0 (λ 
 pub contents_behind : (shape : Shape) (words : List ℕ) (key x : ℕ) → key < shape.keys → SameContents shape words (set words key x)
 contents_behind shape words key x near slot index low = get_or-set_other words key (content shape slot index) x 0 (λ e. omega arith)
 
-contents_counted : (shape : Shape) (words : List ℕ) (other x : ℕ) → SameContents shape words (set words (departures shape other) x)
+pub contents_counted : (shape : Shape) (words : List ℕ) (other x : ℕ) → SameContents shape words (set words (departures shape other) x)
 contents_counted shape words other x slot index low = get_or-set_other words (departures shape other) (content shape slot index) x 0 (λ e. content_apart shape slot index other (omega arith) e)
 
 pub contents_loaded : (shape : Shape) (words : List ℕ) (i : ℕ) → SameContents shape words (set words i (get_or words i 0))

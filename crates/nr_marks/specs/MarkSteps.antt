@@ -1,5 +1,5 @@
 -- What each kind of step tells of the marks.
-use Rattle.std.specs.Prelude.{◌≡◌, ◌≢◌, ℕ, suc, ◌+◌, ◌<◌, ◌≤◌, List, [], ◌∷◌, ◌++◌, length, slice_index, ◌*◌, nat_le, Bool, true, false, Some}
+use Rattle.std.specs.Prelude.{◌≡◌, ◌≢◌, ℕ, suc, ◌+◌, ◌<◌, ◌≤◌, List, [], ◌∷◌, ◌++◌, length, slice_index, ◌*◌, nat_le, Bool, true, false, if◌then◌else◌, Some}
 use mathlib.Core.Option.{some}
 use lib.ListN.{get_elem?}
 use Rattle.nr_model.specs.Histories.{Entry}
@@ -14,7 +14,7 @@ use Rattle.nr_machine.specs.declared.places.Place.TheVariants.{Idle, Reading, Le
 use Rattle.nr_machine.specs.declared.calls.NoSlot.{NoSlot}
 use Rattle.nr_machine.specs.declared.calls.Step.{Step}
 use Rattle.nr_machine.specs.declared.calls.Step.TheVariants.{Ended}
-use Rattle.nr_words.specs.KeyWords.{same_count}
+use Rattle.nr_words.specs.KeyWords.{is_filled, same_count}
 use Rattle.nr_machine.specs.Slots.{name_number, names_slot}
 use Rattle.nr_machine.specs.States.{retired_at, key_of}
 use Rattle.nr_machine.specs.Writer.{looked, read_on}
@@ -37,6 +37,10 @@ KeepsMarks marks word after log now news = (now ≡ marks) × (news ≡ [])
 -- an arrive's hold has the key's put number
 abbrev pub ArrivesMarks : Marks → ℕ → MarkTelling
 ArrivesMarks marks at word after log now news = (now ≡ acted marks (put_number log at)) × (news ≡ [])
+
+-- a look-up that finds a hole is one act; one that finds a slot named is none yet
+abbrev pub LooksUpMarks : Marks → ℕ → MarkTelling
+LooksUpMarks marks at word after log now news = (now ≡ (if is_filled word then marks else acted marks (put_number log at))) × (news ≡ [])
 
 -- a find by a reader that holds the set counts as a departure and an arrive at the same slot
 abbrev pub found_again : Bool → Marks → Marks

@@ -155,3 +155,10 @@ module _ {A : Type 0} (role : A → Role) (marks : A → Marks) where
       (words : List ℕ) (callers : List A) (log : List Entry) → Core shape words (map role callers) log → Marked shape words callers log → Once callers → get_elem? callers id ≡ some before → AllSince callers known
       → (after : Role) (entries : List Entry) → answers (slice_index words (target_of operation)) after entries
       → Remarked shape words callers log id before operation after entries tells
+
+  -- the same where the words are so
+  abbrev pub CanMarkWhere : Shape → ℕ → A → List Past → Operation → (List ℕ → Type 0) → Telling → MarkTelling → Type 0
+  CanMarkWhere shape id before known operation so answers tells =
+      (words : List ℕ) (callers : List A) (log : List Entry) → Core shape words (map role callers) log → Marked shape words callers log → so words → Once callers → get_elem? callers id ≡ some before → AllSince callers known
+      → (after : Role) (entries : List Entry) → answers (slice_index words (target_of operation)) after entries
+      → Remarked shape words callers log id before operation after entries tells

@@ -2,6 +2,7 @@ use Rattle.std.proofs.Common.{ap, arith, subst, sym, ℕ, ◌%◌, ◌+◌, ◌-
 use mathlib.Core.Option.{none}
 use Rattle.atomic_table.specs.Table.{Allows, step}
 use Rattle.nr_machine.specs.Slots.{departures}
+use Rattle.nr_machine.specs.declared.shape.Shape.{Shape}
 use Rattle.nr_board.proofs.BoardPlaces.{departures_at, departures_in, stands}
 use Rattle.nr_board.proofs.ReaderSeats.{departed_seat}
 use Rattle.nr_board.proofs.ReaderSteps.{departs_so}
@@ -17,7 +18,7 @@ fetch_add-requires c = let shared = c.self.inside.table.shared in let board = st
       ap (λ (t : Table). t.id) (reader.own ∙ sym c.self.view_is),
       departures_in board slot reader.holds.inside before,
       subst (λ (at : ℕ). Allows (Kept shared.key) shared.table_id.slots seat.id seat.me at (λ n. (n + 1) % 2 ^ 64) (has_departed (step shared.table_id.slots at 1 0 none) seat.me)) (sym (departures_at board slot reader.holds.inside before))
-          (departs_so shared.key shared.table_id.slots seat.id seat.me reader.holds.is (ap (λ (t : Table). t.shape) reader.own ∙ sym board.key_is)),
+          (departs_so shared.key shared.table_id.slots seat.id seat.me reader.holds.is (omega (arith, reader.holds.inside, ap (λ (s : Shape). s.slots) board.key_is)) (ap (λ (t : Table). t.shape) reader.own ∙ sym board.key_is)),
     )
 
 pub returns : goal.returns

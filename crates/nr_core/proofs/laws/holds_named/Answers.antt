@@ -1,0 +1,5 @@
+use Rattle.nr_core.proofs.HoldNamed.{holds_named}
+use Rattle.nr_core.proofs.laws.holds_named.Goals as goal
+
+pub returns : goal.returns
+returns c = holds_named
