@@ -33,7 +33,7 @@ static void want(bool is_so, const char *what) {
 /* Since that count: at least so many bytes, and at most that many for each of the tokens beside them. */
 static void took(size_t before, size_t bytes, size_t each, const char *what) {
   size_t taken = asked - before;
-  if (taken >= bytes && taken <= bytes + each * TOKENS + 4096) return;
+  if (taken >= bytes && taken <= bytes + each * TOKENS + 16384) return;
   fprintf(stderr, "largest: %s took %zu bytes, and not about %zu\n", what, taken, bytes);
   exit(1);
 }
@@ -45,10 +45,10 @@ static void try_map(void) {
   nr_writer writer = {0};
   size_t before = asked;
   want(nr_open(&shape, &writer) == NR_DONE, "the largest map");
-  took(before, (size_t)KEYS * (2 * 8 + 8) + (size_t)KEYS * (2 * 32 + 17), 64, "the largest map");
+  took(before, (size_t)KEYS * (2 * 8 + 8) + (size_t)KEYS * (2 * 32 + 17), 8, "the largest map");
   before = asked;
   for (int i = 0; i < TOKENS; i++) want(nr_open_reader(&writer, &readers[i]) == NR_DONE, "a reader");
-  took(before, TOKENS * sizeof(void *), 1024, "its readers");
+  took(before, TOKENS * sizeof(void *), 512, "its readers");
   nr_reader other = {0};
   want(nr_open_reader(&writer, &other) == NR_NO_READER, "a reader too many");
   uint64_t number;
@@ -66,10 +66,10 @@ static void try_queue(void) {
   nr_taker taker = {0};
   size_t before = asked;
   want(nr_open_queue(UINT32_MAX, KEYS, TOKENS, &taker) == NR_DONE, "the largest queue");
-  took(before, (size_t)KEYS * 2 * 48, 64, "the largest queue");
+  took(before, (size_t)KEYS * 2 * 48, 8, "the largest queue");
   before = asked;
   for (int i = 0; i < TOKENS; i++) want(nr_open_poster(&taker, &posters[i]) == NR_DONE, "a poster");
-  took(before, TOKENS * sizeof(void *), 1024, "its posters");
+  took(before, TOKENS * sizeof(void *), 512, "its posters");
   nr_poster other = {0};
   want(nr_open_poster(&taker, &other) == NR_NO_POSTER, "a poster too many");
   for (uint32_t i = 0; i < KEYS; i++) want(nr_post(&posters[i % TOKENS], UINT32_MAX - 1 - i, i) == NR_DONE, "a post");
