@@ -33,11 +33,11 @@ def behind(words, i, opening, closing):
 
 
 class File:
-    """What runs of a file, without contracts and what stands for them alone: its words and their lines, the partner of
-    each bracket, its functions, and its attributes by the place of the next word."""
+    """What runs of a file, without contracts and what stands for them alone: its words, their lines and the spaces before
+    them, the partner of each bracket, its functions, and its attributes by the place of the next word."""
 
     def __init__(self, text):
-        self.words, self.lines, self.attributes, self.partner = [], [], [], {}
+        self.words, self.lines, self.spaces, self.attributes, self.partner = [], [], [], [], {}
         self.keep_what_runs(text)
         self.words += [""] * 3
         self.lines += [0] * 3
@@ -62,11 +62,14 @@ class File:
         return any(kind in kinds and start < i < end for kind, start, end in self.spans)
 
     def keep_what_runs(self, text):
-        words, lines, line, i = [], [], 1, 0
+        words, lines, spaces, line, space, i = [], [], [], 1, "", 0
         for part in TOKEN.findall(text):
-            words += [part] * is_word(part)
-            lines += [line] * is_word(part)
+            if is_word(part):
+                words.append(part)
+                lines.append(line)
+                spaces.append(space)
             line += part.count("\n")
+            space = "" if is_word(part) else " "
         while i < len(words):
             if words[i] in ("ghost", "requires", "ensures"):
                 is_ghost = words[i] == "ghost"
@@ -79,6 +82,7 @@ class File:
             else:
                 self.words.append(words[i])
                 self.lines.append(lines[i])
+                self.spaces.append(spaces[i])
                 i += 1
 
     def up_to(self, i, *ends):
@@ -156,8 +160,8 @@ class File:
             i += 1
 
     def deeds(self, function, values):
-        """What it does in order, as words: its conditions and what its loops go over, where it ends or turns, its
-        closures, its calls with what they are given, and where it names one of these values."""
+        """What it does in order: its conditions and what its loops go over, where it ends or turns, its closures, its
+        calls with what they are given, and where it names one of these values."""
         calls = {call.at: call.end for call in self.calls(function.body, function.end)}
         closures = set(self.closures(function.body, function.end))
         deeds, i = [], function.body
@@ -169,6 +173,6 @@ class File:
             elif re.match("[A-Za-z_]", word) and word not in HEADS:
                 end, counts = self.chain(i, calls)
             if counts or values & set(self.words[i:end]):
-                deeds += self.words[i:end]
+                deeds.append("".join(self.spaces[at] + self.words[at] for at in range(i, end)).strip())
             i = end
-        return deeds
+        return " ".join(deeds)
