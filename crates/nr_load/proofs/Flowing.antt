@@ -18,6 +18,7 @@ use Rattle.nr_board.specs.declared.answers.UpdateFault.TheVariants as update
 use Rattle.nr_board.specs.Callers.{Caller, Table}
 use Rattle.nr_board.specs.WriterAnswers.{EvictsKey, UpdatesKey}
 use Rattle.nr_serve.specs.declared.dataflow.Turn.TheVariants as turn
+use Rattle.nr_serve.specs.Counts.{GuestSeen}
 use Rattle.nr_serve.specs.Flows.{FlowSeen}
 use Rattle.nr_serve.specs.Hands.{capped}
 use Rattle.nr_serve.specs.Turns.{IsPast, SpendsOne, Turns}
@@ -172,16 +173,16 @@ module _ (a : Caller) (old new : FlowSeen (List ℕ)) (what : Turned) (fills fil
   pub so_far_more : what ≢ turned.Wrong → SoFar a new.writer fills' new.source
   so_far_more right = record { count = far.count + turn.count; gained = with_turn a old new what fills fills' own far turn; fills_are = fills_on; turns = (rounds_on right).0; rounds = (rounds_on right).1 }
 
-  pub flows_last : (w : Caller) (told : ℕ) (fault : Option LoadFault) → (fault ≡ None → what ≢ turned.Wrong) → told ≡ fills' → w ≡ new.writer → Flows a (record { writer = w; fills = told; fault = fault })
-  flows_last w told fault right is same = record {
+  pub flows_last : (w : Caller) (told : ℕ) (fault : Option LoadFault) (guest : GuestSeen) → (fault ≡ None → what ≢ turned.Wrong) → told ≡ fills' → w ≡ new.writer → Flows a (record { writer = w; fills = told; fault = fault; guest = guest })
+  flows_last w told fault guest right is same = record {
     count = far.count + turn.count;
     gained = gained_of a.table.shape.keys a.table.shape.keys a new.writer w 0 (far.count + turn.count) refl same (with_turn a old new what fills fills' own far turn);
     fills = is ∙ fills_on;
     rounds = λ none. ((rounds_on (right none)).0, new.source, subst (λ (n : ℕ). Rounds a.number a.table.shape.keys (rounds_on (right none)).0 (far.gained.entries ++ turn.gained.entries) n new.source) (sym is) (rounds_on (right none)).1);
   }
 
-pub flows_so_far : (a w v : Caller) (fills told : ℕ) (base : List ℕ) (fault : Option LoadFault) → SoFar a v fills base → told ≡ fills → w ≡ v → Flows a (record { writer = w; fills = told; fault = fault })
-flows_so_far a w v fills told base fault far is same = record {
+pub flows_so_far : (a w v : Caller) (fills told : ℕ) (base : List ℕ) (fault : Option LoadFault) (guest : GuestSeen) → SoFar a v fills base → told ≡ fills → w ≡ v → Flows a (record { writer = w; fills = told; fault = fault; guest = guest })
+flows_so_far a w v fills told base fault guest far is same = record {
   count = far.count;
   gained = gained_of a.table.shape.keys a.table.shape.keys a v w 0 far.count refl same far.gained;
   fills = is ∙ far.fills_are;

@@ -72,7 +72,7 @@ passes keys key number rows a b fill.Already past low fills = grown 1 keys a b _
 passes keys key number rows a b fill.Stale past low fills = grown 1 keys a b _ 0 0 fills.0 (tells_fill keys a.number key number rows _ low)
 passes keys key number rows a b (fill.NoSlot counts) past low fills = absurd past
 
-module _ {S : Type 0} (gives : S → ℕ → List Row → S → Type 0) where
+module _ {S : Type 0} (gives : S → (key bound : ℕ) → List Row → S → Type 0) where
   pub near_post : (old new : FlowSeen S) (key : ℕ) (answer : Result (Unit {0}) FillFault) (spends : SpendsOne gives old key answer new) → spends.post.upquery.key < old.map.shape.keys
   near_post old new key answer spends = subst (λ (k : ℕ). k < old.map.shape.keys) (sym spends.key_is) spends.near
 

@@ -1,5 +1,5 @@
 -- What the promises that were kept say of the readers.
-use Rattle.std.proofs.Common.{◌≡◌, ℕ, List, [], ◌∷◌, ◌++◌, length, refl, subst, arith}
+use Rattle.std.proofs.Common.{◌≡◌, ℕ, Bool, true, not, List, [], ◌∷◌, ◌++◌, length, refl, subst, arith, Option, None, Some, is_some}
 use Rattle.std.proofs.lemmas.List.{append-nil}
 use Rattle.std.specs.declared.thread.PromisedHandle.{PromisedHandle}
 use Rattle.nr_board.specs.Callers.{Caller}
@@ -11,6 +11,10 @@ use Rattle.nr_load.specs.Outcomes.{CarriesFirst, KeptBy, Serves, ServesFirst}
 pub all_joined : (handles rest : List (PromisedHandle Outcome Serving)) (outcomes : List Outcome) → length rest ≡ 0 → ((more : List Outcome) → KeptBy rest more → KeptBy handles (outcomes ++ more)) → KeptBy handles outcomes
 all_joined handles [] outcomes e f = subst (λ (os : List Outcome). KeptBy handles os) (append-nil outcomes) (f [] tt)
 all_joined handles (h ∷ rest) outcomes e f = absurd (omega (arith, e))
+
+pub none_refused : {A : Type 0} (refused : Option A) (is_whole : Bool) → is_some refused ≡ not is_whole → is_whole ≡ true → refused ≡ None
+none_refused None is_whole is whole = refl
+none_refused (Some guest) is_whole is whole = absurd (cc)
 
 -- as many were joined as were started
 pub joined_count : (handles : List (PromisedHandle Outcome Serving)) (outcomes : List Outcome) → KeptBy handles outcomes → length outcomes ≡ length handles

@@ -17,9 +17,9 @@ row_of key x = record { a = key; b = x }
 abbrev pub base_deltas : ℕ → ℕ → List Delta
 base_deltas key x = record { plus = false; row = row_of key x } ∷ record { plus = true; row = row_of key (x + 1) } ∷ []
 
--- a base with these numbers gives the one row of a key, and stays as it is
-abbrev pub GivesRow : List ℕ → ℕ → List Row → List ℕ → Type 0
-GivesRow base key rows base' = (base' ≡ base) × (key < length base → rows ≡ row_of key (slice_index base key) ∷ [])
+-- a base with these numbers gives the one row of a key, whatever the bound, and stays as it is
+abbrev pub GivesRow : List ℕ → (key bound : ℕ) → List Row → List ℕ → Type 0
+GivesRow base key bound rows base' = (base' ≡ base) × (key < length base → rows ≡ row_of key (slice_index base key) ∷ [])
 
 -- a step adds one to the key's number, unless that is the last one
 abbrev pub StepsBase : List ℕ → ℕ → Option (List Delta) → List ℕ → Type 0

@@ -6,6 +6,7 @@ pub mod Works
 pub mod Base
 pub mod Gained
 pub mod Flowed
+pub mod Closes
 pub mod Outcomes
 pub mod Handed
 pub mod Ends

@@ -9,7 +9,7 @@ use crate::base::Base;
 use crate::fault::LoadFault;
 use crate::shared::Shared;
 use nr_map::{UpdateFault, Writer};
-use nr_serve::{Dataflow, Turn};
+use nr_serve::{Dataflow, Guest, Turn};
 use nr_trigger::Taker;
 use std::sync::Wait;
 
@@ -20,6 +20,8 @@ pub struct Flowed {
     /// How many fills were done, up to 2^64 - 1.
     pub fills: u64,
     pub fault: Option<LoadFault>,
+    /// That by which it closed the lobby at its end.
+    pub guest: Guest,
 }
 
 /// What a turn came to.
@@ -99,13 +101,14 @@ pub(crate) fn flow_on<R: Wait>(
     taker: Taker,
     base: Base,
 ) -> Flowed
-    requires own { writer.table ≡ shared.now.map }
-    requires queue { IsTakerOf shared.now.map shared.now.triggers taker }
-    requires base { base ≡ replicate shared.now.map.shape.keys 0 }
-    ensures { Flows writer result }
+    requires own { writer.table ≡ shared.now.service.map }
+    requires queue { IsTakerOf shared.now.service.map shared.now.service.queue taker }
+    requires base { base ≡ replicate shared.now.service.map.shape.keys 0 }
+    ensures flows { Flows writer result }
+    ensures closes { (result.guest.lobby ≡ shared.now.service.lobby) × (0 < result.guest.closes) }
 {
-    let lobby = &shared.lobby;
-    let mut flow = Dataflow::open(&shared.map, writer, &shared.triggers, taker, base, lobby);
+    let lobby = shared.service.lobby();
+    let mut flow = Dataflow::open(&shared.service, writer, taker, base);
     let mut guest = lobby.guest();
     let mut fills = 0;
     let mut fault = None;
@@ -121,10 +124,11 @@ pub(crate) fn flow_on<R: Wait>(
     if let Some(trigger) = kept {
         trigger.into_key();
     }
-    shared.end();
+    let guest = shared.end();
     Flowed {
         writer,
         fills,
         fault,
+        guest,
     }
 }

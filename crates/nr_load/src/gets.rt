@@ -1,13 +1,14 @@
 //! A worker's gets.
-ghost use Rattle.std.specs.Prelude.{◌≡◌, ◌≢◌, ◌≤◌, ◌<◌, ◌∷◌, [], ℕ, List, MatchBool, MatchOption, None, Some, false, length, replicate, true};
+ghost use Rattle.std.specs.Prelude.{◌≡◌, ◌≢◌, ◌≤◌, ◌<◌, ◌∷◌, [], ℕ, List, MatchBool, MatchOption, None, Some, false, length, replicate, slice_index, true};
 ghost use Rattle.nr_model.specs.declared.rows.Row.{Row};
+ghost use Rattle.nr_serve.specs.Counts.{closed_at};
 ghost use Rattle.nr_load.specs.Drawn.{drawn, drawn_on};
 ghost use Rattle.nr_load.specs.Works.{AreNews, GetsKey, Judged, Works, answers, of_gets};
 
 use crate::draws::Draws;
 use crate::fault::LoadFault;
 use nr_model::{Row, RowSet};
-use nr_serve::{Client, Gate, Got, Lobby};
+use nr_serve::{Client, Gate, Got, Guest, Lobby};
 use std::alloc::Global;
 use std::sync::Wait;
 
@@ -43,7 +44,7 @@ impl Worked {
     // Ended by a fault, or without one by the last get.
     fn ended(made: u32, answered: u32, fault: Option<LoadFault>) -> Worked
         ensures made { (result.made ≡ made) × (result.answered ≡ answered) }
-        ensures fault { result.fault ≡ fault }
+        ensures fault { (result.fault ≡ fault) × (result.stopped ≡ false) }
     {
         Worked {
             made,
@@ -127,7 +128,8 @@ fn get_drawn<R: Wait, G: Gate>(
 /// A get of each of the next `gets` drawn keys, in order. Before each it looks whether the lobby is
 /// closed, and then stops. A fault ends it: `Barred` where a gate never let pass, `WrongRows` where a
 /// get gave anything but one row `k:x` of its key with x not below what this worker saw of k before,
-/// and `Memory` where there is none for what it knows of each key; then it begins no get.
+/// and `Memory` where there is none for what it knows of each key; then it begins no get. Gives the
+/// guest by which it looked.
 pub fn load_gets<R: Wait, G: Gate>(
     rt: &R,
     alloc: Global,
@@ -135,29 +137,31 @@ pub fn load_gets<R: Wait, G: Gate>(
     draws: &mut Draws,
     gets: u32,
     lobby: &Lobby,
-) -> Worked
+) -> (Worked, Guest)
     requires { draws.old.keys ≤ client.old.map.shape.keys }
-    ensures works { Works TRIES draws.old.keys result.made draws.old.generator result.answered (replicate draws.old.keys 0) (of_gets result.fault) client.old.hands client.new.hands draws.new.generator }
-    ensures memory { result.fault ≡ Some LoadFault.Memory → result.made ≡ 0 }
-    ensures few { (result.made ≤ gets) × (result.answered ≤ result.made) }
-    ensures all { result.stopped ≡ false → result.fault ≡ None → result.made ≡ gets }
+    ensures works { Works TRIES draws.old.keys result.0.made draws.old.generator result.0.answered (replicate draws.old.keys 0) (of_gets result.0.fault) client.old.hands client.new.hands draws.new.generator }
+    ensures memory { result.0.fault ≡ Some LoadFault.Memory → result.0.made ≡ 0 }
+    ensures few { (result.0.made ≤ gets) × (result.0.answered ≤ result.0.made) }
+    ensures all { result.0.stopped ≡ false → result.0.fault ≡ None → result.0.made ≡ gets }
+    ensures guest { result.1.lobby ≡ lobby.now }
+    ensures stopped { result.0.stopped ≡ true → 0 < slice_index result.1.seen closed_at }
     ensures places { (client.new.map ≡ client.old.map) × (client.new.queue ≡ client.old.queue) × (client.new.opened ≡ client.old.opened) }
 {
+    let mut guest = lobby.guest();
     let Ok(mut known) = Vec::from_elem(alloc, 0u64, draws.keys() as usize) else {
-        return Worked::ended(0, 0, Some(LoadFault::Memory));
+        return (Worked::ended(0, 0, Some(LoadFault::Memory)), guest);
     };
     let mut rows = RowSet::new();
     let mut answered: u32 = 0;
-    let mut guest = lobby.guest();
     for made in 0..gets {
         if lobby.is_closed(&mut guest) {
-            return Worked::stopped(made, answered);
+            return (Worked::stopped(made, answered), guest);
         }
         let (got, fault) = get_drawn(rt, client, draws, &mut rows, known.as_mut_slice());
         answered += answers_of(got);
         if let Some(fault) = fault {
-            return Worked::ended(made + 1, answered, Some(fault));
+            return (Worked::ended(made + 1, answered, Some(fault)), guest);
         }
     }
-    Worked::ended(gets, answered, None)
+    (Worked::ended(gets, answered, None), guest)
 }

@@ -17,7 +17,7 @@ use crate::tally::tally;
 use crate::threads::{Joined, Lists, Tokens, serve_all};
 use crate::workers::Outcome;
 use nr_map::{Reader, ReaderMap, Writer, laws};
-use nr_serve::{Gate, Lobby};
+use nr_serve::{Gate, Lobby, Service};
 use nr_trigger::Triggers;
 use std::alloc::{AllocError, Global};
 use std::sync::Wait;
@@ -125,6 +125,7 @@ fn collect(outcomes: Vec<Outcome>, mut readers: Vec<Reader>) -> (Sums, Vec<Reade
             reader,
             worked,
             sends: sent,
+            guest: _,
         } = outcome;
         made += u64::from(worked.made);
         sends += sent;
@@ -209,6 +210,7 @@ fn settle(
         writer,
         fills,
         fault,
+        guest: _,
     } = flowed;
     let gets = u64::from(plan.readers) * u64::from(plan.gets);
     if let Some(fault) = first_fault(&sums, fault, is_whole, gets) {
@@ -264,10 +266,8 @@ pub fn run_load<R: Threads + Wait + Sync, G: Gate + Sync>(
     let shared = Shared {
         alloc,
         plan: *plan,
-        map,
-        triggers,
-        lobby,
+        service: Service::of(map, triggers, lobby),
     };
     let joined = serve_all(rt, gate, &shared, tokens, room.base, room.lists)?;
-    settle(&shared.map, plan, joined, room.readers)
+    settle(shared.service.map(), plan, joined, room.readers)
 }

@@ -71,18 +71,18 @@ fn start_flow<'s, E, R: Wait + Sync>(
     taker: Taker,
     base: Base,
 ) -> Result<PromisedHandle<Flowed, Flowing>, LoadFault>
-    requires own { writer.table ≡ shared.now.map }
-    requires queue { IsTakerOf shared.now.map shared.now.triggers taker }
-    requires base { base ≡ replicate shared.now.map.shape.keys 0 }
+    requires own { writer.table ≡ shared.now.service.map }
+    requires queue { IsTakerOf shared.now.service.map shared.now.service.queue taker }
+    requires base { base ≡ replicate shared.now.service.map.shape.keys 0 }
     ensures { IfOk result (λ handle. handle.promise.writer.value ≡ writer) }
 {
     let promise = promise_to_flow(&writer);
     match scope.spawn_with(
         promise,
         move || -> Flowed
-            requires own { writer.table ≡ shared.now.map }
-            requires queue { IsTakerOf shared.now.map shared.now.triggers taker }
-            requires base { base ≡ replicate shared.now.map.shape.keys 0 }
+            requires own { writer.table ≡ shared.now.service.map }
+            requires queue { IsTakerOf shared.now.service.map shared.now.service.queue taker }
+            requires base { base ≡ replicate shared.now.service.map.shape.keys 0 }
             ensures { Flows writer result }
         { flow_on(rt, shared, writer, taker, base) },
     ) {
@@ -103,8 +103,8 @@ fn serve_within<'s, E, R: Threads + Wait + Sync, G: Gate + Sync>(
     base: Base,
     lists: Lists,
 ) -> Result<Joined, LoadFault>
-    requires tokens { AreTokensOf shared.now.map shared.now.triggers tokens }
-    requires base { base ≡ replicate shared.now.map.shape.keys 0 }
+    requires tokens { AreTokensOf shared.now.service.map shared.now.service.queue tokens }
+    requires base { base ≡ replicate shared.now.service.map.shape.keys 0 }
     requires room { HasRoomFor (vec_len tokens.readers) lists }
     ensures { IfOk result (Joins shared.now.plan.seed shared.now.plan.gets tokens) }
 {
@@ -124,7 +124,7 @@ fn serve_within<'s, E, R: Threads + Wait + Sync, G: Gate + Sync>(
     Ok(Joined {
         outcomes,
         flowed,
-        is_whole: started.is_whole,
+        is_whole: started.refused.is_none(),
     })
 }
 
@@ -137,8 +137,8 @@ pub(crate) fn serve_all<R: Threads + Wait + Sync, G: Gate + Sync>(
     base: Base,
     lists: Lists,
 ) -> Result<Joined, LoadFault>
-    requires tokens { AreTokensOf shared.now.map shared.now.triggers tokens }
-    requires base { base ≡ replicate shared.now.map.shape.keys 0 }
+    requires tokens { AreTokensOf shared.now.service.map shared.now.service.queue tokens }
+    requires base { base ≡ replicate shared.now.service.map.shape.keys 0 }
     requires room { HasRoomFor (vec_len tokens.readers) lists }
     ensures { IfOk result (Joins shared.now.plan.seed shared.now.plan.gets tokens) }
 {
@@ -146,8 +146,8 @@ pub(crate) fn serve_all<R: Threads + Wait + Sync, G: Gate + Sync>(
         thread::scope_env(),
         rt,
         |scope| -> Result<Joined, LoadFault>
-            requires tokens { AreTokensOf shared.now.map shared.now.triggers tokens }
-            requires base { base ≡ replicate shared.now.map.shape.keys 0 }
+            requires tokens { AreTokensOf shared.now.service.map shared.now.service.queue tokens }
+            requires base { base ≡ replicate shared.now.service.map.shape.keys 0 }
             requires room { HasRoomFor (vec_len tokens.readers) lists }
             ensures { IfOk result (Joins shared.entry.now.plan.seed shared.entry.now.plan.gets tokens) }
         { serve_within(scope, rt, gate, shared, tokens, base, lists) },

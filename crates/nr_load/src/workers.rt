@@ -1,5 +1,6 @@
 //! One thread for each reader.
-ghost use Rattle.std.specs.Prelude.{◌≡◌, ◌≤◌, IfOk, All, length, true, vec_len, vec_capacity};
+ghost use Rattle.std.specs.Prelude.{◌≡◌, ◌<◌, ◌≤◌, IfOk, IfSome, All, None, length, vec_len, vec_capacity};
+ghost use Rattle.nr_load.specs.Closes.{TellsEnd};
 ghost use Rattle.nr_load.specs.Outcomes.{Carries, CarriesFirst, KeptBy, Serves};
 ghost use Rattle.nr_load.specs.Handed.{IsPosterOf};
 
@@ -8,7 +9,7 @@ use crate::fault::LoadFault;
 use crate::gets::{Worked, load_gets};
 use crate::shared::Shared;
 use nr_map::Reader;
-use nr_serve::{Client, Gate};
+use nr_serve::{Client, Gate, Guest};
 use nr_trigger::Poster;
 use std::snapshot::Snapshot;
 use std::sync::Wait;
@@ -21,6 +22,8 @@ pub struct Outcome {
     pub worked: Worked,
     /// How many of its requests were to be sent.
     pub sends: u64,
+    /// That by which it closed the lobby after a fault, or else by which it looked whether it was.
+    pub guest: Guest,
 }
 
 /// The promise of a worker's thread.
@@ -41,8 +44,8 @@ impl Promise<Outcome> for Serving {
 #[derive(Drop)]
 pub(crate) struct Started {
     pub(crate) handles: Vec<PromisedHandle<Outcome, Serving>>,
-    /// Whether none was refused.
-    pub(crate) is_whole: bool,
+    /// Where one was refused: the guest that closed the lobby then.
+    pub(crate) refused: Option<Guest>,
 }
 
 fn promise_to_serve(reader: &Reader, seed: u64, gets: u32) -> Serving
@@ -64,23 +67,31 @@ fn work<R: Wait, G: Gate>(
     reader: Reader,
     poster: Poster,
 ) -> Outcome
-    requires own { reader.table ≡ shared.now.map }
-    requires queue { IsPosterOf shared.now.map shared.now.triggers poster }
-    ensures { Serves shared.now.plan.seed shared.now.plan.gets reader result }
+    requires own { reader.table ≡ shared.now.service.map }
+    requires queue { IsPosterOf shared.now.service.map shared.now.service.queue poster }
+    ensures serves { Serves shared.now.plan.seed shared.now.plan.gets reader result }
+    ensures ends { TellsEnd shared.now.service.lobby result }
 {
     let Shared {
         alloc,
         plan,
-        map,
-        triggers,
-        lobby,
+        service,
     } = shared;
-    let mut draws = Draws::open(plan.seed, reader.number(), map.keys());
-    let mut client = Client::open(map, reader, triggers, poster, lobby, gate);
-    let worked = load_gets(rt, *alloc, &mut client, &mut draws, plan.gets, lobby);
-    if worked.fault.is_some() {
-        shared.end();
-    }
+    let mut draws = Draws::open(plan.seed, reader.number(), service.map().keys());
+    let mut client = Client::open(service, reader, poster, gate);
+    let (worked, guest) = load_gets(
+        rt,
+        *alloc,
+        &mut client,
+        &mut draws,
+        plan.gets,
+        service.lobby(),
+    );
+    let guest = if worked.fault.is_some() {
+        shared.end()
+    } else {
+        guest
+    };
     let sends = client.sends();
     let (reader, _, kept) = client.end();
     if let Some(ticket) = kept {
@@ -90,6 +101,7 @@ fn work<R: Wait, G: Gate>(
         reader,
         worked,
         sends,
+        guest,
     }
 }
 
@@ -102,16 +114,16 @@ fn start_worker<'s, E, R: Wait + Sync, G: Gate + Sync>(
     reader: Reader,
     poster: Poster,
 ) -> Result<PromisedHandle<Outcome, Serving>, LoadFault>
-    requires own { reader.table ≡ shared.now.map }
-    requires queue { IsPosterOf shared.now.map shared.now.triggers poster }
+    requires own { reader.table ≡ shared.now.service.map }
+    requires queue { IsPosterOf shared.now.service.map shared.now.service.queue poster }
     ensures { IfOk result (λ handle. Carries shared.now.plan.seed shared.now.plan.gets reader handle) }
 {
     let promise = promise_to_serve(&reader, shared.plan.seed, shared.plan.gets);
     match scope.spawn_with(
         promise,
         move || -> Outcome
-            requires own { reader.table ≡ shared.now.map }
-            requires queue { IsPosterOf shared.now.map shared.now.triggers poster }
+            requires own { reader.table ≡ shared.now.service.map }
+            requires queue { IsPosterOf shared.now.service.map shared.now.service.queue poster }
             ensures { Serves shared.entry.now.plan.seed shared.entry.now.plan.gets reader result }
         { work(rt, gate, shared, reader, poster) },
     ) {
@@ -131,16 +143,17 @@ pub(crate) fn start_workers<'s, E, R: Wait + Sync, G: Gate + Sync>(
     posters: Vec<Poster>,
     mut handles: Vec<PromisedHandle<Outcome, Serving>>,
 ) -> Started
-    requires readers { All (λ reader. reader.table ≡ shared.now.map) readers.items }
-    requires posters { All (λ poster. IsPosterOf shared.now.map shared.now.triggers poster) posters.items }
+    requires readers { All (λ reader. reader.table ≡ shared.now.service.map) readers.items }
+    requires posters { All (λ poster. IsPosterOf shared.now.service.map shared.now.service.queue poster) posters.items }
     requires count { vec_len posters ≡ vec_len readers }
     requires room { (vec_len readers ≤ vec_capacity handles) × (vec_len handles ≡ 0) }
     ensures readers { CarriesFirst shared.now.plan.seed shared.now.plan.gets readers.items result.handles.items }
     ensures few { vec_len result.handles ≤ vec_len readers }
-    ensures whole { result.is_whole ≡ true → length result.handles.items ≡ length readers.items }
+    ensures whole { result.refused ≡ None → length result.handles.items ≡ length readers.items }
+    ensures ends { IfSome result.refused (λ guest. (guest.lobby ≡ shared.now.service.lobby) × (0 < guest.closes)) }
 {
     let mut posters = posters.into_iter();
-    let mut is_whole = true;
+    let mut refused = None;
     for reader in readers {
         let Some(poster) = posters.next() else {
             unreachable!()
@@ -148,13 +161,12 @@ pub(crate) fn start_workers<'s, E, R: Wait + Sync, G: Gate + Sync>(
         match start_worker(scope, rt, gate, shared, reader, poster) {
             Ok(handle) => handles.push_reserved(handle),
             Err(_) => {
-                shared.end();
-                is_whole = false;
+                refused = Some(shared.end());
                 break;
             }
         }
     }
-    Started { handles, is_whole }
+    Started { handles, refused }
 }
 
 /// Joins each thread, and gives what they gave, in order. The room is there.

@@ -27,7 +27,7 @@ abbrev pub after : List ℕ → Visit → List ℕ → ℕ → Visit
 after words visit more closings = record { seen = words; raised = visit.raised ++ more; closes = visit.closes + closings }
 
 -- the number at a place goes up, and the guest raises these counts and closes the lobby that often
-module _ (state : S) (are : AreCounts state) (i n id : ℕ) (me : Me (Unit {0}) Visit) (more : List ℕ) (closings : ℕ) (there : get_elem? state.views id ≡ some me.0) (inside : i < 528) (up : slice_index state.words i ≤ n) where
+module _ (state : S) (are : AreCounts state) (i n id : ℕ) (me : Me (Unit {0}) Visit) (more : List ℕ) (closings : ℕ) (there : get_elem? state.views id ≡ some me.0) (inside : i < 536) (up : slice_index state.words i ≤ n) where
   abbrev pub words : List ℕ
   words = set state.words i n
 
@@ -83,7 +83,7 @@ still_closed state are place same above = let by = are.closed (subst (λ (at : �
 
 module _ (id : ℕ) (me : Me (Unit {0}) Visit) where
   -- a load
-  pub looks : (slots place : ℕ) → place < 528 → Allows AreCounts slots id me place (λ n. n) (has_read_count (step slots place 0 0 none) me)
+  pub looks : (slots place : ℕ) → place < 536 → Allows AreCounts slots id me place (λ n. n) (has_read_count (step slots place 0 0 none) me)
   looks slots place inside state are _ there _ = let n : ℕ = slice_index state.words place in (
     after (set state.words place n) me.0 [] 0,
     keeps,
@@ -97,7 +97,7 @@ module _ (id : ℕ) (me : Me (Unit {0}) Visit) where
   closes slots state are _ there _ =
       let n : ℕ = max (slice_index state.words closed_at) 1 in
       let up : slice_index state.words closed_at ≤ n = omega arith in
-      let inside : closed_at < 528 = omega arith in (
+      let inside : closed_at < 536 = omega arith in (
         after (set state.words closed_at n) me.0 [] 1,
         keeps,
         tt,
@@ -106,7 +106,7 @@ module _ (id : ℕ) (me : Me (Unit {0}) Visit) where
       )
 
   -- a compare-exchange, which raises a count if it finds the number that was expected
-  pub raises : (slots place count next : ℕ) → place < 528 → place ≢ closed_at → next ≡ capped (count + 1) → (next ≡ last_count → 0 < slice_index me.0.seen closed_at)
+  pub raises : (slots place count next : ℕ) → place < 536 → place ≢ closed_at → next ≡ capped (count + 1) → (next ≡ last_count → 0 < slice_index me.0.seen closed_at)
       → Allows AreCounts slots id me place (λ n. either (eqb n count) next n) (has_raised (step slots place count next none) me)
   raises slots place count next inside is_count next_is closed state are _ there small =
       let n : ℕ = slice_index state.words place in
@@ -166,13 +166,13 @@ zeros (suc n) zero = refl
 zeros (suc n) (suc place) = zeros n place
 
 -- all counts are 0 in a new lobby
-pub opens : AreCounts (opening (replicate 528 0) [] new_guest)
+pub opens : AreCounts (opening (replicate 536 0) [] new_guest)
 opens = record {
-  size = length-replicate {A = ℕ} 528 0;
-  counted = λ place _. zeros 528 place;
-  last = λ place _ at_last. let is = zeros 528 place in absurd (omega (arith, is, at_last));
-  closed = λ now. let is = zeros 528 closed_at in absurd (omega (arith, is, now));
-  seen = λ id known at. subst (λ (v : Visit). IsLater v.seen (replicate 528 0)) (only_first id known at) (λ place. zero-le);
+  size = length-replicate {A = ℕ} 536 0;
+  counted = λ place _. zeros 536 place;
+  last = λ place _ at_last. let is = zeros 536 place in absurd (omega (arith, is, at_last));
+  closed = λ now. let is = zeros 536 closed_at in absurd (omega (arith, is, now));
+  seen = λ id known at. subst (λ (v : Visit). IsLater v.seen (replicate 536 0)) (only_first id known at) (λ place. zero-le);
 }
   where
     only_first : (id : ℕ) (known : Visit) → get_elem? (new_guest ∷ []) id ≡ some known → new_guest ≡ known

@@ -1,6 +1,7 @@
 pub mod Totals
 pub mod Counting
 pub mod Later
+pub mod Ringing
 pub mod Making
 pub mod Moving
 pub mod Trying

@@ -1,5 +1,5 @@
 -- The counts of a lobby: what holds of them, and what those who raise them know.
-use Rattle.std.specs.Prelude.{◌≡◌, ◌≢◌, ◌<◌, ◌≤◌, ◌==◌, ◌+◌, ◌*◌, ◌%◌, ℕ, zero, suc, List, [], ◌∷◌, ◌++◌, MatchBool, length, slice_index}
+use Rattle.std.specs.Prelude.{◌≡◌, ◌≢◌, ◌<◌, ◌≤◌, ◌==◌, ◌+◌, ◌*◌, ◌%◌, ◌⊎◌, ℕ, zero, suc, List, [], ◌∷◌, ◌++◌, MatchBool, length, slice_index}
 use mathlib.Core.Option.{some}
 use lib.ListN.{get_elem?}
 use Rattle.atomic_table.specs.Seated.{TableId}
@@ -46,6 +46,16 @@ pub record OnlyLooks (old new : GuestSeen) : Type 0 where
   pub raised : new.raised ≡ old.raised
   pub closes : new.closes ≡ old.closes
 
+-- a count stands at the last number or one below it, so that a raise of it closes the lobby
+abbrev pub IsNearLast : GuestSeen → Type 0
+IsNearLast guest = (place : ℕ) × (place ≢ closed_at) × (last_count ≤ slice_index guest.seen place + 1)
+
+-- it raised these counts, in that order, and closed the lobby only for a raise to the last number
+pub record Raises (old : GuestSeen) (places : List ℕ) (new : GuestSeen) : Type 0 where
+  pub later : IsLaterOf old new
+  pub raised : new.raised ≡ old.raised ++ places
+  pub closes : (new.closes ≡ old.closes) ⊎ IsNearLast new
+
 -- a guest that did nothing
 abbrev pub IsNew : GuestSeen → Type 0
 IsNew guest = (guest.raised ≡ []) × (guest.closes ≡ 0)
@@ -57,6 +67,10 @@ group_at key = 8 * (key % 64)
 abbrev pub whole_at : ℕ
 whole_at = 512
 
+-- the index of the bell, which is a count too
+abbrev pub rung_at : ℕ
+rung_at = 528
+
 -- the counts that are raised for a key
 abbrev pub raises_for : ℕ → List ℕ
 raises_for key = group_at key ∷ whole_at ∷ []
@@ -67,7 +81,7 @@ groups_below zero = []
 groups_below (suc n) = groups_below n ++ (8 * n) ∷ []
 
 pub record AreCounts (state : State (Unit {0}) Visit) : Type 0 where
-  pub size : length state.words ≡ 528
+  pub size : length state.words ≡ 536
   -- a count is how often the guests raised it, all together, up to the last number
   pub counted : (place : ℕ) → place ≢ closed_at → slice_index state.words place ≡ capped (total (λ visit. how_often place visit.raised) state.views)
   -- a count that has reached the last number closed the lobby

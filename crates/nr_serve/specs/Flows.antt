@@ -1,8 +1,9 @@
 -- What contracts see of a dataflow, and what holds of it between its calls.
-use Rattle.std.specs.Prelude.{◌≡◌, ◌<◌, ◌≤◌, ℕ, List, Option, IfSome}
+use Rattle.std.specs.Prelude.{◌≡◌, ◌<◌, ◌≤◌, Option, IfSome}
 use Rattle.nr_board.specs.Callers.{Caller, Table}
 use Rattle.nr_trigger.specs.declared.post.Post.{Post}
 use Rattle.nr_trigger.specs.Tokens.{Queue, TakerSeen}
+use Rattle.nr_serve.specs.Counts.{GuestSeen}
 
 pub record FlowSeen (S : Type 0) : Type 0 where
   pub map : Table
@@ -12,8 +13,8 @@ pub record FlowSeen (S : Type 0) : Type 0 where
   -- the trigger that it keeps
   pub kept : Option Post
   pub source : S
-  -- the counts of the lobby that it raised, oldest first
-  pub raised : List ℕ
+  -- what it has seen of the lobby, and did there
+  pub guest : GuestSeen
 
 -- the writer is the map's and the taker the queue's, and each key that comes out of the queue is one of the map's
 pub record IsPlaced (map : Table) (queue : Queue) (writer : Caller) (taker : TakerSeen) (kept : Option Post) : Type 0 where

@@ -1,4 +1,6 @@
 pub mod Counts
+pub mod Services
+pub mod Rings
 pub mod Flows
 pub mod Turns
 pub mod Lending

@@ -10,7 +10,7 @@ use Rattle.nr_trigger.specs.declared.post.Post.{Post}
 use Rattle.nr_trigger.specs.Tokens.{IsSameTaker, TakerSeen, WasEmpty, taker_tried}
 use Rattle.nr_serve.specs.declared.dataflow.Turn.{Turn}
 use Rattle.nr_serve.specs.declared.dataflow.Turn.TheVariants as turn
-use Rattle.nr_serve.specs.Counts.{raises_for}
+use Rattle.nr_serve.specs.Counts.{GuestSeen, OnlyLooks, Raises, raises_for}
 use Rattle.nr_serve.specs.Flows.{FlowSeen}
 
 -- the triggers that are kept, one at most
@@ -40,17 +40,21 @@ pub record Takes {S : Type 0} (old : FlowSeen S) (post : Post) (new : FlowSeen S
 
 -- none is kept, and one attempt to take finds none
 abbrev pub FindsNone : {S : Type 0} → FlowSeen S → FlowSeen S → Type 0
-FindsNone old new = (old.kept ≡ None) × WasEmpty old.taker × (new ≡ record old { taker = taker_tried old.taker })
+FindsNone old new = (old.kept ≡ None) × WasEmpty old.taker × (new ≡ record old { taker = taker_tried old.taker; guest = new.guest }) × OnlyLooks old.guest new.guest
+
+-- just one attempt to take was made between these two, and it found none
+abbrev pub AwaitsPost : TakerSeen → TakerSeen → Type 0
+AwaitsPost old new = WasEmpty old × (new ≡ taker_tried old)
 
 abbrev pub Nexts : {S : Type 0} → FlowSeen S → Option Post → FlowSeen S → Type 0
 Nexts old None new = FindsNone old new
 Nexts old (Some post) new = Takes old post new
 
-module _ {S : Type 0} (gives : S → ℕ → List Row → S → Type 0) where
-  -- one fill of the trigger's key, by its number, with rows that the source gave in this turn
+module _ {S : Type 0} (gives : S → (key bound : ℕ) → List Row → S → Type 0) where
+  -- one fill of the trigger's key, by its number, with rows that the source gave in this turn, told the map's bound on them
   pub record FillsPost (old : FlowSeen S) (post : Post) (answer : Result (Unit {0}) FillFault) (new : FlowSeen S) : Type 0 where
     pub rows : List Row
-    pub gave : gives old.source post.upquery.key rows new.source
+    pub gave : gives old.source post.upquery.key old.map.shape.rows rows new.source
     pub few : length rows ≤ old.map.shape.rows
     pub fills : FillsKey post.upquery.key post.upquery.number rows old.writer new.writer answer
 
@@ -62,7 +66,7 @@ module _ {S : Type 0} (gives : S → ℕ → List Row → S → Type 0) where
     pub answers : FillsPost old post answer new
     pub spends : Spends old.kept old.taker (post ∷ []) None new.taker
     pub none : new.kept ≡ None
-    pub raised : new.raised ≡ old.raised ++ raises_for key
+    pub raised : Raises old.guest (raises_for key) new.guest
 
   -- the trigger is kept, and the lobby is left alone
   pub record KeepsOne (old : FlowSeen S) (answer : Result (Unit {0}) FillFault) (new : FlowSeen S) : Type 0 where
@@ -70,7 +74,7 @@ module _ {S : Type 0} (gives : S → ℕ → List Row → S → Type 0) where
     pub answers : FillsPost old post answer new
     pub spends : Spends old.kept old.taker [] (Some post) new.taker
     pub kept : new.kept ≡ Some post
-    pub raised : new.raised ≡ old.raised
+    pub raised : OnlyLooks old.guest new.guest
 
   abbrev pub Turns : FlowSeen S → Turn → FlowSeen S → Type 0
   Turns old turn.Idle new = FindsNone old new
@@ -79,6 +83,6 @@ module _ {S : Type 0} (gives : S → ℕ → List Row → S → Type 0) where
   Turns old (turn.Kept counts) new = KeepsOne old (Err (fill.NoSlot counts)) new
 
 -- a cancel raises the lobby for the key where it took a request back, and else leaves it alone
-abbrev pub CancelRaises : Cancel → ℕ → List ℕ → List ℕ → Type 0
-CancelRaises cancel.Cancelled key old new = new ≡ old ++ raises_for key
+abbrev pub CancelRaises : Cancel → ℕ → GuestSeen → GuestSeen → Type 0
+CancelRaises cancel.Cancelled key old new = Raises old (raises_for key) new
 CancelRaises _ key old new = new ≡ old

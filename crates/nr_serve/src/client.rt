@@ -3,21 +3,22 @@ ghost use Rattle.std.specs.Prelude.{◌≡◌, ◌<◌, ◌≤◌, ◌+◌, leng
 ghost use Rattle.nr_board.specs.Callers.{KnowsOwn};
 ghost use Rattle.nr_board.specs.Meetings.{HearsNote, known_to, with_step};
 ghost use Rattle.nr_serve.specs.Clients.{since};
-ghost use Rattle.nr_serve.specs.Counts.{IsNew, OnlyLooks};
+ghost use Rattle.nr_serve.specs.Counts.{IsNew};
 ghost use Rattle.nr_serve.specs.Gets.{Gets};
 ghost use Rattle.nr_serve.specs.Hands.{capped, with_idle_reader};
+ghost use Rattle.nr_serve.specs.Rings.{Rings};
 ghost use Rattle.nr_serve.specs.Tickets.{sent};
 
 use crate::answers::Got;
 use crate::gate::Gate;
 use crate::hands::Hands;
-use crate::lobby::Lobby;
 use crate::places::Places;
+use crate::service::Service;
 use crate::tries::get_by_tries;
 use crate::watched::Watched;
-use nr_map::{Note, Reader, ReaderMap, Ticket};
+use nr_map::{Note, Reader, Ticket};
 use nr_model::RowSet;
-use nr_trigger::{Poster, Triggers};
+use nr_trigger::Poster;
 use std::marker::Model;
 use std::snapshot::Snapshot;
 use std::sync::Wait;
@@ -55,23 +56,16 @@ impl<'a, G> Model for Client<'a, G> {
 impl<'a, G: Gate> Client<'a, G> {
     ghost use Rattle.nr_serve.specs.Gates.{AsksGate};
 
-    /// A client of a map and a queue that takes the tickets of all keys of the map.
-    pub fn open(
-        map: &'a ReaderMap,
-        reader: Reader,
-        triggers: &'a Triggers,
-        poster: Poster,
-        lobby: &'a Lobby,
-        gate: &'a G,
-    ) -> Client<'a, G>
-        requires map { reader.table ≡ map.now }
-        requires queue { poster.queue ≡ triggers.now.id }
-        requires keys { map.now.shape.keys ≤ poster.keys }
-        ensures places { (result.map ≡ map.now) × (result.queue ≡ triggers.now) }
+    /// A client of a service whose queue takes all keys of its map.
+    pub fn open(service: &'a Service, reader: Reader, poster: Poster, gate: &'a G) -> Client<'a, G>
+        requires map { reader.table ≡ service.now.map }
+        requires queue { poster.queue ≡ service.now.queue.id }
+        requires keys { service.now.map.shape.keys ≤ poster.keys }
+        ensures places { (result.map ≡ service.now.map) × (result.queue ≡ service.now.queue) }
         ensures gate { (result.gate ≡ gate.now) × (result.reader ≡ reader.number) }
         ensures hands { result.hands ≡ record { reader = reader; poster = poster; kept = None; sends = 0 } }
         ensures opened { result.opened ≡ result.hands }
-        ensures guest { IsNew result.guest }
+        ensures guest { (result.guest.lobby ≡ service.now.lobby) × IsNew result.guest }
         ensures counts { result.gets ≡ 0 }
     {
         let number = reader.number();
@@ -79,12 +73,12 @@ impl<'a, G: Gate> Client<'a, G> {
         let opened = Snapshot::of(&hands);
         Client {
             places: Places {
-                map,
-                triggers,
+                map: service.map(),
+                triggers: service.triggers(),
                 gate,
                 reader: number,
             },
-            lobby: Watched::of(lobby),
+            lobby: Watched::of(service.lobby()),
             hands: Some(hands),
             gets: 0,
             opened,
@@ -98,13 +92,14 @@ impl<'a, G: Gate> Client<'a, G> {
     /// still kept, and a ticket of that is posted, or kept where the queue is full; before the
     /// next try the client sleeps in the lobby, unless it keeps a ticket or the key was filled
     /// meanwhile. After the last try it ends with `GaveUp`. The set is unchanged unless it ends
-    /// with `Rows`. The client's guest neither raises the lobby nor closes it.
+    /// with `Rows`. The client's guest rings the bell for each ticket that is posted, and raises
+    /// nothing else.
     pub fn get<R: Wait>(&mut self, rt: &R, key: u32, tries: u32, rows: &mut RowSet) -> Got
         requires { key < self.old.map.shape.keys }
         ensures gets { Gets key tries self.old.hands rows.old result self.new.hands rows.new }
         ensures released { self.new.hands.reader.holds ≡ None }
         ensures at_once { tries ≡ 0 → self.new.hands ≡ self.old.hands }
-        ensures looks { OnlyLooks self.old.guest self.new.guest }
+        ensures rings { Rings self.old.hands self.old.guest self.new.hands self.new.guest }
         ensures counts { self.new.gets ≡ capped (self.old.gets + 1) }
         ensures asks { AsksGate G.lets G.hears self.old.gate self.old.reader self.new.gets result }
         ensures places { (self.new.map ≡ self.old.map) × (self.new.queue ≡ self.old.queue) }

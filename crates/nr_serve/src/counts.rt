@@ -8,7 +8,7 @@ use std::alloc::{AllocError, Global};
 use std::marker::Model;
 
 /// How many numbers there are.
-const NUMBERS: usize = 528;
+const NUMBERS: usize = 536;
 
 /// The place of the number that is above 0 once the lobby is closed.
 pub(crate) const CLOSED_AT: usize = 520;
@@ -86,7 +86,7 @@ impl Model for Counts {
 
     ghost view = { λ counts. counts.table.shared.table_id };
 
-    ghost invariant = { λ counts. counts.table.shared.table_id.words ≡ 528 };
+    ghost invariant = { λ counts. counts.table.shared.table_id.words ≡ 536 };
 }
 
 impl Counts {
@@ -98,7 +98,7 @@ impl Counts {
 
     /// The number at a place, found by a guest that has raised nothing.
     pub(crate) fn enter(&self, place: usize) -> (u64, Guest)
-        requires { place < 528 }
+        requires { place < 536 }
         ensures lobby { result.1.lobby ≡ self.now }
         ensures new { IsNew result.1 }
         ensures found { slice_index result.1.seen place ≡ result.0 }
@@ -110,7 +110,7 @@ impl Counts {
     /// The number at a place.
     pub(crate) fn at(&self, guest: &mut Guest, place: usize) -> u64
         requires lobby { guest.old.lobby ≡ self.now }
-        requires place { place < 528 }
+        requires place { place < 536 }
         ensures looks { OnlyLooks guest.old guest.new }
         ensures found { slice_index guest.new.seen place ≡ result }
     {
@@ -133,7 +133,7 @@ impl Counts {
     /// it did.
     pub(crate) fn raise(&self, guest: &mut Guest, place: usize, count: u64, next: u64) -> bool
         requires lobby { guest.old.lobby ≡ self.now }
-        requires place { (place < 528) × (place ≢ closed_at) }
+        requires place { (place < 536) × (place ≢ closed_at) }
         requires next { next ≡ capped (count + 1) }
         requires last { next ≡ last_count → 0 < slice_index guest.old.seen closed_at }
         ensures raised { MatchBool result (guest.new.raised ≡ guest.old.raised ++ place ∷ []) (guest.new.raised ≡ guest.old.raised) }

@@ -1,13 +1,14 @@
 //! The dataflow's side: it fills the keys whose tickets were posted, and keeps the map's rows right.
-ghost use Rattle.std.specs.Prelude.{◌≡◌, ◌≢◌, ◌<◌, ◌≤◌, [], length, None, Some, Err};
+ghost use Rattle.std.specs.Prelude.{◌≡◌, ◌≢◌, ◌<◌, ◌≤◌, length, None, Some, Err};
 ghost use Rattle.std.specs.Borrow.{sem};
 ghost use Rattle.nr_model.specs.Batches.{IsBatch};
 ghost use Rattle.nr_board.specs.Callers.{KnowsOwn};
 ghost use Rattle.nr_board.specs.Meetings.{HearsNote, known_to, with_step};
 ghost use Rattle.nr_board.specs.WriterAnswers.{CancelsKey, EvictsKey, ReplacesKey, UpdatesKey};
+ghost use Rattle.nr_serve.specs.Counts.{IsNew, OnlyLooks};
 
-use crate::lobby::Lobby;
-use crate::raiser::Raiser;
+use crate::raiser::{Raiser, Rung};
+use crate::service::Service;
 use crate::source::Source;
 use nr_map::{
     Cancel, Evict, FillFault, NoSlot, Note, ReaderMap, ReplaceFault, UpdateFault, Writer, laws,
@@ -50,34 +51,28 @@ impl<'a, S> Model for Dataflow<'a, S> {
 
     ghost Value = { FlowSeen S };
 
-    ghost view = { λ flow. record { map = flow.map.now; queue = flow.triggers.now; writer = flow.writer; taker = flow.taker; kept = flow.kept; source = flow.source; raised = flow.raiser } };
+    ghost view = { λ flow. record { map = flow.map.now; queue = flow.triggers.now; writer = flow.writer; taker = flow.taker; kept = flow.kept; source = flow.source; guest = flow.raiser } };
 
     ghost invariant = { λ flow. IsPlaced flow.map.now flow.triggers.now flow.writer flow.taker flow.kept };
 }
 
 impl<'a, S: Source> Dataflow<'a, S> {
     ghost use Rattle.nr_map.specs.SlotBounds.{HasRoomForAll};
-    ghost use Rattle.nr_serve.specs.Turns.{CancelRaises, FillsPost, Nexts, Turns};
+    ghost use Rattle.nr_serve.specs.Turns.{AwaitsPost, CancelRaises, FillsPost, Nexts, Turns};
     ghost use Rattle.nr_serve.specs.Lending.{LendsSource};
 
-    /// The dataflow of a map and a queue, whose tickets are all of keys of the map.
-    pub fn open(
-        map: &'a ReaderMap,
-        writer: Writer,
-        triggers: &'a Triggers,
-        taker: Taker,
-        source: S,
-        lobby: &'a Lobby,
-    ) -> Dataflow<'a, S>
-        requires map { writer.table ≡ map.now }
-        requires queue { taker.queue ≡ triggers.now.id }
-        requires keys { taker.keys ≤ map.now.shape.keys }
-        ensures { result ≡ record { map = map.now; queue = triggers.now; writer = writer; taker = taker; kept = None; source = source; raised = [] } }
+    /// The dataflow of a service whose queue takes keys of its map alone.
+    pub fn open(service: &'a Service, writer: Writer, taker: Taker, source: S) -> Dataflow<'a, S>
+        requires map { writer.table ≡ service.now.map }
+        requires queue { taker.queue ≡ service.now.queue.id }
+        requires keys { taker.keys ≤ service.now.map.shape.keys }
+        ensures flow { result ≡ record { map = service.now.map; queue = service.now.queue; writer = writer; taker = taker; kept = None; source = source; guest = result.guest } }
+        ensures guest { (result.guest.lobby ≡ service.now.lobby) × IsNew result.guest }
     {
         Dataflow {
-            map,
-            triggers,
-            raiser: Raiser::of(lobby),
+            map: service.map(),
+            triggers: service.triggers(),
+            raiser: Raiser::of(service.lobby()),
             writer,
             taker,
             kept: None,
@@ -126,20 +121,23 @@ impl<'a, S: Source> Dataflow<'a, S> {
         ensures places { (self.new.map ≡ self.old.map) × (self.new.queue ≡ self.old.queue) }
         ensures room { HasRoomForAll self.old.map → (counts : NoSlot) → result ≢ Turn.Kept counts }
     {
-        let rings = self.raiser.rings();
+        let rung = self.raiser.rings(&self.taker);
         let turned = self.turn(rt);
         if let Turn::Idle = turned {
-            self.sleep(rt, rings);
+            self.sleep(rt, &rung);
         }
         turned
     }
 
-    // Sleeps until the bell was rung since it had been rung so often, or the lobby is closed.
-    fn sleep<R: Wait>(&mut self, rt: &R, rings: u64)
-        requires { self.old.kept ≡ None }
-        ensures { self.new ≡ self.old }
+    // Sleeps after one turn since the bell was read, which was idle: until it was rung since, or the
+    // lobby is closed.
+    fn sleep<R: Wait>(&mut self, rt: &R, rung: &Rung)
+        requires none { self.old.kept ≡ None }
+        requires idle { AwaitsPost rung.now.taker.value self.old.taker }
+        ensures looks { OnlyLooks self.old.guest self.new.guest }
+        ensures rest { self.new ≡ record self.old { guest = self.new.guest } }
     {
-        self.raiser.wait_for_ring(rt, rings);
+        self.raiser.wait_for_ring(rt, rung, &self.taker);
     }
 
     // The trigger that is kept, or else the next one of the queue.
@@ -228,8 +226,8 @@ impl<'a, S: Source> Dataflow<'a, S> {
     pub fn cancel<R: Wait>(&mut self, rt: &R, key: u32) -> Cancel
         requires key { key < self.old.map.shape.keys }
         ensures cancels { CancelsKey key self.old.writer self.new.writer result }
-        ensures raised { CancelRaises result key self.old.raised self.new.raised }
-        ensures rest { self.new ≡ record self.old { writer = self.new.writer; raised = self.new.raised } }
+        ensures raised { CancelRaises result key self.old.guest self.new.guest }
+        ensures rest { self.new ≡ record self.old { writer = self.new.writer; guest = self.new.guest } }
     {
         let answer = self.map.cancel(&mut self.writer, key);
         if answer == Cancel::Cancelled {

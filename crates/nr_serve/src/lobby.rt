@@ -1,7 +1,7 @@
 //! Where clients sleep until the dataflow has done something, and the dataflow until something was
 //! posted.
 ghost use Rattle.std.specs.Prelude.{◌≡◌, ◌≢◌, ◌<◌, ◌≤◌, ◌+◌, ◌⊎◌, ◌++◌, ◌∷◌, ◌↔◌, [], IfErr, IfSome, IsTrue, slice_index};
-ghost use Rattle.nr_serve.specs.Counts.{IsLaterOf, IsNew, OnlyLooks, closed_at, group_at, groups_below, raises_for, whole_at};
+ghost use Rattle.nr_serve.specs.Counts.{IsLaterOf, IsNew, OnlyLooks, Raises, closed_at, group_at, groups_below, raises_for, rung_at, whole_at};
 
 use crate::counts::{CLOSED_AT, Counts, Guest};
 use crossbeam_utils::CachePadded;
@@ -11,7 +11,6 @@ use std::alloc::Global;
 use std::hint;
 use std::marker::Model;
 use std::sync::Wait;
-use std::sync::atomic::{AtomicU64, Ordering};
 
 /// How many groups of keys have a count and sleepers of their own.
 const GROUPS: u32 = 64;
@@ -19,18 +18,21 @@ const GROUPS: u32 = 64;
 /// The index of the count of the whole lobby.
 const WHOLE_AT: usize = 512;
 
+/// The index of the bell.
+const RUNG_AT: usize = 528;
+
 /// How often a thread looks before it goes to sleep, since to sleep and wake takes longer than a
 /// fill.
 const LOOKS: u32 = 1_000;
 
 /// Counts that only rise, one for each group of keys and one for all, with those who sleep until
-/// they have risen. A key's group is its number modulo 64. Beside them a bell, which a post rings.
+/// they have risen. A key's group is its number modulo 64. The bell is a count too, which a post
+/// raises.
 #[derive(Drop)]
 pub struct Lobby {
     counts: Counts,
     groups: [CachePadded<EventCount>; 64],
     whole: CachePadded<EventCount>,
-    rings: CachePadded<AtomicU64>,
     rung: CachePadded<EventCount>,
 }
 
@@ -62,7 +64,6 @@ impl Lobby {
             counts,
             groups: std::array::from_fn(|_| CachePadded::new(EventCount::new())),
             whole: CachePadded::new(EventCount::new()),
-            rings: CachePadded::new(AtomicU64::new(0)),
             rung: CachePadded::new(EventCount::new()),
         })
     }
@@ -96,11 +97,10 @@ impl Lobby {
 
     /// Raises each count by one and wakes all sleepers. A raise of a count to 2^64 - 1 closes the
     /// lobby, and later ones change nothing.
-    #[tactic(auto, using(crate::proofs::Later::later_none, crate::proofs::Later::later_both, crate::proofs::Later::raised_more))]
+    #[tactic(auto, using(crate::proofs::Later::raises_none, crate::proofs::Later::raises_both))]
     pub fn raise<R: Wait>(&self, rt: &R, guest: &mut Guest)
         requires { guest.old.lobby ≡ self.now }
-        ensures later { IsLaterOf guest.old guest.new }
-        ensures raised { guest.new.raised ≡ (guest.old.raised ++ groups_below 64) ++ whole_at ∷ [] }
+        ensures { Raises guest.old (groups_below 64 ++ whole_at ∷ []) guest.new }
     {
         for group in 0..GROUPS {
             self.raise_at(rt, guest, 8 * group as usize);
@@ -111,11 +111,10 @@ impl Lobby {
 
     /// Raises the count of this key's group and that of the whole lobby by one, and wakes those who
     /// sleep there. A raise of a count to 2^64 - 1 closes the lobby, and later ones change nothing.
-    #[tactic(auto, using(crate::proofs::Later::later_none, crate::proofs::Later::later_both))]
+    #[tactic(auto, using(crate::proofs::Later::raises_both))]
     pub fn raise_for<R: Wait>(&self, rt: &R, guest: &mut Guest, key: u32)
         requires { guest.old.lobby ≡ self.now }
-        ensures later { IsLaterOf guest.old guest.new }
-        ensures raised { guest.new.raised ≡ guest.old.raised ++ raises_for key }
+        ensures { Raises guest.old (raises_for key) guest.new }
     {
         self.raise_at(rt, guest, group_at(key));
         self.raise_at(rt, guest, WHOLE_AT);
@@ -168,54 +167,42 @@ impl Lobby {
     }
 
     /// Rings the bell, which wakes a dataflow that sleeps until something is posted. A client does
-    /// so after each post; a program that posts in a way of its own must do it too.
-    pub fn ring(&self) {
-        self.rings.fetch_add(1, Ordering::SeqCst);
+    /// so after each post; a program that posts in a way of its own must do it too. A ring to
+    /// 2^64 - 1 closes the lobby.
+    pub fn ring<R: Wait>(&self, rt: &R, guest: &mut Guest)
+        requires { guest.old.lobby ≡ self.now }
+        ensures { Raises guest.old (rung_at ∷ []) guest.new }
+    {
+        self.raise_at(rt, guest, RUNG_AT);
         self.rung.notify_all();
     }
 
-    // How often the bell was rung, modulo 2^64.
-    pub(crate) fn rings(&self) -> u64 {
-        self.rings.load(Ordering::SeqCst)
-    }
-
-    // Sleeps until the bell was rung since it had been rung so often, or the lobby is closed.
-    #[tactic(auto, using(crate::proofs::Later::looks_none, crate::proofs::Later::looks_both))]
-    pub(crate) fn wait_for_ring<R: Wait>(&self, rt: &R, guest: &mut Guest, rings: u64)
+    // How often the bell was rung, up to 2^64 - 1.
+    pub(crate) fn rings(&self, guest: &mut Guest) -> u64
         requires { guest.old.lobby ≡ self.now }
-        ensures { OnlyLooks guest.old guest.new }
+        ensures looks { OnlyLooks guest.old guest.new }
+        ensures found { slice_index guest.new.seen rung_at ≡ result }
     {
-        if self.is_soon_rung(rings) {
-            return;
-        }
-        for _ in rt.forever() {
-            let wait = self.rung.prepare_wait();
-            if self.rings() != rings || self.is_closed(guest) {
-                return;
-            }
-            wait.wait(rt);
-        }
-        unreachable!()
+        self.counts.at(guest, RUNG_AT)
     }
 
-    // Looks for a short while whether the bell is rung.
-    fn is_soon_rung(&self, rings: u64) -> bool {
-        for _ in 0..LOOKS {
-            if self.rings() != rings {
-                return true;
-            }
-            hint::spin_loop();
-        }
-        false
+    // Sleeps while the bell was rung at most that often and the lobby isn't closed, and tells how
+    // often it was rung.
+    pub(crate) fn wait_for_ring<R: Wait>(&self, rt: &R, guest: &mut Guest, rings: u64) -> u64
+        requires { guest.old.lobby ≡ self.now }
+        ensures looks { OnlyLooks guest.old guest.new }
+        ensures past { (rings < result) ⊎ (0 < slice_index guest.new.seen closed_at) }
+        ensures between { (slice_index guest.old.seen rung_at ≤ result) × (result ≤ slice_index guest.new.seen rung_at) }
+    {
+        self.wait_at(rt, guest, RUNG_AT, &self.rung, rings)
     }
 
     // The last raise closes the lobby before it is made.
-    #[tactic(auto, using(crate::proofs::Later::later_none, crate::proofs::Later::later_both))]
+    #[tactic(auto, using(crate::proofs::Later::raises_none, crate::proofs::Later::raises_then_looks, crate::proofs::Later::raises_then_closes, crate::proofs::Later::raises_then_steps))]
     fn raise_at<R: Wait>(&self, rt: &R, guest: &mut Guest, place: usize)
         requires lobby { guest.old.lobby ≡ self.now }
-        requires place { (place < 528) × (place ≢ closed_at) }
-        ensures later { IsLaterOf guest.old guest.new }
-        ensures raised { guest.new.raised ≡ guest.old.raised ++ place ∷ [] }
+        requires place { (place < 536) × (place ≢ closed_at) }
+        ensures { Raises guest.old (place ∷ []) guest.new }
     {
         for _ in rt.forever() {
             let count = self.counts.at(guest, place);
@@ -241,7 +228,7 @@ impl Lobby {
         n: u64,
     ) -> u64
         requires lobby { guest.old.lobby ≡ self.now }
-        requires place { place < 528 }
+        requires place { place < 536 }
         ensures looks { OnlyLooks guest.old guest.new }
         ensures past { (n < result) ⊎ (0 < slice_index guest.new.seen closed_at) }
         ensures between { (slice_index guest.old.seen place ≤ result) × (result ≤ slice_index guest.new.seen place) }
@@ -263,7 +250,7 @@ impl Lobby {
     #[tactic(auto, using(crate::proofs::Later::looks_none, crate::proofs::Later::looks_both))]
     fn soon_past(&self, guest: &mut Guest, place: usize, n: u64) -> Option<u64>
         requires lobby { guest.old.lobby ≡ self.now }
-        requires place { place < 528 }
+        requires place { place < 536 }
         ensures looks { OnlyLooks guest.old guest.new }
         ensures past { IfSome result (λ count. (n < count) ⊎ (0 < slice_index guest.new.seen closed_at)) }
         ensures between { IfSome result (λ count. (slice_index guest.old.seen place ≤ count) × (count ≤ slice_index guest.new.seen place)) }
@@ -281,7 +268,7 @@ impl Lobby {
     #[tactic(auto, using(crate::proofs::Later::looks_both))]
     fn past(&self, guest: &mut Guest, place: usize, n: u64) -> Option<u64>
         requires lobby { guest.old.lobby ≡ self.now }
-        requires place { place < 528 }
+        requires place { place < 536 }
         ensures looks { OnlyLooks guest.old guest.new }
         ensures past { IfSome result (λ count. (n < count) ⊎ (0 < slice_index guest.new.seen closed_at)) }
         ensures between { IfSome result (λ count. (slice_index guest.old.seen place ≤ count) × (count ≤ slice_index guest.new.seen place)) }

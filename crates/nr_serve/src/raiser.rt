@@ -1,14 +1,23 @@
 //! The lobby as a dataflow has it.
-ghost use Rattle.std.specs.Prelude.{◌≡◌, ◌++◌, []};
-ghost use Rattle.nr_serve.specs.Counts.{raises_for};
+ghost use Rattle.std.specs.Prelude.{◌≡◌, slice_index};
+ghost use Rattle.nr_serve.specs.Counts.{IsNew, OnlyLooks, Raises, raises_for, rung_at};
+ghost use Rattle.nr_serve.specs.Turns.{AwaitsPost};
 
 use crate::counts::Guest;
 use crate::lobby::Lobby;
+use nr_trigger::Taker;
 use std::marker::Model;
+use std::snapshot::Snapshot;
 use std::sync::Wait;
 
-/// A lobby with the dataflow's own guest, through which alone it is raised here. Contracts see the
-/// raises that were made.
+/// How often the bell was rung, and what the taker had taken when that was read.
+#[derive(Drop)]
+pub(crate) struct Rung {
+    rings: u64,
+    taker: Snapshot<Taker>,
+}
+
+/// A lobby with the dataflow's own guest, through which alone it is raised here.
 #[derive(Drop)]
 pub(crate) struct Raiser<'a> {
     lobby: &'a Lobby,
@@ -16,18 +25,20 @@ pub(crate) struct Raiser<'a> {
 }
 
 impl<'a> Model for Raiser<'a> {
-    ghost use Rattle.std.specs.Prelude.{◌≡◌, ℕ, List};
+    ghost use Rattle.std.specs.Prelude.{◌≡◌};
+    ghost use Rattle.nr_serve.specs.Counts.{GuestSeen};
 
-    ghost Value = { List ℕ };
+    ghost Value = { GuestSeen };
 
-    ghost view = { λ raiser. raiser.guest.raised };
+    ghost view = { λ raiser. raiser.guest };
 
     ghost invariant = { λ raiser. raiser.guest.lobby ≡ raiser.lobby.now };
 }
 
 impl<'a> Raiser<'a> {
     pub(crate) fn of(lobby: &'a Lobby) -> Raiser<'a>
-        ensures { result ≡ [] }
+        ensures lobby { result.lobby ≡ lobby.now }
+        ensures new { IsNew result }
     {
         let guest = lobby.guest();
         Raiser { lobby, guest }
@@ -35,20 +46,30 @@ impl<'a> Raiser<'a> {
 
     /// Raises the count of this key's group and that of the whole lobby.
     pub(crate) fn raise_for<R: Wait>(&mut self, rt: &R, key: u32)
-        ensures { self.new ≡ self.old ++ raises_for key }
+        ensures { Raises self.old (raises_for key) self.new }
     {
         self.lobby.raise_for(rt, &mut self.guest, key);
     }
 
-    /// How often the bell was rung, modulo 2^64.
-    pub(crate) fn rings(&self) -> u64 {
-        self.lobby.rings()
+    /// How often the bell was rung, for a dataflow that looks then what was posted.
+    pub(crate) fn rings(&mut self, taker: &Taker) -> Rung
+        ensures looks { OnlyLooks self.old self.new }
+        ensures found { slice_index self.new.seen rung_at ≡ result.rings }
+        ensures taker { result.taker.value ≡ taker.now }
+    {
+        Rung {
+            rings: self.lobby.rings(&mut self.guest),
+            taker: Snapshot::of(taker),
+        }
     }
 
-    /// Sleeps until the bell was rung since it had been rung so often, or the lobby is closed.
-    pub(crate) fn wait_for_ring<R: Wait>(&mut self, rt: &R, rings: u64)
-        ensures { self.new ≡ self.old }
+    /// Sleeps after one look since the bell was read, which found nothing posted: until it was rung
+    /// since, or the lobby is closed.
+    pub(crate) fn wait_for_ring<R: Wait>(&mut self, rt: &R, rung: &Rung, taker: &Taker)
+        requires { AwaitsPost rung.now.taker.value taker.now }
+        ensures { OnlyLooks self.old self.new }
     {
-        self.lobby.wait_for_ring(rt, &mut self.guest, rings);
+        let _ = taker;
+        self.lobby.wait_for_ring(rt, &mut self.guest, rung.rings);
     }
 }

@@ -9,14 +9,14 @@ pub trait Source {
     ghost use Rattle.std.specs.Prelude.{ℕ, List};
     ghost use Rattle.nr_model.specs.declared.rows.Row.{Row};
 
-    /// What a source says of the rows that it gives: of itself before, the key, the rows, and
-    /// itself after. Nothing, unless it says so.
-    ghost gives: { Self → ℕ → List Row → Self → Type 0 } = { λ _ _ _ _. Unit {0} };
+    /// What a source says of the rows that it gives: of itself before, the key, the bound that it
+    /// was told, the rows, and itself after. Nothing, unless it says so.
+    ghost gives: { Self → (key bound : ℕ) → List Row → Self → Type 0 } = { λ _ _ _ _ _. Unit {0} };
 
     /// Puts the rows of a key, at most `bound` of them, a number from 1 to `MAX_ROWS`, into the room
     /// that it is handed, in place of what an earlier call left there.
     fn rows(&mut self, key: u32, bound: u32, room: &mut RowSet)
         requires bound { (0 < bound) × (bound ≤ MAX_ROWS) }
         ensures few { length room.new ≤ bound }
-        ensures gives { gives self.old key room.new self.new };
+        ensures gives { gives self.old key bound room.new self.new };
 }

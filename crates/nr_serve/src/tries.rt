@@ -5,6 +5,7 @@ ghost use Rattle.nr_serve.specs.Counts.{OnlyLooks};
 ghost use Rattle.nr_serve.specs.Gates.{AsksGate, AsksOnce};
 ghost use Rattle.nr_serve.specs.Gets.{AnswersPin, Gets, LeavesKept, MissesOnce, TriesOnce, kept_attempts, requested, sent_attempts};
 ghost use Rattle.nr_serve.specs.Hands.{IsReady, Moves};
+ghost use Rattle.nr_serve.specs.Rings.{Rings};
 
 use crate::answers::{Got, Requested, Tried};
 use crate::gate::Gate;
@@ -22,17 +23,19 @@ const MAX_PASSES: u32 = 1_000_000;
 
 // Posts the ticket that is kept, which stays where the queue is full.
 #[inline(always)]
+#[tactic(auto, using(crate::proofs::Ringing::rings_same, crate::proofs::Ringing::rings_once, crate::proofs::Ringing::rings_none))]
 fn post_kept<R: Wait>(
     rt: &R,
     map: &ReaderMap,
     triggers: &Triggers,
-    lobby: &Watched<'_>,
+    lobby: &mut Watched<'_>,
     hands: Hands,
 ) -> Hands
     requires { IsReady map.now triggers.now hands }
     ensures ready { IsReady map.now triggers.now result }
     ensures moves { Moves 0 hands [] result }
     ensures attempts { result.poster.tries ≡ hands.poster.tries + kept_attempts hands.kept }
+    ensures rings { Rings hands lobby.old result lobby.new }
 {
     let Hands {
         reader,
@@ -44,7 +47,7 @@ fn post_kept<R: Wait>(
         None => None,
         Some(ticket) => match triggers.post(rt, &mut poster, ticket) {
             Ok(()) => {
-                lobby.ring();
+                lobby.ring(rt);
                 None
             }
             Err(ticket) => Some(ticket),
@@ -55,11 +58,12 @@ fn post_kept<R: Wait>(
 
 // Requests the key unless a ticket is kept, and posts the ticket of a request that is to be sent.
 #[inline(never)]
+#[tactic(auto, using(crate::proofs::Ringing::rings_same))]
 fn request<R: Wait>(
     rt: &R,
     map: &ReaderMap,
     triggers: &Triggers,
-    lobby: &Watched<'_>,
+    lobby: &mut Watched<'_>,
     key: u32,
     hands: Hands,
 ) -> (Requested, Hands)
@@ -69,6 +73,7 @@ fn request<R: Wait>(
     ensures moves { Moves (length (requested hands.reader.number key result.0)) hands (requested hands.reader.number key result.0) result.1 }
     ensures leaves { LeavesKept result.0 result.1.kept }
     ensures attempts { result.1.poster.tries ≡ hands.poster.tries + sent_attempts result.0 }
+    ensures rings { Rings hands lobby.old result.1 lobby.new }
 {
     let Hands {
         mut reader,
@@ -132,7 +137,7 @@ fn answer<G: Gate>(places: &Places<'_, G>, get: u64, pin: Pin, rows: &mut RowSet
 fn try_once<G: Gate, R: Wait>(
     rt: &R,
     places: &Places<'_, G>,
-    lobby: &Watched<'_>,
+    lobby: &mut Watched<'_>,
     get: u64,
     key: u32,
     hands: Hands,
@@ -142,6 +147,7 @@ fn try_once<G: Gate, R: Wait>(
     requires key { key < places.now.map.now.shape.keys }
     ensures ready { IsReady places.now.map.now places.now.triggers.now result.1 }
     ensures tries { TriesOnce key hands rows.old result.0 result.1 rows.new }
+    ensures rings { Rings hands lobby.old result.1 lobby.new }
     ensures asks { AsksOnce G.lets G.hears places.now.gate.now places.now.reader get result.0 }
 {
     let Hands {
@@ -184,7 +190,6 @@ fn sleep_if<R: Wait>(
 
 /// Tries to get the rows of a key, and sleeps in the lobby between two tries where an upquery is
 /// under way, until the count of the key's group has gone past what it was before the try.
-#[tactic(auto, using(crate::proofs::Later::looks_none, crate::proofs::Later::looks_both))]
 pub(crate) fn get_by_tries<G: Gate, R: Wait>(
     rt: &R,
     places: &Places<'_, G>,
@@ -200,7 +205,7 @@ pub(crate) fn get_by_tries<G: Gate, R: Wait>(
     ensures ready { IsReady places.now.map.now places.now.triggers.now result.1 }
     ensures gets { Gets key tries hands rows.old result.0 result.1 rows.new }
     ensures at_once { tries ≡ 0 → result.1 ≡ hands }
-    ensures looks { OnlyLooks lobby.old lobby.new }
+    ensures rings { Rings hands lobby.old result.1 lobby.new }
     ensures asks { AsksGate G.lets G.hears places.now.gate.now places.now.reader get result.0 }
 {
     let mut hands = hands;

@@ -1,6 +1,6 @@
 //! The lobby as a client has it.
-ghost use Rattle.std.specs.Prelude.{◌≡◌};
-ghost use Rattle.nr_serve.specs.Counts.{IsNew, OnlyLooks};
+ghost use Rattle.std.specs.Prelude.{◌≡◌, ◌∷◌, [], slice_index};
+ghost use Rattle.nr_serve.specs.Counts.{IsNew, OnlyLooks, Raises, group_at, rung_at};
 ghost use Rattle.nr_serve.specs.Gets.{AwaitsFill};
 
 use crate::answers::Requested;
@@ -19,8 +19,8 @@ pub(crate) struct Counted {
     hands: Snapshot<Hands>,
 }
 
-/// A lobby with a client's own guest, by which alone one looks and sleeps there. It is neither raised
-/// nor closed through this.
+/// A lobby with a client's own guest, by which alone one looks, sleeps and rings the bell there.
+/// Nothing else of it is raised through this.
 #[derive(Drop)]
 pub(crate) struct Watched<'a> {
     lobby: &'a Lobby,
@@ -40,7 +40,8 @@ impl<'a> Model for Watched<'a> {
 
 impl<'a> Watched<'a> {
     pub(crate) fn of(lobby: &'a Lobby) -> Watched<'a>
-        ensures { IsNew result }
+        ensures lobby { result.lobby ≡ lobby.now }
+        ensures new { IsNew result }
     {
         let guest = lobby.guest();
         Watched { lobby, guest }
@@ -50,6 +51,7 @@ impl<'a> Watched<'a> {
     #[inline(always)]
     pub(crate) fn count_for(&mut self, key: u32, hands: &Hands) -> Counted
         ensures looks { OnlyLooks self.old self.new }
+        ensures found { slice_index self.new.seen (group_at key) ≡ result.count }
         ensures key { result.key ≡ key }
         ensures hands { result.hands.value ≡ hands.now }
     {
@@ -78,7 +80,10 @@ impl<'a> Watched<'a> {
             .wait_past_for(rt, &mut self.guest, counted.key, counted.count);
     }
 
-    pub(crate) fn ring(&self) {
-        self.lobby.ring();
+    /// Rings the bell, once a ticket was posted.
+    pub(crate) fn ring<R: Wait>(&mut self, rt: &R)
+        ensures { Raises self.old (rung_at ∷ []) self.new }
+    {
+        self.lobby.ring(rt, &mut self.guest);
     }
 }

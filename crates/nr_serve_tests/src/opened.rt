@@ -4,7 +4,7 @@ ghost use Rattle.std.specs.Prelude.{◌≡◌, ◌<◌, ◌≤◌, IfOk, length}
 use crate::gates::Noting;
 use nr_map::{Reader, ReaderMap, Writer};
 use nr_model::{Row, RowSet};
-use nr_serve::{Client, Dataflow, Gate, Got, Lobby, Source, Turn};
+use nr_serve::{Client, Dataflow, Gate, Got, Lobby, Service, Source, Turn};
 use nr_trigger::{Poster, Taker, Triggers};
 use std::alloc::Global;
 use std::marker::Model;
@@ -51,57 +51,60 @@ pub(crate) fn two_readers(
     }
 }
 
-// A queue of two places for tickets of keys below 2, with its one poster.
-fn one_poster(alloc: Global) -> Result<(Triggers, Taker, Poster), Fail>
+// A queue for tickets of keys below 2, with its one poster.
+fn one_poster(alloc: Global, capacity: u32) -> Result<(Triggers, Taker, Poster), Fail>
+    requires { (0 < capacity) × (capacity ≤ 2) }
     ensures taker { IfOk result (λ opened. (opened.1.queue ≡ opened.0.id) × (opened.1.keys ≡ 2)) }
     ensures poster { IfOk result (λ opened. (opened.2.queue ≡ opened.0.id) × (opened.2.keys ≡ 2)) }
 {
-    let (triggers, mut posters, taker) = Triggers::open(alloc, 2, 1)?;
+    let (triggers, mut posters, taker) = Triggers::open(alloc, capacity, 1)?;
     match posters.pop() {
         Some(poster) => Ok((triggers, taker, poster)),
         None => Err(Fail::from("no poster")),
     }
 }
 
-/// A map of two keys and a queue of their tickets, with a token of each kind and a lobby.
+/// A map of two keys, a queue of their tickets and a lobby, with a token of each kind.
 #[derive(Drop)]
 pub(crate) struct Opened {
-    pub(crate) map: ReaderMap,
-    pub(crate) triggers: Triggers,
+    pub(crate) service: Service,
     pub(crate) writer: Writer,
     pub(crate) taker: Taker,
     pub(crate) reader: Reader,
     pub(crate) poster: Poster,
-    pub(crate) lobby: Lobby,
 }
 
 impl Model for Opened {
     ghost use Rattle.std.specs.Prelude.{◌≡◌};
-    ghost use Rattle.nr_board.specs.Callers.{Table};
-    ghost use Rattle.nr_trigger.specs.Tokens.{Queue};
+    ghost use Rattle.nr_serve.specs.Services.{ServiceSeen};
 
-    ghost Value = { Table × Queue };
+    ghost Value = { ServiceSeen };
 
-    ghost view = { λ opened. (opened.map, opened.triggers) };
+    ghost view = { λ opened. opened.service };
 
-    ghost invariant = { λ opened. (opened.map.shape.keys ≡ 2)
-        × (opened.writer.table ≡ opened.map) × (opened.reader.table ≡ opened.map)
-        × (opened.taker.queue ≡ opened.triggers.id) × (opened.taker.keys ≡ 2)
-        × (opened.poster.queue ≡ opened.triggers.id) × (opened.poster.keys ≡ 2) };
+    ghost invariant = { λ opened. (opened.service.map.shape.keys ≡ 2)
+        × (opened.writer.table ≡ opened.service.map) × (opened.reader.table ≡ opened.service.map)
+        × (opened.taker.queue ≡ opened.service.queue.id) × (opened.taker.keys ≡ 2)
+        × (opened.poster.queue ≡ opened.service.queue.id) × (opened.poster.keys ≡ 2) };
 }
 
 impl Opened {
     pub(crate) fn open(alloc: Global, slots: u32) -> Result<Opened, Fail> {
+        Opened::with_room(alloc, slots, 2)
+    }
+
+    /// With a queue of that many places.
+    pub(crate) fn with_room(alloc: Global, slots: u32, capacity: u32) -> Result<Opened, Fail>
+        requires { (0 < capacity) × (capacity ≤ 2) }
+    {
         let (map, writer, reader, _two) = two_readers(alloc, 2, slots)?;
-        let (triggers, taker, poster) = one_poster(alloc)?;
+        let (triggers, taker, poster) = one_poster(alloc, capacity)?;
         Ok(Opened {
-            map,
-            triggers,
+            service: Service::of(map, triggers, Lobby::open(alloc)?),
             writer,
             taker,
             reader,
             poster,
-            lobby: Lobby::open(alloc)?,
         })
     }
 }

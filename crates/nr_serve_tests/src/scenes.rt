@@ -127,19 +127,17 @@ impl Scene {
 // Plays the scene with a client and a dataflow of what was opened.
 fn play_in<R: Abort + Wait>(rt: &R, scene: Scene, opened: Opened) {
     let Opened {
-        map,
-        triggers,
+        service,
         writer,
         taker,
         reader,
         poster,
-        lobby,
     } = opened;
     let gate = Noting::from(scene.first());
     let source = Plain { bound: 0 };
-    let mut client = Client::open(&map, reader, &triggers, poster, &lobby, &gate);
-    let mut flow = Dataflow::open(&map, writer, &triggers, taker, source, &lobby);
-    scene.play(rt, &lobby, &gate, &mut client, &mut flow);
+    let mut client = Client::open(&service, reader, poster, &gate);
+    let mut flow = Dataflow::open(&service, writer, taker, source);
+    scene.play(rt, service.lobby(), &gate, &mut client, &mut flow);
     end_client(client);
     end_flow(flow);
 }

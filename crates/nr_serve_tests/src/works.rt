@@ -35,27 +35,26 @@ fn works<R: Wait>(rt: &R, alloc: Global, client: &mut Client<'_, OpenGate>, lobb
     ensures { client.new.map ≡ client.old.map }
 {
     let mut draws = Draws::open(1, 1, 1);
-    load_gets(rt, alloc, client, &mut draws, 5, lobby)
+    load_gets(rt, alloc, client, &mut draws, 5, lobby).0
 }
 
 // The worker's gets where a liar filled its key, and then in a closed lobby; and whether tokens kept something.
 fn works_twice<R: Abort + Wait>(rt: &R, alloc: Global, opened: Opened) -> ([Worked; 2], bool) {
     let Opened {
-        map,
-        triggers,
+        service,
         writer,
         taker,
         reader,
         poster,
-        lobby,
     } = opened;
     let gate = OpenGate;
-    let mut client = Client::open(&map, reader, &triggers, poster, &lobby, &gate);
-    let mut flow = Dataflow::open(&map, writer, &triggers, taker, Liar, &lobby);
+    let mut client = Client::open(&service, reader, poster, &gate);
+    let mut flow = Dataflow::open(&service, writer, taker, Liar);
     lies(rt, &mut client, &mut flow);
-    let first = works(rt, alloc, &mut client, &lobby);
+    let lobby = service.lobby();
+    let first = works(rt, alloc, &mut client, lobby);
     lobby.close(&mut lobby.guest());
-    let second = works(rt, alloc, &mut client, &lobby);
+    let second = works(rt, alloc, &mut client, lobby);
     let kept = (end_client(client), end_flow(flow));
     ([first, second], kept != (false, false))
 }

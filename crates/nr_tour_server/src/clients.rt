@@ -3,11 +3,11 @@ ghost use Rattle.std.specs.Prelude.{◌≡◌};
 
 use crate::queue::{Server, opened_server};
 use crate::source::Shelf;
-use nr_map::{Reader, ReaderMap, Writer};
+use nr_map::{Reader, Writer};
 use nr_model::{OpenFault, RowSet};
-use nr_serve::{Client, Dataflow, Got, Lobby, OpenGate, Turn};
+use nr_serve::{Client, Dataflow, Got, Lobby, OpenGate, Service, Turn};
 use nr_tour_parts::Page;
-use nr_trigger::{Poster, Taker, Triggers};
+use nr_trigger::{Poster, Taker};
 use std::alloc::Global;
 use std::sync::Wait;
 use std::thread::{self, Threads};
@@ -21,19 +21,12 @@ struct Served {
 
 // A client's thread: a reader and a poster in one hand. It asks where the key is missing, posts the
 // ticket, and sleeps in the lobby until the dataflow has done something.
-fn get_rows<R: Wait>(
-    rt: &R,
-    map: &ReaderMap,
-    triggers: &Triggers,
-    lobby: &Lobby,
-    reader: Reader,
-    poster: Poster,
-) -> Served
-    requires map { (reader.table ≡ map.now) × (map.now.shape.keys ≡ 2) }
-    requires queue { (poster.queue ≡ triggers.now.id) × (poster.keys ≡ 2) }
+fn get_rows<R: Wait>(rt: &R, service: &Service, reader: Reader, poster: Poster) -> Served
+    requires map { (reader.table ≡ service.now.map) × (service.now.map.shape.keys ≡ 2) }
+    requires queue { (poster.queue ≡ service.now.queue.id) × (poster.keys ≡ 2) }
 {
     let gate = OpenGate;
-    let mut client = Client::open(map, reader, triggers, poster, lobby, &gate);
+    let mut client = Client::open(service, reader, poster, &gate);
     let mut rows = RowSet::new();
     let got = client.get(rt, 1, 3, &mut rows);
     let sends = client.sends();
@@ -47,19 +40,12 @@ fn get_rows<R: Wait>(
 
 // The dataflow's thread: a turn takes a ticket, asks the source and fills, and one that finds nothing
 // sleeps until a client posts. This one ends with the first key that it filled.
-fn fill_one<R: Wait>(
-    rt: &R,
-    map: &ReaderMap,
-    triggers: &Triggers,
-    lobby: &Lobby,
-    writer: Writer,
-    taker: Taker,
-)
-    requires map { (writer.table ≡ map.now) × (map.now.shape.keys ≡ 2) }
-    requires queue { (taker.queue ≡ triggers.now.id) × (taker.keys ≡ 2) }
+fn fill_one<R: Wait>(rt: &R, service: &Service, writer: Writer, taker: Taker)
+    requires map { (writer.table ≡ service.now.map) × (service.now.map.shape.keys ≡ 2) }
+    requires queue { (taker.queue ≡ service.now.queue.id) × (taker.keys ≡ 2) }
 {
     let source = Shelf { b: 100 };
-    let mut flow = Dataflow::open(map, writer, triggers, taker, source, lobby);
+    let mut flow = Dataflow::open(service, writer, taker, source);
     for _ in rt.forever() {
         match flow.turn_or_sleep(rt) {
             Turn::Filled(_) => break,
@@ -67,6 +53,7 @@ fn fill_one<R: Wait>(
         }
     }
     // Nobody fills a key from now on, so nobody may sleep for one.
+    let lobby = service.lobby();
     lobby.close(&mut lobby.guest());
     let (_writer, _taker, kept, _source) = flow.end();
     if let Some(trigger) = kept {
@@ -79,35 +66,33 @@ fn fill_one<R: Wait>(
 // whose dataflow comes later sleeps for ever.
 fn serve_beside<R: Threads + Wait + Sync>(
     rt: &R,
-    map: &ReaderMap,
-    triggers: &Triggers,
+    service: &Service,
     reader: Reader,
     poster: Poster,
     writer: Writer,
     taker: Taker,
-    lobby: &Lobby,
 ) -> Option<Served>
-    requires map { (reader.table ≡ map.now) × (writer.table ≡ map.now) × (map.now.shape.keys ≡ 2) }
-    requires poster { (poster.queue ≡ triggers.now.id) × (poster.keys ≡ 2) }
-    requires taker { (taker.queue ≡ triggers.now.id) × (taker.keys ≡ 2) }
+    requires map { (reader.table ≡ service.now.map) × (writer.table ≡ service.now.map) × (service.now.map.shape.keys ≡ 2) }
+    requires poster { (poster.queue ≡ service.now.queue.id) × (poster.keys ≡ 2) }
+    requires taker { (taker.queue ≡ service.now.queue.id) × (taker.keys ≡ 2) }
 {
     thread::scope(
         thread::scope_env(),
         rt,
         |scope| -> Option<Served>
-            requires map { (reader.table ≡ map.now) × (writer.table ≡ map.now) × (map.now.shape.keys ≡ 2) }
-            requires poster { (poster.queue ≡ triggers.now.id) × (poster.keys ≡ 2) }
-            requires taker { (taker.queue ≡ triggers.now.id) × (taker.keys ≡ 2) }
+            requires map { (reader.table ≡ service.now.map) × (writer.table ≡ service.now.map) × (service.now.map.shape.keys ≡ 2) }
+            requires poster { (poster.queue ≡ service.now.queue.id) × (poster.keys ≡ 2) }
+            requires taker { (taker.queue ≡ service.now.queue.id) × (taker.keys ≡ 2) }
         {
             let flow = scope.spawn(
                 move ||
-                    requires { (writer.table ≡ map.now) × (map.now.shape.keys ≡ 2) × (taker.queue ≡ triggers.now.id) × (taker.keys ≡ 2) }
-                { fill_one(rt, map, triggers, lobby, writer, taker) },
+                    requires { (writer.table ≡ service.now.map) × (service.now.map.shape.keys ≡ 2) × (taker.queue ≡ service.now.queue.id) × (taker.keys ≡ 2) }
+                { fill_one(rt, service, writer, taker) },
             );
             if flow.is_err() {
                 return None;
             }
-            Some(get_rows(rt, map, triggers, lobby, reader, poster))
+            Some(get_rows(rt, service, reader, poster))
         },
     )
 }
@@ -122,9 +107,9 @@ pub fn waited_for<R: Threads + Wait + Sync>(rt: &R, alloc: Global) -> Result<Pag
         poster,
         taker,
     } = opened_server(alloc, 4)?;
-    let lobby = Lobby::open(alloc)?;
+    let service = Service::of(map, triggers, Lobby::open(alloc)?);
     let mut page = Page::titled(alloc, "A client");
-    let served = serve_beside(rt, &map, &triggers, reader, poster, writer, taker, &lobby);
+    let served = serve_beside(rt, &service, reader, poster, writer, taker);
     if let Some(served) = served {
         page.line("it got ", &served.got);
         page.more(": ", &served.rows.as_slice());

@@ -5,7 +5,7 @@ ghost use Rattle.std.specs.Prelude.{◌≡◌};
 use crate::queue::{Server, opened_server};
 use crate::source::Shelf;
 use nr_model::{Batch, Delta, OpenFault, Row, RowSet};
-use nr_serve::{Client, Dataflow, Got, Lobby, OpenGate, Turn};
+use nr_serve::{Client, Dataflow, Got, Lobby, OpenGate, Service, Turn};
 use nr_tour_parts::Page;
 use std::alloc::Global;
 use std::sync::Wait;
@@ -108,12 +108,12 @@ pub fn in_one_hand<R: Wait>(rt: &R, alloc: Global, by: &Batch) -> Result<Page, O
     let server = opened_server(alloc, 4)?;
     let lobby = Lobby::open(alloc)?;
     let mut page = Page::titled(alloc, "A dataflow");
-    work(rt, server, &lobby, by, &mut page);
+    work(rt, server, lobby, by, &mut page);
     Ok(page)
 }
 
 // From here on there is no way out by a `?`.
-fn work<R: Wait>(rt: &R, server: Server, lobby: &Lobby, by: &Batch, page: &mut Page)
+fn work<R: Wait>(rt: &R, server: Server, lobby: Lobby, by: &Batch, page: &mut Page)
     requires map { (server.writer.table ≡ server.map) × (server.reader.table ≡ server.map) × (server.map.shape.keys ≡ 2) }
     requires poster { (server.poster.queue ≡ server.triggers.id) × (server.poster.keys ≡ 2) }
     requires taker { (server.taker.queue ≡ server.triggers.id) × (server.taker.keys ≡ 2) }
@@ -127,8 +127,9 @@ fn work<R: Wait>(rt: &R, server: Server, lobby: &Lobby, by: &Batch, page: &mut P
         taker,
     } = server;
     let source = Shelf { b: 100 };
-    let mut client = Client::open(&map, reader, &triggers, poster, lobby, &OpenGate);
-    let mut flow = Dataflow::open(&map, writer, &triggers, taker, source, lobby);
+    let service = Service::of(map, triggers, lobby);
+    let mut client = Client::open(&service, reader, poster, &OpenGate);
+    let mut flow = Dataflow::open(&service, writer, taker, source);
     change(rt, &mut client, &mut flow, by, page);
     give_up(rt, &mut client, &mut flow, page);
     end(client, flow);

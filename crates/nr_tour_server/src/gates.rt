@@ -2,11 +2,11 @@
 ghost use Rattle.std.specs.Prelude.{◌≡◌};
 
 use crate::queue::{Server, opened_server};
-use nr_map::{Reader, ReaderMap};
+use nr_map::Reader;
 use nr_model::{OpenFault, RowSet};
-use nr_serve::{Client, Gate, Got, Lobby};
+use nr_serve::{Client, Gate, Got, Lobby, Service};
 use nr_tour_parts::{Page, ask_and_fill};
-use nr_trigger::{Poster, Triggers};
+use nr_trigger::Poster;
 use std::alloc::Global;
 use std::sync::Wait;
 use std::sync::atomic::{AtomicU64, Ordering};
@@ -32,17 +32,15 @@ impl Gate for Second {
 // What a client gets that the gate lets pass.
 fn get_through<R: Wait>(
     rt: &R,
-    map: &ReaderMap,
-    triggers: &Triggers,
-    lobby: &Lobby,
+    service: &Service,
     gate: &Second,
     reader: Reader,
     poster: Poster,
 ) -> (Got, RowSet)
-    requires map { (reader.table ≡ map.now) × (map.now.shape.keys ≡ 2) }
-    requires queue { (poster.queue ≡ triggers.now.id) × (poster.keys ≡ 2) }
+    requires map { (reader.table ≡ service.now.map) × (service.now.map.shape.keys ≡ 2) }
+    requires queue { (poster.queue ≡ service.now.queue.id) × (poster.keys ≡ 2) }
 {
-    let mut client = Client::open(map, reader, triggers, poster, lobby, gate);
+    let mut client = Client::open(service, reader, poster, gate);
     let mut rows = RowSet::new();
     let got = client.get(rt, 0, 1, &mut rows);
     let (_reader, _poster, kept) = client.end();
@@ -52,7 +50,7 @@ fn get_through<R: Wait>(
     (got, rows)
 }
 
-fn get_filled<R: Wait>(rt: &R, server: Server, lobby: &Lobby, page: &mut Page)
+fn get_filled<R: Wait>(rt: &R, server: Server, lobby: Lobby, page: &mut Page)
     requires map { (server.writer.table ≡ server.map) × (server.reader.table ≡ server.map) × (server.map.shape.keys ≡ 2) }
     requires queue { (server.poster.queue ≡ server.triggers.id) × (server.poster.keys ≡ 2) }
 {
@@ -69,7 +67,8 @@ fn get_filled<R: Wait>(rt: &R, server: Server, lobby: &Lobby, page: &mut Page)
         asked: AtomicU64::new(0),
         answered: AtomicU64::new(0),
     };
-    let (got, rows) = get_through(rt, &map, &triggers, lobby, &gate, reader, poster);
+    let service = Service::of(map, triggers, lobby);
+    let (got, rows) = get_through(rt, &service, &gate, reader, poster);
     page.line("it was asked ", &gate.asked.load(Ordering::SeqCst));
     page.more(
         " times, and told of ",
@@ -84,6 +83,6 @@ pub fn held_back<R: Wait>(rt: &R, alloc: Global) -> Result<Page, OpenFault> {
     let server = opened_server(alloc, 1)?;
     let lobby = Lobby::open(alloc)?;
     let mut page = Page::titled(alloc, "A gate");
-    get_filled(rt, server, &lobby, &mut page);
+    get_filled(rt, server, lobby, &mut page);
     Ok(page)
 }

@@ -33,7 +33,5 @@ fn raise_for_key<R: Wait>(rt: &R, alloc: Global, page: &mut Page) -> Result<(), 
     let of_key = lobby.wait_past_for(rt, &mut guest, 3, before);
     page.more(" once it was raised\n  raised for key 3: ", &of_key);
     page.more(" there, ", &lobby.count_for(&mut guest, 4));
-    // Who posts without a client wakes the dataflow, if it sleeps.
-    lobby.ring();
     Ok(())
 }

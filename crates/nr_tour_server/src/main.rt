@@ -11,6 +11,7 @@ mod large;
 mod lobbies;
 mod notes;
 mod queue;
+mod services;
 mod source;
 
 use crate::flow::RISE;
@@ -35,7 +36,8 @@ fn show_server<R: AllocGlobal + Print + Threads + Wait + Sync>(rt: &R) -> anyhow
     clients::waited_for(rt, alloc)?.print(rt)?;
     flow::in_one_hand(rt, alloc, &rise)?.print(rt)?;
     gates::held_back(rt, alloc)?.print(rt)?;
-    lobbies::raised_once(rt, alloc)?.print(rt)
+    lobbies::raised_once(rt, alloc)?.print(rt)?;
+    services::without_clients(rt, alloc)?.print(rt)
 }
 
 fn main(rt: HostRuntime) -> anyhow::Result<()> {

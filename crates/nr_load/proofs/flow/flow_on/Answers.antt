@@ -13,13 +13,13 @@ turn_once-turned-requires-clause-base g c =
 
 pub loop-init : goal.loop-init
 loop-init g c =
-    let opened = c.open-flow.ensures in
+    let opened = c.open-flow.ensures.flow in
     record {
       map = ap (λ f. f.map) opened ∙ sym c.requires.own;
       room = subst HasRoomForAll (sym (ap (λ f. f.map) opened)) c.args.shared.now.slots;
       far = so_far_none c.args.writer c.open-flow.result.writer c.open-flow.result.source (ap (λ f. f.writer) opened)
           (ap (λ f. f.source) opened ∙ c.requires.base ∙ ap (λ (t : Table). replicate t.shape.keys 0) (sym c.requires.own));
-      lobby = c.guest-guest.ensures.lobby;
+      lobby = c.guest-guest.ensures.lobby ∙ c.lobby-lobby.ensures;
     }
 
 pub loop-preserved : goal.loop-preserved
@@ -32,12 +32,12 @@ loop-preserved g c =
       lobby = c.is_closed-is_closed.ensures.looks.later.lobby ∙ so_far.lobby;
     }
 
-pub returns : goal.returns
-returns g c =
+pub returns-clause-flows : goal.returns-clause-flows
+returns-clause-flows g c =
     let so_far = c.loop.invariant in
     elim c.match-next.branch [
-      | in-None w ↦ flows_so_far c.args.writer c.end-writer.result.0 c.loop.flow.writer c.loop.fills c.match-next.fills c.loop.flow.source _ so_far.far w.fills-is (c.end-writer.ensures.writer ∙ ap (λ f. f.writer) w.flow-is)
+      | in-None w ↦ flows_so_far c.args.writer c.end-writer.result.0 c.loop.flow.writer c.loop.fills c.match-next.fills c.loop.flow.source _ _ so_far.far w.fills-is (c.end-writer.ensures.writer ∙ ap (λ f. f.writer) w.flow-is)
       | in-Some+then-is_last w ↦ let turned = w.turn_once-turned in
-          flows_last c.args.writer c.loop.flow turned.new.flow turned.result c.loop.fills turned.new.fills so_far.map so_far.far turned.ensures.turns c.end-writer.result.0 c.match-next.fills c.match-next.fault
+          flows_last c.args.writer c.loop.flow turned.new.flow turned.result c.loop.fills turned.new.fills so_far.map so_far.far turned.ensures.turns c.end-writer.result.0 c.match-next.fills c.match-next.fault _
           (tells_right c.match-next.fault w.fault_of-fault.result turned.result w.fault-is w.fault_of-fault.ensures) w.fills-is (c.end-writer.ensures.writer ∙ ap (λ f. f.writer) w.flow-is)
     ]

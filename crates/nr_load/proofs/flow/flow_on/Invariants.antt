@@ -8,5 +8,5 @@ invariant-loop g l = record {
   map : l.flow.map ≡ l.fn.writer.table;
   room : HasRoomForAll l.flow.map;
   far : SoFar l.fn.writer l.flow.writer l.fills l.flow.source;
-  lobby : l.guest.lobby ≡ l.fn.shared.lobby;
+  lobby : l.guest.lobby ≡ l.fn.shared.service.lobby;
 }

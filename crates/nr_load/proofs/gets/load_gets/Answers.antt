@@ -23,7 +23,7 @@ returns-clause-works g c =
     let all : c.loop-made.made ≡ c.args.gets = omega arith in
     subst (λ (fault : Option LoadFault). Works 1000000 c.args.draws.now.keys c.ended-2.result.made c.args.draws.now.generator
     c.ended-2.result.answered none (of_gets fault) c.args.client.now.hands c.loop-made.client.hands c.loop-made.draws.generator)
-    (sym c.ended-2.ensures.fault)
+    (sym c.ended-2.ensures.fault.0)
     (subst (λ (n : ℕ). Works 1000000 c.args.draws.now.keys n c.args.draws.now.generator c.ended-2.result.answered none None c.args.client.now.hands c.loop-made.client.hands c.loop-made.draws.generator) (sym c.ended-2.ensures.made.0)
     (subst (λ (n : ℕ). Works 1000000 c.args.draws.now.keys c.args.gets c.args.draws.now.generator n none None c.args.client.now.hands c.loop-made.client.hands c.loop-made.draws.generator) (sym c.ended-2.ensures.made.1)
     (subst (λ (n : ℕ). Works 1000000 c.args.draws.now.keys n c.args.draws.now.generator c.loop-made.answered none None c.args.client.now.hands c.loop-made.client.hands c.loop-made.draws.generator) all
@@ -78,7 +78,7 @@ returns-in-Some-clause-works g c =
     ends_with 1000000 keys c.loop-made.made c.args.draws.now.generator c.loop-made.answered (replicate keys 0) c.args.client.now.hands
     c.loop-made.known.items c.loop-made.client.hands got.new.client.hands c.loop-made.draws.generator got.result.0 got.new.rows
     got.new.known so_far.begun gets c.in-Some.fault judged in
-    let fault : of_gets end.result.fault ≡ Some c.in-Some.fault = ap of_gets end.ensures.fault ∙ judged_told _ _ _ _ _ _ judged in
+    let fault : of_gets end.result.fault ≡ Some c.in-Some.fault = ap of_gets end.ensures.fault.0 ∙ judged_told _ _ _ _ _ _ judged in
     let answered : end.result.answered ≡ c.loop-made.answered + answers got.result.0 = end.ensures.made.1 ∙ ap (λ (n : ℕ). c.loop-made.answered + n) c.answers_of-answered.ensures in
     subst (λ (n : ℕ). Works 1000000 keys n c.args.draws.now.generator end.result.answered (replicate keys 0) (of_gets end.result.fault) c.args.client.now.hands got.new.client.hands got.new.draws.generator) (sym end.ensures.made.0)
     (subst (λ (n : ℕ). Works 1000000 keys (c.loop-made.made + 1) c.args.draws.now.generator n (replicate keys 0) (of_gets end.result.fault) c.args.client.now.hands got.new.client.hands got.new.draws.generator) (sym answered)

@@ -1,6 +1,7 @@
-use Rattle.std.proofs.Common.{rules, ap, arith}
+use Rattle.std.proofs.Common.{rules, ap, arith, sym, ◌∙◌}
 use Rattle.std.proofs.lemmas.Option.{get_or_from_slice_get}
 use Rattle.nr_machine.specs.declared.shape.Shape.{Shape}
+use Rattle.nr_serve.specs.Services.{ServiceSeen}
 use Rattle.nr_trigger.specs.Tokens.{PosterSeen}
 use Rattle.nr_load.proofs.load.run_load.Goals as goal
 
@@ -13,7 +14,9 @@ serve_all-requires-clause-tokens g c κs within =
       taker = search rules;
       readers = search rules;
       posters = λ at other low.
-          let is = get_or_from_slice_get c.in-Ok-open-2.posters.items at _ other (tokens.posts at (omega (arith, low, tokens.count))) in
-          (ap (λ (poster : PosterSeen). poster.queue) is, omega (arith, ap (λ (poster : PosterSeen). poster.keys) is, keys));
+          let is = get_or_from_slice_get c.in-Ok-open-2.posters.items at _ other (tokens.posts at (omega (arith, low, tokens.count))) in (
+            ap (λ (poster : PosterSeen). poster.queue) is ∙ sym (ap (λ (service : ServiceSeen). service.queue.id) c.of.ensures),
+            omega (arith, ap (λ (poster : PosterSeen). poster.keys) is, keys, ap (λ (service : ServiceSeen). service.map.shape.keys) c.of.ensures),
+          );
       count = search rules;
     }

@@ -1,7 +1,7 @@
 use Rattle.std.proofs.Common.{◌∙◌, subst}
 use Rattle.nr_board.specs.Callers.{Caller}
 use Rattle.nr_load.specs.Flowed.{Flows}
-use Rattle.nr_load.proofs.Joining.{joined_count, served}
+use Rattle.nr_load.proofs.Joining.{joined_count, none_refused, served}
 use Rattle.nr_load.proofs.threads.serve_within.Goals as goal
 
 pub returns : goal.returns
@@ -10,6 +10,6 @@ returns g c =
     let kept = c.join_all-outcomes.ensures in
     record {
       served = served c.args.shared.now.plan.seed c.args.shared.now.plan.gets _ _ _ begun.readers kept;
-      whole = λ whole. joined_count _ _ kept ∙ begun.whole whole;
+      whole = λ whole. joined_count _ _ kept ∙ begun.whole (none_refused _ _ c.is_none.ensures whole);
       flowed = subst (λ (writer : Caller). Flows writer c.join-flowed.result) c.in_ok-flow.ensures c.join-flowed.ensures;
     }

@@ -12,21 +12,21 @@ use Rattle.nr_load.proofs.Few.{works_few}
 use Rattle.nr_load.proofs.Sending.{since_gained}
 use Rattle.nr_load.proofs.workers.work.Goals as goal
 
-pub returns : goal.returns
-returns g c =
-    let load = c.load_gets-worked in
+pub returns-clause-serves : goal.returns-clause-serves
+returns-clause-serves g c =
+    let load = c.load_gets-guest in
     let old = c.open-client.result.hands in
     let new = load.new.client.hands in
-    let table : c.args.shared.now.map ≡ c.args.reader.table = sym c.requires.own in
-    let keys : c.open-draws.result.keys ≡ c.args.reader.table.shape.keys = c.open-draws.ensures.keys ∙ c.keys.ensures ∙ ap (λ (t : Table). t.shape.keys) table in
+    let table : c.args.shared.now.service.map ≡ c.args.reader.table = sym c.requires.own in
+    let keys : c.open-draws.result.keys ≡ c.args.reader.table.shape.keys = c.open-draws.ensures.keys ∙ c.keys.ensures ∙ ap (λ (t : Table). t.shape.keys) (c.map.ensures ∙ table) in
     let stream : c.open-draws.result.generator ≡ stream_of c.args.shared.now.plan.seed c.args.reader.number = c.open-draws.ensures.generator ∙ ap (stream_of c.args.shared.now.plan.seed) c.number.ensures.number in
-    let works : Works 1000000 c.args.reader.table.shape.keys load.result.made (stream_of c.args.shared.now.plan.seed c.args.reader.number)
-    load.result.answered (replicate c.args.reader.table.shape.keys 0) (of_gets load.result.fault) old new load.new.draws.generator =
-    subst (λ (k : ℕ). Works 1000000 k load.result.made (stream_of c.args.shared.now.plan.seed c.args.reader.number) load.result.answered (replicate k 0) (of_gets load.result.fault) old new load.new.draws.generator) keys
-    (subst (λ (x : Lcg). Works 1000000 c.open-draws.result.keys load.result.made x load.result.answered (replicate c.open-draws.result.keys 0) (of_gets load.result.fault) old new load.new.draws.generator) stream load.ensures.works) in
+    let works : Works 1000000 c.args.reader.table.shape.keys load.result.0.made (stream_of c.args.shared.now.plan.seed c.args.reader.number)
+    load.result.0.answered (replicate c.args.reader.table.shape.keys 0) (of_gets load.result.0.fault) old new load.new.draws.generator =
+    subst (λ (k : ℕ). Works 1000000 k load.result.0.made (stream_of c.args.shared.now.plan.seed c.args.reader.number) load.result.0.answered (replicate k 0) (of_gets load.result.0.fault) old new load.new.draws.generator) keys
+    (subst (λ (x : Lcg). Works 1000000 c.open-draws.result.keys load.result.0.made x load.result.0.answered (replicate c.open-draws.result.keys 0) (of_gets load.result.0.fault) old new load.new.draws.generator) stream load.ensures.works) in
     let some : 0 < c.args.reader.table.shape.keys = subst (λ (t : Table). 0 < t.shape.keys) table c.args.shared.now.keys.0 in
     let first : old.reader ≡ c.args.reader = ap (λ (hands : Hands). hands.reader) c.open-client.ensures.hands in
-    let few = works_few 1000000 _ load.result.made _ _ _ _ old new _ some works in
+    let few = works_few 1000000 _ load.result.0.made _ _ _ _ old new _ some works in
     let gained : Gained c.args.reader.table.shape.keys c.args.reader new.reader few.count 0 = subst (λ (r : Caller). Gained c.args.reader.table.shape.keys r new.reader few.count 0) first few.gained in
     let opened : load.new.client.opened.reader ≡ c.args.reader = ap (λ (hands : Hands). hands.reader) (load.ensures.places.2 ∙ c.open-client.ensures.opened) ∙ first in
     let counted : length (sent (since load.new.client.opened new)) ≡ few.count = ap (λ (r : Caller). length (sent (drop (length r.mine) new.reader.mine))) opened ∙ since_gained _ c.args.reader new.reader few.count 0 gained in

@@ -3,11 +3,11 @@ use Rattle.nr_model.specs.declared.rows.Row.{Row}
 use Rattle.nr_serve.specs.declared.answers.Tried.{Tried}
 use Rattle.nr_serve.specs.Gets.{Gets, TriesOnce}
 use Rattle.nr_serve.proofs.Getting.{gets_by_end, missed_more, missed_none}
-use Rattle.nr_serve.proofs.Later.{looks_both, looks_none}
+use Rattle.nr_serve.proofs.Ringing.{rings_both, rings_looks, rings_same}
 use Rattle.nr_serve.proofs.tries.get_by_tries.Goals as goal
 
 pub loop-i-init : goal.loop-i-init
-loop-i-init g c = record { ready = c.requires.ready; missed = missed_none c.args.key c.args.hands c.requires.ready.few; rows = refl; looks = looks_none _; at_once = λ _. refl }
+loop-i-init g c = record { ready = c.requires.ready; missed = missed_none c.args.key c.args.hands c.requires.ready.few; rows = refl; rings = rings_same _ _ _ refl; at_once = λ _. refl }
 
 pub returns-in-Ended-clause-gets : goal.returns-in-Ended-clause-gets
 returns-in-Ended-clause-gets g c =
@@ -24,6 +24,11 @@ loop-i-preserved g c =
       ready = c.try_once-tried.ensures.ready;
       missed = missed_more c.args.key c.loop-i.i c.args.hands c.loop-i.hands c.try_once-tried.result.1 c.loop-i.rows c.try_once-tried.new.rows c.in-Missed.requested so_far.missed once;
       rows = once.1 ∙ so_far.rows;
-      looks = looks_both _ _ _ so_far.looks (looks_both _ _ _ c.count_for-counted.ensures.looks c.sleep_if.ensures);
+      rings = rings_both _ _ _ _ _ _ so_far.rings (rings_both _ _ _ _ _ _ (rings_looks _ _ _ c.count_for-counted.ensures.looks)
+          (rings_both _ _ _ _ _ _ c.try_once-tried.ensures.rings (rings_looks _ _ _ c.sleep_if.ensures)));
       at_once = λ none. absurd (omega (arith, none));
     }
+
+pub returns-in-Ended-clause-rings : goal.returns-in-Ended-clause-rings
+returns-in-Ended-clause-rings g c =
+    rings_both _ _ _ _ _ _ c.loop-i.invariant.rings (rings_both _ _ _ _ _ _ (rings_looks _ _ _ c.count_for-counted.ensures.looks) c.try_once-tried.ensures.rings)

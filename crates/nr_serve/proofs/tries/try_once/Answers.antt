@@ -1,3 +1,6 @@
+use Rattle.std.proofs.Common.{ap}
+use Rattle.nr_serve.specs.declared.hands.Hands.{Hands}
+use Rattle.nr_serve.proofs.Ringing.{rings_both, rings_same}
 use Rattle.nr_serve.proofs.Trying.{tries_hole, tries_pin}
 use Rattle.nr_serve.proofs.tries.try_once.Goals as goal
 
@@ -13,3 +16,10 @@ returns-in-Ok-clause-tries g c =
     let posted = c.post_kept-reader in
     tries_pin c.args.key c.args.hands posted.result c.of.result c.in-Ok.pin c.answer-got.result.0 c.answer-got.result.1 c.args.rows.now c.answer-got.new.rows posted.ensures.moves posted.ensures.attempts
     c.in-Ok.ensures.0 c.answer-got.ensures.answers c.of.ensures
+
+pub returns-in-Err-clause-rings : goal.returns-in-Err-clause-rings
+returns-in-Err-clause-rings g c =
+    let posted = c.post_kept-reader in
+    let asked = c.request-requested in
+    let same = rings_same posted.result c.of-hands.result posted.new.lobby (ap (λ (hands : Hands). hands.poster) c.of-hands.ensures) in
+    rings_both _ _ _ _ _ _ posted.ensures.rings (rings_both _ _ _ _ _ _ same asked.ensures.rings)

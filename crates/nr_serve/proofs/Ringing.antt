@@ -1,0 +1,36 @@
+-- A client's rings are as many as its posts, over several steps.
+use Rattle.std.proofs.Common.{◌≡◌, ◌∷◌, [], ◌++◌, ◌+◌, ℕ, List, length, replicate, length-append, refl, ap, subst, arith}
+use Rattle.std.proofs.lemmas.List.{replicate-append-replicate}
+use Rattle.nr_trigger.specs.declared.post.Upquery.{Upquery}
+use Rattle.nr_serve.specs.declared.hands.Hands.{Hands}
+use Rattle.nr_serve.specs.Counts.{GuestSeen, OnlyLooks, Raises, rung_at}
+use Rattle.nr_serve.specs.Rings.{Rings}
+use Rattle.nr_serve.proofs.Later.{looks_raise, raises_both, raises_none}
+
+-- nothing was posted, and the guest only looked
+pub rings_none : (a b : Hands) (g h : GuestSeen) → b.poster.posted ≡ a.poster.posted → OnlyLooks g h → Rings a g b h
+rings_none a b g h same looks = record { count = 0; posted = omega (arith, ap (λ (l : List Upquery). length l) same); raises = looks_raise g h looks }
+
+-- one ticket was posted, and the bell rung
+pub rings_once : (a b : Hands) (g h : GuestSeen) (upquery : Upquery) → b.poster.posted ≡ a.poster.posted ++ upquery ∷ [] → Raises g (rung_at ∷ []) h → Rings a g b h
+rings_once a b g h upquery more raises = record {
+  count = 1;
+  posted = omega (arith, ap (λ (l : List Upquery). length l) more, length-append a.poster.posted (upquery ∷ []));
+  raises = raises;
+}
+
+pub rings_both : (a b c : Hands) (g h i : GuestSeen) → Rings a g b h → Rings b h c i → Rings a g c i
+rings_both a b c g h i one two = record {
+  count = one.count + two.count;
+  posted = omega (arith, one.posted, two.posted);
+  raises = subst (λ (l : List ℕ). Raises g l i) (replicate-append-replicate one.count two.count rung_at)
+      (raises_both g h i (replicate one.count rung_at) (replicate two.count rung_at) one.raises two.raises);
+}
+
+-- the poster stayed the same
+pub rings_same : (a b : Hands) (g : GuestSeen) → b.poster ≡ a.poster → Rings a g b g
+rings_same a b g same = record { count = 0; posted = omega (arith, ap (λ (poster : _). length poster.posted) same); raises = raises_none g }
+
+-- the guest looked
+pub rings_looks : (a : Hands) (g h : GuestSeen) → OnlyLooks g h → Rings a g a h
+rings_looks a g h looks = rings_none a a g h refl looks

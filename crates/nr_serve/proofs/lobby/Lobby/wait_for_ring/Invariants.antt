@@ -1,5 +1,0 @@
-use Rattle.nr_serve.specs.Counts.{OnlyLooks}
-use Rattle.nr_serve.proofs.lobby.Lobby.wait_for_ring.Given as goal
-
-abbrev pub invariant-loop : goal.invariant-loop
-invariant-loop g l = OnlyLooks l.fn.guest l.guest
