@@ -5,6 +5,8 @@
 #[cfg(test)]
 mod gates;
 #[cfg(test)]
+mod kept;
+#[cfg(test)]
 mod loads;
 #[cfg(test)]
 mod lobbies;
@@ -14,6 +16,8 @@ mod opened;
 mod queues;
 #[cfg(test)]
 mod scenes;
+#[cfg(test)]
+mod sleepers;
 #[cfg(test)]
 mod wakes;
 #[cfg(test)]

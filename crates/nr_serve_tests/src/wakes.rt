@@ -1,18 +1,18 @@
-//! Who wakes those that sleep. No clause says that anybody is woken, so here one side gives the other
-//! time to fall asleep, and notes whether it comes back before it is helped. On a slow machine the other
-//! may not sleep yet, and what is asserted holds all the same.
+//! Clients and dataflows that sleep, and what wakes them. No clause says that anybody is woken, so here one side gives the
+//! other time to fall asleep, and notes whether it comes back before it is helped. On a slow machine the other may not sleep
+//! yet, and what is asserted of that holds all the same.
 ghost use Rattle.std.specs.Prelude.{◌≡◌};
 
 use crate::opened::{Opened, Plain, end_client, end_flow};
-use nr_map::{Cancel, Reader, ReaderMap, Writer};
+use nr_map::{Cancel, Reader, Writer};
 use nr_model::RowSet;
-use nr_serve::{Client, Dataflow, Got, Lobby, OpenGate, Turn};
-use nr_trigger::{Poster, Taker, Triggers};
+use nr_serve::{Client, Dataflow, Got, OpenGate, Service, Turn};
+use nr_trigger::{Poster, Taker};
 use std::sync::Wait;
 use std::sync::atomic::{AtomicBool, Ordering};
 use std::test::Fail;
 use std::thread::{self, Threads};
-use std::time::{Clock, Duration};
+use std::time::{Clock, CpuClock, Duration};
 
 const LOOKS: u32 = 10_000;
 
@@ -37,50 +37,75 @@ fn comes<R: Clock>(rt: &R, came: &AtomicBool) -> bool {
 enum Cause {
     Work,
     Close,
+    /// The end, after a second in which a thread that doesn't sleep is busy.
+    LateClose,
 }
 
-// Gets key 0 in that many tries, and tells that it came back: how that ended, and how many requests were sent.
-fn gets<R: Wait>(
+// How long this thread has had a processor.
+fn busy<R: CpuClock>(rt: &R) -> Duration {
+    rt.thread_cpu_time().unwrap_or(Duration::ZERO)
+}
+
+// Whether this thread had a processor for less than a tenth of a second since.
+fn was_idle<R: CpuClock>(rt: &R, since: Duration) -> bool {
+    busy(rt).saturating_sub(since) < Duration::from_millis(100)
+}
+
+/// What a thread tells that slept: how its get ended and how many requests were sent, or nothing of a dataflow; and
+/// whether it was idle meanwhile.
+#[derive(Clone, Copy, Debug, PartialEq, Eq)]
+struct Slept {
+    got: Option<Got>,
+    sends: u64,
+    is_idle: bool,
+}
+
+// Gets key 0 in that many tries, and tells that it came back.
+fn gets<R: Wait + CpuClock>(
     rt: &R,
-    map: &ReaderMap,
-    triggers: &Triggers,
-    lobby: &Lobby,
+    service: &Service,
     tokens: (Reader, Poster),
     tries: u32,
     came: &AtomicBool,
-) -> (Got, u64)
-    requires map { (tokens.0.table ≡ map.now) × (map.now.shape.keys ≡ 2) }
-    requires queue { (tokens.1.queue ≡ triggers.now.id) × (tokens.1.keys ≡ 2) }
+) -> Slept
+    requires map { (tokens.0.table ≡ service.now.map) × (service.now.map.shape.keys ≡ 2) }
+    requires queue { (tokens.1.queue ≡ service.now.queue.id) × (tokens.1.keys ≡ 2) }
 {
     let (reader, poster) = tokens;
     let gate = OpenGate;
-    let mut client = Client::open(map, reader, triggers, poster, lobby, &gate);
+    let mut client = Client::open(service, reader, poster, &gate);
     let mut rows = RowSet::new();
+    let since = busy(rt);
     let got = client.get(rt, 0, tries, &mut rows);
+    let is_idle = was_idle(rt, since);
     let sends = client.sends();
     end_client(client);
     came.store(true, Ordering::SeqCst);
-    (got, sends)
+    Slept {
+        got: Some(got),
+        sends,
+        is_idle,
+    }
 }
 
-// One turn, which sleeps where nothing is posted; and tells that it came back.
-fn turns<R: Wait>(
+// One turn, which sleeps where nothing is posted; and tells that it came back, and whether it was idle.
+fn turns<R: Wait + CpuClock>(
     rt: &R,
-    map: &ReaderMap,
-    triggers: &Triggers,
-    lobby: &Lobby,
+    service: &Service,
     tokens: (Writer, Taker),
     came: &AtomicBool,
-)
-    requires map { (tokens.0.table ≡ map.now) × (map.now.shape.keys ≡ 2) }
-    requires queue { (tokens.1.queue ≡ triggers.now.id) × (tokens.1.keys ≡ 2) }
+) -> bool
+    requires map { (tokens.0.table ≡ service.now.map) × (service.now.map.shape.keys ≡ 2) }
+    requires queue { (tokens.1.queue ≡ service.now.queue.id) × (tokens.1.keys ≡ 2) }
 {
     let (writer, taker) = tokens;
-    let source = Plain { bound: 0 };
-    let mut flow = Dataflow::open(map, writer, triggers, taker, source, lobby);
+    let mut flow = Dataflow::open(service, writer, taker, Plain { bound: 0 });
+    let since = busy(rt);
     flow.turn_or_sleep(rt);
+    let is_idle = was_idle(rt, since);
     end_flow(flow);
     came.store(true, Ordering::SeqCst);
+    is_idle
 }
 
 // Takes the request of key 0 back, once there is one.
@@ -96,19 +121,12 @@ fn cancels<R: Wait + Clock>(rt: &R, flow: &mut Dataflow<'_, Plain>)
 }
 
 // Takes back the request of a client, which is to ask for key 0 once more, and fills the key then.
-fn cancels_and_fills<R: Wait + Clock>(
-    rt: &R,
-    map: &ReaderMap,
-    triggers: &Triggers,
-    lobby: &Lobby,
-    tokens: (Writer, Taker),
-)
-    requires map { (tokens.0.table ≡ map.now) × (map.now.shape.keys ≡ 2) }
-    requires queue { (tokens.1.queue ≡ triggers.now.id) × (tokens.1.keys ≡ 2) }
+fn cancels_and_fills<R: Wait + Clock>(rt: &R, service: &Service, tokens: (Writer, Taker))
+    requires map { (tokens.0.table ≡ service.now.map) × (service.now.map.shape.keys ≡ 2) }
+    requires queue { (tokens.1.queue ≡ service.now.queue.id) × (tokens.1.keys ≡ 2) }
 {
     let (writer, taker) = tokens;
-    let source = Plain { bound: 0 };
-    let mut flow = Dataflow::open(map, writer, triggers, taker, source, lobby);
+    let mut flow = Dataflow::open(service, writer, taker, Plain { bound: 0 });
     cancels(rt, &mut flow);
     for _ in 0..LOOKS {
         pause(rt);
@@ -122,21 +140,24 @@ fn cancels_and_fills<R: Wait + Clock>(
 // Lets a client sleep, wakes it, and tells whether it came back before it was helped.
 fn wakes_client<R: Wait + Clock>(
     rt: &R,
-    map: &ReaderMap,
-    triggers: &Triggers,
-    lobby: &Lobby,
+    service: &Service,
     tokens: (Writer, Taker),
     cause: Cause,
     came: &AtomicBool,
 ) -> bool
-    requires map { (tokens.0.table ≡ map.now) × (map.now.shape.keys ≡ 2) }
-    requires queue { (tokens.1.queue ≡ triggers.now.id) × (tokens.1.keys ≡ 2) }
+    requires map { (tokens.0.table ≡ service.now.map) × (service.now.map.shape.keys ≡ 2) }
+    requires queue { (tokens.1.queue ≡ service.now.queue.id) × (tokens.1.keys ≡ 2) }
 {
     pause(rt);
+    let lobby = service.lobby();
     let mut guest = lobby.guest();
     match cause {
-        Cause::Work => cancels_and_fills(rt, map, triggers, lobby, tokens),
+        Cause::Work => cancels_and_fills(rt, service, tokens),
         Cause::Close => lobby.close(&mut guest),
+        Cause::LateClose => {
+            thread::sleep(rt, Duration::from_secs(1));
+            lobby.close(&mut guest);
+        }
     }
     let is_awake = comes(rt, came);
     lobby.close(&mut guest);
@@ -145,196 +166,197 @@ fn wakes_client<R: Wait + Clock>(
 }
 
 // Gives a dataflow work, or closes its lobby.
-fn stirs<R: Wait>(
+fn stirs<R: Wait + Clock + CpuClock>(
     rt: &R,
-    map: &ReaderMap,
-    triggers: &Triggers,
-    lobby: &Lobby,
+    service: &Service,
     tokens: (Reader, Poster),
     cause: Cause,
 )
-    requires map { (tokens.0.table ≡ map.now) × (map.now.shape.keys ≡ 2) }
-    requires queue { (tokens.1.queue ≡ triggers.now.id) × (tokens.1.keys ≡ 2) }
+    requires map { (tokens.0.table ≡ service.now.map) × (service.now.map.shape.keys ≡ 2) }
+    requires queue { (tokens.1.queue ≡ service.now.queue.id) × (tokens.1.keys ≡ 2) }
 {
+    let lobby = service.lobby();
     match cause {
         Cause::Work => {
-            let unseen = AtomicBool::new(false);
-            gets(rt, map, triggers, lobby, tokens, 1, &unseen);
+            gets(rt, service, tokens, 1, &AtomicBool::new(false));
         }
         Cause::Close => lobby.close(&mut lobby.guest()),
+        Cause::LateClose => {
+            thread::sleep(rt, Duration::from_secs(1));
+            lobby.close(&mut lobby.guest());
+        }
     }
 }
 
 // Lets a dataflow sleep, wakes it, and tells whether it came back before it was helped.
-fn wakes_flow<R: Wait + Clock>(
+fn wakes_flow<R: Wait + Clock + CpuClock>(
     rt: &R,
-    map: &ReaderMap,
-    triggers: &Triggers,
-    lobby: &Lobby,
+    service: &Service,
     tokens: (Reader, Poster),
     cause: Cause,
     came: &AtomicBool,
 ) -> bool
-    requires map { (tokens.0.table ≡ map.now) × (map.now.shape.keys ≡ 2) }
-    requires queue { (tokens.1.queue ≡ triggers.now.id) × (tokens.1.keys ≡ 2) }
+    requires map { (tokens.0.table ≡ service.now.map) × (service.now.map.shape.keys ≡ 2) }
+    requires queue { (tokens.1.queue ≡ service.now.queue.id) × (tokens.1.keys ≡ 2) }
 {
     pause(rt);
-    stirs(rt, map, triggers, lobby, tokens, cause);
+    stirs(rt, service, tokens, cause);
     let is_awake = comes(rt, came);
-    lobby.close(&mut lobby.guest());
-    lobby.ring();
+    let lobby = service.lobby();
+    let mut guest = lobby.guest();
+    lobby.close(&mut guest);
+    lobby.ring(rt, &mut guest);
     is_awake
 }
 
-// How the get of a client ended that slept, its requests, and whether it was woken. The other side has a thread of its own.
-fn client_sleeps<R: Threads + Wait + Clock + Sync>(
+// What a client tells that slept, and whether it was woken. The other side has a thread of its own.
+fn client_sleeps<R: Threads + Wait + Clock + CpuClock + Sync>(
     rt: &R,
-    map: &ReaderMap,
-    triggers: &Triggers,
-    lobby: &Lobby,
+    service: &Service,
     here: (Reader, Poster),
     there: (Writer, Taker),
     cause: Cause,
-) -> Option<((Got, u64), bool)>
-    requires map { (here.0.table ≡ map.now) × (there.0.table ≡ map.now) × (map.now.shape.keys ≡ 2) }
-    requires queue { (here.1.queue ≡ triggers.now.id) × (there.1.queue ≡ triggers.now.id) }
+) -> Option<(Slept, bool)>
+    requires map { (here.0.table ≡ service.now.map) × (there.0.table ≡ service.now.map) × (service.now.map.shape.keys ≡ 2) }
+    requires queue { (here.1.queue ≡ service.now.queue.id) × (there.1.queue ≡ service.now.queue.id) }
     requires keys { (here.1.keys ≡ 2) × (there.1.keys ≡ 2) }
 {
     let came = AtomicBool::new(false);
     thread::scope(
         thread::scope_env(),
         rt,
-        |scope| -> Option<((Got, u64), bool)>
-            requires map { (here.0.table ≡ map.now) × (there.0.table ≡ map.now) × (map.now.shape.keys ≡ 2) }
-            requires queue { (here.1.queue ≡ triggers.now.id) × (there.1.queue ≡ triggers.now.id) }
+        |scope| -> Option<(Slept, bool)>
+            requires map { (here.0.table ≡ service.now.map) × (there.0.table ≡ service.now.map) × (service.now.map.shape.keys ≡ 2) }
+            requires queue { (here.1.queue ≡ service.now.queue.id) × (there.1.queue ≡ service.now.queue.id) }
             requires keys { (here.1.keys ≡ 2) × (there.1.keys ≡ 2) }
         {
             let came = &came;
             let Ok(other) = scope.spawn(
                 move || -> bool
-                    requires { (there.0.table ≡ map.now) × (map.now.shape.keys ≡ 2) × (there.1.queue ≡ triggers.now.id) × (there.1.keys ≡ 2) }
-                { wakes_client(rt, map, triggers, lobby, there, cause, came) },
+                    requires { (there.0.table ≡ service.now.map) × (service.now.map.shape.keys ≡ 2) × (there.1.queue ≡ service.now.queue.id) × (there.1.keys ≡ 2) }
+                { wakes_client(rt, service, there, cause, came) },
             ) else {
                 return None;
             };
-            let got = gets(rt, map, triggers, lobby, here, 10, came);
-            Some((got, other.join(rt)))
+            let slept = gets(rt, service, here, 10, came);
+            Some((slept, other.join(rt)))
         },
     )
 }
 
-// Whether a dataflow that slept was woken. It has a thread of its own.
-fn flow_sleeps<R: Threads + Wait + Clock + Sync>(
+// Whether a dataflow that slept was idle, and was woken. The other side has a thread of its own.
+fn flow_sleeps<R: Threads + Wait + Clock + CpuClock + Sync>(
     rt: &R,
-    map: &ReaderMap,
-    triggers: &Triggers,
-    lobby: &Lobby,
-    here: (Reader, Poster),
-    there: (Writer, Taker),
+    service: &Service,
+    here: (Writer, Taker),
+    there: (Reader, Poster),
     cause: Cause,
-) -> Option<bool>
-    requires map { (here.0.table ≡ map.now) × (there.0.table ≡ map.now) × (map.now.shape.keys ≡ 2) }
-    requires queue { (here.1.queue ≡ triggers.now.id) × (there.1.queue ≡ triggers.now.id) }
+) -> Option<(bool, bool)>
+    requires map { (here.0.table ≡ service.now.map) × (there.0.table ≡ service.now.map) × (service.now.map.shape.keys ≡ 2) }
+    requires queue { (here.1.queue ≡ service.now.queue.id) × (there.1.queue ≡ service.now.queue.id) }
     requires keys { (here.1.keys ≡ 2) × (there.1.keys ≡ 2) }
 {
     let came = AtomicBool::new(false);
     thread::scope(
         thread::scope_env(),
         rt,
-        |scope| -> Option<bool>
-            requires map { (here.0.table ≡ map.now) × (there.0.table ≡ map.now) × (map.now.shape.keys ≡ 2) }
-            requires queue { (here.1.queue ≡ triggers.now.id) × (there.1.queue ≡ triggers.now.id) }
+        |scope| -> Option<(bool, bool)>
+            requires map { (here.0.table ≡ service.now.map) × (there.0.table ≡ service.now.map) × (service.now.map.shape.keys ≡ 2) }
+            requires queue { (here.1.queue ≡ service.now.queue.id) × (there.1.queue ≡ service.now.queue.id) }
             requires keys { (here.1.keys ≡ 2) × (there.1.keys ≡ 2) }
         {
             let came = &came;
-            let flow = scope.spawn(
-                move ||
-                    requires { (there.0.table ≡ map.now) × (map.now.shape.keys ≡ 2) × (there.1.queue ≡ triggers.now.id) × (there.1.keys ≡ 2) }
-                { turns(rt, map, triggers, lobby, there, came) },
-            );
-            if flow.is_err() {
+            let Ok(other) = scope.spawn(
+                move || -> bool
+                    requires { (there.0.table ≡ service.now.map) × (service.now.map.shape.keys ≡ 2) × (there.1.queue ≡ service.now.queue.id) × (there.1.keys ≡ 2) }
+                { wakes_flow(rt, service, there, cause, came) },
+            ) else {
                 return None;
-            }
-            Some(wakes_flow(rt, map, triggers, lobby, here, cause, came))
+            };
+            let is_idle = turns(rt, service, here, came);
+            Some((is_idle, other.join(rt)))
         },
     )
 }
 
-fn client_is_woken<R: Threads + Wait + Clock + Sync>(
+fn client_is_woken<R: Threads + Wait + Clock + CpuClock + Sync>(
     rt: &R,
     opened: Opened,
     cause: Cause,
-) -> Option<((Got, u64), bool)> {
+) -> Option<(Slept, bool)> {
     let Opened {
-        map,
-        triggers,
+        service,
         writer,
         taker,
         reader,
         poster,
-        lobby,
     } = opened;
-    client_sleeps(
-        rt,
-        &map,
-        &triggers,
-        &lobby,
-        (reader, poster),
-        (writer, taker),
-        cause,
-    )
+    client_sleeps(rt, &service, (reader, poster), (writer, taker), cause)
 }
 
-fn flow_is_woken<R: Threads + Wait + Clock + Sync>(
+fn flow_is_woken<R: Threads + Wait + Clock + CpuClock + Sync>(
     rt: &R,
     opened: Opened,
     cause: Cause,
-) -> Option<bool> {
+) -> Option<(bool, bool)> {
     let Opened {
-        map,
-        triggers,
+        service,
         writer,
         taker,
         reader,
         poster,
-        lobby,
     } = opened;
-    flow_sleeps(
-        rt,
-        &map,
-        &triggers,
-        &lobby,
-        (reader, poster),
-        (writer, taker),
-        cause,
-    )
+    flow_sleeps(rt, &service, (writer, taker), (reader, poster), cause)
+}
+
+fn slept(got: Got, sends: u64) -> Slept {
+    Slept {
+        got: Some(got),
+        sends,
+        is_idle: true,
+    }
 }
 
 // The client requests the key twice, since the first request was taken back.
 #[test]
 fn a_cancel_and_a_fill_wake_a_client(rt: HostRuntime) -> Result<(), Fail> {
     let woken = client_is_woken(&rt, Opened::open(rt.alloc(), 4)?, Cause::Work);
-    assert_eq!(rt; woken, Some(((Got::Rows, 2), true)));
+    assert_eq!(rt; woken, Some((slept(Got::Rows, 2), true)));
     Ok(())
 }
 
 #[test]
 fn a_close_wakes_a_client(rt: HostRuntime) -> Result<(), Fail> {
     let woken = client_is_woken(&rt, Opened::open(rt.alloc(), 4)?, Cause::Close);
-    assert_eq!(rt; woken, Some(((Got::GaveUp, 1), true)));
+    assert_eq!(rt; woken, Some((slept(Got::GaveUp, 1), true)));
+    Ok(())
+}
+
+// A client that waits for a second has a processor for next to none of it.
+#[test]
+fn a_client_that_waits_is_idle(rt: HostRuntime) -> Result<(), Fail> {
+    let woken = client_is_woken(&rt, Opened::open(rt.alloc(), 4)?, Cause::LateClose);
+    assert_eq!(rt; woken, Some((slept(Got::GaveUp, 1), true)));
     Ok(())
 }
 
 #[test]
 fn a_post_wakes_a_dataflow(rt: HostRuntime) -> Result<(), Fail> {
     let woken = flow_is_woken(&rt, Opened::open(rt.alloc(), 4)?, Cause::Work);
-    assert_eq!(rt; woken, Some(true));
+    assert_eq!(rt; woken, Some((true, true)));
     Ok(())
 }
 
 #[test]
 fn a_close_wakes_a_dataflow(rt: HostRuntime) -> Result<(), Fail> {
     let woken = flow_is_woken(&rt, Opened::open(rt.alloc(), 4)?, Cause::Close);
-    assert_eq!(rt; woken, Some(true));
+    assert_eq!(rt; woken, Some((true, true)));
+    Ok(())
+}
+
+#[test]
+fn a_dataflow_that_waits_is_idle(rt: HostRuntime) -> Result<(), Fail> {
+    let woken = flow_is_woken(&rt, Opened::open(rt.alloc(), 4)?, Cause::LateClose);
+    assert_eq!(rt; woken, Some((true, true)));
     Ok(())
 }

@@ -1,0 +1,227 @@
+//! Threads that sleep in a lobby, and what wakes them: each is given time to fall asleep, and then must come back by
+//! one call alone. On a slow machine it may not sleep yet, and what is asserted holds all the same.
+ghost use Rattle.std.specs.Prelude.{◌≡◌};
+
+use nr_serve::{Guest, Lobby};
+use std::alloc::{AllocError, Global};
+use std::sync::Wait;
+use std::sync::atomic::{AtomicBool, Ordering};
+use std::test::Fail;
+use std::thread::{self, Scope, Threads};
+use std::time::{Clock, Duration};
+
+const GROUPS: u32 = 64;
+
+const LOOKS: u32 = 10_000;
+
+/// What a thread sleeps for: a raise of the whole lobby, or one for a key.
+#[derive(Clone, Copy, Debug)]
+enum Cause {
+    Whole,
+    Key(u32),
+}
+
+/// A thread that sleeps until a count is above 0, and tells that it came back.
+#[derive(Drop)]
+struct Sleeper {
+    cause: Cause,
+    came: AtomicBool,
+}
+
+impl Sleeper {
+    fn of(cause: Cause) -> Sleeper {
+        Sleeper {
+            cause,
+            came: AtomicBool::new(false),
+        }
+    }
+
+    fn sleep<R: Wait>(&self, rt: &R, lobby: &Lobby) {
+        let mut guest = lobby.guest();
+        match self.cause {
+            Cause::Whole => lobby.wait_past(rt, &mut guest, 0),
+            Cause::Key(key) => lobby.wait_past_for(rt, &mut guest, key, 0),
+        };
+        self.came.store(true, Ordering::SeqCst);
+    }
+
+    // Whether it comes within ten seconds.
+    fn comes<R: Clock>(&self, rt: &R) -> bool {
+        for _ in 0..LOOKS {
+            if self.came.load(Ordering::SeqCst) {
+                return true;
+            }
+            thread::sleep(rt, Duration::from_millis(1));
+        }
+        false
+    }
+}
+
+/// What is done once all sleep.
+#[derive(Clone, Copy, Debug)]
+enum Deed {
+    Raise,
+    RaiseFor(u32),
+    /// A raise for a key of each group, in turn.
+    RaiseForEach,
+    Close,
+}
+
+// Whether each of these comes.
+fn all_come<R: Clock>(rt: &R, sleepers: &[Sleeper]) -> bool {
+    sleepers.iter().all(|sleeper| sleeper.comes(rt))
+}
+
+// Raises for one key of each group, another one than that for which a thread sleeps. Whether just that thread comes,
+// before the next raise.
+fn each_comes<R: Wait + Clock>(
+    rt: &R,
+    lobby: &Lobby,
+    guest: &mut Guest,
+    sleepers: &[Sleeper],
+) -> bool
+    requires { guest.old.lobby ≡ lobby.now }
+    ensures { guest.new.lobby ≡ lobby.now }
+{
+    let mut key = GROUPS;
+    for sleeper in sleepers.iter() {
+        if sleeper.came.load(Ordering::SeqCst) {
+            return false;
+        }
+        lobby.raise_for(rt, guest, key);
+        if !sleeper.comes(rt) {
+            return false;
+        }
+        key = key.wrapping_add(1);
+    }
+    true
+}
+
+// Does it, and tells whether it woke them. Then whoever sleeps still is helped.
+fn wakes<R: Wait + Clock>(rt: &R, lobby: &Lobby, sleepers: &[Sleeper], deed: Deed) -> bool {
+    thread::sleep(rt, Duration::from_millis(200));
+    let mut guest = lobby.guest();
+    let woken = match deed {
+        Deed::Raise => {
+            lobby.raise(rt, &mut guest);
+            all_come(rt, sleepers)
+        }
+        Deed::RaiseFor(key) => {
+            lobby.raise_for(rt, &mut guest, key);
+            all_come(rt, sleepers)
+        }
+        Deed::RaiseForEach => each_comes(rt, lobby, &mut guest, sleepers),
+        Deed::Close => {
+            lobby.close(&mut guest);
+            all_come(rt, sleepers)
+        }
+    };
+    lobby.close(&mut guest);
+    lobby.raise(rt, &mut guest);
+    woken
+}
+
+// A thread for each of them. Whether none was refused.
+fn start<'s, E, R: Threads + Wait + Sync>(
+    scope: &Scope<'s, E>,
+    rt: &'s R,
+    lobby: &'s Lobby,
+    sleepers: &'s [Sleeper],
+) -> bool {
+    for sleeper in sleepers.iter() {
+        if scope.spawn(move || sleeper.sleep(rt, lobby)).is_err() {
+            return false;
+        }
+    }
+    true
+}
+
+// Whether the deed wakes all these, where a thread can be started for each.
+fn are_woken<R: Threads + Wait + Clock + Sync>(
+    rt: &R,
+    lobby: &Lobby,
+    sleepers: &[Sleeper],
+    deed: Deed,
+) -> Option<bool> {
+    thread::scope(thread::scope_env(), rt, |scope| -> Option<bool> {
+        let started = start(scope, rt, lobby, sleepers);
+        let woken = wakes(rt, lobby, sleepers, deed);
+        started.then_some(woken)
+    })
+}
+
+// One for each group of keys.
+fn of_each_group(alloc: Global) -> Result<Vec<Sleeper>, AllocError> {
+    let mut sleepers = Vec::new(alloc);
+    for key in 0..GROUPS {
+        sleepers.push(Sleeper::of(Cause::Key(key)))?;
+    }
+    Ok(sleepers)
+}
+
+fn all_wake<R: Threads + Wait + Clock + Sync + AllocGlobal>(
+    rt: &R,
+    sleepers: &[Sleeper],
+    deed: Deed,
+) -> Result<bool, Fail> {
+    let lobby = Lobby::open(rt.alloc())?;
+    Ok(are_woken(rt, &lobby, sleepers, deed) == Some(true))
+}
+
+#[test]
+fn a_raise_wakes_who_waits_for_the_whole_lobby(rt: HostRuntime) -> Result<(), Fail> {
+    let woken = all_wake(&rt, &[Sleeper::of(Cause::Whole)], Deed::Raise)?;
+    assert!(rt; woken);
+    Ok(())
+}
+
+#[test]
+fn a_raise_for_a_key_wakes_who_waits_for_the_whole_lobby(rt: HostRuntime) -> Result<(), Fail> {
+    let woken = all_wake(&rt, &[Sleeper::of(Cause::Whole)], Deed::RaiseFor(5))?;
+    assert!(rt; woken);
+    Ok(())
+}
+
+#[test]
+fn a_close_wakes_who_waits_for_the_whole_lobby(rt: HostRuntime) -> Result<(), Fail> {
+    let woken = all_wake(&rt, &[Sleeper::of(Cause::Whole)], Deed::Close)?;
+    assert!(rt; woken);
+    Ok(())
+}
+
+// Keys 3 and 67 are of one group, and one raise wakes all three.
+#[test]
+fn a_raise_for_a_key_wakes_all_sleepers_of_its_group(rt: HostRuntime) -> Result<(), Fail> {
+    let sleepers = [
+        Sleeper::of(Cause::Key(3)),
+        Sleeper::of(Cause::Key(3)),
+        Sleeper::of(Cause::Key(67)),
+    ];
+    let woken = all_wake(&rt, &sleepers, Deed::RaiseFor(3))?;
+    assert!(rt; woken);
+    Ok(())
+}
+
+#[test]
+fn raises_for_keys_wake_each_group_by_itself(rt: HostRuntime) -> Result<(), Fail> {
+    let sleepers = of_each_group(rt.alloc())?;
+    let woken = all_wake(&rt, sleepers.as_slice(), Deed::RaiseForEach)?;
+    assert!(rt; woken);
+    Ok(())
+}
+
+#[test]
+fn a_raise_wakes_all_groups(rt: HostRuntime) -> Result<(), Fail> {
+    let sleepers = of_each_group(rt.alloc())?;
+    let woken = all_wake(&rt, sleepers.as_slice(), Deed::Raise)?;
+    assert!(rt; woken);
+    Ok(())
+}
+
+#[test]
+fn a_close_wakes_all_groups(rt: HostRuntime) -> Result<(), Fail> {
+    let sleepers = of_each_group(rt.alloc())?;
+    let woken = all_wake(&rt, sleepers.as_slice(), Deed::Close)?;
+    assert!(rt; woken);
+    Ok(())
+}
