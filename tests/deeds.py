@@ -62,12 +62,12 @@ def past(words, i, opening, ending=None):
 
 
 def spelled(words):
-    """The words as one line, however they were laid out."""
+    """The words as one line, however they were laid out, without what only ends an earlier piece."""
     text = ""
     for word in words:
         is_close = word.text in ".)]?" or text[-1:] in "(["
         text += " " * (word.is_apart and not is_close) + word.text
-    return re.sub(r",(?=[)\]])", "", text).strip()
+    return re.sub(r",(?=[)\]])", "", text.strip().lstrip(")], "))
 
 
 def pieces(words):
