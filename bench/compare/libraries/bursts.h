@@ -76,6 +76,14 @@ static uint64_t zipf_drawn(uint64_t keys) {
 /* The hottest keys lie anywhere among the numbers. */
 static uint64_t scattered(uint64_t i, uint64_t keys) { return mixed(i) % keys; }
 
+/* The processor's clock, once all before it is done and before anything after it begins. */
+static inline uint64_t ticks(void) {
+  _mm_lfence();
+  uint64_t is = __rdtsc();
+  _mm_lfence();
+  return is;
+}
+
 static void expect(int threads) {
   atomic_store(&ready, 0), atomic_store(&go, false), atomic_store(&last, threads - 1);
 }

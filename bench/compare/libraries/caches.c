@@ -31,7 +31,7 @@ typedef struct {
 /* A get: of the rows that the key had, whenever they came. */
 static void get(job *j, uint64_t key) {
   const cache *c = &runs[j->run].is;
-  uint64_t began = __rdtsc();
+  uint64_t began = ticks();
   const uint64_t *word = c->find(runs[j->run].at, runs[j->run].reader[j->id], key);
   if (!word) j->misses++;
   while (!word && now() < until) {
@@ -39,7 +39,7 @@ static void get(job *j, uint64_t key) {
     word = c->find(runs[j->run].at, runs[j->run].reader[j->id], key);
   }
   if (!word) return;
-  uint64_t took = __rdtsc() - began;
+  uint64_t took = ticks() - began;
   if (j->samples < SAMPLES) sample[j->id][j->samples++] = (uint32_t)(took > UINT32_MAX ? UINT32_MAX : took);
   j->wrong += !is_whole(key, word);
   j->made++;

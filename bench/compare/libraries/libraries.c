@@ -89,9 +89,9 @@ static uint64_t find_64_timed(job *j, const uint64_t *key) {
   void *map = j->run->map, *reader = j->run->reader[j->id];
   uint64_t bad = 0;
   for (int i = 0; i < 64; i++) {
-    uint64_t began = __rdtsc();
+    uint64_t began = ticks();
     const uint64_t *word = c->find(map, reader, key[i]);
-    uint64_t took = __rdtsc() - began;
+    uint64_t took = ticks() - began;
     if (j->samples < SAMPLES) sample[j->id][j->samples++] = (uint32_t)(took > UINT32_MAX ? UINT32_MAX : took);
     bad += is_wrong(key[i], word);
   }
