@@ -1,3 +1,4 @@
+/* SPDX-License-Identifier: MIT OR Apache-2.0 */
 /* A reader map for a partially stateful dataflow: many threads look keys up without a lock while one
    fills, updates and evicts them. Each function calls the proved map of this repository; what it does
    to the history that all callers share is its contract in crates/nr_c.
