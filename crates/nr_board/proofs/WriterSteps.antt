@@ -246,7 +246,8 @@ abbrev Polls : Shape → Operation → Type 0
 Polls shape operation = (slot : ℕ) × (target_of operation ≡ departures shape slot) × ((word : ℕ) → becomes operation word ≡ word) × (slot < shape.slots)
 
 -- a later step of a call is one of these
-going_on : (shape : Shape) (words : List ℕ) (roles : List Role) (log : List Entry) → Core shape words roles log → (id : ℕ) (desk : Desk) → get_elem? roles id ≡ some (Writer desk) → (place : Place) → desk.place ≡ place → if_not_busy place ≡ None
+going_on : (shape : Shape) (words : List ℕ) (roles : List Role) (log : List Entry) → Core shape words roles log → (id : ℕ) (desk : Desk)
+    → get_elem? roles id ≡ some (Writer desk) → (place : Place) → desk.place ≡ place → if_not_busy place ≡ None
     → OnPlain shape (going shape desk place) ⊎ Polls shape (going shape desk place)
 going_on shape words roles log core id desk there place is busy = go place busy (subst (AtPlace shape words (map_after shape log) (held roles) desk.fresh desk.retired) is (core.knows id (Writer desk) there).place)
   where
