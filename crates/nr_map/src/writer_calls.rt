@@ -141,7 +141,8 @@ impl ReaderMap {
     }
 
     /// Makes a filled key a hole, which keeps its ticket number. Takes 2 steps, and 1 where the key
-    /// is not filled.
+    /// is not filled: one that is asked for stays so. Where the rows that are under way may be out of
+    /// date, cancel first.
     pub fn evict(&self, writer: &mut Writer, key: u32) -> Evict
         requires own { writer.old.table ≡ self.now }
         requires key { key < self.now.shape.keys }
