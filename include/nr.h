@@ -298,9 +298,10 @@ uint32_t nr_find(nr_reader *reader, uint32_t key, nr_rows *rows);
 
 /* Looks each of n keys up, in their order, as nr_find does one, also a key that is wanted twice. NR_DONE, and each
    has its answer beside it: NR_ROWS, and its own `rows` have its rows; or NR_HOLE, and they stay as they were.
-   NR_NO_KEY where one of the keys isn't there, and then none is looked up. It takes the steps of all the finds and 2
-   loads a key, made for 16 keys before these are found, so that the caches fetch what 16 finds need at once. In large
-   maps this is faster than single finds. */
+   NR_NO_KEY where one of the keys isn't there, and then none is looked up. It takes the steps of all the finds; and for
+   each key 3 loads, and 1 more for each 4 rows, or part of 4, that a key may have above 4 and up to 16. These are made
+   for 16 keys before these are found, so that the caches fetch what 16 finds need at once. In large maps this is
+   faster than single finds. */
 uint32_t nr_find_each(nr_reader *reader, nr_wanted *wanted, size_t n);
 
 /* Requests a key, in 1 step. NR_SEND to the first since the key became a hole, and `number` is the request's

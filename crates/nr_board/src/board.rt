@@ -224,25 +224,26 @@ impl Board {
         words.load::<Nears>(seat, key as usize)
     }
 
-    /// Loads the first word of the slot that a key's word names, so that it is near at the find, or
-    /// word 0 where it names none. The load tells nothing.
-    pub fn load_slot(&self, seat: &mut Seat, word: u64)
+    /// Loads a word of a set that will be read, so that it is near then: the one at that place, or the
+    /// table's last one where it ends before. The load tells nothing.
+    pub fn load_near(&self, seat: &mut Seat, place: u64) -> u64
         requires own { (token seat.old).table ≡ self.now }
         ensures step { token seat.new ≡ with_step (token seat.old) }
         ensures role { seat.new.me.0.role ≡ seat.old.me.0.role }
     {
         let words = &self.table.shared;
-        let place = self.block_named(word);
-        words.load::<Nears>(seat, place as usize);
+        let last = self.table.word_count() as u64 - 1;
+        words.load::<Nears>(seat, place.min(last) as usize)
     }
 
-    /// Where the slot begins that a key's word names, and 0 where it names none of the map's.
-    fn block_named(&self, word: u64) -> u64
-        ensures { result < total_of (layout self.now.shape) }
+    /// Where the first content word stands of the slot that a key's word names, and 0 where it names
+    /// none of the map's.
+    pub fn content_named(&self, word: u64) -> u64
+        ensures { result < 2 ^ 40 }
     {
         let found = parts(word);
         if found.filled && found.slot < self.shape.slots {
-            self.layout().departures(found.slot)
+            self.content(found.slot)
         } else {
             0
         }

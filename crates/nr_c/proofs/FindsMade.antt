@@ -29,14 +29,14 @@ module _ (first : Caller) (wanted : List NrWanted) where
       pub as_wanted : one ≡ get_or wanted made one
       as_wanted = let here = tails.0 in let there = tails.1 in cc
 
-      pub one_more : (next : Caller) (found : NrWanted) → FindsOneByCode one found (with_loads (loads_at made (length (drop made keys))) now) next → Made first wanted (made + 1) next (set keys made found)
+      pub one_more : (next : Caller) (found : NrWanted) → FindsOneByCode one found (with_loads (loads_at now.table.shape.rows made (length (drop made keys))) now) next → Made first wanted (made + 1) next (set keys made found)
       one_more next found finds = record {
         long = length-set keys made found ∙ had.long;
         rest = drop-set-lt (made + 1) keys made found (omega arith) ∙ same_rest;
         on = λ last others so.
             let whole : one ∷ drop (made + 1) wanted ≡ drop made wanted = ap (λ (l : List NrWanted). one ∷ l) (sym same_rest) ∙ tails.0 in
             let left : length (drop made keys) ≡ length (one ∷ drop (made + 1) wanted) = ap length (had.rest ∙ sym whole) in
-            let next_too : FindsOnByCode made (one ∷ drop (made + 1) wanted) (found ∷ others) now last = (next, subst (λ (n : ℕ). FindsOneByCode one found (with_loads (loads_at made n) now) next) left finds, so) in
+            let next_too : FindsOnByCode made (one ∷ drop (made + 1) wanted) (found ∷ others) now last = (next, subst (λ (n : ℕ). FindsOneByCode one found (with_loads (loads_at now.table.shape.rows made n) now) next) left finds, so) in
             subst (λ (l : List NrWanted). FindsEachByCode wanted l first last)
             (sym (append_snoc (take made keys) found others) ∙ ap (λ (l : List NrWanted). l ++ others) (sym (take_more_set keys made found low)))
             (had.on last (found ∷ others) (subst (λ (l : List NrWanted). FindsOnByCode made l (found ∷ others) now last) whole next_too));

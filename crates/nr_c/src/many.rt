@@ -29,7 +29,8 @@ pub struct NrWanted {
 /// Looks each of the keys up, in their order, as `nr_find` does one: a find of each is an entry of its
 /// own, also of a key that is wanted twice. Each has its answer beside it, `NR_ROWS` or `NR_HOLE`, and
 /// its rows in its own room, which stays as it is where the key is a hole. Takes the steps of all the
-/// finds, and 2 loads for each key, which are made for 16 keys at a time before these are found.
+/// finds, and for each key 3 loads, and 1 more for each 4 rows, or part of 4, that a key may have above 4
+/// and up to 16: these are made for 16 keys at a time before these are found.
 /// Answers `NR_DONE`; or, with no step, `NR_NO_KEY` where there is no such key as one of them, or
 /// `NR_HOLDING` where the reader holds a set.
 #[unsafe(no_mangle)]
@@ -97,7 +98,7 @@ fn find_all(map: &ReaderMap, reader: &mut Reader, wanted: &mut [NrWanted])
 fn load_from(map: &ReaderMap, reader: &mut Reader, place: usize, left: &[NrWanted])
     requires own { reader.old.table ≡ map.now }
     requires keys { All (λ one. one.key < map.now.shape.keys) left.now }
-    ensures { reader.new ≡ with_loads (loads_at place (length left.now)) reader.old }
+    ensures { reader.new ≡ with_loads (loads_at map.now.shape.rows place (length left.now)) reader.old }
 {
     if place % GROUP == 0 {
         let group = &left[..left.len().min(GROUP)];

@@ -1,5 +1,5 @@
 -- Finds of many keys, as a loop makes them one by one.
-use Rattle.std.proofs.Common.{◌≡◌, ℕ, ◌+◌, ◌<◌, ◌≤◌, List, [], ◌∷◌, ◌++◌, length, take, drop, set, get_or, refl, sym, ap, ◌∙◌, subst, arith, append-nil}
+use Rattle.std.proofs.Common.{◌≡◌, ℕ, ◌+◌, ◌*◌, ◌<◌, ◌≤◌, List, [], ◌∷◌, ◌++◌, length, take, drop, set, get_or, refl, sym, ap, ◌∙◌, subst, arith, append-nil}
 use Rattle.std.proofs.lemmas.List.{drop_all, drop_more, drop-set-lt, length-set, take_all, take_more_set}
 use Rattle.std.proofs.Math.Seq.{append_snoc}
 use Rattle.nr_model.specs.declared.rows.Row.{Row}
@@ -50,3 +50,7 @@ no_loads caller = ap (λ (steps : ℕ). record caller { steps = steps }) (omega 
 
 pub loads_both : (first then sum : ℕ) (caller : Caller) → first + then ≡ sum → with_loads then (with_loads first caller) ≡ with_loads sum caller
 loads_both first then sum caller is = ap (λ (steps : ℕ). record caller { steps = steps }) (omega (arith, is))
+
+-- the loads of keys' words, of two words of each set, and of more lines
+pub loads_of_keys : (keys more : ℕ) (caller : Caller) → with_loads (more * keys) (with_loads (2 * keys) (with_loads keys caller)) ≡ with_loads ((3 + more) * keys) caller
+loads_of_keys keys more caller = ap (λ (steps : ℕ). record caller { steps = steps }) (omega arith)

@@ -6,7 +6,7 @@ use Rattle.nr_model.specs.declared.rows.Row.{Row}
 use Rattle.nr_board.specs.Callers.{Caller}
 use Rattle.nr_map.proofs.FindsEach.{no_loads}
 use Rattle.nr_map.specs.declared.wanted.Wanted.{Wanted}
-use Rattle.nr_map.specs.FindsEach.{FindsEach, FindsFrom, FindsList, FindsWanted, loads_at, with_loads}
+use Rattle.nr_map.specs.FindsEach.{FindsEach, FindsFrom, FindsList, FindsWanted, loads_at, loads_of_key, with_loads}
 
 -- that many keys were found: finds of the other keys, which stand there as before, make finds of all
 pub record Grouped {Room : Type 0} (shows : Room → List Row → Type 0) (first : Caller) (wanted : List (Wanted Room)) (made : ℕ) (now : Caller) (keys : List (Wanted Room)) : Type 0 where
@@ -23,8 +23,8 @@ module _ {Room : Type 0} (shows : Room → List Row → Type 0) where
   finds_length now (one ∷ group) next [] finds = absurd finds
 
   -- no loads stand before a find within a group
-  no_loads_within : (groups at left : ℕ) → 0 < at → at < 16 → loads_at (groups * 16 + at) left ≡ 0
-  no_loads_within groups at left some few = ap (λ (b : Bool). cond {A = ℕ} b (2 * min left 16) 0) (ne_eqb ((groups * 16 + at) % 16) 0 (λ e. absurd (omega (arith, e, some, few))))
+  no_loads_within : (rows groups at left : ℕ) → 0 < at → at < 16 → loads_at rows (groups * 16 + at) left ≡ 0
+  no_loads_within rows groups at left some few = ap (λ (b : Bool). cond {A = ℕ} b (loads_of_key rows * min left 16) 0) (ne_eqb ((groups * 16 + at) % 16) 0 (λ e. absurd (omega (arith, e, some, few))))
 
   -- the finds of a group but the first ones
   others_of_group : (groups at : ℕ) (group found rest more : List (Wanted Room)) (now next last : Caller) → 0 < at → at + length group ≤ 16 → FindsList shows now group next found
@@ -33,7 +33,7 @@ module _ {Room : Type 0} (shows : Room → List Row → Type 0) where
       subst (λ (now : Caller). FindsFrom shows (groups * 16 + at) now rest last more) finds (subst (λ (place : ℕ). FindsFrom shows place next rest last more) (omega arith) so)
   others_of_group groups at (one ∷ group) (it ∷ found) rest more now next last some few finds so =
       let left : ℕ = length (one ∷ (group ++ rest)) in let long : length (one ∷ group) ≡ suc (length group) = refl in
-      let none = no_loads_within groups at left some (omega (arith, few, long)) in (
+      let none = no_loads_within now.table.shape.rows groups at left some (omega (arith, few, long)) in (
         finds.0,
         subst (λ (now : Caller). FindsWanted shows now one finds.0 it) (no_loads now ∙ ap (λ (loads : ℕ). with_loads loads now) (sym none)) finds.1,
         subst (λ (place : ℕ). FindsFrom shows place finds.0 (group ++ rest) last (found ++ more)) (omega arith)
@@ -45,12 +45,13 @@ module _ {Room : Type 0} (shows : Room → List Row → Type 0) where
 
   -- the finds of a group, with its loads before them
   of_group : (groups : ℕ) (group found rest more : List (Wanted Room)) (now next last : Caller) → 0 < length group → length group ≤ 16 → min (length (group ++ rest)) 16 ≡ length group
-      → FindsList shows (with_loads (2 * length group) now) group next found → FindsFrom shows (groups * 16 + length group) next rest last more → FindsFrom shows (groups * 16) now (group ++ rest) last (found ++ more)
+      → FindsList shows (with_loads (loads_of_key now.table.shape.rows * length group) now) group next found → FindsFrom shows (groups * 16 + length group) next rest last more → FindsFrom shows (groups * 16) now (group ++ rest) last (found ++ more)
   of_group groups [] found rest more now next last some few most finds so = absurd (omega (arith, some))
   of_group groups (one ∷ group) [] rest more now next last some few most finds so = absurd finds
   of_group groups (one ∷ group) (it ∷ found) rest more now next last some few most finds so =
-      let left : ℕ = length (one ∷ (group ++ rest)) in let long : length (one ∷ group) ≡ suc (length group) = refl in
-      let all : loads_at (groups * 16) left ≡ 2 * length (one ∷ group) = ap (λ (b : Bool). cond {A = ℕ} b (2 * min left 16) 0) (eq-eqb ((groups * 16) % 16) 0 (omega arith)) ∙ ap (λ (n : ℕ). 2 * n) most in (
+      let left : ℕ = length (one ∷ (group ++ rest)) in let long : length (one ∷ group) ≡ suc (length group) = refl in let each : ℕ = loads_of_key now.table.shape.rows in
+      let all : loads_at now.table.shape.rows (groups * 16) left ≡ each * length (one ∷ group) =
+      ap (λ (b : Bool). cond {A = ℕ} b (each * min left 16) 0) (eq-eqb ((groups * 16) % 16) 0 (omega arith)) ∙ ap (λ (n : ℕ). each * n) most in (
         finds.0,
         subst (λ (now : Caller). FindsWanted shows now one finds.0 it) (ap (λ (loads : ℕ). with_loads loads now) (sym all)) finds.1,
         others_of_group groups 1 group found rest more finds.0 next last (omega arith) (omega (arith, few, long)) finds.2 (subst (λ (place : ℕ). FindsFrom shows place next rest last more) (omega (arith, long)) so),
@@ -63,7 +64,7 @@ module _ {Room : Type 0} (shows : Room → List Row → Type 0) where
     -- one group more, up to that end
     pub group_more : (groups end : ℕ) (now : Caller) (keys : List (Wanted Room)) → Grouped shows first wanted (groups * 16) now keys → groups * 16 < length keys → end ≡ min (groups * 16 + 16) (length keys)
         → (next : Caller) (found : List (Wanted Room)) → (group : List (Wanted Room)) → group ++ drop end keys ≡ drop (groups * 16) keys → length group + groups * 16 ≡ end
-        → FindsList shows (with_loads (2 * length group) now) group next found → Grouped shows first wanted end next (take (groups * 16) keys ++ (found ++ drop end keys))
+        → FindsList shows (with_loads (loads_of_key now.table.shape.rows * length group) now) group next found → Grouped shows first wanted end next (take (groups * 16) keys ++ (found ++ drop end keys))
     group_more groups end now keys grouped low end_is next found group whole size finds = record {
       long = long_front ∙ grouped.long;
       rest = ap (λ (l : List (Wanted Room)). drop end l) (sym split) ∙ subst (λ (n : ℕ). drop n (front ++ drop end keys) ≡ drop end keys) front_size (drop-append_seam front (drop end keys)) ∙ same_rest;
@@ -83,7 +84,7 @@ module _ {Room : Type 0} (shows : Room → List Row → Type 0) where
         split = append_assoc (take begin keys) found (drop end keys)
 
         many : length found ≡ length group
-        many = finds_length (with_loads (2 * length group) now) group next found finds
+        many = finds_length (with_loads (loads_of_key now.table.shape.rows * length group) now) group next found finds
 
         front_size : length front ≡ end
         front_size = omega (arith, length-append (take begin keys) found, length-take-le begin keys (omega (arith, low)), many, size)

@@ -1,5 +1,5 @@
 -- Finds of many keys, one after another.
-use Rattle.std.specs.Prelude.{◌≡◌, ℕ, ◌+◌, ◌*◌, ◌%◌, ◌==◌, if◌then◌else◌, min, List, [], ◌∷◌, length, None}
+use Rattle.std.specs.Prelude.{◌≡◌, ℕ, ◌+◌, ◌-◌, ◌*◌, ◌/◌, ◌%◌, ◌==◌, if◌then◌else◌, min, List, [], ◌∷◌, length, None}
 use Rattle.nr_model.specs.declared.rows.Row.{Row}
 use Rattle.nr_board.specs.Callers.{Caller}
 use Rattle.nr_map.specs.Answers.{FindsIn, acts_of}
@@ -23,14 +23,22 @@ FindsList shows old (wanted ∷ others) new (found ∷ rest) = (next : Caller) �
 FindsList shows old [] new (found ∷ rest) = ⊥
 FindsList shows old (wanted ∷ others) new [] = ⊥
 
--- the loads before the find of the key at that index, from which on so many are left: two for each key of a group of sixteen, before its first
-abbrev pub loads_at : ℕ → ℕ → ℕ
-loads_at place left = if (place % 16 == 0) then 2 * min left 16 else 0
+-- how many lines of eight words a set of so many rows may have beyond two, as far as they are loaded ahead
+abbrev pub more_lines : ℕ → ℕ
+more_lines rows = min ((rows - 1) / 4) 3
+
+-- the loads ahead for a key that may have so many rows: of its word, of two words of its set, and of one in each of those lines
+abbrev pub loads_of_key : ℕ → ℕ
+loads_of_key rows = 3 + more_lines rows
+
+-- the loads before the find of the key at that index, from which on so many are left: those of each key of a group of sixteen, before its first
+abbrev pub loads_at : ℕ → ℕ → ℕ → ℕ
+loads_at rows place left = if (place % 16 == 0) then loads_of_key rows * min left 16 else 0
 
 -- the same with these loads, from that index of a list on
 abbrev pub FindsFrom : {Room : Type 0} → (Room → List Row → Type 0) → ℕ → Caller → List (Wanted Room) → Caller → List (Wanted Room) → Type 0
 FindsFrom shows place old [] new [] = new ≡ old
-FindsFrom shows place old (wanted ∷ others) new (found ∷ rest) = (next : Caller) × FindsWanted shows (with_loads (loads_at place (length (wanted ∷ others))) old) wanted next found × FindsFrom shows (place + 1) next others new rest
+FindsFrom shows place old (wanted ∷ others) new (found ∷ rest) = (next : Caller) × FindsWanted shows (with_loads (loads_at old.table.shape.rows place (length (wanted ∷ others))) old) wanted next found × FindsFrom shows (place + 1) next others new rest
 FindsFrom shows place old [] new (found ∷ rest) = ⊥
 FindsFrom shows place old (wanted ∷ others) new [] = ⊥
 

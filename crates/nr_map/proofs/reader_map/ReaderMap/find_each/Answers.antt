@@ -1,7 +1,9 @@
 use Rattle.std.proofs.Common.{ℕ, ◌≡◌, ◌+◌, ◌-◌, ◌*◌, ◌<◌, ◌≤◌, ◌++◌, ◌∙◌, List, ap, arith, drop, length, min, subst, sym, take}
 use Rattle.std.proofs.lemmas.Grind.{div_ceil_times}
 use Rattle.std.proofs.lemmas.List.{drop-drop, length-take-le, length-append, take-append-drop}
+use Rattle.nr_board.specs.Callers.{Table}
 use Rattle.nr_map.specs.declared.wanted.Wanted.{Wanted}
+use Rattle.nr_map.specs.FindsEach.{FindsList, loads_of_key, with_loads}
 use Rattle.nr_map.proofs.FindsGroups.{Grouped, all_grouped, group_more}
 use Rattle.nr_map.proofs.reader_map.ReaderMap.find_each.Goals as goal
 
@@ -28,10 +30,11 @@ loop-group-preserved g c = let shows = g.R.RowRoom.shows in let first = c.args.r
     let end_is : end ≡ min (begin + 16) (length keys) = c.end_of_group-end.ensures in
     let here : min begin (length wanted) ≡ begin = omega (arith, near) in let there : end ≡ min ((c.loop-group.group + 1) * 16) (length wanted) = omega (arith, end_is, long) in
     let up : begin ≤ end = omega (arith, end_is, low) in let fits : end ≤ length keys = omega (arith, end_is) in
-    let found : List (Wanted g.row.R.Denot) = c.find_group.new.group in
+    let found : List (Wanted g.row.R.Denot) = c.find_group.new.group in let group : List (Wanted g.row.R.Denot) = take (end - begin) (drop begin keys) in
+    let finds = subst (λ (t : Table). FindsList shows (with_loads (loads_of_key t.shape.rows * length group) c.loop-group.reader) group c.find_group.new.reader found) (sym c.loop-group.invariant.own) c.find_group.ensures.finds in
     let more : Grouped shows first wanted end c.find_group.new.reader (take begin keys ++ (found ++ drop end keys)) =
     group_more shows first wanted c.loop-group.group end c.loop-group.reader keys (subst (λ (made : ℕ). Grouped shows first wanted made c.loop-group.reader keys) here had) low end_is
-    c.find_group.new.reader found (take (end - begin) (drop begin keys)) (part_whole keys begin end up fits) (part_size keys begin end up fits) c.find_group.ensures.finds in record {
+    c.find_group.new.reader found group (part_whole keys begin end up fits) (part_size keys begin end up fits) finds in record {
       own = c.find_group.ensures.own;
       grouped = subst (λ (p : ℕ × List (Wanted g.row.R.Denot)). Grouped shows first wanted p.0 c.find_group.new.reader (take begin keys ++ (found ++ p.1))) (λ j. (there j, sym (after keys begin end up fits) j)) more;
     }
