@@ -19,6 +19,7 @@ pub record WasOpen (id : ℕ) (old new : Token) : Type 0 where
   pub within : Within old new moment
   pub is_open : IsOpen old.directory.plan moment (group_for old id)
 
+-- a request: a claim comes with Granted alone, and is of the id; each refusal with what the call saw
 abbrev pub Requests : ℕ → Token → Token → Requested → Type 0
 Requests id old new (requested.Granted claim) = WinsClaim id (looks 9 old.number) old new × (claim.directory ≡ old.directory) × (claim.id ≡ id)
 Requests id old new (requested.Named way) = Grows old (looks (way % 8 + 2) old.number) new × HasName new way id
@@ -38,6 +39,7 @@ abbrev pub Clears : ℕ → Token → Token → Bool → Type 0
 Clears id old new true = Grows old (cleared (group_for old id) ∷ looks 1 old.number) new
 Clears id old new false = Grows old (looks 1 old.number) new × IsClosed old.directory.plan new.seen (group_for old id)
 
+-- the way's name is taken, by one step
 abbrev pub Unnames : ℕ → Token → Token → Type 0
 Unnames way old new = Grows old (unnamed way ∷ []) new
 

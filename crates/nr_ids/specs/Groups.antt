@@ -3,9 +3,11 @@ use Rattle.std.specs.Prelude.{◌≡◌, ℕ, ◌*◌, ◌/◌, ◌%◌, ◌^◌
 use Rattle.nr_ids.specs.declared.plan.Plan.{Plan}
 use Rattle.nr_ids.specs.declared.plan.TheConstants.{MAX_GROUPS}
 
+-- an opening takes some groups, all of whose ways can be keys of one map
 abbrev pub IsPlan : Plan → Type 0
 IsPlan plan = (0 < plan.groups) × (plan.groups ≤ MAX_GROUPS)
 
+-- it refuses none, and too many
 abbrev pub IsBadPlan : Plan → Type 0
 IsBadPlan plan = (plan.groups ≡ 0) ⊎ (MAX_GROUPS < plan.groups)
 

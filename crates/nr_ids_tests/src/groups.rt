@@ -1,0 +1,35 @@
+//! The groups of ids. What is expected was computed in Python.
+use crate::office::{KEY, Office};
+use nr_ids::Plan;
+use std::process::Abort;
+
+#[test]
+fn groups_are_those_of_the_hash(rt: HostRuntime) {
+    let rows = [
+        (1, 0, 1, 0),
+        (1_000, 0, 1, 747),
+        (1_000, 0, 2, 494),
+        (1_000, 7, 1, 232),
+        (1_000, KEY, 1, 806),
+        (1_000, KEY, 2, 116),
+        (1_000, KEY, u64::MAX, 573),
+        (536_870_911, KEY, 123_456_789, 436_191_126),
+    ];
+    for (groups, key, id, group) in rows {
+        let plan = Plan { groups, key };
+        assert_eq!(rt; plan.group_of(id), group);
+    }
+}
+
+// 640 even ids over 800 ways.
+#[test]
+fn even_ids_spread(rt: HostRuntime) {
+    let mut office = Office::open(&rt, 100);
+    let mut without: u64 = 0;
+    for half in 1..641 {
+        if office.takes_in(2 * half).is_none() {
+            without += 1;
+        }
+    }
+    assert_eq!(rt; without, 39);
+}

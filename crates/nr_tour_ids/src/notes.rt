@@ -1,0 +1,32 @@
+//! What one token learns of another.
+ghost use Rattle.std.specs.Prelude.{◌≡◌};
+
+use nr_ids::{Clerk, Directory, Reader, Requested};
+use std::io::Print;
+
+/// The clerk hears what a reader has seen, and the reader what the clerk has.
+pub fn show_notes<R: AllocGlobal + Print>(
+    rt: &R,
+    directory: &Directory,
+    clerk: &mut Clerk,
+    reader: &mut Reader,
+) -> anyhow::Result<()>
+    requires own { (clerk.old.directory ≡ directory.now) × (reader.old.directory ≡ directory.now) }
+{
+    let id = match directory.request(reader, 7) {
+        Requested::Granted(claim) => {
+            let id = claim.id();
+            claim.into_id();
+            Some(id)
+        }
+        Requested::Named(_) | Requested::Busy | Requested::Outrun | Requested::Worn => None,
+    };
+    let asked = directory.note(reader);
+    directory.hear_clerk(clerk, asked);
+    let admitted = directory.admit(clerk, 7);
+    let told = directory.note_clerk(clerk);
+    directory.hear(reader, told);
+    let found = directory.look_up(reader, 7);
+    println!(rt; "claimed for {id:?}, admitted to {admitted:?}, and found in {found:?}")?;
+    Ok(())
+}
