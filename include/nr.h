@@ -257,7 +257,7 @@ typedef struct nr_poster {
    Several maps behind one queue. Open it for the sum of their keys, and post each key with the number of keys
    of the maps before its own added. */
 
-/* OPENING AND CLOSING */
+/* OPENING AND CLOSING. That NR_NO_MEMORY comes only where memory was refused is tested, and not proved. */
 
 /* Opens a map, and makes the writer's handle live: NR_DONE. NR_LIVE where it is live already, NR_BAD_SIZE or
    NR_NO_MEMORY, and then it stays as it was. */
@@ -424,7 +424,8 @@ uint32_t nr_gather_pin(nr_writer *writer, nr_reader *reader);
    first out. Of a map it knows only how many keys it has. What was taken, followed by what the queue holds, is what
    was posted: each request once, and each poster's in their order. A post or a take makes one attempt and waits for
    nobody. After NR_FULL, NR_EMPTY or NR_IN_THE_WAY nothing has changed, and it may be made again: at once after
-   NR_IN_THE_WAY, which may come at any time, as NR_NO_MEMORY may of an opening: no contract bounds either. */
+   NR_IN_THE_WAY, which may come at any time, as NR_NO_MEMORY may of an opening: no contract bounds either. That the
+   former comes only beside another thread's call is tested. */
 
 /* Opens a queue of 1 to 4,194,303 requests of keys below `keys`, with 1 to 65,535 posters, and makes the
    taker's handle live: NR_DONE. NR_LIVE where it is live already, NR_BAD_SIZE or NR_NO_MEMORY, and then it stays as it

@@ -17,6 +17,8 @@ pub mod Kept
 pub mod Many
 pub mod Writes
 pub mod Reclaims
+pub mod RemainsHandles
+pub mod RemainsFollows
 pub mod Remains
 pub mod Slots
 pub mod PosterHandles

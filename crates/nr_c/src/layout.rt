@@ -6,7 +6,7 @@ ghost use Rattle.nr_c.specs.Layout.{struct_size};
 use crate::many::NrWanted;
 use crate::poster_handle::NrPoster;
 use crate::reader_handle::NrReader;
-use crate::remains::NrRemains;
+use crate::remains_handle::NrRemains;
 use crate::rows::NrRows;
 use crate::sizes::{NrShape, NrSizes};
 use crate::slots::NrSlots;

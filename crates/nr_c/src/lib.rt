@@ -3,8 +3,8 @@
 //! again, of the token that a handle leads to; so the history that all callers share is the same
 //! one whichever language its callers are written in.
 //!
-//! C has a handle for each reader and one for the writer, and of a queue of requests one for each
-//! poster and one for the taker. A handle is one word, the place of a
+//! C has a handle for each reader, one for the writer and one for what remains of a map, and of a queue
+//! of requests one for each poster and one for the taker. A handle is one word, the place of a
 //! token on the heap or none, and contracts see the token. What C owes is each function's
 //! `requires`, and stands beside it in the header too: the handle is live and in the hands of one
 //! call at a time. What costs next to nothing to test is tested, as whether a key is one of the map's.
@@ -30,6 +30,9 @@ mod reader_side;
 mod reads;
 mod reclaims;
 mod remains;
+mod remains_handle;
+mod remains_lend;
+mod remains_side;
 mod rows;
 mod sizes;
 mod slots;

@@ -10,6 +10,7 @@ ghost use Rattle.nr_c.specs.Sizes.{TellsSizes, shape_of_sizes};
 use crate::codes::{NR_BAD_SIZE, NR_CLOSED, NR_DONE, NR_LIVE, NR_NO_MEMORY, NR_NO_READER};
 use crate::reader_handle::NrReader;
 use crate::reader_side::{APART, ReaderSide};
+use crate::remains_side::RemainsSide;
 use crate::sizes::{NrShape, NrSizes};
 use crate::writer_handle::NrWriter;
 use crate::writer_side::WriterSide;
@@ -60,12 +61,13 @@ fn opened(alloc: Global, shape: &NrShape) -> Result<Box<WriterSide, Global>, Ope
 {
     let (map, writer, spare) = opened_map(alloc, &shape.shape())?;
     let map = Arc::new(alloc, map).map_err(|_| OpenFault::Memory)?;
+    let room = Box::new(alloc, RemainsSide::empty()).map_err(|_| OpenFault::Memory)?;
     let side = WriterSide {
         apart: [0; APART],
         map,
         writer,
         spare,
-        next: 0,
+        room,
     };
     Ok(Box::new(alloc, side).map_err(|_| OpenFault::Memory)?)
 }

@@ -4,37 +4,44 @@ ghost use Rattle.nr_c.specs.Live.{WhenLive, WhenOther};
 ghost use Rattle.nr_c.specs.Remains.{NextByCode, TakesApart};
 
 use crate::codes::{NR_CLOSED, NR_DONE, NR_GIVEN, NR_LIVE, NR_NOTHING, NR_READERS_OUT};
+use crate::remains_handle::NrRemains;
+use crate::remains_side::LeftMap;
 use crate::rows::NrRows;
 use crate::writer_handle::NrWriter;
+use crate::writer_side::WriterSide;
 use std::alloc::Global;
-use std::mem;
-
-/// The handle of what remains: the writer's, to which nobody writes any more.
-#[repr(C)]
-pub struct NrRemains {
-    pub(crate) handle: NrWriter,
-}
 
 /// Takes a map apart whose readers are all back, so that nobody holds a set: `NR_DONE`, the writer's
 /// handle leads nowhere any more, and `remains` to the sets that no call gave out. `NR_LIVE` where
 /// `remains` is live already, and `NR_READERS_OUT` where some reader isn't back; then both handles stay
 /// as they were. No step, and no memory.
 #[unsafe(no_mangle)]
-pub extern "C" fn nr_take_apart(writer: &mut NrWriter, remains: &mut NrRemains) -> u32
-    ensures { WhenOther result (TakesApart result) writer.old.live remains.old.handle.live writer.new.live remains.new.handle.live }
+pub extern "C" fn nr_take_apart(
+    alloc: Global,
+    writer: &mut NrWriter,
+    remains: &mut NrRemains,
+) -> u32
+    ensures { WhenOther result (TakesApart result) writer.old.live remains.old.live writer.new.live remains.new.live }
 {
     if !writer.is_live() {
         return NR_CLOSED;
     }
-    if remains.handle.is_live() {
+    if remains.is_live() {
         return NR_LIVE;
     }
-    let side = writer.side();
-    if !side.has_all_readers() {
+    if !writer.side().has_all_readers() {
         return NR_READERS_OUT;
     }
-    side.next = 0;
-    mem::swap(writer, &mut remains.handle);
+    let WriterSide {
+        apart: _,
+        map,
+        writer,
+        spare,
+        mut room,
+    } = writer.close(alloc);
+    let rest = map.leave(writer, spare);
+    room.left = Some(LeftMap { map, rest });
+    remains.lead_to(room);
     NR_DONE
 }
 
@@ -43,16 +50,19 @@ pub extern "C" fn nr_take_apart(writer: &mut NrWriter, remains: &mut NrRemains) 
 /// stays.
 #[unsafe(no_mangle)]
 pub extern "C" fn nr_next(remains: &mut NrRemains, had: &mut NrRows) -> u32
-    ensures { WhenLive result (had.new ≡ had.old) (NextByCode had.old had.new result) remains.old.handle.live remains.new.handle.live }
+    ensures { WhenLive result (had.new ≡ had.old) (NextByCode had.old had.new result) remains.old.live remains.new.live }
 {
-    if !remains.handle.is_live() {
+    if !remains.is_live() {
         return NR_CLOSED;
     }
-    let side = remains.handle.side();
-    match side.map.set_from(&mut side.writer, side.next, had) {
-        Some(next) => {
-            side.next = next;
-            NR_GIVEN
+    let side = remains.side();
+    match &mut side.left {
+        Some(left) => {
+            if left.rest.next_of(&left.map, had) {
+                NR_GIVEN
+            } else {
+                NR_NOTHING
+            }
         }
         None => NR_NOTHING,
     }
@@ -62,9 +72,9 @@ pub extern "C" fn nr_next(remains: &mut NrRemains, had: &mut NrRows) -> u32
 /// happens where the handle isn't live.
 #[unsafe(no_mangle)]
 pub extern "C" fn nr_close_remains(alloc: Global, remains: &mut NrRemains)
-    ensures { remains.new.handle.live ≡ [] }
+    ensures { remains.new.live ≡ [] }
 {
-    if remains.handle.is_live() {
-        drop(remains.handle.close(alloc));
+    if remains.is_live() {
+        remains.close(alloc);
     }
 }

@@ -8,7 +8,6 @@ ghost use Rattle.nr_c.specs.WriterHandles.{writer_side_coded, writer_handle_owns
 
 use crate::parts::Parts;
 use crate::writer_side::WriterSide;
-use nr_map::Writer;
 use std::alloc::Global;
 use std::marker::Model;
 use std::mem::{self, ManuallyDrop};
@@ -50,15 +49,14 @@ impl NrWriter {
         !self.ptr.is_null()
     }
 
-    /// Ends the writer, and its share of the map. The handle leads nowhere then.
-    pub fn close(&mut self, alloc: Global) -> Writer
+    /// Gives back what the handle leads to. It leads nowhere then.
+    pub fn close(&mut self, alloc: Global) -> WriterSide
         requires { (side : WriterSide) × (self.old.live ≡ side ∷ []) }
-        ensures ends { (side : WriterSide) → self.old.live ≡ side ∷ [] → result ≡ side.writer }
+        ensures ends { (side : WriterSide) → self.old.live ≡ side ∷ [] → result ≡ side }
         ensures empty { self.new.live ≡ [] }
     {
         let handle = mem::replace(self, NrWriter::empty(alloc));
-        let side = Box::into_inner(handle.into_box());
-        side.writer
+        Box::into_inner(handle.into_box())
     }
 
     fn empty(alloc: Global) -> NrWriter

@@ -3,6 +3,7 @@ ghost use Rattle.std.specs.Prelude.{◌≡◌, ◌≢◌, ◌<◌, ◌≤◌, Al
 ghost use Rattle.std.specs.Bool.{OnFalse, OnTrue};
 
 use crate::reader_side::APART;
+use crate::remains_side::RemainsSide;
 use nr_map::{Reader, ReaderMap, Writer};
 use std::alloc::Global;
 use std::sync::Arc;
@@ -15,8 +16,8 @@ pub struct WriterSide {
     pub map: Arc<ReaderMap, Global>,
     pub writer: Writer,
     pub spare: Vec<Reader, Global>,
-    /// Where the map is taken apart, the slot from which on the next set is looked for.
-    pub next: u32,
+    /// Where what remains will lie, once the map is taken apart.
+    pub room: Box<RemainsSide, Global>,
     ghost own: { writer.table ≡ map.value },
     ghost spares: { All (λ reader. reader.table ≡ map.value) spare.items },
 }

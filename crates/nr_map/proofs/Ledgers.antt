@@ -1,15 +1,14 @@
 -- The sets that stand in slots and those that were let go, call by call: a call that puts a set lets go of the one that its slot had, and a reap of the one that it gives out.
-use Rattle.std.proofs.Common.{Bool, List, [], ap, arith, cond, drop, eq-eqb, false, get_or, get_or-set_other, get_or-set_same, inl, inr, length, length-append, length-set, nat_eq, nat_lt, refl, set, subst, suc, sym, take, true, zero, ℕ, ⊎_elim, ◌++◌, ◌+◌, ◌<◌, ◌∙◌, ◌∷◌, ◌≡◌, ◌≤◌, ◌≢◌, ◌⊎◌}
+use Rattle.std.proofs.Common.{Bool, List, [], ap, arith, cond, drop, eq-eqb, false, get_or, get_or-set_other, get_or-set_same, inl, inr, length, length-append, length-set, nat_eq, refl, set, subst, suc, sym, take, true, zero, ℕ, ⊎_elim, ◌++◌, ◌+◌, ◌<◌, ◌∙◌, ◌∷◌, ◌≡◌, ◌≤◌, ◌≢◌, ◌⊎◌}
 use Rattle.std.specs.Prelude.{Some, replicate}
 use Rattle.std.proofs.lemmas.Bool.{eqb-false, le-ltb, lt-ltb, ne_eqb}
 use Rattle.std.proofs.lemmas.List.{length-replicate, take_all}
 use lib.ListN.{get_elem?}
 use mathlib.Core.Logic.{dite}
-use mathlib.Core.Option.{none, some, some-injective, some-ne-none}
+use mathlib.Core.Option.{some, some-injective, some-ne-none}
 use native.Mathlib.Decide.{dec_le, ℕ_discrete}
 use Rattle.nr_core.proofs.Choices.{by_cases}
 use Rattle.nr_core.proofs.Sums.{at_remove, at_snoc, total-append}
-use Rattle.nr_machine.specs.Sums.{total}
 use Rattle.nr_machine.specs.declared.places.Retired.{Retired}
 use Rattle.nr_machine.specs.declared.shape.Shape.{Shape}
 use Rattle.nr_model.proofs.HistoryLemmas.{count_by-cons}
@@ -24,20 +23,17 @@ use Rattle.nr_model.specs.declared.rows.Row.{Row}
 use Rattle.nr_model.specs.declared.states.KeyState.{KeyState}
 use Rattle.nr_model.specs.declared.states.KeyState.TheVariants.{Asked, Hole, Rows}
 use Rattle.nr_machine.specs.Story.{entry}
-use Rattle.nr_marks.specs.Marks.{Marks, Past, opening_marks, with_polls}
-use Rattle.nr_marks.specs.Pasts.{Current, Living}
+use Rattle.nr_marks.specs.Marks.{Marks, Past, with_polls}
+use Rattle.nr_marks.specs.Pasts.{Living}
 use Rattle.nr_marks.specs.Puts.{put_count, puts_set}
 use Rattle.nr_board.specs.declared.answers.Cancel.TheVariants as cancel
 use Rattle.nr_board.specs.declared.answers.Evict.TheVariants as evict
-use Rattle.nr_board.specs.Callers.{Caller, Gains, Grows, Table, map_at_opening}
+use Rattle.nr_board.specs.Callers.{Caller, Gains, Table, map_at_opening}
 use Rattle.nr_board.specs.Entries.{AreCallers, is_reading}
 use Rattle.nr_machine.specs.Spares.{Spare}
-use Rattle.nr_board.specs.Spares.{spare_of}
-use Rattle.nr_board.specs.Reaping.{after_polls, waiting, with_reap}
-use Rattle.nr_board.specs.WriterAnswers.{CancelsKey, EvictsKey, HasNoSlot, Publishes, Retires, RetiresOne, SlotsStay}
-use Rattle.nr_map.specs.Remains.{RestComesOutOnce}
-use Rattle.nr_map.specs.Opened.{IsOpened, newcomer}
-use Rattle.nr_map.specs.Reclaims.{CancelLeaves, EvictionLeaves, HandedOutOnce, Ledger, LedgerStays, NobodyHoldsIt, NoSlotLeaves, OpeningBegins, QuietLeaves, ReapedOnce, had_number, standing, unreaped}
+use Rattle.nr_board.specs.Reaping.{waiting}
+use Rattle.nr_board.specs.WriterAnswers.{Publishes, Retires, RetiresOne}
+use Rattle.nr_map.specs.Reclaims.{CancelLeaves, EvictionLeaves, GatheredStands, HandedOutOnce, Ledger, LedgerStays, NobodyHoldsIt, NoSlotLeaves, OpeningBegins, QuietLeaves, ReapedOnce, StandsAfterReap, StandsYet, had_number, standing, unreaped}
 
 -- THE WRITER'S PUTS ARE ITS OWN ENTRIES'
 
@@ -84,7 +80,7 @@ one_if_other number other apart = ap (λ (b : Bool). cond {A = ℕ} b 1 0) (ne_e
 count_cons : (number x : ℕ) (l : List ℕ) → count_of_put (x ∷ l) number ≡ one_if number x + count_of_put l number
 count_cons number x l = count_by-cons (λ other. nat_eq other number) x l
 
-count_both : (number : ℕ) (l m : List ℕ) → count_of_put (l ++ m) number ≡ count_of_put l number + count_of_put m number
+pub count_both : (number : ℕ) (l m : List ℕ) → count_of_put (l ++ m) number ≡ count_of_put l number + count_of_put m number
 count_both number [] m = omega arith
 count_both number (x ∷ l) m = omega (arith, count_cons number x (l ++ m), count_cons number x l, count_both number l m)
 
@@ -97,12 +93,12 @@ take_zero : (l : List ℕ) → take 0 l ≡ []
 take_zero [] = refl
 take_zero (y ∷ l) = refl
 
-length_take : (l : List ℕ) (n : ℕ) → n ≤ length l → length (take n l) ≡ n
+pub length_take : (l : List ℕ) (n : ℕ) → n ≤ length l → length (take n l) ≡ n
 length_take l zero low = ap length (take_zero l)
 length_take [] (suc n) low = absurd (omega arith)
 length_take (y ∷ l) (suc n) low = let rest = length_take l n (omega arith) in omega arith
 
-get_take : (l : List ℕ) (n i : ℕ) → i < n → get_or (take n l) i 0 ≡ get_or l i 0
+pub get_take : (l : List ℕ) (n i : ℕ) → i < n → get_or (take n l) i 0 ≡ get_or l i 0
 get_take l zero i low = absurd (omega arith)
 get_take [] (suc n) i low = refl
 get_take (y ∷ l) (suc n) zero low = refl
@@ -193,31 +189,46 @@ ledger_stays_lem old new gone table fresh puts reaped living many ledger =
       later = λ number high. let none = ledger.later number (omega arith) in omega (arith, counts number);
     }
 
-pub rest_comes_out_once_lem : RestComesOutOnce
-rest_comes_out_once_lem writer gone left number ledger apart low = ap (λ (c : Caller). count_of_put (standing c) number + count_of_put gone number) apart.writer_is ∙ ledger.put number low
-
-pub nobody_holds_it_lem : NobodyHoldsIt
-nobody_holds_it_lem writer gone reader slot number ledger current holds let_go same =
-    let placed = current.placed slot holds in let low = ledger.taken slot placed.1 in
+-- the put number of a set that stands
+pub stands_once : (writer : Caller) (gone : List ℕ) (slot number : ℕ) → Ledger writer gone → slot < writer.fresh → get_or writer.marks.puts slot 0 ≡ number
+    → get_or writer.marks.reaped slot false ≡ false → (number < put_count writer.mine) × (count_of_put gone number ≡ 0)
+stands_once writer gone slot number ledger low is kept =
     let stands = count_at number (take writer.fresh writer.marks.puts) writer.marks.reaped slot
     (omega (arith, length_take writer.marks.puts writer.fresh (omega (arith, ledger.slots.0, ledger.slots.1))))
-    (get_take writer.marks.puts writer.fresh slot low ∙ placed.0 ∙ same) (current.kept slot holds) in
-    dite (dec_le (put_count writer.mine) number) (λ high. absurd (let none = ledger.later number high in omega arith)) (λ low'. absurd (let one = ledger.put number (omega arith) in omega arith))
+    (get_take writer.marks.puts writer.fresh slot low ∙ is) kept in
+    dite (dec_le (put_count writer.mine) number) (λ high. absurd (let none = ledger.later number high in omega arith)) (λ low'. let one = ledger.put number (omega arith) in (omega arith, omega arith))
+
+pub nobody_holds_it_lem : NobodyHoldsIt
+nobody_holds_it_lem writer gone reader slot number ledger stands holds let_go same =
+    let placed = stands slot holds in
+    let none = (stands_once writer gone slot number ledger (ledger.taken slot placed.1) (placed.0 ∙ same) placed.2).1 in omega arith
+
+pub gathered_stands_lem : GatheredStands
+gathered_stands_lem writer reader current slot holds = let placed = current.placed slot holds in (placed.0, placed.1, current.kept slot holds)
+
+pub stands_after_reap_lem : {Room : Type 0} (shows : Room → List Row → Type 0) → StandsAfterReap shows
+stands_after_reap_lem shows old new before after reader = (
+  λ reaps stands other.
+      subst (λ (c : Caller). StandsYet c reader) (sym reaps.8)
+      (λ slot holds. let was = stands slot holds in (was.0, was.1, get_or-set_other old.marks.reaped reaps.2.slot slot true false (λ same. other (holds ∙ ap (λ (n : ℕ). Some n) same)) ∙ was.2)),
+  λ held stands. subst (λ (c : Caller). StandsYet c reader) (sym held.3) stands,
+  λ nothing stands. subst (λ (c : Caller). StandsYet c reader) (sym nothing.1) stands,
+)
 
 module _ (steps : ℕ) (call : Call) (rows : List Row) (old new : Caller) (gone : List ℕ) (writes : old.number ≡ 0) (published : Publishes steps old call rows new) (ledger : Ledger old gone) where
-  put_now : put_count new.mine ≡ put_count old.mine + 1
+  pub put_now : put_count new.mine ≡ put_count old.mine + 1
   put_now = ap put_count published.gains.mine ∙ total-append puts_set old.mine (entry old.number call reply.Done ∷ [])
 
-  number_is : published.number ≡ put_count old.mine
+  pub number_is : published.number ≡ put_count old.mine
   number_is = let gains = published.gains in
       let all = own_puts old.table.shape (map_at_opening old.table) new.seen gains.legal gains.callers in
       let mine : entries_of new.seen 0 ≡ new.mine = ap (entries_of new.seen) (sym (gains.number ∙ writes)) ∙ gains.own in
       omega (arith, all, ap put_count mine, published.count, put_now)
 
-  puts_are : new.marks.puts ≡ set old.marks.puts published.slot published.number
+  pub puts_are : new.marks.puts ≡ set old.marks.puts published.slot published.number
   puts_are = ap (λ (m : Marks). m.puts) published.marks
 
-  flags_are : new.marks.reaped ≡ set old.marks.reaped published.slot false
+  pub flags_are : new.marks.reaped ≡ set old.marks.reaped published.slot false
   flags_are = ap (λ (m : Marks). m.reaped) published.marks
 
   names_are : new.marks.names ≡ set old.marks.names (call_key call) (suc published.slot)
@@ -293,7 +304,7 @@ module _ (steps : ℕ) (call : Call) (rows : List Row) (old new : Caller) (gone 
       (was_retired call old published.mid.retired new.retired published.retires retired.0 retired.1 retired.2))
       lives
 
-  ledger_goes_on : Ledger new (gone ++ had_number old published.slot)
+  pub ledger_goes_on : Ledger new (gone ++ had_number old published.slot)
   ledger_goes_on = let size = ap (λ (t : Table). t.shape.slots) published.gains.table in record {
     slots = (
       ap length puts_are ∙ length-set old.marks.puts published.slot published.number ∙ ledger.slots.0
@@ -314,7 +325,7 @@ handed_out_once_lem = ledger_goes_on
 -- A REAP
 
 -- a slot whose set waits is retired, and was not reaped
-waits_there : (flags : List Bool) (retired held later : List Retired) (entry : Retired) → waiting flags retired ≡ held ++ entry ∷ later → (at : ℕ) × (get_elem? retired at ≡ some entry) × (get_or flags entry.slot false ≡ false)
+pub waits_there : (flags : List Bool) (retired held later : List Retired) (entry : Retired) → waiting flags retired ≡ held ++ entry ∷ later → (at : ℕ) × (get_elem? retired at ≡ some entry) × (get_or flags entry.slot false ≡ false)
 waits_there flags [] held later entry is = absurd (let size = ap length is in let longer = length-append held (entry ∷ later) in omega arith)
 waits_there flags (e ∷ retired) held later entry is =
     let Goal : Type 0 = (at : ℕ) × (get_elem? (e ∷ retired) at ≡ some entry) × (get_or flags entry.slot false ≡ false) in
@@ -372,7 +383,7 @@ opening_begins_lem shape map writer readers opened = let size : shape.slots ≡ 
 
 -- CALLS THAT PUT NOTHING
 
-quiet_puts : (steps : ℕ) (call : Call) (answer : Reply) (old new : Caller) → is_done answer ≡ false → Gains steps old call answer new → put_count new.mine ≡ put_count old.mine
+pub quiet_puts : (steps : ℕ) (call : Call) (answer : Reply) (old new : Caller) → is_done answer ≡ false → Gains steps old call answer new → put_count new.mine ≡ put_count old.mine
 quiet_puts steps call answer old new quiet gains = let none : puts_set (entry old.number call answer) ≡ 0 = ap (λ (b : Bool). cond {A = ℕ} b 1 0) quiet in
     omega (arith, ap put_count gains.mine, total-append puts_set old.mine (entry old.number call answer ∷ []), none)
 

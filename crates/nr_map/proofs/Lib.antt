@@ -10,4 +10,6 @@ pub mod FindsEach
 pub mod FindsGroups
 pub mod RowBounds
 pub mod Ledgers
+pub mod Remainders
+pub mod GivenBack
 pub mod SlotCounting

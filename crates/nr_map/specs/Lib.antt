@@ -11,4 +11,5 @@ pub mod SlotBounds
 pub mod RowBounds
 pub mod Reclaims
 pub mod Remains
+pub mod GivenBack
 pub mod SlotCounts

@@ -14,7 +14,8 @@ use Rattle.nr_marks.specs.Puts.{put_count}
 use Rattle.nr_board.specs.declared.answers.Cancel.{Cancel}
 use Rattle.nr_board.specs.declared.answers.Evict.{Evict}
 use Rattle.nr_board.specs.Callers.{Caller, Gains, Table}
-use Rattle.nr_board.specs.Reaping.{after_polls, waiting, with_reap}
+use Rattle.nr_board.specs.declared.answers.Reaped.TheVariants as reaped
+use Rattle.nr_board.specs.Reaping.{ReapsIn, after_polls, waiting, with_reap}
 use Rattle.nr_board.specs.WriterAnswers.{CancelsKey, EvictsKey, HasNoSlot, Publishes, SlotsStay}
 use Rattle.nr_map.specs.Opened.{IsOpened}
 
@@ -112,12 +113,31 @@ LedgerStays =
     Ledger old gone →
     Ledger new gone
 
--- a reader that the writer has gathered holds no set that was let go
+-- the set that a reader held, as the writer knows it, stands in a slot that a key names or that is retired, and was not reaped
+abbrev pub StandsYet : Caller → Past → Type 0
+StandsYet writer reader = (slot : ℕ) → reader.slot ≡ Some slot → (slice_index writer.marks.puts slot ≡ reader.put) × Living writer.retired writer.marks slot × (is_reaped writer.marks slot ≡ false)
+
+-- so it is of a reader that the writer has just gathered
+abbrev pub GatheredStands : Type 0
+GatheredStands =
+    (writer : Caller) (reader : Past) →
+    Current writer.retired writer.marks reader →
+    StandsYet writer reader
+
+-- and stays over a reap that gives out another set; a reader whose own set comes out has let it go since
+abbrev pub StandsAfterReap : {Room : Type 0} → (Room → List Row → Type 0) → Type 0
+StandsAfterReap {Room = Room} shows =
+    (old new : Caller) (before after : Room) (reader : Past) →
+    ((reaps : ReapsIn shows old before new after reaped.Set) → StandsYet old reader → reader.slot ≢ Some reaps.2.slot → StandsYet new reader)
+    × (ReapsIn shows old before new after reaped.Held → StandsYet old reader → StandsYet new reader)
+    × (ReapsIn shows old before new after reaped.Nothing → StandsYet old reader → StandsYet new reader)
+
+-- such a reader holds no set that was let go
 abbrev pub NobodyHoldsIt : Type 0
 NobodyHoldsIt =
     (writer : Caller) (gone : List ℕ) (reader : Past) (slot number : ℕ) →
     Ledger writer gone →
-    Current writer.retired writer.marks reader →
+    StandsYet writer reader →
     reader.slot ≡ Some slot →
     0 < count_of_put gone number →
     reader.put ≢ number

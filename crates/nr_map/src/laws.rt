@@ -3,10 +3,13 @@ ghost use Rattle.nr_map.specs.ExactPlaces.{DoneMeansFewerInUse, NoSlotMeansAllIn
 ghost use Rattle.nr_map.specs.Written.{FindsWhatItHeard, FindsWritten, HearsAllCalls, ReadsNoOlder};
 ghost use Rattle.nr_map.specs.SlotBounds.{NoSlotIsRare, PollsAreFew, RoomForFills, RoomForReplacements, RoomForUpdates};
 ghost use Rattle.nr_map.specs.SlotCounts.{CountsAtNoSlot};
-ghost use Rattle.nr_map.specs.Reclaims.{CancelLeaves, EvictionLeaves, HandedOutOnce, LedgerStays, NobodyHoldsIt, NoSlotLeaves, OpeningBegins, QuietLeaves, ReapedOnce};
+ghost use Rattle.nr_map.specs.Reclaims.{CancelLeaves, EvictionLeaves, GatheredStands, HandedOutOnce, LedgerStays, NobodyHoldsIt, NoSlotLeaves, OpeningBegins, QuietLeaves, ReapedOnce, StandsAfterReap};
+ghost use Rattle.nr_map.specs.GivenBack.{EachSetComesOutOnce};
 ghost use Rattle.nr_map.specs.Remains.{RestComesOutOnce};
 ghost use Rattle.nr_map.specs.RowBounds.{RowsFitTheMap};
 ghost use Rattle.nr_map.specs.Rounds.{BeginningsMeet, CallsStay, EntriesAreCallers, RoundsTellAll, SendsOfAll, SendsOfAllKeys};
+
+use nr_model::RowRoom;
 
 /// A caller's calls stay in a history that goes on.
 pub fn calls_stay()
@@ -156,14 +159,31 @@ pub fn ledger_stays()
     ensures { LedgerStays }
 {}
 
-/// Once the map was taken apart, each set that was put has come out exactly once: by a call that let
-/// it go, or of what remained.
-pub fn rest_comes_out_once()
-    ensures { RestComesOutOnce }
+/// Once the map was taken apart and all that was left has come out, each set that was put has come out
+/// exactly once: by a call that let it go, or of what was left.
+pub fn rest_comes_out_once<R: RowRoom>()
+    ensures { RestComesOutOnce R.shows }
 {}
 
-/// A reader that was gathered holds a set that stands in a slot and was not reaped, and so none that
-/// was let go.
+/// So a caller that puts sets by reclaiming calls alone, reaps, and takes the map apart at its end gets
+/// each set that it put exactly once, with its rows, and nothing else. It may make any other calls of
+/// the writer's between, but for those that put a set and give none out.
+pub fn each_set_comes_out_once<R: RowRoom>()
+    ensures { EachSetComesOutOnce R.shows }
+{}
+
+/// The set that a gathered reader holds stands in a slot, and was not reaped.
+pub fn gathered_stands()
+    ensures { GatheredStands }
+{}
+
+/// So it stays over a reap that gives out another set. A reader whose own set comes out has let it go
+/// since it was gathered.
+pub fn stands_after_reap<R: RowRoom>()
+    ensures { StandsAfterReap R.shows }
+{}
+
+/// A reader whose set stands so holds none that was let go.
 pub fn nobody_holds_it()
     ensures { NobodyHoldsIt }
 {}

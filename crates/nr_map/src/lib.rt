@@ -47,7 +47,7 @@ pub use nr_core::{MAX_READERS, MAX_SLOTS, MOST_READERS, MOST_SLOTS, NoSlot, Shap
 pub use pin::Pin;
 pub use reader::Reader;
 pub use reader_map::ReaderMap;
-pub use remains::Remains;
+pub use remains::{Remains, Rest};
 pub use slot_counts::SlotCounts;
 pub use ticket::Ticket;
 pub use wanted::Wanted;

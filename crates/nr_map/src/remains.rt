@@ -1,20 +1,41 @@
 //! A map that is taken apart, and the sets that stand in its slots.
 ghost use Rattle.std.specs.Prelude.{◌≡◌, ◌<◌, All, IfSome, length};
-ghost use Rattle.nr_map.specs.Remains.{ComesOut, NextOf, NextSlot, TakenApart};
+ghost use Rattle.nr_map.specs.Remains.{NextOf, NextSlot, TakenApart};
 
 use crate::reader::Reader;
 use crate::reader_map::ReaderMap;
 use crate::writer::Writer;
+use nr_board::Seat;
+use nr_core::Spare;
 use nr_model::RowRoom;
 use std::marker::Model;
 
-/// What is left of a map: the set of each slot that was ever taken, filled keys' sets among them,
+/// What is left of a writer: the set of each slot that was ever taken, filled keys' sets among them,
 /// but for those that were reaped.
+#[derive(Drop)]
+pub struct Rest {
+    seat: Seat,
+    spare: Spare,
+    next: u32,
+}
+
+impl Model for Rest {
+    ghost use Rattle.nr_board.specs.Callers.{token};
+    ghost use Rattle.nr_board.specs.WriterSeats.{RestsAt};
+    ghost use Rattle.nr_map.specs.Remains.{Left};
+
+    ghost Value = { Left };
+
+    ghost view = { λ rest. record { writer = token rest.seat; next = rest.next } };
+
+    ghost invariant = { λ rest. RestsAt (token rest.seat).table rest.spare rest.seat };
+}
+
+/// What is left of a map: as `Rest`, with the map.
 #[derive(Drop)]
 pub struct Remains {
     map: ReaderMap,
-    writer: Writer,
-    next: u32,
+    rest: Rest,
 }
 
 impl Model for Remains {
@@ -23,9 +44,9 @@ impl Model for Remains {
 
     ghost Value = { Left };
 
-    ghost view = { λ remains. record { writer = remains.writer; next = remains.next } };
+    ghost view = { λ remains. remains.rest };
 
-    ghost invariant = { λ remains. remains.writer.table ≡ remains.map };
+    ghost invariant = { λ remains. remains.rest.writer.table ≡ remains.map };
 }
 
 impl ReaderMap {
@@ -37,35 +58,52 @@ impl ReaderMap {
         requires readers { All (λ reader. reader.table ≡ self) readers.items }
         ensures { TakenApart writer result }
     {
+        let rest = self.leave(writer, readers);
+        Remains { map: self, rest }
+    }
+
+    /// As `take_apart`, of a map that is shared, and so can't be given away. It stays as it is, but
+    /// nobody can write to it any more.
+    pub fn leave(&self, writer: Writer, readers: Vec<Reader>) -> Rest
+        requires own { writer.table ≡ self.now }
+        requires all { length readers.items ≡ self.now.shape.readers }
+        requires readers { All (λ reader. reader.table ≡ self.now) readers.items }
+        ensures { TakenApart writer result }
+    {
         drop(readers);
-        Remains {
-            map: self,
-            writer,
+        let Writer {
+            seat,
+            spare,
+            pile: _,
+        } = writer;
+        Rest {
+            seat,
+            spare,
             next: 0,
         }
     }
-
-    /// Writes the set of the first slot from that one on that was ever taken and not reaped into the
-    /// caller's room, in 2n + 1 steps for n rows, and tells the slot after it. None where there is
-    /// no such slot; then the room stays as it is. For a caller that has all readers back, so that
-    /// nobody holds the set, which this call doesn't test, and that can't give the map away as
-    /// `Remains` needs.
-    pub fn set_from<R: RowRoom>(&self, writer: &mut Writer, from: u32, rows: &mut R) -> Option<u32>
-        requires own { writer.old.table ≡ self.now }
-        ensures { ComesOut R.shows from writer.old rows.old writer.new rows.new result }
-    {
-        let slot = writer.next_slot(from)?;
-        self.board.recall_set::<R>(&mut writer.seat, slot, rows);
-        Some(slot + 1)
-    }
 }
 
-impl Writer {
-    fn next_slot(&self, from: u32) -> Option<u32>
-        ensures next { NextSlot self.now from result }
-        ensures inside { IfSome result (λ slot. slot < self.now.table.shape.slots) }
+impl Rest {
+    /// Writes the next set into the caller's room, in 2n + 1 steps for n rows. False where all have
+    /// come out; then the room stays as it is.
+    pub fn next_of<R: RowRoom>(&mut self, map: &ReaderMap, rows: &mut R) -> bool
+        requires own { self.old.writer.table ≡ map.now }
+        ensures { NextOf R.shows self.old rows.old self.new rows.new result }
     {
-        for slot in from..self.spare.taken() {
+        let Some(slot) = self.next_slot() else {
+            return false;
+        };
+        map.board.recall_set::<R>(&mut self.seat, slot, rows);
+        self.next = slot + 1;
+        true
+    }
+
+    fn next_slot(&self) -> Option<u32>
+        ensures next { NextSlot self.now.writer self.now.next result }
+        ensures inside { IfSome result (λ slot. slot < self.now.writer.table.shape.slots) }
+    {
+        for slot in self.next..self.spare.taken() {
             if !self.spare.is_reaped(slot) {
                 return Some(slot);
             }
@@ -75,17 +113,10 @@ impl Writer {
 }
 
 impl Remains {
-    /// Writes the next set into the caller's room, in 2n + 1 steps for n rows. False where all have
-    /// come out; then the room stays as it is.
+    /// As `Rest::next_of`.
     pub fn next_into<R: RowRoom>(&mut self, rows: &mut R) -> bool
         ensures { NextOf R.shows self.old rows.old self.new rows.new result }
     {
-        match self.map.set_from(&mut self.writer, self.next, rows) {
-            Some(next) => {
-                self.next = next;
-                true
-            }
-            None => false,
-        }
+        self.rest.next_of::<R>(&self.map, rows)
     }
 }

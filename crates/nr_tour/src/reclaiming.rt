@@ -4,7 +4,7 @@ ghost use Rattle.std.specs.Prelude.{◌≡◌, ◌<◌};
 use crate::texts::Texts;
 use nr_map::{FillFault, Pin, Reader, ReaderMap, Reaped, Reclaimed, Remains, Writer};
 use nr_model::{Delta, OpenFault, Pile, Row};
-use nr_tour_parts::{Page, ask, opened_filled};
+use nr_tour_parts::{Page, ask};
 use std::alloc::Global;
 
 const FIRST: [Row; 1] = [Row { a: 1, b: 0 }];
@@ -138,22 +138,20 @@ fn give_back(alloc: Global, texts: &mut Texts, page: &mut Page) -> Result<(), Op
 }
 
 // The sets of a map that isn't given away come out where they lie. Here one of two slots was taken.
-fn leave_in_place(map: &ReaderMap, writer: &mut Writer, page: &mut Page)
-    requires own { writer.old.table ≡ map.now }
-{
-    let mut rows = Pile::new();
-    let first = map.set_from(writer, 0, &mut rows);
-    let second = match first {
-        Some(next) => map.set_from(writer, next, &mut rows),
-        None => None,
+fn leave_in_place(alloc: Global, page: &mut Page) -> Result<(), OpenFault> {
+    let (map, mut writer, mut readers) = ReaderMap::open(alloc, 1, 2, 1, 0)?;
+    let Some(mut reader) = readers.pop() else {
+        unreachable!()
     };
+    ask(&map, &mut reader, 0);
+    page.line("a fill: ", &fill(&map, &mut writer));
+    readers.push(reader).map_err(|_| OpenFault::Memory)?;
+    let mut rest = map.leave(writer, readers);
+    let mut had = Pile::new();
+    let first = rest.next_of(&map, &mut had);
+    let second = rest.next_of(&map, &mut had);
     page.line("where it lies: ", &[first, second]);
-    page.more(": ", &rows.as_slice());
-}
-
-fn fill_and_leave(alloc: Global, page: &mut Page) -> Result<(), OpenFault> {
-    let (map, mut writer, _one, _two) = opened_filled(alloc, 1, 2)?;
-    leave_in_place(&map, &mut writer, page);
+    page.more(": ", &had.as_slice());
     Ok(())
 }
 
@@ -161,6 +159,6 @@ pub fn chapter(alloc: Global) -> Result<Page, OpenFault> {
     let mut texts = Texts::of_three(alloc)?;
     let mut page = Page::titled(alloc, "Given back");
     give_back(alloc, &mut texts, &mut page)?;
-    fill_and_leave(alloc, &mut page)?;
+    leave_in_place(alloc, &mut page)?;
     Ok(page)
 }

@@ -1,5 +1,5 @@
-use Rattle.nr_map.proofs.Ledgers.{rest_comes_out_once_lem}
+use Rattle.nr_map.proofs.Remainders.{rest_comes_out_once_lem}
 use Rattle.nr_map.proofs.laws.rest_comes_out_once.Goals as goal
 
 pub returns : goal.returns
-returns c = rest_comes_out_once_lem
+returns g c = rest_comes_out_once_lem g.R.RowRoom.shows

@@ -1,5 +1,0 @@
-use Rattle.nr_map.specs.Remains.{AllReaped}
-use Rattle.nr_map.proofs.writer.Writer.next_slot.Given as goal
-
-abbrev pub invariant-loop-slot : goal.invariant-loop-slot
-invariant-loop-slot l = AllReaped l.self.marks l.from l.slot
