@@ -14,7 +14,8 @@ FindsOneByCode wanted found old new = (found.key ≡ wanted.key) × FindsByCode 
 -- the finds of the keys from that index of a list on: that of the first, before it the loads for each of sixteen where sixteen begin there, and then those of the others
 abbrev pub FindsOnByCode : ℕ → List NrWanted → List NrWanted → Caller → Caller → Type 0
 FindsOnByCode place [] [] old new = new ≡ old
-FindsOnByCode place (wanted ∷ others) (found ∷ rest) old new = (next : Caller) × FindsOneByCode wanted found (with_loads (loads_at old.table.shape.rows place (length (wanted ∷ others))) old) next × FindsOnByCode (place + 1) others rest next new
+FindsOnByCode place (wanted ∷ others) (found ∷ rest) old new =
+    (next : Caller) × FindsOneByCode wanted found (with_loads (loads_at old.table.shape.rows place (length (wanted ∷ others))) old) next × FindsOnByCode (place + 1) others rest next new
 FindsOnByCode place [] (found ∷ rest) old new = ⊥
 FindsOnByCode place (wanted ∷ others) [] old new = ⊥
 

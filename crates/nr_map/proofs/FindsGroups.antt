@@ -45,7 +45,8 @@ module _ {Room : Type 0} (shows : Room → List Row → Type 0) where
 
   -- the finds of a group, with its loads before them
   of_group : (groups : ℕ) (group found rest more : List (Wanted Room)) (now next last : Caller) → 0 < length group → length group ≤ 16 → min (length (group ++ rest)) 16 ≡ length group
-      → FindsList shows (with_loads (loads_of_key now.table.shape.rows * length group) now) group next found → FindsFrom shows (groups * 16 + length group) next rest last more → FindsFrom shows (groups * 16) now (group ++ rest) last (found ++ more)
+      → FindsList shows (with_loads (loads_of_key now.table.shape.rows * length group) now) group next found
+      → FindsFrom shows (groups * 16 + length group) next rest last more → FindsFrom shows (groups * 16) now (group ++ rest) last (found ++ more)
   of_group groups [] found rest more now next last some few most finds so = absurd (omega (arith, some))
   of_group groups (one ∷ group) [] rest more now next last some few most finds so = absurd finds
   of_group groups (one ∷ group) (it ∷ found) rest more now next last some few most finds so =

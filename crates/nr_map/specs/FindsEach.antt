@@ -38,7 +38,8 @@ loads_at rows place left = if (place % 16 == 0) then loads_of_key rows * min lef
 -- the same with these loads, from that index of a list on
 abbrev pub FindsFrom : {Room : Type 0} → (Room → List Row → Type 0) → ℕ → Caller → List (Wanted Room) → Caller → List (Wanted Room) → Type 0
 FindsFrom shows place old [] new [] = new ≡ old
-FindsFrom shows place old (wanted ∷ others) new (found ∷ rest) = (next : Caller) × FindsWanted shows (with_loads (loads_at old.table.shape.rows place (length (wanted ∷ others))) old) wanted next found × FindsFrom shows (place + 1) next others new rest
+FindsFrom shows place old (wanted ∷ others) new (found ∷ rest) =
+    (next : Caller) × FindsWanted shows (with_loads (loads_at old.table.shape.rows place (length (wanted ∷ others))) old) wanted next found × FindsFrom shows (place + 1) next others new rest
 FindsFrom shows place old [] new (found ∷ rest) = ⊥
 FindsFrom shows place old (wanted ∷ others) new [] = ⊥
 

@@ -18,12 +18,13 @@ loop-one-init g c = let ready = with_loads (loads_of_key c.args.self.now.shape.r
 }
 
 pub loop-one-preserved : goal.loop-one-preserved
-loop-one-preserved g c = let at = c.loop-one.one-index in let one = c.one-item.result in let keys = c.loop-one.group in
+loop-one-preserved g c = let ready = with_loads (loads_of_key c.args.self.now.shape.rows * length c.args.group.now) c.args.reader.now in let at = c.loop-one.one-index in let one = c.one-item.result in let keys = c.loop-one.group in
     let low : at < length keys = omega arith in record {
       own = c.find_wanted.ensures.own;
-      begun = one_more g.R.RowRoom.shows (with_loads (loads_of_key c.args.self.now.shape.rows * length c.args.group.now) c.args.reader.now) c.args.group.now at c.loop-one.reader keys c.loop-one.invariant.begun one low c.one-item.is c.find_wanted.new.reader c.find_wanted.new.one
+      begun = one_more g.R.RowRoom.shows ready c.args.group.now at c.loop-one.reader keys c.loop-one.invariant.begun one low c.one-item.is c.find_wanted.new.reader c.find_wanted.new.one
           (subst (λ (w : Wanted _). FindsWanted g.R.RowRoom.shows c.loop-one.reader w c.find_wanted.new.reader c.find_wanted.new.one) (sym c.one-item.is) c.find_wanted.ensures.finds);
     }
 
 pub returns-clause-finds : goal.returns-clause-finds
-returns-clause-finds g c = all_made g.R.RowRoom.shows (with_loads (loads_of_key c.args.self.now.shape.rows * length c.args.group.now) c.args.reader.now) c.args.group.now c.loop-one.one-index c.loop-one.reader c.loop-one.group c.loop-one.invariant.begun (omega arith)
+returns-clause-finds g c = let ready = with_loads (loads_of_key c.args.self.now.shape.rows * length c.args.group.now) c.args.reader.now in
+    all_made g.R.RowRoom.shows ready c.args.group.now c.loop-one.one-index c.loop-one.reader c.loop-one.group c.loop-one.invariant.begun (omega arith)
