@@ -181,7 +181,7 @@ static void tell(measure what, draw how, int threads, int m, int rounds) {
 static bool is_told(measure what, int threads) {
   switch (what) {
   case TIME: return !timed && !checked && threads;
-  case UPDATES: return per_second < 0 && !checked;
+  case UPDATES: return per_second < 0 && !timed && !checked;
   default: return timed && threads;
   }
 }
