@@ -53,7 +53,6 @@ pub(crate) fn two_readers(
 
 // A queue for tickets of keys below 2, with its one poster.
 fn one_poster(alloc: Global, capacity: u32) -> Result<(Triggers, Taker, Poster), Fail>
-    requires { (0 < capacity) × (capacity ≤ 2) }
     ensures taker { IfOk result (λ opened. (opened.1.queue ≡ opened.0.id) × (opened.1.keys ≡ 2)) }
     ensures poster { IfOk result (λ opened. (opened.2.queue ≡ opened.0.id) × (opened.2.keys ≡ 2)) }
 {
@@ -94,9 +93,7 @@ impl Opened {
     }
 
     /// With a queue of that many places.
-    pub(crate) fn with_room(alloc: Global, slots: u32, capacity: u32) -> Result<Opened, Fail>
-        requires { (0 < capacity) × (capacity ≤ 2) }
-    {
+    pub(crate) fn with_room(alloc: Global, slots: u32, capacity: u32) -> Result<Opened, Fail> {
         let (map, writer, reader, _two) = two_readers(alloc, 2, slots)?;
         let (triggers, taker, poster) = one_poster(alloc, capacity)?;
         Ok(Opened {

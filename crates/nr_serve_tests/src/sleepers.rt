@@ -1,8 +1,6 @@
 //! Threads that sleep in a lobby, and what wakes them: each is given time to fall asleep, and then must come back by
 //! one call alone. On a slow machine it may not sleep yet, and what is asserted holds all the same.
-ghost use Rattle.std.specs.Prelude.{◌≡◌};
-
-use nr_serve::{Guest, Lobby};
+use nr_serve::Lobby;
 use std::alloc::{AllocError, Global};
 use std::sync::Wait;
 use std::sync::atomic::{AtomicBool, Ordering};
@@ -69,26 +67,23 @@ enum Deed {
 
 // Whether each of these comes.
 fn all_come<R: Clock>(rt: &R, sleepers: &[Sleeper]) -> bool {
-    sleepers.iter().all(|sleeper| sleeper.comes(rt))
+    for sleeper in sleepers.iter() {
+        if !sleeper.comes(rt) {
+            return false;
+        }
+    }
+    true
 }
 
 // Raises for one key of each group, another one than that for which a thread sleeps. Whether just that thread comes,
 // before the next raise.
-fn each_comes<R: Wait + Clock>(
-    rt: &R,
-    lobby: &Lobby,
-    guest: &mut Guest,
-    sleepers: &[Sleeper],
-) -> bool
-    requires { guest.old.lobby ≡ lobby.now }
-    ensures { guest.new.lobby ≡ lobby.now }
-{
+fn each_comes<R: Wait + Clock>(rt: &R, lobby: &Lobby, sleepers: &[Sleeper]) -> bool {
     let mut key = GROUPS;
     for sleeper in sleepers.iter() {
         if sleeper.came.load(Ordering::SeqCst) {
             return false;
         }
-        lobby.raise_for(rt, guest, key);
+        lobby.raise_for(rt, &mut lobby.guest(), key);
         if !sleeper.comes(rt) {
             return false;
         }
@@ -110,7 +105,7 @@ fn wakes<R: Wait + Clock>(rt: &R, lobby: &Lobby, sleepers: &[Sleeper], deed: Dee
             lobby.raise_for(rt, &mut guest, key);
             all_come(rt, sleepers)
         }
-        Deed::RaiseForEach => each_comes(rt, lobby, &mut guest, sleepers),
+        Deed::RaiseForEach => each_comes(rt, lobby, sleepers),
         Deed::Close => {
             lobby.close(&mut guest);
             all_come(rt, sleepers)

@@ -309,7 +309,7 @@ fn flow_is_woken<R: Threads + Wait + Clock + CpuClock + Sync>(
     flow_sleeps(rt, &service, (writer, taker), (reader, poster), cause)
 }
 
-fn slept(got: Got, sends: u64) -> Slept {
+fn ended(got: Got, sends: u64) -> Slept {
     Slept {
         got: Some(got),
         sends,
@@ -321,14 +321,14 @@ fn slept(got: Got, sends: u64) -> Slept {
 #[test]
 fn a_cancel_and_a_fill_wake_a_client(rt: HostRuntime) -> Result<(), Fail> {
     let woken = client_is_woken(&rt, Opened::open(rt.alloc(), 4)?, Cause::Work);
-    assert_eq!(rt; woken, Some((slept(Got::Rows, 2), true)));
+    assert_eq!(rt; woken, Some((ended(Got::Rows, 2), true)));
     Ok(())
 }
 
 #[test]
 fn a_close_wakes_a_client(rt: HostRuntime) -> Result<(), Fail> {
     let woken = client_is_woken(&rt, Opened::open(rt.alloc(), 4)?, Cause::Close);
-    assert_eq!(rt; woken, Some((slept(Got::GaveUp, 1), true)));
+    assert_eq!(rt; woken, Some((ended(Got::GaveUp, 1), true)));
     Ok(())
 }
 
@@ -336,7 +336,7 @@ fn a_close_wakes_a_client(rt: HostRuntime) -> Result<(), Fail> {
 #[test]
 fn a_client_that_waits_is_idle(rt: HostRuntime) -> Result<(), Fail> {
     let woken = client_is_woken(&rt, Opened::open(rt.alloc(), 4)?, Cause::LateClose);
-    assert_eq!(rt; woken, Some((slept(Got::GaveUp, 1), true)));
+    assert_eq!(rt; woken, Some((ended(Got::GaveUp, 1), true)));
     Ok(())
 }
 
