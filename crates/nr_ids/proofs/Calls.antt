@@ -12,11 +12,16 @@ use Rattle.nr_ids.specs.declared.admissions.Refused.{Refused}
 use Rattle.nr_ids.specs.declared.admissions.Refused.TheVariants as refused
 use Rattle.nr_ids.specs.Looking.{WasAbsent, Ahead, PassedByClerk, Missed, HasRoom, Rooms, Scans, group_for}
 use Rattle.nr_ids.specs.Answers.{WasOpen, Admits}
-use Rattle.nr_ids.specs.Tokens.{Opened, Token, Grows, HasName, WinsClaim, Within}
+use Rattle.nr_ids.specs.Tokens.{Opened, Token, Grows, HasName, Newest, WinsClaim, Within}
 use Rattle.nr_ids.proofs.Logs.{ClearsNothing, cond_same, cond_else, exact_names, looks_clear_nothing, looks_names, named_inside, one_way, own_append, quiet_turn, was_odd}
 
 pub grows_none : (old : Token) → IsLegal old.directory.plan old.seen → Grows old [] old
-grows_none old legal = record { directory = refl; number = refl; made = refl; rest = []; seen = refl; acts_are = refl; legal = legal; steps = omega arith }
+grows_none old legal = record { directory = refl; number = refl; made = refl; rest = []; seen = refl; acts_are = refl; newest = refl; legal = legal; steps = omega arith }
+
+newest_on : (first last old mid new : List Event) → Newest first old mid → Newest last mid new → Newest (last ++ first) old new
+newest_on [] [] old mid new a b = b ∙ a
+newest_on (act ∷ acts) [] old mid new a b = (a.0, b ∙ a.1)
+newest_on first (act ∷ acts) old mid new a b = b
 
 pub grows_on : (old mid new : Token) (first last : List Event) → Grows old first mid → Grows mid last new → Grows old (last ++ first) new
 grows_on old mid new first last a b = record {
@@ -27,6 +32,7 @@ grows_on old mid new first last a b = record {
   seen = b.seen ∙ ap (λ (l : List Event). b.rest ++ l) a.seen ∙ sym (append_assoc b.rest a.rest old.seen);
   acts_are = own_append old.number b.rest a.rest ∙ ap (λ (l : List Event). own old.number b.rest ++ l) a.acts_are
       ∙ ap (λ (k : ℕ). own k b.rest ++ first) (sym a.number) ∙ ap (λ (l : List Event). l ++ first) b.acts_are;
+  newest = newest_on first last old.seen mid.seen new.seen a.newest b.newest;
   legal = subst (λ (d : Opened). IsLegal d.plan new.seen) a.directory b.legal;
   steps = omega (arith, a.steps, b.steps, length-append last first);
 }

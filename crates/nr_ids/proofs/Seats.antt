@@ -214,6 +214,7 @@ grows_by old next event table goes by = let is = goes.next_is in record {
   rest = event ∷ goes.between;
   seen = ap (λ (v : View). v.seen) is;
   acts_are = own_this old.me.0.number event goes.between by ∙ ap (λ (l : List Event). event ∷ l) goes.quiet;
+  newest = (goes.between ++ old.me.0.seen, ap (λ (v : View). v.seen) is);
   legal = goes.legal;
   steps = ap (λ (v : View). v.steps) is;
 }

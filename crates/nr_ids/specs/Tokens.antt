@@ -40,6 +40,11 @@ fresh_token directory number = record { directory = directory; number = number; 
 abbrev pub with_step : Token → Token
 with_step token = record token { steps = token.steps + 1 }
 
+-- the newest event that a token knows is its last step; without a step it knows what it knew
+abbrev pub Newest : List Event → List Event → List Event → Type 0
+Newest [] old new = new ≡ old
+Newest (act ∷ acts) old new = (before : List Event) × (new ≡ act ∷ before)
+
 -- the token's own steps were just these, newest first; it knows a legal list of events, which begins with all that it knew
 pub record Grows (old : Token) (acts : List Event) (new : Token) : Type 0 where
   pub directory : new.directory ≡ old.directory
@@ -48,6 +53,7 @@ pub record Grows (old : Token) (acts : List Event) (new : Token) : Type 0 where
   pub rest : List Event
   pub seen : new.seen ≡ rest ++ old.seen
   pub acts_are : own old.number rest ≡ acts
+  pub newest : Newest acts old.seen new.seen
   pub legal : IsLegal old.directory.plan new.seen
   pub steps : new.steps ≡ old.steps + length acts
 
