@@ -152,10 +152,10 @@ typedef struct nr_delta {
   bool plus;
 } nr_delta;
 
-/* What a map is opened with: 1 to 65,536 keys, 1 to 131,072 slots and 1 to 1,024 readers; or 1 to 4,194,303
-   slots, 1 to as many keys and 1 to 65,535 readers. A key may have `rows` rows, 1 to 255. `first_count` is any count,
-   at which the slots' departures begin, and `first_number` the keys' first ticket number, up to 4,194,303: both are 0
-   but in tests, which begin near the end of such a count.
+/* What a map is opened with: 1 to 65,536 keys, 1 to 131,072 slots and 1 to 1,024 readers; or 1 to 4,294,967,295
+   keys, also more than slots, 1 to 4,194,303 slots and 1 to 65,535 readers. A key may have `rows` rows, 1 to 255.
+   `first_count` is any count, at which the slots' departures begin, and `first_number` the keys' first ticket number,
+   up to 4,194,303: both are 0 but in tests, which begin near the end of such a count.
    With a slot for each key, each reader and one more no fill, update or replacement answers NR_NO_SLOT or
    NR_ALL_FILLED. The map's words take 8 bytes a key and 16 * rows + 16 a slot, and as much again while it is
    opened. The writer's lists take 8 bytes a key and 17 a slot beside them. */

@@ -1,5 +1,5 @@
 -- The sizes of a map: those for which its words have room, and those that an opening refuses.
-use Rattle.std.specs.Prelude.{◌^◌, ◌≤◌, ◌<◌, ◌⊎◌}
+use Rattle.std.specs.Prelude.{◌≡◌, ◌^◌, ◌≤◌, ◌<◌, ◌⊎◌}
 use Rattle.nr_model.specs.declared.rows.TheConstants.{MAX_ROWS}
 use Rattle.nr_model.specs.declared.seq_map.TheConstants.{MAX_KEYS}
 use Rattle.nr_model.specs.Maps.{last_number}
@@ -20,6 +20,6 @@ pub record IsShape (shape : Shape) : Type 0 where
 abbrev pub IsBadShape : Shape → Type 0
 IsBadShape shape = IsBadSize MAX_KEYS shape.keys ⊎ IsBadSize MAX_SLOTS shape.slots ⊎ IsBadSize MAX_READERS shape.readers ⊎ (last_number < shape.first_number) ⊎ IsBadSize MAX_ROWS shape.rows
 
--- the same for a large map, which has as many slots as keys, or more
+-- the same for a large map, which may have any number of keys, also more than slots
 abbrev pub IsBadLargeShape : Shape → Type 0
-IsBadLargeShape shape = IsBadSize 4194303 shape.slots ⊎ IsBadSize shape.slots shape.keys ⊎ IsBadSize 65535 shape.readers ⊎ (4194303 < shape.first_number) ⊎ IsBadSize 255 shape.rows
+IsBadLargeShape shape = IsBadSize 4194303 shape.slots ⊎ (shape.keys ≡ 0) ⊎ IsBadSize 65535 shape.readers ⊎ (4194303 < shape.first_number) ⊎ IsBadSize 255 shape.rows

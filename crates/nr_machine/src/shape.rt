@@ -45,13 +45,12 @@ impl Shape {
             || self.is_bad_for_keys()
     }
     /// Whether the opening of a large map refuses the shape: it has no slot or more than 4,194,303,
-    /// no key or more than slots, no reader or more than 65,535, or what is out of its limits as
-    /// above.
+    /// no key, no reader or more than 65,535, or what is out of its limits as above.
     pub fn is_bad_large(&self) -> bool
         ensures { IsTrue result ↔ IsBadLargeShape self.now }
     {
         is_bad_size(MOST_SLOTS, self.slots)
-            || is_bad_size(self.slots, self.keys)
+            || self.keys == 0
             || is_bad_size(MOST_READERS, self.readers)
             || self.is_bad_for_keys()
     }

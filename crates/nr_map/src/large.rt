@@ -12,8 +12,8 @@ use std::alloc::Global;
 
 impl ReaderMap {
     /// A map of that shape with its tokens, as `open_with`, for programs that need more: 1 to
-    /// 4,194,303 slots, 1 to as many keys as there are slots, and 1 to 65,535 readers. What is out of
-    /// these limits is refused first, and then want of memory.
+    /// 4,294,967,295 keys, also more than slots, 1 to 4,194,303 slots, and 1 to 65,535 readers. What is
+    /// out of these limits is refused first, and then want of memory.
     pub fn open_large(
         alloc: Global,
         shape: &Shape,

@@ -56,6 +56,14 @@ fn keys_of_the_largest_map_are_found(rt: HostRuntime) {
     fills_and_finds_many(&rt, &mut worked);
 }
 
+// Most keys are holes, and each of them can be filled.
+#[test]
+fn a_map_has_ten_times_as_many_keys_as_slots(rt: HostRuntime) {
+    let shape = of_sizes(1_000_000, 100_000, 1, 1);
+    let mut worked = Worked::open_large(&rt, &shape);
+    fills_and_finds_many(&rt, &mut worked);
+}
+
 /// The rows `first:0` on, as many as a set has room for.
 fn numbered(first: u64) -> RowSet {
     let mut rows = [Row { a: 0, b: 0 }; MAX_ROWS];

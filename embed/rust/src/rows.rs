@@ -96,8 +96,8 @@ impl Delta {
     }
 }
 
-/// What a map is opened with: up to 65,536 keys, 131,072 slots and 1,024 readers, or else up to 4,194,303 slots, as many
-/// keys and 65,535 readers.
+/// What a map is opened with: up to 65,536 keys, 131,072 slots and 1,024 readers, or else any number of keys, up to
+/// 4,194,303 slots and 65,535 readers. There may be more keys than slots.
 #[repr(C)]
 #[derive(Clone, Copy, Debug, PartialEq, Eq)]
 pub struct Shape {
