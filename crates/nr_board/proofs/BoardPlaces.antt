@@ -1,32 +1,41 @@
 -- Where the words of a slot stand in the board's table: inside it, and at places that fit a word.
-use Rattle.std.proofs.Common.{◌≡◌, ◌∙◌, ℕ, ◌+◌, ◌^◌, ◌<◌, ap, subst, sym, arith}
+use Rattle.std.proofs.Common.{◌≡◌, ◌∙◌, ℕ, ◌+◌, ◌*◌, ◌^◌, ◌<◌, ap, subst, sym, arith}
 use Rattle.std.proofs.lemmas.Nat.{mul-le}
 use Rattle.nr_words.specs.Places.{slot_words, total_of}
 use Rattle.nr_core.proofs.WordPlaces.{content_inside, departures_inside}
 use Rattle.nr_machine.specs.Sizes.{IsShape}
 use Rattle.nr_machine.specs.Slots.{content, departures, layout, slot_room}
 use Rattle.nr_machine.specs.declared.shape.Shape.{Shape}
+use Rattle.nr_board.specs.Announcing.{says_at}
 use Rattle.nr_board.specs.Callers.{Table}
 
 -- what the board keeps of its table, whose rule goes by that shape and which has that many words
 pub record Stands (board : Table) (key : Shape) (words : ℕ) : Type 0 where
   pub key_is : key ≡ board.shape
-  pub size : words ≡ total_of (layout board.shape)
+  pub size : words ≡ total_of (layout board.shape) + 8 * board.announcers
   pub few : board.shape.keys < 2 ^ 32
   pub fits : IsShape board.shape
 
-pub stands : {shown board : Table} {key : Shape} {words : ℕ} → shown ≡ board → (key ≡ shown.shape) × (words ≡ total_of (layout shown.shape))
+pub stands : {shown board : Table} {key : Shape} {words : ℕ} → shown ≡ board → (key ≡ shown.shape) × (words ≡ total_of (layout shown.shape) + 8 * shown.announcers)
     × (0 < shown.shape.keys) × (shown.shape.keys < 2 ^ 32) × IsShape shown.shape → Stands board key words
 stands {key = key} {words = words} is kept = subst (λ (board : Table). Stands board key words) is (record { key_is = kept.0; size = kept.1; few = kept.3; fits = kept.4 })
 
 module _ {board : Table} {key : Shape} {words : ℕ} (stand : Stands board key words) where
   -- all places fit
-  total_fits : total_of (layout board.shape) < 2 ^ 64
+  pub total_fits : total_of (layout board.shape) < 2 ^ 64
   total_fits = let shape = board.shape in let fits = stand.fits in
       let slots = mul-le (slot_words shape.rows) shape.slots 512 (2 ^ 22) (omega (arith, fits.bound)) fits.slots in omega (arith, stand.few)
 
   pub key_in : {place : ℕ} → place < board.shape.keys → place < words
   key_in near = omega (arith, near, stand.size)
+
+  -- where a reader's own word lies
+  module _ (own : ℕ) where
+    pub said_at : {place : ℕ} → place ≡ says_at board.shape own → place ≡ says_at key own
+    said_at is = is ∙ ap (λ (s : Shape). says_at s own) (sym stand.key_is)
+
+    pub said_in : own < board.announcers → {place : ℕ} → place ≡ says_at board.shape own → place < words
+    said_in within is = omega (arith, is, stand.size)
 
   module _ (slot : ℕ) (near : slot < board.shape.slots) where
     -- a content word, counted from the first one

@@ -1,20 +1,21 @@
 -- How the words that the core sees go along with the table's, and what the readers' words say.
-use Rattle.std.proofs.Common.{◌≡◌, ◌≢◌, ℕ, suc, ◌+◌, ◌-◌, ◌*◌, ◌%◌, ◌^◌, ◌<◌, ◌≤◌, ◌⊎◌, ⊎_elim, inl, inr, List, ◌++◌, ◌∷◌, [], Bool, true, false, cond, length, map, get_or, set, length-set, get_or-set_other, get_or-set_same, refl, sym, ap, ◌∙◌, subst, arith}
+use Rattle.std.proofs.Common.{◌≡◌, ◌≢◌, ℕ, suc, ◌+◌, ◌-◌, ◌%◌, ◌^◌, ◌<◌, ◌≤◌, ◌⊎◌, ⊎_elim, List, ◌++◌, ◌∷◌, [], Bool, true, cond, length, get_or, set, length-set, get_or-set_other, get_or-set_same, sym, ap, ◌∙◌, subst, arith}
 use Rattle.std.proofs.lemmas.Bool.{lt-ltb}
 use Rattle.std.specs.Prelude.{nat_lt}
 use mathlib.Core.Logic.{dite}
 use native.Mathlib.Decide.{ℕ_discrete}
-use mathlib.Core.Option.{some}
+use mathlib.Core.Option.{some, some-injective}
 use lib.ListN.{get_elem?}
 use lib.Seq.{set-get_or}
 use Rattle.nr_words.specs.Places.{total_of}
-use Rattle.nr_core.proofs.Sums.{at_set, at_snoc, total-append, total-set}
+use Rattle.atomic_table.proofs.Lists.{set_else}
+use Rattle.nr_core.proofs.Sums.{at_set, at_snoc, here_after, total-append, total-set}
 use Rattle.nr_core.proofs.WordPlaces.{departures_inside, same_departures}
 use Rattle.nr_core.specs.Roles.{holds, is_by}
 use Rattle.nr_machine.specs.Slots.{departures, layout}
-use Rattle.nr_machine.specs.Sums.{total}
 use Rattle.nr_machine.specs.declared.shape.Shape.{Shape}
-use Rattle.nr_board.specs.Announcing.{Announces, Counted, IsNoCount, announcers, lends, lent, says_at}
+use Rattle.nr_board.specs.Announcing.{Announces, Counted, HasNoReader, IsNoCount, lends, lent, says_at}
+use Rattle.nr_marks.proofs.ListPlaces.{at_left}
 use Rattle.nr_board.specs.Views.{View}
 
 -- the holds by words, where one token has another view and holds by its word as before
@@ -71,12 +72,21 @@ pub counted_alone : (shape : Shape) (by_word : ℕ → ℕ) (words counted : Lis
     → Counted shape by_word words counted → get_or counted (departures shape slot) 0 ≡ get_or words (departures shape slot) 0
 counted_alone shape by_word words counted slot near none t = let small = t.small slot near in let less = t.less slot near in omega arith
 
+-- who is a reader stays so where one token has another view
+pub no_reader_before : (views : List View) (id : ℕ) (view next : View) → get_elem? views id ≡ some view → ((caller : ℕ) → is_by caller next.role ≡ is_by caller view.role)
+    → (own : ℕ) → HasNoReader own (set views id next) → HasNoReader own views
+no_reader_before views id view next at same own none j u there = dite (ℕ_discrete j id)
+    (λ e. let mine : view ≡ u = some-injective view u (sym at ∙ ap (get_elem? views) (sym e) ∙ there) in
+    ap (λ (v : View). is_by (suc own) v.role) (sym mine) ∙ sym (same (suc own)) ∙ none id next (here_after views id view next at))
+    (λ ne. none j u (set_else views id j next ne ∙ there))
+
 -- a caller that says as before, and holds by its word as before, announces as before
-pub announces_on : (shape : Shape) (made : ℕ) (words after : List ℕ) (views : List View) (id : ℕ) (view next : View) → get_elem? views id ≡ some view
+pub announces_on : (shape : Shape) (announcers : ℕ) (words after : List ℕ) (views : List View) (id : ℕ) (view next : View) → get_elem? views id ≡ some view
     → ((caller : ℕ) → is_by caller next.role ≡ is_by caller view.role) → next.says ≡ view.says
-    → ((slot : ℕ) → lends slot next ≡ lends slot view) → ((own : ℕ) → own < announcers shape → get_or after (says_at shape own) 0 ≡ get_or words (says_at shape own) 0)
-    → Announces shape made words views → Announces shape made after (set views id next)
-announces_on shape made words after views id view next at same says lend behind t = record {
+    → ((slot : ℕ) → lends slot next ≡ lends slot view) → ((own : ℕ) → own < announcers → get_or after (says_at shape own) 0 ≡ get_or words (says_at shape own) 0)
+    → length after ≡ length words → Announces shape announcers words views → Announces shape announcers after (set views id next)
+announces_on shape announcers words after views id view next at same says lend behind wide t = record {
+  space = let space = t.space in omega arith;
   says = λ j own u there his low. behind own low ∙ ⊎_elim
       (λ (q : (j ≡ id) × (next ≡ u)). t.says id own view at (sym (same (suc own)) ∙ (ap (λ (v : View). is_by (suc own) v.role) q.1 ∙ his)) low ∙ (sym says ∙ ap (λ (v : View). v.says) q.1))
       (λ (q : (j ≢ id) × (get_elem? views j ≡ some u)). t.says j own u q.1 his low) (at_set views id j next u there);
@@ -88,7 +98,7 @@ announces_on shape made words after views id view next at same says lend behind 
       (let e = ap (λ (v : View). v.says) q.1 in omega arith)
       (let r = ap (λ (v : View). holds slot v.role) q.1 in loud_holds slot view next says (let e = ap (λ (v : View). v.says) q.1 in omega arith) (lend slot) (omega arith))))
       (λ (q : (j ≢ id) × (get_elem? views j ≡ some u)). t.holds_it j slot u q.1 loud grips) (at_set views id j next u there);
-  unsaid = λ own later low. behind own low ∙ t.unsaid own later low;
+  unsaid = λ own none low. behind own low ∙ t.unsaid own (no_reader_before views id view next at same own none) low;
 }
   where
     loud_at : (n : ℕ) → 0 < n → nat_lt 0 n ≡ true
@@ -103,13 +113,14 @@ announces_on shape made words after views id view next at same says lend behind 
 pub lent_more : (views : List View) (next : View) → next.says ≡ 0 → (slot : ℕ) → lent (views ++ next ∷ []) slot ≡ lent views slot
 lent_more views next silent slot = let none : lends slot next ≡ 0 = ap (λ (n : ℕ). cond (nat_lt 0 n) (holds slot next.role) 0) silent in omega (arith, total-append (lends slot) views (next ∷ []), none)
 
-pub announces_more : (shape : Shape) (made later : ℕ) (words : List ℕ) (views : List View) (next : View) → next.says ≡ 0 → ((own : ℕ) → is_by (suc own) next.role ≡ true → made ≤ own) → made ≤ later
-    → Announces shape made words views → Announces shape later words (views ++ next ∷ [])
-announces_more shape made later words views next silent new more t = record {
+pub announces_more : (shape : Shape) (announcers : ℕ) (words : List ℕ) (views : List View) (next : View) → next.says ≡ 0 → ((own : ℕ) → is_by (suc own) next.role ≡ true → HasNoReader own views)
+    → Announces shape announcers words views → Announces shape announcers words (views ++ next ∷ [])
+announces_more shape announcers words views next silent new t = record {
+  space = t.space;
   says = λ j own u there his low. ⊎_elim (λ (q : get_elem? views j ≡ some u). t.says j own u q his low)
       (λ (q : next ≡ u). t.unsaid own (new own (ap (λ (v : View). is_by (suc own) v.role) q ∙ his)) low ∙ (sym silent ∙ ap (λ (v : View). v.says) q)) (at_snoc views next u j there);
   wordless = λ j u there none. ⊎_elim (λ (q : get_elem? views j ≡ some u). t.wordless j u q none) (λ (q : next ≡ u). ap (λ (v : View). v.says) (sym q) ∙ silent) (at_snoc views next u j there);
   holds_it = λ j slot u there loud grips. ⊎_elim (λ (q : get_elem? views j ≡ some u). t.holds_it j slot u q loud grips)
       (λ (q : next ≡ u). absurd (let none : u.says ≡ 0 = ap (λ (v : View). v.says) (sym q) ∙ silent in omega arith)) (at_snoc views next u j there);
-  unsaid = λ own after low. t.unsaid own (omega arith) low;
+  unsaid = λ own none low. t.unsaid own (λ j u there. none j u (at_left views (next ∷ []) j u there)) low;
 }

@@ -22,7 +22,7 @@ use Rattle.nr_marks.specs.MarkSteps.{ReaderLearns, WriterLearns}
 use Rattle.nr_marks.specs.Marked.{CanMark, MarkTelling}
 use Rattle.nr_marks.specs.Marks.{Marks, Past, gripped}
 use Rattle.nr_board.proofs.Lift.{Makes, allowed, key_inside, key_no_count, lends_on, makes, sees_plain}
-use Rattle.nr_board.proofs.Moves.{ActsGo, chosen, learned, learned_own}
+use Rattle.nr_board.proofs.Moves.{ActsGo, chosen, learned, learned_own, names_go}
 use Rattle.nr_board.specs.Entries.{AreCallers, acts_told, to_depart}
 use Rattle.nr_board.specs.Kinds.{kind_of, kind_shown}
 use Rattle.nr_board.specs.Learning.{Learned, LearnsOf}
@@ -82,7 +82,7 @@ module _ (shape : Shape) (id : ℕ) (me : Me (Unit {0}) View) (at : ℕ) (near :
       let acts : ActsGo view step.after step.entries marked.now = λ reads. let same_marks = ap (λ (m : Marks). m.acts) grown.0 in
       let hold = ap (λ r. to_depart (gripped (grip_of r))) step.told.0 in let none : acts_told step.entries ≡ 0 = ap acts_told step.told.1 in
       omega arith in
-      chosen shape id view (Load at) tells notes state kept there step marked (ap caller_number step.told.0) sized callers acts (λ after. Learned at found view after) (record {
+      chosen shape id view (Load at) tells notes state kept there step marked (ap caller_number step.told.0) sized callers acts (names_go view marked.now (λ _. ap (λ (m : Marks). m.names) grown.0)) (λ after. Learned at found view after) (record {
         role = step.told.0;
         learns = λ table. record {
           table = refl;
@@ -106,6 +106,7 @@ module _ (shape : Shape) (id : ℕ) (me : Me (Unit {0}) View) (at : ℕ) (near :
         news = marked.news;
         pasts = refl;
         told_pasts = refl;
+        says = refl;
         of_readers = grown.1;
       }))
 

@@ -1,8 +1,11 @@
 pub mod Counting
+pub mod Saying
+pub mod Heard
 pub mod Lift
 pub mod Entries
 pub mod Moves
 pub mod ReaderSteps
+pub mod WordSteps
 pub mod Seats
 pub mod Notes
 pub mod Learning
@@ -14,10 +17,13 @@ pub mod Tokens
 pub mod Rows
 pub mod BoardPlaces
 pub mod ReaderSeats
+pub mod WordSeats
 pub mod Room
 pub mod Shortage
 pub mod Brings
 pub mod WriterSteps
+pub mod Scanning
+pub mod SearchSteps
 pub mod PollNotes
 pub mod Polled
 pub mod WriterSeats

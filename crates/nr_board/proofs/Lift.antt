@@ -1,5 +1,5 @@
 -- A step of the core is a step on the table: one lemma over all kinds of step.
-use Rattle.std.proofs.Common.{◌≡◌, ℕ, suc, ◌∷◌, ◌<◌, ◌≤◌, ◌≢◌, get_or-set_other, List, [], ◌++◌, map, set, get_or, cond, Bool, true, false, ⊎_elim, refl, sym, ap, ◌∙◌, subst, arith, append_assoc, append-nil}
+use Rattle.std.proofs.Common.{◌≡◌, ◌+◌, length-set, ℕ, ◌<◌, ◌≤◌, ◌≢◌, ◌^◌, get_or-set_other, List, [], ◌++◌, map, set, get_or, cond, Bool, true, false, ⊎_elim, refl, sym, ap, ◌∙◌, subst, arith, append_assoc, append-nil}
 use mathlib.Core.Option.{some}
 use lib.ListN.{get_elem?}
 use lib.Seq.{map-set, set-get_or}
@@ -17,7 +17,7 @@ use Rattle.nr_machine.specs.Sums.{total}
 use Rattle.nr_machine.specs.declared.roles.Role.{Role}
 use Rattle.nr_machine.specs.declared.shape.Shape.{Shape}
 use Rattle.nr_marks.proofs.Knowing.{knowing_step}
-use Rattle.nr_marks.specs.Marked.{AllSince, CanMark, MarkTelling, Remarked}
+use Rattle.nr_marks.specs.Marked.{AllSince, CanMark, KnowsMarks, MarkTelling, Remarked}
 use Rattle.nr_marks.specs.Marks.{Past}
 use Rattle.nr_board.proofs.Entries.{callers_both}
 use Rattle.nr_board.specs.Entries.{AreCallers}
@@ -27,7 +27,11 @@ use Rattle.std.specs.Prelude.{nat_lt}
 use Rattle.nr_words.specs.Places.{total_of}
 use Rattle.nr_machine.specs.Slots.{content, departures, layout, slot_room}
 use Rattle.nr_core.proofs.WordPlaces.{content_apart}
-use Rattle.nr_board.specs.Announcing.{Counted, IsNoCount, announcers, lends, lent, says_at}
+use Rattle.nr_board.specs.Announcing.{Announces, Counted, IsNoCount, lends, lent, says_at}
+use Rattle.nr_machine.specs.declared.roles.Role.TheVariants.{Note, Reader, Writer}
+use Rattle.std.proofs.lemmas.Bool.{eqb-true}
+use Rattle.nr_board.proofs.Heard.{AllHear, HearsOn, hears_on, lent_heard}
+use Rattle.nr_board.proofs.Saying.{lent_few}
 use Rattle.nr_board.proofs.Counting.{announces_on, counted_alone, counted_load, counted_plain, counted_same, lent_same}
 
 abbrev Table : Type 0
@@ -45,7 +49,7 @@ other_fits shape log entries view fits none = record {
 }
 
 -- whether the caller of one token, another token is not that caller
-apart : (shape : Shape) (state : Table) → Kept shape state → (id other : ℕ) (view viewed : View) (caller : ℕ) → get_elem? state.views id ≡ some view
+pub apart : (shape : Shape) (state : Table) → Kept shape state → (id other : ℕ) (view viewed : View) (caller : ℕ) → get_elem? state.views id ≡ some view
     → get_elem? state.views other ≡ some viewed → other ≢ id → is_by caller viewed.role ≡ true → is_by caller view.role ≡ false
 apart shape state kept id other view viewed caller at there ne his =
     let two = terms_le (counts caller) (map role_of state.views) id other view.role viewed.role ne (at_map role_of state.views id view at) (at_map role_of state.views other viewed there) in let most = kept.once caller in
@@ -80,20 +84,29 @@ module _ (shape : Shape) (id : ℕ) (view : View) (operation : Operation) (tells
   abbrev pub Marks : (state : Table) (kept : Kept shape state) → Stepped shape kept.counted (map role_of state.views) kept.log id view.role operation tells → Type 0
   Marks state kept step = Remarked role_of marks_of shape kept.counted state.views kept.log id view operation step.after step.entries notes
 
-  -- the token's view after a step, which fits the history and tells what it should
+  -- the token's view goes along with the step, and fits the history
+  pub record Follows (state : Table) (kept : Kept shape state)
+      (step : Stepped shape kept.counted (map role_of state.views) kept.log id view.role operation tells)
+      (marked : Remarked role_of marks_of shape kept.counted state.views kept.log id view operation step.after step.entries notes)
+      (next : View) : Type 0 where
+    pub role : next.role ≡ step.after
+    pub made : next.made ≡ view.made
+    pub announcers : next.announcers ≡ view.announcers
+    pub marks : next.marks ≡ marked.now
+    pub pasts : next.pasts ≡ marked.news ++ view.pasts
+    pub told_pasts : next.told_pasts ≡ view.told_pasts
+    pub fits : Fits shape (kept.log ++ step.entries) next
+    pub callers : AreCallers shape step.entries
+
+  -- such a view, which says what it said and tells what it should
   pub record Choice (state : Table) (kept : Kept shape state)
       (step : Stepped shape kept.counted (map role_of state.views) kept.log id view.role operation tells)
       (marked : Remarked role_of marks_of shape kept.counted state.views kept.log id view operation step.after step.entries notes)
       (then : View → Type 0) : Type 0 where
     pub next : View
-    pub role : next.role ≡ step.after
-    pub made : next.made ≡ view.made
-    pub marks : next.marks ≡ marked.now
-    pub pasts : next.pasts ≡ marked.news ++ view.pasts
-    pub told_pasts : next.told_pasts ≡ view.told_pasts
+    pub follows : Follows state kept step marked next
     pub says : next.says ≡ view.says
-    pub fits : Fits shape (kept.log ++ step.entries) next
-    pub callers : AreCallers shape step.entries
+    pub hears : is_writer view.role ≡ 1 → HearsOn view next
     pub told : then next
 
   -- whatever the table is, the token has such a view
@@ -104,7 +117,7 @@ module _ (shape : Shape) (id : ℕ) (view : View) (operation : Operation) (tells
   -- what the core sees goes along with the words
   pub record Agrees (state : Table) (kept : Kept shape state) : Type 0 where
     pub counts : Counted shape (lent state.views) (words_after operation state.words) (words_after operation kept.counted)
-    pub behind : (own : ℕ) → own < announcers shape → get_or (words_after operation state.words) (says_at shape own) 0 ≡ get_or state.words (says_at shape own) 0
+    pub behind : (own : ℕ) → own < kept.announcers → get_or (words_after operation state.words) (says_at shape own) 0 ≡ get_or state.words (says_at shape own) 0
 
   -- the token holds by its word as before
   abbrev pub Lends : Role → Type 0
@@ -115,33 +128,36 @@ module _ (shape : Shape) (id : ℕ) (view : View) (operation : Operation) (tells
   Sees then = (state : Table) (kept : Kept shape state) → get_elem? state.views id ≡ some view → (step : Step state kept)
       → Agrees state kept × Lends step.after × ((next : View) → then (get_or kept.counted (target_of operation) 0) next → then (get_or state.words (target_of operation) 0) next)
 
-  -- the rule after the step
-  keeps_rule : (state : Table) (kept : Kept shape state) (carried : List (ℕ × Unit {0})) (then : View → Type 0) → get_elem? state.views id ≡ some view
-      → (step : Step state kept) (marked : Marks state kept step) (choice : Choice state kept step marked then) → Agrees state kept → Lends step.after
-      → Kept shape (stepped state (target_of operation) (becomes operation (get_or state.words (target_of operation) 0)) id carried choice.next keeps)
-  keeps_rule state kept carried then at step marked choice agrees lend =
-      let views = state.views in let next = choice.next in let views' = set views id next in let log' = kept.log ++ step.entries in
+  -- the rule after the step, whatever the words are then that go along with what the core sees and with what the tokens say
+  pub keeps_core : (state : Table) (kept : Kept shape state) → get_elem? state.views id ≡ some view → (step : Step state kept) (marked : Marks state kept step)
+      (next : View) → Follows state kept step marked next → (words : List ℕ) → Counted shape (lent (set state.views id next)) words (words_after operation kept.counted)
+      → Announces shape kept.announcers words (set state.views id next) → AllHear (set state.views id next) → Kept shape (record { words = words; homes = state.homes; views = set state.views id next })
+  keeps_core state kept at step marked next follows words seen announced heard =
+      let views = state.views in let views' = set views id next in let log' = kept.log ++ step.entries in
       let there = at_map role_of views id view at in
       let known = knowing_step role_of marks_of pasts_of told_pasts_of shape kept.counted views kept.log id view operation step.after step.entries
-      notes at kept.pasts kept.told_pasts marked next choice.role choice.marks choice.pasts choice.told_pasts in
-      let roles : map role_of views' ≡ set (map role_of views) id step.after = map-set role_of views id next ∙ ap (set (map role_of views) id) choice.role in
+      notes at kept.pasts kept.told_pasts marked next follows.role follows.marks follows.pasts follows.told_pasts in
+      let roles : map role_of views' ≡ set (map role_of views) id step.after = map-set role_of views id next ∙ ap (set (map role_of views) id) follows.role in
       let tally : (caller : ℕ) → total (counts caller) (map role_of views') ≡ total (counts caller) (map role_of views) = λ caller.
       let same : counts caller step.after ≡ counts caller view.role = ap (λ y. cond y 1 0) (step.same caller) in
-      omega (arith, ap (total (counts caller)) roles, total-set (counts caller) (map role_of views) id view.role step.after there) in
-      let lend_so : (slot : ℕ) → lends slot next ≡ lends slot view = λ slot. (λ j. cond (nat_lt 0 (choice.says j)) (holds slot (choice.role j)) 0) ∙ lend slot in
-      let same_caller : (caller : ℕ) → is_by caller next.role ≡ is_by caller view.role = λ caller. ap (is_by caller) choice.role ∙ step.same caller in record {
+      omega (arith, ap (total (counts caller)) roles, total-set (counts caller) (map role_of views) id view.role step.after there) in record {
         log = log';
         counted = words_after operation kept.counted;
-        counts_words = counted_same shape (lent views) (lent views') _ _ (lent_same views id view next at lend_so) agrees.counts;
-        announced = announces_on shape kept.made state.words (words_after operation state.words) views id view next at
-            same_caller choice.says lend_so agrees.behind kept.announced;
+        counts_words = seen;
+        announcers = kept.announcers;
+        told_of = λ j u e calls. ⊎_elim
+            (λ (t : (j ≡ id) × (next ≡ u)). ap (λ (y : View). y.announcers) (sym t.1) ∙ follows.announcers ∙ kept.told_of id view at
+            (let one = ap (λ (y : View). is_writer y.role + is_reader y.role) t.1 in let same = ap (λ r. is_writer r + is_reader r) follows.role in let writes = step.writer in let reads = step.reader in omega arith))
+            (λ (t : (j ≢ id) × (get_elem? views j ≡ some u)). kept.told_of j u t.1 calls) (at_set views id j next u e);
+        announced = announced;
+        hears = heard;
         core = subst (λ (rs : List Role). Core shape (words_after operation kept.counted) rs log') (sym roles) step.core;
         fits = λ j u e. ⊎_elim
-            (λ (t : (j ≡ id) × (next ≡ u)). subst (Fits shape log') t.1 choice.fits)
+            (λ (t : (j ≡ id) × (next ≡ u)). subst (Fits shape log') t.1 follows.fits)
             (λ (t : (j ≢ id) × (get_elem? views j ≡ some u)). other_fits shape kept.log step.entries u (kept.fits j u t.1)
             (λ caller his. step.own caller ∙ ap (λ y. cond y step.entries []) (apart shape state kept id j view u caller at t.1 t.0 his)))
             (at_set views id j next u e);
-        callers = callers_both shape kept.log step.entries kept.callers choice.callers;
+        callers = callers_both shape kept.log step.entries kept.callers follows.callers;
         once = λ caller. let o = kept.once caller in omega (arith, tally caller);
         made = kept.made;
         readers = omega (arith, kept.readers, step.reader, ap (total is_reader) roles, total-set is_reader (map role_of views) id view.role step.after there);
@@ -151,14 +167,27 @@ module _ (shape : Shape) (id : ℕ) (view : View) (operation : Operation) (tells
             = λ y. elim y as (λ y'. cond y' 1 0 ≤ 0 → entries_of step.entries caller ≡ cond y' step.entries [] → entries_of step.entries caller ≡ []) [ true ↦ λ q _. absurd (omega arith) | false ↦ λ _ q. q ] in
             of-append caller kept.log step.entries ∙ ap (λ (l : List Entry). entries_of kept.log caller ++ l)
             (no (is_by caller view.role) (omega arith) (step.own caller)) ∙ append-nil (entries_of kept.log caller) ∙ kept.silent caller later;
-        marked = marked.marked next choice.role choice.marks;
+        marked = marked.marked next follows.role follows.marks;
         pasts = known.0;
         told_pasts = known.1;
         maker = λ j u e writes. ⊎_elim
-            (λ (t : (j ≡ id) × (next ≡ u)). ap (λ (y : View). y.made) (sym t.1) ∙ choice.made ∙ kept.maker id view at (sym step.writer ∙ (ap is_writer (sym choice.role) ∙ (ap (λ (y : View). is_writer y.role) t.1 ∙ writes))))
+            (λ (t : (j ≡ id) × (next ≡ u)). ap (λ (y : View). y.made) (sym t.1) ∙ follows.made ∙ kept.maker id view at (sym step.writer ∙ (ap is_writer (sym follows.role) ∙ (ap (λ (y : View). is_writer y.role) t.1 ∙ writes))))
             (λ (t : (j ≢ id) × (get_elem? views j ≡ some u)). kept.maker j u t.1 writes)
             (at_set views id j next u e);
       }
+
+  -- what the token says and holds by its word being as before, so do the words after the same operation
+  keeps_rule : (state : Table) (kept : Kept shape state) (carried : List (ℕ × Unit {0})) (then : View → Type 0) → get_elem? state.views id ≡ some view
+      → (step : Step state kept) (marked : Marks state kept step) (choice : Choice state kept step marked then) → Agrees state kept → Lends step.after
+      → Kept shape (stepped state (target_of operation) (becomes operation (get_or state.words (target_of operation) 0)) id carried choice.next keeps)
+  keeps_rule state kept carried then at step marked choice agrees lend =
+      let views = state.views in let next = choice.next in let follows = choice.follows in
+      let lend_so : (slot : ℕ) → lends slot next ≡ lends slot view = λ slot. (λ j. cond (nat_lt 0 (choice.says j)) (holds slot (follows.role j)) 0) ∙ lend slot in
+      let same_caller : (caller : ℕ) → is_by caller next.role ≡ is_by caller view.role = λ caller. ap (is_by caller) follows.role ∙ step.same caller in
+      keeps_core state kept at step marked next follows (words_after operation state.words)
+      (counted_same shape (lent views) (lent (set views id next)) _ _ (lent_same views id view next at lend_so) agrees.counts)
+      (announces_on shape kept.announcers state.words (words_after operation state.words) views id view next at same_caller choice.says lend_so agrees.behind (length-set state.words (target_of operation) (becomes operation (get_or state.words (target_of operation) 0))) kept.announced)
+      (hears_on views id view next at same_caller (ap is_writer follows.role ∙ step.writer) lend_so choice.hears kept.hears)
 
   -- Where the core can make a step and its marks go along, so can the token.
   pub makes : (carried : List (ℕ × Unit {0})) (then : ℕ → View → Type 0) (known : List Past) → CanStep shape id view.role operation tells → CanMark role_of marks_of shape id view known operation tells notes
@@ -182,18 +211,18 @@ KeepsLent shape id view operation tells =
     → (step : Stepped shape kept.counted (map role_of state.views) kept.log id view.role operation tells)
     → (slot : ℕ) → cond (nat_lt 0 view.says) (holds slot step.after) 0 ≡ lends slot view
 
--- as long as no reader has a word, none says anything, and no slot is held by a word
-pub says_nothing : (shape : Shape) (id : ℕ) (view : View) (state : Table) (kept : Kept shape state) → get_elem? state.views id ≡ some view → view.says ≡ 0
-says_nothing shape id view state kept at = kept.announced.wordless id view at (λ own low. absurd (omega arith))
+-- who has the number 0 is the writer
+numbered : (shape : Shape) (state : Table) (kept : Kept shape state) (id : ℕ) (view : View) → get_elem? state.views id ≡ some view → is_by 0 view.role ≡ true → is_writer view.role ≡ 1
+numbered shape state kept id view at his = by_role view.role refl his
+  where
+    by_role : (role : Role) → view.role ≡ role → is_by 0 role ≡ true → is_writer view.role ≡ 1
+    by_role (Writer desk) is first = ap is_writer is
+    by_role (Reader reader grip) is first = absurd (let marks = subst (λ (r : Role). KnowsMarks role_of marks_of shape kept.counted state.views kept.log r view.marks) is (kept.marked.each id view at) in let low = marks.0 in let zero_is = eqb-true reader 0 first in omega arith)
+    by_role Note is first = absurd (cc)
 
-none_lend : (views : List View) (slot : ℕ) → ((id : ℕ) (view : View) → get_elem? views id ≡ some view → view.says ≡ 0) → lent views slot ≡ 0
-none_lend [] slot silent = refl
-none_lend (view ∷ views) slot silent =
-    let none : lends slot view ≡ 0 = ap (λ (n : ℕ). cond (nat_lt 0 n) (holds slot view.role) 0) (silent 0 view refl) in
-    omega (arith, none, none_lend views slot (λ id other at. silent (suc id) other at))
-
-pub lent_nothing : (shape : Shape) (state : Table) (kept : Kept shape state) (slot : ℕ) → lent state.views slot ≡ 0
-lent_nothing shape state kept slot = none_lend state.views slot (λ id view at. says_nothing shape id view state kept at)
+-- fewer hold a slot by their words than a word counts
+pub lent_small : (shape : Shape) (state : Table) (kept : Kept shape state) (slot : ℕ) → lent state.views slot < 2 ^ 40
+lent_small shape state kept slot = let few = kept.core.few in let bound = kept.core.fits.readers in omega (arith, lent_few state.views slot)
 
 module _ (shape : Shape) (id : ℕ) (view : View) (operation : Operation) (tells : Telling) (notes : MarkTelling) (then : ℕ → View → Type 0) where
   -- a step on a word of the layout that is no count of departures is seen as it is
@@ -212,13 +241,13 @@ module _ (shape : Shape) (id : ℕ) (view : View) (operation : Operation) (tells
       )
 
   -- and so is a load of a slot's departures, where nobody holds the slot by a word
-  pub sees_alone : (slot : ℕ) → target_of operation ≡ departures shape slot → ((word : ℕ) → becomes operation word ≡ word)
+  pub sees_alone : (slot : ℕ) → is_writer view.role ≡ 1 → view.announcers ≤ get_or view.heard slot 0 → target_of operation ≡ departures shape slot → ((word : ℕ) → becomes operation word ≡ word)
       → ((state : Table) (kept : Kept shape state) → get_elem? state.views id ≡ some view → slot < shape.slots)
       → KeepsLent shape id view operation tells
       → Sees shape id view operation tells notes then
-  sees_alone slot at loads near lend state kept there step =
+  sees_alone slot writes heard at loads near lend state kept there step =
       let place = target_of operation in let words = state.words in let counted = kept.counted in
-      let alone = counted_alone shape (lent state.views) words counted slot (near state kept there) (lent_nothing shape state kept slot) kept.counts_words in
+      let alone = counted_alone shape (lent state.views) words counted slot (near state kept there) (lent_heard shape kept.announcers state.words state.views view slot kept.announced (kept.hears id view there writes) (let told = kept.told_of id view there (omega arith) in omega arith) (numbered shape state kept)) kept.counts_words in
       let same : get_or counted place 0 ≡ get_or words place 0 = ap (λ (p : ℕ). get_or counted p 0) at ∙ alone ∙ sym (ap (λ (p : ℕ). get_or words p 0) at) in (
         record {
           counts = subst (λ (p : ℕ × ℕ). Counted shape (lent state.views) (set words place p.0) (set counted place p.1))

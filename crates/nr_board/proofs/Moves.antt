@@ -1,5 +1,5 @@
 -- What a step does to its token's own view: it learns the history so far and adds entries, or it learns nothing.
-use Rattle.std.proofs.Common.{◌≡◌, ℕ, ◌<◌, ◌+◌, List, [], ◌++◌, map, cond, true, refl, sym, ap, ◌∙◌, subst, arith, append_assoc, append-nil}
+use Rattle.std.proofs.Common.{◌≡◌, ℕ, suc, get_or, inl, ◌⊎◌, ◌<◌, ◌+◌, List, [], ◌++◌, map, cond, true, refl, sym, ap, ◌∙◌, subst, arith, append_assoc, append-nil}
 use mathlib.Core.Option.{some}
 use lib.ListN.{get_elem?}
 use Rattle.atomic_table.specs.Table.{State}
@@ -15,9 +15,11 @@ use Rattle.nr_board.specs.Plays.{Advances, Waits}
 use Rattle.nr_marks.specs.Marked.{MarkTelling, Remarked}
 use Rattle.nr_marks.specs.Marks.{Marks, Past, gripped}
 use Rattle.nr_board.specs.Rule.{Fits, Kept, marks_of, role_of}
-use Rattle.nr_board.proofs.Lift.{Choice}
+use Rattle.nr_board.proofs.Lift.{Choice, Follows}
+use Rattle.nr_board.proofs.Heard.{forgets, hears_as}
 use Rattle.nr_board.proofs.Entries.{callers_both}
 use Rattle.nr_board.specs.Entries.{AreCallers, acts_at, acts_told, to_depart}
+use Rattle.nr_board.specs.Announcing.{heard_after}
 use Rattle.nr_board.specs.Views.{View, grip_of, caller_number}
 use Rattle.nr_machine.specs.Story.{opening_map}
 
@@ -26,6 +28,7 @@ abbrev pub learned : View → Role → List Entry → List Entry → Marks → L
 learned view after seen entries marks news = record {
   role = after;
   shape = view.shape;
+  announcers = view.announcers;
   made = view.made;
   seen = seen;
   told = view.told;
@@ -35,12 +38,14 @@ learned view after seen entries marks news = record {
   pasts = news ++ view.pasts;
   told_pasts = view.told_pasts;
   says = view.says;
+  heard = heard_after view.role view.heard;
 }
 
 abbrev pub waited : View → Role → Marks → List Past → View
 waited view after marks news = record {
   role = after;
   shape = view.shape;
+  announcers = view.announcers;
   made = view.made;
   seen = view.seen;
   told = view.told;
@@ -50,7 +55,22 @@ waited view after marks news = record {
   pasts = news ++ view.pasts;
   told_pasts = view.told_pasts;
   says = view.says;
+  heard = view.heard;
 }
+
+-- after the writer's step a key names what it did, or a slot of which nothing is heard
+abbrev pub NamesGo : View → Marks → Type 0
+NamesGo view marks = is_writer view.role ≡ 1 → (key slot : ℕ) → get_or marks.names key 0 ≡ suc slot → (get_or view.marks.names key 0 ≡ suc slot) ⊎ (get_or (heard_after view.role view.heard) slot 0 ≡ 0)
+
+abbrev pub NamesStay : View → Marks → Type 0
+NamesStay view marks = is_writer view.role ≡ 1 → marks.names ≡ view.marks.names
+
+pub names_go : (view : View) (marks : Marks) → NamesStay view marks → NamesGo view marks
+names_go view marks stay writes key slot is = inl (ap (λ (l : List ℕ). get_or l key 0) (sym (stay writes)) ∙ is)
+
+-- a reader names nothing
+pub reads_only : (view : View) (marks : Marks) → is_writer view.role ≡ 0 → NamesStay view marks
+reads_only view marks reads writes = absurd (omega arith)
 
 -- a reader's count of acts goes along with its entries, but for the departure that is to come
 abbrev pub ActsGo : View → Role → List Entry → Marks → Type 0
@@ -116,42 +136,62 @@ module _ (shape : Shape) (id : ℕ) (view : View) (operation : Operation) (tells
   abbrev pub learned_next : View
   learned_next = learned view step.after (kept.log ++ step.entries) step.entries marked.now marked.news
 
-  pub chosen : (then : View → Type 0) → then learned_next → Choice shape id view operation tells notes state kept step marked then
-  chosen then told = record {
-    next = learned_next;
+  pub learned_follows : Follows shape id view operation tells notes state kept step marked learned_next
+  learned_follows = record {
     role = refl;
     made = refl;
+    announcers = refl;
     marks = refl;
     pasts = refl;
     told_pasts = refl;
-    says = refl;
     fits = learned_fits shape kept.log view (kept.fits id view at) step.after step.same step.writer step.reader step.entries marked.now marked.news step.own acts;
     callers = callers;
+  }
+
+  pub chosen : NamesGo view marked.now → (then : View → Type 0) → then learned_next → Choice shape id view operation tells notes state kept step marked then
+  chosen names then told = record {
+    next = learned_next;
+    follows = learned_follows;
+    says = refl;
+    hears = λ writes. record { fewer = forgets view.role view.heard; named = names writes };
     told = told;
   }
 
-  pub learning : (then : View → Type 0) → is_by (caller_number view.role) view.role ≡ true → marked.news ≡ [] → (told : List Entry) → step.entries ≡ told
-      → (Advances view told learned_next → then learned_next) → Choice shape id view operation tells notes state kept step marked then
-  learning then caller no_news told is tell = chosen then (tell (subst (λ (entries : List Entry). Advances view entries learned_next) is
+  pub learned_gains : is_by (caller_number view.role) view.role ≡ true → marked.news ≡ [] → (told : List Entry) → step.entries ≡ told → Advances view told learned_next
+  learned_gains caller no_news told is = subst (λ (entries : List Entry). Advances view entries learned_next) is
       (learned_advances shape kept.log view (kept.fits id view at) step.after step.same step.writer step.reader same_number sized step.entries
-      marked.now marked.news no_news caller step.own step.core.legal (callers_both shape kept.log step.entries kept.callers callers))))
+      marked.now marked.news no_news caller step.own step.core.legal (callers_both shape kept.log step.entries kept.callers callers))
+
+  pub learning : NamesGo view marked.now → (then : View → Type 0) → is_by (caller_number view.role) view.role ≡ true → marked.news ≡ [] → (told : List Entry) → step.entries ≡ told
+      → (Advances view told learned_next → then learned_next) → Choice shape id view operation tells notes state kept step marked then
+  learning names then caller no_news told is tell = chosen names then (tell (learned_gains caller no_news told is))
 
   -- the token learns nothing from a step without an entry
   abbrev pub waited_next : View
   waited_next = waited view step.after marked.now marked.news
 
-  pub waiting : (then : View → Type 0) → marked.news ≡ [] → step.entries ≡ [] → (Waits view waited_next → then waited_next) → Choice shape id view operation tells notes state kept step marked then
-  waiting then no_news none tell = let fits = kept.fits id view at in record {
-    next = waited_next;
+  pub waited_follows : step.entries ≡ [] → Follows shape id view operation tells notes state kept step marked waited_next
+  waited_follows none = let fits = kept.fits id view at in record {
     role = refl;
     made = refl;
+    announcers = refl;
     marks = refl;
     pasts = refl;
     told_pasts = refl;
-    says = refl;
     fits = subst (λ (entries : List Entry). Fits shape (kept.log ++ entries) waited_next) (sym none)
         (waited_fits shape kept.log view fits step.after step.same step.writer step.reader marked.now marked.news
         (subst (λ (entries : List Entry). ActsGo view step.after entries marked.now) none acts));
     callers = callers;
-    told = tell (waited_waits shape kept.log view fits step.after step.same step.writer step.reader same_number sized marked.now marked.news no_news);
+  }
+
+  pub waited_rests : marked.news ≡ [] → Waits view waited_next
+  waited_rests no_news = waited_waits shape kept.log view (kept.fits id view at) step.after step.same step.writer step.reader same_number sized marked.now marked.news no_news
+
+  pub waiting : NamesStay view marked.now → (then : View → Type 0) → marked.news ≡ [] → step.entries ≡ [] → (Waits view waited_next → then waited_next) → Choice shape id view operation tells notes state kept step marked then
+  waiting stay then no_news none tell = record {
+    next = waited_next;
+    follows = waited_follows none;
+    says = refl;
+    hears = λ writes. hears_as view waited_next refl (stay writes);
+    told = tell (waited_rests no_news);
   }

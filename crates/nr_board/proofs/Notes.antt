@@ -1,5 +1,5 @@
 -- Notes are split from a token and joined to another.
-use Rattle.std.proofs.Common.{◌≡◌, ℕ, suc, cond, ◌+◌, ◌≢◌, List, [], ◌∷◌, ◌++◌, map, set, ◌⊎◌, ⊎_elim, inl, inr, refl, sym, ap, ◌∙◌, subst, arith}
+use Rattle.std.proofs.Common.{◌≡◌, ◌<◌, ℕ, suc, cond, ◌+◌, ◌≢◌, List, [], ◌∷◌, ◌++◌, map, set, ◌⊎◌, ⊎_elim, inl, inr, refl, sym, ap, ◌∙◌, subst, arith}
 use mathlib.Core.List.{map-append}
 use mathlib.Core.Option.{none, some}
 use lib.ListN.{get_elem?}
@@ -29,6 +29,7 @@ use Rattle.nr_board.specs.Rule.{Fits, Kept, StartsWith, counts, marks_of, pasts_
 use Rattle.nr_board.specs.Views.{View, no_desk}
 use Rattle.std.specs.Prelude.{nat_lt}
 use Rattle.nr_board.specs.Announcing.{lends, lent}
+use Rattle.nr_board.proofs.Heard.{AllHear, hears_as, hears_more, hears_on}
 use Rattle.nr_board.proofs.Counting.{announces_more, announces_on, counted_same, lent_more, lent_same}
 
 -- a number that is no caller's has no entries
@@ -42,9 +43,15 @@ note_fits shape log view note is begins untold = record {
   sized = λ call. let no_writer : is_writer note.role ≡ 0 = ap is_writer is in let no_reader : is_reader note.role ≡ 0 = ap is_reader is in absurd (omega arith);
 }
 
+-- a view that keeps its role, and what it names and has heard, leaves what all have heard
+pub heard_same : (views : List View) (id : ℕ) (view next : View) → get_elem? views id ≡ some view → next.role ≡ view.role → next.says ≡ view.says
+    → (is_writer view.role ≡ 1 → (next.heard ≡ view.heard) × (next.marks.names ≡ view.marks.names)) → AllHear views → AllHear (set views id next)
+heard_same views id view next at same says alike = hears_on views id view next at (λ caller. ap (is_by caller) same) (ap is_writer same)
+    (λ slot j. cond (nat_lt 0 (says j)) (holds slot (same j)) 0) (λ writes. let both = alike writes in hears_as view next both.0 both.1)
+
 -- a view that keeps its role, its marks, and what it knows of itself takes the place of one; what it was told of readers is so
 module _ (shape : Shape) (state : State (Unit {0}) View) (id : ℕ) (view next : View) (kept : Kept shape state)
-    (at : get_elem? state.views id ≡ some view) (same : next.role ≡ view.role) (alike : (next.marks ≡ view.marks) ⊎ (view.role ≡ Note)) (says : next.says ≡ view.says) where
+    (at : get_elem? state.views id ≡ some view) (same : next.role ≡ view.role) (alike : (next.marks ≡ view.marks) ⊎ (view.role ≡ Note)) (says : next.says ≡ view.says) (heard : AllHear (set state.views id next)) (of_announcers : 0 < is_writer next.role + is_reader next.role → next.announcers ≡ kept.announcers) where
   abbrev later : List View
   later = set state.views id next
 
@@ -59,7 +66,10 @@ module _ (shape : Shape) (state : State (Unit {0}) View) (id : ℕ) (view next :
         log = kept.log;
         counted = kept.counted;
         counts_words = counted_same shape (lent state.views) (lent later) state.words kept.counted (lent_same state.views id view next at lend) kept.counts_words;
-        announced = announces_on shape kept.made state.words state.words state.views id view next at (λ caller. ap (is_by caller) same) says lend (λ _ _. refl) kept.announced;
+        announced = announces_on shape kept.announcers state.words state.words state.views id view next at (λ caller. ap (is_by caller) same) says lend (λ _ _. refl) refl kept.announced;
+        announcers = kept.announcers;
+        told_of = at_any (λ (u : View). 0 < is_writer u.role + is_reader u.role → u.announcers ≡ kept.announcers) of_announcers kept.told_of;
+        hears = heard;
         core = subst (λ (rs : List Role). Core shape kept.counted rs kept.log) (sym same_roles) kept.core;
         fits = at_any (Fits shape kept.log) fits kept.fits;
         callers = kept.callers;
@@ -89,7 +99,10 @@ adds_note shape source state kept begins since =
       log = kept.log;
       counted = kept.counted;
       counts_words = counted_same shape (lent views) (lent views') state.words kept.counted (lent_more views note refl) kept.counts_words;
-      announced = announces_more shape kept.made kept.made state.words views note refl (λ own his. absurd (cc)) (omega arith) kept.announced;
+      announced = announces_more shape kept.announcers state.words views note refl (λ own his. absurd (cc)) kept.announced;
+      announcers = kept.announcers;
+      told_of = λ j u there calls. ⊎_elim (λ (t : get_elem? views j ≡ some u). kept.told_of j u t calls) (λ (t : note ≡ u). absurd (let none = ap (λ (y : View). is_writer y.role + is_reader y.role) t in omega arith)) (at_snoc views note u j there);
+      hears = hears_more views note refl refl kept.hears;
       core = subst (λ (rs : List Role). Core shape kept.counted rs kept.log) (sym more) (notes shape kept.counted roles kept.log kept.core);
       fits = λ j u there. ⊎_elim (λ (t : get_elem? views j ≡ some u). kept.fits j u t) (λ (t : note ≡ u). subst (Fits shape kept.log) t (note_fits shape kept.log source note refl begins refl)) (at_snoc views note u j there);
       callers = kept.callers;
@@ -117,7 +130,7 @@ module _ (shape : Shape) (id : ℕ) (view : View) (state : State (Unit {0}) View
   makes =
       let fits = kept.fits id view at in
       let own : Fits shape kept.log maker = record { begins = fits.begins; told = fits.told; own = fits.own; knows_own = fits.knows_own; acts = fits.acts; sized = fits.sized } in
-      replaced shape state id view maker kept at refl (inl refl) refl own (kept.maker id view at) (kept.pasts id view at) (kept.told_pasts id view at)
+      replaced shape state id view maker kept at refl (inl refl) refl (heard_same state.views id view maker at refl refl (λ _. (refl, refl)) kept.hears) (kept.told_of id view at) own (kept.maker id view at) (kept.pasts id view at) (kept.told_pasts id view at)
 
   there : get_elem? counted.views id ≡ some maker
   there = here_after state.views id view maker at
@@ -135,7 +148,7 @@ pub loads_so : (shape : Shape) (slots id : ℕ) (me : Me (Unit {0}) View) (place
 loads_so shape slots id me place state kept homes at bounded =
     let view = me.0 in let next = has_noted view in let fits = kept.fits id view at in
     let own : Fits shape kept.log next = record { begins = fits.begins; told = fits.told; own = fits.own; knows_own = fits.knows_own; acts = fits.acts; sized = fits.sized } in
-    let rests = replaced shape state id view next kept at refl (inl refl) refl own (kept.maker id view at) (kept.pasts id view at) (kept.told_pasts id view at) in
+    let rests = replaced shape state id view next kept at refl (inl refl) refl (heard_same state.views id view next at refl refl (λ _. (refl, refl)) kept.hears) (kept.told_of id view at) own (kept.maker id view at) (kept.pasts id view at) (kept.told_pasts id view at) in
     (next, keeps, tt, subst (λ (words : List ℕ). Kept shape (record { words = words; homes = state.homes; views = set state.views id next })) (sym (set-get_or state.words place 0)) rests, refl)
 
 -- as contracts see the token
@@ -150,9 +163,11 @@ takes_so shape id view steps other note is state kept at apart beside =
     let both = record (told_by_note view note) { steps = steps } in let views = set state.views id both in
     let fits = kept.fits id view at in
     let mine : Fits shape kept.log both = record { begins = fits.begins; told = (kept.fits other note beside).begins; own = fits.own; knows_own = fits.knows_own; acts = fits.acts; sized = fits.sized } in
-    let taken = replaced shape state id view both kept at refl (inl refl) refl mine (kept.maker id view at) (kept.pasts id view at) (kept.pasts other note beside) in
+    let taken = replaced shape state id view both kept at refl (inl refl) refl (heard_same state.views id view both at refl refl (λ _. (refl, refl)) kept.hears) (kept.told_of id view at) mine (kept.maker id view at) (kept.pasts id view at) (kept.pasts other note beside) in
+    let beside_now = set_else state.views id other both apart ∙ beside in
+    let silent : spent.says ≡ note.says = sym (taken.announced.wordless other note beside_now (λ own low. ap (is_by (suc own)) is)) in
     replaced shape (record { words = state.words; homes = state.homes; views = views }) other note spent taken
-    (set_else state.views id other both apart ∙ beside) (sym is) (inr is) (sym (taken.announced.wordless other note (set_else state.views id other both apart ∙ beside) (λ own low. ap (is_by (suc own)) is)))
+    beside_now (sym is) (inr is) silent (heard_same views other note spent beside_now (sym is) silent (λ writes. absurd (let none = ap is_writer is in omega arith)) taken.hears) (λ calls. absurd (omega arith))
     (note_fits shape taken.log view spent refl (record { rest = taken.log; is = refl }) refl) (λ writes. absurd (omega arith))
     (no_places (Since role_of marks_of views)) (no_places (Since role_of marks_of views))
 

@@ -1,5 +1,5 @@
 -- The table at opening keeps the rule.
-use Rattle.std.proofs.Common.{Bool, [], ap, arith, cond, false, get_or, ne_eqb, refl, replicate, subst, suc, sym, true, zero, ℕ, ◌^◌, ◌+◌, ◌<◌, ◌∷◌, ◌≡◌, ◌≤◌}
+use Rattle.std.proofs.Common.{Bool, List, [], ap, arith, cond, false, get_or, ne_eqb, refl, replicate, subst, suc, sym, true, zero, ℕ, ◌^◌, ◌+◌, ◌<◌, ◌∷◌, ◌≡◌, ◌≤◌}
 use mathlib.Core.Option.{some, some-injective, some-ne-none}
 use lib.ListN.{get_elem?}
 use Rattle.atomic_table.specs.Table.{opening}
@@ -14,6 +14,7 @@ use Rattle.nr_machine.specs.declared.shape.Shape.{Shape}
 use Rattle.nr_marks.proofs.ListPlaces.{no_places}
 use Rattle.nr_marks.proofs.SeatMarks.{opens_marked}
 use Rattle.nr_marks.specs.Marked.{AllSince, Since}
+use Rattle.nr_board.specs.Announcing.{Hears}
 use Rattle.nr_board.specs.Rule.{Fits, Kept, marks_of, role_of}
 use Rattle.nr_board.specs.Views.{View, opener}
 use Rattle.nr_machine.specs.States.{opening_desk}
@@ -23,6 +24,11 @@ use Rattle.nr_machine.specs.declared.roles.Role.TheVariants.{Writer}
 only_one : {A : Type 0} (a : A) (j : ℕ) (b : A) → get_elem? (a ∷ []) j ≡ some b → a ≡ b
 only_one a zero b e = some-injective a b e
 only_one a (suc j) b e = absurd (some-ne-none b (sym e))
+
+zeros : (n at : ℕ) → let none : List ℕ = replicate n 0 in get_or none at 0 ≡ 0
+zeros zero at = refl
+zeros (suc n) zero = refl
+zeros (suc n) (suc at) = zeros n at
 
 -- no key names a slot
 none_named : (shape : Shape) → IsShape shape → (key : ℕ) → key < shape.keys → name_number (get_or (words_at_opening shape) key 0) ≡ 0
@@ -44,12 +50,16 @@ opens_so shape fits small = let view = opener shape in
         less = λ slot near. let first = first_counts shape fits slot near in omega arith;
         small = λ slot near. let first = first_counts shape fits slot near in omega arith;
       };
+      announcers = 0;
+      told_of = λ id u at _. ap (λ (v : View). v.announcers) (sym (only_one view id u at));
       announced = record {
+        space = omega (arith, (core_opens shape fits 0 (omega arith)).wide);
         says = λ id own u at his low. absurd (omega arith);
         wordless = λ id u at _. ap (λ (v : View). v.says) (sym (only_one view id u at));
         holds_it = λ id slot u at loud grips. absurd (let none : u.says ≡ 0 = ap (λ (v : View). v.says) (sym (only_one view id u at)) in omega arith);
         unsaid = λ own _ low. absurd (omega arith);
       };
+      hears = λ id u at _. subst (Hears (view ∷ [])) (only_one view id u at) (record { quiet = λ k slot own v _ _ low. absurd (let none = zeros shape.slots slot in omega arith); unheard = λ key slot _. zeros shape.slots slot });
       core = core_opens shape fits 0 (omega arith);
       fits = λ j u at. subst (Fits shape []) (only_one view j u at)
           (record {

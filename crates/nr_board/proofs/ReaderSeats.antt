@@ -32,10 +32,10 @@ use Rattle.nr_board.specs.Views.{grip_of, is_sized, caller_number, rows_held, sl
 
 module _ (table : Table) (before after : MapSeat) (same : after.table_id ≡ before.table_id) where
   pub asked_seat : (key found : ℕ) → IdlesAt table before → Asked key found before.me.0 after.me.0 → IdlesAt table after × Gains 1 (token before) (model.Ask key) (ask_word found) (token after)
-  asked_seat key found idles told = let grows = seat_grows before after _ same told.gains in (record { own = grows.table ∙ idles.own; idle = subst IsIdle (sym told.role) idles.idle }, grows)
+  asked_seat key found idles told = let grows = seat_grows before after _ same told.gains in (record { own = grows.table ∙ idles.own; idle = subst IsIdle (sym told.role) idles.idle; silent = told.says ∙ idles.silent }, grows)
 
   pub hole_seat : (key found : ℕ) → IdlesAt table before → Arrived key found before.me.0 after.me.0 → is_filled found ≡ false → IdlesAt table after × Gains 1 (token before) (model.Find key) reply.Hole (token after)
-  hole_seat key found idles told empty = let hole = told.hole empty in let grows = seat_grows before after _ same hole.1 in (record { own = grows.table ∙ idles.own; idle = subst IsIdle (sym hole.0) idles.idle }, grows)
+  hole_seat key found idles told empty = let hole = told.hole empty in let grows = seat_grows before after _ same hole.1 in (record { own = grows.table ∙ idles.own; idle = subst IsIdle (sym hole.0) idles.idle; silent = told.says ∙ idles.silent }, grows)
 
   pub held_seat : (key found : ℕ) → IdlesAt table before → Arrived key found before.me.0 after.me.0 → is_filled found ≡ true
       → HoldsAt table (content table.shape (slot_of found) 0) after × Gains 1 (token before) (model.Find key) (reply.Rows (rows_held after.me.0.role)) (token after)
@@ -63,8 +63,8 @@ module _ (table : Table) (before after : MapSeat) (same : after.table_id ≡ bef
     rests,
   )
 
-  pub departed_seat : (begin : ℕ) → HoldsAt table begin before → Departed before.me.0 after.me.0 → IdlesAt table after × Rests 1 (token before) (token after)
-  departed_seat begin holds told = let rests = seat_rests before after same told.waits in (record { own = rests.table ∙ holds.own; idle = told.role ∙ ap (λ (n : ℕ). Reader n Nothing) (sym (ap caller_number told.role)) }, rests)
+  pub departed_seat : (begin : ℕ) → HoldsAt table begin before → before.me.0.says ≡ 0 → Departed before.me.0 after.me.0 → IdlesAt table after × Rests 1 (token before) (token after)
+  departed_seat begin holds silent told = let rests = seat_rests before after same told.waits in (record { own = rests.table ∙ holds.own; idle = told.role ∙ ap (λ (n : ℕ). Reader n Nothing) (sym (ap caller_number told.role)); silent = told.says ∙ silent }, rests)
 
 -- the slot that a reader holds, by where its first content word stands; it is one of the map's
 pub held_slot : {table : Table} {seat : MapSeat} (slot : ℕ) → HoldsAt table (content table.shape slot 0) seat → slot ≡ slot_held seat.me.0.role

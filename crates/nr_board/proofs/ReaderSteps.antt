@@ -19,7 +19,7 @@ use Rattle.nr_core.proofs.Depart.{departs}
 use Rattle.nr_core.proofs.FindAgain.{finds_again}
 use Rattle.nr_core.proofs.KeyWords.{names_none, names_one}
 use Rattle.nr_core.proofs.Read.{reads}
-use Rattle.nr_core.specs.Roles.{holds, is_by, is_reader}
+use Rattle.nr_core.specs.Roles.{holds, is_by, is_reader, is_writer}
 use Rattle.nr_machine.specs.declared.operation.Operation.TheVariants.{Add, Load, Or}
 use Rattle.nr_machine.specs.Slots.{content, departures, name_number, bound_of, names_slot, slot_room}
 use Rattle.nr_core.specs.Steps.{Arrives, Asks, CanStep, Departs, FindsAgain, ReadsHeld, ask_word}
@@ -33,11 +33,11 @@ use Rattle.nr_marks.proofs.FindAgainMarks.{finds_again_marked}
 use Rattle.nr_marks.proofs.ReaderMarks.{arrives_marked, asks_marked, departs_marked, reads_marked}
 use Rattle.nr_marks.specs.MarkSteps.{ArrivesMarks, DepartsMarks, FindsAgainMarks, KeepsMarks, found_again}
 use Rattle.nr_board.proofs.Learning.{shows_kind}
-use Rattle.nr_board.proofs.Lift.{Choice, content_no_count, key_inside, key_no_count, knows_pasts, lends_on, lent_nothing, lifts, says_nothing, sees_plain, silent_lends}
+use Rattle.nr_board.proofs.Lift.{Choice, content_no_count, key_inside, key_no_count, knows_pasts, lends_on, lent_small, lifts, sees_plain, silent_lends}
 use Rattle.nr_board.proofs.Counting.{counted_departure}
 use Rattle.nr_board.specs.Announcing.{lent, says_at}
 use Rattle.nr_core.proofs.WordPlaces.{content_inside, departures_inside}
-use Rattle.nr_board.proofs.Moves.{ActsGo, learned, learning, waiting}
+use Rattle.nr_board.proofs.Moves.{ActsGo, learned, learning, names_go, reads_only, waiting}
 use Rattle.nr_board.specs.Entries.{AreCallers, acts_told, is_reading, to_depart}
 use Rattle.nr_marks.specs.Marked.{KnowsMarks}
 use Rattle.nr_marks.specs.Marks.{Marks, gripped}
@@ -59,17 +59,17 @@ reader_shape : (shape : Shape) (log : List Entry) (view : View) (grip : Grip) �
 reader_shape shape log view grip is fits = fits.sized (let one : is_reader view.role ≡ 1 = ap is_reader is in omega arith)
 
 -- a reader's number is one of the map's
-reader_within : (shape : Shape) (id : ℕ) (view : View) (grip : Grip) (state : State (Unit {0}) View) (kept : Kept shape state)
+pub reader_within : (shape : Shape) (id : ℕ) (view : View) (grip : Grip) (state : State (Unit {0}) View) (kept : Kept shape state)
     → get_elem? state.views id ≡ some view → view.role ≡ Reader (caller_number view.role) grip → caller_number view.role ≤ shape.readers
 reader_within shape id view grip state kept at is = (subst (λ r. KnowsMarks role_of marks_of shape kept.counted state.views kept.log r view.marks) is (kept.marked.each id view at)).1
 
 -- a find or a request is an entry of the reader's
-reader_entry : (shape : Shape) (reader : ℕ) (call : Call) (answer : Reply) (entries : List Entry) → entries ≡ entry reader call answer ∷ []
+pub reader_entry : (shape : Shape) (reader : ℕ) (call : Call) (answer : Reply) (entries : List Entry) → entries ≡ entry reader call answer ∷ []
     → call_key call < shape.keys → reader ≤ shape.readers → is_reading call ≡ true → AreCallers shape entries
 reader_entry shape reader call answer entries is near low reads = subst (AreCallers shape) (sym is) ((near, inr (low, reads)), tt)
 
 -- the reader's count, by its hold before and after
-acts_so : (view : View) (after : Role) (entries : List Entry) (marks : Marks) (before now : Option ℕ) (told : List Entry)
+pub acts_so : (view : View) (after : Role) (entries : List Entry) (marks : Marks) (before now : Option ℕ) (told : List Entry)
     → gripped (grip_of view.role) ≡ before → gripped (grip_of after) ≡ now → entries ≡ told → marks.acts + to_depart now ≡ view.marks.acts + to_depart
     before + acts_told told → ActsGo view after entries marks
 acts_so view after entries marks before now told held holds is count reads =
@@ -85,28 +85,28 @@ asks_so shape slots id me key near idle = let view = me.0 in let reader = caller
     learning shape id view (Or key 1) tells (KeepsMarks view.marks) state kept at step marked (ap caller_number role) (reader_shape shape kept.log view Nothing idle (kept.fits id view at))
     (reader_entry shape reader (model.Ask key) _ step.entries step.told.1 near (reader_within shape id view Nothing state kept at idle) refl)
     (acts_so view step.after step.entries marked.now None None _ (ap (λ r. gripped (grip_of r)) idle) (ap (λ r. gripped (grip_of r)) step.told.0) step.told.1 (let same = ap (λ (m : Marks). m.acts) marked.told.0 in omega arith))
-    (λ next. Asked key (get_or kept.counted key 0) view next) (reader_is view.role Nothing idle) marked.told.1
-    (entry reader (model.Ask key) (ask_word (get_or kept.counted key 0)) ∷ []) step.told.1 (λ advances. record { role = role; gains = advances; marks = marked.told.0 }))
+    (names_go view marked.now (reads_only view marked.now (ap is_writer idle))) (λ next. Asked key (get_or kept.counted key 0) view next) (reader_is view.role Nothing idle) marked.told.1
+    (entry reader (model.Ask key) (ask_word (get_or kept.counted key 0)) ∷ []) step.told.1 (λ advances. record { role = role; gains = advances; marks = marked.told.0; says = refl }))
 
 -- what is true is not false
-differ : (b : Bool) (P : Type 0) → b ≡ true → b ≡ false → P
+pub differ : (b : Bool) (P : Type 0) → b ≡ true → b ≡ false → P
 differ b P is not = let clash : true ≡ false = sym is ∙ not in absurd (cc)
 
-pub arrives_so : (shape : Shape) (slots id : ℕ) (me : Me (Unit {0}) View) (key : ℕ) → key < shape.keys → IsIdle me.0.role
+pub arrives_so : (shape : Shape) (slots id : ℕ) (me : Me (Unit {0}) View) (key : ℕ) → key < shape.keys → IsIdle me.0.role → me.0.says ≡ 0
     → Allows (Kept shape) slots id me key (λ word. (word + ARRIVE) % 2 ^ 64) (has_arrived (step slots key ARRIVE 0 none) me)
-arrives_so shape slots id me key near idle = let view = me.0 in let reader = caller_number view.role in let tells = Arrives shape reader key in
+arrives_so shape slots id me key near idle silent = let view = me.0 in let reader = caller_number view.role in let tells = Arrives shape reader key in
     lifts shape id view (Add key ARRIVE) tells (ArrivesMarks view.marks key) slots me.1 (λ found next. Arrived key found view next) view.pasts
     (subst (λ r. CanStep shape id r (Add key ARRIVE) tells) (sym idle) (arrives shape id reader key near))
     (arrives_marked role_of marks_of shape id view view.pasts reader key near idle) (knows_pasts shape id view)
     (sees_plain shape id view (Add key ARRIVE) tells (ArrivesMarks view.marks key) (λ found next. Arrived key found view next) (key_inside shape key near) (key_no_count shape key near)
-    (λ state kept at step. silent_lends view step.after (says_nothing shape id view state kept at)))
+    (λ state kept at step. silent_lends view step.after silent))
     (λ state kept at step marked. let found : ℕ = get_or kept.counted key 0 in let sized = reader_shape shape kept.log view Nothing idle (kept.fits id view at) in
     let next = learned view step.after (kept.log ++ step.entries) step.entries marked.now marked.news in
     let choose : caller_number step.after ≡ reader → (told : List Entry) → AreCallers shape step.entries
     → ActsGo view step.after step.entries marked.now → step.entries ≡ told → (Advances view told next → Arrived key found view next)
     → Choice shape id view (Add key ARRIVE) tells (ArrivesMarks view.marks key) state kept step marked (λ next. Arrived key found view next)
     = λ same told callers acts. learning shape id view (Add key ARRIVE) tells (ArrivesMarks view.marks key) state kept at step marked same sized
-    callers acts (λ next. Arrived key found view next) (reader_is view.role Nothing idle) marked.told.1 told in
+    callers acts (names_go view marked.now (reads_only view marked.now (ap is_writer idle))) (λ next. Arrived key found view next) (reader_is view.role Nothing idle) marked.told.1 told in
     let within = reader_within shape id view Nothing state kept at idle in let acts_are = ap (λ (m : Marks). m.acts) marked.told.0 in
     ⊎_elim
     (λ (t : (slot : ℕ) × (rows : List Row) × (name_number found ≡ suc slot) × (slot < shape.slots) × IsRowSet (bound_of shape) rows
@@ -127,6 +127,7 @@ arrives_so shape slots id me key near idle = let view = me.0 in let reader = cal
       );
       hole = λ empty. differ (is_filled found) _ names.0 empty;
       marks = marked.told.0;
+      says = refl;
     }))
     (λ (t : (name_number found ≡ 0) × (step.after ≡ Reader reader Nothing) × (step.entries ≡ entry reader (model.Find key) reply.Hole ∷ [])).
     choose (ap caller_number t.1) (entry reader (model.Find key) reply.Hole ∷ []) (reader_entry shape reader (model.Find key) _ step.entries t.2 near within refl)
@@ -135,6 +136,7 @@ arrives_so shape slots id me key near idle = let view = me.0 in let reader = cal
       held = λ full. differ (is_filled found) _ full (names_none found t.0);
       hole = λ _. (t.1 ∙ sym idle, advances);
       marks = marked.told.0;
+      says = refl;
     }))
     step.told)
 
@@ -152,13 +154,14 @@ reads_so shape slots id me index is near short low sized = let view = me.0 in le
     waiting shape id view (Load place) tells (KeepsMarks view.marks) state kept at step marked same sized (subst (AreCallers shape) (sym step.told.2) tt)
     (acts_so view step.after step.entries marked.now (Some slot) (Some slot) [] (ap (λ r. gripped (grip_of r)) is)
     (ap (λ r. gripped (grip_of r)) step.told.1) step.told.2 (let same = ap (λ (m : Marks). m.acts) marked.told.0 in omega arith))
-    (λ next. Read place (get_or kept.counted place 0) view next) marked.told.1 step.told.2
+    (reads_only view marked.now (ap is_writer is)) (λ next. Read place (get_or kept.counted place 0) view next) marked.told.1 step.told.2
     (λ waits. record {
       value = let begins : content view.shape slot 0 ≡ content shape slot 0 = ap (λ (s : Shape). content s slot 0) sized in let back : index ≡ place - content view.shape slot 0 = omega arith in
           step.told.0 ∙ ap (λ (i : ℕ). get_or (encode rows) i 0) back;
       hold = step.told.1 ∙ ap (holding view.role) (sym (ap (λ r. is_sized (grip_of r)) step.told.1));
       waits = waits;
       marks = marked.told.0;
+      says = refl;
     }))
 
 pub finds_again_so : (shape : Shape) (slots id : ℕ) (me : Me (Unit {0}) View) (key : ℕ) → key < shape.keys → me.0.role ≡ holding me.0.role (is_sized (grip_of me.0.role)) → me.0.shape ≡ shape
@@ -181,7 +184,7 @@ finds_again_so shape slots id me key near is sized = let view = me.0 in let read
     → Choice shape id view (Load key) tells notes state kept step marked (λ next. FoundAgain key found view next)
     = λ told callers is_told count tell. learning shape id view (Load key) tells notes state kept at step marked (ap caller_number role) sized callers
     (acts_so view step.after step.entries marked.now (Some slot) (Some slot) told holds held is_told (omega arith))
-    (λ next. FoundAgain key found view next) (reader_is view.role _ is) marked.told.1 told is_told tell in
+    (names_go view marked.now (reads_only view marked.now (ap is_writer is))) (λ next. FoundAgain key found view next) (reader_is view.role _ is) marked.told.1 told is_told tell in
     by_cases (λ _. Choice shape id view (Load key) tells notes state kept step marked (λ next. FoundAgain key found view next)) names
     (λ yes. let is_told : step.entries ≡ e ∷ [] = step.told.1 ∙ ap (λ (b : Bool). cond {A = List Entry} b (e ∷ []) []) yes in
     let count : marked.now.acts ≡ suc (suc view.marks.acts) = ap (λ (m : Marks). m.acts) marked.told.0 ∙ ap (λ (b : Bool). (found_again b view.marks).acts) yes in
@@ -193,6 +196,7 @@ finds_again_so shape slots id me key near is sized = let view = me.0 in let read
       marks = marked.told.0;
       put = marked.told.2;
       kind = kind;
+      says = refl;
     }))
     (λ no. let is_told : step.entries ≡ [] = step.told.1 ∙ ap (λ (b : Bool). cond {A = List Entry} b (e ∷ []) []) no in
     let count : marked.now.acts ≡ view.marks.acts = ap (λ (m : Marks). m.acts) marked.told.0 ∙ ap (λ (b : Bool). (found_again b view.marks).acts) no in
@@ -204,15 +208,16 @@ finds_again_so shape slots id me key near is sized = let view = me.0 in let read
       marks = marked.told.0;
       put = marked.told.2;
       kind = kind;
+      says = refl;
     })))
 
-pub departs_so : (shape : Shape) (slots id : ℕ) (me : Me (Unit {0}) View) → me.0.role ≡ holding me.0.role (is_sized (grip_of me.0.role)) → slot_held me.0.role < shape.slots → me.0.shape ≡ shape
+pub departs_so : (shape : Shape) (slots id : ℕ) (me : Me (Unit {0}) View) → me.0.role ≡ holding me.0.role (is_sized (grip_of me.0.role)) → slot_held me.0.role < shape.slots → me.0.shape ≡ shape → me.0.says ≡ 0
     → let place = departures shape (slot_held me.0.role) in Allows (Kept shape) slots id me place (λ word. (word + 1) % 2 ^ 64) (has_departed (step slots place 1 0 none) me)
-departs_so shape slots id me is near sized = let view = me.0 in let reader = caller_number view.role in let slot : ℕ = slot_held view.role in let rows = rows_held view.role in let sized_so = is_sized (grip_of view.role) in
+departs_so shape slots id me is near sized silent = let view = me.0 in let reader = caller_number view.role in let slot : ℕ = slot_held view.role in let rows = rows_held view.role in let sized_so = is_sized (grip_of view.role) in
     let place : ℕ = departures shape slot in let tells = Departs reader in
     lifts shape id view (Add place 1) tells (DepartsMarks view.marks) slots me.1 (λ found next. Departed view next) view.pasts (subst (λ r. CanStep shape id r (Add place 1) tells) (sym is) (departs shape id reader slot rows sized_so))
     (departs_marked role_of marks_of shape id view view.pasts reader slot rows sized_so is) (knows_pasts shape id view)
-    (λ state kept at step. let silent = says_nothing shape id view state kept at in let wide = kept.core.wide in let none = lent_nothing shape state kept slot in (
+    (λ state kept at step. let wide = kept.core.wide in let few = lent_small shape state kept slot in (
       record {
         counts = counted_departure shape (lent state.views) state.words kept.counted slot near (omega arith) (omega (arith, wide)) kept.counts_words;
         behind = λ own _. get_or-set_other state.words place (says_at shape own) ((get_or state.words place 0 + 1) % 2 ^ 64) 0 (λ e. let inside = departures_inside shape slot near in omega arith);
@@ -223,4 +228,4 @@ departs_so shape slots id me is near sized = let view = me.0 in let reader = cal
     (λ state kept at step marked. waiting shape id view (Add place 1) tells (DepartsMarks view.marks) state kept at step marked (ap caller_number step.told.0) sized (subst (AreCallers shape) (sym step.told.1) tt)
     (acts_so view step.after step.entries marked.now (Some slot) None [] (ap (λ r. gripped (grip_of r)) is)
     (ap (λ r. gripped (grip_of r)) step.told.0) step.told.1 (let same = ap (λ (m : Marks). m.acts) marked.told.0 in omega arith))
-    (λ next. Departed view next) marked.told.1 step.told.1 (λ waits. record { role = step.told.0; waits = waits; marks = marked.told.0 }))
+    (reads_only view marked.now (ap is_writer is)) (λ next. Departed view next) marked.told.1 step.told.1 (λ waits. record { role = step.told.0; waits = waits; marks = marked.told.0; says = refl }))

@@ -1,27 +1,22 @@
 -- The writer reads the set that was put into a slot last: the words spell it, until the writer's next set is put there.
-use Rattle.std.proofs.Common.{◌≡◌, ℕ, ◌+◌, ◌*◌, ◌<◌, ◌∙◌, List, inl, refl, sym, ap, subst, arith, get_or, length, set}
-use Rattle.std.specs.Prelude.{slice_get, Some}
+use Rattle.std.proofs.Common.{◌≡◌, ℕ, ◌<◌, ◌∙◌, List, inl, refl, sym, ap, subst, arith, get_or, set}
 use lib.Seq.{set-get_or}
 use mathlib.Core.Option.{none}
 use Rattle.atomic_table.specs.Table.{Allows, Me, keeps, step}
 use Rattle.nr_model.specs.Rows.{IsRowSet}
-use Rattle.nr_model.specs.declared.rows.Row.{Row}
-use Rattle.nr_words.specs.SetWords.{encode}
-use Rattle.nr_core.specs.Roles.{is_reader, is_writer}
+use Rattle.nr_core.specs.Roles.{is_writer}
 use Rattle.nr_machine.specs.Slots.{bound_of, content, slot_room}
 use Rattle.nr_core.proofs.WordPlaces.{content_inside}
 use Rattle.nr_board.proofs.Lift.{content_no_count}
-use Rattle.nr_machine.specs.declared.roles.Desk.{Desk}
 use Rattle.nr_machine.specs.declared.roles.Role.{Role}
-use Rattle.nr_machine.specs.declared.roles.Role.TheVariants.{Writer}
 use Rattle.nr_machine.specs.declared.shape.Shape.{Shape}
-use Rattle.nr_marks.specs.Marked.{KnowsMarks, Untouched}
+use Rattle.nr_marks.specs.Marked.{KnowsMarks}
 use Rattle.nr_marks.specs.Marks.{set_in}
-use Rattle.nr_board.proofs.Notes.{replaced}
-use Rattle.nr_board.proofs.Rows.{encoded_row, length-encode}
-use Rattle.nr_board.specs.Callers.{Table, token}
+use Rattle.nr_board.proofs.Notes.{heard_same, replaced}
+use Rattle.nr_board.proofs.Rows.{length-encode}
+use Rattle.nr_board.specs.Callers.{Table}
 use Rattle.nr_board.specs.Notes.{has_noted}
-use Rattle.nr_board.specs.Recalls.{IsWordOf, Recalled, RecallsAt, RecallsRows, has_recalled, later, waited}
+use Rattle.nr_board.specs.Recalls.{IsWordOf, RecallsAt, RecallsRows, has_recalled, waited}
 use Rattle.nr_board.specs.Rule.{Fits, Kept, marks_of, role_of}
 use Rattle.nr_board.specs.Views.{View}
 use Rattle.nr_board.specs.WriterSeats.{MapSeat}
@@ -30,7 +25,7 @@ pub recalls_so : (shape : Shape) (slots id : ℕ) (me : Me (Unit {0}) View) (pla
 recalls_so shape slots id me place state kept homes at bounded =
     let view = me.0 in let next = has_noted view in let fits = kept.fits id view at in
     let own : Fits shape kept.log next = record { begins = fits.begins; told = fits.told; own = fits.own; knows_own = fits.knows_own; acts = fits.acts; sized = fits.sized } in
-    let rests = replaced shape state id view next kept at refl (inl refl) refl own (kept.maker id view at) (kept.pasts id view at) (kept.told_pasts id view at) in
+    let rests = replaced shape state id view next kept at refl (inl refl) refl (heard_same state.views id view next at refl refl (λ _. (refl, refl)) kept.hears) (kept.told_of id view at) own (kept.maker id view at) (kept.pasts id view at) (kept.told_pasts id view at) in
     let found : ℕ = get_or state.words place 0 in (
       next,
       keeps,
@@ -53,7 +48,7 @@ recalls_so shape slots id me place state kept homes at bounded =
 -- the seat can recall the slot after steps that tell it nothing
 pub recalls_later : (table : Table) (slot : ℕ) (before after : MapSeat) (steps : ℕ) → after.table_id ≡ before.table_id → after.me.0 ≡ waited steps before.me.0 → RecallsAt table slot before → RecallsAt table slot after
 recalls_later table slot before after steps same waits at = record {
-  own = (λ j. record { id = same j; shape = (waits j).shape }) ∙ at.own;
+  own = (λ j. record { id = same j; shape = (waits j).shape; announcers = (waits j).announcers }) ∙ at.own;
   desk = at.desk;
   role = ap (λ (v : View). v.role) waits ∙ at.role;
   inside = at.inside;

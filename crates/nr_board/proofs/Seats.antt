@@ -11,7 +11,8 @@ use Rattle.atomic_table.specs.Table.{Splits}
 use Rattle.atomic_table.proofs.Lists.{at_map}
 use Rattle.nr_model.specs.Histories.{entries_of}
 use Rattle.nr_core.proofs.Seat.{seats}
-use Rattle.nr_core.proofs.Sums.{at_set, at_snoc, set_again, terms_le, total-append}
+use Rattle.nr_core.proofs.Choices.{by_cases}
+use Rattle.nr_core.proofs.Sums.{at_set, at_snoc, set_again, term_le, terms_le, total-append}
 use Rattle.nr_core.specs.Core.{Core}
 use Rattle.nr_core.specs.Roles.{is_by, is_reader, is_writer}
 use Rattle.nr_machine.specs.Sums.{total}
@@ -24,7 +25,8 @@ use Rattle.nr_marks.specs.Marked.{Since}
 use Rattle.nr_board.specs.Rule.{Fits, Kept, counts, marks_of, pasts_of, role_of, told_pasts_of}
 use Rattle.nr_marks.specs.Marks.{gripped}
 use Rattle.nr_board.specs.Views.{View, grip_of, next_reader, with_reader}
-use Rattle.nr_board.specs.Announcing.{lent}
+use Rattle.nr_board.specs.Announcing.{HasNoReader, lent}
+use Rattle.nr_board.proofs.Heard.{hears_as, hears_more, hears_on}
 use Rattle.nr_board.proofs.Counting.{announces_more, announces_on, counted_same, lent_more, lent_same}
 
 at_most_one : (y : Bool) → cond y 1 0 ≤ 1
@@ -41,14 +43,25 @@ seats_so shape id view writes few state kept at =
     let is_next : (caller : ℕ) → is_by caller next.role ≡ true → caller ≡ view.made + 1 = λ caller e. sym (eqb-true (view.made + 1) caller e) in
     let not_next : (caller : ℕ) → caller ≢ view.made + 1 → counts caller next.role ≡ 0 = λ caller ne. ap (λ y. cond y 1 0) (ne_eqb (view.made + 1) caller (λ e. ne (sym e))) in
     let silent : (caller : ℕ) → is_by caller next.role ≡ true → entries_of kept.log caller ≡ [] = λ caller e. kept.silent caller (omega (arith, is_next caller e)) in
+    let roles_kept : (j : ℕ) (u : View) → get_elem? (set views id left) j ≡ some u → get_elem? roles j ≡ some u.role = λ j u there. ap (λ (l : List Role). get_elem? l j) (sym kept_roles) ∙ at_map role_of (set views id left) j u there in
+    let nobody : (own : ℕ) → suc own ≡ view.made + 1 → HasNoReader own (set views id left) = λ own number j u there. by_cases (λ (b : Bool). b ≡ false) (is_by (suc own) u.role)
+    (λ his. absurd (let one : counts (suc own) u.role ≡ 1 = ap (λ y. cond y 1 0) his in omega (arith, term_le (counts (suc own)) roles j u.role (roles_kept j u there), kept.fresh (suc own) (omega arith)))) (λ _. refl) in
     let evolves = evolves_alike role_of marks_of shape kept.counted views kept.log id view left at refl (inl refl) in
     record {
       log = kept.log;
       counted = kept.counted;
       counts_words = counted_same shape (lent views) (lent views') state.words kept.counted
           (λ slot. lent_more (set views id left) next refl slot ∙ lent_same views id view left at (λ _. refl) slot) kept.counts_words;
-      announced = announces_more shape kept.made (kept.made + 1) state.words (set views id left) next refl (λ own his. let number = is_next (suc own) his in omega arith) (omega arith)
-          (announces_on shape kept.made state.words state.words views id view left at (λ _. refl) refl (λ _. refl) (λ _ _. refl) kept.announced);
+      announced = announces_more shape kept.announcers state.words (set views id left) next refl (λ own his. nobody own (is_next (suc own) his))
+          (announces_on shape kept.announcers state.words state.words views id view left at (λ _. refl) refl (λ _. refl) (λ _ _. refl) refl kept.announced);
+      announcers = kept.announcers;
+      told_of = λ j u there calls. ⊎_elim
+          (λ (t : get_elem? (set views id left) j ≡ some u). ⊎_elim
+          (λ (q : (j ≡ id) × (left ≡ u)). ap (λ (y : View). y.announcers) (sym q.1) ∙ kept.told_of id view at (omega arith))
+          (λ (q : (j ≢ id) × (get_elem? views j ≡ some u)). kept.told_of j u q.1 calls) (at_set views id j left u t))
+          (λ (t : next ≡ u). ap (λ (y : View). y.announcers) (sym t) ∙ kept.told_of id view at (omega arith))
+          (at_snoc (set views id left) next u j there);
+      hears = hears_more (set views id left) next refl refl (hears_on views id view left at (λ _. refl) refl (λ _. refl) (λ _. hears_as view left refl refl) kept.hears);
       core = subst (λ (rs : List Role). Core shape kept.counted rs kept.log) (sym more) (seats shape kept.counted roles kept.log (view.made + 1) kept.core (omega (arith, kept.readers)));
       fits = λ j u there. ⊎_elim
           (λ (t : get_elem? (set views id left) j ≡ some u). ⊎_elim

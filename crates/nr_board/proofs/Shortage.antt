@@ -48,7 +48,7 @@ pub record Shortage (shape : Shape) (log : List Entry) (desk : Desk) (call : Cal
   pub done : reply_to (map_after shape log) call ≡ reply.Done
 
 -- the reply by the state of the call's key
-replies : (shape : Shape) (log : List Entry) (call : WriterCall) → reply_at (bound_of shape) (call_of call) (state_of (map_after shape log) (key_of call)) ≡ reply.Done → reply_to (map_after shape log) (call_of call) ≡ reply.Done
+pub replies : (shape : Shape) (log : List Entry) (call : WriterCall) → reply_at (bound_of shape) (call_of call) (state_of (map_after shape log) (key_of call)) ≡ reply.Done → reply_to (map_after shape log) (call_of call) ≡ reply.Done
 replies shape log call is = replies_so shape log (call_of call) ∙ ap (λ (k : ℕ). reply_at (bound_of shape) (call_of call) (state_of (map_after shape log) k)) (key_same call) ∙ is
 
 module _ (shape : Shape) (words : List ℕ) (roles : List Role) (log : List Entry) (core : Core shape words roles log) (id : ℕ) (desk : Desk) (there : get_elem? roles id ≡ some (Writer desk)) (counts : NoSlot) where

@@ -46,18 +46,22 @@ use Rattle.nr_board.specs.declared.reaping.Sweep.TheVariants as sweep
 
 -- THE POLL
 
-pub probes_so : (shape : Shape) (slots id : ℕ) (me : Me (Unit {0}) View) (desk : Desk) (poll : ℕ) (entry : Retired) → me.0.role ≡ Writer desk → desk.place ≡ Idle → get_elem? desk.retired poll ≡ some entry
+probe_names : (b : Bool) (shape : Shape) (marks : Marks) (slot : ℕ) (now : Marks) → ProbeTells b shape marks slot now → now.names ≡ marks.names
+probe_names true shape marks slot now told = ap (λ (m : Marks). m.names) told
+probe_names false shape marks slot now told = ap (λ (m : Marks). m.names) told.1
+
+pub probes_so : (shape : Shape) (slots id : ℕ) (me : Me (Unit {0}) View) (desk : Desk) (poll : ℕ) (entry : Retired) → me.0.role ≡ Writer desk → desk.place ≡ Idle → get_elem? desk.retired poll ≡ some entry → me.0.announcers ≤ get_or me.0.heard entry.slot 0
     → Allows (Kept shape) slots id me (departures shape entry.slot) (λ word. word)
     (λ found after. (other : Desk) (place : ℕ) (named : Retired) → me.0.role ≡ Writer other → other.place ≡ Idle → Room me.0.shape other
     → get_elem? other.retired place ≡ some named → departures shape entry.slot ≡ departures me.0.shape named.slot
     → ProbesTo me.0.shape named found me.0 after.0)
-probes_so shape slots id me desk poll entry is idle here = let view = me.0 in let at_word : ℕ = departures shape entry.slot in let tells = LoadsWord view.role in let notes = ProbesMarks shape view.marks entry in
+probes_so shape slots id me desk poll entry is idle here heard = let view = me.0 in let at_word : ℕ = departures shape entry.slot in let tells = LoadsWord view.role in let notes = ProbesMarks shape view.marks entry in
     lifts shape id view (Load at_word) tells notes slots me.1
     (λ found next. (other : Desk) (place : ℕ) (named : Retired) → view.role ≡ Writer other → other.place ≡ Idle → Room view.shape other
     → get_elem? other.retired place ≡ some named → at_word ≡ departures view.shape named.slot → ProbesTo view.shape named found view next)
     view.pasts (learns shape id view.role at_word) (probes_marked role_of marks_of shape id view view.pasts desk poll entry here idle is) (knows_pasts shape id view)
     (sees_alone shape id view (Load at_word) tells notes (λ found next. (other : Desk) (place : ℕ) (named : Retired) → view.role ≡ Writer other → other.place ≡ Idle → Room view.shape other
-    → get_elem? other.retired place ≡ some named → at_word ≡ departures view.shape named.slot → ProbesTo view.shape named found view next) entry.slot refl (λ _. refl)
+    → get_elem? other.retired place ≡ some named → at_word ≡ departures view.shape named.slot → ProbesTo view.shape named found view next) entry.slot (ap is_writer is) heard refl (λ _. refl)
     (λ state kept at. ((kept.core.knows id (Writer desk) (at_map role_of state.views id view at ∙ ap some is)).retired poll entry here).0)
     (λ state kept at step. lends_on view step.after (λ slot. ap (holds slot) step.told.0)))
     (λ state kept there step marked. let found : ℕ = get_or kept.counted at_word 0 in
@@ -65,7 +69,7 @@ probes_so shape slots id me desk poll entry is idle here = let view = me.0 in le
     let callers : AreCallers shape step.entries = subst (AreCallers shape) (sym step.told.1) tt in
     let acts : ActsGo view step.after step.entries marked.now = λ reads. absurd (let none : is_reader step.after ≡ 0 = ap is_reader (step.told.0 ∙ is) in omega arith) in
     let next = waited view step.after marked.now marked.news in
-    learns_nothing shape id view (Load at_word) tells notes state kept there step marked (ap caller_number step.told.0) sized callers acts
+    learns_nothing shape id view (Load at_word) tells notes state kept there step marked (ap caller_number step.told.0) sized callers acts (λ _. probe_names (same_count found entry.arrivals) shape view.marks entry.slot marked.now marked.told.1)
     (λ next. (other : Desk) (place : ℕ) (named : Retired) → view.role ≡ Writer other → other.place ≡ Idle → Room view.shape other
     → get_elem? other.retired place ≡ some named → at_word ≡ departures view.shape named.slot → ProbesTo view.shape named found view next)
     marked.told.0 step.told.1
@@ -262,6 +266,7 @@ module _ (table : Table) (spare : Spare) (before after : MapSeat) (steps : ℕ) 
     writes = record {
       own = ap (λ (c : Caller). c.table) token_after ∙ rests.writes.own;
       role = ap (λ (v : View). v.role) view ∙ rests.writes.role;
+      counted = rests.writes.counted;
       room = rests.writes.room;
       numbers = subst (λ (c : Caller). AreNumbers table.shape (map_seen c) spare.numbers) (sym token_after) rests.writes.numbers;
     };
@@ -274,13 +279,14 @@ module _ (table : Table) (spare : Spare) (before after : MapSeat) (steps : ℕ) 
 pub probes_at : (table : Table) (spare : Spare) (before now : MapSeat) (place : ℕ) (polled : Bool) → RestsAt table spare before
     → SweptTo spare before now place polled → place < length spare.retired → ProbesAt table (get_or spare.retired place no_retired) now
 probes_at table spare before now place polled rests so_far low = record {
-  own = (λ j. record { id = so_far.own j; shape = (so_far.view j).shape }) ∙ rests.writes.own;
+  own = (λ j. record { id = so_far.own j; shape = (so_far.view j).shape; announcers = (so_far.view j).announcers }) ∙ rests.writes.own;
   desk = desk_with spare Idle;
   role = ap (λ (v : View). v.role) so_far.view ∙ rests.writes.role;
   idle = refl;
   room = rests.writes.room;
   poll = place;
   here = at_get spare.retired place low;
+  heard = let counted = rests.writes.counted in omega arith;
 }
 
 -- and is one of the map's
@@ -292,7 +298,7 @@ pub recalls_reaped : (table : Table) (spare : Spare) (before after : MapSeat) (s
     → RestsAt (token before).table spare before → after.table_id ≡ before.table_id → SweepsFor spare before after (sweep.Free slot)
     → RecallsAt table slot after
 recalls_reaped table spare before after slot own rests same swept = let view = swept.8 in record {
-  own = (λ j. record { id = same j; shape = (view j).shape }) ∙ own;
+  own = (λ j. record { id = same j; shape = (view j).shape; announcers = (view j).announcers }) ∙ own;
   desk = desk_with spare Idle;
   role = ap (λ (v : View). v.role) view ∙ rests.writes.role;
   inside = let near = swept.7 in omega (arith, near, rests.slots, ap (λ (t : Table). t.shape.slots) own);

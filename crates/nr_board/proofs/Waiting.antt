@@ -10,16 +10,15 @@ use Rattle.nr_machine.specs.declared.calls.WriterCall.{WriterCall}
 use Rattle.nr_machine.specs.declared.roles.Desk.{Desk}
 use Rattle.nr_marks.specs.Marks.{with_polls, set_in}
 use Rattle.nr_board.specs.Begins.{HasSet}
-use Rattle.nr_board.specs.Callers.{Caller, Grows, IsSound, Table, caller_of, map_seen, token}
+use Rattle.nr_board.specs.Callers.{Caller, Grows, Table, caller_of, map_seen, token}
 use Rattle.nr_board.specs.Meetings.{with_steps}
 use Rattle.nr_board.specs.Plays.{Lacks}
 use Rattle.nr_board.specs.Recalls.{later, waited}
 use Rattle.nr_board.specs.Views.{View, desk_of}
-use Rattle.nr_board.specs.WriterSeats.{MapSeat, Settles, TakesSlot, WritesAt, RestsAt}
+use Rattle.nr_board.specs.WriterSeats.{MapSeat, TakesSlot, WritesAt, RestsAt}
 use Rattle.nr_board.specs.declared.answers.Reclaimed.{Reclaimed}
 use Rattle.nr_board.specs.Reclaiming.{HandsOut}
-use Rattle.nr_board.specs.Spares.{desk_with, spare_of}
-use Rattle.nr_machine.specs.declared.places.Place.TheVariants.{Idle}
+use Rattle.nr_board.specs.Spares.{spare_of}
 
 -- the slots that a resting token shows
 pub spare_shown : (table : Table) (spare : Spare) (seat : MapSeat) → RestsAt table spare seat → spare_of (token seat) ≡ spare
@@ -73,9 +72,10 @@ grows_with steps made sum old entries new is grows = record {
 
 writes_later : (table : Table) (desk : Desk) (mid new : MapSeat) (steps : ℕ) → new.table_id ≡ mid.table_id → new.me.0 ≡ waited steps mid.me.0 → WritesAt table desk mid → WritesAt table desk new
 writes_later table desk mid new steps same waits writes = record {
-  own = (λ j. record { id = same j; shape = (waits j).shape }) ∙ writes.own;
+  own = (λ j. record { id = same j; shape = (waits j).shape; announcers = (waits j).announcers }) ∙ writes.own;
   role = ap (λ (v : View). v.role) waits ∙ writes.role;
   room = writes.room;
+  counted = writes.counted;
   numbers = subst (λ (caller : Caller). AreNumbers table.shape (map_seen caller) desk.numbers) (sym (waited_token mid new steps same waits)) writes.numbers;
 }
 

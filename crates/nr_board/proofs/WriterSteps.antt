@@ -1,5 +1,5 @@
 -- The writer's steps on the table: the look of each call, and every later step.
-use Rattle.std.proofs.Common.{◌⊎◌, eq-eqb, inl, inr, ⊎_elim, nat_le, ◌≡◌, ℕ, suc, ◌+◌, ◌-◌, ◌*◌, ◌<◌, ◌≤◌, List, [], ◌∷◌, ◌++◌, Bool, true, false, cond, map, set, get_or, le-leb, length, take, refl, sym, ap, ◌∙◌, subst, arith, append-nil}
+use Rattle.std.proofs.Common.{◌⊎◌, eq-eqb, inl, inr, ⊎_elim, nat_le, zero, ◌≡◌, ℕ, suc, ◌+◌, ◌-◌, ◌*◌, ◌<◌, ◌≤◌, List, [], ◌∷◌, ◌++◌, Bool, true, false, cond, map, set, get_or, le-leb, length, take, refl, sym, ap, ◌∙◌, subst, arith, append-nil}
 use Rattle.std.specs.Prelude.{None, Some}
 use mathlib.Core.Option.{some}
 use lib.ListN.{get_elem?}
@@ -25,7 +25,7 @@ use Rattle.nr_machine.specs.declared.operation.Operation.{Operation}
 use Rattle.nr_machine.specs.declared.operation.Operation.TheVariants.{Load, Store, Swap}
 use Rattle.nr_machine.specs.Refusals.{if_not_busy}
 use Rattle.nr_core.specs.Roles.{held, holds, is_by, is_writer, taken, is_reader}
-use Rattle.nr_words.specs.KeyWords.{naming}
+use Rattle.nr_words.specs.KeyWords.{naming, same_count}
 use Rattle.nr_machine.specs.Slots.{content, departures, bound_of, layout, name_number, slot_room}
 use Rattle.nr_machine.specs.States.{key_of, retired_at}
 use Rattle.nr_core.specs.Steps.{CanStep, Goes, Looks, Stepped, Telling}
@@ -45,21 +45,22 @@ use Rattle.nr_machine.specs.declared.roles.Role.TheVariants.{Writer}
 use Rattle.nr_machine.specs.declared.shape.Shape.{Shape}
 use Rattle.nr_marks.proofs.GoMarks.{goes_marked}
 use Rattle.nr_marks.proofs.LookMarks.{looks_marked}
-use Rattle.nr_marks.specs.MarkSteps.{GoesMarks, LooksMarks, PutsMarks, went_marks}
+use Rattle.nr_marks.specs.MarkSteps.{GoesMarks, LooksMarks, PollTells, PollsNext, PutsMarks, went_marks}
 use Rattle.nr_marks.specs.Marked.{IsPresent, KnowsMarks, MarkTelling, NotesPresent, Remarked}
 use Rattle.nr_core.proofs.Choices.{by_cases}
 use Rattle.nr_board.proofs.Brings.{given_brings, reads_no_fill, wants_brings, writer_entries}
 use Rattle.nr_board.proofs.Learning.{shows_kind}
 use Rattle.nr_board.proofs.Polled.{PolledAll, go_polled, look_polled}
 use Rattle.nr_marks.specs.Marks.{Marks, Past, gripped}
+use Rattle.nr_board.proofs.Heard.{zero_at}
 use Rattle.nr_board.proofs.Lift.{Choice, KeepsLent, content_no_count, key_inside, key_no_count, knows_pasts, lends_on, lifts, sees_alone, sees_plain}
 use Rattle.nr_board.proofs.PollNotes.{at_get}
-use Rattle.nr_board.specs.Announcing.{IsNoCount}
+use Rattle.nr_board.specs.Announcing.{IsNoCount, PollsHeard, heard_after, heard_at}
 use Rattle.nr_core.proofs.Counting.{named_inside}
 use Rattle.nr_core.proofs.WordPlaces.{content_inside}
 use Rattle.nr_words.specs.Places.{total_of}
 use Rattle.std.proofs.lemmas.Bool.{leb-true}
-use Rattle.nr_board.proofs.Moves.{ActsGo, learned, learning}
+use Rattle.nr_board.proofs.Moves.{ActsGo, NamesGo, learned, learning, names_go}
 use Rattle.nr_board.specs.Entries.{AreCallers, acts_told, to_depart}
 use Rattle.nr_board.proofs.Room.{room_at}
 use Rattle.nr_board.proofs.Shortage.{Shortage, go_short, lacks_so, look_short}
@@ -72,11 +73,11 @@ use Rattle.nr_board.specs.Views.{View, desk_of, grip_of, caller_number}
 writer_is : (role : Role) (desk : Desk) → role ≡ Writer desk → is_by (caller_number role) role ≡ true
 writer_is role desk is = ap (λ r. is_by (caller_number r) r) is
 
-writer_shape : (shape : Shape) (log : List Entry) (view : View) (desk : Desk) → view.role ≡ Writer desk → Fits shape log view → view.shape ≡ shape
+pub writer_shape : (shape : Shape) (log : List Entry) (view : View) (desk : Desk) → view.role ≡ Writer desk → Fits shape log view → view.shape ≡ shape
 writer_shape shape log view desk is fits = fits.sized (let one : is_writer view.role ≡ 1 = ap is_writer is in omega arith)
 
 -- one writer has one desk
-same_desk : (role : Role) (desk other : Desk) → role ≡ Writer desk → role ≡ Writer other → desk ≡ other
+pub same_desk : (role : Role) (desk other : Desk) → role ≡ Writer desk → role ≡ Writer other → desk ≡ other
 same_desk role desk other is also = sym (ap desk_of is) ∙ ap desk_of also
 
 module _ (shape : Shape) (id : ℕ) (view : View) (desk : Desk) (is : view.role ≡ Writer desk) (operation : Operation) (tells : Telling)
@@ -84,7 +85,7 @@ module _ (shape : Shape) (id : ℕ) (view : View) (desk : Desk) (is : view.role 
     (step : Stepped shape kept.counted (map role_of state.views) kept.log id view.role operation tells)
     (marked : Remarked role_of marks_of shape kept.counted state.views kept.log id view operation step.after step.entries notes)
     (no_news : marked.news ≡ []) (call : Call) (outcome : Desk × Step) (role_told : step.after ≡ Writer outcome.0)
-    (entries_told : step.entries ≡ ending call outcome.1) (callers : AreCallers shape (ending call outcome.1)) where
+    (entries_told : step.entries ≡ ending call outcome.1) (callers : AreCallers shape (ending call outcome.1)) (names : NamesGo view marked.now) where
   callers_told : AreCallers shape step.entries
   callers_told = subst (AreCallers shape) (sym entries_told) callers
 
@@ -125,7 +126,7 @@ module _ (shape : Shape) (id : ℕ) (view : View) (desk : Desk) (is : view.role 
   -- the writer's view after the step
   pub writes : (then : View → Type 0) → (Advances view (ending call outcome.1) next_view → then next_view) → Choice shape id view operation tells notes state kept step marked then
   writes then tell = learning shape id view operation tells notes state kept at step marked (ap caller_number role_told ∙ sym (ap caller_number is))
-      sized callers_told acts_told_so then (writer_is view.role desk is) no_news (ending call outcome.1) entries_told tell
+      sized callers_told acts_told_so names then (writer_is view.role desk is) no_news (ending call outcome.1) entries_told tell
 
 pub looks_so : (shape : Shape) (slots id : ℕ) (me : Me (Unit {0}) View) (desk : Desk) (call : WriterCall) → me.0.role ≡ Writer desk → desk.place ≡ Idle → IsGivenCall (bound_of shape) call → key_of call < shape.keys
     → Allows (Kept shape) slots id me (key_of call) (λ word. word) (λ found after. (other : Desk) → me.0.role ≡ Writer other → Looked other call found me.0 after.0)
@@ -145,11 +146,12 @@ looks_so shape slots id me desk call is idle given near = let view = me.0 in let
     ) in
     let size = writer_shape shape kept.log view desk is (kept.fits id view at) in
     let callers = writer_entries shape c outcome.1 (subst (λ (k : ℕ). k < shape.keys) (sym (key_same call)) near) (given_brings (bound_of shape) call given) in
-    writes shape id view desk is operation tells notes state kept at step marked marked.told.1 c outcome step.told.0 step.told.1 callers (λ next. (other : Desk) → view.role ≡ Writer other → Looked other call found view next)
+    let names = names_go view marked.now (λ _. ap (λ (m : Marks). m.names) marked.told.0) in
+    writes shape id view desk is operation tells notes state kept at step marked marked.told.1 c outcome step.told.0 step.told.1 callers names (λ next. (other : Desk) → view.role ≡ Writer other → Looked other call found view next)
     (λ advances other also. let next = learned view step.after (kept.log ++ step.entries) step.entries marked.now marked.news in
     subst (λ (d : Desk). Looked d call found view next) (same_desk view.role desk other is also) (record {
       leads = subst (λ (s : Shape). Leads c (looked s desk call found) view next) (sym size)
-          (leads_so shape id view desk is operation tells notes state kept at step marked marked.told.1 c outcome step.told.0 step.told.1 callers
+          (leads_so shape id view desk is operation tells notes state kept at step marked marked.told.1 c outcome step.told.0 step.told.1 callers names
           short advances);
       marks = subst (λ (p : Shape × List Past). LooksMarks p.0 view.marks desk call found step.after (kept.log ++ step.entries) marked.now p.1) (λ j. (sym size j, marked.told.1 j)) marked.told;
     })))
@@ -167,6 +169,38 @@ went_quiet shape marks known desk (Leaving key) word after log now news told = t
 went_quiet shape marks known desk (Withdrawing key) word after log now news told = told.1
 went_quiet shape marks known desk (Searching call rows poll) word after log now news told = told.0
 went_quiet shape marks known desk (Putting call rows slot departed index) word after log now news told = put_quiet (nat_le index (2 * length rows)) marks (key_of call) slot rows word after log now news told
+
+-- a list that is changed at one place
+changed_at : (l : List ℕ) (place x at n : ℕ) → get_or (set l place x) at 0 ≡ n → (get_or l at 0 ≡ n) ⊎ (x ≡ n)
+changed_at [] place x at n is = inl is
+changed_at (y ∷ l) zero x zero n is = inr is
+changed_at (y ∷ l) zero x (suc at) n is = inl is
+changed_at (y ∷ l) (suc place) x zero n is = inl is
+changed_at (y ∷ l) (suc place) x (suc at) n is = changed_at l place x at n is
+
+-- after a later step of a call a key names what it named before, or the slot into which the call put its set
+put_names : (b : Bool) (marks : Marks) (at mine : ℕ) (rows : List Row) (word : ℕ) (after : Role) (log : List Entry) (now : Marks) (news : List Past) → PutsMarks b marks at mine rows word after log now news
+    → (key slot : ℕ) → get_or now.names key 0 ≡ suc slot → (get_or marks.names key 0 ≡ suc slot) ⊎ (slot ≡ mine)
+put_names true marks at mine rows word after log now news told key slot is = inl (ap (λ (m : Marks). get_or m.names key 0) (sym told.0) ∙ is)
+put_names false marks at mine rows word after log now news told key slot is = ⊎_elim inl (λ (e : suc mine ≡ suc slot). inr (omega arith))
+    (changed_at marks.names at (suc mine) key (suc slot) (ap (λ (m : Marks). get_or m.names key 0) (sym told.3) ∙ is))
+
+poll_names : (b : Bool) (shape : Shape) (marks : Marks) (known : List Past) (desk : Desk) (call : WriterCall) (poll : ℕ) (log : List Entry) (now : Marks) → PollTells b shape marks known desk call poll log now → now.names ≡ marks.names
+poll_names true shape marks known desk call poll log now told = ap (λ (m : Marks). m.names) told
+poll_names false shape marks known desk call poll log now told = ap (λ (m : Marks). m.names) told.0
+
+went_names : (shape : Shape) (marks : Marks) (known : List Past) (desk : Desk) (place : Place) (word : ℕ) (after : Role) (log : List Entry) (now : Marks) (news : List Past) (heard : List ℕ)
+    → went_marks shape marks known desk place word after log now news → (key slot : ℕ) → get_or now.names key 0 ≡ suc slot → (get_or marks.names key 0 ≡ suc slot) ⊎ (get_or (heard_at place heard) slot 0 ≡ 0)
+went_names shape marks known desk Idle word after log now news heard told key slot is = inl (ap (λ (m : Marks). get_or m.names key 0) (sym told.0) ∙ is)
+went_names shape marks known desk (Reading call named got) word after log now news heard told key slot is = inl (ap (λ (m : Marks). get_or m.names key 0) (sym told.0) ∙ is)
+went_names shape marks known desk (Leaving at) word after log now news heard told key slot is = ⊎_elim inl (λ (e : 0 ≡ suc slot). absurd (omega arith))
+    (changed_at marks.names at 0 key (suc slot) (ap (λ (m : Marks). get_or m.names key 0) (sym told.0) ∙ is))
+went_names shape marks known desk (Withdrawing at) word after log now news heard told key slot is = inl (ap (λ (m : Marks). get_or m.names key 0) (sym told.0) ∙ is)
+went_names shape marks known desk (Searching call rows poll) word after log now news heard told key slot is =
+    inl (ap (λ (l : List ℕ). get_or l key 0) (sym (poll_names (same_count word (retired_at desk poll).arrivals) shape marks known desk call poll log now told.1)) ∙ is)
+went_names shape marks known desk (Putting call rows mine departed index) word after log now news heard told key slot is = ⊎_elim inl
+    (λ (e : slot ≡ mine). inr (ap (λ (n : ℕ). get_or (set heard mine 0) n 0) e ∙ zero_at heard mine))
+    (put_names (nat_le index (2 * length rows)) marks (key_of call) mine rows word after log now news told key slot is)
 
 -- what the call of a place ends with
 ending_there : (place : Place) (step : Step) → if_not_busy place ≡ None → ending_at place step ≡ ending (call_at place) step
@@ -229,7 +263,7 @@ finds_so shape words roles log core id desk there marks names place is = go plac
         (λ _. tt) (λ _. swaps (key_of call) stands.wants.near)
 
 -- the notes that are new among the polls tell readers as they are
-notes_so : (shape : Shape) (state : State (Unit {0}) View) (kept : Kept shape state) (polls now : List Past) → NotesPresent role_of marks_of state.views polls now → NotesTell kept.log polls now
+pub notes_so : (shape : Shape) (state : State (Unit {0}) View) (kept : Kept shape state) (polls now : List Past) → NotesPresent role_of marks_of state.views polls now → NotesTell kept.log polls now
 notes_so shape state kept polls now present at note there = ⊎_elim inl
     (λ (p : IsPresent role_of marks_of state.views note). let fits = kept.fits p.0 p.1 p.3 in
     let acts = fits.acts (let one : is_reader p.1.role ≡ 1 = ap is_reader p.4 in omega arith) in
@@ -242,14 +276,14 @@ notes_so shape state kept polls now present at note there = ⊎_elim inl
 abbrev OnPlain : Shape → Operation → Type 0
 OnPlain shape operation = (target_of operation < total_of (layout shape)) × IsNoCount shape (target_of operation)
 
-abbrev Polls : Shape → Operation → Type 0
-Polls shape operation = (slot : ℕ) × (target_of operation ≡ departures shape slot) × ((word : ℕ) → becomes operation word ≡ word) × (slot < shape.slots)
+abbrev Polls : Shape → ℕ → List ℕ → Operation → Type 0
+Polls shape announcers heard operation = (slot : ℕ) × (announcers ≤ get_or heard slot 0) × (target_of operation ≡ departures shape slot) × ((word : ℕ) → becomes operation word ≡ word) × (slot < shape.slots)
 
 -- a later step of a call is one of these
 going_on : (shape : Shape) (words : List ℕ) (roles : List Role) (log : List Entry) → Core shape words roles log → (id : ℕ) (desk : Desk)
-    → get_elem? roles id ≡ some (Writer desk) → (place : Place) → desk.place ≡ place → if_not_busy place ≡ None
-    → OnPlain shape (going shape desk place) ⊎ Polls shape (going shape desk place)
-going_on shape words roles log core id desk there place is busy = go place busy (subst (AtPlace shape words (map_after shape log) (held roles) desk.fresh desk.retired) is (core.knows id (Writer desk) there).place)
+    → get_elem? roles id ≡ some (Writer desk) → (announcers : ℕ) (heard : List ℕ) (place : Place) → desk.place ≡ place → if_not_busy place ≡ None → PollsHeard announcers desk heard place
+    → OnPlain shape (going shape desk place) ⊎ Polls shape announcers heard (going shape desk place)
+going_on shape words roles log core id desk there announcers heard place is busy enough = go place busy enough (subst (AtPlace shape words (map_after shape log) (held roles) desk.fresh desk.retired) is (core.knows id (Writer desk) there).place)
   where
     on_key : (key : ℕ) → key < shape.keys → (key < total_of (layout shape)) × IsNoCount shape key
     on_key key near = (key_inside shape key near, key_no_count shape key near)
@@ -257,30 +291,30 @@ going_on shape words roles log core id desk there place is busy = go place busy 
     on_content : (slot index : ℕ) → slot < shape.slots → index < slot_room shape → (content shape slot index < total_of (layout shape)) × IsNoCount shape (content shape slot index)
     on_content slot index near low = (content_inside shape slot index near low, content_no_count shape slot index low)
 
-    go : (at : Place) → if_not_busy at ≡ None → AtPlace shape words (map_after shape log) (held roles) desk.fresh desk.retired at → OnPlain shape (going shape desk at) ⊎ Polls shape (going shape desk at)
-    go Idle idle stands = absurd (no_some (Some refuse.NotBusy) refuse.NotBusy refl idle)
-    go (Reading call slot got) busy reads = let set = read_set shape words roles log core (key_of call) slot got reads in let few = reads.more in
+    go : (at : Place) → if_not_busy at ≡ None → PollsHeard announcers desk heard at → AtPlace shape words (map_after shape log) (held roles) desk.fresh desk.retired at → OnPlain shape (going shape desk at) ⊎ Polls shape announcers heard (going shape desk at)
+    go Idle idle _ stands = absurd (no_some (Some refuse.NotBusy) refuse.NotBusy refl idle)
+    go (Reading call slot got) busy _ reads = let set = read_set shape words roles log core (key_of call) slot got reads in let few = reads.more in
         inl (on_content slot (length got) (named_inside shape words roles log core (key_of call) slot reads.near reads.names) (omega (arith, set.1)))
-    go (Leaving key) busy stands = inl (on_key key stands.1.near)
-    go (Withdrawing key) busy stands = inl (on_key key stands.near)
-    go (Searching call rows poll) busy stands = inr ((retired_at desk poll).slot, refl, λ word. refl, ((core.knows id (Writer desk) there).retired poll (retired_at desk poll) (at_get desk.retired poll stands.1)).0)
-    go (Putting call rows slot departed index) busy stands = by_cases (λ b. OnPlain shape (cond {A = Operation} b (Store (content shape slot index) (get_or (encode rows) index 0)) (Swap (key_of call) (naming slot departed)))
-        ⊎ Polls shape (cond {A = Operation} b (Store (content shape slot index) (get_or (encode rows) index 0)) (Swap (key_of call) (naming slot departed)))) (nat_le index (2 * length rows))
+    go (Leaving key) busy _ stands = inl (on_key key stands.1.near)
+    go (Withdrawing key) busy _ stands = inl (on_key key stands.near)
+    go (Searching call rows poll) busy all stands = inr ((retired_at desk poll).slot, all, refl, λ word. refl, ((core.knows id (Writer desk) there).retired poll (retired_at desk poll) (at_get desk.retired poll stands.1)).0)
+    go (Putting call rows slot departed index) busy _ stands = by_cases (λ b. OnPlain shape (cond {A = Operation} b (Store (content shape slot index) (get_or (encode rows) index 0)) (Swap (key_of call) (naming slot departed)))
+        ⊎ Polls shape announcers heard (cond {A = Operation} b (Store (content shape slot index) (get_or (encode rows) index 0)) (Swap (key_of call) (naming slot departed)))) (nat_le index (2 * length rows))
         (λ low. let few : index ≤ 2 * length rows = leb-true index (2 * length rows) low in let short = stands.wants.row_set.1 in inl (on_content slot index stands.inside (omega arith)))
         (λ _. inl (on_key (key_of call) stands.wants.near))
 
-pub goes_so : (shape : Shape) (slots id : ℕ) (me : Me (Unit {0}) View) (desk : Desk) → me.0.role ≡ Writer desk → if_not_busy desk.place ≡ None
+pub goes_so : (shape : Shape) (slots id : ℕ) (me : Me (Unit {0}) View) (desk : Desk) → me.0.role ≡ Writer desk → if_not_busy desk.place ≡ None → PollsHeard me.0.announcers desk me.0.heard desk.place → PollsNext desk.place me.0.marks
     → let operation = going shape desk desk.place in Allows (Kept shape) slots id me (target_of operation) (becomes operation) (λ found after. (other : Desk) → me.0.role ≡ Writer other → Went other found me.0 after.0)
-goes_so shape slots id me desk is busy = let view = me.0 in let tells = Goes shape desk in let notes = GoesMarks shape view.marks view.pasts desk in let operation = going shape desk desk.place in let c = call_at desk.place in
+goes_so shape slots id me desk is busy heard in_order = let view = me.0 in let tells = Goes shape desk in let notes = GoesMarks shape view.marks view.pasts desk in let operation = going shape desk desk.place in let c = call_at desk.place in
     lifts shape id view operation tells notes slots me.1 (λ found next. (other : Desk) → view.role ≡ Writer other → Went other found view next) view.pasts (subst (λ r. CanStep shape id r operation tells) (sym is) (goes shape id desk busy))
-    (goes_marked role_of marks_of shape id view view.pasts desk is busy) (knows_pasts shape id view)
+    (goes_marked role_of marks_of shape id view view.pasts desk is busy in_order) (knows_pasts shape id view)
     (λ state kept at step. let core = kept.core in let there : get_elem? (map role_of state.views) id ≡ some (Writer desk) = at_map role_of state.views id view at ∙ ap some is in
     let then : ℕ → View → Type 0 = λ found next. (other : Desk) → view.role ≡ Writer other → Went other found view next in
     let lent_stays : KeepsLent shape id view operation tells = λ _ _ _ made. lends_on view made.after (λ slot. ap (holds slot) made.told.0 ∙ sym (ap (holds slot) is)) in
     ⊎_elim
     (λ (plain : OnPlain shape operation). sees_plain shape id view operation tells notes then plain.0 plain.1 lent_stays state kept at step)
-    (λ (polls : Polls shape operation). sees_alone shape id view operation tells notes then polls.0 polls.1 polls.2 (λ _ _ _. polls.3) lent_stays state kept at step)
-    (going_on shape kept.counted (map role_of state.views) kept.log core id desk there desk.place refl busy))
+    (λ (polls : Polls shape view.announcers view.heard operation). sees_alone shape id view operation tells notes then polls.0 (ap is_writer is) polls.1 polls.2 polls.3 (λ _ _ _. polls.4) lent_stays state kept at step)
+    (going_on shape kept.counted (map role_of state.views) kept.log core id desk there view.announcers view.heard desk.place refl busy heard))
     (λ state kept at step marked. let found : ℕ = get_or kept.counted (target_of operation) 0 in let outcome = went shape desk desk.place found in
     let there : get_elem? (map role_of state.views) id ≡ some (Writer desk) = at_map role_of state.views id view at ∙ ap some is in
     let own = subst (λ r. KnowsMarks role_of marks_of shape kept.counted state.views kept.log r view.marks) is (kept.marked.each id view at) in let sweep = own.sweep in
@@ -294,10 +328,12 @@ goes_so shape slots id me desk is busy = let view = me.0 in let tells = Goes sha
     let entries : step.entries ≡ ending c outcome.1 = step.told.1 ∙ ending_there desk.place outcome.1 busy in
     let callers = entries_there shape kept.counted (map role_of state.views) kept.log kept.core id desk there desk.place refl busy found in
     let no_news = went_quiet shape view.marks view.pasts desk desk.place found step.after (kept.log ++ step.entries) marked.now marked.news marked.told in
-    writes shape id view desk is operation tells notes state kept at step marked no_news c outcome step.told.0 entries callers (λ next. (other : Desk) → view.role ≡ Writer other → Went other found view next)
+    let names : NamesGo view marked.now = λ _ key slot after. subst (λ (r : Role). (get_or view.marks.names key 0 ≡ suc slot) ⊎ (get_or (heard_after r view.heard) slot 0 ≡ 0)) (sym is)
+    (went_names shape view.marks view.pasts desk desk.place found step.after (kept.log ++ step.entries) marked.now marked.news view.heard marked.told key slot after) in
+    writes shape id view desk is operation tells notes state kept at step marked no_news c outcome step.told.0 entries callers names (λ next. (other : Desk) → view.role ≡ Writer other → Went other found view next)
     (λ advances other also. let next = learned view step.after (kept.log ++ step.entries) step.entries marked.now marked.news in
     subst (λ (d : Desk). Went d found view next) (same_desk view.role desk other is also) (record {
-      leads = subst (λ (s : Shape). Leads c (went s desk desk.place found) view next) (sym size) (leads_so shape id view desk is operation tells notes state kept at step marked no_news c outcome step.told.0 entries callers short advances);
+      leads = subst (λ (s : Shape). Leads c (went s desk desk.place found) view next) (sym size) (leads_so shape id view desk is operation tells notes state kept at step marked no_news c outcome step.told.0 entries callers names short advances);
       log = kept.log;
       seen = ap (λ (l : List Entry). kept.log ++ l) (entries ∙ ap (λ (s : Shape). ending c (went s desk desk.place found).1) (sym size));
       finds = subst (λ (s : Shape). Finds s desk.place found kept.log view.marks) (sym size) (finds_so shape kept.counted (map role_of state.views) kept.log kept.core id desk there view.marks own.names desk.place refl);
@@ -339,6 +375,6 @@ puts_so shape slots id me desk call rows slot departed index is place_is low =
     (le-leb index (2 * length rows) low) in
     let at_is : me.0.role ≡ Writer at = is ∙ (λ j. Writer (record desk { place = place_is j })) in
     let told : ℕ → Me (Unit {0}) View → Type 0 = λ found after. (other : Desk) → me.0.role ≡ Writer other → Went other found me.0 after.0 in
-    let allows = subst (λ (o : Operation). Allows (Kept shape) slots id me (target_of o) (becomes o) told) operation (goes_so shape slots id me at at_is refl) in
+    let allows = subst (λ (o : Operation). Allows (Kept shape) slots id me (target_of o) (becomes o) told) operation (goes_so shape slots id me at at_is refl tt tt) in
     tells_also (Kept shape) slots id me (content shape slot index) (λ _. word) told (λ _ after. (other : Desk) → me.0.role ≡ Writer other → Put other me.0 after.0)
     (λ found after so other also. put_leads other call rows slot departed index found me.0 after.0 (ap (λ (d : Desk). d.place) (same_desk me.0.role other at also at_is)) low (so other also)) allows

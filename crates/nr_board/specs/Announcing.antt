@@ -1,17 +1,19 @@
 -- Holds by words. A reader may have a word of its own, which announces a slot; a hold by that word is counted nowhere. For the core it is an arrival like any other: the core sees each slot's departures less by the holds by words.
-use Rattle.std.specs.Prelude.{◌≡◌, ◌≢◌, ℕ, suc, ◌+◌, ◌-◌, ◌*◌, ◌%◌, ◌^◌, ◌<◌, ◌≤◌, if◌then◌else◌, nat_lt, true, false, List, length, slice_index}
+use Rattle.std.specs.Prelude.{◌≡◌, ◌≢◌, ℕ, suc, ◌+◌, ◌-◌, ◌*◌, ◌%◌, ◌^◌, ◌<◌, ◌≤◌, if◌then◌else◌, nat_lt, true, false, List, length, slice_index, slice_set}
 use mathlib.Core.Option.{some}
 use lib.ListN.{get_elem?}
 use Rattle.nr_words.specs.Places.{total_of}
 use Rattle.nr_machine.specs.declared.shape.Shape.{Shape}
 use Rattle.nr_machine.specs.Slots.{departures, layout}
 use Rattle.nr_machine.specs.Sums.{total}
+use Rattle.nr_machine.specs.States.{retired_at}
+use Rattle.nr_machine.specs.declared.roles.Desk.{Desk}
+use Rattle.nr_machine.specs.declared.places.Place.{Place}
+use Rattle.nr_machine.specs.declared.places.Place.TheVariants.{Idle, Leaving, Putting, Reading, Searching, Withdrawing}
+use Rattle.nr_machine.specs.declared.roles.Role.{Role}
+use Rattle.nr_machine.specs.declared.roles.Role.TheVariants.{Note, Reader, Writer}
 use Rattle.nr_core.specs.Roles.{holds, is_by}
 use Rattle.nr_board.specs.Views.{View}
-
--- how many readers have a word: none yet
-abbrev pub announcers : Shape → ℕ
-announcers shape = 0
 
 -- where a reader's word lies: eight words apart, so that it shares no cache line with another word in use
 abbrev pub says_at : Shape → ℕ → ℕ
@@ -30,17 +32,55 @@ IsNoCount shape at = (slot : ℕ) → slot < shape.slots → at ≢ departures s
 
 -- the words, and those that the core sees, where that many hold each slot by their words
 pub record Counted (shape : Shape) (by_word : ℕ → ℕ) (words counted : List ℕ) : Type 0 where
-  pub room : total_of (layout shape) + 8 * announcers shape ≤ length words
+  pub room : total_of (layout shape) ≤ length words
   pub same : (at : ℕ) → at < total_of (layout shape) → IsNoCount shape at → slice_index counted at ≡ slice_index words at
   pub less : (slot : ℕ) → slot < shape.slots → slice_index counted (departures shape slot) ≡ (slice_index words (departures shape slot) + (2 ^ 64 - by_word slot)) % 2 ^ 64
   pub small : (slot : ℕ) → slot < shape.slots → slice_index words (departures shape slot) < 2 ^ 64
 
--- what the readers' words say, of which that many were made
-pub record Announces (shape : Shape) (made : ℕ) (words : List ℕ) (views : List View) : Type 0 where
+-- none of the tokens is that reader
+abbrev pub HasNoReader : ℕ → List View → Type 0
+HasNoReader own views = (id : ℕ) (view : View) → get_elem? views id ≡ some view → is_by (suc own) view.role ≡ false
+
+-- what the readers' words say, of which that many have one
+pub record Announces (shape : Shape) (announcers : ℕ) (words : List ℕ) (views : List View) : Type 0 where
+  pub space : total_of (layout shape) + 8 * announcers ≤ length words
   -- a reader's word is what its token says; who has none says nothing
-  pub says : (id own : ℕ) (view : View) → get_elem? views id ≡ some view → is_by (suc own) view.role ≡ true → own < announcers shape → slice_index words (says_at shape own) ≡ view.says
-  pub wordless : (id : ℕ) (view : View) → get_elem? views id ≡ some view → ((own : ℕ) → own < announcers shape → is_by (suc own) view.role ≡ false) → view.says ≡ 0
+  pub says : (id own : ℕ) (view : View) → get_elem? views id ≡ some view → is_by (suc own) view.role ≡ true → own < announcers → slice_index words (says_at shape own) ≡ view.says
+  pub wordless : (id : ℕ) (view : View) → get_elem? views id ≡ some view → ((own : ℕ) → own < announcers → is_by (suc own) view.role ≡ false) → view.says ≡ 0
   -- who announces a slot holds that slot or none
   pub holds_it : (id slot : ℕ) (view : View) → get_elem? views id ≡ some view → 0 < view.says → 0 < holds slot view.role → view.says ≡ suc slot
-  -- readers that are not made yet say nothing
-  pub unsaid : (own : ℕ) → made ≤ own → own < announcers shape → slice_index words (says_at shape own) ≡ 0
+  -- a reader that is not made yet says nothing
+  pub unsaid : (own : ℕ) → HasNoReader own views → own < announcers → slice_index words (says_at shape own) ≡ 0
+
+-- WHAT THE WRITER HEARS
+
+-- what was heard of a slot is forgotten where a call puts a set into it
+abbrev pub heard_at : Place → List ℕ → List ℕ
+heard_at Idle heard = heard
+heard_at (Reading call named got) heard = heard
+heard_at (Leaving key) heard = heard
+heard_at (Withdrawing key) heard = heard
+heard_at (Searching call rows poll) heard = heard
+heard_at (Putting call rows mine departed index) heard = slice_set heard mine 0
+
+-- by a step of that caller's
+abbrev pub heard_after : Role → List ℕ → List ℕ
+heard_after (Writer desk) heard = heard_at desk.place heard
+heard_after (Reader reader grip) heard = heard
+heard_after Note heard = heard
+
+-- a poll is of a slot of which all readers that have a word were heard
+abbrev pub PollsHeard : ℕ → Desk → List ℕ → Place → Type 0
+PollsHeard announcers desk heard Idle = Unit {0}
+PollsHeard announcers desk heard (Reading call named got) = Unit {0}
+PollsHeard announcers desk heard (Leaving key) = Unit {0}
+PollsHeard announcers desk heard (Withdrawing key) = Unit {0}
+PollsHeard announcers desk heard (Searching call rows poll) = announcers ≤ slice_index heard (retired_at desk poll).slot
+PollsHeard announcers desk heard (Putting call rows mine departed index) = Unit {0}
+
+-- what the writer has heard is so
+pub record Hears (views : List View) (writer : View) : Type 0 where
+  -- the readers that were heard don't hold the slot by their words
+  pub quiet : (id slot own : ℕ) (view : View) → get_elem? views id ≡ some view → is_by (suc own) view.role ≡ true → own < slice_index writer.heard slot → lends slot view ≡ 0
+  -- of a slot that a key names nothing is heard
+  pub unheard : (key slot : ℕ) → slice_index writer.marks.names key ≡ suc slot → slice_index writer.heard slot ≡ 0

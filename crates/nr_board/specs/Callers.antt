@@ -13,10 +13,11 @@ use Rattle.nr_marks.specs.Marks.{Marks, Past, gripped}
 use Rattle.nr_board.specs.Entries.{AreCallers}
 use Rattle.nr_board.specs.Views.{View, desk_of, grip_of, caller_number}
 
--- which map it is, and its sizes
+-- which map it is, its sizes, and how many of its readers, the first ones, have a word of their own
 pub record Table : Type 0 where
   pub id : TableId
   pub shape : Shape
+  pub announcers : ℕ
 
 pub record Caller : Type 0 where
   -- its map
@@ -43,7 +44,7 @@ pub record Caller : Type 0 where
 
 abbrev pub caller_of : TableId → View → Caller
 caller_of id view = record {
-  table = record { id = id; shape = view.shape };
+  table = record { id = id; shape = view.shape; announcers = view.announcers };
   number = caller_number view.role;
   seen = view.seen;
   mine = view.mine;

@@ -10,10 +10,11 @@ pub record Gave (first : HeldRows) (count : ℕ) (last : HeldRows) : Type 0 wher
   pub board : last.board.now ≡ first.board.now
   pub begin : last.begin ≡ first.begin
   pub marks : last.seat.now.me.0.marks ≡ first.seat.now.me.0.marks
+  pub says : last.seat.now.me.0.says ≡ first.seat.now.me.0.says
   pub rests : Rests (2 * count) (token first.seat.now) (token last.seat.now)
 
 pub gives_none : (source : HeldRows) → Gave source 0 source
-gives_none source = record { name = refl; board = refl; begin = refl; marks = refl; rests = record { table = refl; number = refl; seen = refl; mine = refl; steps_made = omega arith; pasts = refl } }
+gives_none source = record { name = refl; board = refl; begin = refl; marks = refl; says = refl; rests = record { table = refl; number = refl; seen = refl; mine = refl; steps_made = omega arith; pasts = refl } }
 
 pub gives_more : (first mid last : HeldRows) (count : ℕ) → Gave first count mid → Gave mid 1 last → Gave first (count + 1) last
 gives_more first mid last count a b = record {
@@ -21,6 +22,7 @@ gives_more first mid last count a b = record {
   board = b.board ∙ a.board;
   begin = b.begin ∙ a.begin;
   marks = b.marks ∙ a.marks;
+  says = b.says ∙ a.says;
   rests = record {
     table = b.rests.table ∙ a.rests.table;
     number = b.rests.number ∙ a.rests.number;

@@ -32,6 +32,7 @@ pub record Learned (at found : ℕ) (old new : View) : Type 0 where
   pub news : List Past
   pub pasts : new.pasts ≡ news ++ old.pasts
   pub told_pasts : new.told_pasts ≡ old.told_pasts
+  pub says : new.says ≡ old.says
   pub of_readers : LearnsOf old.role old new news
 
 abbrev pub has_learned : Then

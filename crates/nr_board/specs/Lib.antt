@@ -7,6 +7,7 @@ pub mod Announcing
 pub mod Rule
 pub mod Notes
 pub mod Plays
+pub mod WordPlays
 pub mod Seats
 pub mod Kinds
 pub mod Meetings
@@ -19,6 +20,8 @@ pub mod WriterAnswers
 pub mod Begins
 pub mod Reclaiming
 pub mod Reaping
+pub mod Scans
+pub mod SearchPlays
 pub mod HeldRows
 pub mod NamedRows
 pub mod Recalls

@@ -73,6 +73,7 @@ pub record Asked (key found : ℕ) (old new : View) : Type 0 where
   pub role : new.role ≡ old.role
   pub gains : Advances old (entry (caller_number old.role) (model.Ask key) (ask_word found) ∷ []) new
   pub marks : new.marks ≡ old.marks
+  pub says : new.says ≡ old.says
 
 abbrev pub has_asked : Then
 has_asked step before found after = Asked step.word found before.0 after.0
@@ -84,6 +85,7 @@ pub record Arrived (key found : ℕ) (old new : View) : Type 0 where
   pub hole : is_filled found ≡ false → (new.role ≡ old.role) × Advances old (entry (caller_number old.role) (model.Find key) reply.Hole ∷ []) new
   -- one act more; the set has the number of what was put last for the key
   pub marks : new.marks ≡ acted old.marks (put_number new.seen key)
+  pub says : new.says ≡ old.says
 
 abbrev pub has_arrived : Then
 has_arrived step before found after = Arrived step.word found before.0 after.0
@@ -94,6 +96,7 @@ pub record Read (place found : ℕ) (old new : View) : Type 0 where
   pub hold : new.role ≡ holding old.role (is_sized (grip_of new.role))
   pub waits : Waits old new
   pub marks : new.marks ≡ old.marks
+  pub says : new.says ≡ old.says
 
 abbrev pub has_read_word : Then
 has_read_word step before found after = Read step.word found before.0 after.0
@@ -108,6 +111,7 @@ pub record FoundAgain (key found : ℕ) (old new : View) : Type 0 where
   -- whether the key still has the put number of the hold
   pub put : ComparesPuts (names_slot (slot_held old.role) found) found old.marks.put (put_number new.seen key)
   pub kind : kind_shown found ≡ kind_of (state_of (map_after old.shape new.seen) key)
+  pub says : new.says ≡ old.says
 
 abbrev pub has_found_again : Then
 has_found_again step before found after = FoundAgain step.word found before.0 after.0
@@ -117,6 +121,7 @@ pub record Departed (old new : View) : Type 0 where
   pub role : new.role ≡ Reader (caller_number old.role) Nothing
   pub waits : Waits old new
   pub marks : new.marks ≡ acted old.marks old.marks.put
+  pub says : new.says ≡ old.says
 
 abbrev pub has_departed : Then
 has_departed step before found after = Departed before.0 after.0

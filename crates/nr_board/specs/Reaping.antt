@@ -1,5 +1,5 @@
 -- A reap: the writer polls the retired slots whose sets wait, oldest first, and gives out the set of the first that no reader holds. The slot stays retired, and its set is reaped.
-use Rattle.std.specs.Prelude.{◌≡◌, ℕ, ◌+◌, ◌*◌, ◌<◌, ◌≤◌, if◌then◌else◌, Bool, false, List, [], ◌∷◌, ◌++◌, drop, length, nat_lt, slice_index_or}
+use Rattle.std.specs.Prelude.{◌≡◌, ℕ, ◌+◌, ◌*◌, ◌<◌, ◌≤◌, if◌then◌else◌, Bool, false, List, [], ◌∷◌, ◌++◌, drop, length, nat_lt, slice_index, slice_index_or}
 use mathlib.Core.Option.{some}
 use lib.ListN.{get_elem?}
 use Rattle.nr_model.specs.Rows.{IsRowSet}
@@ -45,6 +45,8 @@ pub record ProbesAt (table : Table) (entry : Retired) (seat : MapSeat) : Type 0 
   pub room : Room table.shape desk
   pub poll : ℕ
   pub here : get_elem? desk.retired poll ≡ some entry
+  -- all readers that have a word were heard not to say the slot
+  pub heard : table.announcers ≤ slice_index seat.me.0.heard entry.slot
 
 -- THE SWEEP
 

@@ -12,7 +12,7 @@ use Rattle.nr_core.specs.Roles.{is_by, is_reader, is_writer}
 use Rattle.nr_marks.specs.Marked.{Knowing, Marked}
 use Rattle.nr_marks.specs.Marks.{Marks, Past, gripped}
 use Rattle.nr_board.specs.Entries.{AreCallers, acts_told, to_depart}
-use Rattle.nr_board.specs.Announcing.{Announces, Counted, lent}
+use Rattle.nr_board.specs.Announcing.{Announces, Counted, Hears, lent}
 use Rattle.nr_board.specs.Views.{View, grip_of}
 
 abbrev pub role_of : View → Role
@@ -66,5 +66,9 @@ pub record Kept (shape : Shape) (state : State (Unit {0}) View) : Type 0 where
   pub marked : Marked role_of marks_of shape counted state.views log
   pub pasts : Knowing role_of marks_of pasts_of state.views
   pub told_pasts : Knowing role_of marks_of told_pasts_of state.views
-  pub announced : Announces shape made state.words state.views
+  -- that many readers, the first ones, have a word, as all callers know
+  pub announcers : ℕ
+  pub told_of : (id : ℕ) (view : View) → get_elem? state.views id ≡ some view → 0 < is_writer view.role + is_reader view.role → view.announcers ≡ announcers
+  pub announced : Announces shape announcers state.words state.views
+  pub hears : (id : ℕ) (view : View) → get_elem? state.views id ≡ some view → is_writer view.role ≡ 1 → Hears state.views view
   pub maker : (id : ℕ) (view : View) → get_elem? state.views id ≡ some view → is_writer view.role ≡ 1 → view.made ≡ made

@@ -1,5 +1,5 @@
 -- What a token knows: who its caller is, what it has seen of the history, the caller's own entries, and how many steps it has made.
-use Rattle.std.specs.Prelude.{ℕ, ◌+◌, Bool, false, List, []}
+use Rattle.std.specs.Prelude.{ℕ, ◌+◌, Bool, false, List, [], replicate}
 use Rattle.nr_model.specs.declared.rows.Row.{Row}
 use Rattle.nr_model.specs.Histories.{Entry}
 use Rattle.nr_machine.specs.declared.shape.Shape.{Shape}
@@ -15,6 +15,8 @@ use Rattle.nr_marks.specs.Marks.{Marks, Past, no_marks, opening_marks}
 pub record View : Type 0 where
   pub role : Role
   pub shape : Shape
+  -- how many readers, the first ones, have a word of their own
+  pub announcers : ℕ
   -- how many readers the writer has made
   pub made : ℕ
   pub seen : List Entry
@@ -29,6 +31,8 @@ pub record View : Type 0 where
   pub told_pasts : List Past
   -- what a reader's own word says: 0, or one more than the slot that it announces
   pub says : ℕ
+  -- of each slot how many readers, the first ones, the writer found not to say it since a key named it last
+  pub heard : List ℕ
 
 -- the number of the caller; the writer's is 0
 abbrev pub caller_number : Role → ℕ
@@ -75,11 +79,11 @@ no_shape = record { keys = 0; slots = 0; readers = 0; first_count = 0; first_num
 
 -- the first token is the writer's
 abbrev pub opener : Shape → View
-opener shape = record { role = Writer (opening_desk shape); shape = shape; made = 0; seen = []; told = []; mine = []; steps = 0; marks = opening_marks shape; pasts = []; told_pasts = []; says = 0 }
+opener shape = record { role = Writer (opening_desk shape); shape = shape; announcers = 0; made = 0; seen = []; told = []; mine = []; steps = 0; marks = opening_marks shape; pasts = []; told_pasts = []; says = 0; heard = replicate shape.slots 0 }
 
 -- the writer makes the next reader
 abbrev pub with_reader : View → View
 with_reader view = record view { made = view.made + 1 }
 
 abbrev pub next_reader : View → View
-next_reader view = record { role = Reader (view.made + 1) Nothing; shape = view.shape; made = 0; seen = []; told = []; mine = []; steps = 0; marks = no_marks; pasts = []; told_pasts = []; says = 0 }
+next_reader view = record { role = Reader (view.made + 1) Nothing; shape = view.shape; announcers = view.announcers; made = 0; seen = []; told = []; mine = []; steps = 0; marks = no_marks; pasts = []; told_pasts = []; says = 0; heard = [] }

@@ -42,6 +42,8 @@ pub record WritesAt (table : Table) (desk : Desk) (seat : MapSeat) : Type 0 wher
   pub role : seat.me.0.role ≡ Writer desk
   pub room : Room table.shape desk
   pub numbers : AreNumbers table.shape (map_seen (token seat)) desk.numbers
+  -- the map's readers find by counts
+  pub counted : table.announcers ≡ 0
 
 -- between calls
 pub record IsBetween (table : Table) (seat : MapSeat) : Type 0 where
@@ -69,6 +71,10 @@ pub record IsPolling (table : Table) (slot : ℕ) (seat : MapSeat) : Type 0 wher
   pub poll : ℕ
   pub place : desk.place ≡ Searching call rows poll
   pub slot_is : slot ≡ (retired_at desk poll).slot
+  -- the slots before it were polled, and found held
+  pub in_order : length seat.me.0.marks.polls ≡ poll
+  -- all readers that have a word were heard not to say the slot
+  pub heard : table.announcers ≤ slice_index seat.me.0.heard slot
 
 -- about to put the word at that index of the slot whose content begins there
 pub record IsPutting (table : Table) (begin index word : ℕ) (seat : MapSeat) : Type 0 where

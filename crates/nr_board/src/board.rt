@@ -1,5 +1,5 @@
 //! The table of words. It is private to this module, whose functions make one step each.
-ghost use Rattle.std.specs.Prelude.{ℕ, ◌≡◌, ◌↔◌, ◌<◌, ◌≤◌, ◌^◌, true, false, [], length, slice_index, IfOk};
+ghost use Rattle.std.specs.Prelude.{ℕ, ◌≡◌, ◌↔◌, ◌<◌, ◌≤◌, ◌^◌, ◌⊎◌, true, false, [], length, slice_index, IfOk};
 ghost use Rattle.nr_model.specs.Maps.{state_of};
 ghost use Rattle.nr_model.specs.declared.rows.TheConstants.{MAX_ROWS};
 ghost use Rattle.nr_model.specs.declared.calls.Call.TheVariants as model;
@@ -16,16 +16,19 @@ ghost use Rattle.nr_machine.specs.States.{key_of};
 ghost use Rattle.nr_core.specs.Steps.{ask_word};
 ghost use Rattle.nr_machine.specs.Story.{call_of};
 ghost use Rattle.nr_machine.specs.Writer.{looked};
-ghost use Rattle.nr_machine.specs.Slots.{bound_of, content, layout, slot_room};
+ghost use Rattle.nr_machine.specs.Slots.{bound_of, content, layout, names_slot, slot_room};
 ghost use Rattle.nr_core.specs.Roles.{is_writer};
 ghost use Rattle.nr_machine.specs.Sizes.{IsShape};
-ghost use Rattle.nr_board.specs.Views.{rows_held, with_reader, next_reader, opener};
+ghost use Rattle.nr_board.specs.Views.{grip_of, rows_held, with_reader, next_reader, opener};
 ghost use Rattle.nr_board.specs.Callers.{Gains, Grows, Rests, map_seen, token};
 ghost use Rattle.nr_marks.specs.Exact.{Lists};
 ghost use Rattle.nr_marks.specs.Marks.{acted, set_in, with_polls};
 ghost use Rattle.nr_marks.specs.MarkSteps.{found_again};
 ghost use Rattle.nr_marks.specs.Puts.{put_number};
-ghost use Rattle.nr_board.specs.Seats.{IdlesAt, HoldsAt};
+ghost use Rattle.nr_board.specs.Seats.{AnnouncesAt, IdlesAt, HoldsAt};
+ghost use Rattle.nr_board.specs.Announcing.{says_at};
+ghost use Rattle.nr_board.specs.Plays.{IsIdle};
+ghost use Rattle.nr_board.specs.WordPlays.{HasWord, HoldsByWord, let_go};
 ghost use Rattle.nr_board.specs.Notes.{IsCaller, IsNote, has_noted, note_of, retold, with_note};
 ghost use Rattle.nr_board.specs.Kinds.{kind_of, kind_shown};
 ghost use Rattle.nr_board.specs.Learning.{HearsOf};
@@ -34,9 +37,10 @@ ghost use Rattle.nr_board.specs.Reaping.{ProbesAt, ProbesTo};
 ghost use Rattle.nr_board.specs.Recalls.{IsWordOf, RecallsAt};
 ghost use Rattle.nr_board.specs.WriterSeats.{GoesOn, IsBetween, IsReading, IsPolling, IsPutting, IsPublishing, IsLeaving, IsWithdrawing, LeadsTo, PutsTo};
 
+use crate::only_proved::only_proved;
 use crate::rule::{
-    Arrives, Asks, BegunCall, Departs, FindsAgain, Goes, Hears, Law, Looks, Nears, Notes, Probes,
-    Puts, Reads, Recalls, Retells, Seats, Sees,
+    Arrives, Asks, BegunCall, Confirms, Departs, FindsAgain, Goes, Hears, Law, Looks, LooksUp,
+    Nears, Notes, Probes, Puts, Reads, Recalls, Retells, Says, Seats, Sees,
 };
 use crate::two_seats::take_in;
 use crate::view::View;
@@ -54,10 +58,12 @@ pub type Seat = atomic_table::Seat<(), View>;
 pub struct Board {
     table: Table<(), View, Shape, Law, Global>,
     shape: Shape,
+    // How many readers have a word of their own: none yet.
+    announcers: u32,
 }
 
 impl Model for Board {
-    ghost use Rattle.std.specs.Prelude.{◌≡◌, ◌<◌, ◌^◌};
+    ghost use Rattle.std.specs.Prelude.{◌≡◌, ◌<◌, ◌^◌, ◌+◌, ◌*◌};
     ghost use Rattle.nr_board.specs.Callers.{Table as MapTable};
 
     ghost Value = { MapTable };
@@ -66,9 +72,9 @@ impl Model for Board {
     ghost use Rattle.nr_machine.specs.Slots.{layout};
     ghost use Rattle.nr_machine.specs.Sizes.{IsShape};
 
-    ghost view = { λ board. record { id = board.table.shared.table_id; shape = board.shape } };
+    ghost view = { λ board. record { id = board.table.shared.table_id; shape = board.shape; announcers = board.announcers } };
 
-    ghost invariant = { λ board. (board.table.shared.key ≡ board.shape) × (board.table.shared.table_id.words ≡ total_of (layout board.shape)) × (0 < board.shape.keys) × (board.shape.keys < 2 ^ 32) × IsShape board.shape };
+    ghost invariant = { λ board. (board.table.shared.key ≡ board.shape) × (board.table.shared.table_id.words ≡ total_of (layout board.shape) + 8 * board.announcers) × (0 < board.shape.keys) × (board.shape.keys < 2 ^ 32) × IsShape board.shape };
 }
 
 /// What a token has seen. The token that made the note counts its step, so nothing is lost where the
@@ -93,6 +99,7 @@ impl Board {
         requires sizes { IsShape shape }
         requires keys { 0 < shape.keys }
         ensures board { IfOk result (λ opened. opened.0.shape ≡ shape) }
+        ensures counted { IfOk result (λ opened. opened.0.announcers ≡ 0) }
         ensures seat { IfOk result (λ opened. (opened.1.table_id ≡ opened.0.id) × (opened.1.me.0 ≡ opener shape)) }
     {
         let layout = Layout {
@@ -102,7 +109,15 @@ impl Board {
         };
         let words = words_from(alloc, layout, shape.first_count, shape.first_number)?;
         let (table, seat) = Table::of_words(alloc, &words, &shape)?;
-        Ok((Board { table, shape }, seat))
+        let announcers = 0;
+        Ok((
+            Board {
+                table,
+                shape,
+                announcers,
+            },
+            seat,
+        ))
     }
 
     /// The sizes of the map.
@@ -162,9 +177,80 @@ impl Board {
         ensures hole { is_filled result ≡ false → IdlesAt self.now seat.new × Gains 1 (token seat.old) (model.Find key) reply.Hole (token seat.new) }
         ensures held { is_filled result ≡ true → HoldsAt self.now (content self.now.shape (slot_of result) 0) seat.new × Gains 1 (token seat.old) (model.Find key) (reply.Rows (rows_held seat.new.me.0.role)) (token seat.new) }
         ensures marks { seat.new.me.0.marks ≡ acted seat.old.me.0.marks (put_number seat.new.me.0.seen key) }
+        ensures says { seat.new.me.0.says ≡ seat.old.me.0.says }
     {
         let words = &self.table.shared;
         words.fetch_add::<Arrives>(seat, key as usize, ARRIVE)
+    }
+
+    /// A reader that holds nothing looks at a key: its word. A hole is found; a slot that the word names
+    /// may be announced.
+    pub fn look_at_key(&self, seat: &mut Seat, key: u32) -> u64
+        requires reader { IdlesAt self.now seat.old }
+        requires key { key < self.now.shape.keys }
+        ensures reader { IdlesAt self.now seat.new }
+        ensures hole { is_filled result ≡ false → Gains 1 (token seat.old) (model.Find key) reply.Hole (token seat.new) }
+        ensures named { is_filled result ≡ true → Grows 1 (token seat.old) [] (token seat.new) }
+    {
+        let words = &self.table.shared;
+        words.load::<LooksUp>(seat, key as usize)
+    }
+
+    /// A reader's own word announces a slot: what it held by its word is let go. The readers that have a
+    /// word are the first ones, and `own` is the reader's number less one.
+    pub fn announce(&self, seat: &mut Seat, own: u32, slot: u32)
+        requires own { (token seat.old).table ≡ self.now }
+        requires word { HasWord own seat.old.me.0 }
+        requires free { IsIdle seat.old.me.0.role ⊎ HoldsByWord self.now.shape seat.old.me.0 }
+        ensures says { AnnouncesAt self.now slot seat.new }
+        ensures word { HasWord own seat.new.me.0 }
+        ensures rests { Rests 1 (token seat.old) (token seat.new) }
+        ensures marks { seat.new.me.0.marks ≡ let_go (grip_of seat.old.me.0.role) seat.old.me.0.marks }
+    {
+        let words = &self.table.shared;
+        let place = self.own_word(own);
+        words.swap::<Says>(seat, place as usize, slot as u64 + 1);
+    }
+
+    /// A second look at the key of the slot that the reader's word announces: the key's word. Where it
+    /// names that slot still, the reader holds it, and the find is an entry.
+    pub fn confirm(&self, seat: &mut Seat, own: u32, slot: u32, key: u32) -> u64
+        requires reader { AnnouncesAt self.now slot seat.old }
+        requires word { HasWord own seat.old.me.0 }
+        requires key { key < self.now.shape.keys }
+        ensures held { names_slot slot result ≡ true → HoldsAt self.now (content self.now.shape slot 0) seat.new × Gains 1 (token seat.old) (model.Find key) (reply.Rows (rows_held seat.new.me.0.role)) (token seat.new) }
+        ensures hole { is_filled result ≡ false → AnnouncesAt self.now slot seat.new × Gains 1 (token seat.old) (model.Find key) reply.Hole (token seat.new) }
+        ensures other { names_slot slot result ≡ false → is_filled result ≡ true → AnnouncesAt self.now slot seat.new × Grows 1 (token seat.old) [] (token seat.new) }
+        ensures says { seat.new.me.0.says ≡ seat.old.me.0.says }
+        ensures word { HasWord own seat.new.me.0 }
+    {
+        only_proved(own);
+        let words = &self.table.shared;
+        words.load::<Confirms>(seat, key as usize)
+    }
+
+    /// A reader's own word says nothing any more: what it held by its word is let go.
+    pub fn clear(&self, seat: &mut Seat, own: u32)
+        requires own { (token seat.old).table ≡ self.now }
+        requires word { HasWord own seat.old.me.0 }
+        requires free { IsIdle seat.old.me.0.role ⊎ HoldsByWord self.now.shape seat.old.me.0 }
+        ensures reader { IdlesAt self.now seat.new }
+        ensures word { HasWord own seat.new.me.0 }
+        ensures rests { Rests 1 (token seat.old) (token seat.new) }
+        ensures marks { seat.new.me.0.marks ≡ let_go (grip_of seat.old.me.0.role) seat.old.me.0.marks }
+    {
+        let words = &self.table.shared;
+        let place = self.own_word(own);
+        words.store::<Says>(seat, place as usize, 0);
+    }
+
+    // Where a reader's own word lies.
+    fn own_word(&self, own: u32) -> u64
+        requires { own < self.now.announcers }
+        ensures place { result ≡ says_at self.now.shape own }
+        ensures inside { result < 2 ^ 64 }
+    {
+        self.layout().total() + 8 * own as u64 + 7
     }
 
     /// A reader reads a content word of the slot that it holds, whose first one stands at `begin`.
@@ -177,6 +263,7 @@ impl Board {
         ensures rests { Rests 1 (token seat.old) (token seat.new) }
         ensures hold { (token seat.new).holds ≡ (token seat.old).holds }
         ensures marks { seat.new.me.0.marks ≡ seat.old.me.0.marks }
+        ensures says { seat.new.me.0.says ≡ seat.old.me.0.says }
     {
         let words = &self.table.shared;
         let place = begin + index;
@@ -195,15 +282,18 @@ impl Board {
         ensures other { result ≡ false → Grows 1 (token seat.old) [] (token seat.new) }
         ensures exact { (result ≡ true) ↔ HasPut key seat.old.me.0.marks.put (token seat.new) }
         ensures marks { seat.new.me.0.marks ≡ found_again result seat.old.me.0.marks }
+        ensures says { seat.new.me.0.says ≡ seat.old.me.0.says }
     {
         let words = &self.table.shared;
         let word = words.load::<FindsAgain>(seat, key as usize);
         names(word, slot)
     }
 
-    /// A reader departs from the slot that it holds, whose first content word stands at `begin`.
+    /// A reader departs from the slot that it holds, whose first content word stands at `begin`, and
+    /// that its own word doesn't announce.
     pub fn depart(&self, seat: &mut Seat, begin: u64)
         requires reader { HoldsAt self.now begin seat.old }
+        requires counted { seat.old.me.0.says ≡ 0 }
         ensures reader { IdlesAt self.now seat.new }
         ensures rests { Rests 1 (token seat.old) (token seat.new) }
         ensures marks { seat.new.me.0.marks ≡ acted seat.old.me.0.marks seat.old.me.0.marks.put }
@@ -219,6 +309,7 @@ impl Board {
         requires key { key < self.now.shape.keys }
         ensures step { token seat.new ≡ with_step (token seat.old) }
         ensures role { seat.new.me.0.role ≡ seat.old.me.0.role }
+        ensures says { seat.new.me.0.says ≡ seat.old.me.0.says }
     {
         let words = &self.table.shared;
         words.load::<Nears>(seat, key as usize)
@@ -230,6 +321,7 @@ impl Board {
         requires own { (token seat.old).table ≡ self.now }
         ensures step { token seat.new ≡ with_step (token seat.old) }
         ensures role { seat.new.me.0.role ≡ seat.old.me.0.role }
+        ensures says { seat.new.me.0.says ≡ seat.old.me.0.says }
     {
         let words = &self.table.shared;
         let last = self.table.word_count() as u64 - 1;
@@ -373,6 +465,7 @@ impl Board {
         ensures readers { HearsOf seat.old.me.0 note.me.0 seat.new.me.0 }
         ensures numbers { (desk : Desk) → seat.old.me.0.role ≡ Writer desk → AreNumbers self.now.shape (map_seen (token seat.new)) desk.numbers }
         ensures role { (seat.new.table_id ≡ seat.old.table_id) × (seat.new.me.0.role ≡ seat.old.me.0.role) }
+        ensures says { seat.new.me.0.says ≡ seat.old.me.0.says }
     {
         let words = &self.table.shared;
         let Note { seat: mut told } = note;
@@ -411,6 +504,7 @@ impl Board {
         requires key { key < self.now.shape.keys }
         ensures learns { Learns 1 (token seat.old) (token seat.new) }
         ensures role { (seat.new.table_id ≡ seat.old.table_id) × (seat.new.me.0.role ≡ seat.old.me.0.role) }
+        ensures says { seat.new.me.0.says ≡ seat.old.me.0.says }
         ensures state { kind_shown result ≡ kind_of (state_of (map_seen (token seat.new)) key) }
         ensures numbers { (desk : Desk) → seat.old.me.0.role ≡ Writer desk → AreNumbers self.now.shape (map_seen (token seat.new)) desk.numbers }
     {
@@ -425,6 +519,7 @@ impl Board {
         requires caller { IsCaller seat.old.me.0.role }
         ensures learns { Learns 1 (token seat.old) (token seat.new) }
         ensures role { (seat.new.table_id ≡ seat.old.table_id) × (seat.new.me.0.role ≡ seat.old.me.0.role) }
+        ensures says { seat.new.me.0.says ≡ seat.old.me.0.says }
         ensures lists { (desk : Desk) → seat.old.me.0.role ≡ Writer desk → Lists desk seat.old.me.0.marks self.now.shape seat.new.me.0.seen }
         ensures numbers { (desk : Desk) → seat.old.me.0.role ≡ Writer desk → AreNumbers self.now.shape (map_seen (token seat.new)) desk.numbers }
     {

@@ -18,6 +18,7 @@ impl Board {
         requires note { IsNote note }
         ensures token { token seat.new ≡ with_steps 3 (token seat.old) }
         ensures role { seat.new.me.0.role ≡ seat.old.me.0.role }
+        ensures says { seat.new.me.0.says ≡ seat.old.me.0.says }
         ensures one { IsNote result.0 × (known_to (token result.0) ≡ known_to (token note)) }
         ensures other { IsNote result.1 × (known_to (token result.1) ≡ known_to (token note)) }
     {
@@ -36,6 +37,7 @@ impl Board {
         ensures readers { HearsOf seat.old.me.0 (note_of other.old.me.0) seat.new.me.0 }
         ensures numbers { (desk : Desk) → seat.old.me.0.role ≡ writer_role desk → AreNumbers self.now.shape (map_seen (token seat.new)) desk.numbers }
         ensures role { (seat.new.table_id ≡ seat.old.table_id) × (seat.new.me.0.role ≡ seat.old.me.0.role) }
+        ensures says { seat.new.me.0.says ≡ seat.old.me.0.says }
         ensures other { (other.new.table_id ≡ other.old.table_id) × (other.new.me ≡ (has_noted other.old.me.0, other.old.me.1)) }
     {
         let note = self.note(other);

@@ -46,6 +46,7 @@ impl Board {
         ensures rows { R.shows rows.new (rows_held seat.old.me.0.role) }
         ensures rests { Rests (2 * length (rows_held seat.old.me.0.role) + 1) (token seat.old) (token seat.new) }
         ensures marks { seat.new.me.0.marks ≡ seat.old.me.0.marks }
+        ensures says { seat.new.me.0.says ≡ seat.old.me.0.says }
     {
         only_proved(self.rows());
         let count = self.read(seat, begin, 0);
@@ -63,6 +64,7 @@ impl Board {
         ensures rests { Rests (2 * length (rows_held seat.old.me.0.role)) (token seat.old) (token seat.new) }
         ensures hold { (token seat.new).holds ≡ (token seat.old).holds }
         ensures marks { seat.new.me.0.marks ≡ seat.old.me.0.marks }
+        ensures says { seat.new.me.0.says ≡ seat.old.me.0.says }
     {
         only_proved(self.rows());
         let mut source = HeldRows {
@@ -83,6 +85,7 @@ impl Board {
         ensures rests { Rests 2 (token seat.old) (token seat.new) }
         ensures hold { (token seat.new).holds ≡ (token seat.old).holds }
         ensures marks { seat.new.me.0.marks ≡ seat.old.me.0.marks }
+        ensures says { seat.new.me.0.says ≡ seat.old.me.0.says }
     {
         only_proved(self.rows());
         let a = self.read(seat, begin, 2 * i + 1);

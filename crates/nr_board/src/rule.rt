@@ -46,6 +46,33 @@ impl Play<(), View> for Arrives {
     ghost then = { has_arrived };
 }
 
+/// A reader that holds nothing looks a key up.
+pub struct LooksUp;
+
+impl Play<(), View> for LooksUp {
+    ghost use Rattle.nr_board.specs.WordPlays.{has_looked_up};
+
+    ghost then = { has_looked_up };
+}
+
+/// A reader's word says something else, or nothing.
+pub struct Says;
+
+impl Play<(), View> for Says {
+    ghost use Rattle.nr_board.specs.WordPlays.{has_said};
+
+    ghost then = { has_said };
+}
+
+/// A second look, at the key of the slot that the reader's word announces.
+pub struct Confirms;
+
+impl Play<(), View> for Confirms {
+    ghost use Rattle.nr_board.specs.WordPlays.{has_confirmed};
+
+    ghost then = { has_confirmed };
+}
+
 pub struct Reads;
 
 impl Play<(), View> for Reads {

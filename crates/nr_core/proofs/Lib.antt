@@ -7,6 +7,7 @@ pub mod HoldNamed
 pub mod Depart
 pub mod Look
 pub mod Go
+pub mod Poll
 pub mod Learn
 pub mod Opening
 pub mod Seat
@@ -33,7 +34,6 @@ mod Swap
 mod Unpublish
 mod Withdraw
 mod Publish
-mod Poll
 mod Put
 mod WriterRead
 mod Shown

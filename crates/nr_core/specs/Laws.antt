@@ -67,7 +67,7 @@ pub record HoldsFound (story : Story) (reader slot : ℕ) (size : Option ℕ) : 
 pub record Stands (story : Story) : Type 0 where
   pub legal : IsLegal (opening_map story.state.shape) story.history
   pub shows : Shows story.state (map_of story)
-  -- the writer lists each key's number
+  -- the writer lists each key's ticket number
   pub numbered : (at : ℕ) → at < story.state.shape.keys → number_at story.state.desk at ≡ number_of (state_of (map_of story) at)
   pub accounted : Accounted story.state
   pub held : (reader slot : ℕ) (size : Option ℕ) → 0 < reader → hold_of story.state reader ≡ On slot size → HoldsFound story reader slot size

@@ -5,7 +5,7 @@ use Rattle.nr_model.specs.Histories.{Entry}
 use Rattle.nr_machine.specs.declared.shape.Shape.{Shape}
 use Rattle.nr_machine.specs.declared.calls.WriterCall.{WriterCall}
 use Rattle.nr_machine.specs.declared.operation.Operation.TheVariants.{Load, Add, Or}
-use Rattle.nr_machine.specs.declared.places.Place.TheVariants.{Idle}
+use Rattle.nr_machine.specs.declared.places.Place.TheVariants.{Idle, Searching}
 use Rattle.nr_machine.specs.declared.roles.Desk.{Desk}
 use Rattle.nr_machine.specs.declared.roles.Role.{Role}
 use Rattle.nr_machine.specs.declared.roles.Role.TheVariants.{Writer, Reader, Note}
@@ -15,13 +15,13 @@ use Rattle.nr_words.specs.SetWords.{encode}
 use Rattle.nr_machine.specs.Sums.{total}
 use Rattle.nr_machine.specs.Sizes.{IsShape}
 use Rattle.nr_machine.specs.Slots.{bound_of, departures, content, name_number, words_at_opening}
-use Rattle.nr_machine.specs.States.{key_of, opening_desk}
+use Rattle.nr_machine.specs.States.{key_of, opening_desk, retired_at}
 use Rattle.nr_machine.specs.Operations.{going}
 use Rattle.nr_machine.specs.Refusals.{if_not_busy}
 use Rattle.nr_machine.specs.Given.{IsGivenCall}
 use Rattle.nr_core.specs.Roles.{is_reader, readers_from}
 use Rattle.nr_core.specs.Core.{Core}
-use Rattle.nr_core.specs.Steps.{CanStep, CanStepWhere, Arrives, Asks, LooksUp, HoldsNamed, ReadsHeld, FindsAgain, Departs, Looks, Goes, LoadsWord}
+use Rattle.nr_core.specs.Steps.{CanStep, CanStepWhere, Arrives, Asks, LooksUp, HoldsNamed, ReadsHeld, FindsAgain, Departs, Looks, Goes, Tries, GivesUp, LoadsWord}
 
 -- a reader that holds nothing arrives at a key, or asks for it
 abbrev pub ArriveLaw : Type 0
@@ -57,6 +57,14 @@ LookLaw = (shape : Shape) (id : ℕ) (desk : Desk) (call : WriterCall) → desk.
 
 abbrev pub GoLaw : Type 0
 GoLaw = (shape : Shape) (id : ℕ) (desk : Desk) → if_not_busy desk.place ≡ None → CanStep shape id (Writer desk) (going shape desk desk.place) (Goes shape desk)
+
+-- in its search the writer polls whichever retired slot it likes, or gives up
+abbrev pub TryLaw : Type 0
+TryLaw = (shape : Shape) (id : ℕ) (desk : Desk) (call : WriterCall) (rows : List Row) (at poll : ℕ) → desk.place ≡ Searching call rows at → poll < length desk.retired
+    → CanStep shape id (Writer desk) (Load (departures shape (retired_at desk poll).slot)) (Tries desk call rows poll)
+
+abbrev pub GiveUpLaw : Type 0
+GiveUpLaw = (shape : Shape) (id : ℕ) (desk : Desk) (call : WriterCall) (rows : List Row) (at place : ℕ) → desk.place ≡ Searching call rows at → CanStep shape id (Writer desk) (Load place) (GivesUp desk)
 
 -- any caller loads a word, and only learns
 abbrev pub LearnLaw : Type 0

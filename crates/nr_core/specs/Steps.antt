@@ -14,12 +14,14 @@ use Rattle.nr_machine.specs.declared.roles.Role.{Role}
 use Rattle.nr_machine.specs.declared.roles.Role.TheVariants.{Writer, Reader}
 use Rattle.nr_machine.specs.declared.roles.Grip.TheVariants.{Nothing, On}
 use Rattle.nr_machine.specs.declared.roles.Desk.{Desk}
-use Rattle.nr_words.specs.KeyWords.{is_filled, has_ask, slot_of}
+use Rattle.nr_words.specs.KeyWords.{is_filled, has_ask, same_count, slot_of}
 use Rattle.nr_words.specs.SetWords.{encode}
 use Rattle.nr_machine.specs.Slots.{bound_of, name_number, names_slot}
 use Rattle.nr_machine.specs.Operations.{target_of, becomes}
 use Rattle.nr_machine.specs.declared.operation.Operation.{Operation}
-use Rattle.nr_machine.specs.Writer.{looked, went}
+use Rattle.nr_machine.specs.States.{retired_at}
+use Rattle.nr_machine.specs.Writer.{looked, moved_to, taking_retired, went}
+use Rattle.nr_machine.specs.declared.places.Place.TheVariants.{Idle}
 use Rattle.nr_machine.specs.Story.{entry, call_of, ending, ending_at}
 use Rattle.nr_core.specs.Roles.{is_by, is_writer, is_reader}
 use Rattle.nr_core.specs.Core.{Core}
@@ -93,6 +95,14 @@ Looks shape desk call word after entries = (after ≡ Writer (looked shape desk 
 
 abbrev pub Goes : Shape → Desk → Telling
 Goes shape desk word after entries = (after ≡ Writer (went shape desk desk.place word).0) × (entries ≡ ending_at desk.place (went shape desk desk.place word).1)
+
+-- In its search the writer polls any of the retired slots: where its departures are its arrivals it takes the slot, and else it searches on.
+abbrev pub Tries : Desk → WriterCall → List Row → ℕ → Telling
+Tries desk call rows poll word after entries = (after ≡ Writer (if same_count word (retired_at desk poll).arrivals then taking_retired desk call rows poll word else desk)) × (entries ≡ [])
+
+-- a search that is given up ends its call without an entry
+abbrev pub GivesUp : Desk → Telling
+GivesUp desk word after entries = (after ≡ Writer (moved_to desk Idle)) × (entries ≡ [])
 
 -- a load that only learns
 abbrev pub LoadsWord : Role → Telling

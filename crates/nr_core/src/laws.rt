@@ -5,10 +5,10 @@
 //! (`CanStep`): whatever the core state is, a caller of that role can make that operation, then the
 //! core state stands again, and this is what the operation told the caller.
 ghost use Rattle.nr_core.specs.Laws.{EverySchedule, SlotBound, RunGoesOn};
-ghost use Rattle.nr_core.specs.StepLaws.{ArriveLaw, AskLaw, LookUpLaw, HoldNamedLaw, ReadLaw, FindAgainLaw, DepartLaw, LookLaw, GoLaw, LearnLaw, OpeningLaw, SeatLaw, NoteLaw};
+ghost use Rattle.nr_core.specs.StepLaws.{ArriveLaw, AskLaw, LookUpLaw, HoldNamedLaw, ReadLaw, FindAgainLaw, DepartLaw, LookLaw, GoLaw, TryLaw, GiveUpLaw, LearnLaw, OpeningLaw, SeatLaw, NoteLaw};
 
 /// Whatever the callers attempt, in any order: the history is legal, the words show its map, the
-/// writer lists each key's number, each slot is accounted for, a held slot is not written, and each
+/// writer lists each key's ticket number, each slot is accounted for, a held slot is not written, and each
 /// no-slot is justified.
 pub fn every_schedule()
     ensures { EverySchedule }
@@ -69,6 +69,16 @@ pub fn looks()
 /// unpublish or a withdraw. A call that ends with a reply is an entry.
 pub fn goes()
     ensures { GoLaw }
+{}
+
+/// In its search the writer polls whichever retired slot it likes, and takes it where nobody holds it.
+pub fn tries()
+    ensures { TryLaw }
+{}
+
+/// The writer gives its search up, and the call ends without an entry.
+pub fn gives_up()
+    ensures { GiveUpLaw }
 {}
 
 /// Any caller loads a word, and only learns.

@@ -1,6 +1,6 @@
-mod Logs
+pub mod Logs
 mod Steps
 mod Scanning
 mod Seats
-mod Calls
+pub mod Calls
 mod LawProofs

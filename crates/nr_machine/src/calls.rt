@@ -43,7 +43,7 @@ pub enum Arrived {
     Hole,
 }
 
-/// The answer to a request. One that is to be sent has the key's number, by which it is filled.
+/// The answer to a request. One that is to be sent has the key's ticket number, by which it is filled.
 #[derive(Clone, Copy, Debug, PartialEq, Eq)]
 pub enum AskReply {
     Send(u64),

@@ -13,7 +13,7 @@
 //! The writer never changes a set in place. A call looks at its key (`looked`); where it needs a
 //! slot it takes the next free one, or polls the retired ones, oldest first (`settled`, `polled`).
 //! It puts the set's words into the slot that it took (`put_on`), and publishes with one swap of the
-//! key's word (`swapped`). An eviction swaps in the word of a hole with the key's number. The swap
+//! key's word (`swapped`). An eviction swaps in the word of a hole with the key's ticket number. The swap
 //! gives back the old word, and with it the exact count of all that ever arrived at the slot that it
 //! named (`unnamed`); no reader can arrive there any more, and the slot is retired with that count.
 //!
@@ -23,7 +23,7 @@
 //! departures as its arrivals (`naming`), so the count goes on, whatever it was, wrapped or not.
 //! Where each retired slot is held at its poll, the call ends with no slot (`IsJustified`).
 //!
-//! A request is sent with its key's number, and filled by that number alone (`fill_asked`). A cancel
+//! A request is sent with its key's ticket number, and filled by that number alone (`fill_asked`). A cancel
 //! takes it back: one swap puts the word of a hole with the next number there (`withdrawn`), so that
 //! a late answer to the old request fills no newer one. A filled key's word has no room for the
 //! number, so the writer lists the numbers of all keys (`AreNumbers`).

@@ -1,4 +1,4 @@
-//! What the writer keeps beside the words: the slots that no key names, each key's number, and which
+//! What the writer keeps beside the words: the slots that no key names, each key's ticket number, and which
 //! slots were reaped.
 ghost use Rattle.std.specs.Prelude.{◌≡◌, ◌<◌, ◌≤◌, ◌++◌, [], ◌∷◌, false, length, remove, replicate, slice_index, slice_index_or, slice_set, IfOk};
 ghost use Rattle.nr_machine.specs.States.{no_retired};

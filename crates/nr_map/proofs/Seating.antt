@@ -6,7 +6,8 @@ use native.Mathlib.Decide.{ℕ_discrete}
 use Rattle.nr_machine.specs.declared.shape.Shape.{Shape}
 use Rattle.nr_marks.specs.Marks.{no_marks}
 use Rattle.nr_board.proofs.Tokens.{MapSeat}
-use Rattle.nr_board.specs.Callers.{Caller, Table}
+use Rattle.nr_board.specs.Callers.{Caller, Table, caller_of}
+use Rattle.nr_board.specs.Views.{next_reader}
 use Rattle.nr_map.specs.Opened.{Seated, made_so, newcomer}
 
 get_old : (readers : List Caller) (last : Caller) (place : ℕ) → place < length readers → slice_get (readers ++ last ∷ []) place ≡ slice_get readers place
@@ -22,15 +23,17 @@ get_new (r ∷ readers) last (suc place) e = get_new readers last place (omega a
 
 -- one reader more
 pub seated_more : (shape : Shape) (table : Table) (seat next : MapSeat) (readers longer : List Caller) (last : Caller) (made : ℕ) → Seated shape table seat readers made → next.table_id ≡ seat.table_id → next.me.0 ≡ made_so shape (made + 1)
-    → longer ≡ readers ++ last ∷ [] → last ≡ newcomer table (made + 1) no_marks → Seated shape table next longer (made + 1)
-seated_more shape table seat next readers longer last made so own view more new = record {
-  own = own ∙ so.own;
-  view = view;
-  count = omega (arith, so.count, ap length more, length-append readers (last ∷ []));
-  reads = λ place low. ap (λ (l : List Caller). slice_get l place) more ∙ dite (ℕ_discrete place made)
-      (λ e. get_new readers last place (e ∙ sym so.count) ∙ ap Some new ∙ ap (λ (n : ℕ). Some (newcomer table (n + 1) no_marks)) (sym e))
-      (λ ne. get_old readers last place (omega (arith, so.count)) ∙ so.reads place (omega arith));
-}
+    → longer ≡ readers ++ last ∷ [] → table.shape ≡ shape → last ≡ caller_of seat.table_id (next_reader seat.me.0) → Seated shape table next longer (made + 1)
+seated_more shape table seat next readers longer last made so own view more sized is = let new : last ≡ newcomer table (made + 1) no_marks
+    = is ∙ (λ j. caller_of (so.own j) (next_reader (so.view j))) ∙ (λ j. newcomer (record { id = table.id; shape = sym sized j; announcers = sym so.counted j }) (made + 1) no_marks) in record {
+      counted = so.counted;
+      own = own ∙ so.own;
+      view = view;
+      count = omega (arith, so.count, ap length more, length-append readers (last ∷ []));
+      reads = λ place low. ap (λ (l : List Caller). slice_get l place) more ∙ dite (ℕ_discrete place made)
+          (λ e. get_new readers last place (e ∙ sym so.count) ∙ ap Some new ∙ ap (λ (n : ℕ). Some (newcomer table (n + 1) no_marks)) (sym e))
+          (λ ne. get_old readers last place (omega (arith, so.count)) ∙ so.reads place (omega arith));
+    }
 
 get_or_so : (readers : List Caller) (place : ℕ) (spare reader : Caller) → slice_get readers place ≡ Some reader → get_or readers place spare ≡ reader
 get_or_so [] place spare reader is = absurd (cc)

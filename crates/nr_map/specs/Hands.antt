@@ -47,7 +47,7 @@ handed seat held = record { reader = token seat; key = key_held held; rows = row
 
 -- the seat is that of a reader, which holds nothing or what stands there
 abbrev pub IsHand : Seat (Unit {0}) View → ℕ → Option Held → Type 0
-IsHand seat number None = (seat.me.0.role ≡ Reader number Nothing) × KnowsOwn (token seat)
+IsHand seat number None = (seat.me.0.role ≡ Reader number Nothing) × KnowsOwn (token seat) × (seat.me.0.says ≡ 0)
 IsHand seat number (Some held) = Pins seat number held.slot held.begin held.count
 
 -- a hand that holds a set lets it go by one step, an act; one that holds nothing makes none

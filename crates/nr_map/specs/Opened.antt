@@ -19,6 +19,8 @@ pub record Seated (shape : Shape) (table : Table) (seat : Seat (Unit {0}) View) 
   pub own : seat.table_id ≡ table.id
   pub view : seat.me.0 ≡ made_so shape made
   pub count : length readers ≡ made
+  -- its readers find by counts
+  pub counted : table.announcers ≡ 0
   pub reads : (place : ℕ) → place < made → slice_get readers place ≡ Some (newcomer table (place + 1) no_marks)
 
 -- the map has its sizes; the writer and the readers, in the order of their numbers, are its newcomers; each key has the first number

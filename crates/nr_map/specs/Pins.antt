@@ -26,6 +26,8 @@ pub record Pins (seat : Seat (Unit {0}) View) (number slot begin count : ℕ) : 
   pub number_is : number ≡ caller_number seat.me.0.role
   pub count_is : count ≡ length (rows_held seat.me.0.role)
   pub own : KnowsOwn (token seat)
+  -- it holds the slot by a count, and announces none
+  pub silent : seat.me.0.says ≡ 0
 
 -- a pin is a find: of a filled key it holds the rows of the reply, whose put number is the key's, and a hole gives the reader back
 abbrev pub PinsKey : ℕ → Caller → Result Pinned Caller → Type 0

@@ -27,7 +27,7 @@ impl Model for Reader {
 
     ghost view = { λ reader. token reader.seat };
 
-    ghost invariant = { λ reader. (reader.seat.me.0.role ≡ reader_role reader.number Nothing) × KnowsOwn (token reader.seat) };
+    ghost invariant = { λ reader. (reader.seat.me.0.role ≡ reader_role reader.number Nothing) × KnowsOwn (token reader.seat) × (reader.seat.me.0.says ≡ 0) };
 }
 
 impl Reader {
@@ -38,6 +38,7 @@ impl Reader {
     pub(crate) fn of_seat(seat: Seat, number: u32) -> Reader
         requires role { seat.me.0.role ≡ reader_role number Nothing }
         requires own { KnowsOwn (token seat) }
+        requires silent { seat.me.0.says ≡ 0 }
         ensures { result ≡ token seat }
     {
         Reader { seat, number }
@@ -47,6 +48,7 @@ impl Reader {
     pub(crate) fn into_seat(self) -> (Seat, u32)
         ensures role { result.0.me.0.role ≡ reader_role result.1 Nothing }
         ensures own { KnowsOwn (token result.0) }
+        ensures silent { result.0.me.0.says ≡ 0 }
         ensures token { token result.0 ≡ self }
     {
         let Reader { seat, number } = self;

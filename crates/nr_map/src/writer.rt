@@ -39,6 +39,7 @@ impl Writer {
         requires role { seat.me.0.role ≡ writer_role (opening_desk shape.now) }
         requires shape { seat.me.0.shape ≡ shape.now }
         requires new { seat.me.0.seen ≡ [] }
+        requires counted { seat.me.0.announcers ≡ 0 }
         requires own { KnowsOwn (token seat) }
         requires none_reaped { seat.me.0.marks.reaped ≡ replicate shape.now.slots false }
         ensures { IfOk result (λ writer. writer ≡ token seat) }

@@ -4,7 +4,7 @@ ghost use Rattle.std.specs.Prelude.{◌≡◌, ◌<◌};
 use nr_map::{Asked, Evict, FillFault, Found, KeyKind, Reader, ReaderMap, UpdateFault, Writer};
 use nr_model::{Batch, Delta, MAX_ROWS, Row, RowSet};
 
-/// An answer to a request, whose ticket was spent: its key and its number.
+/// An answer to a request, whose ticket was spent: its key and its ticket number.
 #[derive(Clone, Copy, Debug, PartialEq, Eq)]
 pub(crate) enum Told {
     Send(u32, u64),

@@ -20,7 +20,7 @@ fn replace(map: &ReaderMap, writer: &mut Writer, a: u64, had: &mut RowSet) -> Op
     map.replace_reclaiming(writer, 0, rows.as_slice(), had).ok()
 }
 
-/// The same of a fill with two rows, by the key's number.
+/// The same of a fill with two rows, by the key's ticket number.
 fn fill(map: &ReaderMap, writer: &mut Writer, a: u64, had: &mut RowSet) -> Option<Reclaimed>
     requires own { writer.old.table ≡ map.now }
     requires key { 0 < map.now.shape.keys }

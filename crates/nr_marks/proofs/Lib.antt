@@ -11,6 +11,7 @@ pub mod SwapMarks
 pub mod Different
 pub mod PollMarks
 pub mod ReapMarks
+pub mod SearchMarks
 pub mod GoMarks
 pub mod HowOften
 pub mod Tidy

@@ -93,7 +93,7 @@ module _ {A : Type 0} (role : A → Role) (marks : A → Marks) where
         (λ _. (refl, tt, refl))
         (λ _. by_cases (λ b. Calm callers desk (cond {A = Desk × Step} b (moved_to desk Idle, no_slot shape desk)
         (moved_to desk (Searching call rows 0), Going))) (nat_eq (length desk.retired) 0) (λ _. (refl, none_now, refl))
-        (λ _. (refl, no_notes callers (moved_to desk (Searching call rows 0)), refl)))
+        (λ _. (refl, (none_hold callers (moved_to desk (Searching call rows 0)), λ _. no_notes callers (moved_to desk (Searching call rows 0))), refl)))
 
     looked_calm : (call : WriterCall) (word : ℕ) → Calm callers desk (looked shape desk call word)
     looked_calm (Find k) word = by_cases (λ b. Calm callers desk (cond {A = Desk × Step} b (moved_to desk (Reading (Find k) (slot_of word) []), Going)

@@ -81,12 +81,15 @@ module _ {A : Type 0} (role : A → Role) (marks : A → Marks) where
   sweeping_frame callers callers' desk mine stay polls (Reading a b c) t = t
   sweeping_frame callers callers' desk mine stay polls (Leaving a) t = t
   sweeping_frame callers callers' desk mine stay polls (Withdrawing a) t = t
-  sweeping_frame callers callers' desk mine stay polls (Searching a b p) t = record {
-    many = t.many;
-    slots = t.slots;
-    different = t.different;
-    other = hold_no_others callers callers' desk mine stay polls t.other;
-  }
+  sweeping_frame callers callers' desk mine stay polls (Searching a b p) t = (
+    hold_no_others callers callers' desk mine stay polls t.0,
+    λ each. let sweeps = t.1 each in record {
+      many = sweeps.many;
+      slots = sweeps.slots;
+      different = sweeps.different;
+      other = hold_no_others callers callers' desk mine stay polls sweeps.other;
+    },
+  )
   sweeping_frame callers callers' desk mine stay polls (Putting a b c d e) t = t
 
   pub desk_frame : (shape : Shape) (words words' : List ℕ) (callers callers' : List A) (log log' : List Entry) (desk : Desk) (mine : Marks)

@@ -93,13 +93,13 @@ module _ {A : Type 0} (role : A → Role) (marks : A → Marks) where
         }
 
   module _ (shape : Shape) (id : ℕ) (me : A) (known : List Past) (desk : Desk) where
-    pub polls_marked : (call : WriterCall) (rows : List Row) (poll : ℕ) → desk.place ≡ Searching call rows poll → role me ≡ Writer desk
+    pub polls_marked : (call : WriterCall) (rows : List Row) (poll : ℕ) → desk.place ≡ Searching call rows poll → length (marks me).polls ≡ poll → role me ≡ Writer desk
         → CanMark role marks shape id me known (Load (departures shape (retired_at desk poll).slot)) (Went shape desk (Searching call rows poll)) (PollsMarks shape (marks me) known desk call poll)
-    polls_marked call rows poll is_at was words callers log core m once at sinces after entries ans =
+    polls_marked call rows poll is_at each was words callers log core m once at sinces after entries ans =
         let entry : Retired = retired_at desk poll in let slot : ℕ = entry.slot in let i : ℕ = departures shape slot in let word : ℕ = get_or words i 0 in let words' = set words i word in let roles = map role callers in
         let own = desk_of role marks shape words callers log id me desk m at was in let there : get_elem? roles id ≡ some (Writer desk) = at_maps role callers id me at ∙ ap some was in let mine = core.knows id (Writer desk) there in
         let p : AtPlace shape words (map_after shape log) (held roles) desk.fresh desk.retired (Searching call rows poll) = subst (AtPlace shape words (map_after shape log) (held roles) desk.fresh desk.retired) is_at mine.place in
-        let sweeps : Sweeps role marks callers desk (marks me).polls poll = subst (Sweeping role marks callers desk (marks me).polls) is_at own.sweep in
+        let sweeps : Sweeps role marks callers desk (marks me).polls poll = (subst (Sweeping role marks callers desk (marks me).polls) is_at own.sweep).1 each in
         let here : get_elem? desk.retired poll ≡ some entry = got_at desk.retired poll no_retired p.1 in let count = (mine.retired poll entry here).1 in
         let wants = p.0 in
         let tells = PollsMarks shape (marks me) known desk call poll in
@@ -171,6 +171,6 @@ module _ {A : Type 0} (role : A → Role) (marks : A → Marks) where
         (moved_to desk Idle, no_slot shape desk)).0 → entries ≡ ending (call_of call)
         (cond {A = Desk × Step} b (moved_to desk (Searching call rows (poll + 1)), Going) (moved_to desk Idle, no_slot shape desk)).1 → Goal)
         (nat_lt (poll + 1) (length desk.retired))
-        (λ _ is none. misses miss (moved_to desk (Searching call rows (poll + 1))) refl (λ polls t. t) is none)
+        (λ _ is none. misses miss (moved_to desk (Searching call rows (poll + 1))) refl (λ polls t. (t.other, λ _. t)) is none)
         (λ _ is none. misses miss (moved_to desk Idle) refl (λ polls t. t.other) is none))
         refl ans.0 ans.1

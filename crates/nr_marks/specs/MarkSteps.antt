@@ -100,6 +100,15 @@ went_marks shape marks known desk (Putting call rows slot departed index) = Puts
 abbrev pub GoesMarks : Shape → Marks → List Past → Desk → MarkTelling
 GoesMarks shape marks known desk = went_marks shape marks known desk desk.place
 
+-- a poll is of the slot behind those that were noted
+abbrev pub PollsNext : Place → Marks → Type 0
+PollsNext Idle marks = Unit {0}
+PollsNext (Reading call slot got) marks = Unit {0}
+PollsNext (Leaving at) marks = Unit {0}
+PollsNext (Withdrawing at) marks = Unit {0}
+PollsNext (Searching call rows poll) marks = length marks.polls ≡ poll
+PollsNext (Putting call rows slot departed index) marks = Unit {0}
+
 -- the reader was noted at no other slot
 abbrev pub NotedNowhereElse : List Past → Past → Type 0
 NotedNowhereElse polls note = (at : ℕ) (poll : Past) → get_elem? polls at ≡ some poll → poll.reader ≡ note.reader → poll.slot ≡ note.slot
@@ -111,6 +120,14 @@ ProbeTells false shape marks slot now = (note : Past) × (now ≡ with_polls mar
 
 abbrev pub ProbesMarks : Shape → Marks → Retired → MarkTelling
 ProbesMarks shape marks entry word after log now news = (news ≡ []) × ProbeTells (same_count word entry.arrivals) shape marks entry.slot now
+
+-- a poll of any retired slot by a search: a slot that no reader holds is taken, and leaves the marks; else a reader that holds it is noted
+abbrev pub TryTells : Bool → Shape → Marks → ℕ → Marks → Type 0
+TryTells true shape marks slot now = now ≡ marks
+TryTells false shape marks slot now = ProbeTells false shape marks slot now
+
+abbrev pub TriesMarks : Shape → Marks → Desk → ℕ → MarkTelling
+TriesMarks shape marks desk poll word after log now news = (news ≡ []) × TryTells (same_count word (retired_at desk poll).arrivals) shape marks (retired_at desk poll).slot now
 
 -- the writer learns how the readers are that it was told of, and what its lists say of the history so far
 abbrev pub WriterLearns : Shape → Marks → Desk → List Past → MarkTelling

@@ -98,13 +98,13 @@ module _ {A : Type 0} (role : A → Role) (marks : A → Marks) where
     pub different : (reader : ℕ) → total (λ note. only reader note.reader) polls ≤ 1
     pub other : HoldNoOthers callers desk polls
 
-  -- a call polls after it has read; between calls the notes are of a call that put no set, or of reaps
+  -- a call polls after it has read, one slot after the other or in any order; between calls the notes are of a call that put no set, or of reaps
   abbrev pub Sweeping : List A → Desk → List Past → Place → Type 0
   Sweeping callers desk polls Idle = HoldNoOthers callers desk polls
   Sweeping callers desk polls (Reading call slot got) = polls ≡ []
   Sweeping callers desk polls (Leaving at) = polls ≡ []
   Sweeping callers desk polls (Withdrawing at) = polls ≡ []
-  Sweeping callers desk polls (Searching call rows poll) = Sweeps callers desk polls poll
+  Sweeping callers desk polls (Searching call rows poll) = HoldNoOthers callers desk polls × (length polls ≡ poll → Sweeps callers desk polls poll)
   Sweeping callers desk polls (Putting call rows slot departed index) = Unit {0}
 
   -- the writer's lists are the words' and the history's; put numbers of named or retired slots are different, a hold has its slot's, slots spell their sets, and no set that a key names or a reader holds was reaped

@@ -77,7 +77,7 @@ SendsAreAnswered =
     key < keys →
     sends history key ≡ fills history key + cancels history key + pending (state_of (after (opening keys bound first_number) history) key)
 
--- a key's number is the first number and one more for each cancel; it never passes the last one
+-- a key's ticket number is the first number and one more for each cancel; it never passes the last one
 abbrev pub NumbersCountCancels : Type 0
 NumbersCountCancels =
     (keys bound first_number key : ℕ) (history : List Entry) →

@@ -141,7 +141,7 @@ impl Opened {
         self.core.find_again(reader, key)
     }
 
-    /// A fill that answers the request of that number, or else of the key's number as it stands.
+    /// A fill that answers the request of that number, or else of the key's ticket number as it stands.
     fn fill<'a>(
         &mut self,
         key: u64,

@@ -100,7 +100,7 @@ impl Opened {
         }
     }
 
-    /// A fill by the number that the key has.
+    /// A fill by the key's ticket number.
     fn fill_by_own<'a>(
         &mut self,
         word: &KeyWord<'_>,

@@ -10,7 +10,7 @@ fetch_add-requires c = let shared = c.self.inside.table.shared in let about = c.
     let near : c.args.key < shared.key.keys = omega (arith, c.requires.key, ap (λ (t : Table). t.shape.keys) c.self.view_is, ap (λ (s : Shape). s.keys) about.0) in (
       ap (λ (t : Table). t.id) (c.requires.reader.own ∙ sym c.self.view_is),
       omega (arith, ap (λ (s : Shape). s.keys) about.0),
-      arrives_so shared.key shared.table_id.slots seat.id seat.me c.args.key near c.requires.reader.idle,
+      arrives_so shared.key shared.table_id.slots seat.id seat.me c.args.key near c.requires.reader.idle c.requires.reader.silent,
     )
 
 pub returns-clause-hole : goal.returns-clause-hole
@@ -21,3 +21,6 @@ returns-clause-held c = held_seat c.args.self.now c.args.seat.now c.fetch_add.ne
 
 pub returns-clause-marks : goal.returns-clause-marks
 returns-clause-marks c = c.fetch_add.ensures.2.marks
+
+pub returns-clause-says : goal.returns-clause-says
+returns-clause-says c = c.fetch_add.ensures.2.says

@@ -29,4 +29,5 @@ returns c = let board = c.args.self.now in let before = c.args.seat.now in let a
       other = again_learns board before after same begin key word reader told answer named;
       exact = again_exact board before after same begin key word reader told answer named;
       marks = again_marks board before after same begin key word reader told answer named;
+      says = told.says;
     }

@@ -9,5 +9,6 @@ returns c = let heard = c.hear_note.ensures in
       readers = told.1;
       numbers = heard.numbers;
       role = heard.role;
+      says = heard.says;
       other = c.note-note.ensures.maker;
     }

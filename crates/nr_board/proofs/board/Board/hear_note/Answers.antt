@@ -22,4 +22,5 @@ returns c = let seat = c.args.seat.now in let new = c.take_in.new.seat in let ow
       readers = told.1;
       numbers = λ desk is. heard_numbers c.args.self.now seat new c.args.note.me.0 c.requires.own.0 told.0.learns told.1 desk is;
       role = (own, heard.1.role);
+      says = heard.1.says;
     }

@@ -17,6 +17,7 @@ pub returns : goal.returns
 returns c = let learned = c.load.ensures.2 in record {
   learns = learns_seat 0 c.load.result c.args.seat.now c.load.new.seat c.load.ensures.0 learned;
   role = (c.load.ensures.0, learned.role);
+  says = learned.says;
   lists = λ desk is. learned_lists c.args.self.now c.args.seat.now c.load.new.seat 0 c.load.result c.requires.own learned desk is;
   numbers = λ desk is. learned_numbers c.args.self.now c.args.seat.now c.load.new.seat 0 c.load.result c.requires.own learned desk is;
 }

@@ -17,6 +17,7 @@ pub returns : goal.returns
 returns c = let learned = c.load.ensures.2 in record {
   learns = learns_seat c.args.key c.load.result c.args.seat.now c.load.new.seat c.load.ensures.0 learned;
   role = (c.load.ensures.0, learned.role);
+  says = learned.says;
   state = learned.state;
   numbers = λ desk is. learned_numbers c.args.self.now c.args.seat.now c.load.new.seat c.args.key c.load.result c.requires.own learned desk is;
 }

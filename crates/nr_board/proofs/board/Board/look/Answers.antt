@@ -26,6 +26,6 @@ load-requires g c = let shared = c.self.inside.table.shared in let about = c.sel
 
 pub returns : goal.returns
 returns g c = let before = c.args.seat.now in let told = c.load.ensures.2 in record {
-  leads = λ desk is. looked_seat c.args.self.now before c.load.new.seat c.load.ensures.0 c.requires.writer.writes.own desk g.G.BegunCall.call c.load.result (told desk is);
+  leads = λ desk is. looked_seat c.args.self.now before c.load.new.seat c.load.ensures.0 c.requires.writer.writes.own desk g.G.BegunCall.call c.load.result c.requires.writer.writes.counted (told desk is);
   marks = (told c.requires.writer.desk c.requires.writer.writes.role).marks.0;
 }

@@ -12,7 +12,7 @@ of_words-requires c = subst (λ (words : List ℕ). Kept c.args.shape (opening w
 pub invariant_of-result : goal.invariant_of-result
 invariant_of-result c = let opened = c.in_ok-table.ensures in (
   opened.5,
-  opened.0 ∙ ap length (c.deref.ensures.value ∙ c.in_ok-words.ensures.words) ∙ (core_opens c.args.shape c.requires.sizes 0 (omega arith)).wide,
+  opened.0 ∙ ap length (c.deref.ensures.value ∙ c.in_ok-words.ensures.words) ∙ (core_opens c.args.shape c.requires.sizes 0 (omega arith)).wide ∙ omega arith,
   c.requires.keys,
   omega arith,
   c.requires.sizes,

@@ -1,4 +1,4 @@
-use Rattle.std.proofs.Common.{ap, arith, refl, subst, sym, ℕ, ◌<◌, ◌∙◌, ◌≡◌}
+use Rattle.std.proofs.Common.{ap, arith, get_or, refl, subst, sym, ℕ, ◌<◌, ◌≤◌, ◌∙◌, ◌≡◌}
 use Rattle.atomic_table.specs.Table.{Allows}
 use Rattle.nr_machine.specs.Slots.{departures}
 use Rattle.nr_words.specs.declared.layout.Layout.{Layout}
@@ -33,8 +33,9 @@ load-requires c = let shared = c.self.inside.table.shared in let board = stands 
       ap (λ (t : Table). t.id) (polling.writes.own ∙ sym c.self.view_is),
       departures_in board c.args.slot low is,
       subst (λ (p : ℕ). Allows (Kept shared.key) n seat.id seat.me p (λ w. w) (λ found after. (other : Desk) → seat.me.0.role ≡ Writer other → Went other found seat.me.0 after.0)) (sym place)
-          (goes_so shared.key n seat.id seat.me at (desk_at seat.me.0.role polling.desk (Searching polling.call polling.rows polling.poll) polling.writes.role polling.place) refl),
+          (goes_so shared.key n seat.id seat.me at (desk_at seat.me.0.role polling.desk (Searching polling.call polling.rows polling.poll) polling.writes.role polling.place) refl
+          (subst (λ (q : ℕ × ℕ). q.0 ≤ get_or seat.me.0.heard q.1 0) (λ j. (sym (ap (λ (t : Table). t.announcers) polling.writes.own) j, polling.slot_is j)) polling.heard) polling.in_order),
     )
 
 pub returns : goal.returns
-returns c = λ desk is. gone_seat c.args.self.now c.args.seat.now c.load.new.seat c.load.ensures.0 c.requires.writes.own desk c.load.result (c.load.ensures.2 desk is)
+returns c = λ desk is. gone_seat c.args.self.now c.args.seat.now c.load.new.seat c.load.ensures.0 c.requires.writes.own desk c.load.result c.requires.writes.counted (c.load.ensures.2 desk is)

@@ -1,4 +1,4 @@
-use Rattle.std.proofs.Common.{ap, arith, subst, sym, ℕ, ◌<◌, ◌∙◌, ◌≡◌}
+use Rattle.std.proofs.Common.{ap, arith, get_or, subst, sym, ℕ, ◌<◌, ◌≤◌, ◌∙◌, ◌≡◌}
 use mathlib.Core.Option.{some}
 use lib.ListN.{get_elem?}
 use Rattle.atomic_table.specs.Table.{Allows}
@@ -36,7 +36,8 @@ load-requires c = let shared = c.self.inside.table.shared in let board = stands 
           (λ found after. (other : Desk) (at : ℕ) (named : Retired) → seat.me.0.role ≡ Writer other → other.place ≡ Idle → Room seat.me.0.shape other
           → get_elem? other.retired at ≡ some named → p ≡ departures seat.me.0.shape named.slot
           → ProbesTo seat.me.0.shape named found seat.me.0 after.0)) (sym place)
-          (probes_so shared.key n seat.id seat.me probes.desk probes.poll entry probes.role probes.idle probes.here),
+          (probes_so shared.key n seat.id seat.me probes.desk probes.poll entry probes.role probes.idle probes.here
+          (subst (λ (n : ℕ). n ≤ get_or seat.me.0.heard entry.slot 0) (sym (ap (λ (t : Table). t.announcers) probes.own)) probes.heard)),
     )
 
 pub returns-clause-own : goal.returns-clause-own

@@ -34,11 +34,11 @@ swap-requires c = let shared = c.self.inside.table.shared in let about = c.self.
     let n : ℕ = shared.table_id.slots in
     let told : ℕ → Me (Unit {0}) View → Type 0 = λ found after. (other : Desk) → seat.me.0.role ≡ Writer other → Went other found seat.me.0 after.0 in
     let allows = subst (λ (o : Operation). Allows (Kept shared.key) n seat.id seat.me (target_of o) (becomes o) told) operation
-    (goes_so shared.key n seat.id seat.me at (desk_at seat.me.0.role publishing.desk (Putting call rows slot c.args.departed last) publishing.writes.role publishing.place) refl) in (
+    (goes_so shared.key n seat.id seat.me at (desk_at seat.me.0.role publishing.desk (Putting call rows slot c.args.departed last) publishing.writes.role publishing.place) refl tt tt) in (
       ap (λ (t : Table). t.id) (publishing.writes.own ∙ sym c.self.view_is),
       omega (arith, c.requires.key, ap (λ (s : Shape). s.keys) about.0, ap (λ (t : Table). t.shape.keys) c.self.view_is),
       subst (λ (p : ℕ × ℕ). Allows (Kept shared.key) n seat.id seat.me p.0 (λ _. p.1) told) (λ j. (sym publishing.key_is j, sym c.naming-word.ensures j)) allows,
     )
 
 pub returns : goal.returns
-returns c = λ desk is. gone_seat c.args.self.now c.args.seat.now c.swap.new.seat c.swap.ensures.0 c.requires.writer.writes.own desk c.swap.result (c.swap.ensures.2 desk is)
+returns c = λ desk is. gone_seat c.args.self.now c.args.seat.now c.swap.new.seat c.swap.ensures.0 c.requires.writer.writes.own desk c.swap.result c.requires.writer.writes.counted (c.swap.ensures.2 desk is)

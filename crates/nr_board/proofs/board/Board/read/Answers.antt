@@ -40,4 +40,5 @@ returns c = let before = c.args.seat.now in let told = c.load.ensures.2 in let i
       rests = still.2;
       hold = (λ j. gripped (grip_of (told.hold j))) ∙ sym (λ j. gripped (grip_of (reader.holds.is j)));
       marks = told.marks;
+      says = told.says;
     }

@@ -24,8 +24,8 @@ load-requires c = let shared = c.self.inside.table.shared in let board = stands 
       ap (λ (t : Table). t.id) (reading.writes.own ∙ sym c.self.view_is),
       content_in board reading.slot room.0 c.args.begin c.args.index reading.begin_is (omega (arith, reading.index_is, room.1)),
       subst (λ (p : ℕ). Allows (Kept shared.key) n seat.id seat.me p (λ w. w) (λ found after. (other : Desk) → seat.me.0.role ≡ Writer other → Went other found seat.me.0 after.0)) (sym place)
-          (goes_so shared.key n seat.id seat.me at (desk_at seat.me.0.role reading.desk (Reading reading.call reading.slot reading.got) reading.writes.role reading.place) refl),
+          (goes_so shared.key n seat.id seat.me at (desk_at seat.me.0.role reading.desk (Reading reading.call reading.slot reading.got) reading.writes.role reading.place) refl tt tt),
     )
 
 pub returns : goal.returns
-returns c = λ desk is. gone_seat c.args.self.now c.args.seat.now c.load.new.seat c.load.ensures.0 c.requires.writes.own desk c.load.result (c.load.ensures.2 desk is)
+returns c = λ desk is. gone_seat c.args.self.now c.args.seat.now c.load.new.seat c.load.ensures.0 c.requires.writes.own desk c.load.result c.requires.writes.counted (c.load.ensures.2 desk is)

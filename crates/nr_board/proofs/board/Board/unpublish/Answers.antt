@@ -25,8 +25,8 @@ swap-requires c = let shared = c.self.inside.table.shared in let about = c.self.
       subst (λ (w : ℕ). Allows (Kept shared.key) shared.table_id.slots seat.id seat.me c.args.key (λ _. w)
           (λ found after. (other : Desk) → seat.me.0.role ≡ Writer other → Went other found seat.me.0 after.0))
           (sym (c.hole_word-hole.ensures.word ∙ word_is))
-          (goes_so shared.key shared.table_id.slots seat.id seat.me at (desk_at seat.me.0.role leaving.desk (Leaving c.args.key) leaving.writes.role leaving.place) refl),
+          (goes_so shared.key shared.table_id.slots seat.id seat.me at (desk_at seat.me.0.role leaving.desk (Leaving c.args.key) leaving.writes.role leaving.place) refl tt tt),
     )
 
 pub returns : goal.returns
-returns c = λ desk is. gone_seat c.args.self.now c.args.seat.now c.swap.new.seat c.swap.ensures.0 c.requires.writes.own desk c.swap.result (c.swap.ensures.2 desk is)
+returns c = λ desk is. gone_seat c.args.self.now c.args.seat.now c.swap.new.seat c.swap.ensures.0 c.requires.writes.own desk c.swap.result c.requires.writes.counted (c.swap.ensures.2 desk is)

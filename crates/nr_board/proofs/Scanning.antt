@@ -1,0 +1,116 @@
+-- The writer loads a reader's word: what it hears then is so.
+use Rattle.std.proofs.Common.{◌≡◌, ◌≢◌, ℕ, suc, ◌+◌, ◌<◌, ◌⊎◌, ⊎_elim, inl, inr, List, zero, length, [], ◌∷◌, Bool, true, false, cond, get_or, map, set, eq-eqb, refl, sym, ap, ◌∙◌, subst, arith}
+use Rattle.std.proofs.lemmas.Bool.{eqb-true, ltb-true}
+use Rattle.std.specs.Prelude.{nat_eq, nat_lt, not, ◌&&◌}
+use mathlib.Core.Logic.{dite}
+use mathlib.Core.Option.{none, some}
+use native.Mathlib.Decide.{ℕ_discrete}
+use lib.ListN.{get_elem?}
+use lib.Seq.{set-get_or}
+use Rattle.atomic_table.proofs.Lists.{at_map}
+use Rattle.atomic_table.specs.Table.{Allows, Me, State, keeps, step}
+use Rattle.nr_core.proofs.Choices.{by_cases}
+use Rattle.nr_core.proofs.Sums.{at_set, term_le}
+use Rattle.nr_core.specs.Roles.{holds, is_by, is_writer, keeps as kept_slots, retirements}
+use Rattle.nr_machine.specs.Slots.{name_number, named}
+use Rattle.nr_machine.specs.declared.roles.Desk.{Desk}
+use Rattle.nr_machine.specs.declared.roles.Role.{Role}
+use Rattle.nr_machine.specs.declared.roles.Role.TheVariants.{Writer}
+use Rattle.nr_machine.specs.declared.shape.Shape.{Shape}
+use Rattle.nr_marks.specs.Marked.{KnowsMarks}
+use Rattle.nr_board.proofs.Heard.{AllHear, hears_after, no_reader}
+use Rattle.nr_board.proofs.WriterSteps.{same_desk}
+use Rattle.nr_core.proofs.Counting.{named_inside, names_it}
+use Rattle.nr_board.proofs.Notes.{replaced}
+use Rattle.nr_board.specs.Announcing.{Hears, lends, says_at}
+use Rattle.nr_board.specs.Rule.{Fits, Kept, marks_of, role_of}
+use Rattle.nr_board.specs.Scans.{has_scanned, heard_from}
+use Rattle.nr_board.specs.Views.{View}
+
+-- what is heard more is heard of a retired slot, of that reader, whose word says something else
+abbrev HeardMore : Desk → ℕ → ℕ → ℕ → ℕ → ℕ → Type 0
+HeardMore desk own found slot before after = (after ≡ before) ⊎ ((after ≡ suc own) × (before ≡ own) × (found ≢ suc slot) × (0 < retirements slot desk.retired))
+
+heard_one : (desk : Desk) (own found slot count : ℕ) → HeardMore desk own found slot count (cond (nat_lt 0 (retirements slot desk.retired) && (nat_eq count own && not (nat_eq found (suc slot)))) (suc own) count)
+heard_one desk own found slot count = by_cases (λ (b : Bool). HeardMore desk own found slot count (cond (b && (nat_eq count own && not (nat_eq found (suc slot)))) (suc own) count)) (nat_lt 0 (retirements slot desk.retired))
+    (λ waits. by_cases (λ (b : Bool). HeardMore desk own found slot count (cond (b && not (nat_eq found (suc slot))) (suc own) count)) (nat_eq count own)
+    (λ next. by_cases (λ (b : Bool). HeardMore desk own found slot count (cond (not b) (suc own) count)) (nat_eq found (suc slot))
+    (λ says. inl refl)
+    (λ other. inr (refl, eqb-true count own next, (λ e. differ (sym (eq-eqb found (suc slot) e) ∙ other)), ltb-true 0 (retirements slot desk.retired) waits)))
+    (λ later. inl refl))
+    (λ named. inl refl)
+  where
+    differ : true ≡ false → ⊥
+    differ clash = absurd (cc)
+
+heard_each : (desk : Desk) (own found first : ℕ) (heard : List ℕ) (at : ℕ) → HeardMore desk own found (first + at) (get_or heard at 0) (get_or (heard_from desk own found first heard) at 0)
+heard_each desk own found first [] at = inl refl
+heard_each desk own found first (count ∷ heard) zero = let same : first ≡ first + 0 = omega arith in
+    subst (λ (slot : ℕ). HeardMore desk own found slot count (get_or (heard_from desk own found first (count ∷ heard)) 0 0)) same (heard_one desk own found first count)
+heard_each desk own found first (count ∷ heard) (suc at) = let same : suc first + at ≡ first + suc at = omega arith in
+    subst (λ (slot : ℕ). HeardMore desk own found slot (get_or heard at 0) (get_or (heard_from desk own found (suc first) heard) at 0)) same (heard_each desk own found (suc first) heard at)
+
+heard_now : (desk : Desk) (own found : ℕ) (heard : List ℕ) (slot : ℕ) → HeardMore desk own found slot (get_or heard slot 0) (get_or (heard_from desk own found 0 heard) slot 0)
+heard_now desk own found heard slot = let same : 0 + slot ≡ slot = omega arith in subst (λ (s : ℕ). HeardMore desk own found s (get_or heard slot 0) (get_or (heard_from desk own found 0 heard) slot 0)) same (heard_each desk own found 0 heard slot)
+
+-- who says another slot, or none, holds this one by no word
+says_other : (shape : Shape) (state : State (Unit {0}) View) (kept : Kept shape state) (id slot : ℕ) (view : View) → get_elem? state.views id ≡ some view → view.says ≢ suc slot → lends slot view ≡ 0
+says_other shape state kept id slot view at other = by_cases (λ (b : Bool). cond b (holds slot view.role) 0 ≡ 0) (nat_lt 0 view.says)
+    (λ loud. dite (ℕ_discrete (holds slot view.role) 0) (λ nothing. nothing) (λ something. absurd (other (kept.announced.holds_it id slot view at (ltb-true 0 view.says loud) (omega arith)))))
+    (λ silent. refl)
+
+-- a slot that a key names, by the writer's marks, is not retired
+named_stays : (shape : Shape) (state : State (Unit {0}) View) (kept : Kept shape state) (id : ℕ) (view : View) (desk : Desk) → get_elem? state.views id ≡ some view → view.role ≡ Writer desk
+    → (key slot : ℕ) → get_or view.marks.names key 0 ≡ suc slot → 0 < retirements slot desk.retired → ⊥
+named_stays shape state kept id view desk at is key slot names retired =
+    let roles = map role_of state.views in let there : get_elem? roles id ≡ some (Writer desk) = at_map role_of state.views id view at ∙ ap some is in
+    let mine = subst (λ (r : Role). KnowsMarks role_of marks_of shape kept.counted state.views kept.log r view.marks) is (kept.marked.each id view at) in
+    let low : key < length view.marks.names = some_at view.marks.names key slot names in let near : key < shape.keys = omega (arith, mine.wide.0) in
+    let name : name_number (get_or kept.counted key 0) ≡ suc slot = sym (mine.names key near) ∙ names in
+    let inside = named_inside shape kept.counted roles kept.log kept.core key slot near name in
+    absurd (omega (arith, names_it shape kept.counted roles kept.log kept.core key slot near name, kept.core.places slot inside, term_le (kept_slots slot) roles id (Writer desk) there))
+  where
+    some_at : (l : List ℕ) (at n : ℕ) → get_or l at 0 ≡ suc n → at < length l
+    some_at [] at n is = absurd (omega arith)
+    some_at (x ∷ l) zero n is = omega arith
+    some_at (x ∷ l) (suc at) n is = omega (arith, some_at l at n is)
+
+-- after a load of a reader's word by the writer, what it hears then is so
+pub scan_heard : (shape : Shape) (state : State (Unit {0}) View) (kept : Kept shape state) (id own : ℕ) (view next : View) (desk : Desk) → get_elem? state.views id ≡ some view → view.role ≡ Writer desk → own < view.announcers
+    → next.role ≡ view.role → next.marks.names ≡ view.marks.names → next.heard ≡ heard_from desk own (get_or state.words (says_at shape own) 0) 0 view.heard → AllHear (set state.views id next)
+scan_heard shape state kept id own view next desk at is within same names heard_is =
+    let words = state.words in let found : ℕ = get_or words (says_at shape own) 0 in
+    let writes : is_writer next.role ≡ 1 = ap is_writer same ∙ ap is_writer is in let before = kept.hears id view at (ap is_writer is) in
+    let more : (slot : ℕ) → HeardMore desk own found slot (get_or view.heard slot 0) (get_or next.heard slot 0)
+    = λ slot. subst (λ (l : List ℕ). HeardMore desk own found slot (get_or view.heard slot 0) (get_or l slot 0)) (sym heard_is) (heard_now desk own found view.heard slot) in
+    let hears : Hears (set state.views id next) next = record {
+      quiet = λ k slot other v here his low. ⊎_elim
+          (λ (p : (k ≡ id) × (next ≡ v)). absurd (no_reader next.role other writes (ap (λ (w : View). is_by (suc other) w.role) p.1 ∙ his)))
+          (λ (p : (k ≢ id) × (get_elem? state.views k ≡ some v)). ⊎_elim
+          (λ (still : get_or next.heard slot 0 ≡ get_or view.heard slot 0). before.quiet k slot other v p.1 his (omega arith))
+          (λ (one : (get_or next.heard slot 0 ≡ suc own) × (get_or view.heard slot 0 ≡ own) × (found ≢ suc slot) × (0 < retirements slot desk.retired)). dite (ℕ_discrete other own)
+          (λ e. says_other shape state kept k slot v p.1 (λ says. one.2 (ap (λ (n : ℕ). get_or words (says_at shape n) 0) (sym e) ∙ kept.announced.says k other v p.1 his (let told = kept.told_of id view at (let one = ap is_writer is in omega arith) in omega arith) ∙ says)))
+          (λ ne. before.quiet k slot other v p.1 his (omega (arith, one.0, one.1))))
+          (more slot))
+          (at_set state.views id k next v here);
+      unheard = λ key slot named. let was : get_or view.marks.names key 0 ≡ suc slot = ap (λ (l : List ℕ). get_or l key 0) (sym names) ∙ named in ⊎_elim
+          (λ (still : get_or next.heard slot 0 ≡ get_or view.heard slot 0). still ∙ before.unheard key slot was)
+          (λ (one : (get_or next.heard slot 0 ≡ suc own) × (get_or view.heard slot 0 ≡ own) × (found ≢ suc slot) × (0 < retirements slot desk.retired)). absurd (named_stays shape state kept id view desk at is key slot was one.3))
+          (more slot);
+    } in
+    hears_after state.views id view next at (λ _ slot other _ _ _ _ his _. absurd (no_reader next.role other writes his)) (λ _. hears) kept.hears
+
+pub scans_so : (shape : Shape) (slots id own : ℕ) (me : Me (Unit {0}) View) (desk : Desk) → me.0.role ≡ Writer desk → own < me.0.announcers
+    → Allows (Kept shape) slots id me (says_at shape own) (λ word. word) (has_scanned own (step slots (says_at shape own) 0 0 none) me)
+scans_so shape slots id own me desk is within state kept homes at bounded =
+    let view = me.0 in let words = state.words in let place : ℕ = says_at shape own in let found : ℕ = get_or words place 0 in let fits = kept.fits id view at in
+    let next = record view { steps = view.steps + 1; heard = heard_from desk own found 0 view.heard } in
+    let heard = scan_heard shape state kept id own view next desk at is within refl refl refl in
+    let own_fits : Fits shape kept.log next = record { begins = fits.begins; told = fits.told; own = fits.own; knows_own = fits.knows_own; acts = fits.acts; sized = fits.sized } in
+    let rests = replaced shape state id view next kept at refl (inl refl) refl heard (kept.told_of id view at) own_fits (kept.maker id view at) (kept.pasts id view at) (kept.told_pasts id view at) in (
+      next,
+      keeps,
+      tt,
+      subst (λ (l : List ℕ). Kept shape (record { words = l; homes = state.homes; views = set state.views id next })) (sym (set-get_or words place 0)) rests,
+      λ other also j. record view { steps = view.steps + 1; heard = heard_from (same_desk view.role desk other is also j) own found 0 view.heard },
+    )

@@ -1,0 +1,55 @@
+-- What the steps of a search in any order tell: it polls retired slots that were heard, scans the readers' words, and is given up where no slot is left.
+use Rattle.std.specs.Prelude.{◌≡◌, ℕ, suc, ◌+◌, ◌-◌, ◌==◌, ◌&&◌, if◌then◌else◌, nat_lt, Bool, true, false, List, [], ◌∷◌, ◌++◌, length, slice_index}
+use Rattle.nr_model.specs.declared.calls.Reply.TheVariants as reply
+use Rattle.nr_model.specs.declared.rows.Row.{Row}
+use Rattle.nr_model.specs.Maps.{filled_count, reply_to}
+use Rattle.nr_words.specs.KeyWords.{same_count}
+use Rattle.nr_core.specs.Roles.{retirements}
+use Rattle.nr_machine.specs.States.{retired_at}
+use Rattle.nr_machine.specs.Story.{call_of, map_after}
+use Rattle.nr_machine.specs.Writer.{moved_to, taking_retired}
+use Rattle.nr_machine.specs.declared.calls.Step.TheVariants.{Going}
+use Rattle.nr_machine.specs.declared.calls.WriterCall.{WriterCall}
+use Rattle.nr_machine.specs.declared.places.Place.TheVariants.{Idle}
+use Rattle.nr_machine.specs.declared.roles.Desk.{Desk}
+use Rattle.nr_marks.specs.MarkSteps.{TryTells}
+use Rattle.nr_marks.specs.Marks.{Past, with_polls}
+use Rattle.nr_board.specs.Plays.{Leads, NotesTell}
+use Rattle.nr_board.specs.Scans.{heard_from}
+use Rattle.nr_board.specs.Views.{View}
+
+-- the desk after a poll of the retired slot at a place of the list
+abbrev pub tried : Desk → WriterCall → List Row → ℕ → ℕ → Desk
+tried desk call rows poll found = (if same_count found (retired_at desk poll).arrivals then taking_retired desk call rows poll found else desk)
+
+-- the slot is taken, which nobody holds, or a reader that holds it is noted, at no other slot
+pub record Tried (desk : Desk) (call : WriterCall) (rows : List Row) (poll found : ℕ) (old new : View) : Type 0 where
+  pub leads : Leads (call_of call) (tried desk call rows poll found, Going) old new
+  pub notes : NotesTell new.seen old.marks.polls new.marks.polls
+  pub marks : TryTells (same_count found (retired_at desk poll).arrivals) old.shape old.marks (retired_at desk poll).slot new.marks
+  pub heard : new.heard ≡ old.heard
+
+-- the word says a retired slot, of which the readers before this one were heard: this one keeps it from being heard
+abbrev pub keeps_unheard : Desk → ℕ → ℕ → List ℕ → Bool
+keeps_unheard desk own found heard = nat_lt 0 found && (nat_lt 0 (retirements (found - 1) desk.retired) && (slice_index heard (found - 1) == own))
+
+-- the reader is noted that keeps a slot so
+abbrev pub NotesKeeper : Bool → ℕ → List Past → List Past → Type 0
+NotesKeeper true own base now = (note : Past) × (now ≡ base ++ note ∷ []) × (note.reader ≡ suc own)
+NotesKeeper false own base now = now ≡ base
+
+-- a scan begins anew with no notes, at its first load
+abbrev pub scan_base : ℕ → List Past → List Past
+scan_base own polls = (if own == 0 then [] else polls)
+
+-- a load of a reader's word by a search
+pub record Scanned (desk : Desk) (own found : ℕ) (old new : View) : Type 0 where
+  pub same : new ≡ record old { steps = old.steps + 1; marks = with_polls old.marks new.marks.polls; heard = heard_from desk own found 0 old.heard }
+  pub keeper : NotesKeeper (keeps_unheard desk own found old.heard) own (scan_base own old.marks.polls) new.marks.polls
+
+-- a search is given up: its call would be done, and each slot is a filled key's or retired
+pub record GaveUp (desk : Desk) (call : WriterCall) (old new : View) : Type 0 where
+  pub leads : Leads (call_of call) (moved_to desk Idle, Going) old new
+  pub would_be_done : reply_to (map_after old.shape new.seen) (call_of call) ≡ reply.Done
+  pub slots : filled_count (map_after old.shape new.seen) + length desk.retired ≡ old.shape.slots
+  pub marks : new.marks ≡ old.marks

@@ -1,0 +1,5 @@
+use Rattle.nr_core.proofs.Poll.{tries}
+use Rattle.nr_core.proofs.laws.tries.Goals as goal
+
+pub returns : goal.returns
+returns c = tries
