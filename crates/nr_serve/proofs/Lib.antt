@@ -8,3 +8,5 @@ pub mod Trying
 pub mod Getting
 pub mod Serving
 pub mod Heard
+pub mod Ledger
+pub mod Live

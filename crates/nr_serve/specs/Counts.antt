@@ -75,6 +75,13 @@ rung_at = 528
 abbrev pub raises_for : ℕ → List ℕ
 raises_for key = group_at key ∷ whole_at ∷ []
 
+-- the index of the count of failures for a key's group, and the counts that are raised where the rows of a key couldn't be had
+abbrev pub failed_at : ℕ → ℕ
+failed_at key = group_at key + 1
+
+abbrev pub fails_for : ℕ → List ℕ
+fails_for key = failed_at key ∷ raises_for key
+
 -- the indexes of the counts of that many groups
 abbrev pub groups_below : ℕ → List ℕ
 groups_below zero = []

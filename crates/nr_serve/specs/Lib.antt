@@ -2,7 +2,10 @@ pub mod Counts
 pub mod Services
 pub mod Rings
 pub mod Flows
+pub mod Ends
 pub mod Turns
+pub mod Ledger
+pub mod Requests
 pub mod Lending
 pub mod Callers
 pub mod Tickets

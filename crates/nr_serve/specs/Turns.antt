@@ -8,9 +8,11 @@ use Rattle.nr_board.specs.declared.answers.FillFault.TheVariants as fill
 use Rattle.nr_board.specs.WriterAnswers.{FillsKey}
 use Rattle.nr_trigger.specs.declared.post.Post.{Post}
 use Rattle.nr_trigger.specs.Tokens.{IsSameTaker, TakerSeen, WasEmpty, taker_tried}
-use Rattle.nr_serve.specs.declared.dataflow.Turn.{Turn}
-use Rattle.nr_serve.specs.declared.dataflow.Turn.TheVariants as turn
+use Rattle.nr_serve.specs.declared.source.SourceFault.{SourceFault}
+use Rattle.nr_serve.specs.declared.turns.Turn.{Turn}
+use Rattle.nr_serve.specs.declared.turns.Turn.TheVariants as turn
 use Rattle.nr_serve.specs.Counts.{GuestSeen, OnlyLooks, Raises, raises_for}
+use Rattle.nr_serve.specs.Ends.{FailRaises, FailsBy, IsPast, TakesBack}
 use Rattle.nr_serve.specs.Flows.{FlowSeen}
 
 -- the triggers that are kept, one at most
@@ -24,13 +26,6 @@ pub record Spends (before : Option Post) (old : TakerSeen) (spent : List Post) (
   pub gain : List Post
   pub taken : new.taken ≡ old.taken ++ gain
   pub all : kept_posts before ++ gain ≡ spent ++ kept_posts after
-
--- the key is filled, or isn't asked for, or not by the trigger's request
-abbrev pub IsPast : FillFault → Type 0
-IsPast fill.NotAsked = Unit {0}
-IsPast fill.Already = Unit {0}
-IsPast fill.Stale = Unit {0}
-IsPast (fill.NoSlot counts) = ⊥
 
 -- the trigger that is kept, or else the next one of the queue, if there is any
 pub record Takes {S : Type 0} (old : FlowSeen S) (post : Post) (new : FlowSeen S) : Type 0 where
@@ -76,11 +71,60 @@ module _ {S : Type 0} (gives : S → (key bound : ℕ) → List Row → S → Ty
     pub kept : new.kept ≡ Some post
     pub raised : OnlyLooks old.guest new.guest
 
+-- the request of a key is taken back, or stood no more
+abbrev pub IsOver : Cancel → Type 0
+IsOver cancel.Cancelled = Unit {0}
+IsOver cancel.Nothing = Unit {0}
+IsOver cancel.Worn = ⊥
+
+module _ {S : Type 0} (fails : S → (key bound : ℕ) → S → Type 0) where
+  -- the source, told the map's bound, failed for the trigger's key, and the trigger's own request is taken back, if it still stands and can be; who waits for the key is told
+  pub record FailsPost (old : FlowSeen S) (post : Post) (answer : Cancel) (new : FlowSeen S) : Type 0 where
+    pub failed : fails old.source post.upquery.key old.map.shape.rows new.source
+    pub takes_back : TakesBack post.upquery old.writer answer new.writer
+    pub raised : FailRaises answer post.upquery.key old.guest new.guest
+
+  -- the trigger of that key, which is one of the map's, is spent without a fill, and none is kept
+  pub record GivesUp (old : FlowSeen S) (key : ℕ) (new : FlowSeen S) : Type 0 where
+    pub near : key < old.map.shape.keys
+    pub post : Post
+    pub key_is : post.upquery.key ≡ key
+    pub answer : Cancel
+    pub over : IsOver answer
+    pub ends : FailsPost old post answer new
+    pub spends : Spends old.kept old.taker (post ∷ []) None new.taker
+    pub none : new.kept ≡ None
+
+  -- its request can't be taken back, and the trigger is kept
+  pub record KeepsWorn (old : FlowSeen S) (key : ℕ) (new : FlowSeen S) : Type 0 where
+    pub post : Post
+    pub key_is : post.upquery.key ≡ key
+    pub ends : FailsPost old post cancel.Worn new
+    pub spends : Spends old.kept old.taker [] (Some post) new.taker
+    pub kept : new.kept ≡ Some post
+
+module _ {S : Type 0} (gives : S → (key bound : ℕ) → List Row → S → Type 0) (fails : S → (key bound : ℕ) → S → Type 0) where
   abbrev pub Turns : FlowSeen S → Turn → FlowSeen S → Type 0
   Turns old turn.Idle new = FindsNone old new
-  Turns old (turn.Filled key) new = SpendsOne old key (Ok tt) new
-  Turns old (turn.Passed key) new = (fault : FillFault) × IsPast fault × SpendsOne old key (Err fault) new
-  Turns old (turn.Kept counts) new = KeepsOne old (Err (fill.NoSlot counts)) new
+  Turns old (turn.Filled key) new = SpendsOne gives old key (Ok tt) new
+  Turns old (turn.Passed key) new = (fault : FillFault) × IsPast fault × SpendsOne gives old key (Err fault) new
+  Turns old (turn.Failed key) new = GivesUp fails old key new
+  Turns old (turn.Kept counts) new = KeepsOne gives old (Err (fill.NoSlot counts)) new
+  Turns old (turn.Worn key) new = KeepsWorn fails old key new
+
+  -- the source is asked for the rows of a trigger, which its key is filled with; or it fails
+  abbrev pub AsksSource : FlowSeen S → Post → Result (Result (Unit {0}) FillFault) SourceFault → FlowSeen S → Type 0
+  AsksSource old post (Ok answer) new = FillsPost gives old post answer new
+  AsksSource old post (Err fault) new = fails old.source post.upquery.key old.map.shape.rows new.source × (new.writer ≡ old.writer)
+
+-- a turn goes on with a trigger for whose key the source failed
+abbrev pub TurnsFailed : {S : Type 0} → FlowSeen S → Post → Turn → FlowSeen S → Type 0
+TurnsFailed old post turn.Idle new = ⊥
+TurnsFailed old post (turn.Filled key) new = ⊥
+TurnsFailed old post (turn.Passed key) new = ⊥
+TurnsFailed old post (turn.Failed key) new = (key ≡ post.upquery.key) × (answer : Cancel) × IsOver answer × FailsBy old post answer new
+TurnsFailed old post (turn.Kept counts) new = ⊥
+TurnsFailed old post (turn.Worn key) new = (key ≡ post.upquery.key) × TakesBack post.upquery old.writer cancel.Worn new.writer × OnlyLooks old.guest new.guest × (new ≡ record old { writer = new.writer; guest = new.guest; kept = Some post })
 
 -- a cancel raises the lobby for the key where it took a request back, and else leaves it alone
 abbrev pub CancelRaises : Cancel → ℕ → GuestSeen → GuestSeen → Type 0

@@ -1,9 +1,9 @@
 //! A client, which gets rows, and asks and waits for those that are missing.
-ghost use Rattle.std.specs.Prelude.{◌≡◌, ◌<◌, ◌≤◌, ◌+◌, length, None};
+ghost use Rattle.std.specs.Prelude.{◌≡◌, ◌<◌, ◌≤◌, ◌+◌, length, None, slice_index};
 ghost use Rattle.nr_board.specs.Callers.{KnowsOwn};
 ghost use Rattle.nr_board.specs.Meetings.{HearsNote, known_to, with_step};
 ghost use Rattle.nr_serve.specs.Clients.{since};
-ghost use Rattle.nr_serve.specs.Counts.{IsNew};
+ghost use Rattle.nr_serve.specs.Counts.{IsNew, OnlyLooks, failed_at};
 ghost use Rattle.nr_serve.specs.Gets.{Gets};
 ghost use Rattle.nr_serve.specs.Hands.{capped, with_idle_reader};
 ghost use Rattle.nr_serve.specs.Rings.{Rings};
@@ -149,6 +149,16 @@ impl<'a, G: Gate> Client<'a, G> {
             Some(hands) => self.places.map.hear(&mut hands.reader, note),
             None => unreachable!(),
         }
+    }
+
+    /// How often the rows of a key of this one's group couldn't be had, up to 2^64 - 1. A get whose
+    /// tries found no rows tells by it, once it was read before too, that a source failed.
+    pub fn failures_for(&mut self, key: u32) -> u64
+        ensures looks { OnlyLooks self.old.guest self.new.guest }
+        ensures found { slice_index self.new.guest.seen (failed_at key) ≡ result }
+        ensures rest { self.new ≡ record self.old { guest = self.new.guest } }
+    {
+        self.lobby.failures_for(key)
     }
 
     /// How many of its requests were answered `Send`, up to 2^64 - 1.

@@ -5,45 +5,28 @@ ghost use Rattle.nr_model.specs.Batches.{IsBatch};
 ghost use Rattle.nr_board.specs.Callers.{KnowsOwn};
 ghost use Rattle.nr_board.specs.Meetings.{HearsNote, known_to, with_step};
 ghost use Rattle.nr_board.specs.WriterAnswers.{CancelsKey, EvictsKey, ReplacesKey, UpdatesKey};
-ghost use Rattle.nr_serve.specs.Counts.{IsNew, OnlyLooks};
+ghost use Rattle.nr_serve.specs.Counts.{IsNew};
 
-use crate::raiser::{Raiser, Rung};
+use crate::raiser::Raiser;
 use crate::service::Service;
-use crate::source::Source;
-use nr_map::{
-    Cancel, Evict, FillFault, NoSlot, Note, ReaderMap, ReplaceFault, UpdateFault, Writer, laws,
-};
+use nr_map::{Cancel, Evict, NoSlot, Note, ReaderMap, ReplaceFault, UpdateFault, Writer, laws};
 use nr_model::{Batch, Delta, RowSet};
 use nr_trigger::{Taker, Trigger, Triggers};
 use std::marker::Model;
 use std::sync::Wait;
 
-/// What a turn did.
-#[derive(Clone, Copy, Debug, PartialEq, Eq)]
-pub enum Turn {
-    /// No ticket had been posted.
-    Idle,
-    /// The key is filled.
-    Filled(u32),
-    /// The key needs no fill: it is filled already, or nobody asks for it any more, or its request
-    /// has another ticket number.
-    Passed(u32),
-    /// There was no slot for the rows; the trigger is kept and tried first in the next turn.
-    Kept(NoSlot),
-}
-
 /// A dataflow over a map: the map's one writer, with what was posted to it and where its rows come
 /// from. It can't be dropped, since it may keep a trigger: it must be ended.
 pub struct Dataflow<'a, S> {
-    map: &'a ReaderMap,
-    triggers: &'a Triggers,
-    raiser: Raiser<'a>,
-    writer: Writer,
-    taker: Taker,
-    kept: Option<Trigger>,
-    source: S,
+    pub(crate) map: &'a ReaderMap,
+    pub(crate) triggers: &'a Triggers,
+    pub(crate) raiser: Raiser<'a>,
+    pub(crate) writer: Writer,
+    pub(crate) taker: Taker,
+    pub(crate) kept: Option<Trigger>,
+    pub(crate) source: S,
     /// Where the source puts its rows.
-    room: RowSet,
+    pub(crate) room: RowSet,
 }
 
 impl<'a, S> Model for Dataflow<'a, S> {
@@ -56,9 +39,9 @@ impl<'a, S> Model for Dataflow<'a, S> {
     ghost invariant = { λ flow. IsPlaced flow.map.now flow.triggers.now flow.writer flow.taker flow.kept };
 }
 
-impl<'a, S: Source> Dataflow<'a, S> {
+impl<'a, S> Dataflow<'a, S> {
     ghost use Rattle.nr_map.specs.SlotBounds.{HasRoomForAll};
-    ghost use Rattle.nr_serve.specs.Turns.{AwaitsPost, CancelRaises, FillsPost, Nexts, Turns};
+    ghost use Rattle.nr_serve.specs.Turns.{CancelRaises};
     ghost use Rattle.nr_serve.specs.Lending.{LendsSource};
 
     /// The dataflow of a service whose queue takes keys of its map alone.
@@ -78,100 +61,6 @@ impl<'a, S: Source> Dataflow<'a, S> {
             kept: None,
             source,
             room: RowSet::new(),
-        }
-    }
-
-    /// Takes the trigger that is kept, or else the next one of the queue, asks the source for its
-    /// key's rows, and fills the key by the trigger's ticket number. Raises the lobby for the key
-    /// where that spends the trigger. A trigger that is kept is tried again in the next turn, with
-    /// rows that the source is asked for again; on a map with a slot for each key, each reader and
-    /// one more, none is ever kept. May wait for a thread that is within a call of its own.
-    pub fn turn<R: Wait>(&mut self, rt: &R) -> Turn
-        ensures turns { Turns S.gives self.old result self.new }
-        ensures places { (self.new.map ≡ self.old.map) × (self.new.queue ≡ self.old.queue) }
-        ensures room { HasRoomForAll self.old.map → (counts : NoSlot) → result ≢ Turn.Kept counts }
-    {
-        let Some(trigger) = self.next(rt) else {
-            return Turn::Idle;
-        };
-        let key = trigger.key();
-        match self.fill(&trigger) {
-            Ok(()) => {
-                trigger.into_key();
-                self.raiser.raise_for(rt, key);
-                Turn::Filled(key)
-            }
-            Err(FillFault::NotAsked | FillFault::Already | FillFault::Stale) => {
-                trigger.into_key();
-                self.raiser.raise_for(rt, key);
-                Turn::Passed(key)
-            }
-            Err(FillFault::NoSlot(counts)) => {
-                self.keep(trigger);
-                Turn::Kept(counts)
-            }
-        }
-    }
-
-    /// As `turn`, and where that finds nothing it sleeps until a client has posted a ticket or the
-    /// lobby is closed, and then tells that it was idle. Call it again after that. It never sleeps
-    /// while a trigger is kept.
-    pub fn turn_or_sleep<R: Wait>(&mut self, rt: &R) -> Turn
-        ensures turns { Turns S.gives self.old result self.new }
-        ensures places { (self.new.map ≡ self.old.map) × (self.new.queue ≡ self.old.queue) }
-        ensures room { HasRoomForAll self.old.map → (counts : NoSlot) → result ≢ Turn.Kept counts }
-    {
-        let rung = self.raiser.rings(&self.taker);
-        let turned = self.turn(rt);
-        if let Turn::Idle = turned {
-            self.sleep(rt, &rung);
-        }
-        turned
-    }
-
-    // Sleeps after one turn since the bell was read, which was idle: until it was rung since, or the
-    // lobby is closed.
-    fn sleep<R: Wait>(&mut self, rt: &R, rung: &Rung)
-        requires none { self.old.kept ≡ None }
-        requires idle { AwaitsPost rung.now.taker.value self.old.taker }
-        ensures looks { OnlyLooks self.old.guest self.new.guest }
-        ensures rest { self.new ≡ record self.old { guest = self.new.guest } }
-    {
-        self.raiser.wait_for_ring(rt, rung, &self.taker);
-    }
-
-    // The trigger that is kept, or else the next one of the queue.
-    fn next<R: Wait>(&mut self, rt: &R) -> Option<Trigger>
-        ensures { Nexts self.old result self.new }
-    {
-        match self.kept.take() {
-            Some(trigger) => Some(trigger),
-            None => self.triggers.take(rt, &mut self.taker),
-        }
-    }
-
-    // Fills the trigger's key with rows that the source gives now.
-    fn fill(&mut self, trigger: &Trigger) -> Result<(), FillFault>
-        requires key { trigger.now.upquery.key < self.old.map.shape.keys }
-        ensures answers { FillsPost S.gives self.old trigger.now result self.new }
-        ensures rest { self.new ≡ record self.old { writer = self.new.writer; source = self.new.source } }
-        ensures room { HasRoomForAll self.old.map → (counts : NoSlot) → result ≢ Err (FillFault.NoSlot counts) }
-    {
-        laws::room_for_fills();
-        let key = trigger.key();
-        self.source.rows(key, self.map.rows(), &mut self.room);
-        self.map
-            .fill(&mut self.writer, key, trigger.number(), &self.room)
-    }
-
-    fn keep(&mut self, trigger: Trigger)
-        requires none { self.old.kept ≡ None }
-        requires key { trigger.upquery.key < self.old.map.shape.keys }
-        ensures { self.new ≡ record self.old { kept = Some trigger } }
-    {
-        match self.kept.replace(trigger) {
-            None => {}
-            Some(_) => unreachable!(),
         }
     }
 

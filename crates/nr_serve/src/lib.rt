@@ -15,13 +15,16 @@ mod raiser;
 mod service;
 mod source;
 mod tries;
+mod turns;
 mod watched;
 
 pub use answers::Got;
 pub use client::Client;
 pub use counts::Guest;
-pub use dataflow::{Dataflow, Turn};
+pub use dataflow::Dataflow;
 pub use gate::{Gate, OpenGate};
 pub use lobby::Lobby;
+pub use raiser::Rung;
 pub use service::Service;
-pub use source::Source;
+pub use source::{Source, SourceFault};
+pub use turns::{Spent, Turn};

@@ -1,7 +1,8 @@
 //! Where clients sleep until the dataflow has done something, and the dataflow until something was
 //! posted.
 ghost use Rattle.std.specs.Prelude.{◌≡◌, ◌≢◌, ◌<◌, ◌≤◌, ◌+◌, ◌⊎◌, ◌++◌, ◌∷◌, ◌↔◌, [], IfErr, IfSome, IsTrue, slice_index};
-ghost use Rattle.nr_serve.specs.Counts.{IsLaterOf, IsNew, OnlyLooks, Raises, closed_at, group_at, groups_below, raises_for, rung_at, whole_at};
+ghost use Rattle.nr_serve.specs.Hands.{capped, last_count};
+ghost use Rattle.nr_serve.specs.Counts.{IsLaterOf, IsNew, OnlyLooks, Raises, closed_at, failed_at, fails_for, group_at, groups_below, raises_for, rung_at, whole_at};
 
 use crate::counts::{CLOSED_AT, Counts, Guest};
 use crossbeam_utils::CachePadded;
@@ -50,6 +51,13 @@ fn group_at(key: u32) -> usize
     ensures { result ≡ group_at key }
 {
     8 * (key % GROUPS) as usize
+}
+
+// The place of the count of failures for a key's group, on the same line.
+fn failed_at(key: u32) -> usize
+    ensures { result ≡ failed_at key }
+{
+    group_at(key) + 1
 }
 
 impl Lobby {
@@ -120,6 +128,26 @@ impl Lobby {
         self.raise_at(rt, guest, WHOLE_AT);
         self.groups[(key % GROUPS) as usize].notify_all();
         self.whole.notify_all();
+    }
+
+    /// As `raise_for`, once the rows of a key couldn't be had: before that it counts so for the key's
+    /// group.
+    #[tactic(auto, using(crate::proofs::Later::raises_both))]
+    pub(crate) fn fail_for<R: Wait>(&self, rt: &R, guest: &mut Guest, key: u32)
+        requires { guest.old.lobby ≡ self.now }
+        ensures { Raises guest.old (fails_for key) guest.new }
+    {
+        self.raise_at(rt, guest, failed_at(key));
+        self.raise_for(rt, guest, key);
+    }
+
+    /// How often the rows of a key of this one's group couldn't be had, up to 2^64 - 1.
+    pub(crate) fn failures_for(&self, guest: &mut Guest, key: u32) -> u64
+        requires { guest.old.lobby ≡ self.now }
+        ensures looks { OnlyLooks guest.old guest.new }
+        ensures found { slice_index guest.new.seen (failed_at key) ≡ result }
+    {
+        self.counts.at(guest, failed_at(key))
     }
 
     /// Sleeps while the count of the whole lobby is at most `n` and it isn't closed, and tells the
@@ -197,24 +225,37 @@ impl Lobby {
         self.wait_at(rt, guest, RUNG_AT, &self.rung, rings)
     }
 
-    // The last raise closes the lobby before it is made.
-    #[tactic(auto, using(crate::proofs::Later::raises_none, crate::proofs::Later::raises_then_looks, crate::proofs::Later::raises_then_closes, crate::proofs::Later::raises_then_steps))]
+    #[tactic(auto, using(crate::proofs::Later::raises_none, crate::proofs::Later::raises_both, crate::proofs::Later::raises_then_steps))]
     fn raise_at<R: Wait>(&self, rt: &R, guest: &mut Guest, place: usize)
         requires lobby { guest.old.lobby ≡ self.now }
         requires place { (place < 536) × (place ≢ closed_at) }
         ensures { Raises guest.old (place ∷ []) guest.new }
     {
         for _ in rt.forever() {
-            let count = self.counts.at(guest, place);
-            let next = count.saturating_add(1);
-            if next == u64::MAX {
-                self.close(guest);
-            }
+            let (count, next) = self.next_count(guest, place);
             if self.counts.raise(guest, place, count, next) {
                 return;
             }
         }
         unreachable!()
+    }
+
+    // The count at a place, and what a raise makes of it. The last raise closes the lobby before it is
+    // made.
+    #[tactic(auto, using(crate::proofs::Later::raises_none, crate::proofs::Later::raises_then_looks, crate::proofs::Later::raises_then_closes))]
+    fn next_count(&self, guest: &mut Guest, place: usize) -> (u64, u64)
+        requires lobby { guest.old.lobby ≡ self.now }
+        requires place { (place < 536) × (place ≢ closed_at) }
+        ensures raises { Raises guest.old [] guest.new }
+        ensures next { result.1 ≡ capped (result.0 + 1) }
+        ensures last { result.1 ≡ last_count → 0 < slice_index guest.new.seen closed_at }
+    {
+        let count = self.counts.at(guest, place);
+        let next = count.saturating_add(1);
+        if next == u64::MAX {
+            self.close(guest);
+        }
+        (count, next)
     }
 
     // The wait is announced before the count is read, so no raise is missed.

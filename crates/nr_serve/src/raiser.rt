@@ -1,6 +1,6 @@
 //! The lobby as a dataflow has it.
 ghost use Rattle.std.specs.Prelude.{◌≡◌, slice_index};
-ghost use Rattle.nr_serve.specs.Counts.{IsNew, OnlyLooks, Raises, raises_for, rung_at};
+ghost use Rattle.nr_serve.specs.Counts.{IsNew, OnlyLooks, Raises, fails_for, raises_for, rung_at};
 ghost use Rattle.nr_serve.specs.Turns.{AwaitsPost};
 
 use crate::counts::Guest;
@@ -12,9 +12,17 @@ use std::sync::Wait;
 
 /// How often the bell was rung, and what the taker had taken when that was read.
 #[derive(Drop)]
-pub(crate) struct Rung {
+pub struct Rung {
     rings: u64,
     taker: Snapshot<Taker>,
+}
+
+impl Model for Rung {
+    ghost use Rattle.nr_serve.specs.Rings.{RungSeen};
+
+    ghost Value = { RungSeen };
+
+    ghost view = { λ rung. record { rings = rung.rings; taker = rung.taker.value } };
 }
 
 /// A lobby with the dataflow's own guest, through which alone it is raised here.
@@ -51,11 +59,17 @@ impl<'a> Raiser<'a> {
         self.lobby.raise_for(rt, &mut self.guest, key);
     }
 
+    /// As `raise_for`, and counts for the key's group that a source failed.
+    pub(crate) fn fail_for<R: Wait>(&mut self, rt: &R, key: u32)
+        ensures { Raises self.old (fails_for key) self.new }
+    {
+        self.lobby.fail_for(rt, &mut self.guest, key);
+    }
+
     /// How often the bell was rung, for a dataflow that looks then what was posted.
     pub(crate) fn rings(&mut self, taker: &Taker) -> Rung
         ensures looks { OnlyLooks self.old self.new }
-        ensures found { slice_index self.new.seen rung_at ≡ result.rings }
-        ensures taker { result.taker.value ≡ taker.now }
+        ensures rung { result ≡ record { rings = slice_index self.new.seen rung_at; taker = taker.now } }
     {
         Rung {
             rings: self.lobby.rings(&mut self.guest),
@@ -66,7 +80,7 @@ impl<'a> Raiser<'a> {
     /// Sleeps after one look since the bell was read, which found nothing posted: until it was rung
     /// since, or the lobby is closed.
     pub(crate) fn wait_for_ring<R: Wait>(&mut self, rt: &R, rung: &Rung, taker: &Taker)
-        requires { AwaitsPost rung.now.taker.value taker.now }
+        requires { AwaitsPost rung.now.taker taker.now }
         ensures { OnlyLooks self.old self.new }
     {
         let _ = taker;

@@ -1,8 +1,12 @@
 //! Where the dataflow has its rows from.
-ghost use Rattle.std.specs.Prelude.{◌<◌, ◌≤◌, length};
+ghost use Rattle.std.specs.Prelude.{◌<◌, ◌≤◌, IfErr, IfOk, length};
 ghost use Rattle.nr_model.specs.declared.rows.TheConstants.{MAX_ROWS};
 
 use nr_model::RowSet;
+
+/// The rows of a key can't be had now.
+#[derive(Clone, Copy, Debug, PartialEq, Eq)]
+pub struct SourceFault;
 
 /// Answers upqueries: the rows of a key as they stand now.
 pub trait Source {
@@ -13,10 +17,16 @@ pub trait Source {
     /// was told, the rows, and itself after. Nothing, unless it says so.
     ghost gives: { Self → (key bound : ℕ) → List Row → Self → Type 0 } = { λ _ _ _ _ _. Unit {0} };
 
+    /// What it says where it gives none: of itself before, the key, the bound, and itself after.
+    /// Nothing, unless it says so.
+    ghost fails: { Self → (key bound : ℕ) → Self → Type 0 } = { λ _ _ _ _. Unit {0} };
+
     /// Puts the rows of a key, at most `bound` of them, a number from 1 to `MAX_ROWS`, into the room
-    /// that it is handed, in place of what an earlier call left there.
-    fn rows(&mut self, key: u32, bound: u32, room: &mut RowSet)
+    /// that it is handed, in place of what an earlier call left there. Nobody reads the room where
+    /// it fails.
+    fn rows(&mut self, key: u32, bound: u32, room: &mut RowSet) -> Result<(), SourceFault>
         requires bound { (0 < bound) × (bound ≤ MAX_ROWS) }
-        ensures few { length room.new ≤ bound }
-        ensures gives { gives self.old key bound room.new self.new };
+        ensures few { IfOk result (λ _. length room.new ≤ bound) }
+        ensures gives { IfOk result (λ _. gives self.old key bound room.new self.new) }
+        ensures fails { IfErr result (λ _. fails self.old key bound self.new) };
 }

@@ -1,6 +1,6 @@
 //! The lobby as a client has it.
 ghost use Rattle.std.specs.Prelude.{◌≡◌, ◌∷◌, [], slice_index};
-ghost use Rattle.nr_serve.specs.Counts.{IsNew, OnlyLooks, Raises, group_at, rung_at};
+ghost use Rattle.nr_serve.specs.Counts.{IsNew, OnlyLooks, Raises, failed_at, group_at, rung_at};
 ghost use Rattle.nr_serve.specs.Gets.{AwaitsFill};
 
 use crate::answers::Requested;
@@ -60,6 +60,14 @@ impl<'a> Watched<'a> {
             count: self.lobby.count_for(&mut self.guest, key),
             hands: Snapshot::of(hands),
         }
+    }
+
+    /// How often the rows of a key of this one's group couldn't be had.
+    pub(crate) fn failures_for(&mut self, key: u32) -> u64
+        ensures looks { OnlyLooks self.old self.new }
+        ensures found { slice_index self.new.seen (failed_at key) ≡ result }
+    {
+        self.lobby.failures_for(&mut self.guest, key)
     }
 
     /// Sleeps after a try that was made since the count was read, and to which a fill is to come: while

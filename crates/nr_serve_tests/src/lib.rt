@@ -19,6 +19,8 @@ mod scenes;
 #[cfg(test)]
 mod sleepers;
 #[cfg(test)]
+mod upqueries;
+#[cfg(test)]
 mod wakes;
 #[cfg(test)]
 mod works;

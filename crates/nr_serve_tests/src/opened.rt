@@ -2,9 +2,9 @@
 ghost use Rattle.std.specs.Prelude.{◌≡◌, ◌<◌, ◌≤◌, IfOk, length};
 
 use crate::gates::Noting;
-use nr_map::{Reader, ReaderMap, Writer};
+use nr_map::{Reader, ReaderMap, Shape, Writer};
 use nr_model::{Row, RowSet};
-use nr_serve::{Client, Dataflow, Gate, Got, Lobby, Service, Source, Turn};
+use nr_serve::{Client, Dataflow, Gate, Got, Lobby, Service, Source, SourceFault, Turn};
 use nr_trigger::{Poster, Taker, Triggers};
 use std::alloc::Global;
 use std::marker::Model;
@@ -19,9 +19,10 @@ pub(crate) struct Plain {
 }
 
 impl Source for Plain {
-    fn rows(&mut self, key: u32, bound: u32, room: &mut RowSet) {
+    fn rows(&mut self, key: u32, bound: u32, room: &mut RowSet) -> Result<(), SourceFault> {
         self.bound = bound;
         *room = one_row(u64::from(key), 5);
+        Ok(())
     }
 }
 
@@ -40,11 +41,33 @@ pub(crate) fn two_readers(
     keys: u32,
     slots: u32,
 ) -> Result<(ReaderMap, Writer, Reader, Reader), Fail>
-    ensures keys { IfOk result (λ opened. opened.0.shape.keys ≡ keys) }
+    ensures sizes { IfOk result (λ opened. (opened.0.shape.keys ≡ keys) × (opened.0.shape.rows ≡ 15)) }
     ensures writer { IfOk result (λ opened. opened.1.table ≡ opened.0) }
     ensures readers { IfOk result (λ opened. (opened.2.table ≡ opened.0) × (opened.3.table ≡ opened.0)) }
 {
-    let (map, writer, mut readers) = ReaderMap::open(alloc, keys, slots, 2, 0)?;
+    numbered_from(alloc, keys, slots, 0)
+}
+
+// Whose ticket numbers begin at that one.
+fn numbered_from(
+    alloc: Global,
+    keys: u32,
+    slots: u32,
+    first_number: u64,
+) -> Result<(ReaderMap, Writer, Reader, Reader), Fail>
+    ensures sizes { IfOk result (λ opened. (opened.0.shape.keys ≡ keys) × (opened.0.shape.rows ≡ 15)) }
+    ensures writer { IfOk result (λ opened. opened.1.table ≡ opened.0) }
+    ensures readers { IfOk result (λ opened. (opened.2.table ≡ opened.0) × (opened.3.table ≡ opened.0)) }
+{
+    let shape = Shape {
+        keys,
+        slots,
+        readers: 2,
+        first_count: 0,
+        first_number,
+        rows: 15,
+    };
+    let (map, writer, mut readers) = ReaderMap::open_with(alloc, &shape)?;
     match (readers.pop(), readers.pop()) {
         (Some(two), Some(one)) => Ok((map, writer, one, two)),
         _ => Err(Fail::from("no reader")),
@@ -81,7 +104,7 @@ impl Model for Opened {
 
     ghost view = { λ opened. opened.service };
 
-    ghost invariant = { λ opened. (opened.service.map.shape.keys ≡ 2)
+    ghost invariant = { λ opened. (opened.service.map.shape.keys ≡ 2) × (opened.service.map.shape.rows ≡ 15)
         × (opened.writer.table ≡ opened.service.map) × (opened.reader.table ≡ opened.service.map)
         × (opened.taker.queue ≡ opened.service.queue.id) × (opened.taker.keys ≡ 2)
         × (opened.poster.queue ≡ opened.service.queue.id) × (opened.poster.keys ≡ 2) };
@@ -94,7 +117,17 @@ impl Opened {
 
     /// With a queue of that many places.
     pub(crate) fn with_room(alloc: Global, slots: u32, capacity: u32) -> Result<Opened, Fail> {
-        let (map, writer, reader, _two) = two_readers(alloc, 2, slots)?;
+        Opened::numbered(alloc, slots, capacity, 0)
+    }
+
+    /// Whose ticket numbers begin at that one.
+    pub(crate) fn numbered(
+        alloc: Global,
+        slots: u32,
+        capacity: u32,
+        first_number: u64,
+    ) -> Result<Opened, Fail> {
+        let (map, writer, reader, _two) = numbered_from(alloc, 2, slots, first_number)?;
         let (triggers, taker, poster) = one_poster(alloc, capacity)?;
         Ok(Opened {
             service: Service::of(map, triggers, Lobby::open(alloc)?),

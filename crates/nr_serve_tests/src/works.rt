@@ -4,7 +4,7 @@ ghost use Rattle.std.specs.Prelude.{◌≡◌, ◌≤◌, length};
 use crate::opened::{Opened, end_client, end_flow, one_row};
 use nr_load::{Draws, LoadFault, Worked, load_gets};
 use nr_model::RowSet;
-use nr_serve::{Client, Dataflow, Got, Lobby, OpenGate, Source, Turn};
+use nr_serve::{Client, Dataflow, Got, Lobby, OpenGate, Source, SourceFault, Turn};
 use std::alloc::Global;
 use std::process::Abort;
 use std::sync::Wait;
@@ -15,8 +15,9 @@ use std::test::Fail;
 struct Liar;
 
 impl Source for Liar {
-    fn rows(&mut self, key: u32, _bound: u32, room: &mut RowSet) {
+    fn rows(&mut self, key: u32, _bound: u32, room: &mut RowSet) -> Result<(), SourceFault> {
         *room = one_row(u64::from(key) + 1, 0);
+        Ok(())
     }
 }
 

@@ -49,7 +49,7 @@ fn fill_one<R: Wait>(rt: &R, service: &Service, writer: Writer, taker: Taker)
     for _ in rt.forever() {
         match flow.turn_or_sleep(rt) {
             Turn::Filled(_) => break,
-            Turn::Idle | Turn::Passed(_) | Turn::Kept(_) => {}
+            Turn::Idle | Turn::Passed(_) | Turn::Failed(_) | Turn::Kept(_) | Turn::Worn(_) => {}
         }
     }
     // Nobody fills a key from now on, so nobody may sleep for one.

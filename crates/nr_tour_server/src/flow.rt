@@ -91,8 +91,8 @@ fn give_up<R: Wait>(
     page.line("requests to be sent: ", &client.sends());
 }
 
-// Neither can be dropped. What a client or a dataflow keeps is spent, or posted and filled by others.
-fn end(client: Client<'_, OpenGate>, flow: Dataflow<'_, Shelf>) {
+/// Neither can be dropped. What a client or a dataflow keeps is spent, or posted and filled by others.
+pub fn end(client: Client<'_, OpenGate>, flow: Dataflow<'_, Shelf>) {
     let (_reader, _poster, ticket) = client.end();
     if let Some(ticket) = ticket {
         ticket.into_key();

@@ -13,6 +13,7 @@ mod notes;
 mod queue;
 mod services;
 mod source;
+mod upqueries;
 
 use crate::flow::RISE;
 use nr_model::Batch;
@@ -35,6 +36,7 @@ fn show_server<R: AllocGlobal + Print + Threads + Wait + Sync>(rt: &R) -> anyhow
     let rise = Batch::of(&RISE)?;
     clients::waited_for(rt, alloc)?.print(rt)?;
     flow::in_one_hand(rt, alloc, &rise)?.print(rt)?;
+    upqueries::under_way(rt, alloc, &rise)?.print(rt)?;
     gates::held_back(rt, alloc)?.print(rt)?;
     lobbies::raised_once(rt, alloc)?.print(rt)?;
     services::without_clients(rt, alloc)?.print(rt)

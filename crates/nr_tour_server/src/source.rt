@@ -1,6 +1,6 @@
 //! Where the dataflow has its rows from.
 use nr_model::{Row, RowSet};
-use nr_serve::Source;
+use nr_serve::{Source, SourceFault};
 
 /// Key `k` has the one row `k:b`, for all keys the same `b`.
 #[derive(Drop)]
@@ -9,7 +9,7 @@ pub struct Shelf {
 }
 
 impl Source for Shelf {
-    fn rows(&mut self, key: u32, _bound: u32, room: &mut RowSet) {
+    fn rows(&mut self, key: u32, _bound: u32, room: &mut RowSet) -> Result<(), SourceFault> {
         let row = Row {
             a: u64::from(key),
             b: self.b,
@@ -18,5 +18,6 @@ impl Source for Shelf {
             Ok(rows) => rows,
             Err(_) => RowSet::new(),
         };
+        Ok(())
     }
 }

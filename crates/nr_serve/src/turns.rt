@@ -1,0 +1,288 @@
+//! What the dataflow does with a trigger: it takes one, and spends or keeps it.
+ghost use Rattle.std.specs.Prelude.{◌≡◌, ◌≢◌, ◌<◌, ◌≤◌, IfErr, IfOk, IsTrue, length, slice_index, None, Some, Ok, Err};
+ghost use Rattle.std.specs.Result.{is_ok};
+ghost use Rattle.nr_serve.specs.Counts.{OnlyLooks, Raises, raises_for, rung_at};
+
+use crate::dataflow::Dataflow;
+use crate::raiser::Rung;
+use crate::source::{Source, SourceFault};
+use nr_map::{Cancel, FillFault, NoSlot, ReaderMap, laws};
+use nr_model::RowSet;
+use nr_trigger::Trigger;
+use std::sync::Wait;
+
+/// What became of a trigger that was spent.
+#[derive(Clone, Copy, Debug, PartialEq, Eq)]
+pub enum Spent {
+    /// Its key is filled.
+    Filled,
+    /// Its key needs neither rows nor a cancel: it is filled already, or nobody asks for it any
+    /// more, or its request has another ticket number.
+    Passed,
+    /// Its request was taken back, and its key is a hole that may be requested anew.
+    Failed,
+}
+
+/// What a turn did.
+#[derive(Clone, Copy, Debug, PartialEq, Eq)]
+pub enum Turn {
+    /// No trigger was kept, and no ticket had been posted.
+    Idle,
+    /// The key is filled.
+    Filled(u32),
+    /// The key needs no fill: it is filled already, or nobody asks for it any more, or its request
+    /// has another ticket number.
+    Passed(u32),
+    /// The source failed for the key. The trigger's request was taken back, if it still stood.
+    Failed(u32),
+    /// There was no slot for the rows; the trigger is kept and tried first in the next turn.
+    Kept(NoSlot),
+    /// The source failed for the key, whose ticket number is the last one, so that no request of it
+    /// can be taken back; the trigger is kept and tried first in the next turn.
+    Worn(u32),
+}
+
+impl<'a, S> Dataflow<'a, S> {
+    ghost use Rattle.nr_board.specs.WriterAnswers.{FillsKey};
+    ghost use Rattle.nr_map.specs.SlotBounds.{HasRoomForAll};
+    ghost use Rattle.nr_serve.specs.Ends.{FailsOne, FillsOne, TakesBack};
+    ghost use Rattle.nr_serve.specs.Turns.{AwaitsPost, Nexts};
+
+    /// Takes the trigger that is kept, or else the next one of the queue, for rows that are to be
+    /// had meanwhile. It can't be dropped: `fill`, `fail` or `keep` has it back, and any other
+    /// trigger may come and go before. May wait for a thread that is within a call of its own.
+    pub fn take<R: Wait>(&mut self, rt: &R) -> Option<Trigger>
+        ensures { Nexts self.old result self.new }
+    {
+        match self.kept.take() {
+            Some(trigger) => Some(trigger),
+            None => self.triggers.take(rt, &mut self.taker),
+        }
+    }
+
+    /// Fills the trigger's key with its rows, at most `rows()` of them, by the trigger's ticket
+    /// number. That spends the trigger and raises the lobby for the key, also where the key needs no
+    /// fill. Where there is no slot the trigger comes back; on a map with a slot for each key, each
+    /// reader and one more there always is one.
+    pub fn fill<R: Wait>(
+        &mut self,
+        rt: &R,
+        trigger: Trigger,
+        rows: &RowSet,
+    ) -> Result<Spent, (Trigger, NoSlot)>
+        requires key { trigger.upquery.key < self.old.map.shape.keys }
+        requires few { length rows.now ≤ self.old.map.shape.rows }
+        ensures fills { FillsOne self.old trigger rows.now result self.new }
+        ensures room { HasRoomForAll self.old.map → IsTrue (is_ok result) }
+    {
+        laws::room_for_fills();
+        let _ = &self.map;
+        match self.fill_key(&trigger, rows) {
+            Ok(()) => {
+                self.spend(rt, trigger);
+                Ok(Spent::Filled)
+            }
+            Err(FillFault::NotAsked | FillFault::Already | FillFault::Stale) => {
+                self.spend(rt, trigger);
+                Ok(Spent::Passed)
+            }
+            Err(FillFault::NoSlot(counts)) => Err((trigger, counts)),
+        }
+    }
+
+    /// Ends a trigger whose rows can't be had: takes its request back, if that still stands, and
+    /// tells of it those who wait for the key, so that they request it anew. It comes back where
+    /// the request can't be taken back, since its ticket number is the last one.
+    pub fn fail<R: Wait>(&mut self, rt: &R, trigger: Trigger) -> Result<Spent, Trigger>
+        requires key { trigger.upquery.key < self.old.map.shape.keys }
+        ensures { FailsOne self.old trigger result self.new }
+    {
+        match self.take_back(&trigger) {
+            Cancel::Cancelled => {
+                self.raiser.fail_for(rt, trigger.into_key());
+                Ok(Spent::Failed)
+            }
+            Cancel::Nothing => {
+                trigger.into_key();
+                Ok(Spent::Passed)
+            }
+            Cancel::Worn => Err(trigger),
+        }
+    }
+
+    /// Keeps a trigger for the next take or turn. The one that was kept before, if any, comes back.
+    pub fn keep(&mut self, trigger: Trigger) -> Option<Trigger>
+        requires key { trigger.upquery.key < self.old.map.shape.keys }
+        ensures back { result ≡ self.old.kept }
+        ensures kept { self.new ≡ record self.old { kept = Some trigger } }
+    {
+        self.kept.replace(trigger)
+    }
+
+    /// How often the bell was rung. Whoever is to sleep reads this first, looks then for whatever may
+    /// have come, and sleeps if nothing has.
+    pub fn rings(&mut self) -> Rung
+        ensures looks { OnlyLooks self.old.guest self.new.guest }
+        ensures rest { self.new ≡ record self.old { guest = self.new.guest } }
+        ensures rung { result ≡ record { rings = slice_index self.new.guest.seen rung_at; taker = self.old.taker } }
+    {
+        self.raiser.rings(&self.taker)
+    }
+
+    /// Sleeps until the bell was rung since it was read, or the lobby is closed: after one look for a
+    /// ticket since then, which found none, with no trigger kept. One that looks for more than
+    /// tickets, as for rows that other threads bring, looks for that too since the bell was read;
+    /// who brings it rings the bell then.
+    pub fn sleep<R: Wait>(&mut self, rt: &R, rung: &Rung)
+        requires none { self.old.kept ≡ None }
+        requires idle { AwaitsPost rung.now.taker self.old.taker }
+        ensures looks { OnlyLooks self.old.guest self.new.guest }
+        ensures rest { self.new ≡ record self.old { guest = self.new.guest } }
+    {
+        self.raiser.wait_for_ring(rt, rung, &self.taker);
+    }
+
+    // Fills the trigger's key by its ticket number.
+    fn fill_key(&mut self, trigger: &Trigger, rows: &RowSet) -> Result<(), FillFault>
+        requires key { trigger.now.upquery.key < self.old.map.shape.keys }
+        requires few { length rows.now ≤ self.old.map.shape.rows }
+        ensures fills { FillsKey trigger.now.upquery.key trigger.now.upquery.number rows.now self.old.writer self.new.writer result }
+        ensures rest { self.new ≡ record self.old { writer = self.new.writer } }
+    {
+        let number = trigger.number();
+        self.map.fill(&mut self.writer, trigger.key(), number, rows)
+    }
+
+    // Spends a trigger after its fill, and raises the lobby for its key.
+    fn spend<R: Wait>(&mut self, rt: &R, trigger: Trigger)
+        ensures raised { Raises self.old.guest (raises_for trigger.upquery.key) self.new.guest }
+        ensures rest { self.new ≡ record self.old { guest = self.new.guest } }
+    {
+        self.raiser.raise_for(rt, trigger.into_key());
+    }
+
+    // Cancels the trigger's own request. A request of another ticket number is left alone.
+    fn take_back(&mut self, trigger: &Trigger) -> Cancel
+        requires key { trigger.now.upquery.key < self.old.map.shape.keys }
+        ensures cancels { TakesBack trigger.now.upquery self.old.writer result self.new.writer }
+        ensures rest { self.new ≡ record self.old { writer = self.new.writer } }
+    {
+        let key = trigger.key();
+        if self.map.number(&self.writer, key) != trigger.number() {
+            return Cancel::Nothing;
+        }
+        self.map.cancel(&mut self.writer, key)
+    }
+
+    // Keeps a trigger where none is kept.
+    fn put_back(&mut self, trigger: Trigger)
+        requires none { self.old.kept ≡ None }
+        requires key { trigger.upquery.key < self.old.map.shape.keys }
+        ensures { self.new ≡ record self.old { kept = Some trigger } }
+    {
+        match self.keep(trigger) {
+            None => {}
+            Some(_) => unreachable!(),
+        }
+    }
+}
+
+impl<'a, S: Source> Dataflow<'a, S> {
+    ghost use Rattle.nr_map.specs.SlotBounds.{HasRoomForAll};
+    ghost use Rattle.nr_serve.specs.Turns.{AsksSource, Turns, TurnsFailed};
+
+    /// Takes the trigger that is kept, or else the next one of the queue, asks the source for its
+    /// key's rows, and fills the key by the trigger's ticket number, or takes the request back where
+    /// the source fails. Raises the lobby for the key where it was filled or needed no fill, and
+    /// where the request was taken back. A trigger that is kept is tried again in the next turn, with
+    /// rows that the source is asked for again; on a map with a slot for each key, each reader and
+    /// one more, none is ever kept for want of a slot. May wait for a thread that is within a call of
+    /// its own.
+    pub fn turn<R: Wait>(&mut self, rt: &R) -> Turn
+        ensures turns { Turns S.gives S.fails self.old result self.new }
+        ensures places { (self.new.map ≡ self.old.map) × (self.new.queue ≡ self.old.queue) }
+        ensures room { HasRoomForAll self.old.map → (counts : NoSlot) → result ≢ Turn.Kept counts }
+    {
+        let Some(trigger) = self.take(rt) else {
+            return Turn::Idle;
+        };
+        let key = trigger.key();
+        match self.fill_from_source(&trigger) {
+            Ok(Ok(())) => {
+                self.spend(rt, trigger);
+                Turn::Filled(key)
+            }
+            Ok(Err(FillFault::NotAsked | FillFault::Already | FillFault::Stale)) => {
+                self.spend(rt, trigger);
+                Turn::Passed(key)
+            }
+            Ok(Err(FillFault::NoSlot(counts))) => {
+                self.put_back(trigger);
+                Turn::Kept(counts)
+            }
+            Err(SourceFault) => self.turn_failed(rt, trigger),
+        }
+    }
+
+    /// As `turn`, and where that finds nothing it sleeps until a client has posted a ticket or the
+    /// lobby is closed, and then tells that it was idle. Call it again after that. It never sleeps
+    /// while a trigger is kept.
+    pub fn turn_or_sleep<R: Wait>(&mut self, rt: &R) -> Turn
+        ensures turns { Turns S.gives S.fails self.old result self.new }
+        ensures places { (self.new.map ≡ self.old.map) × (self.new.queue ≡ self.old.queue) }
+        ensures room { HasRoomForAll self.old.map → (counts : NoSlot) → result ≢ Turn.Kept counts }
+    {
+        let rung = self.raiser.rings(&self.taker);
+        let turned = self.turn(rt);
+        if let Turn::Idle = turned {
+            self.sleep(rt, &rung);
+        }
+        turned
+    }
+
+    // Fills the trigger's key with rows that the source gives now, if it does.
+    fn fill_from_source(&mut self, trigger: &Trigger) -> Result<Result<(), FillFault>, SourceFault>
+        requires key { trigger.now.upquery.key < self.old.map.shape.keys }
+        ensures asks { AsksSource S.gives S.fails self.old trigger.now result self.new }
+        ensures rest { self.new ≡ record self.old { writer = self.new.writer; source = self.new.source } }
+        ensures room { HasRoomForAll self.old.map → (counts : NoSlot) → result ≢ Ok (Err (FillFault.NoSlot counts)) }
+    {
+        laws::room_for_fills();
+        let key = trigger.key();
+        ask_source(&mut self.source, self.map, key, &mut self.room)?;
+        Ok(
+            self.map
+                .fill(&mut self.writer, key, trigger.number(), &self.room),
+        )
+    }
+
+    // Ends a trigger for whose key the source failed.
+    fn turn_failed<R: Wait>(&mut self, rt: &R, trigger: Trigger) -> Turn
+        requires none { self.old.kept ≡ None }
+        requires key { trigger.upquery.key < self.old.map.shape.keys }
+        ensures { TurnsFailed self.old trigger result self.new }
+    {
+        let key = trigger.key();
+        match self.fail(rt, trigger) {
+            Ok(_) => Turn::Failed(key),
+            Err(trigger) => {
+                self.put_back(trigger);
+                Turn::Worn(key)
+            }
+        }
+    }
+}
+
+// Asks the source for a key's rows, with the map's bound on them.
+fn ask_source<S: Source>(
+    source: &mut S,
+    map: &ReaderMap,
+    key: u32,
+    room: &mut RowSet,
+) -> Result<(), SourceFault>
+    ensures few { IfOk result (λ _. length room.new ≤ map.now.shape.rows) }
+    ensures gives { IfOk result (λ _. S.gives source.old key map.now.shape.rows room.new source.new) }
+    ensures fails { IfErr result (λ _. S.fails source.old key map.now.shape.rows source.new) }
+{
+    source.rows(key, map.rows(), room)
+}

@@ -1,0 +1,286 @@
+//! Triggers that are taken at once and spent later, in any order, and a source that fails.
+ghost use Rattle.std.specs.Prelude.{◌≡◌, ◌<◌, IfSome, None};
+
+use crate::gates::Noting;
+use crate::opened::{Opened, end_client, end_flow, gets, misses, one_row};
+use nr_map::{Cancel, Evict};
+use nr_model::{Row, RowSet};
+use nr_serve::{Client, Dataflow, Got, Lobby, Source, SourceFault, Spent, Turn};
+use nr_trigger::Trigger;
+use std::alloc::Global;
+use std::process::Abort;
+use std::sync::Wait;
+use std::test::Fail;
+
+/// Fails that often, and then has the row `k:5` of key `k`.
+#[derive(Drop)]
+struct Faulty {
+    faults: u32,
+}
+
+impl Source for Faulty {
+    fn rows(&mut self, key: u32, _bound: u32, room: &mut RowSet) -> Result<(), SourceFault> {
+        if self.faults > 0 {
+            self.faults -= 1;
+            return Err(SourceFault);
+        }
+        *room = one_row(u64::from(key), 5);
+        Ok(())
+    }
+}
+
+type Flow<'a> = Dataflow<'a, Faulty>;
+
+/// What becomes of a trigger.
+#[derive(Clone, Copy, Debug)]
+enum Act {
+    Fill,
+    Fail,
+}
+
+// What came of a trigger that was given the row `k:7` of its key, or failed. None where it came back, and is kept.
+fn ends<R: Wait>(rt: &R, flow: &mut Flow<'_>, trigger: Option<Trigger>, act: Act) -> Option<Spent>
+    requires key { IfSome trigger (λ trigger. trigger.upquery.key < 2) }
+    requires sizes { (flow.old.map.shape.keys ≡ 2) × (flow.old.map.shape.rows ≡ 15) }
+    ensures { flow.new.map ≡ flow.old.map }
+{
+    let trigger = trigger?;
+    let back = match act {
+        Act::Fill => {
+            let rows = one_row(u64::from(trigger.key()), 7);
+            match flow.fill(rt, trigger, &rows) {
+                Ok(spent) => return Some(spent),
+                Err((trigger, _)) => trigger,
+            }
+        }
+        Act::Fail => match flow.fail(rt, trigger) {
+            Ok(spent) => return Some(spent),
+            Err(trigger) => trigger,
+        },
+    };
+    if let Some(before) = flow.keep(back) {
+        before.into_key();
+    }
+    None
+}
+
+// The next trigger.
+fn takes<R: Wait>(rt: &R, flow: &mut Flow<'_>) -> Option<Trigger>
+    requires { flow.old.map.shape.keys ≡ 2 }
+    ensures key { IfSome result (λ trigger. trigger.upquery.key < 2) }
+    ensures map { flow.new.map ≡ flow.old.map }
+{
+    flow.take(rt)
+}
+
+// A get finds the one row `k:b`.
+fn finds<R: Abort + Wait>(rt: &R, client: &mut Client<'_, Noting>, key: u32, b: u64)
+    requires { key < client.old.map.shape.keys }
+    ensures { client.new.map ≡ client.old.map }
+{
+    let mut rows = RowSet::new();
+    gets(rt, client, key, &mut rows, Got::Rows);
+    let row = Row {
+        a: u64::from(key),
+        b,
+    };
+    assert_eq!(rt; rows.as_slice(), [row].as_slice());
+}
+
+// Two triggers are under way, and the second is filled first.
+fn out_of_order<R: Abort + Wait>(rt: &R, client: &mut Client<'_, Noting>, flow: &mut Flow<'_>)
+    requires client { client.old.map.shape.keys ≡ 2 }
+    requires sizes { (flow.old.map.shape.keys ≡ 2) × (flow.old.map.shape.rows ≡ 15) }
+{
+    misses(rt, client, 0);
+    misses(rt, client, 1);
+    let one = takes(rt, flow);
+    let two = takes(rt, flow);
+    assert_eq!(rt; ends(rt, flow, two, Act::Fill), Some(Spent::Filled));
+    finds(rt, client, 1, 7);
+    misses(rt, client, 0);
+    assert_eq!(rt; ends(rt, flow, one, Act::Fill), Some(Spent::Filled));
+    finds(rt, client, 0, 7);
+}
+
+// The source fails once. The client is told, and its next get requests the key anew.
+fn source_fails<R: Abort + Wait>(rt: &R, client: &mut Client<'_, Noting>, flow: &mut Flow<'_>)
+    requires client { client.old.map.shape.keys ≡ 2 }
+{
+    flow.source().faults = 1;
+    misses(rt, client, 0);
+    assert_eq!(rt; client.failures_for(0), 0);
+    assert_eq!(rt; flow.turn(rt), Turn::Failed(0));
+    assert_eq!(rt; client.failures_for(0), 1);
+    misses(rt, client, 0);
+    assert_eq!(rt; (flow.turn(rt), client.sends()), (Turn::Filled(0), 2));
+    finds(rt, client, 0, 5);
+}
+
+// The request is cancelled while its rows are under way, and made anew: what comes late of the first changes nothing.
+fn comes_late<R: Abort + Wait>(
+    rt: &R,
+    client: &mut Client<'_, Noting>,
+    flow: &mut Flow<'_>,
+    act: Act,
+)
+    requires client { client.old.map.shape.keys ≡ 2 }
+    requires sizes { (flow.old.map.shape.keys ≡ 2) × (flow.old.map.shape.rows ≡ 15) }
+{
+    misses(rt, client, 0);
+    let late = takes(rt, flow);
+    assert_eq!(rt; flow.cancel(rt, 0), Cancel::Cancelled);
+    misses(rt, client, 0);
+    assert_eq!(rt; ends(rt, flow, late, act), Some(Spent::Passed));
+    misses(rt, client, 0);
+    assert_eq!(rt;
+        (flow.turn(rt), client.failures_for(0)),
+        (Turn::Filled(0), 0)
+    );
+    finds(rt, client, 0, 5);
+}
+
+// There is one slot. The trigger that found none is kept, and comes out first.
+fn finds_no_slot<R: Abort + Wait>(rt: &R, client: &mut Client<'_, Noting>, flow: &mut Flow<'_>)
+    requires client { client.old.map.shape.keys ≡ 2 }
+    requires sizes { (flow.old.map.shape.keys ≡ 2) × (flow.old.map.shape.rows ≡ 15) }
+{
+    misses(rt, client, 0);
+    misses(rt, client, 1);
+    let one = takes(rt, flow);
+    let two = takes(rt, flow);
+    assert_eq!(rt; ends(rt, flow, one, Act::Fill), Some(Spent::Filled));
+    assert_eq!(rt; ends(rt, flow, two, Act::Fill), None);
+    assert_eq!(rt; flow.evict(0), Evict::Evicted);
+    let two = takes(rt, flow);
+    assert_eq!(rt; ends(rt, flow, two, Act::Fill), Some(Spent::Filled));
+    finds(rt, client, 1, 7);
+}
+
+// The key's ticket number is the last one, so its request can't be taken back, and its trigger is kept until it fills.
+fn wears<R: Abort + Wait>(rt: &R, client: &mut Client<'_, Noting>, flow: &mut Flow<'_>)
+    requires client { client.old.map.shape.keys ≡ 2 }
+    requires sizes { (flow.old.map.shape.keys ≡ 2) × (flow.old.map.shape.rows ≡ 15) }
+{
+    flow.source().faults = 1;
+    misses(rt, client, 0);
+    let trigger = takes(rt, flow);
+    assert_eq!(rt; ends(rt, flow, trigger, Act::Fail), None);
+    assert_eq!(rt; flow.turn(rt), Turn::Worn(0));
+    assert_eq!(rt;
+        (flow.turn(rt), client.failures_for(0)),
+        (Turn::Filled(0), 0)
+    );
+    finds(rt, client, 0, 5);
+}
+
+// A look that finds nothing, and a sleep that a ring ends which came since the bell was read.
+fn sleeps_once<R: Abort + Wait>(rt: &R, lobby: &Lobby, flow: &mut Flow<'_>)
+    requires none { flow.old.kept ≡ None }
+    requires sizes { flow.old.map.shape.keys ≡ 2 }
+{
+    let rung = flow.rings();
+    lobby.ring(rt, &mut lobby.guest());
+    match flow.take(rt) {
+        Some(trigger) => {
+            trigger.into_key();
+        }
+        None => flow.sleep(rt, &rung),
+    }
+}
+
+#[derive(Clone, Copy, Debug)]
+enum Scene {
+    OutOfOrder,
+    SourceFails,
+    ComesLate(Act),
+    NoSlot,
+    Wears,
+    SleepsOnce,
+}
+
+impl Scene {
+    fn open(self, alloc: Global) -> Result<Opened, Fail> {
+        match self {
+            Scene::NoSlot => Opened::open(alloc, 1),
+            Scene::Wears => Opened::numbered(alloc, 4, 2, 4_194_303),
+            _ => Opened::open(alloc, 4),
+        }
+    }
+
+    fn play<R: Abort + Wait>(
+        self,
+        rt: &R,
+        lobby: &Lobby,
+        client: &mut Client<'_, Noting>,
+        flow: &mut Flow<'_>,
+    )
+        requires client { client.old.map.shape.keys ≡ 2 }
+        requires none { flow.old.kept ≡ None }
+        requires sizes { (flow.old.map.shape.keys ≡ 2) × (flow.old.map.shape.rows ≡ 15) }
+    {
+        match self {
+            Scene::OutOfOrder => out_of_order(rt, client, flow),
+            Scene::SourceFails => source_fails(rt, client, flow),
+            Scene::ComesLate(act) => comes_late(rt, client, flow, act),
+            Scene::NoSlot => finds_no_slot(rt, client, flow),
+            Scene::Wears => wears(rt, client, flow),
+            Scene::SleepsOnce => sleeps_once(rt, lobby, flow),
+        }
+    }
+}
+
+fn play_in<R: Abort + Wait>(rt: &R, scene: Scene, opened: Opened) {
+    let Opened {
+        service,
+        writer,
+        taker,
+        reader,
+        poster,
+    } = opened;
+    let gate = Noting::from(1);
+    let mut client = Client::open(&service, reader, poster, &gate);
+    let mut flow = Dataflow::open(&service, writer, taker, Faulty { faults: 0 });
+    scene.play(rt, service.lobby(), &mut client, &mut flow);
+    assert_eq!(rt; (end_client(client), end_flow(flow)), (false, false));
+}
+
+fn play<R: Abort + Wait>(rt: &R, alloc: Global, scene: Scene) -> Result<(), Fail> {
+    play_in(rt, scene, scene.open(alloc)?);
+    Ok(())
+}
+
+#[test]
+fn triggers_are_filled_in_any_order(rt: HostRuntime) -> Result<(), Fail> {
+    play(&rt, rt.alloc(), Scene::OutOfOrder)
+}
+
+#[test]
+fn a_source_that_fails_is_told_and_asked_anew(rt: HostRuntime) -> Result<(), Fail> {
+    play(&rt, rt.alloc(), Scene::SourceFails)
+}
+
+#[test]
+fn rows_that_come_after_a_cancel_fill_nothing(rt: HostRuntime) -> Result<(), Fail> {
+    play(&rt, rt.alloc(), Scene::ComesLate(Act::Fill))
+}
+
+#[test]
+fn a_failure_after_a_cancel_takes_nothing_back(rt: HostRuntime) -> Result<(), Fail> {
+    play(&rt, rt.alloc(), Scene::ComesLate(Act::Fail))
+}
+
+#[test]
+fn a_trigger_without_a_slot_is_kept_and_taken_first(rt: HostRuntime) -> Result<(), Fail> {
+    play(&rt, rt.alloc(), Scene::NoSlot)
+}
+
+#[test]
+fn a_worn_request_is_kept_until_it_is_filled(rt: HostRuntime) -> Result<(), Fail> {
+    play(&rt, rt.alloc(), Scene::Wears)
+}
+
+#[test]
+fn a_ring_since_the_bell_was_read_ends_a_sleep(rt: HostRuntime) -> Result<(), Fail> {
+    play(&rt, rt.alloc(), Scene::SleepsOnce)
+}
