@@ -1,0 +1,13 @@
+mod Tagging
+mod Found
+mod Readings
+mod Stills
+mod Entries
+mod Ties
+mod LedgerLaws
+mod WayCalls
+mod Answering
+mod Asking
+mod Finding
+mod Opening
+mod Giving

@@ -1,0 +1,242 @@
+-- The tie between the two tables, and the ledger, over a call on one way: the other ways keep theirs.
+use Rattle.std.proofs.Common.{◌≡◌, ◌≢◌, ℕ, zero, suc, ◌+◌, ◌%◌, ◌<◌, ⊎_elim, Bool, true, false, ◌==◌, List, ◌∷◌, refl, sym, ap, ◌∙◌, subst, arith, ne_eqb, eq-eqb, Result, Ok, Err, Option, Some, None}
+use Rattle.std.specs.Prelude.{if◌then◌else◌}
+use Rattle.std.proofs.lemmas.Bool.{cases_eq}
+use Rattle.nr_model.specs.declared.rows.Row.{Row}
+use Rattle.nr_model.specs.declared.batches.Delta.{Delta}
+use Rattle.nr_model.specs.declared.batches.ApplyFault.{ApplyFault}
+use Rattle.nr_model.specs.declared.calls.Call.{Call}
+use Rattle.nr_model.specs.declared.calls.Call.TheVariants.{Fill, Replace}
+use Rattle.nr_model.specs.declared.calls.Reply.{Reply}
+use Rattle.nr_model.specs.declared.calls.Reply.TheVariants as reply
+use Rattle.nr_model.specs.declared.states.KeyState.{KeyState}
+use Rattle.nr_model.specs.declared.states.KeyState.TheVariants.{Hole, Asked, Rows}
+use Rattle.nr_model.specs.Batches.{applied}
+use Rattle.nr_model.specs.Maps.{PartialMap, call_key, fill_reply, filled, replaced, reply_to, rows_or, state_of, updated}
+use Rattle.nr_board.specs.Callers.{Caller, KnowsOwn, Table, map_seen}
+use Rattle.nr_ids.specs.declared.plan.Plan.{Plan}
+use Rattle.nr_ids.specs.Answers.{FindsWay}
+use Rattle.nr_ids.specs.Events.{Event, IsLegal, looks, name_of}
+use Rattle.nr_ids.specs.Groups.{ways}
+use Rattle.nr_ids.specs.Tokens.{Opened, Token}
+use Rattle.nr_ids.specs.Tokens as ids
+use Rattle.nr_ids.proofs.Calls.{clerk_looks}
+use Rattle.nr_ids.proofs.Logs.{one_way}
+use Rattle.nr_idmap.specs.Keepers.{Agrees, IsTied, OwesElse, OwesSame, keeper_of, owed_for}
+use Rattle.nr_idmap.specs.Tags.{AreIdDeltas, IdSet, set_at, id_set_of, set_told, tag_of}
+use Rattle.nr_idmap.specs.Tidy.{KeepsTags}
+use Rattle.nr_idmap.proofs.Entries.{Rested, Stayed, Went}
+use Rattle.nr_idmap.proofs.Stills.{agrees_still, owed_still}
+use Rattle.nr_idmap.proofs.Tagging.{applied_behind, tag_all}
+
+-- ONE KEY'S STATE
+some_same : {A : Type 0} (a b : A) → Some a ≡ Some b → a ≡ b
+some_same a b e = cc (e)
+
+-- a key's set has its way's name
+pub set_named : (name : ℕ) (state : KeyState) (set : IdSet) → Agrees name state → id_set_of state ≡ Some set → (0 < name) × (set.id ≡ name)
+set_named name (Hole n) set agrees there = absurd (cc (there))
+set_named name (Asked n) set agrees there = absurd (cc (there))
+set_named name (Rows n rows) set agrees there = let same : record { id = name; rows = agrees.1 } ≡ set = some_same
+    (record { id = name; rows = agrees.1 }) set (sym (ap set_told agrees.2) ∙ there) in (agrees.0, ap (λ (s : IdSet). s.id) (sym same))
+
+pub owed_none : (way name number : ℕ) (rows : List Row) → owed_for way name (Rows number rows) ≡ None
+owed_none way zero number rows = refl
+owed_none way (suc name) number rows = refl
+
+pub owed_hole : (way name number : ℕ) → owed_for way name (Hole number) ≡ None
+owed_hole way zero number = refl
+owed_hole way (suc name) number = refl
+
+pub owed_asked : (way name number : ℕ) → 0 < name →
+    owed_for way name (Asked number) ≡ Some (record { way = way; number = number; id = name })
+owed_asked way zero number real = absurd (omega arith)
+owed_asked way (suc name) number real = refl
+
+-- a fill is done where the key was asked for with its number, and else leaves the key
+pub fill_done : (number : ℕ) (state : KeyState) → fill_reply number state ≡ reply.Done → state ≡ Asked number
+fill_done number (Hole n) done = absurd (cc (done))
+fill_done number (Asked n) done = ⊎_elim
+    (λ (same : n ≡ number). ap Asked same)
+    (λ (other : n ≢ number). let e : reply.Stale ≡ reply.Done = sym
+    (ap (λ (b : Bool). if b then reply.Done else reply.Stale) (ne_eqb n number other)) ∙ done in absurd (cc (e)))
+    (cases_eq n number)
+fill_done number (Rows n rows) done = absurd (cc (done))
+
+pub fill_leaves : (number : ℕ) (rows : List Row) (state : KeyState) → fill_reply number state ≢ reply.Done →
+    filled number rows state ≡ state
+fill_leaves number rows (Hole n) undone = refl
+fill_leaves number rows (Asked n) undone = ⊎_elim
+    (λ (same : n ≡ number). absurd (undone (ap (λ (b : Bool). if b then reply.Done else reply.Stale) (eq-eqb n number same))))
+    (λ (other : n ≢ number). ap (λ (b : Bool). if b then Rows n rows else Asked n) (ne_eqb n number other))
+    (cases_eq n number)
+fill_leaves number rows (Rows n old) undone = refl
+
+pub fill_puts : (number : ℕ) (rows : List Row) (state : KeyState) → state ≡ Asked number → filled number rows state ≡ Rows number rows
+fill_puts number rows state is = ap (filled number rows) is
+    ∙ ap (λ (b : Bool). if b then Rows number rows else Asked number) (eq-eqb number number refl)
+
+-- the rows behind the name's tag
+abbrev pub Tagged : ℕ → List Row → Type 0
+Tagged name set = (0 < name) × (others : List Row) × (set ≡ tag_of name ∷ others)
+
+if_filled : (b : Bool) (name n : ℕ) (rows : List Row) → Tagged name rows → Agrees name (if b then Rows n rows else Asked n)
+if_filled true name n rows tagged = tagged
+if_filled false name n rows tagged = tt
+
+pub fill_agrees : (name number : ℕ) (rows : List Row) (state : KeyState) → Tagged name rows → Agrees name state →
+    Agrees name (filled number rows state)
+fill_agrees name number rows (Hole n) tagged agrees = agrees
+fill_agrees name number rows (Asked n) tagged agrees = if_filled (n == number) name n rows tagged
+fill_agrees name number rows (Rows n old) tagged agrees = agrees
+
+pub replace_agrees : (name : ℕ) (rows : List Row) (state : KeyState) → Tagged name rows → Agrees name state →
+    Agrees name (replaced rows state)
+replace_agrees name rows (Hole n) tagged agrees = agrees
+replace_agrees name rows (Asked n) tagged agrees = tt
+replace_agrees name rows (Rows n old) tagged agrees = tagged
+
+pub replace_owes : (way name : ℕ) (rows : List Row) (state : KeyState) → owed_for way name (replaced rows state) ≡ owed_for way name state
+replace_owes way name rows (Hole n) = refl
+replace_owes way name rows (Asked n) = refl
+replace_owes way name rows (Rows n old) = owed_none way name n rows ∙ sym (owed_none way name n old)
+
+pub update_owes : (way name bound : ℕ) (batch : List Delta) (state : KeyState) →
+    owed_for way name (updated bound batch state) ≡ owed_for way name state
+update_owes way name bound batch (Hole n) = refl
+update_owes way name bound batch (Asked n) = refl
+update_owes way name bound batch (Rows n old) = owed_none way name n (rows_or (applied bound old batch) old)
+    ∙ sym (owed_none way name n old)
+
+behind : (id : ℕ) (old : List Row) (r : Result (List Row) ApplyFault) → rows_or (tag_all id r) (tag_of id ∷ old) ≡ tag_of id ∷ rows_or r old
+behind id old (Ok rows) = refl
+behind id old (Err why) = refl
+
+pub update_agrees : (name bound : ℕ) (batch : List Delta) (state : KeyState) → 0 < bound → AreIdDeltas batch → Agrees name state →
+    Agrees name (updated bound batch state)
+update_agrees name zero batch state room users agrees = absurd (omega arith)
+update_agrees name (suc bound) batch (Hole n) room users agrees = agrees
+update_agrees name (suc bound) batch (Asked n) room users agrees = tt
+update_agrees name (suc bound) batch (Rows n old) room users agrees =
+    let r : Result (List Row) ApplyFault = applied bound agrees.1 batch in (
+      agrees.0,
+      rows_or r agrees.1,
+      ap (λ (o : List Row). rows_or (applied (suc bound) o batch) o) agrees.2
+          ∙ ap (λ (x : Result (List Row) ApplyFault). rows_or x (tag_of name ∷ agrees.1)) (applied_behind bound name agrees.1 batch users)
+          ∙ behind name agrees.1 r,
+    )
+
+-- WHAT A CALL MUST KEEP TO
+module _ (plan : Plan) (log : List Event) (legal : IsLegal plan log) (mid : PartialMap)
+    (agree : (way : ℕ) → Agrees (name_of log way) (state_of mid way)) (way : ℕ) (rows : List Row) (tagged : Tagged (name_of log way) rows)
+  where
+    filled_undone : (number : ℕ) (state : KeyState) (set : IdSet) → id_set_of state ≡ Some set → fill_reply number state ≢ reply.Done
+    filled_undone number (Hole n) set there done = absurd (cc (there))
+    filled_undone number (Asked n) set there done = absurd (cc (there))
+    filled_undone number (Rows n old) set there done = absurd (cc (done))
+
+    pub fill_keeps : (number : ℕ) (answer : Reply) → answer ≡ reply_to mid (Fill way number rows) →
+        KeepsTags mid (Fill way number rows) answer
+    fill_keeps number answer replied = λ done. record {
+      id = name_of log way;
+      others = tagged.1;
+      tagged = tagged.2;
+      nowhere = λ key set there same. let its = set_named (name_of log key) (state_of mid key) set (agree key) there in
+          let at : way ≡ key = one_way plan log way key (name_of log way) legal tagged.0 refl (sym its.1 ∙ same) in
+          filled_undone number (state_of mid way) set (ap (set_at mid) at ∙ there) (sym replied ∙ done);
+    }
+
+    pub replace_keeps : (answer : Reply) → KeepsTags mid (Replace way rows) answer
+    replace_keeps answer = λ done. record {
+      id = name_of log way;
+      others = tagged.1;
+      tagged = tagged.2;
+      same = λ set there.
+          (set_named (name_of log way) (state_of mid way) set (agree way) there).1;
+    }
+
+-- THE TOKENS
+pub rested_of : (w a : Caller) (c : Token) → IsTied (keeper_of w a c) → Rested w
+rested_of w a c tied = record { number = tied.writes.1; sound = tied.sound; tidy = tied.tidy }
+
+pub retied : (w a w' a' : Caller) (c c' : Token) (acts : List Event) → IsTied (keeper_of w a c) → Rested w' → w'.table ≡ w.table →
+    (a'.table ≡ a.table) × KnowsOwn a' → ids.Grows c acts c'
+    → ((way : ℕ) → Agrees (name_of c'.seen way) (state_of (map_seen w') way)) → IsTied (keeper_of w' a' c')
+retied w a w' a' c c' acts tied rested table asker grows agrees = record {
+  writes = (refl, rested.number);
+  asks = (asker.0 ∙ tied.asks.0 ∙ sym table, asker.1);
+  names = (refl, grows.number ∙ tied.names.1);
+  ways_are = ap (λ (d : Opened). ways d.plan) grows.directory ∙ tied.ways_are ∙ ap (λ (t : Table). t.shape.keys) (sym table);
+  room = subst (λ (t : Table). 0 < t.shape.rows) (sym table) tied.room;
+  sound = rested.sound;
+  tidy = rested.tidy;
+  legal = subst (λ (d : Opened). IsLegal d.plan c'.seen) (sym grows.directory) grows.legal;
+  agrees = agrees;
+}
+
+-- a search by the clerk changes no name
+pub found_looks : (id : ℕ) (c c' : Token) (found : Option ℕ) → FindsWay id c c' found → (count : ℕ) × ids.Grows c (looks count c.number) c'
+found_looks id c c' (Some way) finds = (way % 8 + 1, finds.0)
+found_looks id c c' None finds = (8, finds.0)
+
+pub found_names : (w a : Caller) (id : ℕ) (c c' : Token) (found : Option ℕ) → IsTied (keeper_of w a c) → FindsWay id c c' found →
+    (way : ℕ) → name_of c'.seen way ≡ name_of c.seen way
+found_names w a id c c' found tied finds way = let look = found_looks id c c' found finds in
+    clerk_looks c look.0 c.number c' way tied.names.1 look.1
+
+-- STEPS WITHOUT AN ENTRY
+module _ (w a w' : Caller) (c c' : Token) (tied : IsTied (keeper_of w a c)) (stayed : Stayed w w')
+    (same : (way : ℕ) → name_of c'.seen way ≡ name_of c.seen way) where
+  pub stayed_agrees : (way : ℕ) → Agrees (name_of c'.seen way) (state_of (map_seen w') way)
+  stayed_agrees way = subst (λ (n : ℕ). Agrees n (state_of (map_seen w') way)) (sym (same way))
+      (agrees_still (name_of c.seen way) (state_of (map_seen w) way) (state_of (map_seen w') way) (tied.agrees way) (stayed.still way))
+
+  pub stayed_owes : (a' : Caller) → OwesSame (keeper_of w a c) (keeper_of w' a' c')
+  stayed_owes a' way = ap (λ (n : ℕ). owed_for way n (state_of (map_seen w') way)) (same way)
+      ∙ owed_still way (name_of c.seen way) (state_of (map_seen w) way) (state_of (map_seen w') way) (tied.agrees way) (stayed.still way)
+
+-- A CALL OF THE MAP'S WRITER
+module _ (w a w' : Caller) (c c' : Token) (call : Call) (answer : Reply) (tied : IsTied (keeper_of w a c)) (went : Went w w' call answer)
+    (same : (way : ℕ) → way ≢ call_key call → name_of c'.seen way ≡ name_of c.seen way) where
+  abbrev key : ℕ
+  key = call_key call
+
+  abbrev name : ℕ
+  name = name_of c.seen key
+
+  -- the key's state before the call's entry
+  abbrev state : KeyState
+  state = state_of went.mid key
+
+  pub mid_agrees : (way : ℕ) → Agrees (name_of c.seen way) (state_of went.mid way)
+  mid_agrees way = agrees_still (name_of c.seen way) (state_of (map_seen w) way) (state_of went.mid way) (tied.agrees way) (went.still way)
+
+  pub mid_owes : owed_for key name state ≡ owed_for key name (state_of (map_seen w) key)
+  mid_owes = owed_still key name (state_of (map_seen w) key) state (tied.agrees key) (went.still key)
+
+  pub went_agrees : Agrees (name_of c'.seen key) (state_of (map_seen w') key) → (way : ℕ) →
+      Agrees (name_of c'.seen way) (state_of (map_seen w') way)
+  went_agrees here way = ⊎_elim
+      (λ (at : key ≡ way). subst (λ (k : ℕ). Agrees (name_of c'.seen k) (state_of (map_seen w') k)) at here)
+      (λ (off : key ≢ way). let other : way ≢ key = λ e. off (sym e) in
+      subst (λ (n : ℕ). Agrees n (state_of (map_seen w') way)) (sym (same way other))
+      (subst (Agrees (name_of c.seen way)) (sym (went.others way other)) (mid_agrees way)))
+      (cases_eq key way)
+
+  pub went_else : (a' : Caller) → OwesElse key (keeper_of w a c) (keeper_of w' a' c')
+  went_else a' way other = ap (λ (n : ℕ). owed_for way n (state_of (map_seen w') way)) (same way other)
+      ∙ ap (owed_for way (name_of c.seen way)) (went.others way other)
+      ∙ owed_still way (name_of c.seen way) (state_of (map_seen w) way) (state_of went.mid way) (tied.agrees way) (went.still way)
+
+  pub went_owes : (a' : Caller) → owed_for key (name_of c'.seen key) (state_of (map_seen w') key) ≡ owed_for key name
+      (state_of (map_seen w) key) → OwesSame (keeper_of w a c) (keeper_of w' a' c')
+  went_owes a' here way = ⊎_elim
+      (λ (at : key ≡ way).
+      subst (λ (k : ℕ). owed_for k (name_of c'.seen k) (state_of (map_seen w') k) ≡ owed_for k (name_of c.seen k)
+      (state_of (map_seen w) k)) at here)
+      (λ (off : key ≢ way). went_else a' way (λ e. off (sym e)))
+      (cases_eq key way)
+
+-- the way that the clerk found is a key
+pub near_of : (w a : Caller) (id way : ℕ) (c c' : Token) → IsTied (keeper_of w a c) → FindsWay id c c' (Some way) → way < w.table.shape.keys
+near_of w a id way c c' tied finds = omega (arith, finds.1.inside, ap (λ (d : Opened). ways d.plan) finds.0.directory, tied.ways_are)

@@ -1,0 +1,29 @@
+-- What the tokens of a map over ids learn of each other.
+use Rattle.std.specs.Prelude.{◌≡◌}
+use Rattle.nr_board.specs.Meetings.{Gathers, HearsNote, Known, known_to, with_step}
+use Rattle.nr_ids.specs.Tokens as ids
+use Rattle.nr_idmap.specs.Keepers.{IdCaller, Keeper}
+
+-- what a note tells of the map, and of the directory
+pub record IdKnown : Type 0 where
+  pub map : Known
+  pub ids : ids.Known
+
+abbrev pub known_to_reader : IdCaller → IdKnown
+known_to_reader reader = record { map = known_to reader.caller; ids = ids.known_to reader.ids }
+
+-- who makes a note makes a step on each table
+abbrev pub with_steps_of_note : IdCaller → IdCaller
+with_steps_of_note reader = record { caller = with_step reader.caller; ids = ids.with_step reader.ids }
+
+-- the token knows all that the note's maker had seen
+pub record HearsIdNote (old : IdCaller) (note : IdKnown) (new : IdCaller) : Type 0 where
+  pub map : HearsNote 1 old.caller note.map new.caller
+  pub ids : ids.Hears old.ids note.ids new.ids
+
+-- the writer learnt of the reader's map calls, and the reader of the writer's, and nothing else changed
+pub record GathersById (keeper : Keeper) (reader : IdCaller) (keeper' : Keeper) (reader' : IdCaller) : Type 0 where
+  pub gathers : Gathers keeper.writer reader.caller keeper'.writer reader'.caller
+  pub clerk : keeper'.clerk ≡ keeper.clerk
+  pub asker : keeper'.asker ≡ keeper.asker
+  pub ids : reader'.ids ≡ reader.ids

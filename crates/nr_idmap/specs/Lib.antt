@@ -1,0 +1,10 @@
+pub mod Tags
+pub mod PartialIds
+pub mod Tidy
+pub mod Keepers
+pub mod IdLaws
+pub mod IdFinds
+pub mod Asking
+pub mod IdWrites
+pub mod IdOpenings
+pub mod IdNotes

@@ -1,0 +1,69 @@
+//! What readers do: they find ids, and request those that have no way.
+ghost use Rattle.std.specs.Prelude.{◌≡◌, ◌<◌};
+ghost use Rattle.nr_ids.specs.Answers.{Requests};
+ghost use Rattle.nr_idmap.specs.Keepers.{id_table_of};
+
+use crate::id_map::IdMap;
+use crate::rows::copy_behind;
+use crate::tokens::IdReader;
+use nr_ids::Requested;
+use nr_map::Found;
+use nr_model::RowRoom;
+
+/// The answer to a find by id.
+#[derive(Clone, Copy, Debug, PartialEq, Eq)]
+pub enum FoundId {
+    /// The caller's room has the id's rows.
+    Rows,
+    /// The id has a way, whose upquery is under way.
+    Pending,
+    /// The id's way became another id's within the call.
+    Moved,
+    /// Within the call there was a moment at which the id had no way.
+    Absent,
+}
+
+impl IdMap {
+    ghost use Rattle.nr_idmap.specs.IdFinds.{FindsById};
+
+    /// Looks an id up, and writes its rows into the caller's room, which stays as it is unless the
+    /// answer is `Rows`. Takes a step for each look at a way's name, up to the one that has the id's,
+    /// of eight ways in all; then 1 step where that is a hole, and else 2n + 5 for n rows.
+    pub fn find<R: RowRoom>(&self, reader: &mut IdReader, id: u64, rows: &mut R) -> FoundId
+        requires own { id_table_of reader.old ≡ self.now }
+        requires id { 0 < id }
+        ensures own { id_table_of reader.new ≡ self.now }
+        ensures finds { FindsById R.shows id reader.old rows.old reader.new rows.new result }
+    {
+        let Some(way) = self.directory.look_up(&mut reader.ids, id) else {
+            return FoundId::Absent;
+        };
+        match self
+            .map
+            .find_into(&mut reader.reader, way, &mut reader.pile)
+        {
+            Found::Hole => FoundId::Pending,
+            Found::Rows => {
+                if copy_behind(reader.pile.as_slice(), id, rows) {
+                    FoundId::Rows
+                } else {
+                    FoundId::Moved
+                }
+            }
+        }
+    }
+
+    /// Requests an id that has no way. The first such request of the id's group is `Granted` a claim,
+    /// whose id must go to the writer, which admits it; until then the others are `Busy` or `Outrun`.
+    /// `Named`: the id has a way. Takes 10 steps where the claim is granted or another was within the
+    /// call, 2 to 9 where a way has the name, else 1.
+    pub fn request(&self, reader: &mut IdReader, id: u64) -> Requested
+        requires own { id_table_of reader.old ≡ self.now }
+        requires id { 0 < id }
+        ensures own { id_table_of reader.new ≡ self.now }
+        ensures answer { Requests id reader.old.ids reader.new.ids result }
+        ensures map { reader.new.caller ≡ reader.old.caller }
+    {
+        self.directory.request(&mut reader.ids, id)
+    }
+}

@@ -1,0 +1,49 @@
+//! Laws over the definitions alone. Nothing runs here: each function's contract is the law.
+ghost use Rattle.nr_idmap.specs.IdLaws.{HeardFinds, NamedIsOwedOrResident, OneSet, OneUpquery, OwedIsNamed, ReadsAsIds, TidyBegins, TiedReadsAsIds, UnnamedIsAbsent};
+
+/// A legal history of keys whose writer puts tags, as its writer by id does, is one of the partial map
+/// over ids, read by the tags, and both end with the same rows.
+pub fn reads_as_ids()
+    ensures { ReadsAsIds }
+{}
+
+/// In it an id is resident with one set, of one key.
+pub fn one_set()
+    ensures { OneSet }
+{}
+
+/// So is each beginning of such a history, as what a reader has seen whom the writer has heard.
+pub fn tidy_begins()
+    ensures { TidyBegins }
+{}
+
+/// What the writer by id has seen is, by its tags, a legal history of the partial map over ids.
+pub fn tied_reads_as_ids()
+    ensures { TiedReadsAsIds }
+{}
+
+/// A find by id of a reader whose history the writer has heard answers the rows that the id has at that
+/// entry.
+pub fn heard_finds()
+    ensures { HeardFinds }
+{}
+
+/// An open upquery is for the id that is its way's name.
+pub fn owed_is_named()
+    ensures { OwedIsNamed }
+{}
+
+/// An id has one open upquery at most.
+pub fn one_upquery()
+    ensures { OneUpquery }
+{}
+
+/// An id that has a way has an open upquery or rows, and never both.
+pub fn named_is_owed_or_resident()
+    ensures { NamedIsOwedOrResident }
+{}
+
+/// An id that has no way has neither.
+pub fn unnamed_is_absent()
+    ensures { UnnamedIsAbsent }
+{}

@@ -1,0 +1,84 @@
+//! What the tokens of a map over ids tell each other.
+ghost use Rattle.std.specs.Prelude.{◌≡◌};
+ghost use Rattle.nr_board.specs.Meetings.{known_to, with_step};
+ghost use Rattle.nr_ids.specs.Tokens as ids;
+ghost use Rattle.nr_idmap.specs.IdNotes.{HearsIdNote, GathersById, known_to_reader, with_steps_of_note};
+ghost use Rattle.nr_idmap.specs.Keepers.{OwesSame, id_table_of};
+
+use crate::id_map::IdMap;
+use crate::tokens::{IdReader, IdWriter};
+use nr_map::Note;
+use std::marker::Model;
+
+/// What its maker had seen of the map and of the directory when the note was made. It goes to any
+/// thread with a message, and a reader hears it there. Its steps are the maker's, so nothing is lost
+/// where a note is dropped.
+#[derive(Drop)]
+pub struct IdNote {
+    map: Note,
+    ids: nr_ids::Note,
+}
+
+impl Model for IdNote {
+    ghost use Rattle.nr_idmap.specs.IdNotes.{IdKnown};
+
+    ghost Value = { IdKnown };
+
+    ghost view = { λ note. record { map = note.map; ids = note.ids } };
+}
+
+impl IdMap {
+    /// A note of what the reader has seen, in 1 step of the map and 1 of the directory. Else the reader
+    /// stays as it is.
+    pub fn note(&self, reader: &mut IdReader) -> IdNote
+        requires own { id_table_of reader.old ≡ self.now }
+        ensures reader { reader.new ≡ with_steps_of_note reader.old }
+        ensures note { result ≡ known_to_reader reader.old }
+    {
+        IdNote {
+            map: self.map.note(&mut reader.reader),
+            ids: self.directory.note(&mut reader.ids),
+        }
+    }
+
+    /// A note of what the writer has seen, in 1 step of the map and 1 of the directory. It goes with the
+    /// acknowledgement of a write.
+    pub fn note_writer(&self, writer: &mut IdWriter) -> IdNote
+        requires own { writer.old.table ≡ self.now }
+        ensures own { writer.new.table ≡ self.now }
+        ensures map { writer.new.writer ≡ with_step writer.old.writer }
+        ensures clerk { writer.new.clerk ≡ ids.with_step writer.old.clerk }
+        ensures asker { writer.new.asker ≡ writer.old.asker }
+        ensures note { result ≡ record { map = known_to writer.old.writer; ids = ids.known_to writer.old.clerk } }
+        ensures owes { OwesSame writer.old writer.new }
+    {
+        IdNote {
+            map: self.map.note_writer(&mut writer.writer),
+            ids: self.directory.note_clerk(&mut writer.clerk),
+        }
+    }
+
+    /// The reader learns, in 1 step of the map and 2 of the directory, all that the note's maker had
+    /// seen.
+    pub fn hear(&self, reader: &mut IdReader, note: IdNote)
+        requires own { id_table_of reader.old ≡ self.now }
+        requires note { record { map = note.map.table; directory = note.ids.directory } ≡ self.now }
+        ensures own { id_table_of reader.new ≡ self.now }
+        ensures hears { HearsIdNote reader.old note reader.new }
+    {
+        let IdNote { map, ids } = note;
+        self.map.hear(&mut reader.reader, map);
+        self.directory.hear(&mut reader.ids, ids);
+    }
+
+    /// The writer learns of all finds that the reader has made, and then the reader of all that the
+    /// writer has seen: 2 steps of the map for each. Laws then tell of these finds.
+    pub fn gather(&self, writer: &mut IdWriter, reader: &mut IdReader)
+        requires own { (writer.old.table ≡ self.now) × (id_table_of reader.old ≡ self.now) }
+        ensures own { (writer.new.table ≡ self.now) × (id_table_of reader.new ≡ self.now) }
+        ensures gathers { GathersById writer.old reader.old writer.new reader.new }
+        ensures owes { OwesSame writer.old writer.new }
+    {
+        self.map.gather(&mut writer.writer, &mut reader.reader);
+    }
+}
