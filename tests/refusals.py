@@ -1,9 +1,8 @@
 """Wrong bodies of crates, crates/NAME/must-fail/*.edit: the prover must refuse each.
 
 One check tries many wrong bodies of a crate, and proves no other function but those that they call. A wrong body stands in
-a copy of its function, of another name, so that the others call the right one. A function that has files of its proof, or
-is a trait's, is edited in its place, by one body a check. A wrong body is refused where a goal of its own function is
-open. Where it stands in no function, or another one's goal shows it, a line `refused in: NAME` of the edit, which rt passes
+a copy of its function, with the files of its proof, of another name, so that the others call the right one. A function of
+a trait is edited in its place, by one body a check. A wrong body is refused where a goal of its own function is open. Where it stands in no function, or another one's goal shows it, a line `refused in: NAME` of the edit, which rt passes
 over, names that one, and the wrong body has a check for itself. What isn't refused so is tried as rt must-fail does. All
 checks of a crate keep what they proved in one folder, for the next.
 """
@@ -33,7 +32,7 @@ class Function(NamedTuple):
 
 class Body(NamedTuple):
     """A wrong body: the functions that must be refused, where it stands, if that is the only one of them, and what to add to
-    that file for a copy, if it may be one."""
+    that file for a copy, if it may be one, with the files of its proof."""
 
     edit: str
     texts: dict
@@ -41,6 +40,7 @@ class Body(NamedTuple):
     path: str = ""
     lines: tuple = (0, 0)
     copy: str = ""
+    proof: dict = {}
 
 
 def function_at(lines, at):
@@ -66,10 +66,19 @@ def function_at(lines, at):
     return None
 
 
-def has_proof(folder, name):
-    """Whether a function has files of its proof."""
-    last = name.split("::")[-2:]
-    return any(it.is_dir() and [*it.parts[-len(last):]] == last for it in pathlib.Path(folder, "proofs").rglob(last[-1]))
+def proof_of(folder, name, number):
+    """The files of a function's proof, as those of its copy."""
+    ends = name.split("::")[-2:]
+    made = {}
+    for place in pathlib.Path(folder, "proofs").rglob(ends[-1]):
+        if not place.is_dir() or [*place.parts[-len(ends) :]] != ends:
+            continue
+        module = ".".join(place.relative_to(pathlib.Path(folder, "proofs")).parts)
+        own = re.compile(rf"\b(proofs\.{re.escape(module)})\b|\b({ends[-1]})(?=_spec\b)")
+        for file in place.rglob("*.antt"):
+            to = pathlib.Path(f"{place}_{number}", file.relative_to(place)).relative_to(folder)
+            made[str(to)] = own.sub(lambda it: f"{it[0]}_{number}", file.read_text())
+    return made
 
 
 def copy_of(function, text, number):
@@ -119,9 +128,10 @@ def read(rt, crate, edit, number):
     if len(found) != 1:
         return Body(edit, texts, names) if found else None
     path, one = found.pop()
-    if not is_within or one.owner is None or has_proof(crate.folder, names[0]):
+    if not is_within or one.owner is None:
         return Body(edit, texts, names, path, (one.first, one.last))
-    return Body(edit, texts, (f"{names[0]}_{number}",), path, copy=copy_of(one, texts[path], number))
+    copy, proof = copy_of(one, texts[path], number), proof_of(crate.folder, names[0], number)
+    return Body(edit, texts, (f"{names[0]}_{number}",), path, copy=copy, proof=proof)
 
 
 def groups(bodies):
@@ -174,6 +184,9 @@ def put(rt, room, group):
         before = file.read_text() + "\n"
         after = f"{before}{body.copy}\n"
         file.write_text(after)
+        for path, text in body.proof.items():
+            pathlib.Path(room, path).parent.mkdir(parents=True, exist_ok=True)
+            pathlib.Path(room, path).write_text(text)
         tried.append(body._replace(lines=(before.count("\n") + 1, after.count("\n"))))
     return tried, later
 

@@ -17,16 +17,17 @@ use Rattle.nr_board.specs.declared.answers.UpdateFault.{UpdateFault}
 use Rattle.nr_board.specs.declared.answers.UpdateFault.TheVariants as update
 use Rattle.nr_board.specs.Callers.{Caller, Table}
 use Rattle.nr_board.specs.WriterAnswers.{EvictsKey, UpdatesKey}
-use Rattle.nr_serve.specs.declared.dataflow.Turn.TheVariants as turn
+use Rattle.nr_serve.specs.declared.turns.Turn.TheVariants as turn
 use Rattle.nr_serve.specs.Counts.{GuestSeen}
 use Rattle.nr_serve.specs.Flows.{FlowSeen}
 use Rattle.nr_serve.specs.Hands.{capped}
-use Rattle.nr_serve.specs.Turns.{IsPast, SpendsOne, Turns}
+use Rattle.nr_serve.specs.Ends.{IsPast}
+use Rattle.nr_serve.specs.Turns.{SpendsOne, Turns}
 use Rattle.nr_load.specs.declared.flow.Turned.{Turned}
 use Rattle.nr_load.specs.declared.flow.Turned.TheVariants as turned
 use Rattle.nr_load.specs.declared.fault.LoadFault.{LoadFault}
 use Rattle.nr_load.specs.declared.fault.LoadFault.TheVariants as faults
-use Rattle.nr_load.specs.Base.{Changes, FollowsBase, GivesRow, IsRound, Rounds, StepsBase}
+use Rattle.nr_load.specs.Base.{Changes, FailsNever, FollowsBase, GivesRow, IsRound, Rounds, StepsBase}
 use Rattle.nr_load.specs.Flowed.{Changed, Flows, RefusesUpdate, IsTurn, TurnsOnce}
 use Rattle.nr_load.specs.Gained.{Gained}
 use Rattle.nr_load.proofs.Gaining.{evicts_gain, gained_none, gained_of, gained_then, turns_gain, updates_gain}
@@ -77,7 +78,7 @@ passed_round old new key fills fill.Already long past spends = passed_by old new
 passed_round old new key fills fill.Stale long past spends = passed_by old new key fills (Err fill.Stale) reply.Stale long refl spends
 passed_round old new key fills (fill.NoSlot counts) long past spends = absurd past
 
-pub turn_passes : (old new : FlowSeen (List ℕ)) (key fills : ℕ) → length old.source ≡ old.map.shape.keys → fills ≡ capped fills → Turns GivesRow old (turn.Passed key) new → TurnsOnce old new turned.Went fills fills
+pub turn_passes : (old new : FlowSeen (List ℕ)) (key fills : ℕ) → length old.source ≡ old.map.shape.keys → fills ≡ capped fills → Turns GivesRow FailsNever old (turn.Passed key) new → TurnsOnce old new turned.Went fills fills
 turn_passes old new key fills long small turns = record {
   count = 0;
   gained = turns_gain GivesRow old new (turn.Passed key) (turns.0, turns.1, turns.2);
@@ -85,7 +86,7 @@ turn_passes old new key fills long small turns = record {
   turn = passed_round old new key fills turns.0 long turns.1 turns.2;
 }
 
-pub turn_idles : (old new : FlowSeen (List ℕ)) (fills : ℕ) → fills ≡ capped fills → Turns GivesRow old turn.Idle new → TurnsOnce old new turned.Idle fills fills
+pub turn_idles : (old new : FlowSeen (List ℕ)) (fills : ℕ) → fills ≡ capped fills → Turns GivesRow FailsNever old turn.Idle new → TurnsOnce old new turned.Idle fills fills
 turn_idles old new fills small turns = record {
   count = 0;
   gained = turns_gain GivesRow old new turn.Idle turns;

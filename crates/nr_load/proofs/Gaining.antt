@@ -11,10 +11,11 @@ use Rattle.nr_board.specs.declared.answers.UpdateFault.{UpdateFault}
 use Rattle.nr_board.specs.declared.answers.UpdateFault.TheVariants as update
 use Rattle.nr_board.specs.WriterAnswers.{EvictsKey, FillsKey, UpdatesKey}
 use Rattle.nr_board.specs.Callers.{Caller, Grows}
-use Rattle.nr_serve.specs.declared.dataflow.Turn.{Turn}
-use Rattle.nr_serve.specs.declared.dataflow.Turn.TheVariants as turn
+use Rattle.nr_serve.specs.declared.turns.Turn.{Turn}
+use Rattle.nr_serve.specs.declared.turns.Turn.TheVariants as turn
 use Rattle.nr_serve.specs.Flows.{FlowSeen}
-use Rattle.nr_serve.specs.Turns.{IsPast, SpendsOne, Turns}
+use Rattle.nr_serve.specs.Ends.{IsPast}
+use Rattle.nr_serve.specs.Turns.{SpendsOne, Turns}
 use Rattle.nr_load.specs.Gained.{Gained, Tells}
 use Rattle.nr_load.proofs.Counting.{tells_both, tells_evict, tells_fill, tells_none, tells_update}
 
@@ -64,7 +65,9 @@ abbrev pub fills_of : Turn → ℕ
 fills_of turn.Idle = 0
 fills_of (turn.Filled key) = 1
 fills_of (turn.Passed key) = 0
+fills_of (turn.Failed key) = 0
 fills_of (turn.Kept counts) = 0
+fills_of (turn.Worn key) = 0
 
 abbrev passes : (keys key number : ℕ) (rows : List Row) (a b : Caller) (fault : FillFault) → IsPast fault → key < keys → FillsKey key number rows a b (Err fault) → Gained keys a b 0 0
 passes keys key number rows a b fill.NotAsked past low fills = grown 1 keys a b _ 0 0 fills.0 (tells_fill keys a.number key number rows _ low)
@@ -76,7 +79,7 @@ module _ {S : Type 0} (gives : S → (key bound : ℕ) → List Row → S → Ty
   pub near_post : (old new : FlowSeen S) (key : ℕ) (answer : Result (Unit {0}) FillFault) (spends : SpendsOne gives old key answer new) → spends.post.upquery.key < old.map.shape.keys
   near_post old new key answer spends = subst (λ (k : ℕ). k < old.map.shape.keys) (sym spends.key_is) spends.near
 
-  abbrev pub turns_gain : (old new : FlowSeen S) (answer : Turn) → Turns gives old answer new → Gained old.map.shape.keys old.writer new.writer 0 (fills_of answer)
+  abbrev pub turns_gain : (old new : FlowSeen S) (answer : Turn) → Turns gives (λ _ _ _ _. ⊥) old answer new → Gained old.map.shape.keys old.writer new.writer 0 (fills_of answer)
   turns_gain old new turn.Idle turns = gained_none old.map.shape.keys old.writer new.writer (ap (λ (flow : FlowSeen S). flow.writer) turns.2)
   turns_gain old new (turn.Filled key) turns =
       grown _ old.map.shape.keys old.writer new.writer _ 0 1 turns.answers.fills.gains
@@ -84,4 +87,6 @@ module _ {S : Type 0} (gives : S → (key bound : ℕ) → List Row → S → Ty
       (near_post old new key (Ok tt) turns))
   turns_gain old new (turn.Passed key) turns =
       passes old.map.shape.keys turns.2.post.upquery.key turns.2.post.upquery.number turns.2.answers.rows old.writer new.writer turns.0 turns.1 (near_post old new key (Err turns.0) turns.2) turns.2.answers.fills
+  turns_gain old new (turn.Failed key) turns = absurd turns.ends.failed
+  turns_gain old new (turn.Worn key) turns = absurd turns.ends.failed
   turns_gain old new (turn.Kept counts) turns = grown _ old.map.shape.keys old.writer new.writer [] 0 0 turns.answers.fills.grows (tells_none old.map.shape.keys)

@@ -21,6 +21,10 @@ base_deltas key x = record { plus = false; row = row_of key x } ∷ record { plu
 abbrev pub GivesRow : List ℕ → (key bound : ℕ) → List Row → List ℕ → Type 0
 GivesRow base key bound rows base' = (base' ≡ base) × (key < length base → rows ≡ row_of key (slice_index base key) ∷ [])
 
+-- it gives rows each time
+abbrev pub FailsNever : List ℕ → (key bound : ℕ) → List ℕ → Type 0
+FailsNever base key bound base' = ⊥
+
 -- a step adds one to the key's number, unless that is the last one
 abbrev pub StepsBase : List ℕ → ℕ → Option (List Delta) → List ℕ → Type 0
 StepsBase base key None base' = (slice_index base key ≡ last_count) × (base' ≡ base)

@@ -3,7 +3,7 @@ ghost use Rattle.std.specs.Prelude.{◌≡◌, ◌<◌, IfOk, length, replicate}
 ghost use Rattle.nr_load.specs.Base.{StepsBase};
 
 use nr_model::{Delta, Row, RowRoom, RowSet, RowSource};
-use nr_serve::Source;
+use nr_serve::{Source, SourceFault};
 use std::alloc::{AllocError, Global};
 use std::marker::Model;
 
@@ -46,11 +46,13 @@ impl RowSource for One {
 }
 
 impl Source for Base {
-    ghost use Rattle.nr_load.specs.Base.{GivesRow};
+    ghost use Rattle.nr_load.specs.Base.{FailsNever, GivesRow};
 
     ghost gives = { GivesRow };
 
-    fn rows(&mut self, key: u32, _bound: u32, room: &mut RowSet) {
+    ghost fails = { FailsNever };
+
+    fn rows(&mut self, key: u32, _bound: u32, room: &mut RowSet) -> Result<(), SourceFault> {
         match self.values.get(key as usize) {
             Some(value) => {
                 let row = Row {
@@ -61,6 +63,7 @@ impl Source for Base {
             }
             None => *room = RowSet::new(),
         }
+        Ok(())
     }
 }
 

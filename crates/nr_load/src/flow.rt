@@ -62,7 +62,7 @@ fn turn_once<R: Wait>(rt: &R, flow: &mut Dataflow<'_, Base>, fills: &mut u64) ->
     match flow.turn_or_sleep(rt) {
         Turn::Idle => Turned::Idle,
         Turn::Passed(_) => Turned::Went,
-        Turn::Kept(_) => unreachable!(),
+        Turn::Failed(_) | Turn::Kept(_) | Turn::Worn(_) => unreachable!(),
         Turn::Filled(key) => {
             *fills = before.saturating_add(1);
             match change(flow, key, *fills) {
