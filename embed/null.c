@@ -169,26 +169,6 @@ uint32_t nr_stats(nr_writer *writer, nr_slots *slots) {
   return writer ? proved_nr_stats(writer, slots) : NR_CLOSED;
 }
 
-uint32_t proved_nr_meet(nr_reader *reader, nr_writer *writer);
-uint32_t nr_meet(nr_reader *reader, nr_writer *writer) {
-  return reader && writer ? proved_nr_meet(reader, writer) : NR_CLOSED;
-}
-
-uint32_t proved_nr_meet_readers(nr_reader *reader, nr_reader *other);
-uint32_t nr_meet_readers(nr_reader *reader, nr_reader *other) {
-  return reader && other ? proved_nr_meet_readers(reader, other) : NR_CLOSED;
-}
-
-uint32_t proved_nr_gather(nr_writer *writer, nr_reader *reader);
-uint32_t nr_gather(nr_writer *writer, nr_reader *reader) {
-  return writer && reader ? proved_nr_gather(writer, reader) : NR_CLOSED;
-}
-
-uint32_t proved_nr_gather_pin(nr_writer *writer, nr_reader *reader);
-uint32_t nr_gather_pin(nr_writer *writer, nr_reader *reader) {
-  return writer && reader ? proved_nr_gather_pin(writer, reader) : NR_CLOSED;
-}
-
 uint32_t proved_nr_open_queue(uint32_t keys, uint32_t capacity, uint32_t posters, nr_taker *taker);
 uint32_t nr_open_queue(uint32_t keys, uint32_t capacity, uint32_t posters, nr_taker *taker) {
   return taker ? proved_nr_open_queue(keys, capacity, posters, taker) : NR_CLOSED;

@@ -166,7 +166,7 @@ static void test_no_key(nr_writer *writer, nr_reader *reader, nr_poster *poster)
 }
 
 /* A reader that holds a set where it is to hold none, and the other way round, of a map whose key 0 has two rows. */
-static void test_holding(nr_writer *writer, nr_reader *reader) {
+static void test_holding(nr_reader *reader) {
   uint64_t number = 88;
   uint32_t count = 77;
   nr_row row = {5, 5};
@@ -176,9 +176,6 @@ static void test_holding(nr_writer *writer, nr_reader *reader) {
   WANTS(NR_NOT_HOLDING, nr_again(reader, 0));
   WANTS(NR_NOT_HOLDING, nr_row_at(reader, 0, &row));
   WANTS(NR_NOT_HOLDING, nr_copy(reader, &rows));
-  WANTS(NR_NOT_HOLDING, nr_gather_pin(writer, reader));
-  WANTS(NR_DONE, nr_meet(reader, writer));
-  WANTS(NR_DONE, nr_gather(writer, reader));
   wants("a row that stays", 5, (uint32_t)row.a);
   WANTS(NR_ROWS, nr_pin(reader, 0, &count));
   count = 77;
@@ -187,9 +184,6 @@ static void test_holding(nr_writer *writer, nr_reader *reader) {
   static nr_wanted wanted;
   WANTS(NR_HOLDING, nr_find_each(reader, &wanted, 1));
   WANTS(NR_HOLDING, nr_ask(reader, 1, &number));
-  WANTS(NR_HOLDING, nr_meet(reader, writer));
-  WANTS(NR_HOLDING, nr_gather(writer, reader));
-  WANTS(NR_DONE, nr_gather_pin(writer, reader));
   wants("rows that stay", 99, (uint32_t)rows.count);
   wants("a count that stays", 77, count);
   wants("a number that stays", 88, (uint32_t)number);
@@ -337,10 +331,6 @@ static void test_closed(nr_writer *writer, nr_reader *reader, nr_remains *remain
   WANTS(NR_CLOSED, nr_state(writer, 0));
   WANTS(NR_CLOSED, nr_number(writer, 0, &number));
   WANTS(NR_CLOSED, nr_stats(writer, &slots));
-  WANTS(NR_CLOSED, nr_meet(reader, writer));
-  WANTS(NR_CLOSED, nr_meet_readers(reader, reader));
-  WANTS(NR_CLOSED, nr_gather(writer, reader));
-  WANTS(NR_CLOSED, nr_gather_pin(writer, reader));
   WANTS(NR_CLOSED, nr_open_poster(taker, &posts));
   WANTS(NR_CLOSED, nr_return_poster(taker, poster));
   WANTS(NR_CLOSED, nr_post(poster, 0, 0));
@@ -363,13 +353,6 @@ static void test_closed(nr_writer *writer, nr_reader *reader, nr_remains *remain
 static void test_other_closed(nr_writer *writer, nr_reader *reader) {
   nr_writer no_writer = {0};
   nr_reader no_reader = {0};
-  WANTS(NR_CLOSED, nr_meet(reader, &no_writer));
-  WANTS(NR_CLOSED, nr_meet(&no_reader, writer));
-  WANTS(NR_CLOSED, nr_gather(writer, NULL));
-  WANTS(NR_CLOSED, nr_gather(NULL, reader));
-  WANTS(NR_CLOSED, nr_gather_pin(writer, &no_reader));
-  WANTS(NR_CLOSED, nr_meet_readers(reader, &no_reader));
-  WANTS(NR_CLOSED, nr_meet_readers(NULL, reader));
   WANTS(NR_CLOSED, nr_return_reader(writer, &no_reader));
   WANTS(NR_CLOSED, nr_return_reader(&no_writer, reader));
   WANTS(NR_CLOSED, nr_open_reader(writer, NULL));
@@ -418,7 +401,7 @@ int main(void) {
   test_reader(&worn, &other);
   test_each(&other);
   test_no_key(&worn, &other, &poster);
-  test_holding(&worn, &other);
+  test_holding(&other);
   test_other_closed(&worn, &other);
   test_return(&worn, &other);
   test_reclaiming(&giving, &holder, &remains);

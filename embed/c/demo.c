@@ -104,7 +104,7 @@ static void test_no_key(nr_writer *writer, nr_reader *reader, nr_poster *poster,
 }
 
 /* The calls of one thread, at the end. */
-static void test_calls(nr_writer *writer, nr_reader *one, nr_reader *two) {
+static void test_calls(nr_writer *writer, nr_reader *one) {
   nr_delta batch[2] = {{{7, 49}, false}, {{9, 9}, true}};
   nr_rows rows;
   if (nr_update(writer, 7, batch, 2) != NR_DONE || nr_update(writer, 7, batch, 2) != NR_NO_ROW) stop("an update");
@@ -118,13 +118,8 @@ static void test_calls(nr_writer *writer, nr_reader *one, nr_reader *two) {
   if (nr_ask(one, 7, &number) != NR_SEND || number != 1) stop("a request after a cancel");
   nr_row apart[2] = {{2, 0}, {1, 0}};
   if (nr_fill(writer, 7, 0, apart, 1) != NR_STALE || nr_fill(writer, 7, 1, apart, 2) != NR_NOT_SORTED) stop("a late fill");
-  if (nr_meet(one, writer) != NR_DONE || nr_meet_readers(one, two) != NR_DONE) stop("a meeting");
-  if (nr_gather(writer, two) != NR_DONE || nr_gather_pin(writer, one) != NR_NOT_HOLDING) stop("a gather");
   uint32_t held;
   if (nr_pin(one, 8, &held) != NR_ROWS || held != 2) stop("a pin at the end");
-  if (nr_gather_pin(writer, one) != NR_DONE || nr_gather(writer, one) != NR_HOLDING) stop("a gather of a pin");
-  if (nr_meet(one, writer) != NR_HOLDING || nr_meet_readers(one, two) != NR_HOLDING) stop("a meeting of a holder");
-  if (nr_meet_readers(two, one) != NR_HOLDING) stop("a meeting with a holder");
   if (nr_again(one, 8) != NR_ROWS || nr_again(one, 9) != NR_OTHER) stop("a find again");
   if (nr_update(writer, 8, batch + 1, 1) != NR_DONE || nr_again(one, 8) != NR_OTHER) stop("a find again after an update");
   nr_size sizes;
@@ -183,7 +178,7 @@ int main(void) {
   uint32_t key = 0;
   uint64_t number = 0;
   if (nr_take(&taker, &key, &number) != NR_EMPTY) stop("a take of no key");
-  test_calls(&writer, &clients[0].reader, &clients[1].reader);
+  test_calls(&writer, &clients[0].reader);
   for (int i = 0; i < READERS; i++) {
     nr_close_reader(&clients[i].reader);
     nr_close_poster(&clients[i].poster);

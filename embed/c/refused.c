@@ -44,7 +44,7 @@ static bool again(uint32_t answer, void *const *at, const char *what) {
 }
 
 /* Every call that opens nothing. */
-static void call_all(nr_writer *writer, nr_reader *reader, nr_reader *other, nr_taker *taker, nr_poster *poster) {
+static void call_all(nr_writer *writer, nr_reader *reader, nr_taker *taker, nr_poster *poster) {
   const nr_row rows[2] = {{1, 1}, {2, 2}};
   const nr_delta batch = {{3, 3}, true};
   static nr_rows found;
@@ -64,13 +64,9 @@ static void call_all(nr_writer *writer, nr_reader *reader, nr_reader *other, nr_
   static nr_wanted wanted;
   wanted.key = key;
   want(nr_find_each(reader, &wanted, 1) == NR_DONE && wanted.answer == NR_ROWS, "finds by one call");
-  nr_meet(reader, writer);
-  nr_meet_readers(reader, other);
-  nr_gather(writer, reader);
   want(nr_pin(reader, key, &count) == NR_ROWS && nr_row_at(reader, 2, &row) == NR_ROWS, "a pin");
   want(nr_copy(reader, &found) == NR_ROWS && found.count == 3, "a copy of a held set");
   want(nr_again(reader, key) == NR_ROWS, "a find again");
-  nr_gather_pin(writer, reader);
   nr_release(reader);
   want(nr_find_kept(reader, key, &found) == NR_ROWS, "a find that is kept");
   nr_release(reader);
@@ -107,7 +103,7 @@ static bool refuse(long after) {
   }
   want(refusals == (grants < 0), "one answer of no memory for one refusal");
   long before = requests;
-  call_all(&writer, &readers[0], &readers[1], &taker, &poster);
+  call_all(&writer, &readers[0], &taker, &poster);
   want(nr_return_reader(&writer, &readers[1]) == NR_DONE, "a reader that is returned");
   want(nr_return_poster(&taker, &poster) == NR_DONE, "a poster that is returned");
   want(requests == before, "calls that ask for no memory");

@@ -11,7 +11,6 @@ pub mod WriterHandles
 pub mod WriterFollows
 pub mod Openings
 pub mod Live
-pub mod Meets
 pub mod Pins
 pub mod Kept
 pub mod Many

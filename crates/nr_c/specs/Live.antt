@@ -50,6 +50,12 @@ abbrev pub WhenOther : {One Other : Type 0} → ℕ → (List One → List Other
 WhenOther code does one other one' other' =
     ((code ≡ answer_closed) × (one ≡ []) × (one' ≡ one) × (other' ≡ other)) ⊎ ((code ≡ answer_live) × IsLive one × IsLive other × (one' ≡ one) × (other' ≡ other)) ⊎ (IsLive one × (other ≡ []) × does one other one' other')
 
+-- the handles that are live lead to sides of one map
+abbrev pub OneMap : List ReaderSide → List WriterSide → Type 0
+OneMap (held ∷ helds) (other ∷ others) = held.map.value ≡ other.map.value
+OneMap (held ∷ helds) [] = ⊤
+OneMap [] writer = ⊤
+
 -- how many keys the map of a handle has
 abbrev pub reader_keys : ReaderSide → ℕ
 reader_keys side = side.map.value.shape.keys

@@ -6,8 +6,8 @@
 //! C has a handle for each reader, one for the writer and one for what remains of a map, and of a queue
 //! of requests one for each poster and one for the taker. A handle is one word, the place of a
 //! token on the heap or none, and contracts see the token. What C owes is each function's
-//! `requires`, and stands beside it in the header too: the handle is live and in the hands of one
-//! call at a time. What costs next to nothing to test is tested, as whether a key is one of the map's.
+//! `requires`, and stands beside it in the header too: a handle is in the hands of one call at a time.
+//! What costs next to nothing to test is tested, as whether a handle is live and a key one of the map's.
 #![tactic(auto)]
 
 mod codes;
@@ -15,7 +15,6 @@ mod hand;
 mod kept;
 mod layout;
 mod many;
-mod meets;
 mod open;
 mod parts;
 mod pins;

@@ -2,8 +2,7 @@
 ghost use Rattle.std.specs.Prelude.{◌≡◌, ◌↔◌, [], Err, IfOk, IfErr};
 ghost use Rattle.nr_map.specs.Opened.{IsOpened};
 ghost use Rattle.nr_c.specs.declared.hand.Hand.TheVariants as hand;
-ghost use Rattle.nr_c.specs.Live.{MayRead, WhenBothLive, WhenEmpty, WhenLive, WhenOther};
-ghost use Rattle.nr_c.specs.Meets.{OneMap};
+ghost use Rattle.nr_c.specs.Live.{MayRead, OneMap, WhenBothLive, WhenEmpty, WhenLive, WhenOther};
 ghost use Rattle.nr_c.specs.Openings.{IsNewWriter, IsRefused, Opens, ReturnsReader, TakesReader};
 ghost use Rattle.nr_c.specs.Sizes.{TellsSizes, shape_of_sizes};
 
@@ -22,8 +21,8 @@ use std::sync::Arc;
 
 /// Opens a map of that shape, and makes the writer's handle live. Answers `NR_DONE`; `NR_LIVE` where
 /// the handle is live already; `NR_BAD_SIZE` where a size is out of its limits, 1 to 65,536 keys, 1 to
-/// 131,072 slots and 1 to 1,024 readers, or 1 to 4,194,303 slots, 1 to as many keys and 1 to 65,535
-/// readers; with a first ticket number up to 4,194,303 and 1 to 255 rows a key; or `NR_NO_MEMORY`.
+/// 131,072 slots and 1 to 1,024 readers, or 1 to 4,294,967,295 keys, 1 to 4,194,303 slots and
+/// 1 to 65,535 readers; with a first ticket number up to 4,194,303 and 1 to 255 rows a key; or `NR_NO_MEMORY`.
 /// The handle stays as it was where it isn't done.
 #[unsafe(no_mangle)]
 pub extern "C" fn nr_open(alloc: Global, shape: &NrShape, writer: &mut NrWriter) -> u32

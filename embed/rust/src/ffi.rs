@@ -83,10 +83,6 @@ extern "C" {
     pub fn nr_number(writer: *mut Handle, key: u32, number: *mut u64) -> u32;
     pub fn nr_stats(writer: *mut Handle, slots: *mut SlotCounts) -> u32;
     pub fn nr_sizes(reader: *mut Handle, sizes: *mut Sizes) -> u32;
-    pub fn nr_meet(reader: *mut Handle, writer: *mut Handle) -> u32;
-    pub fn nr_meet_readers(reader: *mut Handle, other: *mut Handle) -> u32;
-    pub fn nr_gather(writer: *mut Handle, reader: *mut Handle) -> u32;
-    pub fn nr_gather_pin(writer: *mut Handle, reader: *mut Handle) -> u32;
     pub fn nr_open_queue(keys: u32, capacity: u32, posters: u32, taker: *mut Handle) -> u32;
     pub fn nr_open_poster(taker: *mut Handle, poster: *mut Handle) -> u32;
     pub fn nr_close_poster(poster: *mut Handle);

@@ -1,10 +1,10 @@
 //! What threads look keys up with.
 use crate::ffi::{self, Handle};
 use crate::map::Map;
-use crate::{Asked, Row, Rows, Sizes, Ticket, Wanted, Writer};
+use crate::{Asked, Row, Rows, Sizes, Ticket, Wanted};
 
 /// A reader of a map. Each call that takes a key panics where the map has no such key. One that is dropped is not opened
-/// again; [`Writer::return_reader`] gives it back.
+/// again; [`Writer::return_reader`](crate::Writer::return_reader) gives it back.
 #[derive(Debug)]
 pub struct Reader {
     handle: Handle,
@@ -120,24 +120,6 @@ impl Reader {
         self.holds.then(|| Pin { reader: self, count })
     }
 
-    /// Learns all that the writer of its map has seen. No key and no answer changes by it. Panics where the two are of
-    /// different maps.
-    pub fn meet(&mut self, writer: &mut Writer) {
-        self.release();
-        self.map.is_of(&writer.map);
-        // SAFETY: both handles are live and of one map, and the reader holds nothing.
-        unsafe { ffi::nr_meet(&mut self.handle, &mut writer.handle) };
-    }
-
-    /// Learns all that another reader of its map has seen, as from the writer.
-    pub fn meet_reader(&mut self, other: &mut Reader) {
-        self.release();
-        other.release();
-        self.map.is_of(&other.map);
-        // SAFETY: both handles are live and of one map, and neither reader holds a set.
-        unsafe { ffi::nr_meet_readers(&mut self.handle, &mut other.handle) };
-    }
-
     /// The sizes of its map.
     pub fn sizes(&mut self) -> Sizes {
         let mut sizes = Sizes::default();
@@ -227,12 +209,6 @@ impl Pin<'_> {
     /// by the same fill or update. Panics where the map has no such key.
     pub fn again(&mut self, key: u32) -> bool {
         self.reader.again(key)
-    }
-
-    /// The handle, of a reader that holds a set, for a call of the writer of its map. Panics where it is of another.
-    pub(crate) fn for_writer(&mut self, writer: &Map) -> &mut Handle {
-        writer.is_of(&self.reader.map);
-        &mut self.reader.handle
     }
 }
 

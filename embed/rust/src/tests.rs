@@ -233,17 +233,12 @@ fn a_reader_is_returned_to_its_own_map() {
 }
 
 #[test]
-fn tokens_of_one_map_meet_and_gather() {
+fn a_pin_has_the_rows_and_a_reader_the_sizes() {
     let ReaderMap { mut writer, mut readers } = ReaderMap::open(&Shape::new(1, 4, 2)).unwrap();
     let sizes = Sizes { keys: 1, slots: 4, readers: 2, rows: 15 };
     assert_eq!(readers[0].sizes(), sizes);
     writer.fill(asked(&mut readers[0], 0), &[ONE]).unwrap();
-    let [one, two] = &mut readers[..] else { panic!() };
-    one.meet(&mut writer);
-    two.meet_reader(one);
-    writer.gather(two);
-    let mut pin = one.pin(0).expect("the key is filled");
-    writer.gather_pin(&mut pin);
+    let mut pin = readers[0].pin(0).expect("the key is filled");
     assert_eq!((pin.len(), pin.row(0), pin.row(1)), (1, Some(ONE), None));
     assert!(!pin.is_empty());
     assert_eq!(pin.copy(&mut Rows::new()), [ONE]);
@@ -252,13 +247,6 @@ fn tokens_of_one_map_meet_and_gather() {
 /// Two maps of the same shape.
 fn two_maps() -> [ReaderMap; 2] {
     [0, 1].map(|_| ReaderMap::open(&Shape::new(1, 3, 1)).unwrap())
-}
-
-#[test]
-#[should_panic(expected = "the tokens are of two maps")]
-fn tokens_of_two_maps_do_not_meet() {
-    let [mut one, mut two] = two_maps();
-    one.writer.gather(&mut two.readers[0]);
 }
 
 #[test]

@@ -2,7 +2,7 @@
 use crate::answers::done;
 use crate::ffi::{self, Handle};
 use crate::map::Map;
-use crate::{Cancel, Delta, Fault, KeyKind, Pin, Reader, Row, Rows, SlotCounts, Ticket, Unfilled, Updated};
+use crate::{Cancel, Delta, Fault, KeyKind, Reader, Row, Rows, SlotCounts, Ticket, Unfilled, Updated};
 
 /// A map's writer. Each call that takes a key panics where the map has no such key.
 #[derive(Debug)]
@@ -139,21 +139,6 @@ impl Writer {
         // SAFETY: the handle is live, and the counts are laid out as the header's.
         unsafe { ffi::nr_stats(&mut self.handle, &mut counts) };
         counts
-    }
-
-    /// Learns all that a reader of its map has seen, and then the reader all that the writer has. No key and no answer
-    /// changes by it. Panics where the two are of different maps.
-    pub fn gather(&mut self, reader: &mut Reader) {
-        let reader = reader.for_writer(&self.map);
-        // SAFETY: both handles are live and of one map, and the reader holds nothing.
-        unsafe { ffi::nr_gather(&mut self.handle, reader) };
-    }
-
-    /// The same with a reader that holds a set, which it keeps.
-    pub fn gather_pin(&mut self, pin: &mut Pin<'_>) {
-        let reader = pin.for_writer(&self.map);
-        // SAFETY: both handles are live and of one map, and the reader holds a set.
-        unsafe { ffi::nr_gather_pin(&mut self.handle, reader) };
     }
 }
 
