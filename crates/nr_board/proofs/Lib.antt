@@ -23,6 +23,7 @@ pub mod Shortage
 pub mod Brings
 pub mod WriterSteps
 pub mod Scanning
+pub mod SearchSeats
 pub mod SearchSteps
 pub mod PollNotes
 pub mod Polled

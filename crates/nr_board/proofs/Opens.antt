@@ -1,7 +1,8 @@
 -- The table at opening keeps the rule.
-use Rattle.std.proofs.Common.{Bool, List, [], ap, arith, cond, false, get_or, ne_eqb, refl, replicate, subst, suc, sym, true, zero, ℕ, ◌^◌, ◌+◌, ◌<◌, ◌∷◌, ◌≡◌, ◌≤◌}
+use Rattle.std.proofs.Common.{Bool, List, [], ap, arith, cond, false, get_or, length, ne_eqb, refl, replicate, subst, suc, sym, true, zero, ℕ, ◌^◌, ◌*◌, ◌+◌, ◌++◌, ◌-◌, ◌<◌, ◌∙◌, ◌∷◌, ◌≡◌, ◌≤◌}
 use mathlib.Core.Option.{some, some-injective, some-ne-none}
-use lib.ListN.{get_elem?}
+use lib.ListN.{get_elem?, get_or-append, length-append, length-replicate}
+use lib.Seq.{get_or-append_right}
 use Rattle.atomic_table.specs.Table.{opening}
 use Rattle.nr_model.specs.declared.states.KeyState.TheVariants as states
 use Rattle.std.proofs.lemmas.List.{get_or-replicate}
@@ -9,12 +10,15 @@ use Rattle.nr_core.proofs.Opening.{blank_at_opening, core_opens}
 use Rattle.nr_core.specs.Core.{AreNumbers, ShowsState}
 use Rattle.nr_core.specs.Roles.{is_by}
 use Rattle.nr_machine.specs.Sizes.{IsShape}
-use Rattle.nr_machine.specs.Slots.{departures, name_number, words_at_opening}
+use Rattle.nr_machine.specs.Slots.{departures, layout, name_number, words_at_opening}
+use Rattle.nr_words.specs.Places.{total_of}
+use Rattle.nr_core.proofs.WordPlaces.{departures_inside}
 use Rattle.nr_machine.specs.declared.shape.Shape.{Shape}
 use Rattle.nr_marks.proofs.ListPlaces.{no_places}
 use Rattle.nr_marks.proofs.SeatMarks.{opens_marked}
 use Rattle.nr_marks.specs.Marked.{AllSince, Since}
-use Rattle.nr_board.specs.Announcing.{Hears}
+use Rattle.nr_board.specs.Announcing.{Hears, says_at}
+use Rattle.nr_board.specs.declared.board.Plan.{Plan}
 use Rattle.nr_board.specs.Rule.{Fits, Kept, marks_of, role_of}
 use Rattle.nr_board.specs.Views.{View, opener}
 use Rattle.nr_machine.specs.States.{opening_desk}
@@ -39,25 +43,39 @@ none_named shape fits key near = let core = core_opens shape fits 0 (omega arith
 first_counts : (shape : Shape) → IsShape shape → (slot : ℕ) → slot < shape.slots → get_or (words_at_opening shape) (departures shape slot) 0 ≡ shape.first_count
 first_counts shape fits slot near = (((core_opens shape fits 0 (omega arith)).knows 0 (Writer (opening_desk shape)) refl).free slot (omega arith) near).1
 
-pub opens_so : (shape : Shape) → IsShape shape → shape.first_count < 2 ^ 64 → Kept shape (opening (words_at_opening shape) [] (opener shape))
-opens_so shape fits small = let view = opener shape in
+-- behind the layout lie eight zeros for each reader that has a word
+abbrev pub words_of : Plan → List ℕ
+words_of plan = words_at_opening plan.shape ++ replicate (8 * plan.announcers) 0
+
+pub words_stand : (plan : Plan) → IsShape plan.shape → length (words_of plan) ≡ total_of (layout plan.shape) + 8 * plan.announcers
+words_stand plan fits = let room = 8 * plan.announcers in
+    length-append (words_at_opening plan.shape) (replicate room 0) ∙ omega (arith, (core_opens plan.shape fits 0 (omega arith)).wide, length-replicate {A = ℕ} room 0)
+
+pub opens_so : (plan : Plan) → IsShape plan.shape → plan.shape.first_count < 2 ^ 64 → Kept plan.shape (opening (words_of plan) [] (opener plan))
+opens_so plan fits small = let shape = plan.shape in let view = opener plan in
+    let wide = (core_opens shape fits 0 (omega arith)).wide in
+    let behind = replicate {A = ℕ} (8 * plan.announcers) 0 in
+    let long = words_stand plan fits in
+    let within : (at : ℕ) → at < total_of (layout shape) → get_or (words_of plan) at 0 ≡ get_or (words_at_opening shape) at 0 = λ at low. get_or-append (words_at_opening shape) behind 0 at (omega (arith, wide, low)) in
+    let departs : (slot : ℕ) → slot < shape.slots → get_or (words_of plan) (departures shape slot) 0 ≡ shape.first_count = λ slot near. within (departures shape slot) (departures_inside shape slot near) ∙ first_counts shape fits slot near in
+    let unsaid : (own : ℕ) → get_or (words_of plan) (says_at shape own) 0 ≡ 0 = λ own. get_or-append_right (words_at_opening shape) behind (says_at shape own) 0 (omega (arith, wide)) ∙ zeros (8 * plan.announcers) (says_at shape own - length (words_at_opening shape)) in
     let at_most : (y : Bool) → cond y 1 0 + 0 ≤ 1 = λ y. elim y as (λ z. cond z 1 0 + 0 ≤ 1) [ true ↦ omega arith | false ↦ omega arith ] in record {
       log = [];
       counted = words_at_opening shape;
       counts_words = record {
-        room = omega (arith, (core_opens shape fits 0 (omega arith)).wide);
-        same = λ _ _ _. refl;
-        less = λ slot near. let first = first_counts shape fits slot near in omega arith;
-        small = λ slot near. let first = first_counts shape fits slot near in omega arith;
+        room = omega (arith, long);
+        same = λ at low _. sym (within at low);
+        less = λ slot near. let first = first_counts shape fits slot near in let now = departs slot near in omega arith;
+        small = λ slot near. let now = departs slot near in omega arith;
       };
-      announcers = 0;
+      announcers = plan.announcers;
       told_of = λ id u at _. ap (λ (v : View). v.announcers) (sym (only_one view id u at));
       announced = record {
-        space = omega (arith, (core_opens shape fits 0 (omega arith)).wide);
-        says = λ id own u at his low. absurd (omega arith);
+        space = omega (arith, long);
+        says = λ id own u at his low. unsaid own ∙ ap (λ (v : View). v.says) (only_one view id u at);
         wordless = λ id u at _. ap (λ (v : View). v.says) (sym (only_one view id u at));
         holds_it = λ id slot u at loud grips. absurd (let none : u.says ≡ 0 = ap (λ (v : View). v.says) (sym (only_one view id u at)) in omega arith);
-        unsaid = λ own _ low. absurd (omega arith);
+        unsaid = λ own _ _. unsaid own;
       };
       hears = λ id u at _. subst (Hears (view ∷ [])) (only_one view id u at) (record { quiet = λ k slot own v _ _ low. absurd (let none = zeros shape.slots slot in omega arith); unheard = λ key slot _. zeros shape.slots slot });
       core = core_opens shape fits 0 (omega arith);

@@ -1,5 +1,5 @@
 -- The writer loads a reader's word: what it hears then is so.
-use Rattle.std.proofs.Common.{◌≡◌, ◌≢◌, ℕ, suc, ◌+◌, ◌<◌, ◌⊎◌, ⊎_elim, inl, inr, List, zero, length, [], ◌∷◌, Bool, true, false, cond, get_or, map, set, eq-eqb, refl, sym, ap, ◌∙◌, subst, arith}
+use Rattle.std.proofs.Common.{◌≡◌, ◌≢◌, ℕ, suc, ◌+◌, ◌<◌, ◌≤◌, ◌⊎◌, ⊎_elim, inl, inr, List, zero, length, [], ◌∷◌, Bool, true, false, cond, get_or, map, set, eq-eqb, refl, sym, ap, ◌∙◌, subst, arith}
 use Rattle.std.proofs.lemmas.Bool.{eqb-true, ltb-true}
 use Rattle.std.specs.Prelude.{nat_eq, nat_lt, not, ◌&&◌}
 use mathlib.Core.Logic.{dite}
@@ -12,46 +12,54 @@ use Rattle.atomic_table.specs.Table.{Allows, Me, State, keeps, step}
 use Rattle.nr_core.proofs.Choices.{by_cases}
 use Rattle.nr_core.proofs.Sums.{at_set, term_le}
 use Rattle.nr_core.specs.Roles.{holds, is_by, is_writer, keeps as kept_slots, retirements}
-use Rattle.nr_machine.specs.Slots.{name_number, named}
+use Rattle.nr_machine.specs.Slots.{layout, name_number, named}
+use Rattle.nr_words.specs.Places.{total_of}
 use Rattle.nr_machine.specs.declared.roles.Desk.{Desk}
 use Rattle.nr_machine.specs.declared.roles.Role.{Role}
 use Rattle.nr_machine.specs.declared.roles.Role.TheVariants.{Writer}
 use Rattle.nr_machine.specs.declared.shape.Shape.{Shape}
 use Rattle.nr_marks.specs.Marked.{KnowsMarks}
 use Rattle.nr_board.proofs.Heard.{AllHear, hears_after, no_reader}
-use Rattle.nr_board.proofs.WriterSteps.{same_desk}
+use Rattle.nr_board.proofs.WriterSteps.{same_desk, writer_shape}
 use Rattle.nr_core.proofs.Counting.{named_inside, names_it}
 use Rattle.nr_board.proofs.Notes.{replaced}
 use Rattle.nr_board.specs.Announcing.{Hears, lends, says_at}
 use Rattle.nr_board.specs.Rule.{Fits, Kept, marks_of, role_of}
-use Rattle.nr_board.specs.Scans.{has_scanned, heard_from}
+use Rattle.nr_board.specs.Scans.{has_scanned, heard_before, heard_from, heard_now}
 use Rattle.nr_board.specs.Views.{View}
 
 -- what is heard more is heard of a retired slot, of that reader, whose word says something else
 abbrev HeardMore : Desk → ℕ → ℕ → ℕ → ℕ → ℕ → Type 0
-HeardMore desk own found slot before after = (after ≡ before) ⊎ ((after ≡ suc own) × (before ≡ own) × (found ≢ suc slot) × (0 < retirements slot desk.retired))
+HeardMore desk own found slot before after = (after ≤ before) ⊎ ((after ≡ suc own) × (own ≤ before) × (found ≢ suc slot) × (0 < retirements slot desk.retired))
 
-heard_one : (desk : Desk) (own found slot count : ℕ) → HeardMore desk own found slot count (cond (nat_lt 0 (retirements slot desk.retired) && (nat_eq count own && not (nat_eq found (suc slot)))) (suc own) count)
-heard_one desk own found slot count = by_cases (λ (b : Bool). HeardMore desk own found slot count (cond (b && (nat_eq count own && not (nat_eq found (suc slot)))) (suc own) count)) (nat_lt 0 (retirements slot desk.retired))
-    (λ waits. by_cases (λ (b : Bool). HeardMore desk own found slot count (cond (b && not (nat_eq found (suc slot))) (suc own) count)) (nat_eq count own)
-    (λ next. by_cases (λ (b : Bool). HeardMore desk own found slot count (cond (not b) (suc own) count)) (nat_eq found (suc slot))
-    (λ says. inl refl)
-    (λ other. inr (refl, eqb-true count own next, (λ e. differ (sym (eq-eqb found (suc slot) e) ∙ other)), ltb-true 0 (retirements slot desk.retired) waits)))
-    (λ later. inl refl))
-    (λ named. inl refl)
-  where
-    differ : true ≡ false → ⊥
-    differ clash = absurd (cc)
+-- what is heard anew was heard no less before
+heard_less : (own count : ℕ) → heard_before own count ≤ count
+heard_less own count = by_cases (λ (b : Bool). cond {A = ℕ} b 0 count ≤ count) (nat_eq own 0) (λ _. omega arith) (λ _. omega arith)
 
-heard_each : (desk : Desk) (own found first : ℕ) (heard : List ℕ) (at : ℕ) → HeardMore desk own found (first + at) (get_or heard at 0) (get_or (heard_from desk own found first heard) at 0)
-heard_each desk own found first [] at = inl refl
-heard_each desk own found first (count ∷ heard) zero = let same : first ≡ first + 0 = omega arith in
-    subst (λ (slot : ℕ). HeardMore desk own found slot count (get_or (heard_from desk own found first (count ∷ heard)) 0 0)) same (heard_one desk own found first count)
-heard_each desk own found first (count ∷ heard) (suc at) = let same : suc first + at ≡ first + suc at = omega arith in
-    subst (λ (slot : ℕ). HeardMore desk own found slot (get_or heard at 0) (get_or (heard_from desk own found (suc first) heard) at 0)) same (heard_each desk own found (suc first) heard at)
+module _ (desk : Desk) (own found : ℕ) where
+  heard_one : (slot count : ℕ) → HeardMore desk own found slot count (heard_now desk own found slot count)
+  heard_one slot count = let before : ℕ = heard_before own count in let less = heard_less own count in
+      by_cases (λ (b : Bool). HeardMore desk own found slot count (cond (b && (nat_eq before own && not (nat_eq found (suc slot)))) (suc own) before)) (nat_lt 0 (retirements slot desk.retired))
+      (λ waits. by_cases (λ (b : Bool). HeardMore desk own found slot count (cond (b && not (nat_eq found (suc slot))) (suc own) before)) (nat_eq before own)
+      (λ next. by_cases (λ (b : Bool). HeardMore desk own found slot count (cond (not b) (suc own) before)) (nat_eq found (suc slot))
+      (λ says. inl less)
+      (λ other. inr (refl, (let is = eqb-true before own next in omega arith), (λ e. differ (sym (eq-eqb found (suc slot) e) ∙ other)), ltb-true 0 (retirements slot desk.retired) waits)))
+      (λ later. inl less))
+      (λ named. inl less)
+    where
+      differ : true ≡ false → ⊥
+      differ clash = absurd (cc)
 
-heard_now : (desk : Desk) (own found : ℕ) (heard : List ℕ) (slot : ℕ) → HeardMore desk own found slot (get_or heard slot 0) (get_or (heard_from desk own found 0 heard) slot 0)
-heard_now desk own found heard slot = let same : 0 + slot ≡ slot = omega arith in subst (λ (s : ℕ). HeardMore desk own found s (get_or heard slot 0) (get_or (heard_from desk own found 0 heard) slot 0)) same (heard_each desk own found 0 heard slot)
+  heard_each : (first : ℕ) (heard : List ℕ) (at : ℕ) → HeardMore desk own found (first + at) (get_or heard at 0) (get_or (heard_from desk own found first heard) at 0)
+  heard_each first [] at = inl (omega arith)
+  heard_each first (count ∷ heard) zero = let same : first ≡ first + 0 = omega arith in
+      subst (λ (slot : ℕ). HeardMore desk own found slot count (get_or (heard_from desk own found first (count ∷ heard)) 0 0)) same (heard_one first count)
+  heard_each first (count ∷ heard) (suc at) = let same : suc first + at ≡ first + suc at = omega arith in
+      subst (λ (slot : ℕ). HeardMore desk own found slot (get_or heard at 0) (get_or (heard_from desk own found (suc first) heard) at 0)) same (heard_each (suc first) heard at)
+
+  heard_more : (heard : List ℕ) (slot : ℕ) → HeardMore desk own found slot (get_or heard slot 0) (get_or (heard_from desk own found 0 heard) slot 0)
+  heard_more heard slot = let same : 0 + slot ≡ slot = omega arith in
+      subst (λ (s : ℕ). HeardMore desk own found s (get_or heard slot 0) (get_or (heard_from desk own found 0 heard) slot 0)) same (heard_each 0 heard slot)
 
 -- who says another slot, or none, holds this one by no word
 says_other : (shape : Shape) (state : State (Unit {0}) View) (kept : Kept shape state) (id slot : ℕ) (view : View) → get_elem? state.views id ≡ some view → view.says ≢ suc slot → lends slot view ≡ 0
@@ -82,26 +90,30 @@ scan_heard shape state kept id own view next desk at is within same names heard_
     let words = state.words in let found : ℕ = get_or words (says_at shape own) 0 in
     let writes : is_writer next.role ≡ 1 = ap is_writer same ∙ ap is_writer is in let before = kept.hears id view at (ap is_writer is) in
     let more : (slot : ℕ) → HeardMore desk own found slot (get_or view.heard slot 0) (get_or next.heard slot 0)
-    = λ slot. subst (λ (l : List ℕ). HeardMore desk own found slot (get_or view.heard slot 0) (get_or l slot 0)) (sym heard_is) (heard_now desk own found view.heard slot) in
+    = λ slot. subst (λ (l : List ℕ). HeardMore desk own found slot (get_or view.heard slot 0) (get_or l slot 0)) (sym heard_is) (heard_more desk own found view.heard slot) in
     let hears : Hears (set state.views id next) next = record {
       quiet = λ k slot other v here his low. ⊎_elim
           (λ (p : (k ≡ id) × (next ≡ v)). absurd (no_reader next.role other writes (ap (λ (w : View). is_by (suc other) w.role) p.1 ∙ his)))
           (λ (p : (k ≢ id) × (get_elem? state.views k ≡ some v)). ⊎_elim
-          (λ (still : get_or next.heard slot 0 ≡ get_or view.heard slot 0). before.quiet k slot other v p.1 his (omega arith))
-          (λ (one : (get_or next.heard slot 0 ≡ suc own) × (get_or view.heard slot 0 ≡ own) × (found ≢ suc slot) × (0 < retirements slot desk.retired)). dite (ℕ_discrete other own)
+          (λ (still : get_or next.heard slot 0 ≤ get_or view.heard slot 0). before.quiet k slot other v p.1 his (omega arith))
+          (λ (one : (get_or next.heard slot 0 ≡ suc own) × (own ≤ get_or view.heard slot 0) × (found ≢ suc slot) × (0 < retirements slot desk.retired)). dite (ℕ_discrete other own)
           (λ e. says_other shape state kept k slot v p.1 (λ says. one.2 (ap (λ (n : ℕ). get_or words (says_at shape n) 0) (sym e) ∙ kept.announced.says k other v p.1 his (let told = kept.told_of id view at (let one = ap is_writer is in omega arith) in omega arith) ∙ says)))
           (λ ne. before.quiet k slot other v p.1 his (omega (arith, one.0, one.1))))
           (more slot))
           (at_set state.views id k next v here);
       unheard = λ key slot named. let was : get_or view.marks.names key 0 ≡ suc slot = ap (λ (l : List ℕ). get_or l key 0) (sym names) ∙ named in ⊎_elim
-          (λ (still : get_or next.heard slot 0 ≡ get_or view.heard slot 0). still ∙ before.unheard key slot was)
-          (λ (one : (get_or next.heard slot 0 ≡ suc own) × (get_or view.heard slot 0 ≡ own) × (found ≢ suc slot) × (0 < retirements slot desk.retired)). absurd (named_stays shape state kept id view desk at is key slot was one.3))
+          (λ (still : get_or next.heard slot 0 ≤ get_or view.heard slot 0). let none = before.unheard key slot was in omega arith)
+          (λ (one : (get_or next.heard slot 0 ≡ suc own) × (own ≤ get_or view.heard slot 0) × (found ≢ suc slot) × (0 < retirements slot desk.retired)). absurd (named_stays shape state kept id view desk at is key slot was one.3))
           (more slot);
     } in
     hears_after state.views id view next at (λ _ slot other _ _ _ _ his _. absurd (no_reader next.role other writes his)) (λ _. hears) kept.hears
 
+-- readers' words lie apart
+pub says_apart : (shape other : Shape) (own mine : ℕ) → other ≡ shape → says_at shape own ≡ says_at other mine → own ≡ mine
+says_apart shape other own mine same is = let total = ap (λ (s : Shape). total_of (layout s)) same in omega arith
+
 pub scans_so : (shape : Shape) (slots id own : ℕ) (me : Me (Unit {0}) View) (desk : Desk) → me.0.role ≡ Writer desk → own < me.0.announcers
-    → Allows (Kept shape) slots id me (says_at shape own) (λ word. word) (has_scanned own (step slots (says_at shape own) 0 0 none) me)
+    → Allows (Kept shape) slots id me (says_at shape own) (λ word. word) (has_scanned (step slots (says_at shape own) 0 0 none) me)
 scans_so shape slots id own me desk is within state kept homes at bounded =
     let view = me.0 in let words = state.words in let place : ℕ = says_at shape own in let found : ℕ = get_or words place 0 in let fits = kept.fits id view at in
     let next = record view { steps = view.steps + 1; heard = heard_from desk own found 0 view.heard } in
@@ -112,5 +124,6 @@ scans_so shape slots id own me desk is within state kept homes at bounded =
       keeps,
       tt,
       subst (λ (l : List ℕ). Kept shape (record { words = l; homes = state.homes; views = set state.views id next })) (sym (set-get_or words place 0)) rests,
-      λ other also j. record view { steps = view.steps + 1; heard = heard_from (same_desk view.role desk other is also j) own found 0 view.heard },
+      λ other mine also low place_is. let same : own ≡ mine = says_apart shape view.shape own mine (writer_shape shape kept.log view desk is fits) place_is in
+          λ j. record view { steps = view.steps + 1; heard = heard_from (same_desk view.role desk other is also j) (same j) found 0 view.heard },
     )

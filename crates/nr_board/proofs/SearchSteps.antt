@@ -1,6 +1,6 @@
 -- The steps of a search in any order on the table: a poll of any retired slot that was heard, a load of a reader's word, and the end of a search that is given up.
-use Rattle.std.proofs.Common.{◌≡◌, ℕ, suc, zero, ◌+◌, ◌-◌, ◌<◌, ◌≤◌, ◌⊎◌, ⊎_elim, inl, inr, List, [], ◌∷◌, ◌++◌, Bool, true, false, cond, length, map, get_or, set, nat_eq, refl, sym, ap, ◌∙◌, subst, arith, append-nil}
-use Rattle.std.specs.Prelude.{nat_lt, ◌&&◌}
+use Rattle.std.proofs.Common.{◌≡◌, ℕ, suc, zero, ◌+◌, ◌-◌, ◌<◌, ◌≤◌, ◌⊎◌, ⊎_elim, inl, inr, List, [], ◌∷◌, ◌++◌, Bool, true, false, cond, length, map, get_or, set, nat_eq, eq-eqb, refl, sym, ap, ◌∙◌, subst, arith, append-nil}
+use Rattle.std.specs.Prelude.{nat_lt, Some, None, ◌&&◌}
 use Rattle.std.proofs.lemmas.Bool.{eqb-true, ltb-true}
 use mathlib.Core.Option.{some, some-injective, some-ne-none}
 use lib.ListN.{get_elem?}
@@ -18,7 +18,7 @@ use Rattle.nr_core.proofs.Learn.{learns}
 use Rattle.nr_core.proofs.Poll.{gives_up, tries}
 use Rattle.nr_core.proofs.Sums.{got_at}
 use Rattle.nr_core.specs.Core.{AtPlace}
-use Rattle.nr_core.specs.Roles.{held, holds, is_by, is_reader, is_writer, taken}
+use Rattle.nr_core.specs.Roles.{grips, held, holds, is_by, is_reader, is_writer, taken}
 use Rattle.nr_core.specs.Steps.{CanStep, GivesUp, LoadsWord, Stepped, Tries}
 use Rattle.nr_machine.specs.Slots.{departures}
 use Rattle.nr_machine.specs.States.{no_retired, retired_at}
@@ -34,11 +34,12 @@ use Rattle.nr_machine.specs.declared.roles.Desk.{Desk}
 use Rattle.nr_machine.specs.declared.roles.Role.{Role}
 use Rattle.nr_machine.specs.declared.roles.Role.TheVariants.{Note, Reader, Writer}
 use Rattle.nr_machine.specs.declared.roles.Grip.{Grip}
+use Rattle.nr_machine.specs.declared.roles.Grip.TheVariants.{Nothing, On}
 use Rattle.nr_machine.specs.declared.shape.Shape.{Shape}
 use Rattle.nr_marks.proofs.SearchMarks.{Begins, gives_up_marked, notes_marked, scans_marked, tries_marked}
 use Rattle.nr_marks.specs.Marked.{MarkTelling, Remarked}
 use Rattle.nr_marks.specs.MarkSteps.{KeepsMarks, TriesMarks, TryTells}
-use Rattle.nr_marks.specs.Marks.{Marks, Past, past, with_polls}
+use Rattle.nr_marks.specs.Marks.{Marks, Past, gripped, past, with_polls}
 use Rattle.nr_board.proofs.Counting.{announces_on, counted_same, lent_same}
 use Rattle.nr_board.proofs.Lift.{Follows, keeps_core, key_inside, key_no_count, knows_pasts, lends_on, lifts, sees_alone, sees_plain}
 use Rattle.nr_board.proofs.Moves.{names_go}
@@ -120,6 +121,15 @@ reader_role (Writer desk) own his = absurd (let number = eqb-true 0 (suc own) hi
 reader_role (Reader reader grip) own his = (grip, ap (λ (n : ℕ). Reader n grip) (eqb-true reader (suc own) his))
 reader_role Note own his = absurd (cc)
 
+-- a reader that says a slot holds that one or none
+keeper_holds : (shape : Shape) (state : State (Unit {0}) View) (kept : Kept shape state) (id own : ℕ) (view : View) (grip : Grip) → get_elem? state.views id ≡ some view → is_by (suc own) view.role ≡ true → view.role ≡ Reader (suc own) grip
+    → own < kept.announcers → let found : ℕ = get_or state.words (says_at shape own) 0 in 0 < found → (gripped grip ≡ None) ⊎ (gripped grip ≡ Some (found - 1))
+keeper_holds shape state kept id own view Nothing at his is low loud = inl refl
+keeper_holds shape state kept id own view (On slot rows sized) at his is low loud = let says = kept.announced.says id own view at his low in
+    let one : grips slot (On slot rows sized) ≡ 1 = ap (λ (b : Bool). cond {A = ℕ} b 1 0) (eq-eqb slot slot refl) in
+    let mine : holds slot view.role ≡ 1 = ap (holds slot) is ∙ one in
+    let it = kept.announced.holds_it id slot view at (omega arith) (omega arith) in inr (ap Some (omega arith))
+
 module _ (shape : Shape) (id own : ℕ) (view : View) (desk : Desk) (call : WriterCall) (rows : List Row) (is : view.role ≡ Writer desk) (is_at : desk.place ≡ Searching call rows 0) (within : own < view.announcers)
     (state : State (Unit {0}) View) (kept : Kept shape state) (at : get_elem? state.views id ≡ some view) where
   abbrev found : ℕ
@@ -142,7 +152,7 @@ module _ (shape : Shape) (id own : ℕ) (view : View) (desk : Desk) (call : Writ
   loaded = learns shape id view.role 0 kept.counted (map role_of state.views) kept.log kept.core (at_map role_of state.views id view at)
 
   searched_with : (polls : List Past) → Remarked role_of marks_of shape kept.counted state.views kept.log id view (Load 0) loaded.after loaded.entries (noting polls)
-      → NotesKeeper (keeps_unheard desk own found view.heard) own base polls → Result
+      → NotesKeeper (keeps_unheard desk own found view.heard) own found base polls → Result
   searched_with polls marked keeper =
       let heard = heard_from desk own found 0 view.heard in let next = record view { steps = view.steps + 1; marks = marked.now; heard = heard } in
       let fits = kept.fits id view at in let same_log : kept.log ≡ kept.log ++ loaded.entries = sym (append-nil kept.log) ∙ ap (λ (l : List Entry). kept.log ++ l) (sym loaded.told.1) in
@@ -167,7 +177,7 @@ module _ (shape : Shape) (id own : ℕ) (view : View) (desk : Desk) (call : Writ
             (scan_heard shape state kept id own view next desk at is within refl (ap (λ (m : Marks). m.names) marked.told.0) refl),
         record {
           same = λ j. record view { steps = view.steps + 1; marks = same_marks j; heard = heard };
-          keeper = subst (NotesKeeper (keeps_unheard desk own found view.heard) own base) (sym (ap (λ (m : Marks). m.polls) marked.told.0)) keeper;
+          keeper = subst (NotesKeeper (keeps_unheard desk own found view.heard) own found base) (sym (ap (λ (m : Marks). m.polls) marked.told.0)) keeper;
         },
       )
 
@@ -177,12 +187,12 @@ module _ (shape : Shape) (id own : ℕ) (view : View) (desk : Desk) (call : Writ
       (λ (t : (other : ℕ) × (viewed : View) × (get_elem? state.views other ≡ some viewed) × (is_by (suc own) viewed.role ≡ true)). let r = reader_role t.1.role own t.3 in
       searched_with (base ++ past (suc own) r.0 t.1.marks ∷ [])
       (notes_marked role_of marks_of shape id view view.pasts desk call rows is_at is base begins 0 kept.counted state.views kept.log kept.core kept.marked kept.once at loaded.after loaded.entries loaded.told t.0 (suc own) t.1 r.0 t.2 r.1)
-      (subst (λ (b : Bool). NotesKeeper b own base (base ++ past (suc own) r.0 t.1.marks ∷ [])) (sym keeps_it) (past (suc own) r.0 t.1.marks, refl, refl)))
+      (subst (λ (b : Bool). NotesKeeper b own found base (base ++ past (suc own) r.0 t.1.marks ∷ [])) (sym keeps_it) (past (suc own) r.0 t.1.marks, refl, refl, keeper_holds shape state kept t.0 own t.1 r.0 t.2 t.3 r.1 (let told = kept.told_of id view at (let one = ap is_writer is in omega arith) in omega arith) loud)))
       (λ (none_there : HasNoReader own state.views). absurd (let silent = kept.announced.unsaid own none_there (let told = kept.told_of id view at (let one = ap is_writer is in omega arith) in omega arith) in omega arith))
       (reader_there state.views own))
       (λ _ lets_it. searched_with base
       (scans_marked role_of marks_of shape id view view.pasts desk call rows is_at is base begins 0 kept.counted state.views kept.log kept.core kept.marked kept.once at (knows_pasts shape id view state kept at) loaded.after loaded.entries loaded.told)
-      (subst (λ (b : Bool). NotesKeeper b own base base) (sym lets_it) refl)) refl
+      (subst (λ (b : Bool). NotesKeeper b own found base base) (sym lets_it) refl)) refl
     where
       first_of : (a b : Bool) → (a && b) ≡ true → a ≡ true
       first_of true b e = refl

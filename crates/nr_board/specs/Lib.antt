@@ -22,6 +22,7 @@ pub mod Reclaiming
 pub mod Reaping
 pub mod Scans
 pub mod SearchPlays
+pub mod SearchSeats
 pub mod HeldRows
 pub mod NamedRows
 pub mod Recalls

@@ -1,20 +1,30 @@
 -- A scan: the writer loads the readers' words in their order, and hears which retired slots they don't say.
-use Rattle.std.specs.Prelude.{◌≡◌, ℕ, suc, ◌+◌, ◌==◌, ◌&&◌, if◌then◌else◌, nat_lt, not, List, [], ◌∷◌}
+use Rattle.std.specs.Prelude.{◌≡◌, ℕ, suc, ◌+◌, ◌<◌, ◌==◌, ◌&&◌, if◌then◌else◌, nat_lt, not, List, [], ◌∷◌}
 use Rattle.nr_core.specs.Roles.{retirements}
 use Rattle.nr_machine.specs.declared.roles.Desk.{Desk}
 use Rattle.nr_machine.specs.declared.roles.Role.TheVariants.{Writer}
+use Rattle.nr_board.specs.Announcing.{says_at}
 use Rattle.nr_board.specs.Plays.{Then}
 use Rattle.nr_board.specs.Views.{View}
 
--- of the slots from that one on: of a retired slot of which the readers before this one were heard, this one is heard too, unless its word says the slot
+-- of how many readers a slot was heard before that one, by a scan, which hears all slots anew
+abbrev pub heard_before : ℕ → ℕ → ℕ
+heard_before own count = (if own == 0 then 0 else count)
+
+-- of a retired slot of which the readers before this one were heard, this one is heard too, unless its word says the slot
+abbrev pub heard_now : Desk → ℕ → ℕ → ℕ → ℕ → ℕ
+heard_now desk own found slot count =
+    (if nat_lt 0 (retirements slot desk.retired) && ((heard_before own count == own) && not (found == suc slot)) then suc own else heard_before own count)
+
+-- so of each slot from that one on
 abbrev pub heard_from : Desk → ℕ → ℕ → ℕ → List ℕ → List ℕ
 heard_from desk own found slot [] = []
-heard_from desk own found slot (count ∷ heard) =
-    (if nat_lt 0 (retirements slot desk.retired) && ((count == own) && not (found == suc slot)) then suc own else count) ∷ heard_from desk own found (suc slot) heard
+heard_from desk own found slot (count ∷ heard) = heard_now desk own found slot count ∷ heard_from desk own found (suc slot) heard
 
 -- a load of a reader's word
 abbrev pub ScansTo : Desk → ℕ → ℕ → View → View → Type 0
 ScansTo desk own found old new = new ≡ record old { steps = old.steps + 1; heard = heard_from desk own found 0 old.heard }
 
-abbrev pub has_scanned : ℕ → Then
-has_scanned own step before found after = (desk : Desk) → before.0.role ≡ Writer desk → ScansTo desk own found before.0 after.0
+abbrev pub has_scanned : Then
+has_scanned step before found after =
+    (desk : Desk) (own : ℕ) → before.0.role ≡ Writer desk → own < before.0.announcers → step.word ≡ says_at before.0.shape own → ScansTo desk own found before.0 after.0

@@ -11,6 +11,7 @@ use Rattle.nr_machine.specs.declared.roles.Grip.{Grip}
 use Rattle.nr_machine.specs.declared.roles.Grip.TheVariants.{Nothing, On}
 use Rattle.nr_machine.specs.States.{opening_desk}
 use Rattle.nr_marks.specs.Marks.{Marks, Past, no_marks, opening_marks}
+use Rattle.nr_board.specs.declared.board.Plan.{Plan}
 
 pub record View : Type 0 where
   pub role : Role
@@ -77,9 +78,12 @@ rows_held role = rows_gripped (grip_of role)
 abbrev pub no_shape : Shape
 no_shape = record { keys = 0; slots = 0; readers = 0; first_count = 0; first_number = 0; rows = 0 }
 
+abbrev pub no_plan : Plan
+no_plan = record { shape = no_shape; announcers = 0 }
+
 -- the first token is the writer's
-abbrev pub opener : Shape → View
-opener shape = record { role = Writer (opening_desk shape); shape = shape; announcers = 0; made = 0; seen = []; told = []; mine = []; steps = 0; marks = opening_marks shape; pasts = []; told_pasts = []; says = 0; heard = replicate shape.slots 0 }
+abbrev pub opener : Plan → View
+opener plan = record { role = Writer (opening_desk plan.shape); shape = plan.shape; announcers = plan.announcers; made = 0; seen = []; told = []; mine = []; steps = 0; marks = opening_marks plan.shape; pasts = []; told_pasts = []; says = 0; heard = replicate plan.shape.slots 0 }
 
 -- the writer makes the next reader
 abbrev pub with_reader : View → View

@@ -1,12 +1,11 @@
 //! The table of words. It is private to this module, whose functions make one step each.
-ghost use Rattle.std.specs.Prelude.{ℕ, ◌≡◌, ◌↔◌, ◌<◌, ◌≤◌, ◌^◌, ◌⊎◌, true, false, [], length, slice_index, IfOk};
+ghost use Rattle.std.specs.Prelude.{ℕ, ◌≡◌, ◌↔◌, ◌<◌, ◌≤◌, ◌^◌, ◌*◌, ◌⊎◌, ◌++◌, true, false, [], length, replicate, slice_index, IfOk};
 ghost use Rattle.nr_model.specs.Maps.{state_of};
 ghost use Rattle.nr_model.specs.declared.rows.TheConstants.{MAX_ROWS};
 ghost use Rattle.nr_model.specs.declared.calls.Call.TheVariants as model;
 ghost use Rattle.nr_model.specs.declared.calls.Reply.TheVariants as reply;
 ghost use Rattle.nr_words.specs.KeyWords.{is_filled, slot_of};
 ghost use Rattle.nr_words.specs.Places.{total_of};
-ghost use Rattle.nr_words.specs.Opening.{opening_words as words_opened};
 ghost use Rattle.nr_words.specs.SetWords.{encode};
 ghost use Rattle.nr_machine.specs.declared.roles.Desk.{Desk};
 ghost use Rattle.nr_machine.specs.declared.roles.Role.TheVariants.{Writer};
@@ -16,7 +15,7 @@ ghost use Rattle.nr_machine.specs.States.{key_of};
 ghost use Rattle.nr_core.specs.Steps.{ask_word};
 ghost use Rattle.nr_machine.specs.Story.{call_of};
 ghost use Rattle.nr_machine.specs.Writer.{looked};
-ghost use Rattle.nr_machine.specs.Slots.{bound_of, content, layout, names_slot, slot_room};
+ghost use Rattle.nr_machine.specs.Slots.{bound_of, content, layout, names_slot, slot_room, words_at_opening};
 ghost use Rattle.nr_core.specs.Roles.{is_writer};
 ghost use Rattle.nr_machine.specs.Sizes.{IsShape};
 ghost use Rattle.nr_board.specs.Views.{grip_of, rows_held, with_reader, next_reader, opener};
@@ -35,12 +34,14 @@ ghost use Rattle.nr_board.specs.Learning.{HearsOf};
 ghost use Rattle.nr_board.specs.Meetings.{HasPut, HearsNote, Learns, known_to, with_step};
 ghost use Rattle.nr_board.specs.Reaping.{ProbesAt, ProbesTo};
 ghost use Rattle.nr_board.specs.Recalls.{IsWordOf, RecallsAt};
+ghost use Rattle.nr_board.specs.SearchSeats.{Ends, HearsWord, IsSearching, ScansAt, SearchesOn, TriesAt, TriesTo};
 ghost use Rattle.nr_board.specs.WriterSeats.{GoesOn, IsBetween, IsReading, IsPolling, IsPutting, IsPublishing, IsLeaving, IsWithdrawing, LeadsTo, PutsTo};
 
 use crate::only_proved::only_proved;
 use crate::rule::{
-    Arrives, Asks, BegunCall, Confirms, Departs, FindsAgain, Goes, Hears, Law, Looks, LooksUp,
-    Nears, Notes, Probes, Puts, Reads, Recalls, Retells, Says, Seats, Sees,
+    Arrives, Asks, BegunCall, Confirms, Departs, FindsAgain, GivesUp, Goes, Hears, Law, Looks,
+    LooksUp, Nears, Notes, Probes, Puts, Reads, Recalls, Retells, Says, Scans, Searches, Seats,
+    Sees, Tries,
 };
 use crate::two_seats::take_in;
 use crate::view::View;
@@ -53,13 +54,19 @@ use std::marker::Model;
 /// What a token makes its steps with.
 pub type Seat = atomic_table::Seat<(), View>;
 
+/// What a table is opened with: the sizes of its map, and how many readers, the first ones, have a word
+/// of their own.
+#[derive(Clone, Copy)]
+pub struct Plan {
+    pub shape: Shape,
+    pub announcers: u32,
+}
+
 /// The words of a map of one shape. Only a seat of it can make a step.
 #[derive(Drop)]
 pub struct Board {
-    table: Table<(), View, Shape, Law, Global>,
-    shape: Shape,
-    // How many readers have a word of their own: none yet.
-    announcers: u32,
+    table: Table<(), View, Plan, Law, Global>,
+    plan: Plan,
 }
 
 impl Model for Board {
@@ -72,9 +79,9 @@ impl Model for Board {
     ghost use Rattle.nr_machine.specs.Slots.{layout};
     ghost use Rattle.nr_machine.specs.Sizes.{IsShape};
 
-    ghost view = { λ board. record { id = board.table.shared.table_id; shape = board.shape; announcers = board.announcers } };
+    ghost view = { λ board. record { id = board.table.shared.table_id; shape = board.plan.shape; announcers = board.plan.announcers } };
 
-    ghost invariant = { λ board. (board.table.shared.key ≡ board.shape) × (board.table.shared.table_id.words ≡ total_of (layout board.shape) + 8 * board.announcers) × (0 < board.shape.keys) × (board.shape.keys < 2 ^ 32) × IsShape board.shape };
+    ghost invariant = { λ board. (board.table.shared.key.shape ≡ board.plan.shape) × (board.table.shared.table_id.words ≡ total_of (layout board.plan.shape) + 8 * board.plan.announcers) × (0 < board.plan.shape.keys) × (board.plan.shape.keys < 2 ^ 32) × IsShape board.plan.shape };
 }
 
 /// What a token has seen. The token that made the note counts its step, so nothing is lost where the
@@ -95,36 +102,23 @@ impl Model for Note {
 
 impl Board {
     /// The table with the writer's token.
-    pub fn open(alloc: Global, shape: Shape) -> Result<(Board, Seat), AllocError>
-        requires sizes { IsShape shape }
-        requires keys { 0 < shape.keys }
-        ensures board { IfOk result (λ opened. opened.0.shape ≡ shape) }
-        ensures counted { IfOk result (λ opened. opened.0.announcers ≡ 0) }
-        ensures seat { IfOk result (λ opened. (opened.1.table_id ≡ opened.0.id) × (opened.1.me.0 ≡ opener shape)) }
+    pub fn open(alloc: Global, plan: Plan) -> Result<(Board, Seat), AllocError>
+        requires sizes { IsShape plan.shape }
+        requires keys { 0 < plan.shape.keys }
+        requires few { plan.announcers ≤ plan.shape.readers }
+        ensures board { IfOk result (λ opened. (opened.0.shape ≡ plan.shape) × (opened.0.announcers ≡ plan.announcers)) }
+        ensures seat { IfOk result (λ opened. (opened.1.table_id ≡ opened.0.id) × (opened.1.me.0 ≡ opener plan)) }
     {
-        let layout = Layout {
-            keys: shape.keys,
-            slots: shape.slots,
-            rows: shape.rows,
-        };
-        let words = words_from(alloc, layout, shape.first_count, shape.first_number)?;
-        let (table, seat) = Table::of_words(alloc, &words, &shape)?;
-        let announcers = 0;
-        Ok((
-            Board {
-                table,
-                shape,
-                announcers,
-            },
-            seat,
-        ))
+        let words = words_from(alloc, plan)?;
+        let (table, seat) = Table::of_words(alloc, &words, &plan)?;
+        Ok((Board { table, plan }, seat))
     }
 
     /// The sizes of the map.
     pub fn shape(&self) -> &Shape
         ensures { result.now ≡ self.now.shape }
     {
-        &self.shape
+        &self.plan.shape
     }
 
     /// How many rows a key may have: 1 to 255.
@@ -133,7 +127,7 @@ impl Board {
         ensures positive { 0 < result }
         ensures bounded { result ≤ MAX_ROWS }
     {
-        self.shape.rows
+        self.plan.shape.rows
     }
 
     /// Where the first content word of a slot stands.
@@ -334,7 +328,7 @@ impl Board {
         ensures { result < 2 ^ 40 }
     {
         let found = parts(word);
-        if found.filled && found.slot < self.shape.slots {
+        if found.filled && found.slot < self.plan.shape.slots {
             self.content(found.slot)
         } else {
             0
@@ -385,6 +379,52 @@ impl Board {
         let words = &self.table.shared;
         let place = self.layout().departures(entry.slot);
         words.load::<Probes>(seat, place as usize)
+    }
+
+    /// The writer loads a reader's own word, and hears which retired slots it doesn't say: the word.
+    /// `own` is the reader's number less one.
+    pub fn scan(&self, seat: &mut Seat, own: u32) -> u64
+        requires { ScansAt self.now own seat.old }
+        ensures own { seat.new.table_id ≡ seat.old.table_id }
+        ensures hears { HearsWord own result seat.old.me.0 seat.new.me.0 }
+    {
+        let words = &self.table.shared;
+        let place = self.own_word(own);
+        words.load::<Scans>(seat, place as usize)
+    }
+
+    /// As `scan`, by a search, which notes the reader where its word keeps a slot from being heard.
+    pub fn scan_on(&self, seat: &mut Seat, own: u32) -> u64
+        requires search { IsSearching self.now seat.old }
+        requires within { own < self.now.announcers }
+        ensures own { seat.new.table_id ≡ seat.old.table_id }
+        ensures hears { SearchesOn own result seat.old.me.0 seat.new.me.0 }
+    {
+        let words = &self.table.shared;
+        let place = self.own_word(own);
+        words.load::<Searches>(seat, place as usize)
+    }
+
+    /// A search polls a retired slot of which all readers that have a word were heard: its departures.
+    /// Where they are the arrivals nobody holds the slot, and it is taken.
+    pub fn try_slot(&self, seat: &mut Seat, entry: Retired) -> u64
+        requires { TriesAt self.now entry seat.old }
+        ensures own { seat.new.table_id ≡ seat.old.table_id }
+        ensures tries { TriesTo entry result seat.old.me.0 seat.new.me.0 }
+    {
+        let words = &self.table.shared;
+        let place = self.layout().departures(entry.slot);
+        words.load::<Tries>(seat, place as usize)
+    }
+
+    /// A search that found no slot ends, and its call with it.
+    pub fn give_up(&self, seat: &mut Seat)
+        requires { IsSearching self.now seat.old }
+        ensures own { seat.new.table_id ≡ seat.old.table_id }
+        ensures ends { Ends seat.old.me.0 seat.new.me.0 }
+    {
+        let words = &self.table.shared;
+        words.load::<GivesUp>(seat, 0);
     }
 
     /// The writer reads a content word of a slot into which its call has put none: a word of the set
@@ -469,7 +509,7 @@ impl Board {
     {
         let words = &self.table.shared;
         let Note { seat: mut told } = note;
-        take_in::<(), View, Shape, Law, Hears>(words, seat, &mut told);
+        take_in::<(), View, Plan, Law, Hears>(words, seat, &mut told);
     }
 
     /// The token takes a note in, in 1 step.
@@ -531,25 +571,37 @@ impl Board {
         ensures value { result ≡ layout self.now.shape }
         ensures few { self.now.shape.rows ≤ MAX_ROWS }
     {
-        Layout {
-            keys: self.shape.keys,
-            slots: self.shape.slots,
-            rows: self.shape.rows,
-        }
+        layout_of(self.plan.shape)
+    }
+}
+
+fn layout_of(shape: Shape) -> Layout
+    ensures { result ≡ layout shape }
+{
+    Layout {
+        keys: shape.keys,
+        slots: shape.slots,
+        rows: shape.rows,
     }
 }
 
 // The words at opening. A first count is a word, which a shape as such doesn't say.
-fn words_from(
-    alloc: Global,
-    layout: Layout,
-    first_count: u64,
-    first_number: u64,
-) -> Result<Vec<u64>, AllocError>
-    requires rows { layout.rows ≤ MAX_ROWS }
-    requires number { first_number < 2 ^ 22 }
-    ensures words { IfOk result (λ words. words.items ≡ words_opened layout first_count first_number) }
-    ensures count { IfOk result (λ words. first_count < 2 ^ 64) }
+fn words_from(alloc: Global, plan: Plan) -> Result<Vec<u64>, AllocError>
+    requires sizes { IsShape plan.shape }
+    ensures words { IfOk result (λ words. words.items ≡ words_at_opening plan.shape ++ replicate (8 * plan.announcers) 0) }
+    ensures count { IfOk result (λ words. plan.shape.first_count < 2 ^ 64) }
 {
-    opening_words(alloc, layout, first_count, first_number)
+    let Shape {
+        first_count,
+        first_number,
+        ..
+    } = plan.shape;
+    let behind = 8 * u64::from(plan.announcers);
+    opening_words(
+        alloc,
+        layout_of(plan.shape),
+        first_count,
+        first_number,
+        behind,
+    )
 }

@@ -23,5 +23,5 @@ mod writer_calls;
 pub use answers::{
     Cancel, Evict, FillFault, Found, KeyKind, Reaped, Reclaimed, ReplaceFault, UpdateFault,
 };
-pub use board::{Board, Note, Seat};
+pub use board::{Board, Note, Plan, Seat};
 pub use rule::BegunCall;

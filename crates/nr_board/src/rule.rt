@@ -2,19 +2,19 @@
 ghost use Rattle.nr_machine.specs.declared.calls.WriterCall.{WriterCall};
 ghost use Rattle.nr_machine.specs.declared.calls.WriterCall.TheVariants.{Evict};
 
+use crate::board::Plan;
 use crate::two_seats::TakingIn;
 use crate::view::View;
 use atomic_table::{Join, Play, Split, TableRule};
-use nr_core::Shape;
 use std::marker::{Brand, PhantomData};
 
 pub struct Law;
 
-impl TableRule<(), View, Shape> for Law {
+impl TableRule<(), View, Plan> for Law {
     ghost use Rattle.nr_board.specs.Views.{opener};
     ghost use Rattle.nr_board.specs.Rule.{Kept};
 
-    ghost holds = { Kept };
+    ghost holds = { λ plan. Kept plan.shape };
 
     ghost first = { opener };
 }
@@ -168,6 +168,42 @@ impl Play<(), View> for Probes {
     ghost use Rattle.nr_board.specs.Reaping.{has_probed};
 
     ghost then = { has_probed };
+}
+
+/// A load of a reader's word by a writer between two calls.
+pub struct Scans;
+
+impl Play<(), View> for Scans {
+    ghost use Rattle.nr_board.specs.Scans.{has_scanned};
+
+    ghost then = { has_scanned };
+}
+
+/// A load of a reader's word by a search.
+pub struct Searches;
+
+impl Play<(), View> for Searches {
+    ghost use Rattle.nr_board.specs.SearchPlays.{has_searched};
+
+    ghost then = { has_searched };
+}
+
+/// A poll of a retired slot by a search in any order.
+pub struct Tries;
+
+impl Play<(), View> for Tries {
+    ghost use Rattle.nr_board.specs.SearchPlays.{has_tried};
+
+    ghost then = { has_tried };
+}
+
+/// The end of a search that found no slot.
+pub struct GivesUp;
+
+impl Play<(), View> for GivesUp {
+    ghost use Rattle.nr_board.specs.SearchPlays.{has_given_up};
+
+    ghost then = { has_given_up };
 }
 
 /// A note is made of what a token has seen, and taken in by another.

@@ -5,9 +5,9 @@ use std::marker::Model;
 pub struct View {}
 
 impl Model for View {
-    ghost use Rattle.nr_board.specs.Views.{View, no_shape, opener};
+    ghost use Rattle.nr_board.specs.Views.{View, no_plan, opener};
 
     ghost Value = { View };
 
-    ghost view = { λ _. opener no_shape };
+    ghost view = { λ _. opener no_plan };
 }

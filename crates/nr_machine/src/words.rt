@@ -45,7 +45,7 @@ impl Words {
         }) }
     {
         Ok(Words {
-            cells: opening_words(alloc, layout, first_count, first_number)?,
+            cells: opening_words(alloc, layout, first_count, first_number, 0)?,
             trace: Trace::new(),
         })
     }

@@ -12,7 +12,7 @@ newcomer table number marks = record { table = table; number = number; seen = []
 
 -- the writer's view after it made that many readers
 abbrev pub made_so : Shape → ℕ → View
-made_so shape made = record (opener shape) { made = made }
+made_so shape made = record (opener (record { shape = shape; announcers = 0 })) { made = made }
 
 -- the writer's seat has made that many readers, each a newcomer with its place's number
 pub record Seated (shape : Shape) (table : Table) (seat : Seat (Unit {0}) View) (readers : List Caller) (made : ℕ) : Type 0 where

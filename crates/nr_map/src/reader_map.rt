@@ -9,7 +9,7 @@ ghost use Rattle.nr_map.specs.Opened.{IsOpened, Seated};
 
 use crate::reader::Reader;
 use crate::writer::Writer;
-use nr_board::{Board, Seat};
+use nr_board::{Board, Plan, Seat};
 use nr_core::Shape;
 use nr_model::{DEFAULT_ROWS, OpenFault};
 use std::alloc::{AllocError, Global};
@@ -114,7 +114,11 @@ pub(crate) fn seated(
     requires keys { 0 < shape.keys }
     ensures { IfOk result (λ opened. IsOpened shape opened.0 opened.1 opened.2.items) }
 {
-    let (board, mut seat) = Board::open(alloc, shape)?;
+    let plan = Plan {
+        shape,
+        announcers: 0,
+    };
+    let (board, mut seat) = Board::open(alloc, plan)?;
     let readers = seat_readers(alloc, &board, &mut seat, shape.readers)?;
     let writer = Writer::of_seat(alloc, seat, &shape)?;
     Ok((ReaderMap { board }, writer, readers))

@@ -246,12 +246,12 @@ fn a_new_map_has_holes_with_first_numbers_and_slots_with_first_counts(
         slots: 3,
         rows: 15,
     };
-    let words = opening_words(rt.alloc(), layout, 7, 3).map_err(|_| "no memory")?;
+    let words = opening_words(rt.alloc(), layout, 7, 3, 0).map_err(|_| "no memory")?;
     assert_eq!(rt; words.len(), 98);
     assert_opened(&rt, &words, &[2, 34, 66]);
     layout.rows = 255;
-    let words = opening_words(rt.alloc(), layout, 7, 3).map_err(|_| "no memory")?;
-    assert_eq!(rt; words.len(), 1538);
+    let words = opening_words(rt.alloc(), layout, 7, 3, 2).map_err(|_| "no memory")?;
+    assert_eq!(rt; words.len(), 1540);
     assert_opened(&rt, &words, &[2, 514, 1026]);
     Ok(())
 }

@@ -17,8 +17,8 @@ store-requires c = let shared = c.self.inside.table.shared in let board = stands
     let is = c.own_word-place.ensures.place in let word = c.requires.word.within in let within : c.args.own < c.args.self.now.announcers = omega (arith, ap (λ (t : Table). t.announcers) c.requires.own) in let shape_is = ap (λ (t : Table). t.shape) c.requires.own in (
       ap (λ (t : Table). t.id) (c.requires.own ∙ sym c.self.view_is),
       said_in board c.args.own within is,
-      subst (λ (at : ℕ). Allows (Kept shared.key) n seat.id seat.me at (λ _. 0) (has_said (step n at 0 0 none) seat.me)) (sym (said_at board c.args.own is))
-          (says_so shared.key n seat.id c.args.own 0 seat.me c.requires.word (shape_is ∙ sym board.key_is) (holds_by_word c.args.self.now.shape shared.key seat.me.0 (sym board.key_is) c.requires.free)),
+      subst (λ (at : ℕ). Allows (Kept shared.key.shape) n seat.id seat.me at (λ _. 0) (has_said (step n at 0 0 none) seat.me)) (sym (said_at board c.args.own is))
+          (says_so shared.key.shape n seat.id c.args.own 0 seat.me c.requires.word (shape_is ∙ sym board.key_is) (holds_by_word c.args.self.now.shape shared.key.shape seat.me.0 (sym board.key_is) c.requires.free)),
     )
 
 pub returns : goal.returns

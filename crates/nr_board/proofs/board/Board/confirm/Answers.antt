@@ -8,10 +8,10 @@ use Rattle.nr_board.proofs.board.Board.confirm.Goals as goal
 
 pub load-requires : goal.load-requires
 load-requires c = let shared = c.self.inside.table.shared in let board = stands c.self.view_is c.self.invariant in let seat = c.args.seat.now in let reader = c.requires.reader in
-    let near : c.args.key < shared.key.keys = omega (arith, c.requires.key, ap (λ (s : Shape). s.keys) board.key_is) in let says = reader.says in (
+    let near : c.args.key < shared.key.shape.keys = omega (arith, c.requires.key, ap (λ (s : Shape). s.keys) board.key_is) in let says = reader.says in (
       ap (λ (t : Table). t.id) (reader.own ∙ sym c.self.view_is),
       key_in board c.requires.key,
-      confirms_so shared.key shared.table_id.slots seat.id c.args.own seat.me c.args.key near c.requires.word (ap (λ (t : Table). t.shape) reader.own ∙ sym board.key_is) reader.idle (omega arith),
+      confirms_so shared.key.shape shared.table_id.slots seat.id c.args.own seat.me c.args.key near c.requires.word (ap (λ (t : Table). t.shape) reader.own ∙ sym board.key_is) reader.idle (omega arith),
     )
 
 pub returns : goal.returns

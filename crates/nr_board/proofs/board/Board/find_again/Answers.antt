@@ -10,10 +10,10 @@ use Rattle.nr_board.proofs.board.Board.find_again.Goals as goal
 
 pub load-word-requires : goal.load-word-requires
 load-word-requires c = let shared = c.self.inside.table.shared in let about = c.self.invariant in let seat = c.args.seat.now in
-    let near : c.args.key < shared.key.keys = omega (arith, c.requires.key, ap (λ (t : Table). t.shape.keys) c.self.view_is, ap (λ (s : Shape). s.keys) about.0) in (
+    let near : c.args.key < shared.key.shape.keys = omega (arith, c.requires.key, ap (λ (t : Table). t.shape.keys) c.self.view_is, ap (λ (s : Shape). s.keys) about.0) in (
       ap (λ (t : Table). t.id) (c.requires.reader.own ∙ sym c.self.view_is),
       omega (arith, ap (λ (s : Shape). s.keys) about.0),
-      finds_again_so shared.key shared.table_id.slots seat.id seat.me c.args.key near c.requires.reader.holds.is (ap (λ (t : Table). t.shape) (c.requires.reader.own ∙ sym c.self.view_is) ∙ sym about.0),
+      finds_again_so shared.key.shape shared.table_id.slots seat.id seat.me c.args.key near c.requires.reader.holds.is (ap (λ (t : Table). t.shape) (c.requires.reader.own ∙ sym c.self.view_is) ∙ sym about.0),
     )
 
 pub names-requires : goal.names-requires

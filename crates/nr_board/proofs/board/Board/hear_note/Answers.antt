@@ -11,7 +11,7 @@ use Rattle.nr_board.proofs.board.Board.hear_note.Goals as goal
 pub take_in-requires : goal.take_in-requires
 take_in-requires c = let shared = c.self.inside.table.shared in let seat = c.args.seat.now in let note = c.note.inside.seat in let is = c.note.view_is in let here = sym (ap (λ (t : Table). t.id) c.self.view_is) in record {
   own = (ap (λ (t : Table). t.id) c.requires.own.0 ∙ here, ap (λ (s : Seat (Unit {0}) View). s.table_id) is ∙ c.requires.own.1 ∙ here);
-  can = hears_so shared.key seat.id seat.me.0 note.id note.me.0 (omega (arith, ap (λ (s : Shape). s.keys) c.self.invariant.0)) c.requires.caller (ap (λ (s : Seat (Unit {0}) View). s.me.0.role) is ∙ c.requires.note.0);
+  can = hears_so shared.key.shape seat.id seat.me.0 note.id note.me.0 (omega (arith, ap (λ (s : Shape). s.keys) c.self.invariant.0)) c.requires.caller (ap (λ (s : Seat (Unit {0}) View). s.me.0.role) is ∙ c.requires.note.0);
 }
 
 pub returns : goal.returns

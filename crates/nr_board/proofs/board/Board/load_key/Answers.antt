@@ -9,7 +9,7 @@ pub load-requires : goal.load-requires
 load-requires c = let shared = c.self.inside.table.shared in let seat = c.args.seat.now in (
   ap (λ (t : Table). t.id) (c.requires.own ∙ sym c.self.view_is),
   key_in (stands c.self.view_is c.self.invariant) c.requires.key,
-  loads_so shared.key shared.table_id.slots seat.id seat.me c.args.key,
+  loads_so shared.key.shape shared.table_id.slots seat.id seat.me c.args.key,
 )
 
 pub returns : goal.returns

@@ -9,7 +9,7 @@ pub load-requires : goal.load-requires
 load-requires c = let shared = c.self.inside.table.shared in let seat = c.args.seat.now in let board = stands c.self.view_is c.self.invariant in (
   ap (λ (t : Table). t.id) (c.requires.own ∙ sym c.self.view_is),
   omega (arith, c.min.ensures, c.word_count.ensures, board.size, c.self.invariant.2),
-  loads_so shared.key shared.table_id.slots seat.id seat.me c.min.result,
+  loads_so shared.key.shape shared.table_id.slots seat.id seat.me c.min.result,
 )
 
 pub returns : goal.returns

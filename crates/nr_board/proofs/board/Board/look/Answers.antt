@@ -15,13 +15,13 @@ use Rattle.nr_machine.specs.Slots.{bound_of}
 
 pub load-requires : goal.load-requires
 load-requires g c = let shared = c.self.inside.table.shared in let about = c.self.invariant in let seat = c.args.seat.now in let writer = c.requires.writer in let call = g.G.BegunCall.call in
-    let key_is : shared.key ≡ c.args.self.now.shape = about.0 ∙ ap (λ (t : Table). t.shape) c.self.view_is in let near : key_of call < shared.key.keys = omega (arith, c.requires.call, c.requires.key, ap (λ (s : Shape). s.keys) key_is) in
-    let given : IsGivenCall (bound_of shared.key) call = subst (λ (s : Shape). IsGivenCall (bound_of s) call) (sym key_is) c.requires.given in
+    let key_is : shared.key.shape ≡ c.args.self.now.shape = about.0 ∙ ap (λ (t : Table). t.shape) c.self.view_is in let near : key_of call < shared.key.shape.keys = omega (arith, c.requires.call, c.requires.key, ap (λ (s : Shape). s.keys) key_is) in
+    let given : IsGivenCall (bound_of shared.key.shape) call = subst (λ (s : Shape). IsGivenCall (bound_of s) call) (sym key_is) c.requires.given in
     let n : ℕ = shared.table_id.slots in (
       ap (λ (t : Table). t.id) (writer.writes.own ∙ sym c.self.view_is),
       omega (arith, c.requires.key, ap (λ (t : Table). t.shape.keys) c.self.view_is),
-      subst (λ (at : ℕ). Allows (Kept shared.key) n seat.id seat.me at (λ w. w) (λ found after. (other : Desk) → seat.me.0.role ≡ Writer other → Looked other call found seat.me.0 after.0)) (sym c.requires.call)
-          (looks_so shared.key n seat.id seat.me writer.desk call writer.writes.role writer.place given near),
+      subst (λ (at : ℕ). Allows (Kept shared.key.shape) n seat.id seat.me at (λ w. w) (λ found after. (other : Desk) → seat.me.0.role ≡ Writer other → Looked other call found seat.me.0 after.0)) (sym c.requires.call)
+          (looks_so shared.key.shape n seat.id seat.me writer.desk call writer.writes.role writer.place given near),
     )
 
 pub returns : goal.returns

@@ -8,10 +8,10 @@ use Rattle.nr_board.proofs.board.Board.look_at_key.Goals as goal
 
 pub load-requires : goal.load-requires
 load-requires c = let shared = c.self.inside.table.shared in let board = stands c.self.view_is c.self.invariant in let seat = c.args.seat.now in
-    let near : c.args.key < shared.key.keys = omega (arith, c.requires.key, ap (λ (s : Shape). s.keys) board.key_is) in (
+    let near : c.args.key < shared.key.shape.keys = omega (arith, c.requires.key, ap (λ (s : Shape). s.keys) board.key_is) in (
       ap (λ (t : Table). t.id) (c.requires.reader.own ∙ sym c.self.view_is),
       key_in board c.requires.key,
-      looks_up_so shared.key shared.table_id.slots seat.id seat.me c.args.key near c.requires.reader.idle (ap (λ (t : Table). t.shape) c.requires.reader.own ∙ sym board.key_is),
+      looks_up_so shared.key.shape shared.table_id.slots seat.id seat.me c.args.key near c.requires.reader.idle (ap (λ (t : Table). t.shape) c.requires.reader.own ∙ sym board.key_is),
     )
 
 pub returns : goal.returns

@@ -29,11 +29,11 @@ load-requires c = let shared = c.self.inside.table.shared in let board = stands 
     let low = inside c.args.self.now c.args.slot seat polling in
     let is : c.departures-place.result ≡ departures c.args.self.now.shape c.args.slot = c.departures-place.ensures.place ∙ ap (λ (l : Layout). place_of l (Departures c.args.slot)) c.layout.ensures.value in
     let n : ℕ = shared.table_id.slots in let at = record polling.desk { place = Searching polling.call polling.rows polling.poll } in
-    let place = departures_at board c.args.slot low is ∙ ap (departures shared.key) polling.slot_is in (
+    let place = departures_at board c.args.slot low is ∙ ap (departures shared.key.shape) polling.slot_is in (
       ap (λ (t : Table). t.id) (polling.writes.own ∙ sym c.self.view_is),
       departures_in board c.args.slot low is,
-      subst (λ (p : ℕ). Allows (Kept shared.key) n seat.id seat.me p (λ w. w) (λ found after. (other : Desk) → seat.me.0.role ≡ Writer other → Went other found seat.me.0 after.0)) (sym place)
-          (goes_so shared.key n seat.id seat.me at (desk_at seat.me.0.role polling.desk (Searching polling.call polling.rows polling.poll) polling.writes.role polling.place) refl
+      subst (λ (p : ℕ). Allows (Kept shared.key.shape) n seat.id seat.me p (λ w. w) (λ found after. (other : Desk) → seat.me.0.role ≡ Writer other → Went other found seat.me.0 after.0)) (sym place)
+          (goes_so shared.key.shape n seat.id seat.me at (desk_at seat.me.0.role polling.desk (Searching polling.call polling.rows polling.poll) polling.writes.role polling.place) refl
           (subst (λ (q : ℕ × ℕ). q.0 ≤ get_or seat.me.0.heard q.1 0) (λ j. (sym (ap (λ (t : Table). t.announcers) polling.writes.own) j, polling.slot_is j)) polling.heard) polling.in_order),
     )
 

@@ -32,11 +32,11 @@ load-requires c = let shared = c.self.inside.table.shared in let board = stands 
     let n : ℕ = shared.table_id.slots in let place = departures_at board entry.slot low is in (
       ap (λ (t : Table). t.id) (probes.own ∙ sym c.self.view_is),
       departures_in board entry.slot low is,
-      subst (λ (p : ℕ). Allows (Kept shared.key) n seat.id seat.me p (λ w. w)
+      subst (λ (p : ℕ). Allows (Kept shared.key.shape) n seat.id seat.me p (λ w. w)
           (λ found after. (other : Desk) (at : ℕ) (named : Retired) → seat.me.0.role ≡ Writer other → other.place ≡ Idle → Room seat.me.0.shape other
           → get_elem? other.retired at ≡ some named → p ≡ departures seat.me.0.shape named.slot
           → ProbesTo seat.me.0.shape named found seat.me.0 after.0)) (sym place)
-          (probes_so shared.key n seat.id seat.me probes.desk probes.poll entry probes.role probes.idle probes.here
+          (probes_so shared.key.shape n seat.id seat.me probes.desk probes.poll entry probes.role probes.idle probes.here
           (subst (λ (n : ℕ). n ≤ get_or seat.me.0.heard entry.slot 0) (sym (ap (λ (t : Table). t.announcers) probes.own)) probes.heard)),
     )
 

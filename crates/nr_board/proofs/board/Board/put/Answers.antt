@@ -20,12 +20,12 @@ store-requires c = let shared = c.self.inside.table.shared in let board = stands
     let n : ℕ = shared.table_id.slots in (
       ap (λ (t : Table). t.id) (putting.writes.own ∙ sym c.self.view_is),
       content_in board putting.slot room.0 c.args.begin c.args.index putting.begin_is (omega (arith, putting.more, room.1.1)),
-      subst (λ (p : ℕ × ℕ). Allows (Kept shared.key) n seat.id seat.me p.0 (λ _. p.1) (λ _ after. (other : Desk) → seat.me.0.role ≡ Writer other
+      subst (λ (p : ℕ × ℕ). Allows (Kept shared.key.shape) n seat.id seat.me p.0 (λ _. p.1) (λ _ after. (other : Desk) → seat.me.0.role ≡ Writer other
           → Put other seat.me.0 after.0)) (λ j. (
             sym (content_at board putting.slot room.0 c.args.begin c.args.index putting.begin_is) j,
             sym putting.word_is j,
           ))
-          (puts_so shared.key n seat.id seat.me putting.desk putting.call putting.rows putting.slot putting.departed c.args.index putting.writes.role putting.place putting.more),
+          (puts_so shared.key.shape n seat.id seat.me putting.desk putting.call putting.rows putting.slot putting.departed c.args.index putting.writes.role putting.place putting.more),
     )
 
 pub returns : goal.returns

@@ -24,8 +24,8 @@ load-requires c = let shared = c.self.inside.table.shared in let board = stands 
     let slot : ℕ = slot_held seat.me.0.role in let index : ℕ = c.args.index in let place = content_at board slot reader.holds.inside c.args.begin index reader.begin_is in (
       ap (λ (t : Table). t.id) (reader.own ∙ sym c.self.view_is),
       content_in board slot reader.holds.inside c.args.begin index reader.begin_is (omega (arith, c.requires.index, reader.holds.row_set.1)),
-      subst (λ (at : ℕ). Allows (Kept shared.key) shared.table_id.slots seat.id seat.me at (λ n. n) (has_read_word (step shared.table_id.slots at 0 0 none) seat.me)) (sym place)
-          (reads_so shared.key shared.table_id.slots seat.id seat.me index reader.holds.is (omega (arith, reader.holds.inside, ap (λ (s : Shape). s.slots) board.key_is))
+      subst (λ (at : ℕ). Allows (Kept shared.key.shape) shared.table_id.slots seat.id seat.me at (λ n. n) (has_read_word (step shared.table_id.slots at 0 0 none) seat.me)) (sym place)
+          (reads_so shared.key.shape shared.table_id.slots seat.id seat.me index reader.holds.is (omega (arith, reader.holds.inside, ap (λ (s : Shape). s.slots) board.key_is))
           (omega (arith, words, c.requires.index, reader.holds.row_set.1, ap (λ (s : Shape). s.rows) board.key_is)) c.requires.index (ap (λ (t : Table). t.shape) reader.own ∙ sym board.key_is)),
     )
 

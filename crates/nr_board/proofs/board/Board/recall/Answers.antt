@@ -12,7 +12,7 @@ pub load-requires : goal.load-requires
 load-requires c = let shared = c.self.inside.table.shared in let board = stands c.self.view_is c.self.invariant in let seat = c.args.seat.now in let recalls = c.requires.recalls in (
   ap (λ (t : Table). t.id) (recalls.own ∙ sym c.self.view_is),
   content_in board c.args.slot recalls.inside c.content.result c.args.index c.content.ensures c.requires.index,
-  recalls_so shared.key shared.table_id.slots seat.id seat.me (c.content.result + c.args.index),
+  recalls_so shared.key.shape shared.table_id.slots seat.id seat.me (c.content.result + c.args.index),
 )
 
 pub returns-clause-word : goal.returns-clause-word

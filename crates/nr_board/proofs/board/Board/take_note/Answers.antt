@@ -12,6 +12,6 @@ join_seat-requires c = let seat = c.args.seat.now in let note = c.note.inside.se
   ap (λ (s : Seat (Unit {0}) View). s.me.1) is
       ∙ c.requires.note.1,
   omega arith,
-  joins_so c.self.inside.table.shared.key seat.id seat.me.0 note.id note.me.0
+  joins_so c.self.inside.table.shared.key.shape seat.id seat.me.0 note.id note.me.0
       (ap (λ (s : Seat (Unit {0}) View). s.me.0.role) is ∙ c.requires.note.0),
 )

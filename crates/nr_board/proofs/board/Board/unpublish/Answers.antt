@@ -22,10 +22,10 @@ swap-requires c = let shared = c.self.inside.table.shared in let about = c.self.
     let word_is : hole_word c.args.number false ≡ hole_word (number_at leaving.desk c.args.key) false = ap (λ (n : ℕ). hole_word n false) leaving.number_is in (
       ap (λ (t : Table). t.id) (leaving.writes.own ∙ sym c.self.view_is),
       omega (arith, room.0, ap (λ (s : Shape). s.keys) about.0, ap (λ (t : Table). t.shape.keys) c.self.view_is),
-      subst (λ (w : ℕ). Allows (Kept shared.key) shared.table_id.slots seat.id seat.me c.args.key (λ _. w)
+      subst (λ (w : ℕ). Allows (Kept shared.key.shape) shared.table_id.slots seat.id seat.me c.args.key (λ _. w)
           (λ found after. (other : Desk) → seat.me.0.role ≡ Writer other → Went other found seat.me.0 after.0))
           (sym (c.hole_word-hole.ensures.word ∙ word_is))
-          (goes_so shared.key shared.table_id.slots seat.id seat.me at (desk_at seat.me.0.role leaving.desk (Leaving c.args.key) leaving.writes.role leaving.place) refl tt tt),
+          (goes_so shared.key.shape shared.table_id.slots seat.id seat.me at (desk_at seat.me.0.role leaving.desk (Leaving c.args.key) leaving.writes.role leaving.place) refl tt tt),
     )
 
 pub returns : goal.returns
