@@ -1,5 +1,5 @@
 -- Where the words of a slot stand in the board's table: inside it, and at places that fit a word.
-use Rattle.std.proofs.Common.{◌≡◌, ◌∙◌, ℕ, ◌+◌, ◌*◌, ◌^◌, ◌<◌, ap, subst, sym, arith}
+use Rattle.std.proofs.Common.{◌≡◌, ◌∙◌, ℕ, ◌+◌, ◌*◌, ◌^◌, ◌<◌, ◌≤◌, ap, subst, sym, arith}
 use Rattle.std.proofs.lemmas.Nat.{mul-le}
 use Rattle.nr_words.specs.Places.{slot_words, total_of}
 use Rattle.nr_core.proofs.WordPlaces.{content_inside, departures_inside}
@@ -17,7 +17,7 @@ pub record Stands (board : Table) (key : Shape) (words : ℕ) : Type 0 where
   pub fits : IsShape board.shape
 
 pub stands : {shown board : Table} {key : Shape} {words : ℕ} → shown ≡ board → (key ≡ shown.shape) × (words ≡ total_of (layout shown.shape) + 8 * shown.announcers)
-    × (0 < shown.shape.keys) × (shown.shape.keys < 2 ^ 32) × IsShape shown.shape → Stands board key words
+    × (0 < shown.shape.keys) × (shown.shape.keys < 2 ^ 32) × IsShape shown.shape × (shown.announcers ≤ shown.shape.readers) → Stands board key words
 stands {key = key} {words = words} is kept = subst (λ (board : Table). Stands board key words) is (record { key_is = kept.0; size = kept.1; few = kept.3; fits = kept.4 })
 
 module _ {board : Table} {key : Shape} {words : ℕ} (stand : Stands board key words) where

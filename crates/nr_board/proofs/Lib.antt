@@ -24,6 +24,9 @@ pub mod Brings
 pub mod WriterSteps
 pub mod Scanning
 pub mod SearchSeats
+pub mod WholeScans
+pub mod Passes
+pub mod RetiredSearch
 pub mod SearchSteps
 pub mod PollNotes
 pub mod Polled

@@ -50,16 +50,16 @@ module _ (desk : Desk) (own found : ℕ) where
       differ : true ≡ false → ⊥
       differ clash = absurd (cc)
 
-  heard_each : (first : ℕ) (heard : List ℕ) (at : ℕ) → HeardMore desk own found (first + at) (get_or heard at 0) (get_or (heard_from desk own found first heard) at 0)
-  heard_each first [] at = inl (omega arith)
-  heard_each first (count ∷ heard) zero = let same : first ≡ first + 0 = omega arith in
-      subst (λ (slot : ℕ). HeardMore desk own found slot count (get_or (heard_from desk own found first (count ∷ heard)) 0 0)) same (heard_one first count)
-  heard_each first (count ∷ heard) (suc at) = let same : suc first + at ≡ first + suc at = omega arith in
-      subst (λ (slot : ℕ). HeardMore desk own found slot (get_or heard at 0) (get_or (heard_from desk own found (suc first) heard) at 0)) same (heard_each (suc first) heard at)
+  heard_each : (heard : List ℕ) (first more at : ℕ) → HeardMore desk own found (first + at) (get_or heard (first + at) 0) (get_or (heard_from desk own found heard first more) at 0)
+  heard_each heard first zero at = inl (omega arith)
+  heard_each heard first (suc more) zero = let same : first ≡ first + 0 = omega arith in
+      subst (λ (slot : ℕ). HeardMore desk own found slot (get_or heard slot 0) (heard_now desk own found first (get_or heard first 0))) same (heard_one first (get_or heard first 0))
+  heard_each heard first (suc more) (suc at) = let same : suc first + at ≡ first + suc at = omega arith in
+      subst (λ (slot : ℕ). HeardMore desk own found slot (get_or heard slot 0) (get_or (heard_from desk own found heard (suc first) more) at 0)) same (heard_each heard (suc first) more at)
 
-  heard_more : (heard : List ℕ) (slot : ℕ) → HeardMore desk own found slot (get_or heard slot 0) (get_or (heard_from desk own found 0 heard) slot 0)
-  heard_more heard slot = let same : 0 + slot ≡ slot = omega arith in
-      subst (λ (s : ℕ). HeardMore desk own found s (get_or heard slot 0) (get_or (heard_from desk own found 0 heard) slot 0)) same (heard_each 0 heard slot)
+  heard_more : (heard : List ℕ) (slots slot : ℕ) → HeardMore desk own found slot (get_or heard slot 0) (get_or (heard_from desk own found heard 0 slots) slot 0)
+  heard_more heard slots slot = let same : 0 + slot ≡ slot = omega arith in
+      subst (λ (s : ℕ). HeardMore desk own found s (get_or heard s 0) (get_or (heard_from desk own found heard 0 slots) slot 0)) same (heard_each heard 0 slots slot)
 
 -- who says another slot, or none, holds this one by no word
 says_other : (shape : Shape) (state : State (Unit {0}) View) (kept : Kept shape state) (id slot : ℕ) (view : View) → get_elem? state.views id ≡ some view → view.says ≢ suc slot → lends slot view ≡ 0
@@ -85,12 +85,12 @@ named_stays shape state kept id view desk at is key slot names retired =
 
 -- after a load of a reader's word by the writer, what it hears then is so
 pub scan_heard : (shape : Shape) (state : State (Unit {0}) View) (kept : Kept shape state) (id own : ℕ) (view next : View) (desk : Desk) → get_elem? state.views id ≡ some view → view.role ≡ Writer desk → own < view.announcers
-    → next.role ≡ view.role → next.marks.names ≡ view.marks.names → next.heard ≡ heard_from desk own (get_or state.words (says_at shape own) 0) 0 view.heard → AllHear (set state.views id next)
+    → next.role ≡ view.role → next.marks.names ≡ view.marks.names → next.heard ≡ heard_from desk own (get_or state.words (says_at shape own) 0) view.heard 0 view.shape.slots → AllHear (set state.views id next)
 scan_heard shape state kept id own view next desk at is within same names heard_is =
     let words = state.words in let found : ℕ = get_or words (says_at shape own) 0 in
     let writes : is_writer next.role ≡ 1 = ap is_writer same ∙ ap is_writer is in let before = kept.hears id view at (ap is_writer is) in
     let more : (slot : ℕ) → HeardMore desk own found slot (get_or view.heard slot 0) (get_or next.heard slot 0)
-    = λ slot. subst (λ (l : List ℕ). HeardMore desk own found slot (get_or view.heard slot 0) (get_or l slot 0)) (sym heard_is) (heard_more desk own found view.heard slot) in
+    = λ slot. subst (λ (l : List ℕ). HeardMore desk own found slot (get_or view.heard slot 0) (get_or l slot 0)) (sym heard_is) (heard_more desk own found view.heard view.shape.slots slot) in
     let hears : Hears (set state.views id next) next = record {
       quiet = λ k slot other v here his low. ⊎_elim
           (λ (p : (k ≡ id) × (next ≡ v)). absurd (no_reader next.role other writes (ap (λ (w : View). is_by (suc other) w.role) p.1 ∙ his)))
@@ -116,7 +116,7 @@ pub scans_so : (shape : Shape) (slots id own : ℕ) (me : Me (Unit {0}) View) (d
     → Allows (Kept shape) slots id me (says_at shape own) (λ word. word) (has_scanned (step slots (says_at shape own) 0 0 none) me)
 scans_so shape slots id own me desk is within state kept homes at bounded =
     let view = me.0 in let words = state.words in let place : ℕ = says_at shape own in let found : ℕ = get_or words place 0 in let fits = kept.fits id view at in
-    let next = record view { steps = view.steps + 1; heard = heard_from desk own found 0 view.heard } in
+    let next = record view { steps = view.steps + 1; heard = heard_from desk own found view.heard 0 view.shape.slots } in
     let heard = scan_heard shape state kept id own view next desk at is within refl refl refl in
     let own_fits : Fits shape kept.log next = record { begins = fits.begins; told = fits.told; own = fits.own; knows_own = fits.knows_own; acts = fits.acts; sized = fits.sized } in
     let rests = replaced shape state id view next kept at refl (inl refl) refl heard (kept.told_of id view at) own_fits (kept.maker id view at) (kept.pasts id view at) (kept.told_pasts id view at) in (
@@ -125,5 +125,5 @@ scans_so shape slots id own me desk is within state kept homes at bounded =
       tt,
       subst (λ (l : List ℕ). Kept shape (record { words = l; homes = state.homes; views = set state.views id next })) (sym (set-get_or words place 0)) rests,
       λ other mine also low place_is. let same : own ≡ mine = says_apart shape view.shape own mine (writer_shape shape kept.log view desk is fits) place_is in
-          λ j. record view { steps = view.steps + 1; heard = heard_from (same_desk view.role desk other is also j) (same j) found 0 view.heard },
+          λ j. record view { steps = view.steps + 1; heard = heard_from (same_desk view.role desk other is also j) (same j) found view.heard 0 view.shape.slots },
     )

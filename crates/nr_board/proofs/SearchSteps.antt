@@ -103,6 +103,7 @@ gives_up_so shape slots id me desk call rows key near is is_at = let view = me.0
       slots = subst (λ (p : Shape × List Entry). filled_count (map_after p.0 p.1) + length desk.retired ≡ p.0.slots) (λ j. (sym size j, seen j))
           (slots_are shape kept.counted (map role_of state.views) kept.log kept.core id desk there stands.2 (λ s. ap (taken s) is_at));
       marks = marked.told.0;
+      heard = ap (λ r. heard_after r view.heard) is ∙ ap (λ (p : Place). heard_at p view.heard) is_at;
     }))
 
 -- one of the tokens is that reader, or none is
@@ -154,7 +155,7 @@ module _ (shape : Shape) (id own : ℕ) (view : View) (desk : Desk) (call : Writ
   searched_with : (polls : List Past) → Remarked role_of marks_of shape kept.counted state.views kept.log id view (Load 0) loaded.after loaded.entries (noting polls)
       → NotesKeeper (keeps_unheard desk own found view.heard) own found base polls → Result
   searched_with polls marked keeper =
-      let heard = heard_from desk own found 0 view.heard in let next = record view { steps = view.steps + 1; marks = marked.now; heard = heard } in
+      let heard = heard_from desk own found view.heard 0 view.shape.slots in let next = record view { steps = view.steps + 1; marks = marked.now; heard = heard } in
       let fits = kept.fits id view at in let same_log : kept.log ≡ kept.log ++ loaded.entries = sym (append-nil kept.log) ∙ ap (λ (l : List Entry). kept.log ++ l) (sym loaded.told.1) in
       let own_fits : Fits shape kept.log next = record { begins = fits.begins; told = fits.told; own = fits.own; knows_own = fits.knows_own; acts = λ reads. absurd (let no_reads = ap is_reader is in omega arith); sized = fits.sized } in
       let follows : Follows shape id view (Load 0) (LoadsWord view.role) (noting polls) state kept loaded marked next = record {

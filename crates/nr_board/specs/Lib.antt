@@ -23,6 +23,9 @@ pub mod Reaping
 pub mod Scans
 pub mod SearchPlays
 pub mod SearchSeats
+pub mod WholeScans
+pub mod Passes
+pub mod RetiredSearch
 pub mod HeldRows
 pub mod NamedRows
 pub mod Recalls

@@ -1,5 +1,5 @@
 -- A scan: the writer loads the readers' words in their order, and hears which retired slots they don't say.
-use Rattle.std.specs.Prelude.{◌≡◌, ℕ, suc, ◌+◌, ◌<◌, ◌==◌, ◌&&◌, if◌then◌else◌, nat_lt, not, List, [], ◌∷◌}
+use Rattle.std.specs.Prelude.{◌≡◌, ℕ, zero, suc, ◌+◌, ◌<◌, ◌==◌, ◌&&◌, if◌then◌else◌, nat_lt, not, slice_index, List, [], ◌∷◌}
 use Rattle.nr_core.specs.Roles.{retirements}
 use Rattle.nr_machine.specs.declared.roles.Desk.{Desk}
 use Rattle.nr_machine.specs.declared.roles.Role.TheVariants.{Writer}
@@ -16,14 +16,14 @@ abbrev pub heard_now : Desk → ℕ → ℕ → ℕ → ℕ → ℕ
 heard_now desk own found slot count =
     (if nat_lt 0 (retirements slot desk.retired) && ((heard_before own count == own) && not (found == suc slot)) then suc own else heard_before own count)
 
--- so of each slot from that one on
-abbrev pub heard_from : Desk → ℕ → ℕ → ℕ → List ℕ → List ℕ
-heard_from desk own found slot [] = []
-heard_from desk own found slot (count ∷ heard) = heard_now desk own found slot count ∷ heard_from desk own found (suc slot) heard
+-- so of that many slots from that one on
+abbrev pub heard_from : Desk → ℕ → ℕ → List ℕ → ℕ → ℕ → List ℕ
+heard_from desk own found heard slot zero = []
+heard_from desk own found heard slot (suc more) = heard_now desk own found slot (slice_index heard slot) ∷ heard_from desk own found heard (suc slot) more
 
 -- a load of a reader's word
 abbrev pub ScansTo : Desk → ℕ → ℕ → View → View → Type 0
-ScansTo desk own found old new = new ≡ record old { steps = old.steps + 1; heard = heard_from desk own found 0 old.heard }
+ScansTo desk own found old new = new ≡ record old { steps = old.steps + 1; heard = heard_from desk own found old.heard 0 old.shape.slots }
 
 abbrev pub has_scanned : Then
 has_scanned step before found after =

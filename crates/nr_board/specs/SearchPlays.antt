@@ -52,7 +52,7 @@ scan_base own polls = (if own == 0 then [] else polls)
 
 -- a load of a reader's word by a search
 pub record Scanned (desk : Desk) (own found : ℕ) (old new : View) : Type 0 where
-  pub same : new ≡ record old { steps = old.steps + 1; marks = with_polls old.marks new.marks.polls; heard = heard_from desk own found 0 old.heard }
+  pub same : new ≡ record old { steps = old.steps + 1; marks = with_polls old.marks new.marks.polls; heard = heard_from desk own found old.heard 0 old.shape.slots }
   pub keeper : NotesKeeper (keeps_unheard desk own found old.heard) own found (scan_base own old.marks.polls) new.marks.polls
 
 -- a search is given up: its call would be done, and each slot is a filled key's or retired
@@ -61,6 +61,7 @@ pub record GaveUp (desk : Desk) (call : WriterCall) (old new : View) : Type 0 wh
   pub would_be_done : reply_to (map_after old.shape new.seen) (call_of call) ≡ reply.Done
   pub slots : filled_count (map_after old.shape new.seen) + length desk.retired ≡ old.shape.slots
   pub marks : new.marks ≡ old.marks
+  pub heard : new.heard ≡ old.heard
 
 abbrev pub has_searched : Then
 has_searched step before found after =

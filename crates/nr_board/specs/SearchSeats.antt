@@ -6,6 +6,7 @@ use Rattle.nr_model.specs.declared.rows.Row.{Row}
 use Rattle.nr_machine.specs.declared.calls.WriterCall.{WriterCall}
 use Rattle.nr_machine.specs.declared.places.Place.TheVariants.{Searching}
 use Rattle.nr_machine.specs.declared.places.Retired.{Retired}
+use Rattle.nr_machine.specs.Spares.{Spare}
 use Rattle.nr_machine.specs.declared.roles.Desk.{Desk}
 use Rattle.nr_machine.specs.declared.roles.Role.TheVariants.{Writer}
 use Rattle.nr_board.specs.Callers.{Table, token}
@@ -34,6 +35,12 @@ pub record IsSearching (table : Table) (seat : MapSeat) : Type 0 where
   pub call : WriterCall
   pub rows : List Row
   pub place : desk.place ≡ Searching call rows 0
+
+-- over the retired slots of these lists
+pub record SearchesIn (table : Table) (spare : Spare) (seat : MapSeat) : Type 0 where
+  pub search : IsSearching table seat
+  pub retired : search.desk.retired ≡ spare.retired
+  pub slots : spare.slots ≡ table.shape.slots
 
 abbrev pub SearchesOn : ℕ → ℕ → View → View → Type 0
 SearchesOn own found old new = (desk : Desk) (call : WriterCall) (rows : List Row) → old.role ≡ Writer desk → desk.place ≡ Searching call rows 0 → Scanned desk own found old new

@@ -70,7 +70,7 @@ pub struct Board {
 }
 
 impl Model for Board {
-    ghost use Rattle.std.specs.Prelude.{◌≡◌, ◌<◌, ◌^◌, ◌+◌, ◌*◌};
+    ghost use Rattle.std.specs.Prelude.{◌≡◌, ◌<◌, ◌≤◌, ◌^◌, ◌+◌, ◌*◌};
     ghost use Rattle.nr_board.specs.Callers.{Table as MapTable};
 
     ghost Value = { MapTable };
@@ -81,7 +81,7 @@ impl Model for Board {
 
     ghost view = { λ board. record { id = board.table.shared.table_id; shape = board.plan.shape; announcers = board.plan.announcers } };
 
-    ghost invariant = { λ board. (board.table.shared.key.shape ≡ board.plan.shape) × (board.table.shared.table_id.words ≡ total_of (layout board.plan.shape) + 8 * board.plan.announcers) × (0 < board.plan.shape.keys) × (board.plan.shape.keys < 2 ^ 32) × IsShape board.plan.shape };
+    ghost invariant = { λ board. (board.table.shared.key.shape ≡ board.plan.shape) × (board.table.shared.table_id.words ≡ total_of (layout board.plan.shape) + 8 * board.plan.announcers) × (0 < board.plan.shape.keys) × (board.plan.shape.keys < 2 ^ 32) × IsShape board.plan.shape × (board.plan.announcers ≤ board.plan.shape.readers) };
 }
 
 /// What a token has seen. The token that made the note counts its step, so nothing is lost where the
@@ -119,6 +119,14 @@ impl Board {
         ensures { result.now ≡ self.now.shape }
     {
         &self.plan.shape
+    }
+
+    /// How many readers, the first ones, have a word of their own.
+    pub fn announcers(&self) -> u32
+        ensures value { result ≡ self.now.announcers }
+        ensures few { result ≤ self.now.shape.readers }
+    {
+        self.plan.announcers
     }
 
     /// How many rows a key may have: 1 to 255.

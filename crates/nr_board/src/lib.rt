@@ -16,6 +16,8 @@ mod reaping;
 mod recalls;
 mod reclaiming;
 mod rule;
+mod scans;
+mod search_passes;
 mod two_seats;
 mod view;
 mod writer_calls;
@@ -25,3 +27,4 @@ pub use answers::{
 };
 pub use board::{Board, Note, Plan, Seat};
 pub use rule::BegunCall;
+pub use scans::Unheard;

@@ -16,4 +16,5 @@ invariant_of-result c = let opened = c.in_ok-table.ensures in (
   c.requires.keys,
   omega arith,
   c.requires.sizes,
+  c.requires.few,
 )

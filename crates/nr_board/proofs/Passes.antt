@@ -1,0 +1,235 @@
+-- A pass of a search, slot by slot.
+use Rattle.std.proofs.Common.{◌≡◌, ◌≢◌, ℕ, suc, zero, ◌+◌, ◌<◌, ◌≤◌, ◌⊎◌, ⊎_elim, inl, inr, List, [], ◌∷◌, ◌++◌, Bool, true, false, cond, length, take, get_or, refl, sym, ap, ◌∙◌, subst, arith, append-nil, length-append}
+use Rattle.std.specs.Prelude.{Some, None, Option, remove}
+use mathlib.Core.Logic.{dite}
+use mathlib.Core.Option.{some, some-injective, some-ne-none}
+use native.Mathlib.Decide.{ℕ_discrete}
+use lib.ListN.{get_elem?}
+use Rattle.nr_core.proofs.Sums.{at_snoc, only-is, only-le, only-other, some_term, total-append}
+use Rattle.nr_core.specs.Roles.{retirements}
+use Rattle.nr_machine.specs.Spares.{Spare}
+use Rattle.nr_machine.specs.Sums.{only, total}
+use Rattle.nr_machine.specs.declared.places.Retired.{Retired}
+use Rattle.nr_machine.specs.declared.shape.Shape.{Shape}
+use Rattle.nr_marks.proofs.Different.{few_of}
+use Rattle.nr_marks.specs.MarkSteps.{NotedNowhereElse, TryTells}
+use Rattle.nr_marks.specs.Marks.{Marks, Past, with_polls}
+use Rattle.nr_board.proofs.PollNotes.{at_get}
+use Rattle.nr_board.proofs.SearchSeats.{there_is}
+use Rattle.nr_board.proofs.Searching.{grows_none}
+use Rattle.nr_board.proofs.Tokens.{grows_both, seat_grows}
+use Rattle.nr_board.proofs.WholeScans.{is_retired}
+use Rattle.nr_board.proofs.WriterSteps.{same_desk}
+use Rattle.nr_board.specs.declared.publish.Taken.{Taken}
+use Rattle.nr_board.specs.Callers.{Grows, IsSound, Table, token}
+use Rattle.nr_board.specs.Passes.{AreHeard, NotesOne, NotesTo, PassTakes, PassedTo, hits, polls_before}
+use Rattle.nr_board.specs.Plays.{Room}
+use Rattle.nr_board.specs.SearchPlays.{Tried, tried}
+use Rattle.nr_board.specs.SearchSeats.{IsSearching, SearchesIn, TriesAt, TriesTo}
+use Rattle.nr_board.specs.WriterSeats.{MapSeat}
+use Rattle.nr_machine.specs.States.{no_retired, retired_at}
+use Rattle.nr_machine.specs.Writer.{taking_retired}
+use Rattle.nr_machine.specs.declared.calls.WriterCall.{WriterCall}
+use Rattle.nr_machine.specs.declared.places.Place.TheVariants.{Searching}
+use Rattle.nr_machine.specs.declared.roles.Desk.{Desk}
+use Rattle.nr_machine.specs.declared.roles.Role.TheVariants.{Writer}
+use Rattle.nr_model.specs.declared.rows.Row.{Row}
+use Rattle.nr_words.specs.KeyWords.{same_count}
+use Rattle.nr_board.specs.WholeScans.{is_unheard}
+
+-- one place more of a sum
+total_take : {A : Type 0} (f : A → ℕ) (l : List A) (place : ℕ) (none : A) → place < length l → total f (take (suc place) l) ≡ total f (take place l) + f (get_or l place none)
+total_take f [] place none low = absurd (omega arith)
+total_take f (x ∷ l) zero none low = omega arith
+total_take f (x ∷ l) (suc place) none low = let rest = total_take f l place none (omega arith) in omega arith
+
+pub polls_next : (retired : List Retired) (flags : List Bool) (place : ℕ) → place < length retired → polls_before retired flags (place + 1) ≡ polls_before retired flags place + hits flags (get_or retired place no_retired)
+polls_next retired flags place low = let more : suc place ≡ place + 1 = omega arith in
+    subst (λ (n : ℕ). polls_before retired flags n ≡ polls_before retired flags place + hits flags (get_or retired place no_retired)) more (total_take (hits flags) retired place no_retired low)
+
+-- the notes as the pass goes on
+notes_on : (retired : List Retired) (flags : List Bool) (readers place : ℕ) (note : Past) → NotesOne retired flags readers place note → NotesOne retired flags readers (place + 1) note
+notes_on retired flags readers place note one = record {
+  made = one.made;
+  few = one.few;
+  holds = ⊎_elim inl (λ (h : (slot : ℕ) × (note.slot ≡ Some slot) × ((is_unheard flags slot ≡ true) ⊎ ((at : ℕ) × (entry : Retired) × (at < place) × (get_elem? retired at ≡ some entry) × (slot ≡ entry.slot)))).
+      inr (h.0, h.1, ⊎_elim inl (λ (p : (at : ℕ) × (entry : Retired) × (at < place) × (get_elem? retired at ≡ some entry) × (h.0 ≡ entry.slot)). inr (p.0, p.1, omega (arith, p.2), p.3, p.4)) h.2)) one.holds;
+}
+
+-- a slot with a flag is passed by
+pub notes_past : (retired : List Retired) (flags : List Bool) (readers place first : ℕ) (notes : List Past) → place < length retired → is_unheard flags (get_or retired place no_retired).slot ≡ true → NotesTo retired flags readers place first notes
+    → NotesTo retired flags readers (place + 1) first notes
+notes_past retired flags readers place first notes low flagged so_far = record {
+  many = let more = polls_next retired flags place low in let none : hits flags (get_or retired place no_retired) ≡ 0 = ap (λ (b : Bool). cond {A = ℕ} b 0 1) flagged in let many = so_far.many in omega arith;
+  each = λ at note there. notes_on retired flags readers place note (so_far.each at note there);
+  apart = so_far.apart;
+}
+
+module _ (retired : List Retired) (flags : List Bool) (readers place first : ℕ) (notes : List Past) (low : place < length retired) (unflagged : is_unheard flags (get_or retired place no_retired).slot ≡ false)
+    (differ : (one other : ℕ) (a b : Retired) → get_elem? retired one ≡ some a → get_elem? retired other ≡ some b → a.slot ≡ b.slot → one ≡ other) (here : get_elem? retired place ≡ some (get_or retired place no_retired))
+    (so_far : NotesTo retired flags readers place first notes) (note : Past) (holds : note.slot ≡ Some (get_or retired place no_retired).slot) (made : 0 < note.reader) (few : note.reader ≤ readers) (nowhere_else : NotedNowhereElse notes note) where
+  clash : true ≡ false → ⊥
+  clash e = absurd (cc)
+
+  abbrev value : Option ℕ → ℕ
+  value (Some n) = n
+  value None = 0
+
+  not_none : (n : ℕ) (o : Option ℕ) → o ≡ Some n → o ≡ None → ⊥
+  not_none n o one none = absurd (cc)
+
+  -- its reader was not noted before
+  is_new : (at : ℕ) (old : Past) → get_elem? notes at ≡ some old → old.reader ≢ note.reader
+  is_new at old there same = let slot_is : old.slot ≡ Some (get_or retired place no_retired).slot = nowhere_else at old there same ∙ holds in
+      ⊎_elim (λ (none : old.slot ≡ None). not_none (get_or retired place no_retired).slot old.slot slot_is none)
+      (λ (h : (slot : ℕ) × (old.slot ≡ Some slot) × ((is_unheard flags slot ≡ true) ⊎ ((at : ℕ) × (entry : Retired) × (at < place) × (get_elem? retired at ≡ some entry) × (slot ≡ entry.slot)))).
+      let is : h.0 ≡ (get_or retired place no_retired).slot = ap value (sym h.1 ∙ slot_is) in
+      ⊎_elim (λ (flagged : is_unheard flags h.0 ≡ true). clash (sym flagged ∙ ap (is_unheard flags) is ∙ unflagged))
+      (λ (p : (at : ℕ) × (entry : Retired) × (at < place) × (get_elem? retired at ≡ some entry) × (h.0 ≡ entry.slot)).
+      absurd (let one = differ p.0 place p.1 (get_or retired place no_retired) p.3 here (sym p.4 ∙ is) in omega (arith, p.2))) h.2)
+      (so_far.each at old there).holds
+
+  -- a slot that was held is noted
+  pub notes_more : NotesTo retired flags readers (place + 1) first (notes ++ note ∷ [])
+  notes_more = record {
+    many = let more = polls_next retired flags place low in let one : hits flags (get_or retired place no_retired) ≡ 1 = ap (λ (b : Bool). cond {A = ℕ} b 0 1) unflagged in
+        let long = length-append notes (note ∷ []) in let many = so_far.many in omega arith;
+    each = λ at other there. ⊎_elim (λ (old : get_elem? notes at ≡ some other). notes_on retired flags readers place other (so_far.each at other old))
+        (λ (new : note ≡ other). subst (NotesOne retired flags readers (place + 1)) new (record {
+          made = made;
+          few = few;
+          holds = inr ((get_or retired place no_retired).slot, holds, inr (place, get_or retired place no_retired, omega arith, here, refl));
+        })) (at_snoc notes note other at there);
+    apart = λ reader. let both = total-append (λ (n : Past). only reader n.reader) notes (note ∷ []) in dite (ℕ_discrete note.reader reader)
+        (λ e. let none : total (λ (n : Past). only reader n.reader) notes ≡ 0 = dite (ℕ_discrete (total (λ (n : Past). only reader n.reader) notes) 0) (λ z. z)
+        (λ some_there. absurd (let t = some_term (λ (n : Past). only reader n.reader) notes (omega arith) in is_new t.0 t.1 t.2 (only-is reader t.1.reader t.3 ∙ sym e))) in
+        let one = only-le reader note.reader in omega arith)
+        (λ ne. let none = only-other reader note.reader ne in let before = so_far.apart reader in omega arith);
+  }
+
+-- as many notes at most as there are readers
+pub notes_few : (retired : List Retired) (flags : List Bool) (readers place first : ℕ) (notes : List Past) → NotesTo retired flags readers place first notes → first + polls_before retired flags place ≤ readers
+notes_few retired flags readers place first notes so_far = let few = few_of (λ (n : Past). n.reader) notes readers so_far.apart (λ at note there. ((so_far.each at note there).made, (so_far.each at note there).few)) in let many = so_far.many in omega arith
+
+-- THE SEAT
+
+-- a desk over these lists has what they have
+there_too : (desk : Desk) (spare : Spare) (place : ℕ) (entry : Retired) → desk.retired ≡ spare.retired → get_elem? spare.retired place ≡ some entry → get_elem? desk.retired place ≡ some entry
+there_too desk spare place entry listed here = ap (λ (l : List Retired). get_elem? l place) listed ∙ here
+
+pub passed_none : (table : Table) (spare : Spare) (flags : List Bool) (seat : MapSeat) → SearchesIn table spare seat → IsSound (token seat) → NotesTo spare.retired flags table.shape.readers 0 (length seat.me.0.marks.polls) seat.me.0.marks.polls
+    → PassedTo table spare flags seat seat 0
+passed_none table spare flags seat search knows notes = record { own = refl; role = refl; search = search; grows = grows_none (token seat) knows; notes = notes; heard = refl; marks = refl }
+
+-- the entry at a place of the list, which the pass leaves as it was
+pub entry_at : (entry : Retired) (spare before : Spare) (place : ℕ) → entry ≡ get_or spare.retired place no_retired → spare ≡ before → entry ≡ get_or before.retired place no_retired
+entry_at entry spare before place is same = is ∙ ap (λ (s : Spare). get_or s.retired place no_retired) same
+
+module _ (table : Table) (spare : Spare) (flags : List Bool) (before now : MapSeat) (place : ℕ) (so_far : PassedTo table spare flags before now place) (low : place < length spare.retired) where
+  abbrev entry : Retired
+  entry = get_or spare.retired place no_retired
+
+  here : get_elem? spare.retired place ≡ some entry
+  here = at_get spare.retired place low
+
+  here_now : get_elem? so_far.search.search.desk.retired place ≡ some entry
+  here_now = there_too so_far.search.search.desk spare place entry so_far.search.retired here
+
+  pub entry_inside : entry.slot < table.shape.slots
+  entry_inside = so_far.search.search.room.inside place entry here_now
+
+  pub passed_by : is_unheard flags entry.slot ≡ true → PassedTo table spare flags before now (place + 1)
+  passed_by flagged = let more = polls_next spare.retired flags place low in let none : hits flags entry ≡ 0 = ap (λ (b : Bool). cond {A = ℕ} b 0 1) flagged in
+      let same : polls_before spare.retired flags place ≡ polls_before spare.retired flags (place + 1) = omega arith in record {
+        own = so_far.own;
+        role = so_far.role;
+        search = so_far.search;
+        grows = subst (λ (n : ℕ). Grows n (token before) [] (token now)) same so_far.grows;
+        notes = notes_past spare.retired flags table.shape.readers place (length before.me.0.marks.polls) now.me.0.marks.polls low flagged so_far.notes;
+        heard = so_far.heard;
+        marks = so_far.marks;
+      }
+
+  -- the slot may be polled
+  pub tries_at : AreHeard spare.retired flags table.announcers before.me.0.heard → is_unheard flags entry.slot ≡ false → TriesAt table entry now
+  tries_at heard unflagged = record {
+    search = so_far.search.search;
+    poll = place;
+    here = here_now;
+    heard = subst (λ (l : List ℕ). table.announcers ≤ get_or l entry.slot 0) (sym so_far.heard) (heard entry.slot (is_retired spare.retired place entry here) unflagged);
+  }
+
+  module _ (unflagged : is_unheard flags entry.slot ≡ false) (found : ℕ) (next : MapSeat) (same : next.table_id ≡ now.table_id) (tells : TriesTo entry found now.me.0 next.me.0) where
+    abbrev search_now : IsSearching table now
+    search_now = so_far.search.search
+
+    told : Tried search_now.desk search_now.call search_now.rows place found now.me.0 next.me.0
+    told = tells search_now.desk search_now.call search_now.rows place search_now.role search_now.place here_now
+
+    entry_is : entry ≡ retired_at search_now.desk place
+    entry_is = there_is search_now.desk.retired place entry here_now
+
+    grown : Grows (polls_before spare.retired flags place + 1) (token before) [] (token next)
+    grown = grows_both (polls_before spare.retired flags place) 1 (polls_before spare.retired flags place + 1) (token before) (token now) [] (token next) refl so_far.grows (seat_grows now next [] same told.leads.advances)
+
+    marks_are : (marks : Marks) → marks ≡ with_polls now.me.0.marks marks.polls → marks ≡ with_polls before.me.0.marks marks.polls
+    marks_are marks is = is ∙ ap (λ (m : Marks). with_polls m marks.polls) so_far.marks
+
+    pub passed_more : same_count found entry.arrivals ≡ false → PassedTo table spare flags before next (place + 1)
+    passed_more apart = let differs : same_count found (retired_at search_now.desk place).arrivals ≡ false = ap (λ (e : Retired). same_count found e.arrivals) (sym entry_is) ∙ apart in
+        let stays : tried search_now.desk search_now.call search_now.rows place found ≡ search_now.desk = ap (λ (b : Bool). cond {A = Desk} b (taking_retired search_now.desk search_now.call search_now.rows place found) search_now.desk) differs in
+        let role : next.me.0.role ≡ Writer search_now.desk = told.leads.role ∙ ap Writer stays in
+        let noted = subst (λ (p : Bool × Retired). TryTells p.0 now.me.0.shape now.me.0.marks p.1.slot next.me.0.marks) (λ j. (differs j, sym entry_is j)) told.marks in
+        let polls = ap (λ (m : Marks). m.polls) noted.1 in
+        let more = polls_next spare.retired flags place low in let one : hits flags entry ≡ 1 = ap (λ (b : Bool). cond {A = ℕ} b 0 1) unflagged in
+        let count : polls_before spare.retired flags place + 1 ≡ polls_before spare.retired flags (place + 1) = omega arith in
+        let size = ap (λ (t : Table). t.shape.readers) search_now.own in record {
+          own = same ∙ so_far.own;
+          role = role ∙ sym search_now.role ∙ so_far.role;
+          search = record {
+            search = record {
+              own = grown.table ∙ sym so_far.grows.table ∙ search_now.own;
+              desk = search_now.desk;
+              role = role;
+              room = search_now.room;
+              call = search_now.call;
+              rows = search_now.rows;
+              place = search_now.place;
+            };
+            retired = so_far.search.retired;
+            slots = so_far.search.slots;
+          };
+          grows = subst (λ (n : ℕ). Grows n (token before) [] (token next)) count grown;
+          notes = subst (NotesTo spare.retired flags table.shape.readers (place + 1) (length before.me.0.marks.polls)) (sym polls)
+              (notes_more spare.retired flags table.shape.readers place (length before.me.0.marks.polls) now.me.0.marks.polls low unflagged
+              (λ one other a b at_a at_b. search_now.room.apart one other a b (there_too search_now.desk spare one a so_far.search.retired at_a) (there_too search_now.desk spare other b so_far.search.retired at_b)) here so_far.notes
+              noted.0 noted.2 noted.3 (let few = noted.4 in omega arith) noted.5);
+          heard = told.heard ∙ so_far.heard;
+          marks = marks_are next.me.0.marks (noted.1 ∙ ap (λ (l : List Past). with_polls now.me.0.marks l) (sym polls));
+        }
+
+    pub pass_takes : same_count found entry.arrivals ≡ true → (taken : Taken) → taken.slot ≡ entry.slot → taken.departures ≡ found → (after : Spare) → after ≡ record spare { retired = remove spare.retired place }
+        → PassTakes table spare after flags before next taken
+    pass_takes agree taken slot_is departed after is = let agrees : same_count found (retired_at search_now.desk place).arrivals ≡ true = ap (λ (e : Retired). same_count found e.arrivals) (sym entry_is) ∙ agree in
+        let unmarked = subst (λ (b : Bool). TryTells b now.me.0.shape now.me.0.marks (retired_at search_now.desk place).slot next.me.0.marks) agrees told.marks in record {
+          place = place;
+          entry = entry;
+          here = here;
+          slot = slot_is;
+          after_is = is;
+          own = same ∙ so_far.own;
+          role = λ desk call rows is_desk is_at. role_so desk call rows (so_far.role ∙ is_desk) is_at;
+          grows = grown;
+          few = notes_few spare.retired flags table.shape.readers place (length before.me.0.marks.polls) now.me.0.marks.polls so_far.notes;
+          heard = told.heard ∙ so_far.heard;
+          marks = marks_are next.me.0.marks (unmarked ∙ ap (λ (m : Marks). with_polls now.me.0.marks m.polls) (sym unmarked));
+        }
+      where
+        role_so : (desk : Desk) (call : WriterCall) (rows : List Row) → now.me.0.role ≡ Writer desk → desk.place ≡ Searching call rows 0
+            → (next.me.0.role ≡ Writer (taking_retired desk call rows place taken.departures)) × Room table.shape (taking_retired desk call rows place taken.departures)
+        role_so desk call rows is_desk is_at = let one = same_desk now.me.0.role search_now.desk desk search_now.role is_desk in
+            let there : get_elem? desk.retired place ≡ some entry = ap (λ (d : Desk). get_elem? d.retired place) (sym one) ∙ here_now in
+            let mine = tells desk call rows place is_desk is_at there in
+            let agrees : same_count found (retired_at desk place).arrivals ≡ true = ap (λ (e : Retired). same_count found e.arrivals) (sym (there_is desk.retired place entry there)) ∙ agree in
+            let goes : tried desk call rows place found ≡ taking_retired desk call rows place taken.departures = ap (λ (b : Bool). cond {A = Desk} b (taking_retired desk call rows place found) desk) agrees ∙ ap (taking_retired desk call rows place) (sym departed) in
+            (mine.leads.role ∙ ap Writer goes, subst (λ (p : Shape × Desk). Room p.0 p.1) (λ j. (ap (λ (t : Table). t.shape) search_now.own j, goes j)) mine.leads.room)

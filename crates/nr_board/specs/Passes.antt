@@ -1,0 +1,73 @@
+-- A pass of a search: it polls the retired slots that have no flag, oldest first, up to the first that nobody holds.
+use Rattle.std.specs.Prelude.{◌≡◌, ℕ, ◌+◌, ◌<◌, ◌≤◌, ◌⊎◌, if◌then◌else◌, Bool, true, false, List, [], length, remove, slice_index, take, Option, Some, None}
+use mathlib.Core.Option.{some}
+use lib.ListN.{get_elem?}
+use Rattle.nr_model.specs.declared.rows.Row.{Row}
+use Rattle.nr_core.specs.Roles.{retirements}
+use Rattle.nr_machine.specs.Spares.{Spare}
+use Rattle.nr_machine.specs.Sums.{only, total}
+use Rattle.nr_machine.specs.Writer.{taking_retired}
+use Rattle.nr_machine.specs.declared.calls.WriterCall.{WriterCall}
+use Rattle.nr_machine.specs.declared.places.Place.TheVariants.{Searching}
+use Rattle.nr_machine.specs.declared.places.Retired.{Retired}
+use Rattle.nr_machine.specs.declared.roles.Desk.{Desk}
+use Rattle.nr_machine.specs.declared.roles.Role.TheVariants.{Writer}
+use Rattle.nr_marks.specs.Marks.{Past, with_polls}
+use Rattle.nr_board.specs.declared.publish.Taken.{Taken}
+use Rattle.nr_board.specs.Callers.{Grows, Table, token}
+use Rattle.nr_board.specs.Plays.{Room}
+use Rattle.nr_board.specs.SearchSeats.{SearchesIn}
+use Rattle.nr_board.specs.WholeScans.{is_unheard}
+use Rattle.nr_board.specs.WriterSeats.{MapSeat}
+
+abbrev pub hits : List Bool → Retired → ℕ
+hits flags entry = (if is_unheard flags entry.slot then 0 else 1)
+
+-- how many slots before that place of the list are polled
+abbrev pub polls_before : List Retired → List Bool → ℕ → ℕ
+polls_before retired flags place = total (hits flags) (take place retired)
+
+-- all readers that have a word were heard not to say a retired slot without a flag
+abbrev pub AreHeard : List Retired → List Bool → ℕ → List ℕ → Type 0
+AreHeard retired flags announcers counts = (slot : ℕ) → 0 < retirements slot retired → is_unheard flags slot ≡ false → announcers ≤ slice_index counts slot
+
+-- one of so many readers was noted, which held a slot before that place of the list, or one with a flag, or none
+pub record NotesOne (retired : List Retired) (flags : List Bool) (readers place : ℕ) (note : Past) : Type 0 where
+  pub made : 0 < note.reader
+  pub few : note.reader ≤ readers
+  pub holds : (note.slot ≡ None) ⊎ ((slot : ℕ) × (note.slot ≡ Some slot) × ((is_unheard flags slot ≡ true) ⊎ ((at : ℕ) × (entry : Retired) × (at < place) × (get_elem? retired at ≡ some entry) × (slot ≡ entry.slot))))
+
+-- so many notes that were there, and one for each poll: each of another reader
+pub record NotesTo (retired : List Retired) (flags : List Bool) (readers place first : ℕ) (notes : List Past) : Type 0 where
+  pub many : length notes ≡ first + polls_before retired flags place
+  pub each : (at : ℕ) (note : Past) → get_elem? notes at ≡ some note → NotesOne retired flags readers place note
+  pub apart : (reader : ℕ) → total (λ (note : Past). only reader note.reader) notes ≤ 1
+
+-- the pass before that place: each slot that it polled was held
+pub record PassedTo (table : Table) (spare : Spare) (flags : List Bool) (before now : MapSeat) (place : ℕ) : Type 0 where
+  pub own : now.table_id ≡ before.table_id
+  pub role : now.me.0.role ≡ before.me.0.role
+  pub search : SearchesIn table spare now
+  pub grows : Grows (polls_before spare.retired flags place) (token before) [] (token now)
+  pub notes : NotesTo spare.retired flags table.shape.readers place (length before.me.0.marks.polls) now.me.0.marks.polls
+  pub heard : now.me.0.heard ≡ before.me.0.heard
+  pub marks : now.me.0.marks ≡ with_polls before.me.0.marks now.me.0.marks.polls
+
+-- the pass took the slot at a place, which nobody held
+pub record PassTakes (table : Table) (spare after : Spare) (flags : List Bool) (before now : MapSeat) (taken : Taken) : Type 0 where
+  pub place : ℕ
+  pub entry : Retired
+  pub here : get_elem? spare.retired place ≡ some entry
+  pub slot : taken.slot ≡ entry.slot
+  pub after_is : after ≡ record spare { retired = remove spare.retired place }
+  pub own : now.table_id ≡ before.table_id
+  pub role : (desk : Desk) (call : WriterCall) (rows : List Row) → before.me.0.role ≡ Writer desk → desk.place ≡ Searching call rows 0
+      → (now.me.0.role ≡ Writer (taking_retired desk call rows place taken.departures)) × Room table.shape (taking_retired desk call rows place taken.departures)
+  pub grows : Grows (polls_before spare.retired flags place + 1) (token before) [] (token now)
+  pub few : length before.me.0.marks.polls + polls_before spare.retired flags place ≤ table.shape.readers
+  pub heard : now.me.0.heard ≡ before.me.0.heard
+  pub marks : now.me.0.marks ≡ with_polls before.me.0.marks now.me.0.marks.polls
+
+abbrev pub PassesFor : Table → Spare → Spare → List Bool → MapSeat → MapSeat → Option Taken → Type 0
+PassesFor table spare after flags before now (Some taken) = PassTakes table spare after flags before now taken
+PassesFor table spare after flags before now None = (after ≡ spare) × PassedTo table spare flags before now (length spare.retired)

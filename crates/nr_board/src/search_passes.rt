@@ -1,0 +1,68 @@
+//! How a writer of a map whose readers have words searches its retired slots.
+ghost use Rattle.std.specs.Prelude.{◌≡◌, ◌<◌, [], length};
+ghost use Rattle.nr_board.specs.Callers.{IsSound, token};
+ghost use Rattle.nr_board.specs.Passes.{AreHeard, NotesTo, PassesFor};
+ghost use Rattle.nr_board.specs.RetiredSearch.{SearchesFor};
+ghost use Rattle.nr_board.specs.SearchSeats.{SearchesIn};
+
+use crate::board::{Board, Seat};
+use crate::publish::Taken;
+use crate::scans::Unheard;
+use nr_core::{NoSlot, Spare};
+use nr_words::same_count;
+
+impl Board {
+    /// Takes a retired slot that nobody holds, where readers have words: a pass over the slots that the
+    /// last scan heard, and if they are all held a scan of the words and another pass. A search that
+    /// takes none ends with a load.
+    pub fn search_retired(
+        &self,
+        seat: &mut Seat,
+        spare: &mut Spare,
+        unheard: &mut Unheard,
+    ) -> Result<Taken, NoSlot>
+        requires search { SearchesIn self.now spare.old seat.old }
+        requires knows { IsSound (token seat.old) }
+        requires some_words { 0 < self.now.announcers }
+        requires wide { length unheard.old ≡ self.now.shape.slots }
+        requires heard { AreHeard spare.old.retired unheard.old self.now.announcers seat.old.me.0.heard }
+        requires begins { seat.old.me.0.marks.polls ≡ [] }
+        ensures searches { SearchesFor self.now spare.old spare.new unheard.old unheard.new seat.old seat.new result }
+        ensures wide { length unheard.new ≡ length unheard.old }
+    {
+        if let Some(taken) = self.pass(seat, spare, unheard) {
+            return Ok(taken);
+        }
+        self.scan_words(seat, spare, unheard);
+        if let Some(taken) = self.pass(seat, spare, unheard) {
+            return Ok(taken);
+        }
+        self.give_up(seat);
+        Err(spare.counts())
+    }
+
+    // Polls the retired slots that have no flag, oldest first, up to the first that nobody holds.
+    fn pass(&self, seat: &mut Seat, spare: &mut Spare, unheard: &Unheard) -> Option<Taken>
+        requires search { SearchesIn self.now spare.old seat.old }
+        requires knows { IsSound (token seat.old) }
+        requires wide { length unheard.now ≡ self.now.shape.slots }
+        requires heard { AreHeard spare.old.retired unheard.now self.now.announcers seat.old.me.0.heard }
+        requires notes { NotesTo spare.old.retired unheard.now self.now.shape.readers 0 (length seat.old.me.0.marks.polls) seat.old.me.0.marks.polls }
+        ensures { PassesFor self.now spare.old spare.new unheard.now seat.old seat.new result }
+    {
+        for place in 0..spare.retired_len() {
+            let entry = spare.retired_at(place);
+            if !unheard.is_flagged(entry.slot) {
+                let departures = self.try_slot(seat, entry);
+                if same_count(departures, entry.arrivals) {
+                    spare.take_retired(place);
+                    return Some(Taken {
+                        slot: entry.slot,
+                        departures,
+                    });
+                }
+            }
+        }
+        None
+    }
+}
