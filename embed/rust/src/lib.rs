@@ -48,7 +48,8 @@
 //! write or of a later one, and none only where the key was evicted since.
 //!
 //! Keys of a [`ValueMap`] have values of any type in place of rows, which readers borrow. A [`Lobby`] lists who waits for a
-//! missing key. Tokens go from thread to thread, but two threads never use one at a time:
+//! missing key, and who waits until the writer has come as far as a number. An [`Inbox`] brings one sleeping thread both
+//! tickets and events. Tokens go from thread to thread, but two threads never use one at a time:
 //!
 //! ```compile_fail,E0277
 //! let readers = nr::ReaderMap::open(&nr::Shape::new(1, 3, 1)).unwrap().readers;
@@ -113,11 +114,15 @@
 //! ```
 
 mod answers;
+mod emptied;
 mod ends;
 mod ffi;
+mod inbox;
 mod library;
 mod lobby;
 mod map;
+mod net;
+mod progress;
 mod queue;
 mod reader;
 mod reclaiming;
@@ -130,8 +135,11 @@ mod values;
 mod writer;
 
 pub use answers::{Asked, Cancel, Fault, KeyKind, Updated};
+pub use emptied::Emptied;
+pub use inbox::{Arrival, EventSender, Inbox, TicketSender};
 pub use lobby::Lobby;
 pub use map::ReaderMap;
+pub use progress::Progress;
 pub use queue::{Poster, Queue, Taker};
 pub use reader::{Keeping, Pin, Reader};
 pub use reclaiming::{Reaped, Reclaimed, Remains};

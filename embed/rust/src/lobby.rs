@@ -1,6 +1,6 @@
 //! Who waits for missing keys.
 use crate::map::Map;
-use crate::{Asked, Reader, Writer};
+use crate::{Asked, Progress, Reader, Writer};
 use std::collections::HashMap;
 use std::sync::{Mutex, MutexGuard, PoisonError};
 use std::{fmt, iter};
@@ -14,7 +14,8 @@ const GROUPS: u32 = 64;
 /// - a reader that finds a hole calls [`Lobby::ask`], posts the ticket if there is one, and only then sleeps;
 /// - the writer's thread fills the key, or cancels its request, and then calls [`Lobby::take`] and wakes the list.
 ///
-/// A find takes no lock; these two calls take that of the key's group, one of 64.
+/// A find takes no lock; these two calls take that of the key's group, one of 64. Who waits for a change, and not for a
+/// key, waits for the lobby's [`Progress`].
 ///
 /// ```
 /// use nr::{Asked, Lobby, Queue, ReaderMap, Row, Rows, Shape};
@@ -54,6 +55,7 @@ const GROUPS: u32 = 64;
 pub struct Lobby<W> {
     map: Map,
     groups: Box<[Group<W>]>,
+    progress: Progress,
 }
 
 /// The lists of the keys whose numbers are alike modulo [`GROUPS`], in a line of the cache of their own.
@@ -71,7 +73,7 @@ impl<W> Lobby<W> {
     /// A lobby for the readers of the writer's map, in which nobody waits.
     pub fn of(writer: &Writer) -> Lobby<W> {
         let groups = iter::repeat_with(|| Group(Mutex::default())).take(GROUPS as usize).collect();
-        Lobby { map: writer.map, groups }
+        Lobby { map: writer.map, groups, progress: Progress::new() }
     }
 
     /// Requests a key, and puts the waiter on its list, unless the key is filled: then the waiter is dropped, and the
@@ -96,6 +98,11 @@ impl<W> Lobby<W> {
     /// Whether somebody waits for a key. Panics where the map has no such key.
     pub fn is_awaited(&self, key: u32) -> bool {
         self.group(key).lists().contains_key(&key)
+    }
+
+    /// How far the writer's thread has come, as it tells: who waits for a change, and not for a key, waits here.
+    pub fn progress(&self) -> &Progress {
+        &self.progress
     }
 
     fn group(&self, key: u32) -> &Group<W> {

@@ -94,6 +94,16 @@ impl Delta {
     pub fn minus(row: Row) -> Delta {
         Delta { row, plus: false }
     }
+
+    /// The row.
+    pub fn row(&self) -> Row {
+        self.row
+    }
+
+    /// Whether the row is added.
+    pub fn is_plus(&self) -> bool {
+        self.plus
+    }
 }
 
 /// What a map is opened with: up to 65,536 keys, 131,072 slots and 1,024 readers, or else any number of keys, up to

@@ -1,7 +1,11 @@
 //! Each call does what it says, and what can be wrong with its arguments is refused.
 use crate::*;
 
+mod emptied;
+mod inbox;
 mod lobby;
+mod net;
+mod progress;
 mod reclaiming;
 mod values;
 
