@@ -14,7 +14,6 @@ fn net_of(deltas: &[Delta]) -> Counts {
     for delta in deltas {
         *net.entry(delta.row()).or_default() += if delta.is_plus() { 1 } else { -1 };
     }
-    net.retain(|_, count| *count != 0);
     net
 }
 

@@ -11,14 +11,12 @@ fn tickets_and_events_come_in_turn() {
         tickets[0].send(asked(&mut readers[0], key));
     }
     events.send('a').unwrap();
-    events.send('b').unwrap();
-    let came: Vec<_> = (0..5).map(|_| inbox.next().expect("there are senders")).collect();
+    let came: Vec<_> = (0..4).map(|_| inbox.next().expect("there are senders")).collect();
     let is_ticket: Vec<_> = came.iter().map(|it| matches!(it, Arrival::Ticket(_))).collect();
-    assert_eq!(is_ticket, [true, false, true, false, true]);
+    assert_eq!(is_ticket, [true, false, true, true]);
+    assert_eq!(came[1], Arrival::Event('a'));
     let keys = came.iter().filter_map(|it| if let Arrival::Ticket(ticket) = it { Some(ticket.key()) } else { None });
     assert_eq!(keys.collect::<Vec<_>>(), [0, 1, 2]);
-    let letters: Vec<_> = came.iter().filter(|it| matches!(it, Arrival::Event(_))).collect();
-    assert_eq!(letters, [&Arrival::Event('a'), &Arrival::Event('b')]);
 }
 
 #[test]

@@ -87,4 +87,6 @@ fn without_a_slot_it_is_refused() {
         let deltas: Vec<_> = (0..count).map(row).map(Delta::plus).collect();
         assert_eq!(writer.update_net(0, &deltas), Err(Fault::AllFilled));
     }
+    // Nothing is put where nothing changes.
+    assert_eq!(writer.update_net(0, &[Delta::minus(row(1)), Delta::plus(row(1))]), Ok(Updated::Done));
 }
