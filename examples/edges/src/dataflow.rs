@@ -1,0 +1,269 @@
+//! The dataflow: the one thread that writes the map. It puts the answers of upqueries and the stream's transactions into
+//! an order in which each change of a key counts once, and never waits for PostgreSQL.
+use crate::fresh::Fresh;
+use crate::log::Log;
+use crate::lsn::Lsn;
+use crate::residents::Residents;
+use crate::snapshot::Snapshot;
+use crate::transaction::{Changes, Transaction};
+use crate::upquery::{Answer, Asker, Request, Seen, Told};
+use crate::{parts, pq, stats::Count, Shared};
+use nr::{Arrival, Delta, Fault, Inbox, Row, Ticket};
+use std::collections::{HashMap, HashSet};
+use std::sync::{atomic::Ordering::SeqCst, mpsc, Arc};
+
+pub enum Event {
+    Transaction(Transaction),
+    /// The stream has brought all that was committed before this place.
+    Reached(Lsn),
+    /// Changes were missed.
+    Lost,
+    /// A new slot stands.
+    Begun(First),
+    Answer(Answer),
+    /// A client asks for an article without a key.
+    Asked(Box<str>, mpsc::Sender<Told>),
+    /// A client waits for a key whose request somebody else made.
+    Awaited(u32),
+    End,
+}
+
+/// What a slot begins with: its snapshot sees just what was committed before its first transaction, and that comes after
+/// this place.
+pub struct First {
+    pub snapshot: Snapshot,
+    pub place: Lsn,
+}
+
+/// After this many applied transactions without an upquery, PostgreSQL is asked what a snapshot sees.
+const LONG_LOG: usize = 1024;
+
+pub struct Dataflow<'a> {
+    inbox: Inbox<Event>,
+    requests: mpsc::Sender<Request>,
+    shared: &'a Shared,
+    residents: Residents<'a>,
+    log: Log,
+    fresh: Fresh,
+    /// What the slot began with, until an answer's snapshot covers it.
+    first: Option<Snapshot>,
+    /// A slot stands. Without one, answers are told and fill nothing.
+    is_following: bool,
+    applied: Lsn,
+    /// Of the requests that were sent up to this one, the tickets were taken back but those of these keys.
+    emptied_after: u64,
+    not_taken_back: HashSet<u32>,
+    /// Tickets with the last number, which fill nothing and can't be taken back: they serve who asks next.
+    worn: HashMap<u32, Ticket>,
+}
+
+impl<'a> Dataflow<'a> {
+    pub fn new(inbox: Inbox<Event>, requests: mpsc::Sender<Request>, residents: Residents<'a>) -> Dataflow<'a> {
+        Dataflow {
+            inbox,
+            requests,
+            shared: residents.shared,
+            residents,
+            log: Log::default(),
+            fresh: Fresh::default(),
+            first: None,
+            is_following: false,
+            applied: Lsn::default(),
+            emptied_after: 0,
+            not_taken_back: HashSet::new(),
+            worn: HashMap::new(),
+        }
+    }
+
+    pub fn run(mut self) {
+        while let Some(arrival) = self.inbox.next() {
+            match arrival {
+                Arrival::Event(Event::End) => return,
+                Arrival::Event(event) => self.handle(event),
+                Arrival::Ticket(ticket) => self.upquery(ticket),
+            }
+            self.shared.log.store(self.log.len() as u64, SeqCst);
+            self.shared.is_following.store(self.is_following, SeqCst);
+        }
+    }
+
+    fn handle(&mut self, event: Event) {
+        match event {
+            Event::Transaction(transaction) => self.apply(transaction),
+            Event::Reached(place) => self.reach(place),
+            Event::Lost => self.begin_anew(),
+            Event::Begun(first) => self.follow(first),
+            Event::Answer(answer) => self.take_answer(answer),
+            Event::Asked(article, client) => self.request(article, Asker::Client(client), false),
+            Event::Awaited(key) => _ = self.worn.remove(&key).map(|ticket| self.upquery(ticket)),
+            Event::End => {}
+        }
+    }
+
+    fn upquery(&mut self, ticket: Ticket) {
+        self.shared.work.up(Count::Upqueries);
+        let article = self.shared.names.article(ticket.key()).into();
+        self.request(article, Asker::Key(ticket), false);
+    }
+
+    fn request(&mut self, article: Box<str>, asker: Asker, is_again: bool) {
+        let number = self.log.send();
+        self.requests.send(Request { number, article, asker, is_again }).expect("who asks PostgreSQL is there");
+    }
+
+    fn request_again(&mut self, Request { article, asker, .. }: Request) {
+        self.shared.work.up(Count::Again);
+        self.request(article, asker, true);
+    }
+
+    /// Changes each key but where its rows have the transaction already.
+    fn apply(&mut self, transaction: Transaction) {
+        if transaction.end <= self.applied && parts::REPEATS_GUARD {
+            return self.shared.work.up(Count::Repeats);
+        }
+        self.shared.work.up(Count::Transactions);
+        for (article, deltas) in &transaction.changes {
+            match self.shared.names.key(article, false) {
+                Some(key) if self.fresh.has(key, transaction.xid) => self.shared.work.up(Count::Skips),
+                Some(key) => self.residents.update(key, deltas),
+                None => {}
+            }
+        }
+        let end = transaction.end;
+        self.log.push(transaction);
+        if self.log.len() >= LONG_LOG && !self.log.is_awaited() {
+            self.request("".into(), Asker::Log, false);
+        }
+        self.reach(end);
+    }
+
+    fn reach(&mut self, place: Lsn) {
+        if place > self.applied {
+            self.applied = place;
+            self.fresh.passed(place);
+            self.shared.lobby.progress().reach(place.0);
+        }
+    }
+
+    /// Nothing that is held may be told any more, and no answer that is under way may fill. The log stays until the new
+    /// slot stands: PostgreSQL may not show yet what clients were told.
+    fn begin_anew(&mut self) {
+        self.shared.work.up(Count::Losses);
+        self.is_following = false;
+        self.shared.lobby.progress().restart(0);
+        self.fresh.clear();
+        self.first = None;
+        let emptied = self.residents.empty();
+        self.emptied_after = self.log.last_sent();
+        self.not_taken_back = emptied.worn.into_iter().collect();
+        emptied.cancelled.into_iter().for_each(|key| self.tell(key, &Told::Again));
+    }
+
+    fn follow(&mut self, First { snapshot, place }: First) {
+        self.log.clear();
+        self.first = Some(snapshot);
+        self.is_following = true;
+        self.applied = place;
+        self.shared.lobby.progress().restart(place.0);
+    }
+
+    fn take_answer(&mut self, Answer { requests, rows }: Answer) {
+        self.shared.work.up(Count::Statements);
+        self.log.answered(requests.iter().map(|request| request.number));
+        let (seen, rows) = match rows {
+            Ok(answer) => answer,
+            Err(fault) => return requests.into_iter().for_each(|request| self.refuse(request.asker, &fault)),
+        };
+        if self.lacks_first(&seen) {
+            return requests.into_iter().for_each(|request| self.request_again(request));
+        }
+        // Before a client can be told what the snapshot saw.
+        self.shared.seen.fetch_max(seen.place.0, SeqCst);
+        let unseen = self.log.unseen_by(&seen.snapshot);
+        let seen = Arc::new(seen);
+        requests.into_iter().zip(rows).for_each(|(request, rows)| self.bring(request, rows, &seen, &unseen));
+        self.log.prune(&seen.snapshot);
+    }
+
+    /// Whether the snapshot may lack what the slot doesn't bring.
+    fn lacks_first(&mut self, seen: &Seen) -> bool {
+        self.first.take_if(|first| seen.snapshot.covers(first));
+        parts::FIRST_SNAPSHOT && self.first.is_some()
+    }
+
+    /// The rows of an article as a statement saw them, with the changes that it didn't see.
+    fn bring(&mut self, request: Request, rows: Vec<Row>, seen: &Arc<Seen>, unseen: &Changes) {
+        if request.number <= self.emptied_after && self.is_of_before(&request.asker) {
+            return self.request_again(request);
+        }
+        let lacking = unseen.get(&request.article).map_or(&[][..], Vec::as_slice);
+        if !lacking.is_empty() {
+            self.shared.work.up(Count::Replays);
+        }
+        match (Delta::apply(lacking, &rows), request.asker) {
+            (Err(fault), asker) => {
+                self.shared.work.up(Count::Disagreements);
+                self.refuse(asker, &format!("the rows and the changes disagree: {fault}").into());
+            }
+            (Ok(rows), Asker::Key(ticket)) => self.fill(ticket, rows, seen),
+            (Ok(rows), Asker::Client(client)) => _ = client.send(Told::Rows(rows.into())),
+            (Ok(_), Asker::Log) => {}
+        }
+    }
+
+    /// Whether a request from before the map was emptied may still be answered by what it saw.
+    fn is_of_before(&self, asker: &Asker) -> bool {
+        match asker {
+            Asker::Key(ticket) => self.not_taken_back.contains(&ticket.key()),
+            Asker::Client(_) => true,
+            Asker::Log => false,
+        }
+    }
+
+    /// Of a ticket that was taken back, nobody is told: who waits now waits for a later answer.
+    fn fill(&mut self, ticket: Ticket, rows: Vec<Row>, seen: &Arc<Seen>) {
+        let key = ticket.key();
+        if !self.is_following && !self.residents.is_current(&ticket) {
+            return;
+        }
+        if !self.is_following {
+            self.take_back(ticket);
+        } else if let Err(unfilled) = self.residents.fill(ticket, &rows) {
+            if unfilled.fault != Fault::TooMany {
+                return;
+            }
+            self.take_back(unfilled.ticket);
+        } else if seen.place > self.applied {
+            self.fresh.filled(key, seen);
+        }
+        self.tell(key, &Told::Rows(rows.into()));
+    }
+
+    /// The rows can't be had now, so the next who asks has PostgreSQL asked again.
+    fn refuse(&mut self, asker: Asker, fault: &pq::Fault) {
+        let told = Told::Fault(fault.to_string().into());
+        match asker {
+            Asker::Key(ticket) if self.residents.is_current(&ticket) => {
+                let key = ticket.key();
+                self.take_back(ticket);
+                self.tell(key, &told);
+            }
+            Asker::Client(client) => _ = client.send(told),
+            Asker::Key(_) | Asker::Log => {}
+        }
+    }
+
+    fn take_back(&mut self, ticket: Ticket) {
+        if let Err(worn) = self.residents.writer.cancel_ticket(ticket) {
+            self.worn.insert(worn.key(), worn);
+        }
+    }
+
+    fn tell(&self, key: u32, told: &Told) {
+        self.shared.lobby.take(key).iter().for_each(|client| _ = client.send(told.clone()));
+    }
+}
+
+#[cfg(test)]
+#[path = "../tries/rule.rs"]
+mod tests;

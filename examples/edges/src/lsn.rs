@@ -1,0 +1,28 @@
+//! PostgreSQL's names for a place in its log and for a transaction.
+use std::{fmt, str::FromStr};
+
+/// A place in the log, which grows by the bytes that are written.
+#[derive(Clone, Copy, Debug, Default, PartialEq, Eq, PartialOrd, Ord)]
+pub struct Lsn(pub u64);
+
+impl FromStr for Lsn {
+    type Err = String;
+
+    fn from_str(text: &str) -> Result<Lsn, String> {
+        let halves = text.split_once('/').and_then(|(high, low)| {
+            let half = |digits| u32::from_str_radix(digits, 16).ok().map(u64::from);
+            Some(half(high)? << 32 | half(low)?)
+        });
+        halves.map(Lsn).ok_or_else(|| "a token is two hexadecimal numbers with a slash between".into())
+    }
+}
+
+impl fmt::Display for Lsn {
+    fn fmt(&self, f: &mut fmt::Formatter<'_>) -> fmt::Result {
+        write!(f, "{:X}/{:X}", self.0 >> 32, self.0 as u32)
+    }
+}
+
+/// A transaction, by the 32 bits that the stream tells of its number.
+#[derive(Clone, Copy, Debug, PartialEq, Eq)]
+pub struct Xid(pub u32);

@@ -1,0 +1,134 @@
+//! An edge: one of many processes that each hold a part of a PostgreSQL table, and follow its changes.
+//!   edge ADDRESS SLOT [OPTION NUMBER]..    the address is a libpq connection string, the slot this edge's own name
+mod dataflow;
+// These three are as in the server over SQLite.
+#[path = "../../view_server/src/door.rs"]
+mod door;
+mod fresh;
+mod log;
+mod lsn;
+#[path = "../../view_server/src/names.rs"]
+mod names;
+mod parts;
+mod pgoutput;
+mod pq;
+mod residents;
+mod session;
+mod snapshot;
+mod stats;
+mod stream;
+mod transaction;
+mod upquery;
+#[path = "../../view_server/src/wire.rs"]
+mod wire;
+
+use dataflow::{Dataflow, Event};
+use nr::{Inbox, Lobby, ReaderMap, Rows, Shape, Writer};
+use std::sync::atomic::{AtomicBool, AtomicU64};
+use std::sync::{mpsc, Mutex};
+use std::{collections::VecDeque, env, error::Error, net::TcpListener, process, thread, time::Duration};
+
+/// What the threads share beside the map.
+struct Shared {
+    address: String,
+    names: names::Names,
+    lobby: Lobby<mpsc::Sender<upquery::Told>>,
+    /// All that was told was committed before this place, or before the one that the stream has reached.
+    seen: AtomicU64,
+    longest_wait: Duration,
+    /// Those of the sessions, and those of the dataflow.
+    counts: Vec<stats::Counts>,
+    work: stats::Counts,
+    /// How many transactions the log has, and whether a slot stands.
+    log: AtomicU64,
+    is_following: AtomicBool,
+    /// Of each key whether it was read since the clock's hand passed it.
+    was_read: Vec<AtomicBool>,
+}
+
+/// Each is followed by a number, or has that of DEFAULTS. Times are in milliseconds; with 0 slots there are as many as needed.
+const OPTIONS: &str = "--port --readers --keys --rows --limit --connections --batch --wait --confirm --slots --number";
+const DEFAULTS: [u32; 11] = [0, 64, 65536, 63, 6554, 4, 32, 10_000, 1000, 0, 0];
+
+struct Options([u32; DEFAULTS.len()]);
+
+impl Options {
+    /// The address, the slot and the options of a command.
+    fn read(mut words: impl Iterator<Item = String>) -> Option<(String, String, Options)> {
+        let (address, slot, mut options) = (words.next()?, words.next()?, Options(DEFAULTS));
+        while let Some(name) = words.next() {
+            options.0[Options::place(&name)?] = words.next()?.parse().ok()?;
+        }
+        let is_name = |byte: u8| byte.is_ascii_lowercase() || byte.is_ascii_digit() || byte == b'_';
+        (!slot.is_empty() && slot.bytes().all(is_name)).then_some((address, slot, options))
+    }
+
+    fn place(name: &str) -> Option<usize> {
+        OPTIONS.split(' ').position(|option| option == name)
+    }
+
+    fn of(&self, name: &str) -> u32 {
+        self.0[Options::place(name).expect("it is an option")]
+    }
+
+    /// One key more than the limit is filled before one is evicted, and each reader may hold a slot.
+    fn shape(&self) -> Shape {
+        let (limit, readers) = (self.of("--limit"), self.of("--readers"));
+        let slots = if self.of("--slots") == 0 { limit.saturating_add(readers + 2) } else { self.of("--slots") };
+        let first_number = self.of("--number").into();
+        Shape { rows: self.of("--rows"), first_number, ..Shape::new(self.of("--keys"), slots, readers) }
+    }
+
+    fn shared(&self, address: String, writer: &Writer) -> Shared {
+        Shared {
+            address,
+            names: names::Names::new(self.of("--keys")),
+            lobby: Lobby::of(writer),
+            seen: AtomicU64::new(0),
+            longest_wait: Duration::from_millis(self.of("--wait").into()),
+            counts: (0..self.of("--readers")).map(|_| stats::Counts::default()).collect(),
+            work: stats::Counts::default(),
+            log: AtomicU64::new(0),
+            is_following: AtomicBool::new(false),
+            was_read: (0..self.of("--keys")).map(|_| AtomicBool::new(false)).collect(),
+        }
+    }
+}
+
+fn main() -> Result<(), Box<dyn Error>> {
+    let told = Options::read(env::args().skip(1));
+    let (address, slot, options) = told.ok_or_else(|| format!("ADDRESS SLOT, and of {OPTIONS} each with a number"))?;
+    let ReaderMap { writer, readers } = ReaderMap::open(&options.shape())?;
+    // A key has one ticket at a time, and one of each that was taken back.
+    let (inbox, tickets, events) = Inbox::open(&writer, options.of("--keys"), options.of("--readers"))?;
+    let shared = &options.shared(address, &writer);
+    let session = |(number, (reader, tickets))| {
+        let events = events.clone();
+        session::Session { number, reader, rows: Rows::new(), tickets, events, shared, base: None }
+    };
+    let sessions: Vec<_> = readers.into_iter().zip(tickets).enumerate().map(session).collect();
+    let (requests, waiting) = mpsc::channel();
+    let waiting = &Mutex::new(waiting);
+    let limit = options.of("--limit") as usize;
+    let residents = residents::Residents { writer, shared, clock: VecDeque::new(), limit };
+    let confirm = Duration::from_millis(options.of("--confirm").into());
+    let stream =
+        stream::Stream { address: shared.address.clone(), slot: slot.clone(), events: events.clone(), confirm };
+    let listener = TcpListener::bind(("127.0.0.1", u16::try_from(options.of("--port"))?))?;
+    thread::scope(|scope| {
+        for _ in 0..options.of("--connections") {
+            let (events, batch) = (events.clone(), options.of("--batch").max(1) as usize);
+            let upqueries = upquery::Upqueries { address: &shared.address, requests: waiting, events, batch };
+            scope.spawn(move || upqueries.run());
+        }
+        scope.spawn(move || stream.run());
+        let end = events.clone();
+        scope.spawn(move || (door::serve(listener, sessions), _ = end.send(Event::End)));
+        Dataflow::new(inbox, requests, residents).run();
+        // The other threads wait for PostgreSQL, which need not keep anything for this edge from now on.
+        if let Err(fault) = stream::drop_slot(&shared.address, &slot) {
+            eprintln!("the slot {slot} may still be there: {fault}");
+        }
+        process::exit(0)
+    })
+}

@@ -1,0 +1,180 @@
+//! A session: a thread that answers one client's commands in their order.
+use crate::pq::{quoted, Connection};
+use crate::upquery::Told;
+use crate::{dataflow::Event, lsn::Lsn, stats, stats::Count, wire, wire::bulk, Shared};
+use nr::{Asked, EventSender, Reader, Row, Rows, TicketSender};
+use std::sync::{atomic::Ordering::Relaxed, atomic::Ordering::SeqCst, mpsc, Arc};
+use std::{fmt::Write, io, net::TcpStream};
+
+/// When its client has gone, the next one has it.
+pub struct Session<'a> {
+    pub number: usize,
+    pub reader: Reader,
+    pub rows: Rows,
+    pub tickets: TicketSender<Event>,
+    pub events: EventSender<Event>,
+    pub shared: &'a Shared,
+    /// Its own, once a client has written.
+    pub base: Option<Connection>,
+}
+
+const WRONG_COUNT: &str = "wrong number of arguments";
+const UNKNOWN: &str = "unknown command: there are GET, READ, PEEK, VOTE, UNVOTE, STATS, PING and COMMAND";
+const NOT_REACHED: &str = "the edge has not come as far as the token: try again, or ask another edge";
+/// Its place, once it is committed: without a flush it isn't on the disk yet.
+const PLACE: &str = "SELECT CASE current_setting('synchronous_commit') WHEN 'off' THEN pg_current_wal_insert_lsn()
+    ELSE pg_current_wal_flush_lsn() END";
+
+impl Session<'_> {
+    /// A command without meaning is answered by an error, which is the last reply where its end can't be told.
+    pub fn serve(&mut self, client: Arc<TcpStream>) -> io::Result<()> {
+        let mut wire = wire::Wire::new(client)?;
+        loop {
+            match wire.command() {
+                Ok(words) => wire.reply(words.and_then(|words| self.answer(&words))),
+                Err(fault) if fault.kind() == io::ErrorKind::InvalidData => return wire.end(fault),
+                Err(fault) => return Err(fault),
+            }
+        }
+    }
+
+    fn answer(&mut self, words: &[Vec<u8>]) -> Result<String, String> {
+        let words: Result<Vec<_>, _> = words.iter().map(|word| std::str::from_utf8(word)).collect();
+        let words = words.map_err(|_| "a word is not UTF-8")?;
+        let Some((command, arguments)) = words.split_first() else { return Ok(String::new()) };
+        match (command.to_ascii_uppercase().as_str(), arguments) {
+            ("GET", [article, token @ ..]) => self.after(token)?.get(name(article)?),
+            ("READ", [article, token @ ..]) => self.after(token)?.read(name(article)?),
+            ("PEEK", [article, token @ ..]) => self.after(token)?.peek(name(article)?),
+            ("VOTE", [article, voter, weight]) => self.write(Written::Vote, article, voter, weight),
+            ("UNVOTE", [article, voter, weight]) => self.write(Written::Unvote, article, voter, weight),
+            ("STATS", []) => Ok(bulk(&stats::text_of(self.shared))),
+            ("PING", []) => Ok("+PONG\r\n".into()),
+            ("PING", [text]) => Ok(bulk(text)),
+            ("COMMAND", _) => Ok("*0\r\n".into()),
+            ("GET" | "READ" | "PEEK" | "VOTE" | "UNVOTE" | "STATS" | "PING", _) => Err(WRONG_COUNT.into()),
+            _ => Err(UNKNOWN.into()),
+        }
+    }
+
+    /// Waits until the edge has come as far as a token, where one is brought.
+    fn after(&mut self, token: &[&str]) -> Result<&mut Self, String> {
+        let place: Lsn = match token {
+            [] => return Ok(self),
+            [token] => token.parse()?,
+            _ => return Err(WRONG_COUNT.into()),
+        };
+        let has_come = self.shared.lobby.progress().wait(place.0, self.shared.longest_wait);
+        has_come.then_some(self).ok_or(NOT_REACHED.into())
+    }
+
+    fn get(&mut self, article: &str) -> Result<String, String> {
+        let Some(key) = self.shared.names.key(article, true) else { return self.ask_without_key(article) };
+        loop {
+            if let Some(rows) = self.hit(key) {
+                return Ok(rows);
+            }
+            match self.miss(key) {
+                None | Some(Told::Again) => {}
+                Some(Told::Rows(rows)) => return Ok(text_of(&rows)),
+                Some(Told::Fault(fault)) => return Err(fault.to_string()),
+            }
+        }
+    }
+
+    /// The rows, and a token with which no other edge answers with older ones.
+    fn read(&mut self, article: &str) -> Result<String, String> {
+        let rows = self.get(article)?;
+        let token = self.shared.lobby.progress().reached().max(self.shared.seen.load(SeqCst));
+        Ok(format!("*2\r\n{rows}{}", bulk(&Lsn(token).to_string())))
+    }
+
+    /// The rows where the edge holds them: nobody is asked.
+    fn peek(&mut self, article: &str) -> Result<String, String> {
+        let key = self.shared.names.key(article, false);
+        let rows = key.and_then(|key| self.reader.find(key, &mut self.rows));
+        Ok(rows.map_or("$-1\r\n".into(), text_of))
+    }
+
+    /// The rows of a key that is filled, found by atomic operations alone.
+    fn hit(&mut self, key: u32) -> Option<String> {
+        let rows = self.reader.find(key, &mut self.rows)?;
+        self.shared.counts[self.number].up(Count::Hits);
+        if !self.shared.was_read[key as usize].load(Relaxed) {
+            self.shared.was_read[key as usize].store(true, Relaxed);
+        }
+        Some(text_of(rows))
+    }
+
+    /// What the dataflow tells of a key that was not filled, or none where it is filled by now.
+    fn miss(&mut self, key: u32) -> Option<Told> {
+        let (tell, told) = mpsc::channel();
+        match self.shared.lobby.ask(&mut self.reader, key, tell) {
+            Asked::Send(ticket) => self.tickets.send(ticket),
+            Asked::Waiting => {
+                self.shared.counts[self.number].up(Count::Waits);
+                _ = self.events.send(Event::Awaited(key));
+            }
+            Asked::Filled => return None,
+        }
+        self.shared.counts[self.number].up(Count::Misses);
+        Some(told.recv().unwrap_or(Told::Again))
+    }
+
+    fn ask_without_key(&mut self, article: &str) -> Result<String, String> {
+        loop {
+            [Count::Misses, Count::Upqueries].into_iter().for_each(|what| self.shared.counts[self.number].up(what));
+            let (tell, told) = mpsc::channel();
+            _ = self.events.send(Event::Asked(article.into(), tell));
+            match told.recv().map_err(|_| "the edge ends")? {
+                Told::Rows(rows) => return Ok(text_of(&rows)),
+                Told::Fault(fault) => return Err(fault.to_string()),
+                Told::Again => {}
+            }
+        }
+    }
+
+    /// Writes to PostgreSQL, and answers with a token: a read that brings it sees what was written, at any edge.
+    fn write(&mut self, what: Written, article: &str, voter: &str, weight: &str) -> Result<String, String> {
+        let (article, voter, weight) = (quoted(name(article)?), number(voter)?, number(weight)?);
+        let row = format!("({article}, {voter}, {weight})");
+        let statement = match what {
+            Written::Vote => format!("INSERT INTO votes (article, voter, weight) VALUES {row} RETURNING 1"),
+            Written::Unvote => format!(
+                "DELETE FROM votes WHERE ctid = (SELECT ctid FROM votes WHERE (article, voter, weight) = {row}
+                LIMIT 1 FOR UPDATE SKIP LOCKED) RETURNING 1"
+            ),
+        };
+        let mut base = match self.base.take() {
+            Some(base) => base,
+            None => Connection::open(&self.shared.address).map_err(|fault| fault.to_string())?,
+        };
+        let tables = base.run(&format!("BEGIN; {statement}; COMMIT; {PLACE}")).map_err(|fault| fault.to_string())?;
+        self.base = Some(base);
+        match &tables[..] {
+            [_, written, _, place] if !written.is_empty() => Ok(format!("+{}\r\n", place[0][0])),
+            _ => Err("there is no such vote".into()),
+        }
+    }
+}
+
+enum Written {
+    Vote,
+    Unvote,
+}
+
+fn name(word: &str) -> Result<&str, String> {
+    let is_name = (1..=64).contains(&word.len()) && !word.contains(char::is_control);
+    is_name.then_some(word).ok_or("an article is 1 to 64 bytes without control characters".into())
+}
+
+fn number(word: &str) -> Result<u64, String> {
+    let number = word.parse().ok().filter(|number| *number <= i64::MAX as u64);
+    number.ok_or("a voter and a weight are numbers from 0 to 9223372036854775807".into())
+}
+
+fn text_of(rows: &[Row]) -> String {
+    let mut text = String::new();
+    rows.iter().for_each(|Row { a: voter, b: weight }| _ = write!(text, "{voter}:{weight} "));
+    bulk(text.trim_end())
+}

@@ -1,0 +1,262 @@
+//! What may happen between an edge and PostgreSQL, step by step: nothing here is left to chance.
+//!   cases PROGRAM ADDRESS RESTART [CASE]    RESTART is a command that ends PostgreSQL at once and starts it again
+mod edges;
+#[path = "../src/pq.rs"]
+mod pq;
+use edges::{last, rows_in_table, signal, token, until, Edge};
+use pq::Connection;
+use std::process::Command;
+use std::{env, thread};
+
+struct Case {
+    program: String,
+    address: String,
+    restart: String,
+    base: Connection,
+}
+
+/// A name, and what happens.
+const CASES: [(&str, fn(&mut Case)); 9] = [
+    ("log", a_commit_that_no_snapshot_sees_yet),
+    ("first_snapshot", a_commit_that_the_new_slot_does_not_carry),
+    ("skip", an_answer_that_is_ahead_of_the_stream),
+    ("repeats_guard", a_stream_that_is_cut),
+    ("emptying", a_slot_that_is_dropped),
+    ("truncate", a_table_that_is_truncated_or_changed),
+    ("restart", a_server_that_is_restarted),
+    ("killed", an_edge_that_is_killed),
+    ("tokens", a_token_that_is_not_reached),
+];
+
+fn main() {
+    let words: Vec<String> = env::args().collect();
+    let [program, address, restart] = [1, 2, 3].map(|place| words[place].clone());
+    for (name, run) in CASES.iter().filter(|(name, _)| words.get(4).is_none_or(|wanted| wanted == name)) {
+        // What the case itself writes does not wait for a standby.
+        let base = Connection::open(&format!("{address} options='-c synchronous_commit=local'")).unwrap();
+        let mut case = Case { program: program.clone(), address: address.clone(), restart: restart.clone(), base };
+        case.sql("TRUNCATE votes");
+        run(&mut case);
+        case.sql("SELECT pg_terminate_backend(active_pid) FROM pg_replication_slots");
+        until("the slot is dropped", || {
+            let dropped = case.base.run("SELECT pg_drop_replication_slot(slot_name) FROM pg_replication_slots");
+            dropped.is_ok_and(|tables| tables[0].is_empty())
+        });
+        println!("cases: {name}");
+    }
+}
+
+impl Case {
+    fn edge(&self, options: &[&str]) -> Edge {
+        Edge::start(&self.program, &self.address, "case", options)
+    }
+
+    fn following(&self, options: &[&str]) -> Edge {
+        let edge = self.edge(options);
+        edge.follows();
+        edge
+    }
+
+    fn sql(&mut self, sql: &str) -> String {
+        last(&mut self.base, sql).concat().concat()
+    }
+
+    /// A write, and the token of a read that is to see it.
+    fn write(&mut self, sql: &str) -> String {
+        self.sql(sql);
+        token(&mut self.base)
+    }
+
+    /// The process that sends the slot's changes, once there is one other than that.
+    fn walsender(&mut self, other: &str) -> String {
+        let mut walsender = String::new();
+        until("a connection has the slot", || {
+            walsender = self.sql("SELECT active_pid FROM pg_replication_slots WHERE slot_name = 'case'");
+            !walsender.is_empty() && walsender != other
+        });
+        walsender
+    }
+
+    /// From now on each other commit waits for a standby that never comes: it is in the log, and no snapshot sees it.
+    fn commits_wait(&mut self) {
+        self.sql("ALTER SYSTEM SET synchronous_standby_names = 'nobody'");
+        self.sql("SELECT pg_reload_conf()");
+    }
+
+    fn commits_go_on(&mut self) {
+        self.sql("ALTER SYSTEM RESET synchronous_standby_names");
+        self.sql("SELECT pg_reload_conf()");
+    }
+
+    /// A row of which the commit waits. PostgreSQL's processes hear of a setting one by one, so the first may not wait yet.
+    fn waiting_row(&mut self, article: &str) -> (String, thread::JoinHandle<()>) {
+        for voter in 10.. {
+            let (address, sql) =
+                (self.address.clone(), format!("INSERT INTO votes VALUES ('{article}', {voter}, 1)"));
+            let writer = thread::spawn(move || _ = last(&mut Connection::open(&address).unwrap(), &sql));
+            let waits = "SELECT count(*) FROM pg_stat_activity WHERE wait_event = 'SyncRep'";
+            until("the commit waits or is done", || writer.is_finished() || self.sql(waits) == "1");
+            if !writer.is_finished() {
+                return (format!("{voter}:1"), writer);
+            }
+        }
+        unreachable!()
+    }
+
+    /// Until the new slot's maker waits for a transaction.
+    fn waits_for(&mut self, xid: &str) {
+        let sql = format!("SELECT count(*) FROM pg_locks WHERE NOT granted AND transactionid::text = '{xid}'");
+        until("the slot waits for a transaction", || self.sql(&sql) == "1");
+    }
+
+    fn open_transaction(&self) -> (Connection, String) {
+        let mut open = Connection::open(&self.address).unwrap();
+        let xid = last(&mut open, "BEGIN; SELECT pg_current_xact_id()::xid").concat().concat();
+        (open, xid)
+    }
+}
+
+fn a_commit_that_no_snapshot_sees_yet(case: &mut Case) {
+    let edge = case.following(&[]);
+    case.commits_wait();
+    let (row, writer) = case.waiting_row("g");
+    // Each row before it was a transaction too.
+    let rows = row.split(':').next().unwrap().parse::<u64>().unwrap() - 9;
+    until("the stream has brought the commit", || edge.count("transactions") >= rows);
+    let seen = rows_in_table(&mut case.base, "g");
+    assert!(!seen.contains(&row), "no snapshot is to see {row}, and one sees {seen}");
+    let all = format!("{seen} {row}").trim().to_owned();
+    assert_eq!(edge.ask("GET g"), all, "the log has the commit");
+    case.commits_go_on();
+    writer.join().unwrap();
+    let now = case.write("INSERT INTO votes VALUES ('g', 99, 1)");
+    assert_eq!(edge.ask(&format!("PEEK g {now}")), format!("{all} 99:1"));
+    assert_eq!(edge.count("disagreements"), 0);
+}
+
+/// The commit lies before the slot's first transaction. Some versions of PostgreSQL let the slot stand before a snapshot
+/// sees it, others wait.
+fn a_commit_that_the_new_slot_does_not_carry(case: &mut Case) {
+    let (mut one, xid_of_one) = case.open_transaction();
+    case.sql("INSERT INTO votes VALUES ('h', 1, 1)");
+    let edge = case.edge(&[]);
+    case.waits_for(&xid_of_one);
+    // Until the slot stands, misses are answered and nothing is held.
+    assert_eq!((edge.ask("GET h"), edge.ask("PEEK h")), ("1:1".into(), "nil".into()));
+    assert_eq!(edge.stat("following"), "0");
+    let (mut two, xid_of_two) = case.open_transaction();
+    one.run("ROLLBACK").unwrap();
+    case.waits_for(&xid_of_two);
+    case.commits_wait();
+    let (row, writer) = case.waiting_row("h");
+    two.run("ROLLBACK").unwrap();
+    let waits = "SELECT count(*) FROM pg_stat_activity WHERE backend_type = 'walsender' AND wait_event = 'transactionid'";
+    until("the slot stands or waits", || edge.stat("following") == "1" || case.sql(waits) == "1");
+    let is_following = edge.stat("following") == "1";
+    let port = edge.port;
+    let client = thread::spawn(move || edges::Client::connect(port).unwrap().ask("GET h").unwrap());
+    until("PostgreSQL is asked again, or the client has its answer", || client.is_finished() || edge.count("again") > 2);
+    case.commits_go_on();
+    writer.join().unwrap();
+    let told = client.join().unwrap();
+    assert!(told.contains(&row) || !is_following, "the slot began with {row}, and the edge tells {told}");
+    edge.follows();
+    assert_eq!((edge.ask("GET h"), edge.count("transactions")), (rows_in_table(&mut case.base, "h"), 0));
+}
+
+fn an_answer_that_is_ahead_of_the_stream(case: &mut Case) {
+    let edge = case.following(&[]);
+    let walsender = case.walsender("");
+    signal("STOP", &walsender);
+    let now = case.write("INSERT INTO votes VALUES ('s', 1, 1)");
+    assert_eq!(edge.ask("GET s"), "1:1");
+    // A client takes the token of what it read to another edge.
+    let told = edge.ask("READ s");
+    signal("CONT", &walsender);
+    assert_eq!(edge.ask(&format!("PEEK s {now}")), "1:1", "the stream's transaction is skipped");
+    assert_eq!(edge.count("skips"), 1);
+    let (rows, place) = told.split_once('\n').expect("a read answers with a token");
+    let is_behind = case.sql(&format!("SELECT '{place}'::pg_lsn < '{now}'"));
+    assert_eq!((rows, is_behind.as_str()), ("1:1", "f"), "the token is not before what was read");
+}
+
+fn a_stream_that_is_cut(case: &mut Case) {
+    let edge = case.following(&["--confirm", "100000000"]);
+    assert_eq!(edge.ask("GET r"), "");
+    let now = case.write("INSERT INTO votes VALUES ('r', 1, 1)");
+    assert_eq!(edge.ask(&format!("PEEK r {now}")), "1:1");
+    let walsender = case.walsender("");
+    case.sql(&format!("SELECT pg_terminate_backend({walsender})"));
+    case.walsender(&walsender);
+    let now = case.write("INSERT INTO votes VALUES ('r', 2, 1)");
+    assert_eq!(edge.ask(&format!("PEEK r {now}")), "1:1 2:1", "what is repeated counts once");
+    assert_eq!((edge.count("losses"), edge.count("repeats") > 0), (0, true));
+}
+
+fn a_slot_that_is_dropped(case: &mut Case) {
+    let edge = case.following(&[]);
+    assert_eq!(edge.ask("GET e"), "");
+    case.walsender("");
+    edge.signal("STOP");
+    case.sql("SELECT pg_terminate_backend(active_pid) FROM pg_replication_slots");
+    until("the slot is dropped", || case.base.run("SELECT pg_drop_replication_slot('case')").is_ok());
+    let now = case.write("INSERT INTO votes VALUES ('e', 1, 1)");
+    edge.signal("CONT");
+    assert_eq!(edge.ask(&format!("GET e {now}")), "1:1", "what is held is of before the loss");
+    assert_eq!(edge.count("losses"), 1);
+}
+
+fn a_table_that_is_truncated_or_changed(case: &mut Case) {
+    case.sql("INSERT INTO votes VALUES ('t', 1, 1)");
+    let edge = case.following(&[]);
+    assert_eq!(edge.ask("GET t"), "1:1");
+    let now = case.write("TRUNCATE votes");
+    assert_eq!(edge.ask(&format!("GET t {now}")), "");
+    case.sql("INSERT INTO votes VALUES ('t', 1, 1)");
+    let now = case.write("ALTER TABLE votes ALTER weight TYPE bigint USING weight + 6");
+    assert_eq!(edge.ask(&format!("GET t {now}")), "1:7");
+    let now = case.write("ALTER TABLE votes ADD remark text");
+    assert_eq!(edge.ask(&format!("GET t {now}")), "1:7");
+    let now = case.write("INSERT INTO votes VALUES ('t', 2, 2, 'late')");
+    assert_eq!(edge.ask(&format!("GET t {now}")), "1:7 2:2");
+    let now = case.write("ALTER TABLE votes DROP remark");
+    assert_eq!(edge.ask(&format!("GET t {now}")), "1:7 2:2");
+    assert_eq!(edge.count("losses"), 4);
+}
+
+fn a_server_that_is_restarted(case: &mut Case) {
+    let edge = case.following(&[]);
+    assert_eq!(edge.ask("GET u"), "");
+    assert!(Command::new("bash").args(["-c", &case.restart]).status().unwrap().success());
+    case.base = Connection::open(&case.address).unwrap();
+    let now = case.write("INSERT INTO votes VALUES ('u', 1, 1)");
+    assert_eq!(edge.ask(&format!("GET u {now}")), "1:1");
+    assert_eq!(edge.count("losses"), 1);
+}
+
+fn an_edge_that_is_killed(case: &mut Case) {
+    let mut edge = case.following(&[]);
+    assert_eq!(edge.ask("GET k"), "");
+    edge.kill_and_start();
+    let now = case.write("INSERT INTO votes VALUES ('k', 1, 1)");
+    assert_eq!(edge.ask(&format!("GET k {now}")), "1:1");
+    edge.signal("TERM");
+    until("the slot is dropped", || case.sql("SELECT count(*) FROM pg_replication_slots") == "0");
+}
+
+fn a_token_that_is_not_reached(case: &mut Case) {
+    let edge = case.following(&["--wait", "50"]);
+    let refused = "-ERR the edge has not come as far as the token: try again, or ask another edge";
+    for command in ["GET", "READ", "PEEK"] {
+        assert_eq!(edge.ask(&format!("{command} w FFFFFFFF/0")), refused);
+    }
+    let token = edge.ask("VOTE w 1 2");
+    let token = token.strip_prefix('+').expect("a vote answers with a token");
+    assert!(last(&mut case.base, &format!("SELECT 1 WHERE '{token}'::pg_lsn <= pg_current_wal_flush_lsn()")).len() == 1);
+    until("a read sees what its client wrote", || edge.ask(&format!("GET w {token}")) == "1:2");
+    let read = edge.ask("READ w");
+    let (_, token) = read.split_once('\n').expect("a read answers with a token");
+    until("another read brings the token", || edge.ask(&format!("READ w {token}")).starts_with("1:2\n"));
+    assert!(edge.ask("UNVOTE w 1 2").starts_with('+'));
+    assert_eq!(edge.ask("UNVOTE w 1 2"), "-ERR there is no such vote");
+}
