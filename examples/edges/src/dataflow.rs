@@ -1,11 +1,10 @@
 //! The dataflow: the one thread that writes the map. It puts the answers of upqueries and the stream's transactions into
 //! an order in which each change of a key counts once, and never waits for PostgreSQL.
 use crate::fresh::Fresh;
-use crate::log::Log;
+use crate::log::{Changes, Log, Transaction};
 use crate::lsn::Lsn;
 use crate::residents::Residents;
 use crate::snapshot::Snapshot;
-use crate::transaction::{Changes, Transaction};
 use crate::upquery::{Answer, Asker, Request, Seen, Told};
 use crate::{parts, pq, stats::Count, Shared};
 use nr::{Arrival, Delta, Fault, Inbox, Row, Ticket};
@@ -39,10 +38,16 @@ pub struct First {
 const LONG_LOG: usize = 1024;
 
 pub struct Dataflow<'a> {
-    inbox: Inbox<Event>,
-    requests: mpsc::Sender<Request>,
-    shared: &'a Shared,
-    residents: Residents<'a>,
+    pub inbox: Inbox<Event>,
+    pub requests: mpsc::Sender<Request>,
+    pub shared: &'a Shared,
+    pub residents: Residents<'a>,
+    pub order: Order,
+}
+
+/// What is known of the order of answers and transactions.
+#[derive(Default)]
+pub struct Order {
     log: Log,
     fresh: Fresh,
     /// What the slot began with, until an answer's snapshot covers it.
@@ -57,24 +62,7 @@ pub struct Dataflow<'a> {
     worn: HashMap<u32, Ticket>,
 }
 
-impl<'a> Dataflow<'a> {
-    pub fn new(inbox: Inbox<Event>, requests: mpsc::Sender<Request>, residents: Residents<'a>) -> Dataflow<'a> {
-        Dataflow {
-            inbox,
-            requests,
-            shared: residents.shared,
-            residents,
-            log: Log::default(),
-            fresh: Fresh::default(),
-            first: None,
-            is_following: false,
-            applied: Lsn::default(),
-            emptied_after: 0,
-            not_taken_back: HashSet::new(),
-            worn: HashMap::new(),
-        }
-    }
-
+impl Dataflow<'_> {
     pub fn run(mut self) {
         while let Some(arrival) = self.inbox.next() {
             match arrival {
@@ -82,8 +70,8 @@ impl<'a> Dataflow<'a> {
                 Arrival::Event(event) => self.handle(event),
                 Arrival::Ticket(ticket) => self.upquery(ticket),
             }
-            self.shared.log.store(self.log.len() as u64, SeqCst);
-            self.shared.is_following.store(self.is_following, SeqCst);
+            self.shared.log.store(self.order.log.len() as u64, SeqCst);
+            self.shared.is_following.store(self.order.is_following, SeqCst);
         }
     }
 
@@ -95,7 +83,7 @@ impl<'a> Dataflow<'a> {
             Event::Begun(first) => self.follow(first),
             Event::Answer(answer) => self.take_answer(answer),
             Event::Asked(article, client) => self.request(article, Asker::Client(client), false),
-            Event::Awaited(key) => _ = self.worn.remove(&key).map(|ticket| self.upquery(ticket)),
+            Event::Awaited(key) => _ = self.order.worn.remove(&key).map(|ticket| self.upquery(ticket)),
             Event::End => {}
         }
     }
@@ -107,7 +95,7 @@ impl<'a> Dataflow<'a> {
     }
 
     fn request(&mut self, article: Box<str>, asker: Asker, is_again: bool) {
-        let number = self.log.send();
+        let number = self.order.log.send();
         self.requests.send(Request { number, article, asker, is_again }).expect("who asks PostgreSQL is there");
     }
 
@@ -118,29 +106,31 @@ impl<'a> Dataflow<'a> {
 
     /// Changes each key but where its rows have the transaction already.
     fn apply(&mut self, transaction: Transaction) {
-        if transaction.end <= self.applied && parts::REPEATS_GUARD {
+        if transaction.end <= self.order.applied && parts::REPEATS_GUARD {
             return self.shared.work.up(Count::Repeats);
         }
         self.shared.work.up(Count::Transactions);
+        // Before a client can find what changes.
+        self.shared.told.fetch_max(transaction.end.0, SeqCst);
         for (article, deltas) in &transaction.changes {
             match self.shared.names.key(article, false) {
-                Some(key) if self.fresh.has(key, transaction.xid) => self.shared.work.up(Count::Skips),
+                Some(key) if self.order.fresh.has(key, transaction.xid) => self.shared.work.up(Count::Skips),
                 Some(key) => self.residents.update(key, deltas),
                 None => {}
             }
         }
         let end = transaction.end;
-        self.log.push(transaction);
-        if self.log.len() >= LONG_LOG && !self.log.is_awaited() {
+        self.order.log.push(transaction);
+        if self.order.log.len() >= LONG_LOG && !self.order.log.is_awaited() {
             self.request("".into(), Asker::Log, false);
         }
         self.reach(end);
     }
 
     fn reach(&mut self, place: Lsn) {
-        if place > self.applied {
-            self.applied = place;
-            self.fresh.passed(place);
+        if place > self.order.applied {
+            self.order.applied = place;
+            self.order.fresh.passed(place);
             self.shared.lobby.progress().reach(place.0);
         }
     }
@@ -149,27 +139,27 @@ impl<'a> Dataflow<'a> {
     /// slot stands: PostgreSQL may not show yet what clients were told.
     fn begin_anew(&mut self) {
         self.shared.work.up(Count::Losses);
-        self.is_following = false;
+        self.order.is_following = false;
         self.shared.lobby.progress().restart(0);
-        self.fresh.clear();
-        self.first = None;
+        self.order.fresh.clear();
+        self.order.first = None;
         let emptied = self.residents.empty();
-        self.emptied_after = self.log.last_sent();
-        self.not_taken_back = emptied.worn.into_iter().collect();
+        self.order.emptied_after = self.order.log.last_sent();
+        self.order.not_taken_back = emptied.worn.into_iter().collect();
         emptied.cancelled.into_iter().for_each(|key| self.tell(key, &Told::Again));
     }
 
     fn follow(&mut self, First { snapshot, place }: First) {
-        self.log.clear();
-        self.first = Some(snapshot);
-        self.is_following = true;
-        self.applied = place;
+        self.order.log.clear();
+        self.order.first = Some(snapshot);
+        self.order.is_following = true;
+        self.order.applied = place;
         self.shared.lobby.progress().restart(place.0);
     }
 
     fn take_answer(&mut self, Answer { requests, rows }: Answer) {
         self.shared.work.up(Count::Statements);
-        self.log.answered(requests.iter().map(|request| request.number));
+        self.order.log.answered(requests.iter().map(|request| request.number));
         let (seen, rows) = match rows {
             Ok(answer) => answer,
             Err(fault) => return requests.into_iter().for_each(|request| self.refuse(request.asker, &fault)),
@@ -177,23 +167,22 @@ impl<'a> Dataflow<'a> {
         if self.lacks_first(&seen) {
             return requests.into_iter().for_each(|request| self.request_again(request));
         }
-        // Before a client can be told what the snapshot saw.
-        self.shared.seen.fetch_max(seen.place.0, SeqCst);
-        let unseen = self.log.unseen_by(&seen.snapshot);
+        self.shared.told.fetch_max(seen.place.0, SeqCst);
+        let unseen = self.order.log.unseen_by(&seen.snapshot);
         let seen = Arc::new(seen);
         requests.into_iter().zip(rows).for_each(|(request, rows)| self.bring(request, rows, &seen, &unseen));
-        self.log.prune(&seen.snapshot);
+        self.order.log.prune(&seen.snapshot);
     }
 
     /// Whether the snapshot may lack what the slot doesn't bring.
     fn lacks_first(&mut self, seen: &Seen) -> bool {
-        self.first.take_if(|first| seen.snapshot.covers(first));
-        parts::FIRST_SNAPSHOT && self.first.is_some()
+        self.order.first.take_if(|first| seen.snapshot.covers(first));
+        parts::FIRST_SNAPSHOT && self.order.first.is_some()
     }
 
     /// The rows of an article as a statement saw them, with the changes that it didn't see.
     fn bring(&mut self, request: Request, rows: Vec<Row>, seen: &Arc<Seen>, unseen: &Changes) {
-        if request.number <= self.emptied_after && self.is_of_before(&request.asker) {
+        if request.number <= self.order.emptied_after && self.is_of_before(&request.asker) {
             return self.request_again(request);
         }
         let lacking = unseen.get(&request.article).map_or(&[][..], Vec::as_slice);
@@ -213,28 +202,25 @@ impl<'a> Dataflow<'a> {
 
     /// Whether a request from before the map was emptied may still be answered by what it saw.
     fn is_of_before(&self, asker: &Asker) -> bool {
-        match asker {
-            Asker::Key(ticket) => self.not_taken_back.contains(&ticket.key()),
-            Asker::Client(_) => true,
-            Asker::Log => false,
-        }
+        let is_not_taken_back = |ticket: &Ticket| self.order.not_taken_back.contains(&ticket.key());
+        matches!(asker, Asker::Client(_)) || matches!(asker, Asker::Key(ticket) if is_not_taken_back(ticket))
     }
 
     /// Of a ticket that was taken back, nobody is told: who waits now waits for a later answer.
     fn fill(&mut self, ticket: Ticket, rows: Vec<Row>, seen: &Arc<Seen>) {
         let key = ticket.key();
-        if !self.is_following && !self.residents.is_current(&ticket) {
+        if !self.order.is_following && !self.residents.is_current(&ticket) {
             return;
         }
-        if !self.is_following {
+        if !self.order.is_following {
             self.take_back(ticket);
         } else if let Err(unfilled) = self.residents.fill(ticket, &rows) {
             if unfilled.fault != Fault::TooMany {
                 return;
             }
             self.take_back(unfilled.ticket);
-        } else if seen.place > self.applied {
-            self.fresh.filled(key, seen);
+        } else if seen.place > self.order.applied {
+            self.order.fresh.filled(key, seen);
         }
         self.tell(key, &Told::Rows(rows.into()));
     }
@@ -255,7 +241,7 @@ impl<'a> Dataflow<'a> {
 
     fn take_back(&mut self, ticket: Ticket) {
         if let Err(worn) = self.residents.writer.cancel_ticket(ticket) {
-            self.worn.insert(worn.key(), worn);
+            self.order.worn.insert(worn.key(), worn);
         }
     }
 

@@ -1,7 +1,19 @@
 //! The log: the transactions that were applied and that a snapshot may not see yet.
-use crate::transaction::{Changes, Transaction};
+use crate::lsn::{Lsn, Xid};
 use crate::{parts, snapshot::Snapshot};
-use std::collections::{BTreeSet, VecDeque};
+use nr::Delta;
+use std::collections::{BTreeSet, HashMap, VecDeque};
+
+/// Signed rows by their articles.
+pub type Changes = HashMap<Box<str>, Vec<Delta>>;
+
+/// A transaction, as the stream brings it.
+pub struct Transaction {
+    pub xid: Xid,
+    /// Where it ends in PostgreSQL's log.
+    pub end: Lsn,
+    pub changes: Changes,
+}
 
 #[derive(Default)]
 pub struct Log {

@@ -9,11 +9,9 @@ impl FromStr for Lsn {
     type Err = String;
 
     fn from_str(text: &str) -> Result<Lsn, String> {
-        let halves = text.split_once('/').and_then(|(high, low)| {
-            let half = |digits| u32::from_str_radix(digits, 16).ok().map(u64::from);
-            Some(half(high)? << 32 | half(low)?)
-        });
-        halves.map(Lsn).ok_or_else(|| "a token is two hexadecimal numbers with a slash between".into())
+        let half = |digits| u32::from_str_radix(digits, 16).ok().map(u64::from);
+        let place = text.split_once('/').and_then(|(high, low)| Some(half(high)? << 32 | half(low)?));
+        place.map(Lsn).ok_or_else(|| "a token is two hexadecimal numbers with a slash between".into())
     }
 }
 

@@ -17,12 +17,11 @@ mod session;
 mod snapshot;
 mod stats;
 mod stream;
-mod transaction;
 mod upquery;
 #[path = "../../view_server/src/wire.rs"]
 mod wire;
 
-use dataflow::{Dataflow, Event};
+use dataflow::{Dataflow, Event, Order};
 use nr::{Inbox, Lobby, ReaderMap, Rows, Shape, Writer};
 use std::sync::atomic::{AtomicBool, AtomicU64};
 use std::sync::{mpsc, Mutex};
@@ -33,8 +32,8 @@ struct Shared {
     address: String,
     names: names::Names,
     lobby: Lobby<mpsc::Sender<upquery::Told>>,
-    /// All that was told was committed before this place, or before the one that the stream has reached.
-    seen: AtomicU64,
+    /// All that clients were told was committed before this place. It never falls.
+    told: AtomicU64,
     longest_wait: Duration,
     /// Those of the sessions, and those of the dataflow.
     counts: Vec<stats::Counts>,
@@ -57,18 +56,16 @@ impl Options {
     fn read(mut words: impl Iterator<Item = String>) -> Option<(String, String, Options)> {
         let (address, slot, mut options) = (words.next()?, words.next()?, Options(DEFAULTS));
         while let Some(name) = words.next() {
-            options.0[Options::place(&name)?] = words.next()?.parse().ok()?;
+            let place = OPTIONS.split(' ').position(|option| option == name)?;
+            options.0[place] = words.next()?.parse().ok()?;
         }
         let is_name = |byte: u8| byte.is_ascii_lowercase() || byte.is_ascii_digit() || byte == b'_';
         (!slot.is_empty() && slot.bytes().all(is_name)).then_some((address, slot, options))
     }
 
-    fn place(name: &str) -> Option<usize> {
-        OPTIONS.split(' ').position(|option| option == name)
-    }
-
     fn of(&self, name: &str) -> u32 {
-        self.0[Options::place(name).expect("it is an option")]
+        let place = OPTIONS.split(' ').position(|option| option == name);
+        self.0[place.expect("it is an option")]
     }
 
     /// One key more than the limit is filled before one is evicted, and each reader may hold a slot.
@@ -84,7 +81,7 @@ impl Options {
             address,
             names: names::Names::new(self.of("--keys")),
             lobby: Lobby::of(writer),
-            seen: AtomicU64::new(0),
+            told: AtomicU64::new(0),
             longest_wait: Duration::from_millis(self.of("--wait").into()),
             counts: (0..self.of("--readers")).map(|_| stats::Counts::default()).collect(),
             work: stats::Counts::default(),
@@ -124,7 +121,7 @@ fn main() -> Result<(), Box<dyn Error>> {
         scope.spawn(move || stream.run());
         let end = events.clone();
         scope.spawn(move || (door::serve(listener, sessions), _ = end.send(Event::End)));
-        Dataflow::new(inbox, requests, residents).run();
+        Dataflow { inbox, requests, shared, residents, order: Order::default() }.run();
         // The other threads wait for PostgreSQL, which need not keep anything for this edge from now on.
         if let Err(fault) = stream::drop_slot(&shared.address, &slot) {
             eprintln!("the slot {slot} may still be there: {fault}");

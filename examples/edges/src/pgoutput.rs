@@ -38,8 +38,8 @@ impl Message {
     pub fn of(bytes: &[u8], table: Option<&Table>) -> Option<Message> {
         let mut bytes = Bytes(bytes);
         Some(match bytes.byte()? {
-            b'B' => Message::Begin(bytes.skip(16)?.number().map(Xid)?),
-            b'C' => Message::Commit(bytes.skip(9)?.place()?),
+            b'B' => Message::Begin(Xid(u32::from_be_bytes(bytes.skip(16)?.array()?))),
+            b'C' => Message::Commit(Lsn(u64::from_be_bytes(bytes.skip(9)?.array()?))),
             b'R' => Message::Table(Table::of(bytes)?),
             b'I' => Message::Changes(bytes.skip(4)?.changes(table?)?),
             b'U' | b'D' => {
@@ -85,20 +85,16 @@ impl<'a> Bytes<'a> {
         self.take(count).map(|_| self)
     }
 
+    fn array<const N: usize>(&mut self) -> Option<[u8; N]> {
+        self.take(N)?.try_into().ok()
+    }
+
     fn byte(&mut self) -> Option<u8> {
-        self.take(1).map(|taken| taken[0])
+        self.array().map(u8::from_be_bytes)
     }
 
     fn count(&mut self) -> Option<u16> {
-        self.take(2)?.try_into().ok().map(u16::from_be_bytes)
-    }
-
-    fn number(&mut self) -> Option<u32> {
-        self.take(4)?.try_into().ok().map(u32::from_be_bytes)
-    }
-
-    fn place(&mut self) -> Option<Lsn> {
-        self.take(8)?.try_into().ok().map(u64::from_be_bytes).map(Lsn)
+        self.array().map(u16::from_be_bytes)
     }
 
     fn text(&mut self) -> Option<&'a str> {
@@ -129,7 +125,7 @@ impl<'a> Bytes<'a> {
         if self.byte()? != b't' {
             return Some(None);
         }
-        let length = self.number()? as usize;
+        let length = u32::from_be_bytes(self.array()?) as usize;
         str::from_utf8(self.take(length)?).ok().map(Some)
     }
 }

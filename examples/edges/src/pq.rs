@@ -1,48 +1,29 @@
 //! A connection to PostgreSQL, through libpq's C functions.
-use std::ffi::{c_char, c_int, c_short, c_void, CStr, CString};
-use std::ptr::{null, null_mut};
-use std::{fmt, slice, time::Duration};
+use std::ffi::{c_char, c_int, c_void, CStr, CString};
+use std::ptr::null_mut;
+use std::{fmt, slice};
 
 type Handle = *mut c_void;
+type Text = *const c_char;
 
 #[link(name = "pq")]
 extern "C" {
-    fn PQconnectdb(address: *const c_char) -> Handle;
+    fn PQconnectdb(address: Text) -> Handle;
     fn PQstatus(connection: Handle) -> c_int;
     fn PQfinish(connection: Handle);
-    fn PQerrorMessage(connection: Handle) -> *const c_char;
-    fn PQsocket(connection: Handle) -> c_int;
-    fn PQsendQuery(connection: Handle, sql: *const c_char) -> c_int;
+    fn PQerrorMessage(connection: Handle) -> Text;
+    fn PQsendQuery(connection: Handle, sql: Text) -> c_int;
     fn PQgetResult(connection: Handle) -> Handle;
-    fn PQprepare(connection: Handle, name: *const c_char, sql: *const c_char, count: c_int, types: Handle) -> Handle;
-    fn PQexecPrepared(
-        connection: Handle,
-        name: *const c_char,
-        count: c_int,
-        values: *const *const c_char,
-        lengths: *const c_int,
-        formats: *const c_int,
-        format: c_int,
-    ) -> Handle;
     fn PQresultStatus(result: Handle) -> c_int;
-    fn PQresultErrorField(result: Handle, field: c_int) -> *const c_char;
+    fn PQresultErrorField(result: Handle, field: c_int) -> Text;
     fn PQntuples(result: Handle) -> c_int;
     fn PQnfields(result: Handle) -> c_int;
-    fn PQgetvalue(result: Handle, row: c_int, column: c_int) -> *const c_char;
+    fn PQgetvalue(result: Handle, row: c_int, column: c_int) -> Text;
     fn PQclear(result: Handle);
-    fn PQconsumeInput(connection: Handle) -> c_int;
     fn PQgetCopyData(connection: Handle, to: *mut *mut u8, at_once: c_int) -> c_int;
     fn PQputCopyData(connection: Handle, bytes: *const u8, length: c_int) -> c_int;
     fn PQflush(connection: Handle) -> c_int;
     fn PQfreemem(bytes: *mut u8);
-    fn poll(sockets: *mut Polled, count: u64, milliseconds: c_int) -> c_int;
-}
-
-#[repr(C)]
-struct Polled {
-    socket: c_int,
-    wanted: c_short,
-    happened: c_short,
 }
 
 const CONNECTED: c_int = 0;
@@ -50,7 +31,6 @@ const COMMAND_DONE: c_int = 1;
 const ROWS: c_int = 2;
 const COPY_BOTH_WAYS: c_int = 8;
 const FIELD_OF_STATE: c_int = b'C' as c_int;
-const READABLE: c_short = 1;
 
 /// The rows of a statement, their columns as texts.
 pub type Table = Vec<Vec<String>>;
@@ -102,7 +82,7 @@ impl Connection {
         let mut tables = Vec::new();
         while let Some(answer) = self.next_answer() {
             tables.push(answer.table(self));
-            if answer.is_copy() {
+            if answer.status() == COPY_BOTH_WAYS {
                 break;
             }
         }
@@ -115,51 +95,17 @@ impl Connection {
         (!answer.is_null()).then_some(Answer(answer))
     }
 
-    /// Has PostgreSQL plan the statement that [`Connection::execute`] runs.
-    pub fn prepare(&mut self, sql: &str) -> Result<(), Fault> {
-        let sql = text(sql);
-        // SAFETY: the connection is there, the texts end with zeros, and no types are told.
-        let answer = Answer(unsafe { PQprepare(self.0, c"".as_ptr(), sql.as_ptr(), 0, null_mut()) });
-        answer.table(self).map(|_| ())
-    }
-
-    pub fn execute(&mut self, value: &str) -> Result<Table, Fault> {
-        let value = text(value);
-        // SAFETY: the connection is there, the texts end with zeros, and there is one value.
-        let answer = unsafe { PQexecPrepared(self.0, c"".as_ptr(), 1, &value.as_ptr(), null(), null(), 0) };
-        Answer(answer).table(self)
-    }
-
-    /// The next message of a copy, or none where none came for that long, or for a second.
-    pub fn message(&mut self, longest: Duration) -> Result<Option<Vec<u8>>, Fault> {
-        if let Some(message) = self.message_that_came()? {
-            return Ok(Some(message));
-        }
-        // SAFETY: the connection is there.
-        let mut polled = Polled { socket: unsafe { PQsocket(self.0) }, wanted: READABLE, happened: 0 };
-        // SAFETY: there is one socket.
-        unsafe { poll(&mut polled, 1, longest.as_millis().min(1000) as c_int) };
-        // SAFETY: the connection is there.
-        match unsafe { PQconsumeInput(self.0) } {
-            0 => Err(self.fault()),
-            _ => self.message_that_came(),
-        }
-    }
-
-    fn message_that_came(&mut self) -> Result<Option<Vec<u8>>, Fault> {
+    /// The next message of a copy, which is waited for.
+    pub fn message(&mut self) -> Result<Vec<u8>, Fault> {
         let mut bytes = null_mut();
         // SAFETY: the connection is there, and there is room for an address.
-        match unsafe { PQgetCopyData(self.0, &mut bytes, 1) } {
-            0 => Ok(None),
-            length if length > 0 => {
-                // SAFETY: it has given so many bytes.
-                let message = unsafe { slice::from_raw_parts(bytes, length as usize) }.to_vec();
-                // SAFETY: it gave the bytes, which are not used again.
-                unsafe { PQfreemem(bytes) };
-                Ok(Some(message))
-            }
-            _ => Err(self.fault()),
-        }
+        let length = unsafe { PQgetCopyData(self.0, &mut bytes, 0) };
+        let length = usize::try_from(length).map_err(|_| self.fault())?;
+        // SAFETY: it has given so many bytes.
+        let message = unsafe { slice::from_raw_parts(bytes, length) }.to_vec();
+        // SAFETY: it gave the bytes, which are not used again.
+        unsafe { PQfreemem(bytes) };
+        Ok(message)
     }
 
     pub fn send(&mut self, message: &[u8]) -> Result<(), Fault> {
@@ -189,10 +135,6 @@ impl Answer {
     fn status(&self) -> c_int {
         // SAFETY: an answer that isn't there has a status too.
         unsafe { PQresultStatus(self.0) }
-    }
-
-    fn is_copy(&self) -> bool {
-        self.status() == COPY_BOTH_WAYS
     }
 
     fn table(&self, connection: &Connection) -> Result<Table, Fault> {

@@ -54,25 +54,19 @@ impl Residents<'_> {
         }
     }
 
-    /// Makes each filled key a hole, and takes each request back; in part, where a build leaves a part out.
+    /// Makes each filled key a hole, and takes each request back.
     pub fn empty(&mut self) -> Emptied {
-        let emptied = match (parts::EMPTYING, parts::CANCEL) {
-            (true, true) => self.writer.empty(),
-            (true, false) => {
-                let evicted = self.clock.iter().copied().filter(|key| self.writer.evict(*key)).collect();
-                Emptied { evicted, ..Emptied::default() }
-            }
-            (false, _) => {
-                let keys = 0..self.shared.was_read.len() as u32;
-                Emptied {
-                    cancelled: keys.filter(|key| self.writer.cancel(*key) == Cancel::Cancelled).collect(),
-                    ..Emptied::default()
-                }
-            }
-        };
+        let emptied = if parts::EMPTYING && parts::CANCEL { self.writer.empty() } else { self.empty_in_part() };
         emptied.evicted.iter().for_each(|_| self.shared.work.up(Count::Evictions));
         self.clock.retain(|key| self.writer.state(*key) == KeyKind::Rows);
         emptied
+    }
+
+    fn empty_in_part(&mut self) -> Emptied {
+        let keys = 0..self.shared.was_read.len() as u32;
+        let evicted = keys.clone().filter(|key| parts::EMPTYING && self.writer.evict(*key)).collect();
+        let cancelled = keys.filter(|key| parts::CANCEL && self.writer.cancel(*key) == Cancel::Cancelled).collect();
+        Emptied { evicted, cancelled, ..Emptied::default() }
     }
 
     /// Evicts a key, whose slot is free once no reader holds it.

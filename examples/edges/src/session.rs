@@ -69,15 +69,24 @@ impl Session<'_> {
     }
 
     fn get(&mut self, article: &str) -> Result<String, String> {
-        let Some(key) = self.shared.names.key(article, true) else { return self.ask_without_key(article) };
+        let key = self.shared.names.key(article, true);
         loop {
-            if let Some(rows) = self.hit(key) {
+            if let Some(rows) = key.and_then(|key| self.hit(key)) {
                 return Ok(rows);
             }
-            match self.miss(key) {
-                None | Some(Told::Again) => {}
-                Some(Told::Rows(rows)) => return Ok(text_of(&rows)),
-                Some(Told::Fault(fault)) => return Err(fault.to_string()),
+            let (tell, told) = mpsc::channel();
+            match key {
+                Some(key) => self.miss(key, tell),
+                None => {
+                    _ = [Count::Misses, Count::Upqueries].map(|what| self.shared.counts[self.number].up(what));
+                    _ = self.events.send(Event::Asked(article.into(), tell));
+                }
+            }
+            match told.recv() {
+                Ok(Told::Rows(rows)) => return Ok(text_of(&rows)),
+                Ok(Told::Fault(fault)) => return Err(fault.to_string()),
+                // The key is filled by now, or its request was taken back.
+                Ok(Told::Again) | Err(_) => {}
             }
         }
     }
@@ -85,8 +94,8 @@ impl Session<'_> {
     /// The rows, and a token with which no other edge answers with older ones.
     fn read(&mut self, article: &str) -> Result<String, String> {
         let rows = self.get(article)?;
-        let token = self.shared.lobby.progress().reached().max(self.shared.seen.load(SeqCst));
-        Ok(format!("*2\r\n{rows}{}", bulk(&Lsn(token).to_string())))
+        let token = Lsn(self.shared.told.load(SeqCst));
+        Ok(format!("*2\r\n{rows}{}", bulk(&token.to_string())))
     }
 
     /// The rows where the edge holds them: nobody is asked.
@@ -106,32 +115,17 @@ impl Session<'_> {
         Some(text_of(rows))
     }
 
-    /// What the dataflow tells of a key that was not filled, or none where it is filled by now.
-    fn miss(&mut self, key: u32) -> Option<Told> {
-        let (tell, told) = mpsc::channel();
+    /// Requests a key that was not filled, so that the dataflow tells its rows.
+    fn miss(&mut self, key: u32, tell: mpsc::Sender<Told>) {
         match self.shared.lobby.ask(&mut self.reader, key, tell) {
             Asked::Send(ticket) => self.tickets.send(ticket),
             Asked::Waiting => {
                 self.shared.counts[self.number].up(Count::Waits);
                 _ = self.events.send(Event::Awaited(key));
             }
-            Asked::Filled => return None,
+            Asked::Filled => return,
         }
         self.shared.counts[self.number].up(Count::Misses);
-        Some(told.recv().unwrap_or(Told::Again))
-    }
-
-    fn ask_without_key(&mut self, article: &str) -> Result<String, String> {
-        loop {
-            [Count::Misses, Count::Upqueries].into_iter().for_each(|what| self.shared.counts[self.number].up(what));
-            let (tell, told) = mpsc::channel();
-            _ = self.events.send(Event::Asked(article.into(), tell));
-            match told.recv().map_err(|_| "the edge ends")? {
-                Told::Rows(rows) => return Ok(text_of(&rows)),
-                Told::Fault(fault) => return Err(fault.to_string()),
-                Told::Again => {}
-            }
-        }
     }
 
     /// Writes to PostgreSQL, and answers with a token: a read that brings it sees what was written, at any edge.
@@ -145,11 +139,9 @@ impl Session<'_> {
                 LIMIT 1 FOR UPDATE SKIP LOCKED) RETURNING 1"
             ),
         };
-        let mut base = match self.base.take() {
-            Some(base) => base,
-            None => Connection::open(&self.shared.address).map_err(|fault| fault.to_string())?,
-        };
-        let tables = base.run(&format!("BEGIN; {statement}; COMMIT; {PLACE}")).map_err(|fault| fault.to_string())?;
+        let open = self.base.take().map_or_else(|| Connection::open(&self.shared.address), Ok);
+        let run = |mut base: Connection| Ok((base.run(&format!("BEGIN; {statement}; COMMIT; {PLACE}"))?, base));
+        let (tables, base) = open.and_then(run).map_err(|fault| fault.to_string())?;
         self.base = Some(base);
         match &tables[..] {
             [_, written, _, place] if !written.is_empty() => Ok(format!("+{}\r\n", place[0][0])),

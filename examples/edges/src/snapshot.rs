@@ -1,6 +1,6 @@
 //! Which transactions a statement sees.
 use crate::lsn::Xid;
-use std::{ops::Range, str::FromStr};
+use std::str::FromStr;
 
 /// What `pg_current_snapshot()` tells. A snapshot sees the committed transactions below `next` but those that were
 /// running. The numbers are those of whole transactions, as the stream's are: parts of one need no care.
@@ -32,8 +32,7 @@ impl Snapshot {
 
     /// Whether it sees each transaction that the other sees.
     pub fn covers(&self, other: &Snapshot) -> bool {
-        let between: Range<u64> = self.next..other.next;
-        !self.running.iter().copied().chain(between).any(|xid| other.sees_whole(xid))
+        !self.running.iter().copied().chain(self.next..other.next).any(|xid| other.sees_whole(xid))
     }
 
     fn sees_whole(&self, xid: u64) -> bool {

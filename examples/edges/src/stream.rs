@@ -1,18 +1,17 @@
 //! The stream: one thread that reads a replication slot's changes and sends whole transactions to the dataflow.
 use crate::dataflow::{Event, First};
+use crate::log::{Changes, Transaction};
 use crate::lsn::Lsn;
 use crate::pgoutput::{Message, Table};
 use crate::pq::{quoted, Connection, Fault};
-use crate::transaction::{Changes, Transaction};
 use nr::EventSender;
-use std::thread;
-use std::time::{Duration, Instant};
+use std::{thread, time::Duration, time::Instant};
 
 pub struct Stream {
     pub address: String,
     pub slot: String,
     pub events: EventSender<Event>,
-    /// How often PostgreSQL is told how far the stream is. It repeats what it wasn't told of.
+    /// How often PostgreSQL is told how far the stream is, at most. It repeats what it wasn't told of.
     pub confirm: Duration,
 }
 
@@ -103,17 +102,15 @@ impl Stream {
         let options = "proto_version '1', publication_names 'edges', messages 'true'";
         connection.run(&format!("START_REPLICATION SLOT {} LOGICAL 0/0 ({options})", self.slot))?;
         let mut place = Place { reached: Lsn(0), open: None, table: None };
-        let (mut confirmed, mut is_wanted) = (Instant::now(), false);
+        let mut confirmed = Instant::now();
         loop {
-            if let Some(message) = connection.message(self.confirm)? {
-                let (event, wants_reply) = place.after(&message).ok_or(End::Lost)?;
-                is_wanted |= wants_reply;
-                event.map_or(Ok(()), |event| self.tell(event))?;
+            let (event, is_wanted) = place.after(&connection.message()?).ok_or(End::Lost)?;
+            event.map_or(Ok(()), |event| self.tell(event))?;
+            let is_due = confirmed.elapsed() >= self.confirm;
+            if is_due || is_wanted {
+                connection.send(&place.confirmation(is_due))?;
             }
-            if is_wanted || confirmed.elapsed() >= self.confirm {
-                connection.send(&place.confirmation(is_wanted && confirmed.elapsed() < self.confirm))?;
-                (confirmed, is_wanted) = (Instant::now(), false);
-            }
+            confirmed = if is_due { Instant::now() } else { confirmed };
         }
     }
 }
@@ -160,18 +157,16 @@ impl Place {
         Some(None)
     }
 
-    /// That PostgreSQL need not keep what came, since an edge holds it in memory; or only that the edge is there.
-    fn confirmation(&self, is_sign_of_life: bool) -> Vec<u8> {
-        let place = if is_sign_of_life { 0 } else { self.reached.0 };
-        let numbers = [place, place, place, 0].map(u64::to_be_bytes);
-        [b"r", numbers.as_flattened(), &[0]].concat()
+    /// That PostgreSQL need not keep what came, since an edge holds it in memory, or only that the edge is there.
+    fn confirmation(&self, is_due: bool) -> Vec<u8> {
+        let place = if is_due { self.reached.0 } else { 0 };
+        [b"r", [place, place, place, 0].map(u64::to_be_bytes).as_flattened(), &[0]].concat()
     }
 }
 
 /// When the server was started.
 fn start_of(connection: &mut Connection) -> Result<String, Fault> {
-    let tables = connection.run("SELECT pg_postmaster_start_time()")?;
-    Ok(tables[0][0].concat())
+    connection.run("SELECT pg_postmaster_start_time()").map(|tables| tables[0][0].concat())
 }
 
 /// Drops a slot, where there is one, and ends who has it.

@@ -1,7 +1,7 @@
 //! Upqueries: threads that each ask PostgreSQL, by a connection of their own, for the rows of many articles at once.
 use crate::dataflow::Event;
 use crate::lsn::Lsn;
-use crate::pq::{Connection, Fault, Table};
+use crate::pq::{quoted, Connection, Fault, Table};
 use crate::snapshot::Snapshot;
 use nr::{EventSender, Row, Ticket};
 use std::sync::{mpsc, Arc, Mutex};
@@ -53,7 +53,7 @@ pub struct Answer {
 }
 
 // One statement has one snapshot, which is the one that it tells. The place is read after the snapshot was taken.
-const SQL: &str = "SELECT pg_current_snapshot(), pg_current_wal_insert_lsn(),
+const PREPARE: &str = "PREPARE upquery (text[]) AS SELECT pg_current_snapshot(), pg_current_wal_insert_lsn(),
     (SELECT string_agg(voter || ' ' || weight, ' ') FROM votes WHERE votes.article = asked.article)
     FROM unnest($1::text[]) WITH ORDINALITY AS asked (article, place) ORDER BY place";
 const PAUSE: Duration = Duration::from_millis(5);
@@ -91,14 +91,11 @@ impl Upqueries<'_> {
     fn rows(&self, at: &mut Option<Connection>, requests: &[Request]) -> Result<(Seen, Vec<Vec<Row>>), Fault> {
         let mut connection = match at.take() {
             Some(connection) => connection,
-            None => {
-                let mut connection = Connection::open(self.address)?;
-                connection.prepare(SQL)?;
-                connection
-            }
+            None => Connection::open(self.address).and_then(|mut it| it.run(PREPARE).map(|_| it))?,
         };
         let articles: Vec<_> = requests.iter().map(|request| element(&request.article)).collect();
-        let table = connection.execute(&format!("{{{}}}", articles.join(",")))?;
+        let array = quoted(&format!("{{{}}}", articles.join(",")));
+        let table = connection.run(&format!("EXECUTE upquery({array})"))?.remove(0);
         *at = Some(connection);
         answer_of(&table).ok_or_else(|| String::from("PostgreSQL answered what can't be understood").into())
     }

@@ -25,7 +25,7 @@ impl Trial {
         let (inbox, ..) = Inbox::open(&writer, 4, 1).unwrap();
         let (sender, requests) = mpsc::channel();
         let residents = Residents { writer, shared, clock: VecDeque::new(), limit: 3 };
-        let dataflow = Dataflow::new(inbox, sender, residents);
+        let dataflow = Dataflow { inbox, requests: sender, shared, residents, order: Order::default() };
         Trial { dataflow, reader: readers.remove(0), requests, shared }
     }
 
@@ -140,7 +140,7 @@ fn the_log_ends() {
     let request = trial.sent().expect("PostgreSQL is asked what a snapshot sees");
     assert!(trial.sent().is_none());
     trial.answer(request, "9999:9999:", &[]);
-    assert_eq!(trial.dataflow.log.len(), 0);
+    assert_eq!(trial.dataflow.order.log.len(), 0);
 }
 
 #[test]
@@ -232,6 +232,17 @@ fn without_a_slot_answers_are_told_and_not_held() {
     assert_eq!((trial.held("a"), rows(told)), (None, Some(vec![ONE])));
     // The next client asks PostgreSQL again.
     let (_, _) = trial.ask("a");
+}
+
+#[test]
+fn a_token_is_behind_all_that_was_told() {
+    let mut trial = Trial::following();
+    trial.commit(12, 110, "a", Delta::plus(TWO));
+    assert_eq!(trial.shared.told.load(SeqCst), 110);
+    trial.fill("a", "13:13:", &[ONE]);
+    assert_eq!(trial.shared.told.load(SeqCst), 200);
+    trial.lose();
+    assert_eq!(trial.shared.told.load(SeqCst), 200);
 }
 
 #[test]
