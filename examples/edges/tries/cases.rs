@@ -91,8 +91,7 @@ impl Case {
     /// A row of which the commit waits. PostgreSQL's processes hear of a setting one by one, so the first may not wait yet.
     fn waiting_row(&mut self, article: &str) -> (String, thread::JoinHandle<()>) {
         for voter in 10.. {
-            let (address, sql) =
-                (self.address.clone(), format!("INSERT INTO votes VALUES ('{article}', {voter}, 1)"));
+            let (address, sql) = (self.address.clone(), format!("INSERT INTO votes VALUES ('{article}', {voter}, 1)"));
             let writer = thread::spawn(move || _ = last(&mut Connection::open(&address).unwrap(), &sql));
             let waits = "SELECT count(*) FROM pg_stat_activity WHERE wait_event = 'SyncRep'";
             until("the commit waits or is done", || writer.is_finished() || self.sql(waits) == "1");
@@ -150,12 +149,15 @@ fn a_commit_that_the_new_slot_does_not_carry(case: &mut Case) {
     case.commits_wait();
     let (row, writer) = case.waiting_row("h");
     two.run("ROLLBACK").unwrap();
-    let waits = "SELECT count(*) FROM pg_stat_activity WHERE backend_type = 'walsender' AND wait_event = 'transactionid'";
+    let waits =
+        "SELECT count(*) FROM pg_stat_activity WHERE backend_type = 'walsender' AND wait_event = 'transactionid'";
     until("the slot stands or waits", || edge.stat("following") == "1" || case.sql(waits) == "1");
     let is_following = edge.stat("following") == "1";
     let port = edge.port;
     let client = thread::spawn(move || edges::Client::connect(port).unwrap().ask("GET h").unwrap());
-    until("PostgreSQL is asked again, or the client has its answer", || client.is_finished() || edge.count("again") > 2);
+    until("PostgreSQL is asked again, or the client has its answer", || {
+        client.is_finished() || edge.count("again") > 2
+    });
     case.commits_go_on();
     writer.join().unwrap();
     let told = client.join().unwrap();
@@ -252,7 +254,7 @@ fn a_token_that_is_not_reached(case: &mut Case) {
     }
     let token = edge.ask("VOTE w 1 2");
     let token = token.strip_prefix('+').expect("a vote answers with a token");
-    assert!(last(&mut case.base, &format!("SELECT 1 WHERE '{token}'::pg_lsn <= pg_current_wal_flush_lsn()")).len() == 1);
+    assert_eq!(case.sql(&format!("SELECT '{token}'::pg_lsn <= pg_current_wal_flush_lsn()")), "t");
     until("a read sees what its client wrote", || edge.ask(&format!("GET w {token}")) == "1:2");
     let read = edge.ask("READ w");
     let (_, token) = read.split_once('\n').expect("a read answers with a token");

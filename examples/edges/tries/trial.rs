@@ -129,9 +129,8 @@ fn write(world: &World, number: u64, seed: u64) {
 
 /// The version of a key, or what is wrong with its rows.
 fn version_of(rows: &str) -> Result<u64, String> {
-    let weights = |voter: &str| -> Vec<u64> {
-        rows.split(' ').filter_map(|row| row.strip_prefix(voter)?.parse().ok()).collect()
-    };
+    let weights =
+        |voter: &str| -> Vec<u64> { rows.split(' ').filter_map(|row| row.strip_prefix(voter)?.parse().ok()).collect() };
     match (weights("0:").as_slice(), weights("1:").as_slice()) {
         ([version], [mark]) if version == mark => Ok(*version),
         (versions, marks) => Err(format!("versions {versions:?} and marks {marks:?}")),
@@ -300,32 +299,54 @@ fn counts(edges: &[Edge]) -> String {
     names.iter().map(sum).collect::<Vec<_>>().join(", ")
 }
 
+fn begin(address: &str) {
+    let mut base = Connection::open(address).unwrap();
+    let keys = format!("generate_series(0, {KEYS} - 1) AS key, generate_series(0, 1) AS voter");
+    last(&mut base, &format!("TRUNCATE votes; INSERT INTO votes SELECT 'k' || key, voter, 1 FROM {keys}"));
+}
+
+/// Some hold half of the keys, and ask for one at a time.
+fn edge(program: &str, address: &str, number: u64) -> Edge {
+    let [limit, batch] = if number % 2 == 0 { ["30", "1"] } else { ["60", "8"] };
+    let options = ["--keys", "61", "--limit", limit, "--batch", batch, "--rows", "255", "--confirm", "700"];
+    Edge::start(program, address, &format!("trial_{number}"), &options)
+}
+
+impl World {
+    fn of(address: &str, edges: &[Edge]) -> World {
+        World {
+            ports: edges.iter().map(|edge| edge.port).collect(),
+            address: address.into(),
+            is_over: AtomicBool::new(false),
+            quiet: RwLock::new(()),
+            age: AtomicU64::new(0),
+            faults: Mutex::default(),
+            commits: AtomicU64::new(0),
+            reads: AtomicU64::new(0),
+            own_reads: AtomicU64::new(0),
+        }
+    }
+
+    fn report(&self, edges: &[Edge], compared: usize) {
+        let [commits, reads, own] = [&self.commits, &self.reads, &self.own_reads].map(|it| it.load(SeqCst));
+        println!("trial: {} edges: {commits} transactions, {reads} reads, {own} of own writes", edges.len());
+        println!("trial: {compared} keys compared with the table; {}", counts(edges));
+        let faults = self.faults.lock().unwrap();
+        faults.iter().take(8).for_each(|fault| println!("trial: {fault}"));
+        let disagreements: u64 = edges.iter().map(|edge| edge.count("disagreements")).sum();
+        assert!(commits > 0 && reads > 0 && own > 0 && compared > 0);
+        assert!(faults.is_empty() && disagreements == 0, "{} faults, {disagreements} disagreements", faults.len());
+    }
+}
+
 fn main() {
     let words: Vec<String> = env::args().collect();
     let [count, seconds, seed] = [4, 5, 6].map(|place| words[place].parse::<u64>().unwrap());
-    let (program, address, restart) = (&words[1], words[2].clone(), &words[3]);
-    let mut base = Connection::open(&address).unwrap();
-    last(&mut base, "TRUNCATE votes");
-    last(&mut base, &format!("INSERT INTO votes SELECT 'k' || k, v, 1 FROM generate_series(0, {KEYS} - 1) k, generate_series(0, 1) v"));
-    let edge = |number: u64| {
-        let limit = if number % 2 == 0 { "30" } else { "60" };
-        let batch = if number % 2 == 0 { "1" } else { "8" };
-        let options = ["--keys", "61", "--limit", limit, "--batch", batch, "--rows", "255", "--confirm", "700"];
-        Edge::start(program, &address, &format!("trial_{number}"), &options)
-    };
-    let mut edges: Vec<_> = (0..count).map(edge).collect();
-    let world = &World {
-        ports: edges.iter().map(|edge| edge.port).collect(),
-        address: address.clone(),
-        is_over: AtomicBool::new(false),
-        quiet: RwLock::new(()),
-        age: AtomicU64::new(0),
-        faults: Mutex::default(),
-        commits: AtomicU64::new(0),
-        reads: AtomicU64::new(0),
-        own_reads: AtomicU64::new(0),
-    };
-    let (mut compared, mut quiet, mut dice, begin) = (0, 0, Dice(seed + 99), Instant::now());
+    let (program, address, restart) = (&words[1], &words[2], &words[3]);
+    begin(address);
+    let mut edges: Vec<_> = (0..count).map(|number| edge(program, address, number)).collect();
+    let world = &World::of(address, &edges);
+    let (mut compared, mut dice, begin) = (0, Dice(seed + 99), Instant::now());
     thread::scope(|scope| {
         (0..WRITERS).for_each(|number| _ = scope.spawn(move || write(world, number, seed)));
         (0..2 * count as usize).for_each(|it| _ = scope.spawn(move || read(world, it / 2, seed + it as u64)));
@@ -335,20 +356,10 @@ fn main() {
         while begin.elapsed() < Duration::from_secs(seconds) {
             dice.sleep(200, 900);
             break_something(world, &mut edges, restart, &mut dice);
-            if dice.below(2) == 0 {
-                compared += compare(world, &edges);
-                quiet += 1;
-            }
+            compared += if dice.below(2) == 0 { compare(world, &edges) } else { 0 };
         }
         compared += compare(world, &edges);
         world.is_over.store(true, SeqCst);
     });
-    let [commits, reads, own] = [&world.commits, &world.reads, &world.own_reads].map(|it| it.load(SeqCst));
-    println!("trial: {count} edges, seed {seed}: {commits} transactions, {reads} reads, {own} of own writes, {compared} keys compared at {} quiet moments", quiet + 1);
-    println!("trial: {}", counts(&edges));
-    let disagreements: u64 = edges.iter().map(|edge| edge.count("disagreements")).sum();
-    let faults = world.faults.lock().unwrap();
-    faults.iter().take(8).for_each(|fault| println!("trial: {fault}"));
-    assert!(commits > 0 && reads > 0 && own > 0 && compared > 0);
-    assert!(faults.is_empty() && disagreements == 0, "{} faults, {disagreements} disagreements", faults.len());
+    world.report(&edges, compared);
 }
