@@ -258,10 +258,10 @@ fn break_something(world: &World, edges: &mut [Edge], restart: &str, dice: &mut 
         10 => _ = base.run("ALTER TABLE votes ALTER weight SET NOT NULL"),
         _ => {
             world.age.fetch_add(1, SeqCst);
-            let losses: Vec<_> = edges.iter().map(|edge| edge.count("losses")).collect();
             assert!(Command::new("bash").args(["-c", restart]).status().unwrap().success());
-            for (edge, before) in edges.iter().zip(losses) {
-                until("the edge begins anew", || edge.count("losses") > before && edge.stat("following") == "1");
+            let now = token(&mut world.base("-c synchronous_commit=local"));
+            for edge in edges {
+                until("the edge begins anew", || !edge.ask(&format!("PEEK k0 {now}")).starts_with('-'));
             }
             world.age.fetch_add(1, SeqCst);
         }
