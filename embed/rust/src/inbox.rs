@@ -4,22 +4,22 @@ use std::sync::atomic::{AtomicBool, Ordering::SeqCst};
 use std::sync::mpsc::{self, TryRecvError};
 use std::{fmt, sync::Arc, thread};
 
-/// What the writer's thread takes with: tickets of missing keys, and events of a type of the program's own, such as the
-/// changes of a base. It takes both in turn, so that neither waits for the other to end, and sleeps without either.
+/// An inbox's tokens as they come: what the writer's thread takes with, what as many threads post tickets of missing keys
+/// with, and what any number send events with, of a type of the program's own, such as the changes of a base.
 ///
 /// ```
 /// use nr::{Arrival, Asked, Inbox, ReaderMap, Shape};
 ///
 /// let ReaderMap { mut writer, mut readers } = ReaderMap::open(&Shape::new(1, 3, 1))?;
-/// let (mut inbox, mut tickets, events) = Inbox::open(&writer, 1, 1)?;
+/// let Inbox { mut taker, mut posters, events } = Inbox::open(&writer, 1, 1)?;
 /// std::thread::scope(|scope| {
 ///     scope.spawn(move || {
 ///         let Asked::Send(ticket) = readers[0].ask(0) else { panic!() };
-///         tickets[0].send(ticket);
+///         posters[0].post_waiting(ticket);
 ///     });
 ///     scope.spawn(move || events.send("an event"));
 ///     let mut came = 0;
-///     while let Some(arrival) = inbox.next() {
+///     while let Some(arrival) = taker.wait() {
 ///         match arrival {
 ///             Arrival::Ticket(ticket) => writer.fill(ticket, &[]).expect("there is a slot"),
 ///             Arrival::Event(event) => assert_eq!(event, "an event"),
@@ -30,9 +30,45 @@ use std::{fmt, sync::Arc, thread};
 /// });
 /// # Ok::<(), nr::Fault>(())
 /// ```
+#[derive(Debug)]
 pub struct Inbox<E> {
+    /// The one that takes.
+    pub taker: InboxTaker<E>,
+    /// Those that post tickets, each for a thread of its own.
+    pub posters: Vec<InboxPoster<E>>,
+    /// What sends events. Each thread has a clone.
+    pub events: EventSender<E>,
+}
+
+impl<E> Inbox<E> {
+    /// Opens an inbox for 1 to 4,194,303 tickets of the writer's map, with 1 to 65,535 posters, as [`Queue::open`] does;
+    /// of events there may be any number. Refused with [`Fault::BadSize`] or [`Fault::NoMemory`].
+    pub fn open(writer: &Writer, capacity: u32, posters: u32) -> Result<Inbox<E>, Fault> {
+        let Queue { taker, posters } = Queue::open(writer, capacity, posters)?;
+        let (letters, came) = mpsc::channel();
+        let bell = Arc::new(AtomicBool::new(false));
+        let poster = |poster| InboxPoster { poster, letters: letters.clone(), bell: Arc::clone(&bell) };
+        let posters = posters.into_iter().map(poster).collect();
+        let taker = InboxTaker { taker, came, bell, has_tickets: false, is_tickets_turn: false };
+        Ok(Inbox { taker, posters, events: EventSender { letters } })
+    }
+}
+
+/// What comes to an inbox.
+#[derive(Debug, PartialEq, Eq)]
+#[must_use = "a ticket is to be filled, or given to `Writer::cancel_ticket`"]
+pub enum Arrival<E> {
+    /// A key is asked for.
+    Ticket(Ticket),
+    /// An event.
+    Event(E),
+}
+
+/// What the writer's thread takes with. It takes tickets and events in turn, so that neither waits for the other to end,
+/// and sleeps without either.
+pub struct InboxTaker<E> {
     taker: Taker,
-    events: mpsc::Receiver<Letter<E>>,
+    came: mpsc::Receiver<Letter<E>>,
     bell: Arc<AtomicBool>,
     /// There may be tickets, and whether they come next.
     has_tickets: bool,
@@ -45,37 +81,9 @@ enum Letter<E> {
     Event(E),
 }
 
-/// What comes to an inbox.
-#[derive(Debug, PartialEq, Eq)]
-pub enum Arrival<E> {
-    /// A key is asked for.
-    Ticket(Ticket),
-    /// An event.
-    Event(E),
-}
-
-impl<E> Inbox<E> {
-    /// Opens an inbox of the writer's map: what its thread takes with, what as many threads send tickets with, and what
-    /// any number send events with. Its queue holds that many tickets, as that of [`Queue::open`]; of events there is no
-    /// limit. Refused with [`Fault::BadSize`] or [`Fault::NoMemory`].
-    #[allow(clippy::type_complexity)]
-    pub fn open(
-        writer: &Writer,
-        capacity: u32,
-        senders: u32,
-    ) -> Result<(Inbox<E>, Vec<TicketSender<E>>, EventSender<E>), Fault> {
-        let Queue { taker, posters } = Queue::open(writer, capacity, senders)?;
-        let (letters, events) = mpsc::channel();
-        let bell = Arc::new(AtomicBool::new(false));
-        let ticket_sender = |poster| TicketSender { poster, letters: letters.clone(), bell: Arc::clone(&bell) };
-        let senders = posters.into_iter().map(ticket_sender).collect();
-        let inbox = Inbox { taker, events, bell, has_tickets: false, is_tickets_turn: false };
-        Ok((inbox, senders, EventSender { letters }))
-    }
-
-    /// Waits for the next ticket or event; none when there are no senders any more.
-    #[allow(clippy::should_implement_trait)]
-    pub fn next(&mut self) -> Option<Arrival<E>> {
+impl<E> InboxTaker<E> {
+    /// Waits for the next ticket or event; none when all that post and send are gone.
+    pub fn wait(&mut self) -> Option<Arrival<E>> {
         loop {
             self.is_tickets_turn = !self.is_tickets_turn && self.has_tickets;
             let came = if self.is_tickets_turn { self.ticket() } else { self.event()? };
@@ -96,11 +104,11 @@ impl<E> Inbox<E> {
 
     /// Sleeps where there are no tickets either.
     fn event(&mut self) -> Option<Option<Arrival<E>>> {
-        let letter = match self.events.try_recv() {
+        let letter = match self.came.try_recv() {
             Ok(letter) => letter,
             Err(_) if self.has_tickets => return Some(None),
             Err(TryRecvError::Disconnected) => return None,
-            Err(TryRecvError::Empty) => self.events.recv().ok()?,
+            Err(TryRecvError::Empty) => self.came.recv().ok()?,
         };
         match letter {
             Letter::Event(event) => Some(Some(Arrival::Event(event))),
@@ -114,17 +122,17 @@ impl<E> Inbox<E> {
     }
 }
 
-/// What one thread sends tickets to an inbox with.
-pub struct TicketSender<E> {
+/// What one thread posts tickets with.
+pub struct InboxPoster<E> {
     poster: Poster,
     letters: mpsc::Sender<Letter<E>>,
     bell: Arc<AtomicBool>,
 }
 
-impl<E> TicketSender<E> {
-    /// Sends a ticket, and lets other threads go on until there is room for it. Where the inbox is gone it is lost with it.
-    /// Panics where the ticket is another map's.
-    pub fn send(&mut self, ticket: Ticket) {
+impl<E> InboxPoster<E> {
+    /// Posts a ticket, and lets other threads go on until it is there. Where the taker is gone, nobody takes it. Panics
+    /// where the ticket is another map's.
+    pub fn post_waiting(&mut self, ticket: Ticket) {
         self.poster.post_waiting(ticket);
         if !self.bell.swap(true, SeqCst) {
             _ = self.letters.send(Letter::Bell);
@@ -132,13 +140,13 @@ impl<E> TicketSender<E> {
     }
 }
 
-/// What threads send events to an inbox with, each with a clone.
+/// What threads send events with, each with a clone.
 pub struct EventSender<E> {
     letters: mpsc::Sender<Letter<E>>,
 }
 
 impl<E> EventSender<E> {
-    /// Sends an event; it comes back where the inbox is gone.
+    /// Sends an event; it comes back where the taker is gone.
     pub fn send(&self, event: E) -> Result<(), E> {
         self.letters.send(Letter::Event(event)).map_err(|mpsc::SendError(letter)| match letter {
             Letter::Event(event) => event,
@@ -153,15 +161,15 @@ impl<E> Clone for EventSender<E> {
     }
 }
 
-impl<E> fmt::Debug for Inbox<E> {
+impl<E> fmt::Debug for InboxTaker<E> {
     fn fmt(&self, f: &mut fmt::Formatter<'_>) -> fmt::Result {
-        f.debug_struct("Inbox").field("taker", &self.taker).finish_non_exhaustive()
+        f.debug_struct("InboxTaker").field("taker", &self.taker).finish_non_exhaustive()
     }
 }
 
-impl<E> fmt::Debug for TicketSender<E> {
+impl<E> fmt::Debug for InboxPoster<E> {
     fn fmt(&self, f: &mut fmt::Formatter<'_>) -> fmt::Result {
-        f.debug_struct("TicketSender").field("poster", &self.poster).finish_non_exhaustive()
+        f.debug_struct("InboxPoster").field("poster", &self.poster).finish_non_exhaustive()
     }
 }
 

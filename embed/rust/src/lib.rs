@@ -136,7 +136,7 @@ mod writer;
 
 pub use answers::{Asked, Cancel, Fault, KeyKind, Updated};
 pub use emptied::Emptied;
-pub use inbox::{Arrival, EventSender, Inbox, TicketSender};
+pub use inbox::{Arrival, EventSender, Inbox, InboxPoster, InboxTaker};
 pub use lobby::Lobby;
 pub use map::ReaderMap;
 pub use progress::Progress;

@@ -7,7 +7,7 @@ use crate::residents::Residents;
 use crate::snapshot::Snapshot;
 use crate::upquery::{Answer, Asker, Request, Seen, Told};
 use crate::{parts, pq, stats::Count, Shared};
-use nr::{Arrival, Delta, Fault, Inbox, Row, Ticket};
+use nr::{Arrival, Delta, Fault, InboxTaker, Row, Ticket};
 use std::collections::{HashMap, HashSet};
 use std::sync::{atomic::Ordering::SeqCst, mpsc, Arc};
 
@@ -38,7 +38,7 @@ pub struct First {
 const LONG_LOG: usize = 1024;
 
 pub struct Dataflow<'a> {
-    pub inbox: Inbox<Event>,
+    pub inbox: InboxTaker<Event>,
     pub requests: mpsc::Sender<Request>,
     pub shared: &'a Shared,
     pub residents: Residents<'a>,
@@ -64,7 +64,7 @@ pub struct Order {
 
 impl Dataflow<'_> {
     pub fn run(mut self) {
-        while let Some(arrival) = self.inbox.next() {
+        while let Some(arrival) = self.inbox.wait() {
             match arrival {
                 Arrival::Event(Event::End) => return,
                 Arrival::Event(event) => self.handle(event),

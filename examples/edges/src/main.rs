@@ -97,13 +97,13 @@ fn main() -> Result<(), Box<dyn Error>> {
     let (address, slot, options) = told.ok_or_else(|| format!("ADDRESS SLOT, and of {OPTIONS} each with a number"))?;
     let ReaderMap { writer, readers } = ReaderMap::open(&options.shape())?;
     // A key has one ticket at a time, and one of each that was taken back.
-    let (inbox, tickets, events) = Inbox::open(&writer, options.of("--keys"), options.of("--readers"))?;
+    let Inbox { taker: inbox, posters, events } = Inbox::open(&writer, options.of("--keys"), options.of("--readers"))?;
     let shared = &options.shared(address, &writer);
-    let session = |(number, (reader, tickets))| {
+    let session = |(number, (reader, poster))| {
         let events = events.clone();
-        session::Session { number, reader, rows: Rows::new(), tickets, events, shared, base: None }
+        session::Session { number, reader, rows: Rows::new(), poster, events, shared, base: None }
     };
-    let sessions: Vec<_> = readers.into_iter().zip(tickets).enumerate().map(session).collect();
+    let sessions: Vec<_> = readers.into_iter().zip(posters).enumerate().map(session).collect();
     let (requests, waiting) = mpsc::channel();
     let waiting = &Mutex::new(waiting);
     let limit = options.of("--limit") as usize;

@@ -2,7 +2,7 @@
 use crate::pq::{quoted, Connection};
 use crate::upquery::Told;
 use crate::{dataflow::Event, lsn::Lsn, stats, stats::Count, wire, wire::bulk, Shared};
-use nr::{Asked, EventSender, Reader, Row, Rows, TicketSender};
+use nr::{Asked, EventSender, InboxPoster, Reader, Row, Rows};
 use std::sync::{atomic::Ordering::Relaxed, atomic::Ordering::SeqCst, mpsc, Arc};
 use std::{fmt::Write, io, net::TcpStream};
 
@@ -11,7 +11,7 @@ pub struct Session<'a> {
     pub number: usize,
     pub reader: Reader,
     pub rows: Rows,
-    pub tickets: TicketSender<Event>,
+    pub poster: InboxPoster<Event>,
     pub events: EventSender<Event>,
     pub shared: &'a Shared,
     /// Its own, once a client has written.
@@ -118,7 +118,7 @@ impl Session<'_> {
     /// Requests a key that was not filled, so that the dataflow tells its rows.
     fn miss(&mut self, key: u32, tell: mpsc::Sender<Told>) {
         match self.shared.lobby.ask(&mut self.reader, key, tell) {
-            Asked::Send(ticket) => self.tickets.send(ticket),
+            Asked::Send(ticket) => self.poster.post_waiting(ticket),
             Asked::Waiting => {
                 self.shared.counts[self.number].up(Count::Waits);
                 _ = self.events.send(Event::Awaited(key));

@@ -3,7 +3,7 @@
 use super::*;
 use crate::lsn::Xid;
 use crate::Options;
-use nr::{Asked, Reader, ReaderMap, Rows};
+use nr::{Asked, Inbox, Reader, ReaderMap, Rows};
 use std::collections::VecDeque;
 
 struct Trial {
@@ -22,7 +22,7 @@ impl Trial {
         let (_, _, options) = Options::read(words.split_whitespace().map(String::from)).unwrap();
         let ReaderMap { writer, mut readers } = ReaderMap::open(&options.shape()).unwrap();
         let shared: &Shared = Box::leak(Box::new(options.shared(String::new(), &writer)));
-        let (inbox, ..) = Inbox::open(&writer, 4, 1).unwrap();
+        let inbox = Inbox::open(&writer, 4, 1).unwrap().taker;
         let (sender, requests) = mpsc::channel();
         let residents = Residents { writer, shared, clock: VecDeque::new(), limit: 3 };
         let dataflow = Dataflow { inbox, requests: sender, shared, residents, order: Order::default() };

@@ -12,24 +12,25 @@ def cell(name, rate, clients):
     return f"{int(gets):,}, {half} / {most}"
 
 
-def changes(rate):
+def changes(name, rate):
     """How many changes came through of those that were wanted."""
-    rates = [int(found["rate", name, rate, clients][0]) for name in NAMES for clients in CLIENTS]
-    return "0" if rate == "0" else f"{min(rates):,} to {max(rates):,}"
+    rates = sorted(int(found["rate", name, rate, clients][0]) for clients in CLIENTS)
+    few, many = f"{rates[0]:,}", f"{rates[-1]:,}"
+    return few if few == many else f"{few} to {many}"
 
 
 table = [f"{sys.argv[2]}; clients, edges and PostgreSQL share them, and `fsync` is off. GETs a second, and p50 / p99 in "
          "microseconds, by the number of clients:", ""]
 table += ["| | changes a second | 1 | 8 | 64 |", "|---|---|---|---|---|"]
 for name, told in NAMES.items():
-    table += [f"| {told} | {changes(rate)} | " + " | ".join(cell(name, rate, it) for it in CLIENTS) + " |" for rate in RATES]
+    table += [f"| {told} | {changes(name, rate)} | " + " | ".join(cell(name, rate, it) for it in CLIENTS) + " |" for rate in RATES]
 table += ["", "Misses a second of 32 clients, and p50 / p99 in microseconds:", ""]
 table += ["| connections | a key a statement | up to 32 keys a statement |", "|---|---|---|"]
 misses = {tuple(line[1:3]): line[3:] for line in lines if line[0] == "misses"}
 for connections in ("1", "8"):
     cells = [misses[connections, batch] for batch in ("1", "32")]
     table.append(f"| {connections} | " + " | ".join(f"{int(n):,}, {half} / {most}" for n, half, most in cells) + " |")
-table += ["", "From a commit until each edge in turn answers with it, p50 / p99 in milliseconds, beside that many changes a "
+table += ["", "From a commit's end until each edge in turn answers with it, p50 / p99 in milliseconds, beside that many changes a "
           "second (of 10,000 as many came through as are in brackets):", ""]
 table += ["| edges | 0 | 1,000 | 10,000 |", "|---|---|---|---|"]
 visible = {tuple(line[1:3]): line[3:] for line in lines if line[0] == "visible"}

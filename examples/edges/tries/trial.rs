@@ -292,9 +292,9 @@ fn compare(world: &World, edges: &[Edge]) -> usize {
     compared
 }
 
-/// How often each thing happened that the rule is there for.
+/// How often each thing happened that the rule is there for, since each edge was started last.
 fn counts(edges: &[Edge]) -> String {
-    let names = ["fills", "updates", "skips", "replays", "repeats", "again", "losses", "disagreements"];
+    let names = ["fills", "no-slots", "updates", "skips", "replays", "repeats", "again", "losses", "disagreements"];
     let sum = |name: &&str| format!("{name} {}", edges.iter().map(|edge| edge.count(name)).sum::<u64>());
     names.iter().map(sum).collect::<Vec<_>>().join(", ")
 }
@@ -305,10 +305,11 @@ fn begin(address: &str) {
     last(&mut base, &format!("TRUNCATE votes; INSERT INTO votes SELECT 'k' || key, voter, 1 FROM {keys}"));
 }
 
-/// Some hold half of the keys, and ask for one at a time.
+/// Some hold half of the keys, with too few slots at times, and ask for one at a time.
 fn edge(program: &str, address: &str, number: u64) -> Edge {
-    let [limit, batch] = if number % 2 == 0 { ["30", "1"] } else { ["60", "8"] };
-    let options = ["--keys", "61", "--limit", limit, "--batch", batch, "--rows", "255", "--confirm", "700"];
+    let [limit, batch, slots] = if number % 2 == 0 { ["30", "1", "31"] } else { ["60", "8", "0"] };
+    let sizes = ["--keys", "61", "--rows", "255", "--limit", limit, "--slots", slots];
+    let options = [&sizes[..], &["--batch", batch, "--confirm", "700"]].concat();
     Edge::start(program, address, &format!("trial_{number}"), &options)
 }
 
