@@ -168,7 +168,7 @@ impl Dataflow<'_> {
             return requests.into_iter().for_each(|request| self.request_again(request));
         }
         self.shared.told.fetch_max(seen.place.0, SeqCst);
-        let unseen = self.order.log.unseen_by(&seen.snapshot);
+        let unseen = self.order.log.unseen_by(&seen.snapshot, &requests);
         let seen = Arc::new(seen);
         requests.into_iter().zip(rows).for_each(|(request, rows)| self.bring(request, rows, &seen, &unseen));
         self.order.log.prune(&seen.snapshot);

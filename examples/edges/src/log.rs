@@ -1,8 +1,8 @@
 //! The log: the transactions that were applied and that a snapshot may not see yet.
 use crate::lsn::{Lsn, Xid};
-use crate::{parts, snapshot::Snapshot};
+use crate::{parts, snapshot::Snapshot, upquery::Request};
 use nr::Delta;
-use std::collections::{BTreeSet, HashMap, VecDeque};
+use std::collections::{BTreeSet, HashMap, HashSet, VecDeque};
 
 /// Signed rows by their articles.
 pub type Changes = HashMap<Box<str>, Vec<Delta>>;
@@ -59,11 +59,12 @@ impl Log {
         !self.under_way.is_empty()
     }
 
-    /// What a snapshot lacks of what was applied.
-    pub fn unseen_by(&self, snapshot: &Snapshot) -> Changes {
+    /// What a snapshot lacks of what was applied, of the articles that were asked for.
+    pub fn unseen_by(&self, snapshot: &Snapshot, requests: &[Request]) -> Changes {
+        let asked: HashSet<_> = requests.iter().map(|request| &request.article).collect();
         let unseen = self.transactions.iter().filter(|it| !snapshot.sees(it.transaction.xid));
         let mut changes = Changes::new();
-        for (article, deltas) in unseen.flat_map(|it| &it.transaction.changes) {
+        for (article, deltas) in unseen.flat_map(|it| &it.transaction.changes).filter(|it| asked.contains(it.0)) {
             changes.entry(article.clone()).or_default().extend(deltas);
         }
         changes

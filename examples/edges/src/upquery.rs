@@ -8,7 +8,6 @@ use std::sync::{mpsc, Arc, Mutex};
 use std::{thread, time::Duration};
 
 /// An article whose rows are asked for.
-#[derive(Debug)]
 pub struct Request {
     /// Later ones have higher numbers.
     pub number: u64,
@@ -19,7 +18,6 @@ pub struct Request {
 }
 
 /// For whom.
-#[derive(Debug)]
 pub enum Asker {
     /// For a key of the map, and all who wait for it in the lobby.
     Key(Ticket),
@@ -30,7 +28,7 @@ pub enum Asker {
 }
 
 /// What who waits for rows is told.
-#[derive(Clone, Debug)]
+#[derive(Clone)]
 pub enum Told {
     Rows(Arc<[Row]>),
     /// The request was taken back, and may be made again.
@@ -40,7 +38,6 @@ pub enum Told {
 }
 
 /// What a statement saw: all that its snapshot sees was committed before this place in the log.
-#[derive(Clone, Debug)]
 pub struct Seen {
     pub snapshot: Snapshot,
     pub place: Lsn,

@@ -305,9 +305,9 @@ fn begin(address: &str) {
     last(&mut base, &format!("TRUNCATE votes; INSERT INTO votes SELECT 'k' || key, voter, 1 FROM {keys}"));
 }
 
-/// Some hold half of the keys, with too few slots at times, and ask for one at a time.
+/// Some hold half of the keys, with no slot to spare, and ask for one at a time.
 fn edge(program: &str, address: &str, number: u64) -> Edge {
-    let [limit, batch, slots] = if number % 2 == 0 { ["30", "1", "31"] } else { ["60", "8", "0"] };
+    let [limit, batch, slots] = if number % 2 == 0 { ["30", "1", "30"] } else { ["60", "8", "0"] };
     let sizes = ["--keys", "61", "--rows", "255", "--limit", limit, "--slots", slots];
     let options = [&sizes[..], &["--batch", batch, "--confirm", "700"]].concat();
     Edge::start(program, address, &format!("trial_{number}"), &options)
