@@ -1,25 +1,36 @@
-"""Reads Rattle's source: what runs of a file, its functions, and what each does in order."""
+"""Reads Rattle's source by the words that rt fmt finds in it: what runs of a file, without contracts and what stands for
+them alone; its functions, and what each does in order."""
+import json
+import pathlib
 import re
-from collections import namedtuple
+import subprocess
+import tempfile
+from typing import NamedTuple
+
+import kit
 
 # Words after which a bracket or a bar begins something of its own, and those that a condition or a range follows.
 HEADS = set("as crate else for if impl in let match mut pub return where while".split())
-BRANCHES = set("for if loop match while".split())
-TOKEN = re.compile(r"""//[^\n]*|\s+|"(?:\\.|[^"\\])*"|'(?:\\.|[^\\'])'|'\w+|\w+|::|=>|->|\|\||/\*|.""", re.S)
 CLOSED_BY = {"(": ")", "[": "]", "{": "}"}
-
-# A function: its name, with that of the type or trait around it, and where it, its body and what follows it begin.
-Function = namedtuple("Function", "name start body end")
-# A call, a macro or a function that a path names: its name, where that stands, and where all of it ends.
-Call = namedtuple("Call", "name at end")
+# A piece of a body that only names or moves what is there. Contracts say which values those are.
+NO_DEED = re.compile(r"(?!.*\b(for|while|loop|if|else|match|return|break|continue|unsafe)\b)(let (mut )?\w+ )?(= )?[\w\s.,:&]*")
 
 
-def is_word(part):
-    return not part.isspace() and not part.startswith("//")
+class Function(NamedTuple):
+    """Its name, with that of the type or trait around it, and where it, its body and what follows it begin."""
+
+    name: str
+    start: int
+    body: int
+    end: int
 
 
-def words_of(text):
-    return [part for part in TOKEN.findall(text) if is_word(part)]
+class Call(NamedTuple):
+    """A call, a macro or a function that a path names: its name, where that stands, and where all of it ends."""
+
+    name: str
+    at: int
+    end: int
 
 
 def behind(words, i, opening, closing):
@@ -33,12 +44,12 @@ def behind(words, i, opening, closing):
 
 
 class File:
-    """What runs of a file, without contracts and what stands for them alone: its words, their lines and the spaces before
-    them, the partner of each bracket, its functions, and its attributes by the place of the next word."""
+    """What runs of a file: its words, their lines and the spaces before them, the partner of each bracket, its functions,
+    and its attributes by the place of the next word."""
 
-    def __init__(self, text):
+    def __init__(self, text, code):
         self.words, self.lines, self.spaces, self.attributes, self.partner = [], [], [], [], {}
-        self.keep_what_runs(text)
+        self.keep(text.split("\n"), code)
         self.words += [""] * 3
         self.lines += [0] * 3
         opened = []
@@ -55,35 +66,33 @@ class File:
                 end = self.up_to(i, "{", ";")
                 self.spans.append((word, i, self.up_to(i, ";") if word == "use" else self.partner.get(end, end)))
 
+    def keep(self, rows, code):
+        """Takes in the words that the code has, each told with its line, but for those of attributes."""
+        words, line, column, i = [], 0, 0, 0
+        for told in code.splitlines():
+            number, kind, word = told.split(" ", 2)
+            word = json.loads(word)
+            if kind == "Ghost" or word.startswith("///"):
+                continue
+            line, column = (line, column) if int(number) == line else (int(number), -1)
+            at = rows[line - 1].find(word, max(column, 0))
+            space, column = " " * (at != column), at + len(word)
+            words += [(">", line, space), (">", line, "")] if word == ">>" else [(word, line, space)]
+        while i < len(words):
+            if words[i][0] == "#":
+                end = behind([word for word, _, _ in words], i, "[", "]")
+                self.attributes.append((len(self.words), [word for word, _, _ in words[i:end] if word[0].isalpha()]))
+                i = end
+                continue
+            for kept, part in zip((self.words, self.lines, self.spaces), words[i]):
+                kept.append(part)
+            i += 1
+
     def names(self):
         return {function.name.rpartition(":")[2] for function in self.functions}
 
     def is_within(self, i, *kinds):
         return any(kind in kinds and start < i < end for kind, start, end in self.spans)
-
-    def keep_what_runs(self, text):
-        words, lines, spaces, line, space, i = [], [], [], 1, "", 0
-        for part in TOKEN.findall(text):
-            if is_word(part):
-                words.append(part)
-                lines.append(line)
-                spaces.append(space)
-            line += part.count("\n")
-            space = "" if is_word(part) else " "
-        while i < len(words):
-            if words[i] in ("ghost", "requires", "ensures"):
-                is_ghost = words[i] == "ghost"
-                i = behind(words, i, ";", ";") if words[i + 1] == "use" else behind(words, i, "{", "}")
-                i += is_ghost and words[i] in (",", ";")
-            elif words[i] == "#":
-                end = behind(words, i, "[", "]")
-                self.attributes.append((len(self.words), [word for word in words[i:end] if word[0].isalpha()]))
-                i = end
-            else:
-                self.words.append(words[i])
-                self.lines.append(lines[i])
-                self.spaces.append(spaces[i])
-                i += 1
 
     def up_to(self, i, *ends):
         """The place of the first of these words from `i` on, past what other brackets enclose."""
@@ -148,31 +157,54 @@ class File:
             if self.words[i] in ("|", "||") and (last in HEADS or not re.search(r"[\w)\]}\"']$", last)):
                 yield i
 
-    def chain(self, i, calls):
-        """Behind a name with its fields, indexes and calls, and whether one of these is a call."""
-        called = False
-        while True:
-            called, i = called or i in calls, calls.get(i, i + 1)
-            while self.words[i] in ("?", "["):
-                i = self.partner.get(i, i) + 1
-            if self.words[i] not in (".", "::") or not re.match(r"\w", self.words[i + 1]):
-                return i, called
-            i += 1
+    def spelled(self, first, end):
+        """The words as one line, however they were laid out, without what only ends an earlier piece."""
+        text = "".join(self.spaces[i] + self.words[i] for i in range(first, end))
+        return re.sub(r",? (?=[.)\]?])|,(?=[)\]])|(?<=[(\[]) ", "", text).strip().lstrip(")], ")
+
+    def pieces(self, first, end):
+        """The words cut at braces, at semicolons, and at commas that stand right within braces: where each begins and ends."""
+        start, within, i = first, ["{"], first
+        while i < end:
+            word = self.words[i]
+            if word in ("{", "}") or word in (",", ";") and within[-1] == "{":
+                yield start, i
+                start = i + 1
+            if word in CLOSED_BY:
+                within.append(word)
+            elif word in CLOSED_BY.values():
+                within.pop()
+            i = behind(self.words, i + 1, "<", ">") if self.words[i : i + 2] == ["::", "<"] else i + 1
+        yield start, end
 
     def deeds(self, function, values):
-        """What it does in order: its conditions and what its loops go over, where it ends or turns, its closures, its
-        calls with what they are given, and where it names one of these values."""
-        calls = {call.at: call.end for call in self.calls(function.body, function.end)}
-        closures = set(self.closures(function.body, function.end))
-        deeds, i = [], function.body
-        while i < function.end:
-            word, end = self.words[i], i + 1
-            counts = word in ("return", "?", "else") or i in closures
-            if word in BRANCHES:
-                end, counts = self.up_to(i, "{", "=>"), True
-            elif re.match("[A-Za-z_]", word) and word not in HEADS:
-                end, counts = self.chain(i, calls)
-            if counts or values & set(self.words[i:end]):
-                deeds.append("".join(self.spaces[at] + self.words[at] for at in range(i, end)).strip())
-            i = end
-        return " ".join(deeds)
+        """What it does in order, each with its line: the pieces of its body that do something, or name one of these values."""
+        found = []
+        for first, end in self.pieces(function.body + 1, function.end - 1):
+            deed = self.spelled(first, end)
+            if not NO_DEED.fullmatch(deed) or values & set(self.words[first:end]):
+                found.append((deed, self.lines[first]))
+        return found
+
+    def constants(self):
+        """Each constant outside of a function, with its line."""
+        for i, word in enumerate(self.words):
+            if word in ("const", "static") and not self.is_within(i, "fn"):
+                yield self.spelled(i, self.up_to(i, ";")), self.lines[i]
+
+
+KNOWN = {}
+
+
+def files_of(texts):
+    """The files of these texts, by their names. A text that was read before isn't read again."""
+    new = sorted(set(texts.values()) - KNOWN.keys())
+    with tempfile.TemporaryDirectory() as room:
+        paths = [pathlib.Path(room, f"{at}.rt") for at in range(len(new))]
+        for path, text in zip(paths, new):
+            path.write_text(text)
+        words = [kit.rt().rtlib.RATTLE, "fmt", "--code", *paths]
+        told = subprocess.run(words, stdout=subprocess.PIPE, text=True, check=True).stdout if new else ""
+    for text, code in zip(new, re.split(r"^file \d+\n", told, flags=re.M)[1:]):
+        KNOWN[text] = File(text, code)
+    return {name: KNOWN[text] for name, text in texts.items()}

@@ -1,5 +1,6 @@
 """What the tests share, and embed/archive with them: the kit's command rt as a module, with its checks of wrong bodies
 and its builds, and how many provers may run side by side."""
+import functools
 import importlib.machinery
 import importlib.util
 import os
@@ -14,12 +15,19 @@ ONE_PROVER = 3 << 20  # of memory, in KiB
 saying = threading.Lock()
 
 
+def module(name, path):
+    """A script as a module."""
+    sys.dont_write_bytecode = True
+    loader = importlib.machinery.SourceFileLoader(name, str(path))
+    made = importlib.util.module_from_spec(importlib.util.spec_from_loader(name, loader))
+    loader.exec_module(made)
+    return made
+
+
+@functools.cache
 def rt():
     place = shutil.which("rt") or sys.exit("there is no rt on the path, the command of Rattle's kit")
-    sys.dont_write_bytecode = True
-    loader = importlib.machinery.SourceFileLoader("rt", os.path.realpath(place))
-    made = importlib.util.module_from_spec(importlib.util.spec_from_loader("rt", loader))
-    loader.exec_module(made)
+    made = module("rt", os.path.realpath(place))
     made.rtlib.guarded()
     return made
 
