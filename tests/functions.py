@@ -17,12 +17,14 @@ NO_DEED = re.compile(r"(?!.*\b(for|while|loop|if|else|match|return|break|continu
 
 
 class Function(NamedTuple):
-    """Its name, with that of the type or trait around it, and where it, its body and what follows it begin."""
+    """Its name, with that of the type or trait around it; where it, its body and what follows it begin; and where the impl
+    or the trait around it does, if there is one."""
 
     name: str
     start: int
     body: int
     end: int
+    owner: int
 
 
 class Call(NamedTuple):
@@ -105,17 +107,16 @@ class File:
         return self.words[behind(self.words, i, "<", ">") if self.words[i + 1] == "<" else i + 1 : self.up_to(i, "{")]
 
     def functions_in(self):
-        owner, close, i = "", 0, 0
+        owner, around, close, i = "", None, 0, 0
         while i < len(self.words):
-            owner = owner if i < close else ""
+            owner, around = (owner, around) if i < close else ("", None)
             if self.words[i] in ("impl", "trait"):
-                head, end = self.head_of(i), self.up_to(i, "{")
-                owner, close = head[head.index("for") + 1 if "for" in head else 0], self.partner[end]
-                i = end
+                head, around, i = self.head_of(i), i, self.up_to(i, "{")
+                owner, close = head[head.index("for") + 1 if "for" in head else 0], self.partner[i]
             elif self.words[i] == "fn":
                 body = self.up_to(i, "{", ";")
                 end = self.partner.get(body, body) + 1
-                yield Function(f"{owner}::{self.words[i + 1]}" if owner else self.words[i + 1], i, body, end)
+                yield Function(f"{owner}::{self.words[i + 1]}" if owner else self.words[i + 1], i, body, end, around)
                 i = end - 1
             i += 1
 

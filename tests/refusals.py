@@ -1,10 +1,11 @@
 """Wrong bodies of crates, crates/NAME/must-fail/*.edit: the prover must refuse each.
 
-One check tries many wrong bodies of a crate, and proves no other function but those that they call. A wrong body stands in
-a copy of its function, with the files of its proof, of another name, so that the others call the right one. A function of
-a trait is edited in its place, by one body a check. A wrong body is refused where a goal of its own function is open. Where it stands in no function, or another one's goal shows it, a line `refused in: NAME` of the edit, which rt passes
-over, names that one, and the wrong body has a check for itself. What isn't refused so is tried as rt must-fail does. All
-checks of a crate keep what they proved in one folder, for the next.
+rt must-fail proves a whole crate for each wrong body. Here one check tries many of a crate, and proves no other function
+but those that they call. A wrong body stands in a copy of its function, with the files of its proof, of another name, so
+that the others call the right one. A function of a trait is edited in its place, by one body a check. A wrong body is
+refused where a goal of its own function is open. Where it stands in no function, or another one's goal shows it, a line
+`refused in: NAME` of the edit, which rt passes over, names that one, and the wrong body has a check for itself. What isn't
+refused so is tried as rt must-fail does. All checks of a crate keep what they proved in one folder, for the next.
 """
 import collections
 import os
@@ -16,10 +17,9 @@ import tempfile
 from typing import NamedTuple
 
 import kit
+from functions import files_of
 
-HEAD = re.compile(r"( *)(?:pub(?:\([a-z]+\))? )?(?:const )?(?:unsafe )?(?:extern \"C\" )?fn (\w+)")
-OWNER = re.compile(r"(?:pub )?(?:impl|trait)\b")
-KIND = re.compile(r"impl(?:<.*?>)? (?:(?:\w+::)*(\w+)(?:<.*>)? for )?(\w+)")
+HEAD = re.compile(r"[^#/]*\bfn \w+")
 TOLD = re.compile(r"(?:note: )?(?:\./)?(\S+?):(\d+):\d+: (.*)")
 
 
@@ -43,27 +43,25 @@ class Body(NamedTuple):
     proof: dict = {}
 
 
-def function_at(lines, at):
+def function_at(file, lines, at):
     """The function that has the line. None where there is none."""
-    for number in range(at, -1, -1):
-        head = HEAD.match(lines[number])
-        if not head:
-            continue
-        indent = head[1]
-        opens = (f"{indent}{{", f"{indent})")
-        first = next(it for it in range(number, len(lines)) if it == number and lines[it].endswith("{") or lines[it].startswith(opens) and lines[it].endswith("{"))
-        last = next(it for it in range(first, len(lines)) if lines[it] == f"{indent}}}")
-        if at != number and not first <= at <= last:
-            continue
-        while number and lines[number - 1].startswith(f"{indent}#["):
-            number -= 1
-        owner = next((it for it in range(number, -1, -1) if OWNER.match(lines[it])), number) if indent else number
-        kind = KIND.match(lines[owner]) if indent else None
-        name = f"{kind[2]}{kind[1] or ''}::{head[2]}" if kind else head[2]
-        opening = [it for it in lines[owner:number] if it == lines[owner] or it.startswith(f"{indent}ghost use ")]
-        is_free = not indent or kind and not kind[1] and lines[owner].endswith("{")
-        return Function(name, number + 1, last + 1, tuple(opening) if is_free else None)
-    return None
+    for one in file.functions:
+        first, last = file.lines[one.start], file.lines[one.end - 1]
+        while lines[first - 2].lstrip().startswith("#["):
+            first -= 1
+        if first <= at + 1 <= last:
+            break
+    else:
+        return None
+    name = file.words[one.start + 1]
+    if one.owner is None:
+        return Function(name, first, last, ())
+    of, _, to = " ".join(file.head_of(one.owner)).rpartition(" for ")
+    is_impl, opens = file.words[one.owner] == "impl", file.lines[one.owner] - 1
+    trait = re.sub(r" <.*", "", of).split(" ")[-1]
+    uses = [line for line in lines[opens:first] if line.startswith("    ghost use ")]
+    owner = (lines[opens], *uses) if is_impl and not trait and lines[opens].endswith("{") else None
+    return Function(f"{to.split()[0]}{trait}::{name}" if is_impl else name, first, last, owner)
 
 
 def proof_of(folder, name, number):
@@ -94,15 +92,17 @@ def changed(folder, texts):
     changes what is in no function."""
     found, is_within = set(), True
     for path, text in texts.items():
-        old, new = pathlib.Path(folder, path).read_text().split("\n"), text.split("\n")
+        before = pathlib.Path(folder, path).read_text()
+        old, new = before.split("\n"), text.split("\n")
         if len(old) != len(new) or not path.startswith("src/"):
             return None
+        file = files_of({path: before})[path]
         for at, line in enumerate(old):
             if line == new[at]:
                 continue
             if line.startswith("use "):
                 is_within = False
-            elif one := function_at(old, at):
+            elif one := function_at(file, old, at):
                 found.add((path, one))
             else:
                 return None
