@@ -11,7 +11,7 @@ import sys
 import threading
 
 TOP = pathlib.Path(__file__).resolve().parent.parent
-ONE_PROVER = 3 << 20  # of memory, in KiB
+ONE_PROVER = 9 << 18  # of memory, in KiB: a fourth of what the four take together that take most
 saying = threading.Lock()
 
 
