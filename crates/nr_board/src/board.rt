@@ -39,9 +39,9 @@ ghost use Rattle.nr_board.specs.WriterSeats.{GoesOn, IsBetween, IsReading, IsPol
 
 use crate::only_proved::only_proved;
 use crate::rule::{
-    Arrives, Asks, BegunCall, Confirms, Departs, FindsAgain, GivesUp, Goes, Hears, Law, Looks,
-    LooksUp, Nears, Notes, Probes, Puts, Reads, Recalls, Retells, Says, Scans, Searches, Seats,
-    Sees, Tries,
+    Arrives, Asks, BegunCall, Confirms, Departs, FindsAgain, GivesUp, Goes, Hears, Looks, LooksUp,
+    Nears, Notes, Probes, Puts, Reads, Recalls, Retells, Rule, Says, Scans, Searches, Seats, Sees,
+    Tries,
 };
 use crate::two_seats::take_in;
 use crate::view::View;
@@ -65,7 +65,7 @@ pub struct Plan {
 /// The words of a map of one shape. Only a seat of it can make a step.
 #[derive(Drop)]
 pub struct Board {
-    table: Table<(), View, Plan, Law, Global>,
+    table: Table<(), View, Plan, Rule, Global>,
     plan: Plan,
 }
 
@@ -517,7 +517,7 @@ impl Board {
     {
         let words = &self.table.shared;
         let Note { seat: mut told } = note;
-        take_in::<(), View, Plan, Law, Hears>(words, seat, &mut told);
+        take_in::<(), View, Plan, Rule, Hears>(words, seat, &mut told);
     }
 
     /// The token takes a note in, in 1 step.

@@ -8,9 +8,9 @@ use crate::view::View;
 use atomic_table::{Join, Play, Split, TableRule};
 use std::marker::{Brand, PhantomData};
 
-pub struct Law;
+pub struct Rule;
 
-impl TableRule<(), View, Plan> for Law {
+impl TableRule<(), View, Plan> for Rule {
     ghost use Rattle.nr_board.specs.Views.{opener};
     ghost use Rattle.nr_board.specs.Rule.{Kept};
 

@@ -1,7 +1,7 @@
 -- What opens a queue of requests and its handles.
 use Rattle.std.specs.Prelude.{ℕ, ◌≡◌, ◌↔◌, ◌⊎◌, List, [], ◌∷◌, ◌++◌, ⊤}
 use Rattle.nr_model.specs.Sizes.{IsBadSize}
-use Rattle.nr_machine.specs.declared.shape.TheConstants.{MOST_READERS, MOST_SLOTS}
+use Rattle.nr_machine.specs.declared.shape.TheConstants.{MAX_LARGE_READERS, MAX_LARGE_SLOTS}
 use Rattle.nr_trigger.specs.Tokens.{IsOpenedQueue, PosterSeen}
 use Rattle.nr_c.specs.Numbers.{answer_bad_size, answer_done, answer_no_memory, answer_no_poster}
 use Rattle.nr_c.specs.declared.poster_side.PosterSide.{PosterSide}
@@ -18,7 +18,7 @@ OpensNew capacity posters keys code after =
 
 -- an opening by its code: sizes out of their limits are refused
 abbrev pub OpensQueue : ℕ → ℕ → ℕ → ℕ → List TakerSide → Type 0
-OpensQueue capacity posters keys code after = ((code ≡ answer_bad_size) ↔ (IsBadSize MOST_SLOTS capacity ⊎ IsBadSize MOST_READERS posters)) × OpensNew capacity posters keys code after
+OpensQueue capacity posters keys code after = ((code ≡ answer_bad_size) ↔ (IsBadSize MAX_LARGE_SLOTS capacity ⊎ IsBadSize MAX_LARGE_READERS posters)) × OpensNew capacity posters keys code after
 
 -- the taker's handle leads to one side, of the same queue and with the same taker, and these posters have no handle
 pub record KeepsTaker (before after : List TakerSide) (had has : List PosterSeen) : Type 0 where

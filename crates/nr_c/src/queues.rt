@@ -1,7 +1,7 @@
 //! What opens a queue of requests and its handles, and what ends them.
 ghost use Rattle.std.specs.Prelude.{◌≡◌, ◌↔◌, ◌⊎◌, ℕ, [], Err, IfOk, IfErr};
 ghost use Rattle.nr_model.specs.Sizes.{IsBadSize};
-ghost use Rattle.nr_machine.specs.declared.shape.TheConstants.{MOST_READERS, MOST_SLOTS};
+ghost use Rattle.nr_machine.specs.declared.shape.TheConstants.{MAX_LARGE_READERS, MAX_LARGE_SLOTS};
 ghost use Rattle.nr_c.specs.Live.{WhenBothLive, WhenEmpty, WhenOther};
 ghost use Rattle.nr_c.specs.Queues.{IsNewQueue, OneQueue, OpensQueue, ReturnsPoster, TakesPoster};
 
@@ -51,7 +51,7 @@ fn opened_queue(
 ) -> Result<Box<TakerSide, Global>, OpenFault>
     ghost below: { ℕ }
     requires told { below ≡ keys }
-    ensures bad_size { (result ≡ Err OpenFault.BadSize) ↔ (IsBadSize MOST_SLOTS capacity ⊎ IsBadSize MOST_READERS posters) }
+    ensures bad_size { (result ≡ Err OpenFault.BadSize) ↔ (IsBadSize MAX_LARGE_SLOTS capacity ⊎ IsBadSize MAX_LARGE_READERS posters) }
     ensures ok { IfOk result (λ side. IsNewQueue capacity posters keys side.value) }
 {
     let (queue, spare, taker) = Triggers::open_large(alloc, capacity, posters)?;

@@ -11,8 +11,9 @@ pub mod laws;
 mod reached;
 
 pub use nr_machine::{
-    Arrived, AskReply, Desk, Grip, Hold, MAX_READERS, MAX_SLOTS, MOST_READERS, MOST_SLOTS, NoSlot,
-    Operation, Place, Refusal, Retired, Role, Shape, Spare, Step, WReply, WriterCall,
+    Arrived, AskReply, Desk, Grip, Hold, MAX_LARGE_READERS, MAX_LARGE_SLOTS, MAX_READERS,
+    MAX_SLOTS, NoSlot, Operation, Place, Refusal, Retired, Role, Shape, Spare, Step, WReply,
+    WriterCall,
 };
 pub use nr_model::OpenFault;
 pub use reached::Core;

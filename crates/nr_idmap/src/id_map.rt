@@ -4,7 +4,7 @@ ghost use Rattle.nr_idmap.specs.IdOpenings.{IsBadIdShape, shape_of};
 ghost use Rattle.nr_machine.specs.Sizes.{IsBadLargeShape};
 
 use nr_ids::{Directory, MAX_GROUPS};
-use nr_map::{MOST_READERS, MOST_SLOTS, ReaderMap, Shape};
+use nr_map::{MAX_LARGE_READERS, MAX_LARGE_SLOTS, ReaderMap, Shape};
 use nr_model::{LAST_NUMBER, MAX_ROWS, is_bad_size};
 use std::marker::Model;
 
@@ -48,8 +48,8 @@ impl IdShape {
         ensures { IsTrue result ↔ IsBadIdShape self.now }
     {
         is_bad_size(MAX_GROUPS, self.groups)
-            || is_bad_size(MOST_SLOTS, self.slots)
-            || is_bad_size(MOST_READERS - 1, self.readers)
+            || is_bad_size(MAX_LARGE_SLOTS, self.slots)
+            || is_bad_size(MAX_LARGE_READERS - 1, self.readers)
             || is_bad_size(MAX_ROWS as u32 - 1, self.rows)
             || self.first_number > LAST_NUMBER
     }

@@ -7,7 +7,7 @@ ghost use Rattle.nr_ids.specs.Scans.{Scanned};
 ghost use Rattle.nr_ids.specs.Tokens.{Grows, Sits, WinsClaim, token};
 
 use crate::plan::Plan;
-use crate::rule::{Claims, Clears, Law, LooksAtName, LooksAtTurn, Names, Notes, Seats, Unnames};
+use crate::rule::{Claims, Clears, LooksAtName, LooksAtTurn, Names, Notes, Rule, Seats, Unnames};
 use crate::view::View;
 use atomic_table::Table;
 use std::alloc::{AllocError, Global};
@@ -20,7 +20,7 @@ pub(crate) type Seat = atomic_table::Seat<u64, View>;
 /// step.
 #[derive(Drop)]
 pub struct Directory {
-    table: Table<u64, View, Plan, Law, Global>,
+    table: Table<u64, View, Plan, Rule, Global>,
     plan: Plan,
 }
 

@@ -3,9 +3,9 @@ use crate::plan::Plan;
 use crate::view::View;
 use atomic_table::{Join, Play, Split, TableRule};
 
-pub struct Law;
+pub struct Rule;
 
-impl TableRule<u64, View, Plan> for Law {
+impl TableRule<u64, View, Plan> for Rule {
     ghost use Rattle.nr_ids.specs.Rule.{Kept, opener};
 
     ghost holds = { Kept };

@@ -46,5 +46,5 @@ pub use operation::Operation;
 pub use outcome::Outcome;
 pub use places::{Hold, Place, Retired};
 pub use roles::{Desk, Grip, Role};
-pub use shape::{MAX_READERS, MAX_SLOTS, MOST_READERS, MOST_SLOTS, Shape};
+pub use shape::{MAX_LARGE_READERS, MAX_LARGE_SLOTS, MAX_READERS, MAX_SLOTS, Shape};
 pub use spare::Spare;

@@ -10,10 +10,10 @@ pub const MAX_SLOTS: u32 = 131_072;
 pub const MAX_READERS: u32 = 1_024;
 
 /// The largest number of slots of a large map.
-pub const MOST_SLOTS: u32 = 4_194_303;
+pub const MAX_LARGE_SLOTS: u32 = 4_194_303;
 
 /// The largest number of readers of a large map.
-pub const MOST_READERS: u32 = 65_535;
+pub const MAX_LARGE_READERS: u32 = 65_535;
 
 /// How many keys, slots and readers a map has, the count at which every slot starts, the number
 /// at which every key's requests start, and how many rows a key may have.
@@ -49,9 +49,9 @@ impl Shape {
     pub fn is_bad_large(&self) -> bool
         ensures { IsTrue result ↔ IsBadLargeShape self.now }
     {
-        is_bad_size(MOST_SLOTS, self.slots)
+        is_bad_size(MAX_LARGE_SLOTS, self.slots)
             || self.keys == 0
-            || is_bad_size(MOST_READERS, self.readers)
+            || is_bad_size(MAX_LARGE_READERS, self.readers)
             || self.is_bad_for_keys()
     }
     // Whether a key can't begin at the first number, or can't have that many rows.

@@ -43,7 +43,7 @@ pub use notes::Note;
 pub use nr_board::{
     Cancel, Evict, FillFault, Found, KeyKind, Reaped, Reclaimed, ReplaceFault, UpdateFault,
 };
-pub use nr_core::{MAX_READERS, MAX_SLOTS, MOST_READERS, MOST_SLOTS, NoSlot, Shape};
+pub use nr_core::{MAX_LARGE_READERS, MAX_LARGE_SLOTS, MAX_READERS, MAX_SLOTS, NoSlot, Shape};
 pub use pin::Pin;
 pub use reader::Reader;
 pub use reader_map::ReaderMap;

@@ -4,12 +4,12 @@ ghost use Rattle.nr_held.specs.Caches.{AreOf, IsOf};
 
 use crate::calls::{Told, ask, fill, rows_of};
 use nr_held::Cache;
-use nr_map::{Found, Hand, MOST_READERS, Reader, ReaderMap, Shape, Writer};
+use nr_map::{Found, Hand, MAX_LARGE_READERS, Reader, ReaderMap, Shape, Writer};
 use nr_model::RowSet;
 use std::process::Abort;
 
 // One reader makes what finds the hands don't, and each other one has a hand.
-const HANDS: u32 = MOST_READERS - 1;
+const HANDS: u32 = MAX_LARGE_READERS - 1;
 
 // A hand can't be dropped.
 fn end(map: &ReaderMap, mut hands: Vec<Hand>)
@@ -76,7 +76,7 @@ fn the_largest_cache_finds(rt: HostRuntime) {
     let shape = Shape {
         keys: HANDS,
         slots: HANDS,
-        readers: MOST_READERS,
+        readers: MAX_LARGE_READERS,
         first_count: 0,
         first_number: 0,
         rows: 1,

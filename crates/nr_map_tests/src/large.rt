@@ -2,7 +2,7 @@
 
 use crate::calls::{Told, minus, plus};
 use crate::worked::Worked;
-use nr_map::{MAX_READERS, MAX_SLOTS, MOST_SLOTS, Shape, UpdateFault};
+use nr_map::{MAX_LARGE_SLOTS, MAX_READERS, MAX_SLOTS, Shape, UpdateFault};
 use nr_model::{MAX_KEYS, MAX_ROWS, Row, RowSet};
 use std::process::Abort;
 
@@ -51,7 +51,7 @@ fn fills_and_finds_many<R: Abort>(rt: &R, worked: &mut Worked) {
 
 #[test]
 fn keys_of_the_largest_map_are_found(rt: HostRuntime) {
-    let shape = of_sizes(MOST_SLOTS, MOST_SLOTS, 1, 1);
+    let shape = of_sizes(MAX_LARGE_SLOTS, MAX_LARGE_SLOTS, 1, 1);
     let mut worked = Worked::open_large(&rt, &shape);
     fills_and_finds_many(&rt, &mut worked);
 }

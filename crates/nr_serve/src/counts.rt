@@ -24,9 +24,9 @@ impl Model for View {
     ghost view = { λ _. new_guest };
 }
 
-pub struct Law;
+pub struct Rule;
 
-impl TableRule<(), View, ()> for Law {
+impl TableRule<(), View, ()> for Rule {
     ghost use Rattle.nr_serve.specs.Counts.{AreCounts, new_guest};
 
     ghost holds = { λ _. AreCounts };
@@ -75,7 +75,7 @@ impl Model for Guest {
 /// The numbers that the guests of a lobby share.
 #[derive(Drop)]
 pub(crate) struct Counts {
-    table: Table<(), View, (), Law, Global>,
+    table: Table<(), View, (), Rule, Global>,
 }
 
 impl Model for Counts {

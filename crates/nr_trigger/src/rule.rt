@@ -6,9 +6,9 @@ use crate::view::View;
 use crossbeam_queue::protocol::{Lesson, Outcome, Protocol, Split};
 use std::marker::{Brand, PhantomData};
 
-pub struct Law;
+pub struct Rule;
 
-impl Protocol<Post, View> for Law {
+impl Protocol<Post, View> for Rule {
     ghost use Rattle.nr_trigger.specs.Views.{Opener};
     ghost use Rattle.nr_trigger.specs.Delivers.{Delivers};
 

@@ -10,12 +10,12 @@ ghost use Rattle.nr_trigger.specs.Views.{Opener};
 use crate::attempts::Attempts;
 use crate::faults::{PostFault, TakeFault};
 use crate::post::{Post, Upquery};
-use crate::rule::{Begins, Law, Limit, Seats};
+use crate::rule::{Begins, Limit, Rule, Seats};
 use crate::tokens::{Poster, Taker};
 use crate::trigger::Trigger;
 use crate::view::View;
 use crossbeam_queue::{Pass, RuledArrayQueue};
-use nr_map::{MOST_READERS, MOST_SLOTS, Note, ReaderMap, Ticket};
+use nr_map::{MAX_LARGE_READERS, MAX_LARGE_SLOTS, Note, ReaderMap, Ticket};
 use nr_model::{OpenFault, is_bad_size};
 use std::alloc::{AllocError, Global};
 use std::marker::{Brand, Model};
@@ -28,7 +28,7 @@ pub const MAX_POSTERS: u32 = 1024;
 /// Tickets on their way, shared by the posters and the taker.
 #[derive(Drop)]
 pub struct Triggers {
-    pub(crate) queue: RuledArrayQueue<Post, View, Law>,
+    pub(crate) queue: RuledArrayQueue<Post, View, Rule>,
 }
 
 impl Model for Triggers {
@@ -70,7 +70,7 @@ impl Triggers {
         ensures bad_size { (result ≡ Err OpenFault.BadSize) ↔ (IsBadSize 4194303 capacity ⊎ IsBadSize 65535 posters) }
         ensures ok { IfOk result (λ opened. IsOpenedQueue capacity posters keys opened.0 opened.1.items opened.2) }
     {
-        if is_bad_size(MOST_SLOTS, capacity) || is_bad_size(MOST_READERS, posters) {
+        if is_bad_size(MAX_LARGE_SLOTS, capacity) || is_bad_size(MAX_LARGE_READERS, posters) {
             return Err(OpenFault::BadSize);
         }
         seated(alloc, capacity, posters).map_err(|_| OpenFault::Memory)
@@ -86,7 +86,7 @@ impl Triggers {
         ensures bad_size { (result ≡ Err OpenFault.BadSize) ↔ (IsBadSize 4194303 capacity ⊎ IsBadSize 65535 posters) }
         ensures ok { IfOk result (λ opened. IsOpenedWithin (of_map map.now) capacity posters opened.0 opened.1.items opened.2) }
     {
-        if is_bad_size(MOST_SLOTS, capacity) || is_bad_size(MOST_READERS, posters) {
+        if is_bad_size(MAX_LARGE_SLOTS, capacity) || is_bad_size(MAX_LARGE_READERS, posters) {
             return Err(OpenFault::BadSize);
         }
         seated_for(alloc, map, capacity, posters).map_err(|_| OpenFault::Memory)
