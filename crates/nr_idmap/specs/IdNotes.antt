@@ -2,12 +2,16 @@
 use Rattle.std.specs.Prelude.{◌≡◌}
 use Rattle.nr_board.specs.Meetings.{Gathers, HearsNote, Known, known_to, with_step}
 use Rattle.nr_ids.specs.Tokens as ids
-use Rattle.nr_idmap.specs.Keepers.{IdCaller, Keeper}
+use Rattle.nr_idmap.specs.Keepers.{IdCaller, IdTable, Keeper}
 
 -- what a note tells of the map, and of the directory
 pub record IdKnown : Type 0 where
   pub map : Known
   pub ids : ids.Known
+
+-- of which map over ids it tells
+abbrev pub note_table_of : IdKnown → IdTable
+note_table_of note = record { map = note.map.table; directory = note.ids.directory }
 
 abbrev pub known_to_reader : IdCaller → IdKnown
 known_to_reader reader = record { map = known_to reader.caller; ids = ids.known_to reader.ids }

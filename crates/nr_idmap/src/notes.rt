@@ -2,7 +2,7 @@
 ghost use Rattle.std.specs.Prelude.{◌≡◌};
 ghost use Rattle.nr_board.specs.Meetings.{known_to, with_step};
 ghost use Rattle.nr_ids.specs.Tokens as ids;
-ghost use Rattle.nr_idmap.specs.IdNotes.{HearsIdNote, GathersById, known_to_reader, with_steps_of_note};
+ghost use Rattle.nr_idmap.specs.IdNotes.{HearsIdNote, GathersById, known_to_reader, note_table_of, with_steps_of_note};
 ghost use Rattle.nr_idmap.specs.Keepers.{OwesSame, id_table_of};
 
 use crate::id_map::IdMap;
@@ -34,6 +34,7 @@ impl IdMap {
         requires own { id_table_of reader.old ≡ self.now }
         ensures reader { reader.new ≡ with_steps_of_note reader.old }
         ensures note { result ≡ known_to_reader reader.old }
+        ensures of { note_table_of result ≡ self.now }
     {
         IdNote {
             map: self.map.note(&mut reader.reader),
@@ -50,6 +51,7 @@ impl IdMap {
         ensures clerk { writer.new.clerk ≡ ids.with_step writer.old.clerk }
         ensures asker { writer.new.asker ≡ writer.old.asker }
         ensures note { result ≡ record { map = known_to writer.old.writer; ids = ids.known_to writer.old.clerk } }
+        ensures of { note_table_of result ≡ self.now }
         ensures owes { OwesSame writer.old writer.new }
     {
         IdNote {
@@ -62,7 +64,7 @@ impl IdMap {
     /// seen.
     pub fn hear(&self, reader: &mut IdReader, note: IdNote)
         requires own { id_table_of reader.old ≡ self.now }
-        requires note { record { map = note.map.table; directory = note.ids.directory } ≡ self.now }
+        requires note { note_table_of note ≡ self.now }
         ensures own { id_table_of reader.new ≡ self.now }
         ensures hears { HearsIdNote reader.old note reader.new }
     {
