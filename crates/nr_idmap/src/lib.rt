@@ -28,5 +28,5 @@ pub use nr_map::{Evict, NoSlot, Reaped, Reclaimed, ReplaceFault, UpdateFault};
 pub use nr_model::OpenFault;
 pub use rows::{are_id_deltas, are_id_rows};
 pub use tokens::{IdReader, IdWriter};
-pub use upqueries::{Unfilled, Upquery, Withdrawn};
+pub use upqueries::{ClosedMap, Unfilled, Upquery, Withdrawn};
 pub use writes::IdFault;

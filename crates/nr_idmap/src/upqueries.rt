@@ -17,7 +17,7 @@ use std::marker::Model;
 use std::snapshot::Snapshot;
 
 /// An upquery that is to be sent, for one absence of one id. Only an admission makes it. It can't be
-/// dropped: it is open until a fill or a withdrawal spends it.
+/// dropped: it is open until a fill or a withdrawal spends it, or its map is gone.
 pub struct Upquery {
     way: u32,
     number: u64,
@@ -58,18 +58,13 @@ impl Upquery {
         self.number
     }
 
-    /// The id whose rows are wanted. The upquery is given up: it is open still, and nobody can fill it or
-    /// withdraw it any more.
-    pub fn into_id(self) -> u64
+    /// Ends an upquery of a map that is gone: the id whose rows were wanted.
+    pub fn end(self, map: &ClosedMap) -> u64
+        requires of { self.table ≡ map.now }
         ensures { result ≡ self.owed.id }
     {
-        let Upquery {
-            way: _,
-            number: _,
-            id,
-            map: _,
-        } = self;
-        id
+        let _gone = &map.map;
+        self.into_parts().2
     }
 
     pub(crate) fn into_parts(self) -> (u32, u64, u64)
@@ -84,6 +79,21 @@ impl Upquery {
         } = self;
         (way, number, id)
     }
+}
+
+/// A map that is gone. Nobody fills or withdraws its upqueries any more, so those that are open end
+/// with it.
+#[derive(Drop)]
+pub struct ClosedMap {
+    map: Snapshot<IdMap>,
+}
+
+impl Model for ClosedMap {
+    ghost use Rattle.nr_idmap.specs.Keepers.{IdTable};
+
+    ghost Value = { IdTable };
+
+    ghost view = { λ closed. closed.map.value };
 }
 
 /// Why an upquery isn't filled.
@@ -184,6 +194,15 @@ impl IdMap {
             }
             Cancel::Nothing => Withdrawn::Closed,
             Cancel::Worn => Withdrawn::Worn(self.upquery(way, number, id)),
+        }
+    }
+
+    /// Ends the map. Takes no step.
+    pub fn close(self) -> ClosedMap
+        ensures { result ≡ self }
+    {
+        ClosedMap {
+            map: Snapshot::of(&self),
         }
     }
 

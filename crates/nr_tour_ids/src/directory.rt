@@ -1,7 +1,9 @@
 //! A directory of two groups.
+ghost use Rattle.std.specs.Prelude.{◌≡◌};
+
 use crate::admitting::show_misses;
 use crate::notes::show_notes;
-use nr_ids::{Directory, Plan};
+use nr_ids::{Clerk, Directory, Plan};
 use std::io::Print;
 
 /// Ids get ways and lose them.
@@ -9,12 +11,19 @@ pub fn show_directory<R: AllocGlobal + Print>(rt: &R) -> anyhow::Result<()> {
     // The key of a program that serves strangers is drawn at random.
     let plan = Plan { groups: 2, key: 5 };
     let (directory, mut clerk) = Directory::open(rt.alloc(), plan)?;
-    let mut reader = directory.reader(&mut clerk);
-    println!(rt;
-        "{} groups, too many: {}",
-        directory.plan().groups,
-        plan.is_bad()
-    )?;
-    show_misses(rt, &directory, &mut clerk, &mut reader)?;
-    show_notes(rt, &directory, &mut clerk, &mut reader)
+    show_ways(rt, &directory, &mut clerk)
+}
+
+fn show_ways<R: AllocGlobal + Print>(
+    rt: &R,
+    directory: &Directory,
+    clerk: &mut Clerk,
+) -> anyhow::Result<()>
+    requires { clerk.old.directory ≡ directory.now }
+{
+    let plan = directory.plan();
+    let mut reader = directory.reader(clerk);
+    println!(rt; "{} groups, too many: {}", plan.groups, plan.is_bad())?;
+    show_misses(rt, directory, clerk, &mut reader)?;
+    show_notes(rt, directory, clerk, &mut reader)
 }
