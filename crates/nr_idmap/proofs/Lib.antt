@@ -11,3 +11,4 @@ mod Asking
 mod Finding
 mod Opening
 mod Giving
+mod Looking

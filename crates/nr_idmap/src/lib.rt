@@ -12,6 +12,7 @@ mod evictions;
 mod finds;
 mod id_map;
 pub mod laws;
+mod looks;
 mod notes;
 mod openings;
 mod reclaiming;
@@ -22,6 +23,7 @@ mod writes;
 
 pub use finds::FoundId;
 pub use id_map::{IdMap, IdShape};
+pub use looks::Looked;
 pub use notes::IdNote;
 pub use nr_ids::{Claim, Refused, Requested};
 pub use nr_map::{Evict, NoSlot, Reaped, Reclaimed, ReplaceFault, UpdateFault};
