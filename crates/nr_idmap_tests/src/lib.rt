@@ -8,4 +8,6 @@ mod reclaiming;
 #[cfg(test)]
 mod refusals;
 #[cfg(test)]
+mod threads;
+#[cfg(test)]
 mod view;

@@ -1,7 +1,6 @@
 //! Each refusal, and what stays after it.
-use crate::view::{SMALL, Saw, View, minus, plus, row};
-use nr_idmap::{Evict, IdFault, IdMap, IdShape, OpenFault, Refused, ReplaceFault, UpdateFault};
-use std::process::Abort;
+use crate::view::{SMALL, View, minus, plus, row};
+use nr_idmap::{Evict, FoundId, IdFault, IdShape, NoSlot, Refused, ReplaceFault, UpdateFault};
 
 const LAST: u64 = 4_194_303;
 
@@ -24,74 +23,74 @@ fn bad_sizes_are_refused(rt: HostRuntime) {
             ..SMALL
         },
     ] {
-        let opened = IdMap::open(rt.alloc(), &shape);
-        assert!(rt; shape.is_bad() && matches!(opened, Err(OpenFault::BadSize)));
+        View::is_bad(&rt, &shape);
     }
 }
 
 #[test]
 fn an_id_without_a_claim_is_not_admitted(rt: HostRuntime) {
     let mut view = View::open(&rt, &SMALL);
-    assert_eq!(rt; view.refuses(&rt, 5), Refused::NoClaim);
-    assert_eq!(rt; view.finds(5), Saw::Absent);
+    view.refuses(&rt, 5, Refused::NoClaim);
+    view.misses(&rt, 5, FoundId::Absent);
+    view.close();
 }
 
 #[test]
 fn an_id_that_has_a_way_is_not_admitted_again(rt: HostRuntime) {
     let mut view = View::open(&rt, &SMALL);
-    assert!(rt; view.takes_in(&rt, 5, &[row(5, 5)]));
-    assert!(rt; view.claims(6));
-    assert_eq!(rt; view.refuses(&rt, 5), Refused::Named(7));
-    assert_eq!(rt; view.finds(5), Saw::Row(row(5, 5)));
+    view.takes_in(&rt, 5, &[row(5, 5)]);
+    view.claims(&rt, 6);
+    view.refuses(&rt, 5, Refused::Named(7));
+    view.finds(&rt, 5, &[row(5, 5)]);
+    view.close();
 }
 
 #[test]
 fn a_full_group_admits_none(rt: HostRuntime) {
     let mut view = View::open(&rt, &SMALL);
     for id in 1..9 {
-        assert!(rt; view.takes_in(&rt, id, &[row(id, id)]));
+        view.takes_in(&rt, id, &[row(id, id)]);
     }
-    assert!(rt; view.claims(9));
-    assert_eq!(rt; view.refuses(&rt, 9), Refused::Full);
+    view.claims(&rt, 9);
+    view.refuses(&rt, 9, Refused::Full);
     // The claim is open still, so the id is admitted once a way has lost its name.
-    assert_eq!(rt; view.evicts(4), Evict::Evicted);
-    assert!(rt; view.admits(&rt, 9, &[row(9, 9)]));
+    view.evicts(&rt, 4, Evict::Evicted);
+    view.admits(&rt, 9, &[row(9, 9)]);
+    view.close();
 }
 
 #[test]
 fn writes_of_absent_ids_are_refused(rt: HostRuntime) {
     let mut view = View::open(&rt, &SMALL);
-    assert_eq!(rt; view.updates(&rt, 5, &[plus(1, 1)]), Err(IdFault::Absent));
-    assert_eq!(rt; view.replaces(&rt, 5, &[row(1, 1)]), Err(IdFault::Absent));
-    assert_eq!(rt; view.evicts(5), Evict::Nothing);
+    view.updates(&rt, 5, &[plus(1, 1)], Err(IdFault::Absent));
+    view.replaces(&rt, 5, &[row(1, 1)], Err(IdFault::Absent));
+    view.evicts(&rt, 5, Evict::Nothing);
+    view.close();
 }
 
 #[test]
 fn updates_that_do_not_fit_are_refused(rt: HostRuntime) {
     let mut view = View::open(&rt, &SMALL);
-    assert!(rt; view.takes_in(&rt, 5, &[row(2, 2)]));
-    assert_eq!(rt;
-        view.updates(&rt, 5, &[minus(1, 1)]),
-        Err(IdFault::Refused(UpdateFault::NoRow))
-    );
+    view.takes_in(&rt, 5, &[row(2, 2)]);
+    let no_row = IdFault::Refused(UpdateFault::NoRow);
+    view.updates(&rt, 5, &[minus(1, 1)], Err(no_row));
     let more = [plus(1, 1), plus(1, 2), plus(1, 3), plus(1, 4)];
-    assert_eq!(rt;
-        view.updates(&rt, 5, &more),
-        Err(IdFault::Refused(UpdateFault::TooMany))
-    );
-    assert_eq!(rt; view.finds(5), Saw::Row(row(2, 2)));
+    view.updates(&rt, 5, &more, Err(IdFault::Refused(UpdateFault::TooMany)));
+    view.finds(&rt, 5, &[row(2, 2)]);
+    view.close();
 }
 
 // One slot: the first id has it, and no write finds another.
 #[test]
 fn without_a_slot_the_upquery_comes_back(rt: HostRuntime) {
     let mut view = View::open(&rt, &IdShape { slots: 1, ..SMALL });
-    assert!(rt; view.takes_in(&rt, 5, &[row(5, 5)]));
-    let replaced = view.replaces(&rt, 5, &[row(1, 1)]);
-    assert!(rt; matches!(replaced, Err(IdFault::Refused(ReplaceFault::NoSlot(_)))));
-    assert!(rt; view.claims(6));
-    assert_eq!(rt; view.fills_late(&rt, 6, 5), 1);
-    assert_eq!(rt; view.finds(6), Saw::Empty);
+    view.takes_in(&rt, 5, &[row(5, 5)]);
+    let no_slot = ReplaceFault::NoSlot(NoSlot { live: 1, held: 0 });
+    view.replaces(&rt, 5, &[row(1, 1)], Err(IdFault::Refused(no_slot)));
+    view.claims(&rt, 6);
+    view.fills_late(&rt, 6, 1, 5);
+    view.finds(&rt, 6, &[]);
+    view.close();
 }
 
 #[test]
@@ -101,7 +100,8 @@ fn a_worn_number_is_ended_by_its_fill_alone(rt: HostRuntime) {
         ..SMALL
     };
     let mut view = View::open(&rt, &shape);
-    assert!(rt; view.claims(5));
-    assert!(rt; view.fills_worn(&rt, 5));
-    assert_eq!(rt; view.finds(5), Saw::Empty);
+    view.claims(&rt, 5);
+    view.fills_worn(&rt, 5);
+    view.finds(&rt, 5, &[]);
+    view.close();
 }

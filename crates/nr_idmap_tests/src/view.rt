@@ -1,17 +1,22 @@
-//! A map over ids with its writer and a reader, and calls as tests make them.
+//! A map over ids with its writer and a reader. Each method makes a call or a few and asserts the
+//! answers, so that a test is a list of calls.
 ghost use Rattle.std.specs.Prelude.{◌≡◌, ◌<◌};
-ghost use Rattle.nr_idmap.specs.Keepers.{id_rows, id_table_of};
-ghost use Rattle.nr_idmap.specs.Tags.{IsIdSet};
+ghost use Rattle.nr_model.specs.Batches.{IsBatch};
+ghost use Rattle.nr_idmap.specs.Keepers.{id_rows};
+ghost use Rattle.nr_idmap.specs.Tags.{AreIdDeltas, IsIdSet};
 
 use nr_idmap::{
-    Evict, FoundId, IdFault, IdMap, IdReader, IdShape, IdWriter, Reaped, Reclaimed, Refused,
-    ReplaceFault, Requested, Unfilled, UpdateFault, Upquery, Withdrawn, are_id_deltas, are_id_rows,
+    Evict, FoundId, IdFault, IdMap, IdReader, IdShape, IdWriter, Looked, OpenFault, Reaped,
+    Reclaimed, Refused, ReplaceFault, Requested, Unfilled, UpdateFault, Upquery, Withdrawn,
+    are_id_deltas, are_id_rows,
 };
 use nr_model::{Batch, Delta, Row, RowSet};
+use std::fmt::Debug;
+use std::marker::Model;
 use std::process::Abort;
 
 /// A key as one might draw it.
-pub(crate) const KEY: u64 = 0x9E37_79B9_7F4A_7C15;
+const KEY: u64 = 0x9E37_79B9_7F4A_7C15;
 
 /// One group, and three slots more than ways.
 pub(crate) const SMALL: IdShape = IdShape {
@@ -23,23 +28,24 @@ pub(crate) const SMALL: IdShape = IdShape {
     first_number: 0,
 };
 
-/// What a find answered, and the first row that it found.
-#[derive(Clone, Copy, Debug, PartialEq, Eq)]
-pub(crate) enum Saw {
-    Row(Row),
-    Empty,
-    Pending,
-    Moved,
-    Absent,
+/// A map over ids, its writer and one of its readers. A test ends it by `close`: in each test that
+/// drops it, the drop of each part of each token would be proved once more.
+pub(crate) struct View {
+    map: IdMap,
+    writer: IdWriter,
+    reader: IdReader,
+    readers: usize,
 }
 
-#[derive(Drop)]
-pub(crate) struct View {
-    pub(crate) map: IdMap,
-    pub(crate) writer: IdWriter,
-    pub(crate) reader: IdReader,
-    pub ghost writer_is: { writer.table ≡ map },
-    pub ghost reader_is: { id_table_of reader ≡ map },
+impl Model for View {
+    ghost use Rattle.std.specs.Prelude.{◌≡◌};
+    ghost use Rattle.nr_idmap.specs.Keepers.{IdTable, id_table_of};
+
+    ghost Value = { IdTable };
+
+    ghost view = { λ view. view.map };
+
+    ghost invariant = { λ view. (view.writer.table ≡ view.map) × (id_table_of view.reader ≡ view.map) };
 }
 
 pub(crate) fn row(a: u64, b: u64) -> Row {
@@ -60,19 +66,14 @@ pub(crate) fn minus(a: u64, b: u64) -> Delta {
     }
 }
 
-/// Requests an id, and spends the claim: whether it was granted.
-pub(crate) fn claims(map: &IdMap, reader: &mut IdReader, id: u64) -> bool
-    requires own { id_table_of reader.old ≡ map.now }
-    requires id { 0 < id }
-    ensures own { id_table_of reader.new ≡ map.now }
-{
-    match map.request(reader, id) {
-        Requested::Granted(claim) => {
-            claim.into_id();
-            true
-        }
-        Requested::Named(_) | Requested::Busy | Requested::Outrun | Requested::Worn => false,
-    }
+/// The two are the same. Each `assert_eq!` of a test would be proved anew.
+fn is_same<T: Debug + PartialEq, R: Abort>(rt: &R, got: &T, wanted: &T) {
+    assert_eq!(rt; got, wanted);
+}
+
+/// The set has just these rows.
+pub(crate) fn is_set<R: Abort>(rt: &R, set: &RowSet, wanted: &[Row]) {
+    assert_eq!(rt; set.as_slice(), wanted);
 }
 
 /// The rows in order, as a set that ids may have.
@@ -85,26 +86,28 @@ pub(crate) fn set_of<R: Abort>(rt: &R, map: &IdMap, rows: &[Row]) -> RowSet
     set
 }
 
-/// Whether the id is admitted and filled.
-pub(crate) fn admits<R: Abort>(
-    rt: &R,
-    map: &IdMap,
-    writer: &mut IdWriter,
-    id: u64,
-    rows: &[Row],
-) -> bool
-    requires own { writer.old.table ≡ map.now }
-    requires id { 0 < id }
-    ensures own { writer.new.table ≡ map.now }
+/// The signed rows, as a batch for an id.
+pub(crate) fn batch_of<R: Abort>(rt: &R, deltas: &[Delta]) -> Batch
+    ensures batch { IsBatch result }
+    ensures deltas { AreIdDeltas result }
 {
-    let set = set_of(rt, map, rows);
-    match map.admit(writer, id) {
-        Ok(upquery) => is_done(rt, map.fill(writer, upquery, set.as_slice())),
-        Err(_) => false,
+    let batch = Batch::of(deltas).expect(rt, "a batch");
+    assert!(rt; are_id_deltas(batch.as_slice()));
+    batch
+}
+
+/// Whether the claim is granted, which is spent.
+pub(crate) fn is_granted(requested: Requested) -> bool {
+    match requested {
+        Requested::Granted(claim) => {
+            claim.into_id();
+            true
+        }
+        Requested::Named(_) | Requested::Busy | Requested::Outrun | Requested::Worn => false,
     }
 }
 
-/// Whether a fill was done; it had a slot.
+/// Whether the fill is done, which has a slot.
 pub(crate) fn is_done<R: Abort>(rt: &R, filled: Result<(), Unfilled>) -> bool {
     match filled {
         Ok(()) => true,
@@ -113,153 +116,226 @@ pub(crate) fn is_done<R: Abort>(rt: &R, filled: Result<(), Unfilled>) -> bool {
     }
 }
 
-/// Whether an upquery was open, whose number isn't worn out. Now it is withdrawn.
-pub(crate) fn withdraws<R: Abort>(
-    rt: &R,
-    map: &IdMap,
-    writer: &mut IdWriter,
-    upquery: Upquery,
-) -> bool
-    requires own { writer.old.table ≡ map.now }
-    requires upquery { upquery.table ≡ map.now }
-    ensures own { writer.new.table ≡ map.now }
-{
-    match map.withdraw(writer, upquery) {
-        Withdrawn::Done => true,
-        Withdrawn::Closed => false,
-        Withdrawn::Worn(_worn) => panic!(rt; "the number is worn out"),
-    }
-}
-
 impl View {
-    /// A new map with one reader.
     pub(crate) fn open<R: AllocGlobal + Abort>(rt: &R, shape: &IdShape) -> View {
-        let (map, writer, mut readers) = IdMap::open(rt.alloc(), shape).expect(rt, "memory");
-        let reader = readers.pop().expect(rt, "a reader");
-        View::of(map, writer, reader)
+        View::try_open(rt, shape).expect(rt, "memory")
     }
 
-    fn of(map: IdMap, writer: IdWriter, reader: IdReader) -> View
-        requires writer { writer.table ≡ map }
-        requires reader { id_table_of reader ≡ map }
-    {
-        View {
+    fn try_open<R: AllocGlobal + Abort>(rt: &R, shape: &IdShape) -> Result<View, OpenFault> {
+        let (map, writer, mut readers) = IdMap::open(rt.alloc(), shape)?;
+        let count = readers.len();
+        let reader = readers.pop().expect(rt, "a reader");
+        Ok(View {
             map,
             writer,
             reader,
+            readers: count,
+        })
+    }
+
+    pub(crate) fn close(self) {
+        let View {
+            map: _map,
+            writer: _writer,
+            reader: _reader,
+            readers: _,
+        } = self;
+    }
+
+    /// There is no map of that shape.
+    pub(crate) fn is_bad<R: AllocGlobal + Abort>(rt: &R, shape: &IdShape) {
+        assert!(rt; shape.is_bad());
+        match View::try_open(rt, shape) {
+            Ok(_view) => panic!(rt; "the map opens"),
+            Err(fault) => assert!(rt; matches!(fault, OpenFault::BadSize)),
         }
     }
 
-    pub(crate) fn claims(&mut self, id: u64) -> bool
-        requires { 0 < id }
-    {
-        claims(&self.map, &mut self.reader, id)
+    pub(crate) fn sizes<R: Abort>(&self, rt: &R, ways: u32, rows: u32, readers: usize) {
+        is_same(rt, &self.map.ways(), &ways);
+        is_same(rt, &self.map.rows(), &rows);
+        is_same(rt, &self.readers, &readers);
     }
 
-    pub(crate) fn finds(&mut self, id: u64) -> Saw
+    /// What the laws need holds of the writer.
+    pub(crate) fn is_tied(&self) {
+        self.writer.is_tied();
+    }
+
+    /// The reader is granted a claim.
+    pub(crate) fn claims<R: Abort>(&mut self, rt: &R, id: u64)
+        requires { 0 < id }
+    {
+        assert!(rt; is_granted(self.map.request(&mut self.reader, id)));
+    }
+
+    /// The reader is granted none.
+    pub(crate) fn claims_nothing<R: Abort>(&mut self, rt: &R, id: u64)
+        requires { 0 < id }
+        ensures { self.new ≡ self.old }
+    {
+        assert!(rt; !is_granted(self.map.request(&mut self.reader, id)));
+    }
+
+    /// A find has just these rows.
+    pub(crate) fn finds<R: Abort>(&mut self, rt: &R, id: u64, wanted: &[Row])
         requires { 0 < id }
     {
         let mut rows = RowSet::new();
-        match self.map.find(&mut self.reader, id, &mut rows) {
-            FoundId::Rows => match rows.get(0) {
-                Some(first) => Saw::Row(first),
-                None => Saw::Empty,
-            },
-            FoundId::Pending => Saw::Pending,
-            FoundId::Moved => Saw::Moved,
-            FoundId::Absent => Saw::Absent,
-        }
+        let found = self.map.find(&mut self.reader, id, &mut rows);
+        is_same(rt, &found, &FoundId::Rows);
+        is_set(rt, &rows, wanted);
     }
 
-    /// The rows that a find leaves in a room that had one row.
-    pub(crate) fn rows_found<R: Abort>(&mut self, rt: &R, id: u64) -> RowSet
+    /// A find has none, and leaves the caller's room as it was.
+    pub(crate) fn misses<R: Abort>(&mut self, rt: &R, id: u64, why: FoundId)
         requires { 0 < id }
+        ensures { self.new ≡ self.old }
     {
         let mut rows = RowSet::of(&[row(1, 1)]).expect(rt, "a row");
-        self.map.find(&mut self.reader, id, &mut rows);
-        rows
+        let found = self.map.find(&mut self.reader, id, &mut rows);
+        is_same(rt, &found, &why);
+        is_set(rt, &rows, &[row(1, 1)]);
+    }
+
+    /// The writer's own look has just these rows.
+    pub(crate) fn sees<R: Abort>(&mut self, rt: &R, id: u64, wanted: &[Row])
+        requires { 0 < id }
+    {
+        let mut rows = RowSet::new();
+        let seen = self.map.look(&mut self.writer, id, &mut rows);
+        is_same(rt, &seen, &Looked::Rows);
+        is_set(rt, &rows, wanted);
+    }
+
+    /// The writer's own look has none, and leaves the caller's room as it was.
+    pub(crate) fn overlooks<R: Abort>(&mut self, rt: &R, id: u64, why: Looked)
+        requires { 0 < id }
+        ensures { self.new ≡ self.old }
+    {
+        let mut rows = RowSet::of(&[row(1, 1)]).expect(rt, "a row");
+        let seen = self.map.look(&mut self.writer, id, &mut rows);
+        is_same(rt, &seen, &why);
+        is_set(rt, &rows, &[row(1, 1)]);
     }
 
     /// An id is claimed, admitted and filled.
-    pub(crate) fn takes_in<R: Abort>(&mut self, rt: &R, id: u64, rows: &[Row]) -> bool
+    pub(crate) fn takes_in<R: Abort>(&mut self, rt: &R, id: u64, rows: &[Row])
         requires { 0 < id }
     {
-        self.claims(id) && admits(rt, &self.map, &mut self.writer, id, rows)
+        self.claims(rt, id);
+        self.admits(rt, id, rows);
     }
 
-    pub(crate) fn admits<R: Abort>(&mut self, rt: &R, id: u64, rows: &[Row]) -> bool
+    /// An id is admitted: its upquery.
+    fn admit<R: Abort>(&mut self, rt: &R, id: u64) -> Upquery
+        requires { 0 < id }
+        ensures upquery { result.table ≡ self.new }
+        ensures stays { self.new ≡ self.old }
+    {
+        self.map.admit(&mut self.writer, id).expect(rt, "admitted")
+    }
+
+    /// An id is admitted and filled.
+    pub(crate) fn admits<R: Abort>(&mut self, rt: &R, id: u64, rows: &[Row])
         requires { 0 < id }
     {
-        admits(rt, &self.map, &mut self.writer, id, rows)
+        let upquery = self.admit(rt, id);
+        self.fills(rt, upquery, rows);
     }
 
-    /// Why an id isn't admitted.
-    pub(crate) fn refuses<R: Abort>(&mut self, rt: &R, id: u64) -> Refused
+    fn fills<R: Abort>(&mut self, rt: &R, upquery: Upquery, rows: &[Row])
+        requires { upquery.table ≡ self.old }
+    {
+        let set = set_of(rt, &self.map, rows);
+        assert!(rt; is_done(rt, self.map.fill(&mut self.writer, upquery, set.as_slice())));
+    }
+
+    /// An id isn't admitted.
+    pub(crate) fn refuses<R: Abort>(&mut self, rt: &R, id: u64, wanted: Refused)
         requires { 0 < id }
     {
         match self.map.admit(&mut self.writer, id) {
             Ok(_upquery) => panic!(rt; "the id is admitted"),
-            Err(why) => why,
+            Err(why) => is_same(rt, &why, &wanted),
         }
     }
 
-    /// The way and the number of an id's upquery, which is withdrawn.
-    pub(crate) fn withdraws<R: Abort>(&mut self, rt: &R, id: u64) -> (u32, u64)
+    /// An id is admitted to that way by that ticket number, and its upquery withdrawn.
+    pub(crate) fn withdraws<R: Abort>(&mut self, rt: &R, id: u64, way: u32, number: u64)
         requires { 0 < id }
     {
-        let upquery = self.map.admit(&mut self.writer, id).expect(rt, "admitted");
-        let told = (upquery.way(), upquery.number());
-        assert!(rt; withdraws(rt, &self.map, &mut self.writer, upquery));
-        told
-    }
-
-    /// The id is admitted, its upquery can't be withdrawn, and is filled: whether that was done.
-    pub(crate) fn fills_worn<R: Abort>(&mut self, rt: &R, id: u64) -> bool
-        requires { 0 < id }
-    {
-        let upquery = self.map.admit(&mut self.writer, id).expect(rt, "admitted");
+        let upquery = self.admit(rt, id);
+        is_same(rt, &upquery.id(), &id);
+        is_same(rt, &upquery.way(), &way);
+        is_same(rt, &upquery.number(), &number);
         match self.map.withdraw(&mut self.writer, upquery) {
-            Withdrawn::Worn(upquery) => {
-                is_done(rt, self.map.fill(&mut self.writer, upquery, &[]))
-            }
-            Withdrawn::Done | Withdrawn::Closed => false,
+            Withdrawn::Done => {}
+            Withdrawn::Closed => panic!(rt; "the upquery isn't open"),
+            Withdrawn::Worn(_upquery) => panic!(rt; "the number is worn out"),
         }
     }
 
-    /// The id is admitted and finds no slot: how many slots ids have. Then another id is evicted, and
+    /// An id is admitted, its upquery can't be withdrawn, and is filled.
+    pub(crate) fn fills_worn<R: Abort>(&mut self, rt: &R, id: u64)
+        requires { 0 < id }
+    {
+        let upquery = self.admit(rt, id);
+        match self.map.withdraw(&mut self.writer, upquery) {
+            Withdrawn::Worn(upquery) => self.fills(rt, upquery, &[]),
+            Withdrawn::Done | Withdrawn::Closed => panic!(rt; "the upquery is withdrawn"),
+        }
+    }
+
+    /// An id is admitted and finds no slot, of which ids have so many. Then another id is evicted, and
     /// the upquery filled.
-    pub(crate) fn fills_late<R: Abort>(&mut self, rt: &R, id: u64, other: u64) -> u32
+    pub(crate) fn fills_late<R: Abort>(&mut self, rt: &R, id: u64, live: u32, other: u64)
         requires id { 0 < id }
         requires other { 0 < other }
     {
-        let upquery = self.map.admit(&mut self.writer, id).expect(rt, "admitted");
-        let (upquery, counts) = match self.map.fill(&mut self.writer, upquery, &[]) {
-            Err(Unfilled::NoSlot(upquery, counts)) => (upquery, counts),
+        let upquery = self.admit(rt, id);
+        match self.map.fill(&mut self.writer, upquery, &[]) {
+            Err(Unfilled::NoSlot(upquery, counts)) => {
+                is_same(rt, &counts.live, &live);
+                self.evicts(rt, other, Evict::Evicted);
+                self.fills(rt, upquery, &[]);
+            }
             Ok(()) | Err(Unfilled::Closed) => panic!(rt; "there is a slot"),
-        };
-        self.map.evict(&mut self.writer, other);
-        assert!(rt; is_done(rt, self.map.fill(&mut self.writer, upquery, &[])));
-        counts.live
+        }
     }
 
-    /// What an eviction, a find and a request of an id answer whose upquery is open, which is filled
-    /// then.
-    pub(crate) fn while_asked<R: Abort>(&mut self, rt: &R, id: u64) -> (Evict, FoundId, bool)
+    /// While an id's upquery is open, it isn't evicted, found, seen or claimed. Then it is filled.
+    pub(crate) fn is_pending<R: Abort>(&mut self, rt: &R, id: u64, rows: &[Row])
         requires { 0 < id }
     {
-        let upquery = self.map.admit(&mut self.writer, id).expect(rt, "admitted");
-        let evicted = self.map.evict(&mut self.writer, id);
-        let mut rows = RowSet::new();
-        let found = self.map.find(&mut self.reader, id, &mut rows);
-        let requested = claims(&self.map, &mut self.reader, id);
-        assert!(rt; is_done(rt, self.map.fill(&mut self.writer, upquery, &[])));
-        (evicted, found, requested)
+        let upquery = self.admit(rt, id);
+        self.evicts(rt, id, Evict::Nothing);
+        self.misses(rt, id, FoundId::Pending);
+        self.overlooks(rt, id, Looked::Pending);
+        self.claims_nothing(rt, id);
+        self.fills(rt, upquery, rows);
     }
 
-    pub(crate) fn evicts(&mut self, id: u64) -> Evict
+    /// An id is admitted, and its upquery ends with the map.
+    pub(crate) fn ends_with<R: Abort>(self, rt: &R, id: u64)
         requires { 0 < id }
     {
-        self.map.evict(&mut self.writer, id)
+        let mut view = self;
+        let upquery = view.admit(rt, id);
+        let View {
+            map,
+            writer: _writer,
+            reader: _reader,
+            readers: _,
+        } = view;
+        is_same(rt, &upquery.end(&map.close()), &id);
+    }
+
+    pub(crate) fn evicts<R: Abort>(&mut self, rt: &R, id: u64, wanted: Evict)
+        requires { 0 < id }
+        ensures { self.new ≡ self.old }
+    {
+        is_same(rt, &self.map.evict(&mut self.writer, id), &wanted);
     }
 
     pub(crate) fn updates<R: Abort>(
@@ -267,12 +343,13 @@ impl View {
         rt: &R,
         id: u64,
         deltas: &[Delta],
-    ) -> Result<(), IdFault<UpdateFault>>
+        wanted: Result<(), IdFault<UpdateFault>>,
+    )
         requires { 0 < id }
     {
-        let batch = Batch::of(deltas).expect(rt, "a batch");
-        assert!(rt; are_id_deltas(batch.as_slice()));
-        self.map.update(&mut self.writer, id, batch.as_slice())
+        let batch = batch_of(rt, deltas);
+        let updated = self.map.update(&mut self.writer, id, batch.as_slice());
+        is_same(rt, &updated, &wanted);
     }
 
     pub(crate) fn replaces<R: Abort>(
@@ -280,38 +357,42 @@ impl View {
         rt: &R,
         id: u64,
         rows: &[Row],
-    ) -> Result<(), IdFault<ReplaceFault>>
+        wanted: Result<(), IdFault<ReplaceFault>>,
+    )
         requires { 0 < id }
     {
         let set = set_of(rt, &self.map, rows);
-        self.map.replace(&mut self.writer, id, set.as_slice())
+        let replaced = self.map.replace(&mut self.writer, id, set.as_slice());
+        is_same(rt, &replaced, &wanted);
     }
 
-    /// The reader hears what the writer has seen, and what it told itself; and they are gathered.
+    /// The reader hears what the writer has seen, and the writer is gathered with it.
     pub(crate) fn tells(&mut self) {
-        self.map.note_writer(&mut self.writer);
-        let told = self.map.note(&mut self.reader);
+        let told = self.map.note_writer(&mut self.writer);
         self.map.hear(&mut self.reader, told);
+        let own = self.map.note(&mut self.reader);
+        self.map.hear(&mut self.reader, own);
         self.map.gather(&mut self.writer, &mut self.reader);
     }
 
-    /// The id is admitted and filled by a reclaiming call.
+    /// The id is admitted and filled by a call that gives that out.
     pub(crate) fn fills_reclaiming<R: Abort>(
         &mut self,
         rt: &R,
         id: u64,
         rows: &[Row],
         had: &mut RowSet,
-    ) -> Reclaimed
+        wanted: Reclaimed,
+    )
         requires { 0 < id }
     {
+        let upquery = self.admit(rt, id);
         let set = set_of(rt, &self.map, rows);
-        let upquery = self.map.admit(&mut self.writer, id).expect(rt, "admitted");
         match self
             .map
             .fill_reclaiming(&mut self.writer, upquery, set.as_slice(), had)
         {
-            Ok(given) => given,
+            Ok(given) => is_same(rt, &given, &wanted),
             Err(Unfilled::NoSlot(_upquery, _)) => panic!(rt; "there is no slot"),
             Err(Unfilled::Closed) => panic!(rt; "the upquery isn't open"),
         }
@@ -323,13 +404,15 @@ impl View {
         id: u64,
         deltas: &[Delta],
         had: &mut RowSet,
-    ) -> Result<Reclaimed, IdFault<UpdateFault>>
+        wanted: Reclaimed,
+    )
         requires { 0 < id }
     {
-        let batch = Batch::of(deltas).expect(rt, "a batch");
-        assert!(rt; are_id_deltas(batch.as_slice()));
-        self.map
-            .update_reclaiming(&mut self.writer, id, batch.as_slice(), had)
+        let batch = batch_of(rt, deltas);
+        let given = self
+            .map
+            .update_reclaiming(&mut self.writer, id, batch.as_slice(), had);
+        is_same(rt, &given, &Ok(wanted));
     }
 
     pub(crate) fn replaces_reclaiming<R: Abort>(
@@ -338,15 +421,18 @@ impl View {
         id: u64,
         rows: &[Row],
         had: &mut RowSet,
-    ) -> Result<Reclaimed, IdFault<ReplaceFault>>
+        wanted: Reclaimed,
+    )
         requires { 0 < id }
     {
         let set = set_of(rt, &self.map, rows);
-        self.map
-            .replace_reclaiming(&mut self.writer, id, set.as_slice(), had)
+        let given = self
+            .map
+            .replace_reclaiming(&mut self.writer, id, set.as_slice(), had);
+        is_same(rt, &given, &Ok(wanted));
     }
 
-    pub(crate) fn reaps(&mut self, had: &mut RowSet) -> Reaped {
-        self.map.reap(&mut self.writer, had)
+    pub(crate) fn reaps<R: Abort>(&mut self, rt: &R, had: &mut RowSet, wanted: Reaped) {
+        is_same(rt, &self.map.reap(&mut self.writer, had), &wanted);
     }
 }
