@@ -27,9 +27,9 @@ pub enum Event {
     End,
 }
 
-/// What a slot begins with: its snapshot sees just what was committed before its first transaction, and that comes after
-/// this place.
+/// What a slot begins with.
 pub struct First {
+    /// It sees just what was committed before the slot's first transaction, which comes after the place.
     pub snapshot: Snapshot,
     pub place: Lsn,
 }
@@ -164,19 +164,23 @@ impl Dataflow<'_> {
             Ok(answer) => answer,
             Err(fault) => return requests.into_iter().for_each(|request| self.refuse(request.asker, &fault)),
         };
-        if self.lacks_first(&seen) {
+        // An answer of before the loss tells nothing of a server that was restarted: that may give its numbers anew.
+        let is_late = requests.iter().all(|request| request.number <= self.order.emptied_after);
+        if self.lacks_first(&seen, is_late) {
             return requests.into_iter().for_each(|request| self.request_again(request));
         }
         self.shared.told.fetch_max(seen.place.0, SeqCst);
         let unseen = self.order.log.unseen_by(&seen.snapshot, &requests);
         let seen = Arc::new(seen);
         requests.into_iter().zip(rows).for_each(|(request, rows)| self.bring(request, rows, &seen, &unseen));
-        self.order.log.prune(&seen.snapshot);
+        if !is_late {
+            self.order.log.prune(&seen.snapshot);
+        }
     }
 
     /// Whether the snapshot may lack what the slot doesn't bring.
-    fn lacks_first(&mut self, seen: &Seen) -> bool {
-        self.order.first.take_if(|first| seen.snapshot.covers(first));
+    fn lacks_first(&mut self, seen: &Seen, is_late: bool) -> bool {
+        self.order.first.take_if(|first| !is_late && seen.snapshot.covers(first));
         parts::FIRST_SNAPSHOT && self.order.first.is_some()
     }
 

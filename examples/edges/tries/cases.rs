@@ -16,12 +16,13 @@ struct Case {
 }
 
 /// A name, and what happens.
-const CASES: [(&str, fn(&mut Case)); 9] = [
+const CASES: [(&str, fn(&mut Case)); 10] = [
     ("log", a_commit_that_no_snapshot_sees_yet),
     ("first_snapshot", a_commit_that_the_new_slot_does_not_carry),
     ("skip", an_answer_that_is_ahead_of_the_stream),
     ("repeats_guard", a_stream_that_is_cut),
     ("emptying", a_slot_that_is_dropped),
+    ("limit", a_slot_that_is_too_far_behind),
     ("truncate", a_table_that_is_truncated_or_changed),
     ("restart", a_server_that_is_restarted),
     ("killed", an_edge_that_is_killed),
@@ -208,6 +209,28 @@ fn a_slot_that_is_dropped(case: &mut Case) {
     assert_eq!(edge.count("losses"), 1);
 }
 
+/// PostgreSQL keeps no more of its log for a slot than it is told.
+fn a_slot_that_is_too_far_behind(case: &mut Case) {
+    let edge = case.following(&[]);
+    assert_eq!(edge.ask("GET l"), "");
+    let walsender = case.walsender("");
+    case.sql("ALTER SYSTEM SET max_slot_wal_keep_size = '1MB'");
+    case.sql("SELECT pg_reload_conf()");
+    edge.signal("STOP");
+    case.sql(&format!("SELECT pg_terminate_backend({walsender})"));
+    let now = case.write("INSERT INTO votes VALUES ('l', 1, 1)");
+    let megabytes = "SELECT pg_logical_emit_message(false, 'much', repeat('x', 1000000)) FROM generate_series(1, 20)";
+    until("the slot is lost", || {
+        [megabytes, "SELECT pg_switch_wal()", "CHECKPOINT"].iter().for_each(|sql| _ = case.sql(sql));
+        case.sql("SELECT wal_status FROM pg_replication_slots") == "lost"
+    });
+    edge.signal("CONT");
+    assert_eq!(edge.ask(&format!("GET l {now}")), "1:1");
+    assert_eq!(edge.count("losses"), 1);
+    case.sql("ALTER SYSTEM RESET max_slot_wal_keep_size");
+    case.sql("SELECT pg_reload_conf()");
+}
+
 fn a_table_that_is_truncated_or_changed(case: &mut Case) {
     case.sql("INSERT INTO votes VALUES ('t', 1, 1)");
     let edge = case.following(&[]);
@@ -248,7 +271,8 @@ fn a_server_that_is_restarted(case: &mut Case) {
 fn an_edge_that_is_killed(case: &mut Case) {
     let mut edge = case.following(&[]);
     assert_eq!(edge.ask("GET k"), "");
-    edge.kill_and_start();
+    edge.kill();
+    edge.start_again();
     let now = case.write("INSERT INTO votes VALUES ('k', 1, 1)");
     assert_eq!(edge.ask(&format!("GET k {now}")), "1:1");
     edge.signal("TERM");

@@ -24,12 +24,12 @@ impl Edge {
         Edge { words: [words, vec!["--port".into(), port.to_string()]].concat(), process, port }
     }
 
-    /// By SIGKILL, and starts it again at the same port.
-    pub fn kill_and_start(&mut self) {
-        self.kill();
+    /// At the same port.
+    pub fn start_again(&mut self) {
         (self.process, self.port) = started(&self.words);
     }
 
+    /// By SIGKILL.
     pub fn kill(&mut self) {
         self.process.kill().unwrap();
         self.process.wait().unwrap();

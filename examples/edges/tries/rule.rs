@@ -194,6 +194,21 @@ fn a_late_answer_fills_nothing() {
 }
 
 #[test]
+fn an_answer_of_before_a_loss_tells_nothing_of_a_server_that_was_restarted() {
+    let mut trial = Trial::following();
+    let (late, _) = trial.ask("a");
+    trial.lose();
+    // The server lost transactions, so it gives the numbers from 8 on anew.
+    trial.begin("1:8:");
+    trial.fill("b", "8:8:", &[]);
+    trial.commit(9, 110, "d", Delta::plus(TWO));
+    trial.answer(late, "12:12:", &[]);
+    trial.fill("c", "9:10:9", &[]);
+    trial.fill("d", "9:10:9", &[ONE]);
+    assert_eq!(trial.held("d"), Some(vec![ONE, TWO]));
+}
+
+#[test]
 fn a_request_with_the_last_number_is_made_again_after_a_loss() {
     let mut trial = Trial::with("--number 4194303");
     trial.begin("1:10:");

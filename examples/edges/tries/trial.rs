@@ -6,7 +6,7 @@ mod edges;
 mod pq;
 use edges::{last, token, until, Client, Edge};
 use pq::Connection;
-use std::collections::HashMap;
+use std::collections::{HashMap, HashSet};
 use std::process::Command;
 use std::sync::atomic::{AtomicBool, AtomicU64, Ordering::SeqCst};
 use std::sync::{Mutex, RwLock};
@@ -254,7 +254,13 @@ fn break_something(world: &World, edges: &mut [Edge], restart: &str, dice: &mut 
             let drop = format!("{cut}; SELECT pg_drop_replication_slot(slot_name) {of_slot} AND NOT active");
             (0..20).for_each(|_| _ = base.run(&drop));
         }
-        8..10 => edges[edge].kill_and_start(),
+        8..10 => {
+            edges[edge].kill();
+            // What its clients wrote may go on for a while, and quiet moments begin after it.
+            let of_edge = format!("FROM pg_stat_activity WHERE application_name = 'trial_{edge}'");
+            until("its connections end", || last(&mut base, &format!("SELECT 1 {of_edge}")).is_empty());
+            edges[edge].start_again();
+        }
         10 => _ = base.run("ALTER TABLE votes ALTER weight SET NOT NULL"),
         _ => {
             world.age.fetch_add(1, SeqCst);
@@ -266,6 +272,12 @@ fn break_something(world: &World, edges: &mut [Edge], restart: &str, dice: &mut 
             world.age.fetch_add(1, SeqCst);
         }
     }
+}
+
+/// The rows of one text that another lacks, where equal rows count as one.
+fn only_in(rows: &str, other: &str) -> String {
+    let others: HashSet<_> = other.split(' ').collect();
+    rows.split(' ').filter(|row| !others.contains(row)).collect::<Vec<_>>().join(" ")
 }
 
 /// Compares what each edge holds with the table, while nobody writes; how many keys it compared.
@@ -285,7 +297,8 @@ fn compare(world: &World, edges: &[Edge]) -> usize {
             });
             compared += usize::from(held != "nil");
             if held != "nil" && held != table[&key] {
-                world.fault(format!("edge {number}, {key}: has '{held}', and the table '{}'", table[&key]));
+                let [more, less] = [only_in(&held, &table[&key]), only_in(&table[&key], &held)];
+                world.fault(format!("edge {number}, {key}: has '{more}' more than the table, and lacks '{less}'"));
             }
         }
     }
@@ -310,7 +323,8 @@ fn edge(program: &str, address: &str, number: u64) -> Edge {
     let [limit, batch, slots] = if number % 2 == 0 { ["30", "1", "30"] } else { ["60", "8", "0"] };
     let sizes = ["--keys", "61", "--rows", "255", "--limit", limit, "--slots", slots];
     let options = [&sizes[..], &["--batch", batch, "--confirm", "700"]].concat();
-    Edge::start(program, address, &format!("trial_{number}"), &options)
+    let slot = format!("trial_{number}");
+    Edge::start(program, &format!("{address} application_name={slot}"), &slot, &options)
 }
 
 impl World {
