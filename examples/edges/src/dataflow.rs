@@ -141,7 +141,7 @@ impl Dataflow<'_> {
         self.shared.work.up(Count::Losses);
         self.order.is_following = false;
         self.shared.lobby.progress().restart(0);
-        self.order.fresh.clear();
+        self.order.fresh = Fresh::default();
         self.order.first = None;
         let emptied = self.residents.empty();
         self.order.emptied_after = self.order.log.last_sent();

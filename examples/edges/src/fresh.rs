@@ -30,10 +30,6 @@ impl Fresh {
         }
     }
 
-    pub fn clear(&mut self) {
-        *self = Fresh::default();
-    }
-
     fn forget(&mut self, key: u32) {
         if let Some(seen) = self.by_key.remove(&key) {
             self.by_place.remove(&(seen.place, key));
