@@ -133,7 +133,9 @@ pub fn last(base: &mut Connection, sql: &str) -> Table {
 
 /// A read that brings it sees all that was committed before.
 pub fn token(base: &mut Connection) -> String {
-    last(base, "SELECT pg_logical_emit_message(true, 'now', ''); SELECT pg_current_wal_flush_lsn()").concat().concat()
+    // This commit flushes those before it that were not waited for, so it must end before the place is read.
+    last(base, "SELECT pg_logical_emit_message(true, 'now', '')");
+    last(base, "SELECT pg_current_wal_flush_lsn()").concat().concat()
 }
 
 /// An article's rows in the table.
