@@ -18,6 +18,7 @@ pub mod Rows
 pub mod BoardPlaces
 pub mod ReaderSeats
 pub mod WordSeats
+pub mod Holding
 pub mod Room
 pub mod Shortage
 pub mod Brings

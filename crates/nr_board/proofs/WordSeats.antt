@@ -1,5 +1,5 @@
 -- What the steps by a reader's own word tell of its seat.
-use Rattle.std.proofs.Common.{◌≡◌, ℕ, suc, ◌+◌, ◌<◌, Bool, true, false, [], ap, cond, ne_eqb, sym, subst, arith, ◌∙◌}
+use Rattle.std.proofs.Common.{◌≡◌, ◌⊎◌, ⊎_elim, ℕ, suc, ◌+◌, ◌<◌, Bool, true, false, [], ap, cond, ne_eqb, sym, subst, arith, ◌∙◌}
 use Rattle.nr_model.specs.declared.calls.Call.TheVariants as model
 use Rattle.nr_model.specs.declared.calls.Reply.TheVariants as reply
 use Rattle.nr_words.specs.KeyWords.{is_filled, slot_of}
@@ -10,6 +10,8 @@ use Rattle.nr_machine.specs.declared.shape.Shape.{Shape}
 use Rattle.nr_core.proofs.Choices.{by_cases}
 use Rattle.nr_board.proofs.Tokens.{MapSeat, seat_grows, seat_rests}
 use Rattle.nr_board.specs.Callers.{Gains, Grows, Rests, Table, token}
+use Rattle.nr_marks.specs.Marks.{acted}
+use Rattle.nr_marks.specs.Puts.{put_number}
 use Rattle.nr_board.specs.Plays.{Holds, IsIdle}
 use Rattle.nr_board.specs.Seats.{AnnouncesAt, HoldsAt, IdlesAt}
 use Rattle.nr_board.specs.Views.{caller_number, rows_held}
@@ -87,3 +89,12 @@ module _ (table : Table) (before after : MapSeat) (same : after.table_id ≡ bef
     confirmed_word own has = by_cases (λ (_ : Bool). HasWord own after.me.0) (names_slot slot found)
         (λ yes. let held = told.same (names_said true yes) in has_still own held.number (seat_grows before after _ same held.gains).table has)
         (λ no. let looked = confirmed_other no in has_still own (ap caller_number looked.role) (own_still key found looked) has)
+
+    pub confirmed_marks : (names_slot slot found ≡ true) ⊎ (is_filled found ≡ false) → after.me.0.marks ≡ acted before.me.0.marks (put_number after.me.0.seen key)
+    confirmed_marks answers = ⊎_elim
+        (λ yes. (told.same (names_said true yes)).marks)
+        (λ empty. (confirmed_other (names_empty_not slot found empty)).marks ∙ ap (λ (b : Bool). cond b before.me.0.marks (acted before.me.0.marks (put_number after.me.0.seen key))) empty)
+        answers
+
+    pub confirmed_not_yet : names_slot slot found ≡ false → is_filled found ≡ true → after.me.0.marks ≡ before.me.0.marks
+    confirmed_not_yet gone full = (confirmed_other gone).marks ∙ ap (λ (b : Bool). cond b before.me.0.marks (acted before.me.0.marks (put_number after.me.0.seen key))) full

@@ -27,6 +27,7 @@ pub mod WholeScans
 pub mod Passes
 pub mod RetiredSearch
 pub mod HeldRows
+pub mod Holds
 pub mod NamedRows
 pub mod Recalls
 pub mod RecalledRows

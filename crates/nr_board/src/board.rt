@@ -1,5 +1,5 @@
 //! The table of words. It is private to this module, whose functions make one step each.
-ghost use Rattle.std.specs.Prelude.{ℕ, ◌≡◌, ◌↔◌, ◌<◌, ◌≤◌, ◌^◌, ◌*◌, ◌⊎◌, ◌++◌, true, false, [], length, replicate, slice_index, IfOk};
+ghost use Rattle.std.specs.Prelude.{ℕ, ◌≡◌, ◌↔◌, ◌<◌, ◌≤◌, ◌^◌, ◌*◌, ◌⊎◌, ◌++◌, true, false, [], length, replicate, slice_index, IfOk, if◌then◌else◌};
 ghost use Rattle.nr_model.specs.Maps.{state_of};
 ghost use Rattle.nr_model.specs.declared.rows.TheConstants.{MAX_ROWS};
 ghost use Rattle.nr_model.specs.declared.calls.Call.TheVariants as model;
@@ -193,6 +193,7 @@ impl Board {
         ensures reader { IdlesAt self.now seat.new }
         ensures hole { is_filled result ≡ false → Gains 1 (token seat.old) (model.Find key) reply.Hole (token seat.new) }
         ensures named { is_filled result ≡ true → Grows 1 (token seat.old) [] (token seat.new) }
+        ensures marks { seat.new.me.0.marks ≡ (if is_filled result then seat.old.me.0.marks else acted seat.old.me.0.marks (put_number seat.new.me.0.seen key)) }
     {
         let words = &self.table.shared;
         words.load::<LooksUp>(seat, key as usize)
@@ -225,6 +226,8 @@ impl Board {
         ensures other { names_slot slot result ≡ false → is_filled result ≡ true → AnnouncesAt self.now slot seat.new × Grows 1 (token seat.old) [] (token seat.new) }
         ensures says { seat.new.me.0.says ≡ seat.old.me.0.says }
         ensures word { HasWord own seat.new.me.0 }
+        ensures found { (names_slot slot result ≡ true) ⊎ (is_filled result ≡ false) → seat.new.me.0.marks ≡ acted seat.old.me.0.marks (put_number seat.new.me.0.seen key) }
+        ensures not_yet { names_slot slot result ≡ false → is_filled result ≡ true → seat.new.me.0.marks ≡ seat.old.me.0.marks }
     {
         only_proved(own);
         let words = &self.table.shared;
@@ -272,9 +275,26 @@ impl Board {
         words.load::<Reads>(seat, place as usize)
     }
 
-    /// A reader that holds that slot finds a key again, by one load of the key's word: whether the key
-    /// still has the set that the reader holds. Then the find is an entry, and it is answered with that
-    /// set.
+    /// A reader that holds that slot looks at a key: its word. Where it names that slot still, the key
+    /// has the set that the reader holds, and the look is a find, answered with that set.
+    pub fn look_again(&self, seat: &mut Seat, slot: u32, key: u32) -> u64
+        requires reader { HoldsAt self.now (content self.now.shape slot 0) seat.old }
+        requires key { key < self.now.shape.keys }
+        ensures reader { HoldsAt self.now (content self.now.shape slot 0) seat.new }
+        ensures role { seat.new.me.0.role ≡ seat.old.me.0.role }
+        ensures same { names_slot slot result ≡ true → Gains 1 (token seat.old) (model.Find key) (reply.Rows (rows_held seat.old.me.0.role)) (token seat.new) }
+        ensures other { names_slot slot result ≡ false → Grows 1 (token seat.old) [] (token seat.new) }
+        ensures exact { (names_slot slot result ≡ true) ↔ HasPut key seat.old.me.0.marks.put (token seat.new) }
+        ensures marks { seat.new.me.0.marks ≡ found_again (names_slot slot result) seat.old.me.0.marks }
+        ensures says { seat.new.me.0.says ≡ seat.old.me.0.says }
+        ensures fits { slot < 2 ^ 22 }
+    {
+        only_proved(slot);
+        let words = &self.table.shared;
+        words.load::<FindsAgain>(seat, key as usize)
+    }
+
+    /// The same, by whether the key has that set.
     pub fn find_again(&self, seat: &mut Seat, slot: u32, key: u32) -> bool
         requires reader { HoldsAt self.now (content self.now.shape slot 0) seat.old }
         requires key { key < self.now.shape.keys }
@@ -286,8 +306,7 @@ impl Board {
         ensures marks { seat.new.me.0.marks ≡ found_again result seat.old.me.0.marks }
         ensures says { seat.new.me.0.says ≡ seat.old.me.0.says }
     {
-        let words = &self.table.shared;
-        let word = words.load::<FindsAgain>(seat, key as usize);
+        let word = self.look_again(seat, slot, key);
         names(word, slot)
     }
 

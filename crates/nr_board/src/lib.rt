@@ -8,6 +8,7 @@ mod begins;
 mod board;
 mod hearing;
 mod held_rows;
+mod holds;
 mod named_rows;
 mod only_proved;
 mod publish;
@@ -26,5 +27,6 @@ pub use answers::{
     Cancel, Evict, FillFault, Found, KeyKind, Reaped, Reclaimed, ReplaceFault, UpdateFault,
 };
 pub use board::{Board, Note, Plan, Seat};
+pub use holds::Held;
 pub use rule::BegunCall;
 pub use scans::Unheard;

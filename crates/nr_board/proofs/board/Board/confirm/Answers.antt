@@ -1,7 +1,7 @@
 use Rattle.std.proofs.Common.{ap, arith, sym, ◌∙◌, ◌<◌}
 use Rattle.nr_machine.specs.declared.shape.Shape.{Shape}
 use Rattle.nr_board.proofs.BoardPlaces.{key_in, stands}
-use Rattle.nr_board.proofs.WordSeats.{confirmed_held, confirmed_other, confirmed_says, confirmed_word, looked_announces, looked_hole, looked_named, names_empty_not}
+use Rattle.nr_board.proofs.WordSeats.{confirmed_held, confirmed_marks, confirmed_not_yet, confirmed_other, confirmed_says, confirmed_word, looked_announces, looked_hole, looked_named, names_empty_not}
 use Rattle.nr_board.proofs.WordSteps.{confirms_so}
 use Rattle.nr_board.specs.Callers.{Table}
 use Rattle.nr_board.proofs.board.Board.confirm.Goals as goal
@@ -22,4 +22,6 @@ returns c = let before = c.args.seat.now in let after = c.load.new.seat in let s
       other = λ no full. let looked = confirmed_other map before after same slot key found at told no in (looked_announces map before after same slot key found at looked, looked_named map before after same key found looked full);
       says = confirmed_says map before after same slot key found at told;
       word = confirmed_word map before after same slot key found at told c.args.own c.requires.word;
+      found = confirmed_marks map before after same slot key found at told;
+      not_yet = confirmed_not_yet map before after same slot key found at told;
     }

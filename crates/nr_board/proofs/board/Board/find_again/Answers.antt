@@ -1,33 +1,22 @@
-use Rattle.std.proofs.Common.{ap, arith, sym, ℕ, ◌<◌, ◌∙◌, ◌≡◌}
-use Rattle.nr_machine.specs.Slots.{content, names_slot}
-use Rattle.nr_machine.specs.declared.shape.Shape.{Shape}
-use Rattle.nr_board.proofs.BoardPlaces.{stands}
-use Rattle.nr_board.proofs.ReaderSeats.{again_exact, again_gains, again_holds, again_learns, again_marks, held_inside, held_slot, names_held}
-use Rattle.nr_board.proofs.ReaderSteps.{finds_again_so}
-use Rattle.nr_board.specs.Callers.{Table}
-use Rattle.nr_board.specs.Views.{slot_held}
+use Rattle.std.proofs.Common.{subst, sym, Bool, true, false, [], ◌∙◌, ◌≡◌}
+use Rattle.std.specs.Prelude.{◌↔◌}
+use Rattle.nr_model.specs.declared.calls.Call.TheVariants as model
+use Rattle.nr_model.specs.declared.calls.Reply.TheVariants as reply
+use Rattle.nr_machine.specs.Slots.{names_slot}
+use Rattle.nr_marks.specs.MarkSteps.{found_again}
+use Rattle.nr_board.proofs.ReaderSeats.{names_held}
+use Rattle.nr_board.specs.Meetings.{HasPut}
+use Rattle.nr_board.specs.Callers.{token}
 use Rattle.nr_board.proofs.board.Board.find_again.Goals as goal
 
-pub load-word-requires : goal.load-word-requires
-load-word-requires c = let shared = c.self.inside.table.shared in let about = c.self.invariant in let seat = c.args.seat.now in
-    let near : c.args.key < shared.key.shape.keys = omega (arith, c.requires.key, ap (λ (t : Table). t.shape.keys) c.self.view_is, ap (λ (s : Shape). s.keys) about.0) in (
-      ap (λ (t : Table). t.id) (c.requires.reader.own ∙ sym c.self.view_is),
-      omega (arith, ap (λ (s : Shape). s.keys) about.0),
-      finds_again_so shared.key.shape shared.table_id.slots seat.id seat.me c.args.key near c.requires.reader.holds.is (ap (λ (t : Table). t.shape) (c.requires.reader.own ∙ sym c.self.view_is) ∙ sym about.0),
-    )
-
-pub names-requires : goal.names-requires
-names-requires c = let board = stands c.self.view_is c.self.invariant in omega (arith, held_inside c.args.slot c.requires.reader, board.fits.slots)
-
 pub returns : goal.returns
-returns c = let board = c.args.self.now in let before = c.args.seat.now in let after = c.load-word.new.seat in let slot = c.args.slot in let begin = content board.shape slot 0 in let key = c.args.key in
-    let word = c.load-word.result in let reader = c.requires.reader in let same = c.load-word.ensures.0 in let told = c.load-word.ensures.2 in let answer = c.names.result in
-    let named : names_slot (slot_held before.me.0.role) word ≡ answer = ap (λ (s : ℕ). names_slot s word) (sym (held_slot slot reader)) ∙ names_held slot word ∙ sym c.names.ensures in record {
-      reader = again_holds board before after same begin key word reader told answer named;
+returns c = let before = c.args.seat.now in let after = c.look_again-word.new.seat in let word = c.look_again-word.result in let told = c.look_again-word.ensures in
+    let named : names_slot c.args.slot word ≡ c.names.result = names_held c.args.slot word ∙ sym c.names.ensures in record {
+      reader = told.reader;
       role = told.role;
-      same = again_gains board before after same begin key word reader told answer named;
-      other = again_learns board before after same begin key word reader told answer named;
-      exact = again_exact board before after same begin key word reader told answer named;
-      marks = again_marks board before after same begin key word reader told answer named;
+      same = λ yes. told.same (named ∙ yes);
+      other = λ no. told.other (named ∙ no);
+      exact = subst (λ (b : Bool). (b ≡ true) ↔ HasPut c.args.key before.me.0.marks.put (token after)) named told.exact;
+      marks = told.marks ∙ (λ j. found_again (named j) before.me.0.marks);
       says = told.says;
     }

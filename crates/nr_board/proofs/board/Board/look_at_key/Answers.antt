@@ -19,4 +19,5 @@ returns c = let before = c.args.seat.now in let after = c.load.new.seat in let s
   reader = looked_idle c.args.self.now before after same key found c.requires.reader told;
   hole = looked_hole c.args.self.now before after same key found told;
   named = looked_named c.args.self.now before after same key found told;
+  marks = told.marks;
 }

@@ -1,0 +1,165 @@
+//! How a reader finds a key and holds its set: by its own word where it has one, and else by the
+//! counts.
+ghost use Rattle.std.specs.Prelude.{◌≡◌, ◌<◌, ◌≤◌, ◌⊎◌, suc, true, false, if◌then◌else◌};
+ghost use Rattle.nr_words.specs.KeyWords.{is_filled};
+ghost use Rattle.nr_machine.specs.Slots.{content};
+ghost use Rattle.nr_marks.specs.Marks.{acted};
+ghost use Rattle.nr_board.specs.Callers.{Rests, token};
+ghost use Rattle.nr_board.specs.Holds.{HeldAs, HoldsAfter, HoldsLooked, MovesOn, MovesTo, TriesWord, finds_by_word};
+ghost use Rattle.nr_board.specs.Plays.{IsIdle};
+ghost use Rattle.nr_board.specs.Seats.{HoldsAt, IdlesAt};
+ghost use Rattle.nr_board.specs.Views.{caller_number, rows_held};
+ghost use Rattle.nr_board.specs.WordPlays.{HasWord, HoldsByWord};
+
+use crate::board::{Board, Seat};
+use crate::only_proved::only_proved;
+use nr_words::{names, parts};
+
+/// A set that a reader holds: its slot, where the slot's first content word stands, how many rows it
+/// has, and whether the reader's own word says the slot, or a count holds it.
+#[derive(Clone, Copy)]
+pub struct Held {
+    pub slot: u32,
+    pub begin: u64,
+    pub count: u32,
+    pub by_word: bool,
+}
+
+impl Board {
+    /// A reader that holds nothing finds a key and holds its set; `None` where the key is a hole.
+    /// `own` is the reader's number less one.
+    pub fn hold_key(&self, seat: &mut Seat, own: u32, key: u32) -> Option<Held>
+        requires reader { IdlesAt self.now seat.old }
+        requires number { (token seat.old).number ≡ suc own }
+        requires key { key < self.now.shape.keys }
+        ensures { HoldsAfter 0 (finds_by_word (token seat.old)) self.now key seat.old.me.0.marks seat.old seat.new result }
+    {
+        if own >= self.announcers() {
+            return self.hold_by_count(seat, key);
+        }
+        let word = self.look_at_key(seat, key);
+        if !parts(word).filled {
+            return None;
+        }
+        self.hold_named(seat, own, key, word)
+    }
+
+    /// A reader that holds a set by its word finds another key and holds its set. What it held is let
+    /// go by the announcement of the next slot, unless the key is a hole at its look.
+    pub fn move_on(&self, seat: &mut Seat, own: u32, key: u32) -> Option<Held>
+        requires own { (token seat.old).table ≡ self.now }
+        requires word { HasWord own seat.old.me.0 }
+        requires holds { HoldsByWord self.now.shape seat.old.me.0 }
+        requires key { key < self.now.shape.keys }
+        ensures { MovesOn self.now key seat.old seat.new result }
+    {
+        let word = self.load_key(seat, key);
+        self.move_to(seat, own, key, word)
+    }
+
+    /// The same by the key's word, after the load that gave it.
+    pub fn move_to(&self, seat: &mut Seat, own: u32, key: u32, word: u64) -> Option<Held>
+        requires own { (token seat.old).table ≡ self.now }
+        requires word { HasWord own seat.old.me.0 }
+        requires holds { HoldsByWord self.now.shape seat.old.me.0 }
+        requires key { key < self.now.shape.keys }
+        ensures { MovesTo self.now key seat.old seat.new result }
+    {
+        if parts(word).filled {
+            return self.hold_named(seat, own, key, word);
+        }
+        self.clear(seat, own);
+        self.hold_key(seat, own, key)
+    }
+
+    /// A reader lets go what it holds, in 1 step.
+    pub fn let_go(&self, seat: &mut Seat, own: u32, held: Held)
+        requires held { HeldAs self.now held seat.old }
+        requires number { (token seat.old).number ≡ suc own }
+        ensures reader { IdlesAt self.now seat.new }
+        ensures rests { Rests 1 (token seat.old) (token seat.new) }
+        ensures marks { seat.new.me.0.marks ≡ acted seat.old.me.0.marks seat.old.me.0.marks.put }
+    {
+        if held.by_word {
+            self.clear(seat, own);
+        } else {
+            self.depart(seat, held.begin);
+        }
+    }
+
+    // A reader that has a word finds a key by the word that its look found, in two tries, and then by
+    // the count.
+    fn hold_named(&self, seat: &mut Seat, own: u32, key: u32, word: u64) -> Option<Held>
+        requires own { (token seat.old).table ≡ self.now }
+        requires word { HasWord own seat.old.me.0 }
+        requires free { IsIdle seat.old.me.0.role ⊎ HoldsByWord self.now.shape seat.old.me.0 }
+        requires key { key < self.now.shape.keys }
+        ensures { HoldsLooked self.now key seat.old seat.new result }
+    {
+        let newer = match self.try_word(seat, own, key, word) {
+            Ok(answer) => return answer,
+            Err(newer) => newer,
+        };
+        if let Ok(answer) = self.try_word(seat, own, key, newer) {
+            return answer;
+        }
+        self.clear(seat, own);
+        self.hold_by_count(seat, key)
+    }
+
+    // A reader announces the slot that a key's word names, and looks at the key again: what it holds
+    // then, or the key's newer word. At a hole it says nothing any more.
+    fn try_word(&self, seat: &mut Seat, own: u32, key: u32, word: u64) -> Result<Option<Held>, u64>
+        requires own { (token seat.old).table ≡ self.now }
+        requires word { HasWord own seat.old.me.0 }
+        requires free { IsIdle seat.old.me.0.role ⊎ HoldsByWord self.now.shape seat.old.me.0 }
+        requires key { key < self.now.shape.keys }
+        ensures { TriesWord self.now key seat.old seat.new result }
+    {
+        let slot = parts(word).slot;
+        self.announce(seat, own, slot);
+        let newer = self.confirm(seat, own, slot, key);
+        if names(newer, slot) {
+            return Ok(Some(self.held_at(seat, slot, true)));
+        }
+        if parts(newer).filled {
+            return Err(newer);
+        }
+        self.clear(seat, own);
+        Ok(None)
+    }
+
+    // A reader that holds nothing arrives at a key.
+    fn hold_by_count(&self, seat: &mut Seat, key: u32) -> Option<Held>
+        requires reader { IdlesAt self.now seat.old }
+        requires key { key < self.now.shape.keys }
+        ensures { HoldsAfter 0 false self.now key seat.old.me.0.marks seat.old seat.new result }
+    {
+        let found = parts(self.arrive(seat, key));
+        if !found.filled {
+            return None;
+        }
+        Some(self.held_at(seat, found.slot, false))
+    }
+
+    // What a reader holds, by the slot: it reads how many rows there are.
+    fn held_at(&self, seat: &mut Seat, slot: u32, by_word: bool) -> Held
+        requires reader { HoldsAt self.now (content self.now.shape slot 0) seat.old }
+        requires says { seat.old.me.0.says ≡ (if by_word then suc slot else 0) }
+        requires worded { by_word ≡ true → caller_number seat.old.me.0.role ≤ self.now.announcers }
+        ensures held { HeldAs self.now result seat.new }
+        ensures rows { rows_held seat.new.me.0.role ≡ rows_held seat.old.me.0.role }
+        ensures rests { Rests 1 (token seat.old) (token seat.new) }
+        ensures marks { seat.new.me.0.marks ≡ seat.old.me.0.marks }
+    {
+        only_proved(self.rows());
+        let begin = self.content(slot);
+        let count = self.read(seat, begin, 0) as u32;
+        Held {
+            slot,
+            begin,
+            count,
+            by_word,
+        }
+    }
+}
