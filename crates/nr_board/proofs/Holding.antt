@@ -120,7 +120,5 @@ moves_anew table key own before mid after answer holds has rests cleared told =
       later = inr refl;
       steps = n;
       takes = subst (λ (b : Bool). TakesSteps b answer n) (finds_so own mid has) told.takes;
-      all = n + 1;
-      all_is = omega arith;
-      answered = answered_rested table key 1 (n + 0) (n + 1) marks before mid after (omega arith) answer rests (subst (λ (m : Marks). IsAnswered table key (n + 0) m mid after answer) here told.answered);
+      answered = answered_rested table key 1 (n + 0) (n + 2 - 1) marks before mid after (omega arith) answer rests (subst (λ (m : Marks). IsAnswered table key (n + 0) m mid after answer) here told.answered);
     }

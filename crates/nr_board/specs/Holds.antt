@@ -100,12 +100,4 @@ pub record MovesTo (table : Table) (key : ℕ) (old new : MapSeat) (answer : Opt
   pub steps : ℕ
   pub takes : TakesSteps true answer steps
   -- but for that load
-  pub all : ℕ
-  pub all_is : suc all ≡ steps + late
-  pub answered : IsAnswered table key all (acted old.me.0.marks old.me.0.marks.put) old new answer
-
--- the same with that load
-pub record MovesOn (table : Table) (key : ℕ) (old new : MapSeat) (answer : Option Held) : Type 0 where
-  pub late : ℕ
-  pub later : (late ≡ 0) ⊎ (late ≡ 2)
-  pub holds : HoldsAfter late true table key (acted old.me.0.marks old.me.0.marks.put) old new answer
+  pub answered : IsAnswered table key (steps + late - 1) (acted old.me.0.marks old.me.0.marks.put) old new answer

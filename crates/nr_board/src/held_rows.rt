@@ -1,10 +1,12 @@
 //! The rows of the slot that a reader holds, as a set takes them.
-ghost use Rattle.std.specs.Prelude.{◌≡◌, ◌<◌, ◌+◌, ◌*◌, length, slice_get, Some};
+ghost use Rattle.std.specs.Prelude.{◌≡◌, ◌<◌, ◌*◌, length, slice_get, Some};
 ghost use Rattle.nr_board.specs.Callers.{Rests, token};
+ghost use Rattle.nr_board.specs.Holds.{HeldAs};
 ghost use Rattle.nr_board.specs.Seats.{HoldsAt};
 ghost use Rattle.nr_board.specs.Views.{rows_held};
 
 use crate::board::{Board, Seat};
+use crate::holds::Held;
 use crate::only_proved::only_proved;
 use nr_model::{Row, RowRoom, RowSource};
 
@@ -39,23 +41,23 @@ impl RowSource for HeldRows<'_> {
 }
 
 impl Board {
-    /// Writes the set of the slot that the reader holds, whose first content word stands at `begin`.
-    pub fn load_rows<R: RowRoom>(&self, seat: &mut Seat, begin: u64, rows: &mut R)
-        requires reader { HoldsAt self.now begin seat.old }
-        ensures reader { HoldsAt self.now begin seat.new }
+    /// Writes the rows that a reader holds.
+    #[inline(always)]
+    pub fn copy_held<R: RowRoom>(&self, seat: &mut Seat, held: Held, rows: &mut R)
+        requires held { HeldAs self.now held seat.old }
+        ensures held { HeldAs self.now held seat.new }
         ensures rows { R.shows rows.new (rows_held seat.old.me.0.role) }
-        ensures rests { Rests (2 * length (rows_held seat.old.me.0.role) + 1) (token seat.old) (token seat.new) }
+        ensures same { rows_held seat.new.me.0.role ≡ rows_held seat.old.me.0.role }
+        ensures rests { Rests (2 * length (rows_held seat.old.me.0.role)) (token seat.old) (token seat.new) }
+        ensures hold { (token seat.new).holds ≡ (token seat.old).holds }
         ensures marks { seat.new.me.0.marks ≡ seat.old.me.0.marks }
-        ensures says { seat.new.me.0.says ≡ seat.old.me.0.says }
     {
-        only_proved(self.rows());
-        let count = self.read(seat, begin, 0);
-        self.copy_rows(seat, begin, count as u32, rows);
+        self.copy_rows(seat, held.begin, held.count, rows);
     }
 
-    /// Writes the rows of that set, that many, without the word that counts them.
+    // Writes the rows, that many, of the slot whose first content word stands at `begin`.
     #[inline(always)]
-    pub fn copy_rows<R: RowRoom>(&self, seat: &mut Seat, begin: u64, count: u32, rows: &mut R)
+    fn copy_rows<R: RowRoom>(&self, seat: &mut Seat, begin: u64, count: u32, rows: &mut R)
         requires reader { HoldsAt self.now begin seat.old }
         requires count { count ≡ length (rows_held seat.old.me.0.role) }
         ensures reader { HoldsAt self.now begin seat.new }

@@ -5,7 +5,7 @@ ghost use Rattle.nr_words.specs.KeyWords.{is_filled};
 ghost use Rattle.nr_machine.specs.Slots.{content};
 ghost use Rattle.nr_marks.specs.Marks.{acted};
 ghost use Rattle.nr_board.specs.Callers.{Rests, token};
-ghost use Rattle.nr_board.specs.Holds.{HeldAs, HoldsAfter, HoldsLooked, MovesOn, MovesTo, TriesWord, finds_by_word};
+ghost use Rattle.nr_board.specs.Holds.{HeldAs, HoldsAfter, HoldsLooked, MovesTo, TriesWord, finds_by_word};
 ghost use Rattle.nr_board.specs.Plays.{IsIdle};
 ghost use Rattle.nr_board.specs.Seats.{HoldsAt, IdlesAt};
 ghost use Rattle.nr_board.specs.Views.{caller_number, rows_held};
@@ -44,20 +44,9 @@ impl Board {
         self.hold_named(seat, own, key, word)
     }
 
-    /// A reader that holds a set by its word finds another key and holds its set. What it held is let
-    /// go by the announcement of the next slot, unless the key is a hole at its look.
-    pub fn move_on(&self, seat: &mut Seat, own: u32, key: u32) -> Option<Held>
-        requires own { (token seat.old).table ≡ self.now }
-        requires word { HasWord own seat.old.me.0 }
-        requires holds { HoldsByWord self.now.shape seat.old.me.0 }
-        requires key { key < self.now.shape.keys }
-        ensures { MovesOn self.now key seat.old seat.new result }
-    {
-        let word = self.load_key(seat, key);
-        self.move_to(seat, own, key, word)
-    }
-
-    /// The same by the key's word, after the load that gave it.
+    /// A reader that holds a set by its word finds a key and holds its set, by the key's word, which it
+    /// loaded. What it held is let go by the announcement of the next slot, or, at a hole, by a clear
+    /// before it finds anew.
     pub fn move_to(&self, seat: &mut Seat, own: u32, key: u32, word: u64) -> Option<Held>
         requires own { (token seat.old).table ≡ self.now }
         requires word { HasWord own seat.old.me.0 }

@@ -283,14 +283,14 @@ module _ {Room : Type 0} (shows : Room → List Row → Type 0) where
   deal_goes_on put given (Rests steps old new says) books = same_goes_on old new put given books (old.steps + steps) old.marks.polls says
 
   run_books : {writer : Caller} {put : List (List Row)} {given : List Given} → Run shows writer put given → Books writer put given
-  run_books (Opens shape map writer readers opened) = subst (λ (c : Caller). Ledger c [] → Books c [] []) (sym opened.writes) (λ ledger. record {
+  run_books (Opens shape words map writer readers opened) = subst (λ (c : Caller). Ledger c [] → Books c [] []) (sym opened.writes) (λ ledger. record {
     writes = refl;
     ledger = ledger;
     count = refl;
     many = length-replicate shape.slots [] ∙ ap (λ (s : Shape). s.slots) (sym opened.sizes);
     stand = λ slot low kept. absurd (omega arith);
     gave = λ at one there. absurd (some-ne-none one (sym there));
-  }) (opening_begins_lem shape map writer readers opened)
+  }) (opening_begins_lem shape words map writer readers opened)
   run_books (Goes old new put more given out run deal) = deal_goes_on put given deal (run_books run)
 
   pub each_set_comes_out_once_lem : EachSetComesOutOnce shows

@@ -373,7 +373,7 @@ zeros (suc n) zero = refl
 zeros (suc n) (suc i) = zeros n i
 
 pub opening_begins_lem : OpeningBegins
-opening_begins_lem shape map writer readers opened = let size : shape.slots ≡ map.shape.slots = ap (λ (s : Shape). s.slots) (sym opened.sizes) in
+opening_begins_lem shape words map writer readers opened = let size : shape.slots ≡ map.shape.slots = ap (λ (s : Shape). s.slots) (sym opened.sizes) in
     subst (λ (c : Caller). Ledger c []) (sym opened.writes) (record {
       slots = (length-replicate shape.slots 0 ∙ size, omega arith, length-replicate shape.slots false ∙ size);
       taken = λ slot lives. ⊎_elim (λ named. absurd (let none = zeros shape.keys named.0 in let is = named.2 in omega arith)) (λ retired. absurd (some-ne-none retired.1 (sym retired.2))) lives;

@@ -3,7 +3,6 @@ use Rattle.std.proofs.Common.{◌≡◌, ℕ, zero, suc, ◌+◌, ◌<◌, List,
 use Rattle.std.specs.Prelude.{All, Some, slice_get}
 use mathlib.Core.Logic.{dite}
 use native.Mathlib.Decide.{ℕ_discrete}
-use Rattle.nr_machine.specs.declared.shape.Shape.{Shape}
 use Rattle.nr_marks.specs.Marks.{no_marks}
 use Rattle.nr_board.proofs.Tokens.{MapSeat}
 use Rattle.nr_board.specs.Callers.{Caller, Table, caller_of}
@@ -22,11 +21,10 @@ get_new (r ∷ readers) last zero e = absurd (omega arith)
 get_new (r ∷ readers) last (suc place) e = get_new readers last place (omega arith)
 
 -- one reader more
-pub seated_more : (shape : Shape) (table : Table) (seat next : MapSeat) (readers longer : List Caller) (last : Caller) (made : ℕ) → Seated shape table seat readers made → next.table_id ≡ seat.table_id → next.me.0 ≡ made_so shape (made + 1)
-    → longer ≡ readers ++ last ∷ [] → table.shape ≡ shape → last ≡ caller_of seat.table_id (next_reader seat.me.0) → Seated shape table next longer (made + 1)
-seated_more shape table seat next readers longer last made so own view more sized is = let new : last ≡ newcomer table (made + 1) no_marks
-    = is ∙ (λ j. caller_of (so.own j) (next_reader (so.view j))) ∙ (λ j. newcomer (record { id = table.id; shape = sym sized j; announcers = sym so.counted j }) (made + 1) no_marks) in record {
-      counted = so.counted;
+pub seated_more : (table : Table) (seat next : MapSeat) (readers longer : List Caller) (last : Caller) (made : ℕ) → Seated table seat readers made → next.table_id ≡ seat.table_id → next.me.0 ≡ made_so table (made + 1)
+    → longer ≡ readers ++ last ∷ [] → last ≡ caller_of seat.table_id (next_reader seat.me.0) → Seated table next longer (made + 1)
+seated_more table seat next readers longer last made so own view more is = let new : last ≡ newcomer table (made + 1) no_marks
+    = is ∙ (λ j. caller_of (so.own j) (next_reader (so.view j))) in record {
       own = own ∙ so.own;
       view = view;
       count = omega (arith, so.count, ap length more, length-append readers (last ∷ []));

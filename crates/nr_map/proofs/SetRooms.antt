@@ -9,10 +9,11 @@ use Rattle.nr_board.specs.declared.answers.Found.TheVariants as found
 use Rattle.nr_board.specs.WriterAnswers.{LooksAt, LooksIn}
 use Rattle.nr_map.specs.Answers.{FindsIn, FindsKey}
 use Rattle.nr_board.specs.Callers.{Caller, Gains}
+use Rattle.nr_board.specs.Holds.{FindsRows}
 
 module _ (key : ℕ) (old new : Caller) (before after : List Row) where
   pub finds_set : (answer : Found) → FindsIn (λ (room rows : List Row). room ≡ rows) key old before new after answer → FindsKey key old before new after answer
-  finds_set found.Rows (rows, gains, same, held) = subst (λ (set : List Row). Gains (2 * length set + 3) old (model.Find key) (reply.Rows set) new) (sym same) gains
+  finds_set found.Rows (rows, gains, same, held) = subst (λ (set : List Row). FindsRows (2 * length set + 1) key set old new) (sym same) gains
   finds_set found.Hole told = told
 
   pub looks_set : (answer : Found) → LooksIn (λ (room rows : List Row). room ≡ rows) key old before new after answer → LooksAt key old before new after answer

@@ -9,16 +9,17 @@ use Rattle.nr_board.specs.declared.answers.Found.TheVariants as found
 use Rattle.nr_map.specs.declared.answers.Asked.{Asked}
 use Rattle.nr_map.specs.declared.answers.Asked.TheVariants as asked
 use Rattle.nr_board.specs.Callers.{Caller, Gains}
+use Rattle.nr_board.specs.Holds.{FindsHole, FindsRows}
 
--- a find: on a hole the caller's set stays; else it has all rows of the reply
+-- a find, in the steps of a hold and a step for each word of the rows and one that lets go: on a hole the caller's set stays; else it has all rows of the reply
 abbrev pub FindsKey : ℕ → Caller → List Row → Caller → List Row → Found → Type 0
-FindsKey key old before new rows found.Rows = Gains (2 * length rows + 3) old (model.Find key) (reply.Rows rows) new
-FindsKey key old before new rows found.Hole = Gains 1 old (model.Find key) reply.Hole new × (rows ≡ before)
+FindsKey key old before new rows found.Rows = FindsRows (2 * length rows + 1) key rows old new
+FindsKey key old before new rows found.Hole = FindsHole 0 key old new × (rows ≡ before)
 
 -- a find into any room: on a hole it stays; else it shows all rows of the reply, which ascend and are at most the map's rows
 abbrev pub FindsIn : {Room : Type 0} → (Room → List Row → Type 0) → ℕ → Caller → Room → Caller → Room → Found → Type 0
-FindsIn shows key old before new room found.Rows = (rows : List Row) × Gains (2 * length rows + 3) old (model.Find key) (reply.Rows rows) new × shows room rows × IsRowSet old.table.shape.rows rows
-FindsIn shows key old before new room found.Hole = Gains 1 old (model.Find key) reply.Hole new × (room ≡ before)
+FindsIn shows key old before new room found.Rows = (rows : List Row) × FindsRows (2 * length rows + 1) key rows old new × shows room rows × IsRowSet old.table.shape.rows rows
+FindsIn shows key old before new room found.Hole = FindsHole 0 key old new × (room ≡ before)
 
 -- a find arrives, and departs from the set that it found
 abbrev pub acts_of : Found → ℕ

@@ -61,7 +61,7 @@ module _ {Room : Type 0} (shows : Room → List Row → Type 0) where
 
   -- the writer after any such calls from an opening on, with the sets that they put, in order, and those that they gave out
   pub data Run : Caller → List (List Row) → List Given → Type 0 where
-    Opens : (shape : Shape) (map : Table) (writer : Caller) (readers : List Caller) → IsOpened shape map writer readers → Run writer [] []
+    Opens : (shape : Shape) (words : ℕ) (map : Table) (writer : Caller) (readers : List Caller) → IsOpened shape words map writer readers → Run writer [] []
     Goes : (old new : Caller) (put more : List (List Row)) (given out : List Given) → Run old put given → Deals old more out new → Run new (put ++ more) (given ++ out)
 
 -- the rows of a put number, where these sets were put

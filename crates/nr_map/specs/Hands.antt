@@ -1,5 +1,5 @@
 -- A reader that is idle or holds the set of a key.
-use Rattle.std.specs.Prelude.{◌≡◌, ◌≢◌, ℕ, ◌+◌, ◌*◌, ◌==◌, ◌⊎◌, Bool, true, false, if◌then◌else◌, List, [], length, Option, Some, None, IsSome, Result, Ok, Err}
+use Rattle.std.specs.Prelude.{◌≡◌, ◌≢◌, ℕ, ◌+◌, ◌-◌, ◌*◌, ◌==◌, ◌<◌, ◌≤◌, ◌⊎◌, Bool, true, false, if◌then◌else◌, List, [], length, Option, Some, None, IsSome, Result, Ok, Err}
 use Rattle.atomic_table.specs.declared.shared.Seat.{Seat}
 use Rattle.nr_model.specs.declared.rows.Row.{Row}
 use Rattle.nr_model.specs.Rows.{IsRowSet}
@@ -13,10 +13,11 @@ use Rattle.nr_marks.specs.Puts.{put_number}
 use Rattle.nr_board.specs.declared.answers.Found.{Found}
 use Rattle.nr_board.specs.declared.answers.Found.TheVariants as found
 use Rattle.nr_board.specs.Callers.{Caller, Gains, Grows, KnowsOwn, Rests, token}
+use Rattle.nr_board.specs.Holds.{FindsHole, FindsRows, HeldIn, HoleIn, finds_by_word}
 use Rattle.nr_board.specs.Meetings.{HasPut}
 use Rattle.nr_board.specs.Rule.{StartsWith}
 use Rattle.nr_board.specs.Views.{View, rows_held}
-use Rattle.nr_map.specs.declared.hand.Held.{Held}
+use Rattle.nr_map.specs.declared.hand.Kept.{Kept}
 use Rattle.nr_map.specs.Pins.{Pinned, Pins}
 
 -- the reader, the key whose set it holds, and the rows of that set; none where it holds nothing
@@ -38,17 +39,17 @@ abbrev pub BecomesPin : Handed → Result Pinned Caller → Type 0
 BecomesPin hand (Ok pin) = (key : ℕ) × (hand ≡ in_hand key pin)
 BecomesPin hand (Err reader) = hand ≡ idle reader
 
-abbrev pub key_held : Option Held → Option ℕ
+abbrev pub key_held : Option Kept → Option ℕ
 key_held None = None
-key_held (Some held) = Some held.key
+key_held (Some kept) = Some kept.key
 
-abbrev pub handed : Seat (Unit {0}) View → Option Held → Handed
+abbrev pub handed : Seat (Unit {0}) View → Option Kept → Handed
 handed seat held = record { reader = token seat; key = key_held held; rows = rows_held seat.me.0.role }
 
 -- the seat is that of a reader, which holds nothing or what stands there
-abbrev pub IsHand : Seat (Unit {0}) View → ℕ → Option Held → Type 0
-IsHand seat number None = (seat.me.0.role ≡ Reader number Nothing) × KnowsOwn (token seat) × (seat.me.0.says ≡ 0)
-IsHand seat number (Some held) = Pins seat number held.slot held.begin held.count
+abbrev pub IsHand : Seat (Unit {0}) View → ℕ → Option Kept → Type 0
+IsHand seat number None = (seat.me.0.role ≡ Reader number Nothing) × KnowsOwn (token seat) × (seat.me.0.says ≡ 0) × (0 < number)
+IsHand seat number (Some kept) = Pins seat number kept.set
 
 -- a hand that holds a set lets it go by one step, an act; one that holds nothing makes none
 abbrev pub steps_to_depart : Option ℕ → ℕ
@@ -87,10 +88,14 @@ pub record HoldsNothing (key : ℕ) (old new : Handed) : Type 0 where
   pub holds : new.reader.holds ≡ None
   pub marks : new.reader.marks ≡ acted (departed old.key old.reader.marks) (put_number new.reader.seen key)
 
--- a pin by a hand is a find, before which it lets go what it held
+-- a find that holds the key's set, in the steps of a hold and so many more
+abbrev pub PinsIn : ℕ → ℕ → Handed → Handed → Bool → Type 0
+PinsIn more key old new true = FindsRows more key new.rows old.reader new.reader × HoldsKey key old new
+PinsIn more key old new false = FindsHole more key old.reader new.reader × HoldsNothing key old new
+
+-- a pin by a hand lets go what it held before it finds
 abbrev pub PinsByHand : ℕ → Handed → Handed → Bool → Type 0
-PinsByHand key old new true = Gains (steps_to_depart old.key + 2) old.reader (model.Find key) (reply.Rows new.rows) new.reader × HoldsKey key old new
-PinsByHand key old new false = Gains (steps_to_depart old.key + 1) old.reader (model.Find key) reply.Hole new.reader × HoldsNothing key old new
+PinsByHand key old new answer = PinsIn (steps_to_depart old.key) key old new answer
 
 -- the hand asks whether the key has its set still by one step, where it holds a set of that key
 abbrev pub steps_to_ask : ℕ → Option ℕ → ℕ
@@ -121,10 +126,10 @@ abbrev pub AgainByHand : ℕ → Handed → Handed → Bool → Type 0
 AgainByHand key old new true = FindsHeld 1 key old new
 AgainByHand key old new false = (old.key ≡ Some key → AsksInVain key old new) × (old.key ≢ Some key → new ≡ old)
 
--- a find into any room that arrives after that many steps and keeps what it holds; a hole leaves the room as it was
+-- a find into any room, after that many steps, which keeps what it holds; a hole leaves the room as it was
 abbrev pub FindsAnew : {Room : Type 0} → (Room → List Row → Type 0) → ℕ → ℕ → Handed → Room → Handed → Room → Found → Type 0
-FindsAnew shows begun key old before new room found.Rows = Gains (begun + 2 * length new.rows + 2) old.reader (model.Find key) (reply.Rows new.rows) new.reader × HoldsKey key old new × shows room new.rows
-FindsAnew shows begun key old before new room found.Hole = Gains (begun + 1) old.reader (model.Find key) reply.Hole new.reader × HoldsNothing key old new × (room ≡ before)
+FindsAnew shows begun key old before new room found.Rows = FindsRows (begun + 2 * length new.rows) key new.rows old.reader new.reader × HoldsKey key old new × shows room new.rows
+FindsAnew shows begun key old before new room found.Hole = FindsHole begun key old.reader new.reader × HoldsNothing key old new × (room ≡ before)
 
 -- such a find, after which nothing is held
 abbrev pub FindsAndLetsGo : {Room : Type 0} → (Room → List Row → Type 0) → ℕ → Handed → Room → Handed → Room → Found → Type 0
@@ -134,8 +139,33 @@ FindsAndLetsGo shows key old before new room answer = (kept : Handed) × FindsAn
 abbrev pub AskedBefore : ℕ → Handed → Handed → Type 0
 AskedBefore key old new = (asked : Handed) × AsksInVain key old asked × StartsWith new.reader.seen asked.reader.seen
 
--- a find by a hand that keeps its hold: it reads the rows that it holds where the key has them still, and else finds anew, but asks first whether it need
+-- a hand goes on from what it holds to a key, in these steps but for the load of the key's word before
+abbrev pub LateIn : Bool → ℕ → Type 0
+LateIn false late = late ≡ 2
+LateIn true late = (late ≡ 0) ⊎ (late ≡ 2)
+
+abbrev pub MovesByHand : ℕ → Handed → Handed → Bool → Type 0
+MovesByHand key old new true =
+    (late steps : ℕ) × LateIn (finds_by_word old.reader) late × HeldIn (finds_by_word old.reader) steps × Gains (steps + late - 1) old.reader (model.Find key) (reply.Rows new.rows) new.reader × HoldsKey key old new
+MovesByHand key old new false =
+    (late steps : ℕ) × LateIn (finds_by_word old.reader) late × HoleIn (finds_by_word old.reader) steps × Gains (steps + late - 1) old.reader (model.Find key) reply.Hole new.reader × HoldsNothing key old new
+
+-- what such a hand does before it finds anew: by the count it asks, and lets go what it held. By a word what it held is let go by the next announcement, and its look is the find's; a hand that held by the count departs, and one whose look found a hole clears its word and looks once more
+abbrev pub BegunIn : Bool → ℕ → Option ℕ → ℕ → Type 0
+BegunIn false key held begun = begun ≡ steps_to_ask key held + steps_to_depart held
+BegunIn true key None begun = begun ≡ 0
+BegunIn true key (Some held) begun = begun ≤ 2
+
+-- a hand that keeps its hold: it finds the set that it holds again, or it finds anew
+abbrev pub KeepsAnew : ℕ → Handed → Handed → Bool → Type 0
+KeepsAnew key old new answer = (old.key ≡ Some key → AskedBefore key old new) × (begun : ℕ) × BegunIn (finds_by_word old.reader) key old.key begun × PinsIn begun key old new answer
+
+abbrev pub KeepsByHand : ℕ → Handed → Handed → Bool → Type 0
+KeepsByHand key old new true = FindsHeld 1 key old new ⊎ KeepsAnew key old new true
+KeepsByHand key old new false = KeepsAnew key old new false
+
+-- a find by a hand that keeps its hold: it reads the rows that it holds where the key has them still, and else finds anew
 abbrev pub FindsKept : {Room : Type 0} → (Room → List Row → Type 0) → ℕ → Handed → Room → Handed → Room → Found → Type 0
 FindsKept shows key old before new room answer =
     (FindsHeld (2 * length old.rows + 1) key old new × shows room old.rows × (answer ≡ found.Rows))
-    ⊎ ((old.key ≡ Some key → AskedBefore key old new) × FindsAnew shows (steps_to_ask key old.key + steps_to_depart old.key) key old before new room answer)
+    ⊎ ((old.key ≡ Some key → AskedBefore key old new) × (begun : ℕ) × BegunIn (finds_by_word old.reader) key old.key begun × FindsAnew shows begun key old before new room answer)

@@ -11,21 +11,24 @@ abbrev pub newcomer : Table → ℕ → Marks → Caller
 newcomer table number marks = record { table = table; number = number; seen = []; mine = []; steps = 0; fresh = 0; retired = []; numbers = []; holds = None; marks = marks; pasts = [] }
 
 -- the writer's view after it made that many readers
-abbrev pub made_so : Shape → ℕ → View
-made_so shape made = record (opener (record { shape = shape; announcers = 0 })) { made = made }
+abbrev pub made_so : Table → ℕ → View
+made_so table made = record (opener (record { shape = table.shape; announcers = table.announcers })) { made = made }
 
 -- the writer's seat has made that many readers, each a newcomer with its place's number
-pub record Seated (shape : Shape) (table : Table) (seat : Seat (Unit {0}) View) (readers : List Caller) (made : ℕ) : Type 0 where
+pub record Seated (table : Table) (seat : Seat (Unit {0}) View) (readers : List Caller) (made : ℕ) : Type 0 where
   pub own : seat.table_id ≡ table.id
-  pub view : seat.me.0 ≡ made_so shape made
+  pub view : seat.me.0 ≡ made_so table made
   pub count : length readers ≡ made
-  -- its readers find by counts
-  pub counted : table.announcers ≡ 0
   pub reads : (place : ℕ) → place < made → slice_get readers place ≡ Some (newcomer table (place + 1) no_marks)
 
--- the map has its sizes; the writer and the readers, in the order of their numbers, are its newcomers; each key has the first number
-pub record IsOpened (shape : Shape) (map : Table) (writer : Caller) (readers : List Caller) : Type 0 where
+-- how many readers of a map that is opened as a large one have a word of their own
+abbrev pub words_of_large : Shape → ℕ
+words_of_large shape = 0
+
+-- the map has its sizes, and so many of its readers have a word of their own; the writer and the readers, in the order of their numbers, are its newcomers; each key has the first number
+pub record IsOpened (shape : Shape) (words : ℕ) (map : Table) (writer : Caller) (readers : List Caller) : Type 0 where
   pub sizes : map.shape ≡ shape
+  pub words_are : map.announcers ≡ words
   pub writes : writer ≡ record (newcomer map 0 (opening_marks shape)) { numbers = replicate shape.keys shape.first_number }
   pub count : length readers ≡ shape.readers
   pub reads : (place : ℕ) → place < shape.readers → slice_get readers place ≡ Some (newcomer map (place + 1) no_marks)

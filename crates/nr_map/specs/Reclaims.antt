@@ -62,8 +62,8 @@ ReapedOnce =
 -- a new map has put no set and let go of none
 abbrev pub OpeningBegins : Type 0
 OpeningBegins =
-    (shape : Shape) (map : Table) (writer : Caller) (readers : List Caller) →
-    IsOpened shape map writer readers →
+    (shape : Shape) (words : ℕ) (map : Table) (writer : Caller) (readers : List Caller) →
+    IsOpened shape words map writer readers →
     Ledger writer []
 
 -- an eviction leaves it, whatever it answers

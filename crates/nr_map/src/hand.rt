@@ -1,6 +1,6 @@
 //! A reader that is idle or holds the set of a key, from call to call.
 ghost use Rattle.std.specs.Prelude.{◌≡◌, ◌<◌, ◌*◌, length, IsSome};
-ghost use Rattle.nr_map.specs.Hands.{AgainByHand, BecomesPin, LetsGo, PinsByHand, CopiesHeld, in_hand, idle};
+ghost use Rattle.nr_map.specs.Hands.{AgainByHand, BecomesPin, LetsGo, KeepsByHand, MovesByHand, PinsByHand, CopiesHeld, in_hand, idle};
 ghost use Rattle.nr_board.specs.Callers.{KnowsOwn};
 ghost use Rattle.nr_board.specs.Meetings.{HearsNote, known_to, with_step};
 
@@ -8,9 +8,9 @@ use crate::notes::Note;
 use crate::pin::Pin;
 use crate::reader::Reader;
 use crate::reader_map::ReaderMap;
-use nr_board::Seat;
+use nr_board::{Held, Seat};
 use nr_model::RowRoom;
-use nr_words::parts;
+use nr_words::names;
 use std::marker::Model;
 
 /// A reader between two calls, whether it holds nothing or the set that it found of a key. What it
@@ -19,17 +19,14 @@ use std::marker::Model;
 pub struct Hand {
     seat: Seat,
     number: u32,
-    held: Option<Held>,
+    held: Option<Kept>,
 }
 
-// The key whose set is held, its slot, where the slot's first content word stands, and how many rows it
-// has.
+// The key whose set is held, and what is held of it.
 #[derive(Clone, Copy)]
-pub(crate) struct Held {
+pub(crate) struct Kept {
     key: u32,
-    slot: u32,
-    begin: u64,
-    count: u32,
+    set: Held,
 }
 
 impl Model for Hand {
@@ -75,22 +72,11 @@ impl Hand {
     pub fn of_pin(pin: Pin, key: u32) -> Hand
         ensures { result ≡ in_hand key pin }
     {
-        let Pin {
-            seat,
-            number,
-            slot,
-            begin,
-            count,
-        } = pin;
+        let Pin { seat, number, held } = pin;
         Hand {
             seat,
             number,
-            held: Some(Held {
-                key,
-                slot,
-                begin,
-                count,
-            }),
+            held: Some(Kept { key, set: held }),
         }
     }
 
@@ -99,16 +85,14 @@ impl Hand {
         ensures { BecomesPin self result }
     {
         let Hand { seat, number, held } = self;
-        let Some(held) = held else {
-            return Err(Reader::of_seat(seat, number));
-        };
-        Ok(Pin {
-            seat,
-            number,
-            slot: held.slot,
-            begin: held.begin,
-            count: held.count,
-        })
+        match held {
+            Some(kept) => Ok(Pin {
+                seat,
+                number,
+                held: kept.set,
+            }),
+            None => Err(Reader::of_seat(seat, number)),
+        }
     }
 
     /// The number of its reader.
@@ -123,7 +107,7 @@ impl Hand {
         ensures { result ≡ self.now.key }
     {
         match self.held {
-            Some(held) => Some(held.key),
+            Some(kept) => Some(kept.key),
             None => None,
         }
     }
@@ -133,7 +117,7 @@ impl Hand {
         ensures { result ≡ length self.now.rows }
     {
         match self.held {
-            Some(held) => held.count,
+            Some(kept) => kept.set.count,
             None => 0,
         }
     }
@@ -146,9 +130,8 @@ impl Hand {
         ensures copied { R.shows rows.new self.old.rows }
         ensures reads { CopiesHeld (2 * length self.old.rows) self.old self.new }
     {
-        if let Some(held) = self.held {
-            map.board
-                .copy_rows(&mut self.seat, held.begin, held.count, rows);
+        if let Some(kept) = self.held {
+            map.board.copy_held(&mut self.seat, kept.set, rows);
         }
     }
 
@@ -158,14 +141,14 @@ impl Hand {
         ensures own { self.new.reader.table ≡ map.now }
         ensures lets_go { LetsGo self.old self.new }
     {
-        if let Some(held) = self.held {
-            map.board.depart(&mut self.seat, held.begin);
+        if let Some(kept) = self.held {
+            map.board.let_go(&mut self.seat, self.number - 1, kept.set);
             self.held = None;
         }
     }
 
-    /// Lets go what is held, and finds a key and holds its set: whether the key is filled. Takes 2
-    /// steps, 1 for a hole, and 1 more where something was held.
+    /// Lets go what is held, and finds a key and holds its set: whether the key is filled. Takes the
+    /// steps of the map's `pin`, and 1 more where something was held.
     pub fn pin(&mut self, map: &ReaderMap, key: u32) -> bool
         requires own { self.old.reader.table ≡ map.now }
         requires key { key < map.now.shape.keys }
@@ -173,19 +156,13 @@ impl Hand {
         ensures pins { PinsByHand key self.old self.new result }
     {
         self.release(map);
-        let found = parts(map.board.arrive(&mut self.seat, key));
-        if !found.filled {
-            return false;
+        match map.board.hold_key(&mut self.seat, self.number - 1, key) {
+            Some(set) => {
+                self.held = Some(Kept { key, set });
+                true
+            }
+            None => false,
         }
-        let begin = map.board.content(found.slot);
-        let count = map.board.read(&mut self.seat, begin, 0) as u32;
-        self.held = Some(Held {
-            key,
-            slot: found.slot,
-            begin,
-            count,
-        });
-        true
     }
 
     /// Finds a key again: whether it still has the set that is held, put by the same fill or update.
@@ -198,8 +175,61 @@ impl Hand {
         ensures again { AgainByHand key self.old self.new result }
     {
         match self.held {
-            Some(held) if held.key == key => map.board.find_again(&mut self.seat, held.slot, key),
+            Some(kept) if kept.key == key => {
+                map.board.find_again(&mut self.seat, kept.set.slot, key)
+            }
             _ => false,
+        }
+    }
+
+    // Holds the set of a key: the one that is held, where the key has it still, or what a find finds.
+    pub(crate) fn keep(&mut self, map: &ReaderMap, key: u32) -> bool
+        requires own { self.old.reader.table ≡ map.now }
+        requires key { key < map.now.shape.keys }
+        ensures own { self.new.reader.table ≡ map.now }
+        ensures keeps { KeepsByHand key self.old self.new result }
+    {
+        let Some(kept) = self.held else {
+            return self.pin(map, key);
+        };
+        if kept.key == key {
+            let word = map.board.look_again(&mut self.seat, kept.set.slot, key);
+            if names(word, kept.set.slot) {
+                return true;
+            }
+            return self.move_to(map, key, word);
+        }
+        if !kept.set.by_word {
+            return self.pin(map, key);
+        }
+        let word = map.board.load_key(&mut self.seat, key);
+        self.move_to(map, key, word)
+    }
+
+    // Goes on from the set that is held to a key, whose word was loaded: a reader that holds by its
+    // word announces the slot that this names.
+    fn move_to(&mut self, map: &ReaderMap, key: u32, word: u64) -> bool
+        requires own { self.old.reader.table ≡ map.now }
+        requires key { key < map.now.shape.keys }
+        requires holds { IsSome self.old.key }
+        ensures own { self.new.reader.table ≡ map.now }
+        ensures moves { MovesByHand key self.old self.new result }
+    {
+        match self.held {
+            Some(kept) if kept.set.by_word => {
+                let own = self.number - 1;
+                match map.board.move_to(&mut self.seat, own, key, word) {
+                    Some(set) => {
+                        self.held = Some(Kept { key, set });
+                        true
+                    }
+                    None => {
+                        self.held = None;
+                        false
+                    }
+                }
+            }
+            _ => self.pin(map, key),
         }
     }
 

@@ -21,23 +21,25 @@ impl Hand {
     }
 
     /// Looks a key up and holds its set for the next call. Where it holds the key's set already and
-    /// finds it again, it takes 2n + 1 steps for n rows, which write no word. Else it lets go what it
-    /// held, arrives, reads and holds: 2n + 2 steps, 1 for a hole, and 1 more where something was
-    /// held, and yet 1 where that was another set of the key.
+    /// finds it again, it takes 2n + 1 steps for n rows, which write no word. Else it finds and holds
+    /// anew. By the counts it lets go what it held first: 2n + 2 steps, 1 for a hole, and 1 more where
+    /// something was held, and yet 1 where that was another set of the key. A reader that has a word
+    /// takes 2n + 4, 2n + 6 or 2n + 8 steps, 1, 4, 6 or 7 for a hole, and at most 2 more where
+    /// something was held: what it held by the word the next announcement lets go.
     pub fn find_kept<R: RowRoom>(&mut self, map: &ReaderMap, key: u32, rows: &mut R) -> Found
         requires own { self.old.reader.table ≡ map.now }
         requires key { key < map.now.shape.keys }
         ensures own { self.new.reader.table ≡ map.now }
         ensures finds { FindsKept R.shows key self.old rows.old self.new rows.new result }
     {
-        if self.again(map, key) {
-            self.copy_to(map, rows);
-            return Found::Rows;
+        if !self.keep(map, key) {
+            return Found::Hole;
         }
-        self.find_anew(map, key, rows)
+        self.copy_to(map, rows);
+        Found::Rows
     }
 
-    // Lets go what is held, arrives, reads and holds.
+    // Lets go what is held, finds, reads and holds.
     fn find_anew<R: RowRoom>(&mut self, map: &ReaderMap, key: u32, rows: &mut R) -> Found
         requires own { self.old.reader.table ≡ map.now }
         requires key { key < map.now.shape.keys }

@@ -8,9 +8,8 @@ ghost use Rattle.nr_board.specs.Callers.{Rests};
 
 use crate::reader::Reader;
 use crate::reader_map::ReaderMap;
-use nr_board::Seat;
+use nr_board::{Held, Seat};
 use nr_model::{Row, RowSet};
-use nr_words::parts;
 use std::marker::Model;
 
 /// A reader that holds the set which it found. The set stays as it is until the reader is
@@ -19,9 +18,7 @@ use std::marker::Model;
 pub struct Pin {
     pub(crate) seat: Seat,
     pub(crate) number: u32,
-    pub(crate) slot: u32,
-    pub(crate) begin: u64,
-    pub(crate) count: u32,
+    pub(crate) held: Held,
 }
 
 impl Model for Pin {
@@ -31,33 +28,24 @@ impl Model for Pin {
 
     ghost view = { λ pin. pinned pin.seat };
 
-    ghost invariant = { λ pin. Pins pin.seat pin.number pin.slot pin.begin pin.count };
+    ghost invariant = { λ pin. Pins pin.seat pin.number pin.held };
 }
 
 impl ReaderMap {
     ghost use Rattle.nr_map.specs.Pins.{PinsKey};
 
-    /// Finds a key, and holds its set: 2 steps. Where the key is a hole, 1 step, the reader comes
-    /// back.
+    /// Finds a key, and holds its set: in 2 steps by the counts, and in 4, 6 or 8 by the reader's word.
+    /// Where the key is a hole, the reader comes back, in 1 step, or by the word in 1, 4, 6 or 7.
     pub fn pin(&self, reader: Reader, key: u32) -> Result<Pin, Reader>
         requires own { reader.table ≡ self.now }
         requires key { key < self.now.shape.keys }
         ensures { PinsKey key reader result }
     {
         let (mut seat, number) = reader.into_seat();
-        let found = parts(self.board.arrive(&mut seat, key));
-        if !found.filled {
-            return Err(Reader::of_seat(seat, number));
+        match self.board.hold_key(&mut seat, number - 1, key) {
+            Some(held) => Ok(Pin { seat, number, held }),
+            None => Err(Reader::of_seat(seat, number)),
         }
-        let begin = self.board.content(found.slot);
-        let count = self.board.read(&mut seat, begin, 0) as u32;
-        Ok(Pin {
-            seat,
-            number,
-            slot: found.slot,
-            begin,
-            count,
-        })
     }
 }
 
@@ -78,7 +66,7 @@ impl Pin {
         ensures row_set { IsRowSet self.now.reader.table.shape.rows self.now.rows }
         ensures holds { IsSome self.now.reader.holds }
     {
-        self.count
+        self.held.count
     }
 
     /// A row of the set, in 2 steps.
@@ -91,7 +79,8 @@ impl Pin {
         ensures holds { self.new.reader.holds ≡ self.old.reader.holds }
         ensures marks { self.new.reader.marks ≡ self.old.reader.marks }
     {
-        map.board.read_row(&mut self.seat, self.begin, u64::from(i))
+        map.board
+            .read_row(&mut self.seat, self.held.begin, u64::from(i))
     }
 
     /// Writes the rows of the set over those of the caller's, in 2 steps a row.
@@ -103,8 +92,7 @@ impl Pin {
         ensures holds { self.new.reader.holds ≡ self.old.reader.holds }
         ensures marks { self.new.reader.marks ≡ self.old.reader.marks }
     {
-        map.board
-            .copy_rows(&mut self.seat, self.begin, self.count, rows);
+        map.board.copy_held(&mut self.seat, self.held, rows);
     }
 
     /// Finds a key again, in 1 step, which loads one word and writes none: whether the key still has
@@ -120,7 +108,7 @@ impl Pin {
         ensures holds { self.new.reader.holds ≡ self.old.reader.holds }
         ensures marks { self.new.reader.marks ≡ found_again result self.old.reader.marks }
     {
-        map.board.find_again(&mut self.seat, self.slot, key)
+        map.board.find_again(&mut self.seat, self.held.slot, key)
     }
 
     /// Ends the hold, in 1 step, and gives the reader back.
@@ -133,11 +121,9 @@ impl Pin {
         let Pin {
             mut seat,
             number,
-            slot: _,
-            begin,
-            count: _,
+            held,
         } = self;
-        map.board.depart(&mut seat, begin);
+        map.board.let_go(&mut seat, number - 1, held);
         Reader::of_seat(seat, number)
     }
 }

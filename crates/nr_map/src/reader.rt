@@ -18,7 +18,7 @@ pub struct Reader {
 }
 
 impl Model for Reader {
-    ghost use Rattle.std.specs.Prelude.{◌≡◌};
+    ghost use Rattle.std.specs.Prelude.{◌≡◌, ◌<◌};
     ghost use Rattle.nr_machine.specs.declared.roles.Role.TheVariants.{Reader as reader_role};
     ghost use Rattle.nr_machine.specs.declared.roles.Grip.TheVariants.{Nothing};
     ghost use Rattle.nr_board.specs.Callers.{Caller, token, KnowsOwn};
@@ -27,7 +27,7 @@ impl Model for Reader {
 
     ghost view = { λ reader. token reader.seat };
 
-    ghost invariant = { λ reader. (reader.seat.me.0.role ≡ reader_role reader.number Nothing) × KnowsOwn (token reader.seat) × (reader.seat.me.0.says ≡ 0) };
+    ghost invariant = { λ reader. (reader.seat.me.0.role ≡ reader_role reader.number Nothing) × KnowsOwn (token reader.seat) × (reader.seat.me.0.says ≡ 0) × (0 < reader.number) };
 }
 
 impl Reader {
@@ -39,6 +39,7 @@ impl Reader {
         requires role { seat.me.0.role ≡ reader_role number Nothing }
         requires own { KnowsOwn (token seat) }
         requires silent { seat.me.0.says ≡ 0 }
+        requires positive { 0 < number }
         ensures { result ≡ token seat }
     {
         Reader { seat, number }
@@ -49,6 +50,7 @@ impl Reader {
         ensures role { result.0.me.0.role ≡ reader_role result.1 Nothing }
         ensures own { KnowsOwn (token result.0) }
         ensures silent { result.0.me.0.says ≡ 0 }
+        ensures positive { 0 < result.1 }
         ensures token { token result.0 ≡ self }
     {
         let Reader { seat, number } = self;
@@ -70,8 +72,12 @@ impl ReaderMap {
     ghost use Rattle.nr_map.specs.Answers.{AsksKey, FindsIn, FindsKey, acts_of};
 
     /// Looks a key up, and writes its rows into the caller's set, which stays as it is where the
-    /// key is a hole. Takes 1 step for a hole, and 2n + 3 for n rows: it arrives, reads each word
-    /// of the set once, and departs.
+    /// key is a hole. By the counts it takes 1 step for a hole, and 2n + 3 for n rows: it arrives,
+    /// reads each word of the set once, and departs. A reader that has a word takes 2n + 5: it looks,
+    /// announces the slot that it saw, and confirms that the key names it still; it reads, and clears
+    /// its word. Where the key names another slot by then it announces and confirms once more, 2n + 7,
+    /// and after that it clears its word and finds by the counts, 2n + 9. So it takes 1, 4, 6 or 7 for
+    /// a hole.
     pub fn find(&self, reader: &mut Reader, key: u32, rows: &mut RowSet) -> Found
         requires own { reader.old.table ≡ self.now }
         requires key { key < self.now.shape.keys }
@@ -94,14 +100,12 @@ impl ReaderMap {
         ensures idle { reader.new.holds ≡ None }
         ensures acts { reader.new.marks.acts ≡ reader.old.marks.acts + acts_of result }
     {
-        let word = self.board.arrive(&mut reader.seat, key);
-        let found = parts(word);
-        if !found.filled {
+        let own = reader.number - 1;
+        let Some(held) = self.board.hold_key(&mut reader.seat, own, key) else {
             return Found::Hole;
-        }
-        let begin = self.board.content(found.slot);
-        self.board.load_rows(&mut reader.seat, begin, rows);
-        self.board.depart(&mut reader.seat, begin);
+        };
+        self.board.copy_held(&mut reader.seat, held, rows);
+        self.board.let_go(&mut reader.seat, own, held);
         Found::Rows
     }
 

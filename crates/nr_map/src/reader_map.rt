@@ -45,7 +45,7 @@ impl ReaderMap {
         first_count: u64,
     ) -> Result<(ReaderMap, Writer, Vec<Reader>), OpenFault>
         ensures bad_size { (result ≡ Err OpenFault.BadSize) ↔ (IsBadSize MAX_KEYS keys ⊎ IsBadSize MAX_SLOTS slots ⊎ IsBadSize MAX_READERS readers) }
-        ensures ok { IfOk result (λ opened. IsOpened (record { keys = keys; slots = slots; readers = readers; first_count = first_count; first_number = 0; rows = DEFAULT_ROWS }) opened.0 opened.1 opened.2.items) }
+        ensures ok { IfOk result (λ opened. IsOpened (record { keys = keys; slots = slots; readers = readers; first_count = first_count; first_number = 0; rows = DEFAULT_ROWS }) 0 opened.0 opened.1 opened.2.items) }
     {
         let shape = Shape {
             keys,
@@ -66,12 +66,12 @@ impl ReaderMap {
         shape: &Shape,
     ) -> Result<(ReaderMap, Writer, Vec<Reader>), OpenFault>
         ensures bad_size { (result ≡ Err OpenFault.BadSize) ↔ IsBadShape shape.now }
-        ensures ok { IfOk result (λ opened. IsOpened shape.now opened.0 opened.1 opened.2.items) }
+        ensures ok { IfOk result (λ opened. IsOpened shape.now 0 opened.0 opened.1 opened.2.items) }
     {
         if shape.is_bad() {
             return Err(OpenFault::BadSize);
         }
-        seated(alloc, *shape).map_err(|_| OpenFault::Memory)
+        seated(alloc, *shape, 0).map_err(|_| OpenFault::Memory)
     }
 
     /// How many keys the map has. They are numbered from 0.
@@ -105,19 +105,18 @@ impl ReaderMap {
     }
 }
 
-// A map of those sizes, with its tokens.
+// A map of those sizes, of whose readers that many have a word of their own, with its tokens.
 pub(crate) fn seated(
     alloc: Global,
     shape: Shape,
+    announcers: u32,
 ) -> Result<(ReaderMap, Writer, Vec<Reader>), AllocError>
     requires sizes { IsShape shape }
     requires keys { 0 < shape.keys }
-    ensures { IfOk result (λ opened. IsOpened shape opened.0 opened.1 opened.2.items) }
+    requires counted { announcers ≡ 0 }
+    ensures { IfOk result (λ opened. IsOpened shape announcers opened.0 opened.1 opened.2.items) }
 {
-    let plan = Plan {
-        shape,
-        announcers: 0,
-    };
+    let plan = Plan { shape, announcers };
     let (board, mut seat) = Board::open(alloc, plan)?;
     let readers = seat_readers(alloc, &board, &mut seat, shape.readers)?;
     let writer = Writer::of_seat(alloc, seat, &shape)?;
@@ -131,9 +130,9 @@ fn seat_readers(
     seat: &mut Seat,
     count: u32,
 ) -> Result<Vec<Reader>, AllocError>
-    requires seat { Seated board.now.shape board.now seat.old [] 0 }
+    requires seat { Seated board.now seat.old [] 0 }
     requires count { count ≡ board.now.shape.readers }
-    ensures { IfOk result (λ readers. Seated board.now.shape board.now seat.new readers.items count) }
+    ensures { IfOk result (λ readers. Seated board.now seat.new readers.items count) }
 {
     let mut readers = Vec::with_capacity(alloc, count as usize)?;
     for made in 0..count {

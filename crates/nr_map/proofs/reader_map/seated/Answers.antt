@@ -1,4 +1,4 @@
-use Rattle.std.proofs.Common.{ap, arith, replicate, sym, ◌∙◌}
+use Rattle.std.proofs.Common.{ap, arith, replicate, ◌∙◌}
 use Rattle.nr_machine.specs.declared.shape.Shape.{Shape}
 use Rattle.nr_marks.specs.Marks.{opening_marks}
 use Rattle.nr_map.specs.Opened.{newcomer}
@@ -9,7 +9,8 @@ use Rattle.nr_map.proofs.reader_map.seated.Goals as goal
 pub returns : goal.returns
 returns c = let board = c.in_ok-board.board in let seated = c.in_ok-readers.ensures in record {
   sizes = c.in_ok-board.ensures.board.0;
-  writes = c.in_ok-writer.ensures ∙ (λ j. caller_of (seated.own j) (seated.view j)) ∙ (λ j. record (newcomer (record { id = board.id; shape = board.shape; announcers = sym seated.counted j }) 0 (opening_marks board.shape)) { numbers = replicate board.shape.keys board.shape.first_number }) ∙ ap (λ (s : Shape). record (newcomer board 0 (opening_marks s)) { numbers = replicate s.keys s.first_number }) c.in_ok-board.ensures.board.0;
+  words_are = c.in_ok-board.ensures.board.1;
+  writes = c.in_ok-writer.ensures ∙ (λ j. caller_of (seated.own j) (seated.view j)) ∙ ap (λ (s : Shape). record (newcomer board 0 (opening_marks s)) { numbers = replicate s.keys s.first_number }) c.in_ok-board.ensures.board.0;
   count = seated.count;
   reads = seated.reads;
   own = all_own board c.in_ok-readers.readers.items (λ place low. seated.reads place (omega (arith, seated.count)));

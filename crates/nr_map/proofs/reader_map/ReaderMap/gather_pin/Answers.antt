@@ -11,5 +11,5 @@ returns-clause-gathers c = let writer = c.writer.inside.seat in let pin = c.pin.
     subst (λ (p : Caller × Caller). Gathers p.0 p.1 (token tell.new.other) (token tell.new.seat)) (λ j. (c.writer.view_is j, (c.pin.view_is j).reader))
     (gathers_seats writer pin hear.new.seat hear.new.other tell.new.other tell.new.seat spare.fresh spare.retired spare.numbers
     (caller_number pin.me.0.role) (grip_of (holding pin.me.0.role (is_sized (grip_of pin.me.0.role)))) c.writer.invariant.writes.role
-    c.pin.invariant.holds.holds.is hear.ensures.role.1
+    c.pin.invariant.holds.holds.holds.is hear.ensures.role.1
     hear.ensures.other tell.ensures.other hear.ensures.meets tell.ensures.meets hear.ensures.readers tell.ensures.readers)
