@@ -35,7 +35,7 @@ no_puts : (a n : ℕ) → map (put_number []) (range_with_len a n) ≡ replicate
 no_puts a zero = refl
 no_puts a (suc n) = ap (λ (l : List ℕ). 0 ∷ l) (no_puts (a + 1) n)
 
-module _ (laws : Laws) (shape : Shape) (table : Table) (w : Caller) (readers : List Caller) (new : IsOpened shape table w readers) (some : 0 < shape.readers) (w' : Caller) (tokens' : List ReaderToken)
+module _ (laws : Laws) (shape : Shape) (table : Table) (w : Caller) (readers : List Caller) (new : IsOpened shape 0 table w readers) (some : 0 < shape.readers) (w' : Caller) (tokens' : List ReaderToken)
     (g : Gathered 0 w (map Idle readers) w' tokens') where
   abbrev tokens : List ReaderToken
   tokens = map Idle readers

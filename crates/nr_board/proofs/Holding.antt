@@ -79,23 +79,23 @@ takes_all (Some held) steps is = inr (inr (omega (arith, is)))
 takes_all None steps is = inr (inr (inr (omega (arith, is))))
 
 -- the first try failed, and the second was answered, or it failed too and the reader arrived
-module _ (table : Table) (key : ℕ) (before mid after : MapSeat) (word : ℕ) (first : NamesOther table word before mid) where
+module _ (table : Table) (key : ℕ) (before mid after : MapSeat) (word newer : ℕ) (first : NamesOther table word newer before mid) where
   abbrev marks : Marks
   marks = let_go (grip_of before.me.0.role) before.me.0.marks
 
   marks_mid : let_go (grip_of mid.me.0.role) mid.me.0.marks ≡ marks
   marks_mid = idle_marks mid.me.0.role mid.me.0.marks first.announces.idle ∙ first.marks_are
 
-  pub second_answers : (answer : Option Held) → TriesWord table key mid after (Ok answer) → HoldsLooked table key before after answer
+  pub second_answers : (answer : Option Held) → TriesWord table key newer mid after (Ok answer) → HoldsLooked table key before after answer
   second_answers answer told = record {
     steps = 5;
     takes = takes_two answer;
     answered = answered_later table key 2 3 5 marks before mid after (omega arith) answer first.grows (subst (λ (m : Marks). IsAnswered table key 3 m mid after answer) marks_mid told);
   }
 
-  pub then_arrives : (newer : ℕ) (idle last : MapSeat) (answer : Option Held) → NamesOther table newer mid after → Rests 1 (token after) (token idle) → idle.me.0.marks ≡ let_go (grip_of after.me.0.role) after.me.0.marks
+  pub then_arrives : (newest : ℕ) (idle last : MapSeat) (answer : Option Held) → NamesOther table newer newest mid after → Rests 1 (token after) (token idle) → idle.me.0.marks ≡ let_go (grip_of after.me.0.role) after.me.0.marks
       → HoldsAfter 0 false table key idle.me.0.marks idle last answer → HoldsLooked table key before last answer
-  then_arrives newer idle last answer second rests cleared arrives =
+  then_arrives newest idle last answer second rests cleared arrives =
       let here : idle.me.0.marks ≡ marks = cleared ∙ idle_marks after.me.0.role after.me.0.marks second.announces.idle ∙ second.marks_are ∙ marks_mid in
       let n : ℕ = arrives.steps in
       let told = answered_rested table key 1 (n + 0) (1 + n) marks after idle last (omega arith) answer rests (subst (λ (m : Marks). IsAnswered table key (n + 0) m idle last answer) here arrives.answered) in

@@ -3,8 +3,8 @@ use Rattle.std.specs.Prelude.{◌≡◌, ℕ, suc, ◌+◌, ◌-◌, ◌≤◌, 
 use Rattle.nr_model.specs.declared.calls.Call.TheVariants as model
 use Rattle.nr_model.specs.declared.calls.Reply.TheVariants as reply
 use Rattle.nr_model.specs.declared.rows.Row.{Row}
-use Rattle.nr_words.specs.KeyWords.{is_filled}
-use Rattle.nr_machine.specs.Slots.{content}
+use Rattle.nr_words.specs.KeyWords.{is_filled, slot_of}
+use Rattle.nr_machine.specs.Slots.{content, names_slot}
 use Rattle.nr_marks.specs.Marks.{Marks, acted}
 use Rattle.nr_marks.specs.Puts.{put_number}
 use Rattle.nr_board.specs.declared.holds.Held.{Held}
@@ -81,17 +81,18 @@ pub record HoldsLooked (table : Table) (key : ℕ) (old new : MapSeat) (answer :
   pub takes : TakesSteps true answer (suc steps)
   pub answered : IsAnswered table key steps (let_go (grip_of old.me.0.role) old.me.0.marks) old new answer
 
--- an announcement that was not confirmed, since the key names another slot by now
-pub record NamesOther (table : Table) (word : ℕ) (old new : MapSeat) : Type 0 where
-  pub slot : ℕ
-  pub announces : AnnouncesAt table slot new
+-- the slot of a word was announced, and not confirmed, since the key's newer word names another
+pub record NamesOther (table : Table) (word newer : ℕ) (old new : MapSeat) : Type 0 where
+  pub announces : AnnouncesAt table (slot_of word) new
+  pub filled : is_filled newer ≡ true
+  pub other : names_slot (slot_of word) newer ≡ false
   pub grows : Grows 2 (token old) [] (token new)
   pub marks_are : new.me.0.marks ≡ let_go (grip_of old.me.0.role) old.me.0.marks
 
 -- an announcement and its confirmation, and the load or the store that follows: the find is answered, or there is a newer word
-abbrev pub TriesWord : Table → ℕ → MapSeat → MapSeat → Result (Option Held) ℕ → Type 0
-TriesWord table key old new (Ok answer) = IsAnswered table key 3 (let_go (grip_of old.me.0.role) old.me.0.marks) old new answer
-TriesWord table key old new (Err word) = NamesOther table word old new
+abbrev pub TriesWord : Table → ℕ → ℕ → MapSeat → MapSeat → Result (Option Held) ℕ → Type 0
+TriesWord table key word old new (Ok answer) = IsAnswered table key 3 (let_go (grip_of old.me.0.role) old.me.0.marks) old new answer
+TriesWord table key word old new (Err newer) = NamesOther table word newer old new
 
 -- a reader that holds by its word finds a key by the word that a load of it gave: or that was a hole's, and it clears its word and finds anew
 pub record MovesTo (table : Table) (key : ℕ) (old new : MapSeat) (answer : Option Held) : Type 0 where

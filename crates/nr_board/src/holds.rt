@@ -103,7 +103,7 @@ impl Board {
         requires word { HasWord own seat.old.me.0 }
         requires free { IsIdle seat.old.me.0.role ⊎ HoldsByWord self.now.shape seat.old.me.0 }
         requires key { key < self.now.shape.keys }
-        ensures { TriesWord self.now key seat.old seat.new result }
+        ensures { TriesWord self.now key word seat.old seat.new result }
     {
         let slot = parts(word).slot;
         self.announce(seat, own, slot);

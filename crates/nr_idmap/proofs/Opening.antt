@@ -29,7 +29,7 @@ is_hole keys rows number key = ⊎_elim
     (0, get_or_past (replicate keys (Hole number)) key (Hole 0) (omega (arith, length-replicate keys (Hole number)))))
     (cases_lt key keys)
 
-module _ (shape : Shape) (map : Table) (writer asker : Caller) (mapped rest : List Caller) (opened : IsOpened shape map writer mapped)
+module _ (shape : Shape) (words : ℕ) (map : Table) (writer asker : Caller) (mapped rest : List Caller) (opened : IsOpened shape words map writer mapped)
     (asks : mapped ≡ rest ++ asker ∷ []) where
   pub rest_count : length rest + 1 ≡ shape.readers
   rest_count = omega (arith, opened.count, ap (λ (l : List Caller). length l) asks, length-append rest (asker ∷ []))

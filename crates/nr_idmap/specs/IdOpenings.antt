@@ -6,7 +6,7 @@ use Rattle.nr_machine.specs.declared.shape.Shape.{Shape}
 use Rattle.nr_board.specs.Callers.{Caller}
 use Rattle.nr_ids.specs.declared.plan.Plan.{Plan}
 use Rattle.nr_ids.specs.Tokens.{Opened, fresh_token}
-use Rattle.nr_map.specs.Opened.{IsOpened}
+use Rattle.nr_map.specs.Opened.{IsOpened, words_of_large}
 use Rattle.nr_idmap.specs.declared.id_map.IdShape.{IdShape}
 use Rattle.nr_idmap.specs.Keepers.{IdCaller, IdTable, Keeper, id_table_of}
 
@@ -30,7 +30,7 @@ pairs_from directory made (reader ∷ readers) = record { caller = reader; ids =
 pub record OpensIds (shape : IdShape) (table : IdTable) (keeper : Keeper) (readers : List IdCaller) : Type 0 where
   pub plan : table.directory.plan ≡ plan_of shape
   pub mapped : List Caller
-  pub opened : IsOpened (shape_of shape) table.map keeper.writer mapped
+  pub opened : IsOpened (shape_of shape) (words_of_large (shape_of shape)) table.map keeper.writer mapped
   pub others : List Caller
   pub asks : mapped ≡ others ++ keeper.asker ∷ []
   pub reads : readers ≡ pairs_from table.directory 0 others

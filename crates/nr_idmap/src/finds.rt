@@ -28,7 +28,8 @@ impl IdMap {
 
     /// Looks an id up, and writes its rows into the caller's room, which stays as it is unless the
     /// answer is `Rows`. Takes a step for each look at a way's name, up to the one that has the id's,
-    /// of eight ways in all; then 1 step where that is a hole, and else 2n + 5 for n rows.
+    /// of eight ways in all; then the steps of the map's find, of one row more: by the counts 1 where the
+    /// way is a hole, and else 2n + 5 for n rows.
     pub fn find<R: RowRoom>(&self, reader: &mut IdReader, id: u64, rows: &mut R) -> FoundId
         requires own { id_table_of reader.old ≡ self.now }
         requires id { 0 < id }

@@ -20,7 +20,7 @@ pub record Joins (seed gets : ℕ) (tokens : Tokens) (joined : Joined) : Type 0 
 pub record Ended (map : Table) (seed gets : ℕ) (joined : Joined) : Type 0 where
   pub writer : Caller
   pub readers : List Caller
-  pub opened : IsOpened map.shape map writer readers
+  pub opened : IsOpened map.shape 0 map writer readers
   pub served : ServesFirst seed gets readers joined.outcomes.items
   pub whole : joined.is_whole ≡ true → length joined.outcomes.items ≡ length readers
   pub flowed : Flows writer joined.flowed

@@ -16,6 +16,13 @@ abbrev pub FindsKey : ℕ → Caller → List Row → Caller → List Row → Fo
 FindsKey key old before new rows found.Rows = FindsRows (2 * length rows + 1) key rows old new
 FindsKey key old before new rows found.Hole = FindsHole 0 key old new × (rows ≡ before)
 
+-- of a map whose readers have no words, a find that takes the steps of a hold and so many more takes 2 and these, and of a hole 1 and these
+abbrev pub FindsByCounts : Type 0
+FindsByCounts =
+    (more key : ℕ) (rows : List Row) (old new : Caller) →
+    old.table.announcers ≡ 0 →
+    (FindsRows more key rows old new → Gains (2 + more) old (model.Find key) (reply.Rows rows) new) × (FindsHole more key old new → Gains (1 + more) old (model.Find key) reply.Hole new)
+
 -- a find into any room: on a hole it stays; else it shows all rows of the reply, which ascend and are at most the map's rows
 abbrev pub FindsIn : {Room : Type 0} → (Room → List Row → Type 0) → ℕ → Caller → Room → Caller → Room → Found → Type 0
 FindsIn shows key old before new room found.Rows = (rows : List Row) × FindsRows (2 * length rows + 1) key rows old new × shows room rows × IsRowSet old.table.shape.rows rows

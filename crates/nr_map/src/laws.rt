@@ -1,4 +1,5 @@
 //! Laws over the definitions alone. Nothing runs here: each function's contract is the law.
+ghost use Rattle.nr_map.specs.Answers.{FindsByCounts};
 ghost use Rattle.nr_map.specs.ExactPlaces.{DoneMeansFewerInUse, NoSlotMeansAllInUse};
 ghost use Rattle.nr_map.specs.Written.{FindsWhatItHeard, FindsWritten, HearsAllCalls, ReadsNoOlder};
 ghost use Rattle.nr_map.specs.SlotBounds.{NoSlotIsRare, PollsAreFew, RoomForFills, RoomForReplacements, RoomForUpdates};
@@ -10,6 +11,12 @@ ghost use Rattle.nr_map.specs.RowBounds.{RowsFitTheMap};
 ghost use Rattle.nr_map.specs.Rounds.{BeginningsMeet, CallsStay, EntriesAreCallers, RoundsTellAll, SendsOfAll, SendsOfAllKeys};
 
 use nr_model::RowRoom;
+
+/// Of a map whose readers have no words, finds take the steps of the counted way: 2n + 3 for n rows, and
+/// 1 for a hole.
+pub fn finds_by_counts()
+    ensures { FindsByCounts }
+{}
 
 /// A caller's calls stay in a history that goes on.
 pub fn calls_stay()

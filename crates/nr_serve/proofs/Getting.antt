@@ -1,14 +1,16 @@
 -- The tries of a get, put together: the tries that found a hole so far, one more of them, and the end.
-use Rattle.std.proofs.Common.{◌≡◌, ℕ, ◌+◌, ◌*◌, ◌<◌, ◌≤◌, List, [], ◌∷◌, ◌++◌, length, refl, sym, ap, ◌∙◌, subst, arith, append_assoc, append-nil, length-append}
+use Rattle.std.specs.Prelude.{nat_lt}
+use Rattle.std.proofs.Common.{◌≡◌, ℕ, Bool, false, ◌+◌, ◌-◌, ◌*◌, ◌<◌, ◌≤◌, List, [], ◌∷◌, ◌++◌, length, refl, sym, ap, ◌∙◌, subst, arith, append_assoc, append-nil, length-append}
 use Rattle.nr_model.specs.declared.rows.Row.{Row}
 use Rattle.nr_model.specs.declared.calls.Reply.TheVariants as reply
 use Rattle.nr_model.specs.Histories.{Entry}
+use Rattle.nr_board.specs.Holds.{HeldIn, HoleIn, finds_by_word}
 use Rattle.nr_serve.specs.declared.hands.Hands.{Hands}
 use Rattle.nr_serve.specs.declared.answers.Got.{Got}
 use Rattle.nr_serve.specs.declared.answers.Got.TheVariants as got
 use Rattle.nr_serve.specs.declared.answers.Requested.{Requested}
 use Rattle.nr_serve.specs.declared.answers.Tried.TheVariants as tried
-use Rattle.nr_serve.specs.Gets.{Gets, MissesAll, MissesOnce, TriesOnce, found, miss, misses}
+use Rattle.nr_serve.specs.Gets.{Gets, MissesAll, MissesOnce, TriesOnce, found, miss, misses, requested}
 use Rattle.nr_serve.specs.Hands.{Moves, last_count}
 use Rattle.nr_serve.proofs.Moving.{moves_both, moves_none}
 
@@ -21,42 +23,55 @@ misses_then : (key : ℕ) (a b c : Hands) (requests : List Requested) (request :
 misses_then key a b c [] request all once = (c, subst (λ (hands : Hands). MissesOnce key hands request c) all once, refl)
 misses_then key a b c (first ∷ requests) request all once = (all.0, all.1, misses_then key all.0 b c requests request all.2 once)
 
+-- a reader that moved has a word still, or none
+pub same_words : (steps : ℕ) (old : Hands) (entries : List Entry) (new : Hands) → Moves steps old entries new → finds_by_word new.reader ≡ finds_by_word old.reader
+same_words steps old entries new moves = (λ j. nat_lt (moves.makes.number j - 1) (moves.makes.table j).announcers)
+
 -- that many tries found a hole
 pub record Missed (key count : ℕ) (old new : Hands) : Type 0 where
   pub requests : List Requested
   pub count_is : length requests ≡ count
   pub missed : MissesAll key old requests new
-  pub moves : Moves (length (misses old.reader.number key requests)) old (misses old.reader.number key requests) new
+  pub steps : ℕ
+  pub counted : finds_by_word old.reader ≡ false → steps ≡ length (misses old.reader.number key requests)
+  pub moves : Moves steps old (misses old.reader.number key requests) new
 
 pub missed_none : (key : ℕ) (a : Hands) → a.sends ≤ last_count → Missed key 0 a a
-missed_none key a small = record { requests = []; count_is = refl; missed = refl; moves = moves_none a small }
+missed_none key a small = record { requests = []; count_is = refl; missed = refl; steps = 0; counted = λ _. refl; moves = moves_none a small }
 
 -- one try more that found a hole
 pub missed_more : (key n : ℕ) (a b c : Hands) (before rows : List Row) (request : Requested) → Missed key n a b → TriesOnce key b before (tried.Missed request) c rows → Missed key (n + 1) a c
 missed_more key n a b c before rows request missed once =
     let by = a.reader.number in
-    let moves = subst (λ (at : ℕ). Moves (length (miss at key request)) b (miss at key request) c) missed.moves.makes.number once.0.moves in
+    let moves = subst (λ (at : ℕ). Moves (once.0.steps + length (requested at key request)) b (miss at key request) c) missed.moves.makes.number once.0.moves in
     let old = misses by key missed.requests in
     let all : old ++ miss by key request ≡ misses by key (missed.requests ++ request ∷ []) = sym (misses-snoc by key missed.requests request) in
     record {
       requests = missed.requests ++ request ∷ [];
       count_is = omega (arith, missed.count_is, length-append missed.requests (request ∷ []));
       missed = misses_then key a b c missed.requests request missed.missed once.0;
-      moves = subst (λ (l : List Entry). Moves (length l) a l c) all (moves_both (length old) (length (miss by key request)) _ a old b (miss by key request) c (length-append old (miss by key request)) missed.moves moves);
+      steps = missed.steps + (once.0.steps + length (requested by key request));
+      counted = λ no_word. let one : once.0.steps ≡ 1 = subst (λ (w : Bool). HoleIn w once.0.steps) (same_words missed.steps a old b missed.moves ∙ no_word) once.0.finds_in in
+          omega (arith, one, missed.counted no_word, length-append old (miss by key request), ap (λ (l : List Entry). length l) all);
+      moves = subst (λ (l : List Entry). Moves (missed.steps + (once.0.steps + length (requested by key request))) a l c) all
+          (moves_both missed.steps (once.0.steps + length (requested by key request)) _ a old b (miss by key request) c refl missed.moves moves);
     }
 
 -- a last find
-found_by : (key steps : ℕ) (a b c : Hands) (rows : List Row) (requests : List Requested) → Moves (length (misses a.reader.number key requests)) a (misses a.reader.number key requests) b
+found_by : (key misses_in steps : ℕ) (a b c : Hands) (rows : List Row) (requests : List Requested) → Moves misses_in a (misses a.reader.number key requests) b
     → Moves steps b (found b.reader.number key (reply.Rows rows) ∷ []) c
     → Moves steps b (found a.reader.number key (reply.Rows rows) ∷ []) c
-found_by key steps a b c rows requests missed last = subst (λ (at : ℕ). Moves steps b (found at key (reply.Rows rows) ∷ []) c) missed.makes.number last
+found_by key misses_in steps a b c rows requests missed last = subst (λ (at : ℕ). Moves steps b (found at key (reply.Rows rows) ∷ []) c) missed.makes.number last
 
-found_last : (key steps : ℕ) (a b c : Hands) (rows : List Row) (requests : List Requested) → Moves (length (misses a.reader.number key requests)) a (misses a.reader.number key requests) b
+found_last : (key misses_in steps : ℕ) (a b c : Hands) (rows : List Row) (requests : List Requested) → Moves misses_in a (misses a.reader.number key requests) b
     → Moves steps b (found b.reader.number key (reply.Rows rows) ∷ []) c
-    → Moves (length (misses a.reader.number key requests) + steps) a (misses a.reader.number key requests ++ found a.reader.number key (reply.Rows rows) ∷ []) c
-found_last key steps a b c rows requests missed last =
-    moves_both (length (misses a.reader.number key requests)) steps _ a (misses a.reader.number key requests) b (found a.reader.number key (reply.Rows rows) ∷ []) c refl missed
-    (found_by key steps a b c rows requests missed last)
+    → Moves (misses_in + steps) a (misses a.reader.number key requests ++ found a.reader.number key (reply.Rows rows) ∷ []) c
+found_last key misses_in steps a b c rows requests missed last =
+    moves_both misses_in steps _ a (misses a.reader.number key requests) b (found a.reader.number key (reply.Rows rows) ∷ []) c refl missed
+    (found_by key misses_in steps a b c rows requests missed last)
+
+held_still : (key n : ℕ) (a b : Hands) (steps : ℕ) → Missed key n a b → HeldIn (finds_by_word b.reader) steps → HeldIn (finds_by_word a.reader) steps
+held_still key n a b steps missed takes = subst (λ (w : Bool). HeldIn w steps) (same_words missed.steps a (misses a.reader.number key missed.requests) b missed.moves) takes
 
 pub gets_by_end : (key n tries : ℕ) (a b c : Hands) (before rows : List Row) (answer : Got) → n < tries → Missed key n a b → TriesOnce key b before (tried.Ended answer) c rows → Gets key tries a before answer c rows
 gets_by_end key n tries a b c before rows got.Rows low missed once = record {
@@ -64,11 +79,13 @@ gets_by_end key n tries a b c before rows got.Rows low missed once = record {
   between = b;
   missed = missed.missed;
   last = found a.reader.number key (reply.Rows rows) ∷ [];
-  last_steps = 2 * length rows + 3;
-  ends = (omega (arith, low, missed.count_is), refl, refl);
-  ended = found_by key (2 * length rows + 3) a b c rows missed.requests missed.moves once.moves;
+  missed_steps = missed.steps;
+  counted = missed.counted;
+  last_steps = once.steps + (2 * length rows + 1);
+  ends = (omega (arith, low, missed.count_is), refl, (once.steps, held_still key n a b once.steps missed once.holds_in, refl));
+  ended = found_by key missed.steps (once.steps + (2 * length rows + 1)) a b c rows missed.requests missed.moves once.moves;
   attempts = once.attempts;
-  moves = found_last key (2 * length rows + 3) a b c rows missed.requests missed.moves once.moves;
+  moves = found_last key missed.steps (once.steps + (2 * length rows + 1)) a b c rows missed.requests missed.moves once.moves;
 }
 gets_by_end key n tries a b c before rows got.GaveUp low missed once = absurd once
 gets_by_end key n tries a b c before rows got.Barred low missed once = record {
@@ -76,11 +93,13 @@ gets_by_end key n tries a b c before rows got.Barred low missed once = record {
   between = b;
   missed = missed.missed;
   last = found a.reader.number key (reply.Rows once.0) ∷ [];
-  last_steps = 3;
-  ends = (omega (arith, low, missed.count_is), (once.0, refl), refl, once.2);
-  ended = found_by key 3 a b c once.0 missed.requests missed.moves once.1.moves;
+  missed_steps = missed.steps;
+  counted = missed.counted;
+  last_steps = once.1.steps + 1;
+  ends = (omega (arith, low, missed.count_is), (once.0, refl), (once.1.steps, held_still key n a b once.1.steps missed once.1.holds_in, refl), once.2);
+  ended = found_by key missed.steps (once.1.steps + 1) a b c once.0 missed.requests missed.moves once.1.moves;
   attempts = once.1.attempts;
-  moves = found_last key 3 a b c once.0 missed.requests missed.moves once.1.moves;
+  moves = found_last key missed.steps (once.1.steps + 1) a b c once.0 missed.requests missed.moves once.1.moves;
 }
 
 pub gets_by_none : (key n tries : ℕ) (a b : Hands) (before rows : List Row) → n ≡ tries → Missed key n a b → rows ≡ before → Gets key tries a before got.GaveUp b rows
@@ -88,10 +107,12 @@ gets_by_none key n tries a b before rows all missed same = record {
   requests = missed.requests;
   between = b;
   missed = missed.missed;
+  missed_steps = missed.steps;
+  counted = missed.counted;
   last = [];
   last_steps = 0;
   ends = (missed.count_is ∙ all, refl, refl, same);
   ended = moves_none b (let counted = missed.moves.sends in omega (arith, counted));
   attempts = omega arith;
-  moves = moves_both (length (misses a.reader.number key missed.requests)) 0 _ a (misses a.reader.number key missed.requests) b [] b refl missed.moves (moves_none b (let counted = missed.moves.sends in omega (arith, counted)));
+  moves = moves_both missed.steps 0 _ a (misses a.reader.number key missed.requests) b [] b refl missed.moves (moves_none b (let counted = missed.moves.sends in omega (arith, counted)));
 }

@@ -1,10 +1,12 @@
 -- What one try adds.
-use Rattle.std.proofs.Common.{◌≡◌, ℕ, List, [], ◌∷◌, length, refl, sym, ap, ◌*◌, ◌+◌, ◌∙◌, subst, arith}
+use Rattle.std.proofs.Common.{◌≡◌, ℕ, Bool, List, [], ◌∷◌, length, refl, sym, ap, ◌*◌, ◌+◌, ◌∙◌, subst, arith}
 use Rattle.nr_model.specs.declared.rows.Row.{Row}
 use Rattle.nr_model.specs.declared.calls.Call.TheVariants as call
 use Rattle.nr_model.specs.declared.calls.Reply.{Reply}
 use Rattle.nr_model.specs.declared.calls.Reply.TheVariants as reply
 use Rattle.nr_board.specs.Callers.{Caller, Gains, Rests}
+use Rattle.nr_board.specs.Holds.{FindsHole, FindsRows, HeldIn, HoleIn}
+use Rattle.nr_serve.proofs.Getting.{same_words}
 use Rattle.nr_map.specs.Pins.{Pinned}
 use Rattle.nr_serve.specs.declared.hands.Hands.{Hands}
 use Rattle.nr_serve.specs.declared.answers.Got.{Got}
@@ -24,23 +26,25 @@ finds steps key a b answer reader posted gains =
     (subst (λ (by : ℕ). Moves steps b (found by key answer ∷ []) (record b { reader = reader })) number
     (record { makes = makes_by_gains steps b.reader (call.Find key) answer reader gains; posts = posts_none b.kept b.poster; sends = omega (arith, posted.sends) }))
 
-misses_once : (key : ℕ) (a b c : Hands) (reader : Caller) (request : Requested) → Moves 0 a [] b → Gains 1 b.reader (call.Find key) reply.Hole reader
+misses_once : (key steps : ℕ) (a b c : Hands) (reader : Caller) (request : Requested) → Moves 0 a [] b → Gains (steps + 0) b.reader (call.Find key) reply.Hole reader
     → Moves (length (requested reader.number key request)) (record b { reader = reader }) (requested reader.number key request) c
-    → Moves (length (miss a.reader.number key request)) a (miss a.reader.number key request) c
-misses_once key a b c reader request posted gains asked =
+    → Moves (steps + length (requested a.reader.number key request)) a (miss a.reader.number key request) c
+misses_once key steps a b c reader request posted gains asked =
     let number : reader.number ≡ a.reader.number = gains.number ∙ posted.makes.number in
     let asked' = subst (λ (by : ℕ). Moves (length (requested by key request)) (record b { reader = reader }) (requested by key request) c) number asked in
-    moves_both 1 (length (requested a.reader.number key request)) _ a (found a.reader.number key reply.Hole ∷ []) (record b { reader = reader }) (requested a.reader.number key request) c (omega arith)
-    (finds 1 key a b reply.Hole reader posted gains) asked'
+    moves_both (steps + 0) (length (requested a.reader.number key request)) _ a (found a.reader.number key reply.Hole ∷ []) (record b { reader = reader }) (requested a.reader.number key request) c (omega arith)
+    (finds (steps + 0) key a b reply.Hole reader posted gains) asked'
 
 -- a try that finds a hole: the post, the find, and the request with what it came from
 pub tries_hole : (key : ℕ) (a b from c : Hands) (reader : Caller) (request : Requested) (rows : List Row) → Moves 0 a [] b → b.poster.tries ≡ a.poster.tries + kept_attempts a.kept
-    → Gains 1 b.reader (call.Find key) reply.Hole reader → from ≡ record b { reader = reader }
+    → FindsHole 0 key b.reader reader → from ≡ record b { reader = reader }
     → Moves (length (requested from.reader.number key request)) from (requested from.reader.number key request) c → LeavesKept request c.kept → c.poster.tries ≡ from.poster.tries + sent_attempts request
     → TriesOnce key a rows (tried.Missed request) c rows
-tries_hole key a b from c reader request rows posted first gains is asked leaves then = (
+tries_hole key a b from c reader request rows posted first hole is asked leaves then = (
   record {
-    moves = misses_once key a b c reader request posted gains (subst (λ (hands : Hands). Moves (length (requested hands.reader.number key request)) hands (requested hands.reader.number key request) c) is asked);
+    steps = hole.steps;
+    finds_in = subst (λ (w : Bool). HoleIn w hole.steps) (same_words 0 a [] b posted) hole.finds_in;
+    moves = misses_once key hole.steps a b c reader request posted hole.gains (subst (λ (hands : Hands). Moves (length (requested hands.reader.number key request)) hands (requested hands.reader.number key request) c) is asked);
     leaves = leaves;
     attempts = omega (arith, first, then, ap (λ (hands : Hands). hands.poster.tries) is);
   },
@@ -48,30 +52,33 @@ tries_hole key a b from c reader request rows posted first gains is asked leaves
 )
 
 -- the find and what the reader did with its pin, after the post
-pinned_through : (steps key : ℕ) (a b : Hands) (pin : Pinned) (reader : Caller) → Moves 0 a [] b → Gains 2 b.reader (call.Find key) (reply.Rows pin.rows) pin.reader → Rests steps pin.reader reader
-    → Moves (2 + steps) a (found a.reader.number key (reply.Rows pin.rows) ∷ []) (record b { reader = reader })
-pinned_through steps key a b pin reader posted gains rests =
-    moves_both 2 steps (2 + steps) a (found a.reader.number key (reply.Rows pin.rows) ∷ []) (record b { reader = pin.reader }) [] (record b { reader = reader }) (omega arith)
-    (finds 2 key a b (reply.Rows pin.rows) pin.reader posted gains)
-    (record { makes = makes_by_rests steps pin.reader reader rests; posts = posts_none b.kept b.poster; sends = omega (arith, posted.sends) })
+pinned_through : (more key : ℕ) (a b : Hands) (pin : Pinned) (reader : Caller) → Moves 0 a [] b → (pinned : FindsRows 0 key pin.rows b.reader pin.reader) → Rests more pin.reader reader
+    → Moves (pinned.steps + more) a (found a.reader.number key (reply.Rows pin.rows) ∷ []) (record b { reader = reader })
+pinned_through more key a b pin reader posted pinned rests =
+    moves_both (pinned.steps + 0) more (pinned.steps + more) a (found a.reader.number key (reply.Rows pin.rows) ∷ []) (record b { reader = pin.reader }) [] (record b { reader = reader }) (omega arith)
+    (finds (pinned.steps + 0) key a b (reply.Rows pin.rows) pin.reader posted pinned.gains)
+    (record { makes = makes_by_rests more pin.reader reader rests; posts = posts_none b.kept b.poster; sends = omega (arith, posted.sends) })
 
 -- a try that finds rows: the post, the find, and what became of the pin
 pub tries_pin : (key : ℕ) (a b c : Hands) (pin : Pinned) (answer : Got) (reader : Caller) (before rows : List Row) → Moves 0 a [] b
-    → b.poster.tries ≡ a.poster.tries + kept_attempts a.kept → Gains 2 b.reader (call.Find key) (reply.Rows pin.rows) pin.reader
+    → b.poster.tries ≡ a.poster.tries + kept_attempts a.kept → FindsRows 0 key pin.rows b.reader pin.reader
     → AnswersPin pin before answer reader rows → c ≡ record b { reader = reader } → TriesOnce key a before (tried.Ended answer) c rows
-tries_pin key a b c pin got.Rows reader before rows posted first gains answers is =
-    let count : 2 + (2 * length pin.rows + 1) ≡ 2 * length pin.rows + 3 = omega arith in
-    let moved = subst (λ (n : ℕ). Moves n a (found a.reader.number key (reply.Rows pin.rows) ∷ []) (record b { reader = reader })) count (pinned_through (2 * length pin.rows + 1) key a b pin reader posted gains answers.0) in
-    let told = subst (λ (set : List Row). Moves (2 * length set + 3) a (found a.reader.number key (reply.Rows set) ∷ []) (record b { reader = reader })) (sym answers.1) moved in
+tries_pin key a b c pin got.Rows reader before rows posted first pinned answers is =
+    let moved = pinned_through (2 * length pin.rows + 1) key a b pin reader posted pinned answers.0 in
+    let told = subst (λ (set : List Row). Moves (pinned.steps + (2 * length set + 1)) a (found a.reader.number key (reply.Rows set) ∷ []) (record b { reader = reader })) (sym answers.1) moved in
     record {
-      moves = subst (λ (hands : Hands). Moves (2 * length rows + 3) a (found a.reader.number key (reply.Rows rows) ∷ []) hands) (sym is) told;
+      steps = pinned.steps;
+      holds_in = subst (λ (w : Bool). HeldIn w pinned.steps) (same_words 0 a [] b posted) pinned.holds_in;
+      moves = subst (λ (hands : Hands). Moves (pinned.steps + (2 * length rows + 1)) a (found a.reader.number key (reply.Rows rows) ∷ []) hands) (sym is) told;
       attempts = ap (λ (hands : Hands). hands.poster.tries) is ∙ first;
     }
-tries_pin key a b c pin got.GaveUp reader before rows posted first gains answers is = absurd answers
-tries_pin key a b c pin got.Barred reader before rows posted first gains answers is = (
+tries_pin key a b c pin got.GaveUp reader before rows posted first pinned answers is = absurd answers
+tries_pin key a b c pin got.Barred reader before rows posted first pinned answers is = (
   pin.rows,
   record {
-    moves = subst (λ (hands : Hands). Moves 3 a (found a.reader.number key (reply.Rows pin.rows) ∷ []) hands) (sym is) (pinned_through 1 key a b pin reader posted gains answers.0);
+    steps = pinned.steps;
+    holds_in = subst (λ (w : Bool). HeldIn w pinned.steps) (same_words 0 a [] b posted) pinned.holds_in;
+    moves = subst (λ (hands : Hands). Moves (pinned.steps + 1) a (found a.reader.number key (reply.Rows pin.rows) ∷ []) hands) (sym is) (pinned_through 1 key a b pin reader posted pinned answers.0);
     attempts = ap (λ (hands : Hands). hands.poster.tries) is ∙ first;
   },
   answers.1,

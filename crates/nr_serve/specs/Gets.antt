@@ -1,5 +1,5 @@
 -- What a get does: tries that find a hole, and how it ends.
-use Rattle.std.specs.Prelude.{◌≡◌, ◌<◌, ◌+◌, ◌*◌, ℕ, true, List, [], ◌∷◌, ◌++◌, length, Option, None, Some, is_some}
+use Rattle.std.specs.Prelude.{◌≡◌, ◌<◌, ◌+◌, ◌*◌, ℕ, Bool, true, false, List, [], ◌∷◌, ◌++◌, length, Option, None, Some, is_some}
 use Rattle.nr_model.specs.declared.rows.Row.{Row}
 use Rattle.nr_model.specs.declared.calls.Call.TheVariants as call
 use Rattle.nr_model.specs.declared.calls.Reply.{Reply}
@@ -7,6 +7,7 @@ use Rattle.nr_model.specs.declared.calls.Reply.TheVariants as reply
 use Rattle.nr_model.specs.Histories.{Entry}
 use Rattle.nr_machine.specs.Story.{entry}
 use Rattle.nr_board.specs.Callers.{Caller, Rests}
+use Rattle.nr_board.specs.Holds.{HeldIn, HoleIn, finds_by_word}
 use Rattle.nr_map.specs.Pins.{Pinned}
 use Rattle.nr_map.specs.Tickets.{Request}
 use Rattle.nr_serve.specs.declared.hands.Hands.{Hands}
@@ -54,7 +55,9 @@ LeavesKept Filled kept = kept ≡ None
 
 -- one try that found a hole: the ticket that was kept is posted or kept still, and where none is kept a request is made, whose ticket is posted or kept
 pub record MissesOnce (key : ℕ) (old : Hands) (request : Requested) (new : Hands) : Type 0 where
-  pub moves : Moves (length (miss old.reader.number key request)) old (miss old.reader.number key request) new
+  pub steps : ℕ
+  pub finds_in : HoleIn (finds_by_word old.reader) steps
+  pub moves : Moves (steps + length (requested old.reader.number key request)) old (miss old.reader.number key request) new
   pub leaves : LeavesKept request new.kept
   pub attempts : new.poster.tries ≡ old.poster.tries + (kept_attempts old.kept + sent_attempts request)
 
@@ -82,23 +85,29 @@ AnswersPin pin before got.Rows reader rows = Rests (2 * length pin.rows + 1) pin
 AnswersPin pin before got.GaveUp reader rows = ⊥
 AnswersPin pin before got.Barred reader rows = Rests 1 pin.reader reader × (rows ≡ before)
 
--- one try that found rows: the ticket that was kept is posted or kept still, and no other call is made
-pub record FindsOnce (key steps : ℕ) (old : Hands) (set : List Row) (new : Hands) : Type 0 where
-  pub moves : Moves steps old (found old.reader.number key (reply.Rows set) ∷ []) new
+-- one try that found rows, in the steps of a hold and so many more: the ticket that was kept is posted or kept still, and no other call is made
+pub record FindsOnce (key more : ℕ) (old : Hands) (set : List Row) (new : Hands) : Type 0 where
+  pub steps : ℕ
+  pub holds_in : HeldIn (finds_by_word old.reader) steps
+  pub moves : Moves (steps + more) old (found old.reader.number key (reply.Rows set) ∷ []) new
   pub attempts : new.poster.tries ≡ old.poster.tries + kept_attempts old.kept
 
 -- one try: it finds a hole, or rows, which the caller gets unless it is barred
 abbrev pub TriesOnce : ℕ → Hands → List Row → Tried → Hands → List Row → Type 0
 TriesOnce key old before (tried.Missed request) new rows = MissesOnce key old request new × (rows ≡ before)
-TriesOnce key old before (tried.Ended got.Rows) new rows = FindsOnce key (2 * length rows + 3) old rows new
+TriesOnce key old before (tried.Ended got.Rows) new rows = FindsOnce key (2 * length rows + 1) old rows new
 TriesOnce key old before (tried.Ended got.GaveUp) new rows = ⊥
-TriesOnce key old before (tried.Ended got.Barred) new rows = (set : List Row) × FindsOnce key 3 old set new × (rows ≡ before)
+TriesOnce key old before (tried.Ended got.Barred) new rows = (set : List Row) × FindsOnce key 1 old set new × (rows ≡ before)
+
+-- the steps of a hold, and so many more
+abbrev pub IsHoldAnd : Bool → ℕ → ℕ → Type 0
+IsHoldAnd by_word more steps = (hold : ℕ) × HeldIn by_word hold × (steps ≡ hold + more)
 
 -- how a get ends after that many tries that found a hole: by one find more, or by none after as many as it may make
-abbrev pub Ends : ℕ → ℕ → ℕ → Got → ℕ → List Entry → ℕ → List Row → List Row → Type 0
-Ends by key tries got.Rows missed last steps before rows = (missed < tries) × (last ≡ found by key (reply.Rows rows) ∷ []) × (steps ≡ 2 * length rows + 3)
-Ends by key tries got.GaveUp missed last steps before rows = (missed ≡ tries) × (last ≡ []) × (steps ≡ 0) × (rows ≡ before)
-Ends by key tries got.Barred missed last steps before rows = (missed < tries) × ((set : List Row) × (last ≡ found by key (reply.Rows set) ∷ [])) × (steps ≡ 3) × (rows ≡ before)
+abbrev pub Ends : Bool → ℕ → ℕ → ℕ → Got → ℕ → List Entry → ℕ → List Row → List Row → Type 0
+Ends by_word by key tries got.Rows missed last steps before rows = (missed < tries) × (last ≡ found by key (reply.Rows rows) ∷ []) × IsHoldAnd by_word (2 * length rows + 1) steps
+Ends by_word by key tries got.GaveUp missed last steps before rows = (missed ≡ tries) × (last ≡ []) × (steps ≡ 0) × (rows ≡ before)
+Ends by_word by key tries got.Barred missed last steps before rows = (missed < tries) × ((set : List Row) × (last ≡ found by key (reply.Rows set) ∷ [])) × IsHoldAnd by_word 1 steps × (rows ≡ before)
 
 -- the attempts of a get's last try, which found rows, if there was one
 abbrev pub last_attempts : Got → Option Request → ℕ
@@ -112,10 +121,13 @@ pub record Gets (key tries : ℕ) (old : Hands) (before : List Row) (got : Got) 
   -- what the client had in its hands after them
   pub between : Hands
   pub missed : MissesAll key old requests between
+  -- by the counts each of their calls is one step
+  pub missed_steps : ℕ
+  pub counted : finds_by_word old.reader ≡ false → missed_steps ≡ length (misses old.reader.number key requests)
   pub last : List Entry
   pub last_steps : ℕ
-  pub ends : Ends old.reader.number key tries got (length requests) last last_steps before rows
+  pub ends : Ends (finds_by_word old.reader) old.reader.number key tries got (length requests) last last_steps before rows
   pub ended : Moves last_steps between last new
   pub attempts : new.poster.tries ≡ between.poster.tries + last_attempts got between.kept
   -- and all that together
-  pub moves : Moves (length (misses old.reader.number key requests) + last_steps) old (misses old.reader.number key requests ++ last) new
+  pub moves : Moves (missed_steps + last_steps) old (misses old.reader.number key requests ++ last) new

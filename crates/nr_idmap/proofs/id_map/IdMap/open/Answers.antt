@@ -2,7 +2,7 @@ use Rattle.std.proofs.Common.{◌≡◌, List, [], length, ap, sym, subst, ◌�
 use Rattle.nr_machine.specs.declared.shape.Shape.{Shape}
 use Rattle.nr_ids.specs.Groups.{ways}
 use Rattle.nr_ids.specs.Tokens.{Opened, Token}
-use Rattle.nr_map.specs.Opened.{IsOpened}
+use Rattle.nr_map.specs.Opened.{IsOpened, words_of_large}
 use Rattle.nr_idmap.specs.IdOpenings.{pairs_from, shape_of}
 use Rattle.nr_board.specs.Callers.{Caller}
 use Rattle.std.specs.Prelude.{All}
@@ -14,11 +14,11 @@ new_clerk : (c : goal.After-new) → (c.pair_readers.new.clerk.number ≡ 0) × 
 new_clerk c = let fresh = c.in-Ok-open.ensures.ok.1 in let kept = c.pair_readers.ensures.clerk in
     (kept.0 ∙ ap (λ (t : Token). t.number) fresh, kept.1 ∙ ap (λ (t : Token). t.seen) fresh)
 
-opened : (c : goal.After-new) → IsOpened (shape_of c.args.shape.now) c.in-Ok.map c.in-Ok.writer c.in-Ok.readers.items
-opened c = subst (λ (s : Shape). IsOpened s c.in-Ok.map c.in-Ok.writer c.in-Ok.readers.items) c.of_map.ensures.value c.in-Ok.ensures.ok
+opened : (c : goal.After-new) → IsOpened (shape_of c.args.shape.now) (words_of_large (shape_of c.args.shape.now)) c.in-Ok.map c.in-Ok.writer c.in-Ok.readers.items
+opened c = subst (λ (s : Shape). IsOpened s (words_of_large s) c.in-Ok.map c.in-Ok.writer c.in-Ok.readers.items) c.of_map.ensures.value c.in-Ok.ensures.ok
 
 pub invariant_of-writer : goal.invariant_of-writer
-invariant_of-writer c = opened_tied (shape_of c.args.shape.now) c.in-Ok.map c.in-Ok.writer c.in-Some.asker c.in-Ok.readers.items
+invariant_of-writer c = opened_tied (shape_of c.args.shape.now) (words_of_large (shape_of c.args.shape.now)) c.in-Ok.map c.in-Ok.writer c.in-Some.asker c.in-Ok.readers.items
     c.pop.new.self.items (opened c) c.in-Some.ensures.items c.pair_readers.new.clerk (new_clerk c)
     (ap (λ (d : Opened). ways d.plan) c.pair_readers.ensures.own ∙ ap ways c.in-Ok-open.ensures.ok.0) (omega arith)
 
@@ -37,7 +37,7 @@ returns-clause-ok c =
         arith,
         ap (λ (l : List IdCaller). length l) pairs,
         pairs_count directory 0 rest,
-        rest_count (shape_of c.args.shape.now)
+        rest_count (shape_of c.args.shape.now) (words_of_large (shape_of c.args.shape.now))
             c.in-Ok.map c.in-Ok.writer c.in-Some.asker c.in-Ok.readers.items rest (opened c) c.in-Some.ensures.items,
       );
       own = subst (λ (l : List IdCaller). All (λ reader. id_table_of reader ≡ record { map = c.in-Ok.map; directory = directory }) l)
