@@ -17,7 +17,7 @@ use Rattle.nr_board.proofs.Tokens.{MapSeat, grows_both, grows_rests}
 use Rattle.nr_board.specs.declared.holds.Held.{Held}
 use Rattle.nr_board.specs.Callers.{Caller, Gains, Grows, Rests, Table, map_at_opening, token}
 use Rattle.nr_board.specs.Entries.{AreCallers}
-use Rattle.nr_board.specs.Holds.{HoldsAfter, HoldsLooked, IsAnswered, MovesTo, NamesOther, TakesSteps, TriesWord, finds_by_word}
+use Rattle.nr_board.specs.Holds.{HoldsAfter, HoldsOn, IsAnswered, MovesTo, NamesOther, TakesSteps, TriesWord, finds_by_word}
 use Rattle.nr_board.specs.Plays.{Holds, IsIdle}
 use Rattle.nr_board.specs.Views.{caller_number, grip_of, rows_held}
 use Rattle.nr_board.specs.WordPlays.{HasWord, let_go}
@@ -66,43 +66,40 @@ pub held_marks : (shape : Shape) (role : Role) (marks : Marks) → Holds shape r
 held_marks shape role marks holds = ap (λ (r : Role). let_go (grip_of r) marks) holds.is
 
 -- the steps of a find by a word that one announcement answered, or two, or an arrival
-pub takes_one : (answer : Option Held) → TakesSteps true answer 4
+pub takes_one : (answer : Option Held) → TakesSteps true answer (1 + 3)
 takes_one (Some held) = inl refl
 takes_one None = inr (inl refl)
 
-pub takes_two : (answer : Option Held) → TakesSteps true answer 6
+pub takes_two : (answer : Option Held) → TakesSteps true answer (3 + 3)
 takes_two (Some held) = inr (inl refl)
 takes_two None = inr (inr (inl refl))
 
-pub takes_all : (answer : Option Held) (steps : ℕ) → TakesSteps false answer steps → TakesSteps true answer (suc (5 + steps))
+takes_all : (answer : Option Held) (steps : ℕ) → TakesSteps false answer steps → TakesSteps true answer (3 + (3 + steps))
 takes_all (Some held) steps is = inr (inr (omega (arith, is)))
 takes_all None steps is = inr (inr (inr (omega (arith, is))))
 
--- the first try failed, and the second was answered, or it failed too and the reader arrived
-module _ (table : Table) (key : ℕ) (before mid after : MapSeat) (word newer : ℕ) (first : NamesOther table word newer before mid) where
+-- a try failed, after which nothing is held
+module _ (table : Table) (key word newer : ℕ) (before mid : MapSeat) (first : NamesOther table word newer before mid) where
   abbrev marks : Marks
   marks = let_go (grip_of before.me.0.role) before.me.0.marks
 
   marks_mid : let_go (grip_of mid.me.0.role) mid.me.0.marks ≡ marks
   marks_mid = idle_marks mid.me.0.role mid.me.0.marks first.announces.idle ∙ first.marks_are
 
-  pub second_answers : (answer : Option Held) → TriesWord table key newer mid after (Ok answer) → HoldsLooked table key before after answer
-  second_answers answer told = record {
-    steps = 5;
-    takes = takes_two answer;
-    answered = answered_later table key 2 3 5 marks before mid after (omega arith) answer first.grows (subst (λ (m : Marks). IsAnswered table key 3 m mid after answer) marks_mid told);
+  pub tries_on : (after : MapSeat) (answer : Option Held) → HoldsOn 3 table key mid after answer → HoldsOn 1 table key before after answer
+  tries_on after answer told = let n : ℕ = told.steps in record {
+    steps = 2 + n;
+    takes = subst (TakesSteps true answer) (let same : 3 + n ≡ 1 + (2 + n) = omega arith in same) told.takes;
+    answered = answered_later table key 2 n (2 + n) marks before mid after refl answer first.grows (subst (λ (m : Marks). IsAnswered table key n m mid after answer) marks_mid told.answered);
   }
 
-  pub then_arrives : (newest : ℕ) (idle last : MapSeat) (answer : Option Held) → NamesOther table newer newest mid after → Rests 1 (token after) (token idle) → idle.me.0.marks ≡ let_go (grip_of after.me.0.role) after.me.0.marks
-      → HoldsAfter 0 false table key idle.me.0.marks idle last answer → HoldsLooked table key before last answer
-  then_arrives newest idle last answer second rests cleared arrives =
-      let here : idle.me.0.marks ≡ marks = cleared ∙ idle_marks after.me.0.role after.me.0.marks second.announces.idle ∙ second.marks_are ∙ marks_mid in
-      let n : ℕ = arrives.steps in
-      let told = answered_rested table key 1 (n + 0) (1 + n) marks after idle last (omega arith) answer rests (subst (λ (m : Marks). IsAnswered table key (n + 0) m idle last answer) here arrives.answered) in
-      let later = answered_later table key 2 (1 + n) (3 + n) marks mid after last (omega arith) answer second.grows told in record {
-        steps = 5 + n;
+  pub then_arrives : (idle last : MapSeat) (answer : Option Held) → Rests 1 (token mid) (token idle) → idle.me.0.marks ≡ let_go (grip_of mid.me.0.role) mid.me.0.marks
+      → HoldsAfter 0 false table key idle.me.0.marks idle last answer → HoldsOn 3 table key before last answer
+  then_arrives idle last answer rests cleared arrives = let n : ℕ = arrives.steps in
+      let told = answered_rested table key 1 (n + 0) (1 + n) marks mid idle last (omega arith) answer rests (subst (λ (m : Marks). IsAnswered table key (n + 0) m idle last answer) (cleared ∙ marks_mid) arrives.answered) in record {
+        steps = 3 + n;
         takes = takes_all answer n arrives.takes;
-        answered = answered_later table key 2 (3 + n) (5 + n) marks before mid last (omega arith) answer first.grows later;
+        answered = answered_later table key 2 (1 + n) (3 + n) marks before mid last (omega arith) answer first.grows told;
       }
 
 -- a reader whose number is that finds by its word where it has one

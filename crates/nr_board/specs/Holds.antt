@@ -75,10 +75,10 @@ pub record HoldsAfter (late : ℕ) (by_word : Bool) (table : Table) (key : ℕ) 
   pub takes : TakesSteps by_word answer steps
   pub answered : IsAnswered table key (steps + late) marks old new answer
 
--- a find by a word, after its look
-pub record HoldsLooked (table : Table) (key : ℕ) (old new : MapSeat) (answer : Option Held) : Type 0 where
+-- a find by a word, that many steps after it began: after its look, or after a try too
+pub record HoldsOn (made : ℕ) (table : Table) (key : ℕ) (old new : MapSeat) (answer : Option Held) : Type 0 where
   pub steps : ℕ
-  pub takes : TakesSteps true answer (suc steps)
+  pub takes : TakesSteps true answer (made + steps)
   pub answered : IsAnswered table key steps (let_go (grip_of old.me.0.role) old.me.0.marks) old new answer
 
 -- the slot of a word was announced, and not confirmed, since the key's newer word names another

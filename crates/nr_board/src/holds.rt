@@ -5,7 +5,7 @@ ghost use Rattle.nr_words.specs.KeyWords.{is_filled};
 ghost use Rattle.nr_machine.specs.Slots.{content};
 ghost use Rattle.nr_marks.specs.Marks.{acted};
 ghost use Rattle.nr_board.specs.Callers.{Rests, token};
-ghost use Rattle.nr_board.specs.Holds.{HeldAs, HoldsAfter, HoldsLooked, MovesTo, TriesWord, finds_by_word};
+ghost use Rattle.nr_board.specs.Holds.{HeldAs, HoldsAfter, HoldsOn, MovesTo, TriesWord, finds_by_word};
 ghost use Rattle.nr_board.specs.Plays.{IsIdle};
 ghost use Rattle.nr_board.specs.Seats.{HoldsAt, IdlesAt};
 ghost use Rattle.nr_board.specs.Views.{caller_number, rows_held};
@@ -28,6 +28,7 @@ pub struct Held {
 impl Board {
     /// A reader that holds nothing finds a key and holds its set; `None` where the key is a hole.
     /// `own` is the reader's number less one.
+    #[inline(always)]
     pub fn hold_key(&self, seat: &mut Seat, own: u32, key: u32) -> Option<Held>
         requires reader { IdlesAt self.now seat.old }
         requires number { (token seat.old).number ≡ suc own }
@@ -62,6 +63,7 @@ impl Board {
     }
 
     /// A reader lets go what it holds, in 1 step.
+    #[inline(always)]
     pub fn let_go(&self, seat: &mut Seat, own: u32, held: Held)
         requires held { HeldAs self.now held seat.old }
         requires number { (token seat.old).number ≡ suc own }
@@ -76,20 +78,31 @@ impl Board {
         }
     }
 
-    // A reader that has a word finds a key by the word that its look found, in two tries, and then by
-    // the count.
+    // A reader that has a word finds a key by the word that its look found.
+    #[inline(always)]
     fn hold_named(&self, seat: &mut Seat, own: u32, key: u32, word: u64) -> Option<Held>
         requires own { (token seat.old).table ≡ self.now }
         requires word { HasWord own seat.old.me.0 }
         requires free { IsIdle seat.old.me.0.role ⊎ HoldsByWord self.now.shape seat.old.me.0 }
         requires key { key < self.now.shape.keys }
-        ensures { HoldsLooked self.now key seat.old seat.new result }
+        ensures { HoldsOn 1 self.now key seat.old seat.new result }
     {
-        let newer = match self.try_word(seat, own, key, word) {
-            Ok(answer) => return answer,
-            Err(newer) => newer,
-        };
-        if let Ok(answer) = self.try_word(seat, own, key, newer) {
+        match self.try_word(seat, own, key, word) {
+            Ok(answer) => answer,
+            Err(newer) => self.hold_newer(seat, own, key, newer),
+        }
+    }
+
+    // The same by the newer word that a first try found, and then by the count.
+    #[inline(never)]
+    fn hold_newer(&self, seat: &mut Seat, own: u32, key: u32, word: u64) -> Option<Held>
+        requires own { (token seat.old).table ≡ self.now }
+        requires word { HasWord own seat.old.me.0 }
+        requires idle { IsIdle seat.old.me.0.role }
+        requires key { key < self.now.shape.keys }
+        ensures { HoldsOn 3 self.now key seat.old seat.new result }
+    {
+        if let Ok(answer) = self.try_word(seat, own, key, word) {
             return answer;
         }
         self.clear(seat, own);
@@ -98,6 +111,7 @@ impl Board {
 
     // A reader announces the slot that a key's word names, and looks at the key again: what it holds
     // then, or the key's newer word. At a hole it says nothing any more.
+    #[inline(always)]
     fn try_word(&self, seat: &mut Seat, own: u32, key: u32, word: u64) -> Result<Option<Held>, u64>
         requires own { (token seat.old).table ≡ self.now }
         requires word { HasWord own seat.old.me.0 }
@@ -119,6 +133,7 @@ impl Board {
     }
 
     // A reader that holds nothing arrives at a key.
+    #[inline(always)]
     fn hold_by_count(&self, seat: &mut Seat, key: u32) -> Option<Held>
         requires reader { IdlesAt self.now seat.old }
         requires key { key < self.now.shape.keys }
@@ -132,6 +147,7 @@ impl Board {
     }
 
     // What a reader holds, by the slot: it reads how many rows there are.
+    #[inline(always)]
     fn held_at(&self, seat: &mut Seat, slot: u32, by_word: bool) -> Held
         requires reader { HoldsAt self.now (content self.now.shape slot 0) seat.old }
         requires says { seat.old.me.0.says ≡ (if by_word then suc slot else 0) }

@@ -3,7 +3,7 @@ use Rattle.std.specs.Prelude.{ℕ, ◌≡◌, ◌↔◌, ◌⊎◌, List, [], �
 use Rattle.nr_machine.specs.Sizes.{IsBadLargeShape, IsBadShape}
 use Rattle.nr_machine.specs.declared.shape.Shape.{Shape}
 use Rattle.nr_board.specs.Callers.{Caller}
-use Rattle.nr_map.specs.Opened.{IsOpened}
+use Rattle.nr_map.specs.Opened.{IsOpened, words_of_large}
 use Rattle.nr_c.specs.Hands.{EndsHand}
 use Rattle.nr_c.specs.Numbers.{answer_bad_size, answer_done, answer_no_memory, answer_no_reader}
 use Rattle.nr_c.specs.declared.hand.Hand.TheVariants.{Idle}
@@ -12,7 +12,7 @@ use Rattle.nr_c.specs.declared.writer_side.WriterSide.{WriterSide}
 
 -- the writer's side of a new map of that shape: its writer, and its readers, none of which has a handle
 abbrev pub IsNewWriter : Shape → WriterSide → Type 0
-IsNewWriter shape side = IsOpened shape side.map.value side.writer side.spare.items
+IsNewWriter shape side = IsOpened shape (words_of_large shape) side.map.value side.writer side.spare.items
 
 -- the handle leads to the side of a new map, or nowhere
 abbrev pub OpensMap : Shape → ℕ → List WriterSide → Type 0

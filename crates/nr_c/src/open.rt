@@ -1,6 +1,6 @@
 //! What opens a map and its handles, and what ends them.
 ghost use Rattle.std.specs.Prelude.{◌≡◌, ◌↔◌, [], Err, IfOk, IfErr};
-ghost use Rattle.nr_map.specs.Opened.{IsOpened};
+ghost use Rattle.nr_map.specs.Opened.{IsOpened, words_of_large};
 ghost use Rattle.nr_c.specs.declared.hand.Hand.TheVariants as hand;
 ghost use Rattle.nr_c.specs.Live.{MayRead, OneMap, WhenBothLive, WhenEmpty, WhenLive, WhenOther};
 ghost use Rattle.nr_c.specs.Openings.{IsNewWriter, IsRefused, Opens, ReturnsReader, TakesReader};
@@ -41,16 +41,12 @@ pub extern "C" fn nr_open(alloc: Global, shape: &NrShape, writer: &mut NrWriter)
     }
 }
 
-// A map with fewer slots than keys, which is within the limits of scripts, or a larger one.
+// The limits of a large map are no narrower than those of others.
 fn opened_map(alloc: Global, shape: &Shape) -> Result<(ReaderMap, Writer, Vec<Reader>), OpenFault>
     ensures bad_size { (result ≡ Err OpenFault.BadSize) ↔ IsRefused shape.now }
-    ensures ok { IfOk result (λ opened. IsOpened shape.now opened.0 opened.1 opened.2.items) }
+    ensures ok { IfOk result (λ opened. IsOpened shape.now (words_of_large shape.now) opened.0 opened.1 opened.2.items) }
 {
-    if shape.is_bad() {
-        ReaderMap::open_large(alloc, shape)
-    } else {
-        ReaderMap::open_with(alloc, shape)
-    }
+    ReaderMap::open_large(alloc, shape)
 }
 
 // A map's writer's side.

@@ -113,6 +113,7 @@ pub(crate) fn seated(
 ) -> Result<(ReaderMap, Writer, Vec<Reader>), AllocError>
     requires sizes { IsShape shape }
     requires keys { 0 < shape.keys }
+    requires few { announcers ≤ shape.readers }
     requires counted { announcers ≡ 0 }
     ensures { IfOk result (λ opened. IsOpened shape announcers opened.0 opened.1 opened.2.items) }
 {

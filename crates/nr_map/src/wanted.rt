@@ -42,10 +42,9 @@ impl ReaderMap {
 
     /// Looks each key up, in their order, as `find_into` does one: a find of each is an entry of its
     /// own, also of a key that is wanted twice. Each key's rows go to its own room, which stays as it
-    /// is where the key is a hole. Takes the steps of all the finds, 1 for a hole and 2n + 3 for n
-    /// rows, and for each key 3 loads, and 1 more for each 4 rows, or part of 4, that a key may have
-    /// above 4 and up to 16. These are made for 16 keys at a time before these are found: so the
-    /// caches fetch what 16 finds need at once.
+    /// is where the key is a hole. Takes the steps of all the finds, and for each key 3 loads, and 1
+    /// more for each 4 rows, or part of 4, that a key may have above 4 and up to 16. These are made for
+    /// 16 keys at a time before these are found: so the caches fetch what 16 finds need at once.
     pub fn find_each<R: RowRoom>(&self, reader: &mut Reader, wanted: &mut [Wanted<R>])
         requires own { reader.old.table ≡ self.now }
         requires keys { All (λ one. one.key < self.now.shape.keys) wanted.old }
