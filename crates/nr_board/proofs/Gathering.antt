@@ -110,6 +110,7 @@ recounted steps sum before after old new count learns = record {
   numbers = learns.numbers;
   holds = learns.holds;
   marks = learns.marks;
+  heard = learns.heard;
   news = learns.news;
   pasts = learns.pasts;
 }

@@ -22,7 +22,7 @@ use Rattle.nr_marks.specs.MarkSteps.{ReaderLearns, WriterLearns}
 use Rattle.nr_marks.specs.Marked.{CanMark, MarkTelling}
 use Rattle.nr_marks.specs.Marks.{Marks, Past, gripped}
 use Rattle.nr_board.proofs.Lift.{Makes, allowed, key_inside, key_no_count, lends_on, makes, sees_plain}
-use Rattle.nr_board.proofs.Moves.{ActsGo, chosen, learned, learned_own, names_go}
+use Rattle.nr_board.proofs.Moves.{ActsGo, learned, learned_own, still_chosen}
 use Rattle.nr_board.specs.Entries.{AreCallers, acts_told, to_depart}
 use Rattle.nr_board.specs.Kinds.{kind_of, kind_shown}
 use Rattle.nr_board.specs.Learning.{Learned, LearnsOf}
@@ -74,7 +74,7 @@ module _ (shape : Shape) (id : ℕ) (me : Me (Unit {0}) View) (at : ℕ) (near :
       (λ state kept there step. lends_on view step.after (λ slot. ap (holds slot) step.told.0)))
       (λ state kept there step marked. let found : ℕ = get_or kept.counted at 0 in let fits = kept.fits id view there in let sized = fits.sized call in
       let callers : AreCallers shape step.entries = subst (AreCallers shape) (sym step.told.1) tt in
-      let next = learned view step.after (kept.log ++ step.entries) step.entries marked.now marked.news in
+      let next = record (learned view step.after (kept.log ++ step.entries) step.entries marked.now marked.news) { heard = view.heard } in
       let same = still kept.log step.entries step.told.1 in let there_after = here_after (map role_of state.views) id view.role step.after (at_map role_of state.views id view there) in
       let numbers : (desk : Desk) → view.role ≡ Writer desk → AreNumbers shape (map_after shape (kept.log ++ step.entries)) desk.numbers = λ desk is. (step.core.knows id (Writer desk) (there_after ∙ ap some (step.told.0 ∙ is))).numbers in
       let grown = tell found step.after (kept.log ++ step.entries) marked.now marked.news next sized refl numbers marked.told in
@@ -82,7 +82,7 @@ module _ (shape : Shape) (id : ℕ) (me : Me (Unit {0}) View) (at : ℕ) (near :
       let acts : ActsGo view step.after step.entries marked.now = λ reads. let same_marks = ap (λ (m : Marks). m.acts) grown.0 in
       let hold = ap (λ r. to_depart (gripped (grip_of r))) step.told.0 in let none : acts_told step.entries ≡ 0 = ap acts_told step.told.1 in
       omega arith in
-      chosen shape id view (Load at) tells notes state kept there step marked (ap caller_number step.told.0) sized callers acts (names_go view marked.now (λ _. ap (λ (m : Marks). m.names) grown.0)) (λ after. Learned at found view after) (record {
+      still_chosen shape id view (Load at) tells notes state kept there step marked (ap caller_number step.told.0) sized callers acts (λ _. ap (λ (m : Marks). m.names) grown.0) (λ after. Learned at found view after) (record {
         role = step.told.0;
         learns = λ table. record {
           table = refl;
@@ -98,6 +98,7 @@ module _ (shape : Shape) (id : ℕ) (me : Me (Unit {0}) View) (at : ℕ) (near :
           numbers = ap (λ r. (desk_of r).numbers) step.told.0;
           holds = ap (λ r. gripped (grip_of r)) step.told.0;
           marks = grown.0;
+          heard = refl;
           news = marked.news;
           pasts = refl;
         };

@@ -27,6 +27,7 @@ pub mod Scanning
 pub mod SearchSeats
 pub mod WholeScans
 pub mod Passes
+pub mod Flagging
 pub mod RetiredSearch
 pub mod SearchSteps
 pub mod PollNotes
@@ -43,3 +44,4 @@ pub mod Looks
 pub mod WriterCalls
 pub mod Sweeps
 pub mod Waiting
+pub mod WordSearches

@@ -59,14 +59,16 @@ pub record HasLooked (table : Table) (spare : Spare) (call : WriterCall) (found 
   pub rests : RestsAt table spare before
   pub leads : LeadsIn 1 table (call_of call) (looked table.shape (desk_with spare Idle) call found) before after
   pub marks : after.me.0.marks ≡ with_polls before.me.0.marks []
+  pub heard : after.me.0.heard ≡ before.me.0.heard
 
 pub has_looked : {board table : Table} {spare : Spare} {given call : WriterCall} {found : ℕ} {before after : MapSeat} → board ≡ table → (token before).table ≡ table → RestsAt (token before).table spare before → given ≡ call
-    → ((desk : Desk) → before.me.0.role ≡ Writer desk → LeadsIn 1 board (call_of given) (looked board.shape desk given found) before after) → after.me.0.marks ≡ with_polls before.me.0.marks [] → HasLooked table spare call found before after
-has_looked {spare = spare} {found = found} {before = before} {after = after} board_is own rests call_is told marks = record {
+    → ((desk : Desk) → before.me.0.role ≡ Writer desk → LeadsIn 1 board (call_of given) (looked board.shape desk given found) before after) → after.me.0.marks ≡ with_polls before.me.0.marks [] → after.me.0.heard ≡ before.me.0.heard → HasLooked table spare call found before after
+has_looked {spare = spare} {found = found} {before = before} {after = after} board_is own rests call_is told marks heard = record {
   own = own;
   rests = rests_here _ spare before own rests;
   leads = subst (λ (p : Table × WriterCall). LeadsIn 1 p.0 (call_of p.1) (looked p.0.shape (desk_with spare Idle) p.1 found) before after) (λ j. (board_is j, call_is j)) (told (desk_with spare Idle) rests.writes.role);
   marks = marks;
+  heard = heard;
 }
 
 -- THE OUTCOMES OF LOOKS, by the word that was found

@@ -157,6 +157,28 @@ module _ (shape : Shape) (id : ℕ) (view : View) (operation : Operation) (tells
     told = told;
   }
 
+  -- one that hears what it heard, since nothing is put
+  abbrev pub still_next : View
+  still_next = record learned_next { heard = view.heard }
+
+  pub still_chosen : NamesStay view marked.now → (then : View → Type 0) → then still_next → Choice shape id view operation tells notes state kept step marked then
+  still_chosen stay then told = let fits = learned_follows.fits in record {
+    next = still_next;
+    follows = record {
+      role = refl;
+      made = refl;
+      announcers = refl;
+      marks = refl;
+      pasts = refl;
+      told_pasts = refl;
+      fits = record { begins = fits.begins; told = fits.told; own = fits.own; knows_own = fits.knows_own; acts = fits.acts; sized = fits.sized };
+      callers = callers;
+    };
+    says = refl;
+    hears = λ writes. hears_as view still_next refl (stay writes);
+    told = told;
+  }
+
   pub learned_gains : is_by (caller_number view.role) view.role ≡ true → marked.news ≡ [] → (told : List Entry) → step.entries ≡ told → Advances view told learned_next
   learned_gains caller no_news told is = subst (λ (entries : List Entry). Advances view entries learned_next) is
       (learned_advances shape kept.log view (kept.fits id view at) step.after step.same step.writer step.reader same_number sized step.entries

@@ -21,12 +21,14 @@ use Rattle.nr_board.proofs.Tokens.{grows_both, seat_grows}
 use Rattle.nr_board.proofs.WholeScans.{is_retired}
 use Rattle.nr_board.proofs.WriterSteps.{same_desk}
 use Rattle.nr_board.specs.declared.publish.Taken.{Taken}
-use Rattle.nr_board.specs.Callers.{Grows, IsSound, Table, token}
+use Rattle.nr_board.specs.Callers.{Grows, IsSound, Table, map_seen, token}
 use Rattle.nr_board.specs.Passes.{AreHeard, NotesOne, NotesTo, PassTakes, PassedTo, hits, polls_before}
 use Rattle.nr_board.specs.Plays.{Room}
 use Rattle.nr_board.specs.SearchPlays.{Tried, tried}
 use Rattle.nr_board.specs.SearchSeats.{IsSearching, SearchesIn, TriesAt, TriesTo}
-use Rattle.nr_board.specs.WriterSeats.{MapSeat}
+use Rattle.nr_core.specs.Core.{AreNumbers}
+use Rattle.nr_board.proofs.WriterSeats.{numbers_seat}
+use Rattle.nr_board.specs.WriterSeats.{MapSeat, WritesAt}
 use Rattle.nr_machine.specs.States.{no_retired, retired_at}
 use Rattle.nr_machine.specs.Writer.{taking_retired}
 use Rattle.nr_machine.specs.declared.calls.WriterCall.{WriterCall}
@@ -218,18 +220,22 @@ module _ (table : Table) (spare : Spare) (flags : List Bool) (before now : MapSe
           slot = slot_is;
           after_is = is;
           own = same ∙ so_far.own;
-          role = λ desk call rows is_desk is_at. role_so desk call rows (so_far.role ∙ is_desk) is_at;
+          writes = λ desk call rows is_desk is_at. writes_so desk call rows (so_far.role ∙ is_desk) is_at;
           grows = grown;
           few = notes_few spare.retired flags table.shape.readers place (length before.me.0.marks.polls) now.me.0.marks.polls so_far.notes;
           heard = told.heard ∙ so_far.heard;
           marks = marks_are next.me.0.marks (unmarked ∙ ap (λ (m : Marks). with_polls now.me.0.marks m.polls) (sym unmarked));
         }
       where
-        role_so : (desk : Desk) (call : WriterCall) (rows : List Row) → now.me.0.role ≡ Writer desk → desk.place ≡ Searching call rows 0
-            → (next.me.0.role ≡ Writer (taking_retired desk call rows place taken.departures)) × Room table.shape (taking_retired desk call rows place taken.departures)
-        role_so desk call rows is_desk is_at = let one = same_desk now.me.0.role search_now.desk desk search_now.role is_desk in
+        writes_so : (desk : Desk) (call : WriterCall) (rows : List Row) → now.me.0.role ≡ Writer desk → desk.place ≡ Searching call rows 0 → WritesAt table (taking_retired desk call rows place taken.departures) next
+        writes_so desk call rows is_desk is_at = let one = same_desk now.me.0.role search_now.desk desk search_now.role is_desk in
             let there : get_elem? desk.retired place ≡ some entry = ap (λ (d : Desk). get_elem? d.retired place) (sym one) ∙ here_now in
             let mine = tells desk call rows place is_desk is_at there in
             let agrees : same_count found (retired_at desk place).arrivals ≡ true = ap (λ (e : Retired). same_count found e.arrivals) (sym (there_is desk.retired place entry there)) ∙ agree in
             let goes : tried desk call rows place found ≡ taking_retired desk call rows place taken.departures = ap (λ (b : Bool). cond {A = Desk} b (taking_retired desk call rows place found) desk) agrees ∙ ap (taking_retired desk call rows place) (sym departed) in
-            (mine.leads.role ∙ ap Writer goes, subst (λ (p : Shape × Desk). Room p.0 p.1) (λ j. (ap (λ (t : Table). t.shape) search_now.own j, goes j)) mine.leads.room)
+            let stays = grown.table ∙ sym so_far.grows.table in record {
+              own = stays ∙ search_now.own;
+              role = mine.leads.role ∙ ap Writer goes;
+              room = subst (λ (p : Shape × Desk). Room p.0 p.1) (λ j. (ap (λ (t : Table). t.shape) search_now.own j, goes j)) mine.leads.room;
+              numbers = subst (λ (d : Desk). AreNumbers table.shape (map_seen (token next)) d.numbers) goes (numbers_seat table now next same search_now.own _ stays mine.leads.numbers);
+            }

@@ -1,7 +1,8 @@
 -- A set is put word by word, and published.
-use Rattle.std.proofs.Common.{◌≡◌, ℕ, ◌+◌, ◌*◌, ◌≤◌, List, [], ◌++◌, Bool, cond, false, get_or, length, refl, sym, ap, ◌∙◌, subst, arith}
+use Rattle.std.proofs.Common.{◌≡◌, ℕ, ◌+◌, ◌*◌, ◌≤◌, List, [], ◌++◌, Bool, cond, false, get_or, length, set, refl, sym, ap, ◌∙◌, subst, arith}
 use Rattle.std.specs.Prelude.{slice_set}
 use Rattle.std.proofs.lemmas.Bool.{lt-leb}
+use Rattle.std.proofs.lemmas.List.{set-set}
 use Rattle.nr_model.specs.declared.calls.Reply.TheVariants as reply
 use Rattle.nr_model.specs.declared.rows.Row.{Row}
 use Rattle.nr_model.specs.Histories.{Entry, IsLegal}
@@ -17,7 +18,7 @@ use Rattle.nr_machine.specs.declared.roles.Role.TheVariants.{Writer}
 use Rattle.nr_board.specs.Callers.{Caller, Grows, Table, map_at_opening, token, IsSound}
 use Rattle.nr_board.specs.Entries.{AreCallers}
 use Rattle.nr_machine.specs.Spares.{Spare}
-use Rattle.nr_board.specs.Spares.{TookByPolls, desk_with}
+use Rattle.nr_board.specs.Spares.{AreFewSteps, TookBySearch, desk_with}
 use Rattle.nr_marks.specs.Marks.{Marks, with_name, with_polls}
 use Rattle.nr_marks.specs.MarkSteps.{PutsMarks}
 use Rattle.nr_board.specs.Plays.{SwapsOrPuts}
@@ -39,6 +40,8 @@ pub record PutSoFar (table : Table) (desk : Desk) (call : WriterCall) (rows : Li
   pub writes : WritesAt table (moved_to desk (Putting call rows slot departed index)) after
   pub grows : Grows index (token before) [] (token after)
   pub marks : after.me.0.marks ≡ before.me.0.marks
+  -- of the slot nothing is heard any more, once a word is put
+  pub heard : set after.me.0.heard slot 0 ≡ set before.me.0.heard slot 0
 
 module _ (table board : Table) (own : board ≡ table) (desk : Desk) (call : WriterCall) (rows : List Row) (slot departed : ℕ) (before : MapSeat) where
   -- the next word of the set can be put
@@ -65,16 +68,17 @@ module _ (table board : Table) (own : board ≡ table) (desk : Desk) (call : Wri
         writes = told.writes;
         grows = grows_both index 1 (index + 1) (token before) (token mid) [] (token after) refl so_far.grows told.grows;
         marks = told.marks ∙ so_far.marks;
+        heard = ap (λ (l : List ℕ). set l slot 0) told.heard ∙ set-set mid.me.0.heard slot 0 0 ∙ so_far.heard;
       }
 
 -- the swap that publishes the set
 pub published : (table : Table) (call : WriterCall) (rows : List Row) (spare mid_spare after_spare : Spare) (slot departed polls : ℕ)
-    (before mid after : MapSeat) (found : ℕ) → TookByPolls slot polls spare mid_spare → polls ≤ table.shape.readers + 1
+    (before mid after : MapSeat) (scanned : List ℕ) (found : ℕ) → TookBySearch table before.me.0.heard scanned slot polls spare mid_spare → AreFewSteps table polls
     → mid_spare.slots ≡ spare.slots → mid_spare.numbers ≡ spare.numbers → mid_spare.reaped ≡ spare.reaped
-    → mid.me.0.marks ≡ with_polls before.me.0.marks mid.me.0.marks.polls
+    → mid.me.0.marks ≡ with_polls before.me.0.marks mid.me.0.marks.polls → set mid.me.0.heard slot 0 ≡ set scanned slot 0
     → WritesAt table (desk_with mid_spare (Putting call rows slot departed (2 * length rows + 1))) mid → Grows (polls + (2 * length rows + 1)) (token before) [] (token mid) → GoesOn table found mid after
     → after_spare ≡ record mid_spare { retired = mid_spare.retired ++ unnamed found; reaped = slice_set mid_spare.reaped slot false } → (put : PublishesSet table call rows spare after_spare before after) × (put.slot ≡ slot)
-published table call rows spare mid_spare after_spare slot departed polls before mid after found took few slots numbers flags only_polls writes grows goes retires =
+published table call rows spare mid_spare after_spare slot departed polls before mid after scanned found took few slots numbers flags only_polls heard writes grows goes retires =
     let last : ℕ = 2 * length rows + 1 in let desk = desk_with mid_spare (Putting call rows slot departed last) in
     let told = goes desk writes.role in
     let outcome : put_on desk call rows slot departed last found ≡ (swapped desk found, ended reply.Done) = ap (λ (b : Bool). cond {A = Desk × Step} b
@@ -94,9 +98,11 @@ published table call rows spare mid_spare after_spare slot departed polls before
         number = marks.0;
         count = marks.1;
         put = marks.2;
-        polls = polls;
+        steps = polls;
         mid = mid_spare;
+        scanned = scanned;
         took = took;
+        heard = told.heard ∙ heard;
         few = few;
         word = found;
         retires = retires ∙ ap (λ (l : List Bool). record mid_spare { retired = mid_spare.retired ++ unnamed found; reaped = slice_set l slot false }) flags;

@@ -108,9 +108,9 @@ module _ (table : Table) (call : WriterCall) (begin : ℕ) (before : MapSeat) wh
   -- what was read says how far the writer is
   read_so : (slot : ℕ) (rows : List Row) (words : ℕ) (after : MapSeat) → begin ≡ content table.shape slot 0 → IsRowSet (bound_of table.shape) rows → key_of call < table.shape.keys → 0 < words → words ≤ 2 * length rows + 1
       → LeadsIn words table (call_of call) (reads_on table desk call slot rows words) before after
-      → KeyHas table call rows (reads_on table desk call slot rows words).1 after → after.me.0.marks ≡ before.me.0.marks
+      → KeyHas table call rows (reads_on table desk call slot rows words).1 after → after.me.0.marks ≡ before.me.0.marks → after.me.0.heard ≡ before.me.0.heard
       → (rows_named table call after ≡ rows) × ReadTo table call begin before after words
-  read_so slot rows words after begin_is row_set near some few leads had marks =
+  read_so slot rows words after begin_is row_set near some few leads had marks heard =
       let named : rows_named table call after ≡ rows = ap rows_of_state (still_named slot rows words after row_set near some few had) in (
         named,
         record {
@@ -123,6 +123,7 @@ module _ (table : Table) (call : WriterCall) (begin : ℕ) (before : MapSeat) wh
           leads = subst (λ (l : List Row). LeadsIn words table (call_of call) (reads_on table desk call slot l words) before after) (sym named) leads;
           had = subst (λ (l : List Row). KeyHas table call l (reads_on table desk call slot l words).1 after) (sym named) had;
           marks = marks;
+          heard = heard;
         },
       )
 
@@ -133,7 +134,7 @@ module _ (table : Table) (call : WriterCall) (begin : ℕ) (before : MapSeat) wh
   read_first slot found after begin_is near writes goes = let told = goes (moved_to desk (Reading call slot [])) writes.role in let on = told.finds in
       let so = read_so slot on.0 1 after begin_is on.1 near (omega arith) (omega arith)
       (subst (λ (got : List ℕ). LeadsIn 1 table (call_of call) (read_on table.shape desk call slot got) before after) on.2 told.leads)
-      (record { log = told.log; seen = told.seen ∙ ap (λ (got : List ℕ). told.log ++ ending (call_of call) (read_on table.shape desk call slot got).1) on.2; number = on.4; state = on.5 }) told.marks.0 in
+      (record { log = told.log; seen = told.seen ∙ ap (λ (got : List ℕ). told.log ++ ending (call_of call) (read_on table.shape desk call slot got).1) on.2; number = on.4; state = on.5 }) told.marks.0 told.heard in
       (ap (λ (l : List ℕ). get_or l 0 0) on.2 ∙ ap length (sym so.0), so.1)
 
   module _ (mid : MapSeat) (words : ℕ) (so_far : ReadTo table call begin before mid words) (left : words < 2 * length (rows_named table call mid) + 1) where
@@ -175,7 +176,7 @@ module _ (table : Table) (call : WriterCall) (begin : ℕ) (before : MapSeat) wh
           number = so_far.had.number;
           state = had_then;
         })
-        (told.marks.0 ∙ so_far.marks) in
+        (told.marks.0 ∙ so_far.marks) (told.heard ∙ so_far.heard) in
         (so.0, word_is words_are, so.1)
       where
         word_is : got ++ found ∷ [] ≡ take (words + 1) (encode rows) → found ≡ get_or (encode rows) words 0
@@ -226,6 +227,7 @@ module _ (table : Table) (call : WriterCall) (begin : ℕ) (before : MapSeat) wh
         leads = subst (λ (p : ℕ × (Desk × Step)). LeadsIn (2 * p.0 + 1) table (call_of call) p.1 before last) (λ j. (length_is j, outcome j)) all.leads;
         had = subst (λ (p : List Row × (Desk × Step)). KeyHas table call p.0 p.1.1 last) (λ j. (named j, outcome j)) all.had;
         marks = all.marks;
+        heard = all.heard;
       }
 
 -- a read-through begins at the map's own table

@@ -27,7 +27,7 @@ use Rattle.nr_board.specs.Entries.{acts_told, to_depart}
 use Rattle.nr_board.specs.Polls.{AllHeldThen, HeldThen}
 use Rattle.nr_board.specs.Rule.{StartsWith}
 use Rattle.nr_machine.specs.Spares.{Spare, none_spare}
-use Rattle.nr_board.specs.Spares.{desk_with}
+use Rattle.nr_board.specs.Spares.{SearchedAll, desk_with}
 use Rattle.nr_marks.proofs.ExactPlace.{noted_more, noted_none}
 use Rattle.nr_marks.specs.MarkSteps.{PollTells}
 use Rattle.nr_marks.proofs.ListPlaces.{at_last, inside}
@@ -59,6 +59,7 @@ pub record Searched (table : Table) (call : WriterCall) (rows : List Row) (spare
   pub few : polls ≤ table.shape.readers
   pub held : AllHeldThen before.me.0.seen after.me.0.seen after.me.0.marks.polls
   pub marks : after.me.0.marks ≡ with_polls before.me.0.marks after.me.0.marks.polls
+  pub heard : after.me.0.heard ≡ before.me.0.heard
 
 module _ (shape : Shape) (desk : Desk) (call : WriterCall) (rows : List Row) where
   abbrev on_to : ℕ → Desk × Step
@@ -99,6 +100,7 @@ searched_none table call rows spare seat settles full =
       few = omega arith;
       held = λ at note there. absurd (some-ne-none note (sym there ∙ ap (λ (l : List Past). get_elem? l at) settles.polls));
       marks = refl;
+      heard = refl;
     }
 
 -- what was held at a poll was so, as the history goes on
@@ -130,14 +132,14 @@ module _ (table : Table) (call : WriterCall) (rows : List Row) (spare : Spare) (
 
     -- the slot is not held: it is taken
     pub takes_it : same_count found (retired_at desk_now polls).arrivals ≡ true → WritesAt table (taking_retired desk_now call rows polls found) after
-        × Grows (polls + 1) (token before) [] (token after) × (after.me.0.marks ≡ with_polls before.me.0.marks after.me.0.marks.polls)
+        × Grows (polls + 1) (token before) [] (token after) × (after.me.0.marks ≡ with_polls before.me.0.marks after.me.0.marks.polls) × (after.me.0.heard ≡ before.me.0.heard)
     takes_it agree =
         let outcome : polled table.shape desk_now call rows polls found ≡ (taking_retired desk_now call rows polls found, Going) = ap (λ
         (b : Bool). cond {A = Desk × Step} b (taking_retired desk_now call rows polls found, Going)
         (polls_on table.shape desk_now call rows polls)) agree in
         let leads = subst (λ (o : Desk × Step). LeadsIn 1 table (call_of call) o mid after) outcome told.leads in
         let same = subst (λ (b : Bool). PollTells b table.shape mid.me.0.marks mid.me.0.pasts desk_now call polls after.me.0.seen after.me.0.marks) agree told.marks.1 in
-        (leads.writes, grows_both polls 1 (polls + 1) (token before) (token mid) [] (token after) refl so_far_quiet leads.grows, same ∙ so_far.marks ∙ ap (λ (m : Marks). with_polls before.me.0.marks m.polls) (sym same))
+        (leads.writes, grows_both polls 1 (polls + 1) (token before) (token mid) [] (token after) refl so_far_quiet leads.grows, same ∙ so_far.marks ∙ ap (λ (m : Marks). with_polls before.me.0.marks m.polls) (sym same), told.heard ∙ so_far.heard)
 
     -- the slot is held: the search goes on, or there is none
     pub searched_more : same_count found (retired_at desk_now polls).arrivals ≡ false → Searched table call rows spare before after (polls + 1)
@@ -166,6 +168,7 @@ module _ (table : Table) (call : WriterCall) (rows : List Row) (spare : Spare) (
               (grows_from (polls + 1) (token before) _ (token after) now_grown))
               (at_last mid.me.0.marks.polls polled_so.1.note note at (ap (λ (l : List Past). get_elem? l at) (sym polled_so.1.more) ∙ there));
           marks = polled_so.0 ∙ ap (λ (m : Marks). with_polls m after.me.0.marks.polls) so_far.marks;
+          heard = told.heard ∙ so_far.heard;
         }
       where
         held_now : (at : ℕ) (note : Past) → get_elem? after.me.0.marks.polls at ≡ some note → at ≡ length mid.me.0.marks.polls
@@ -182,15 +185,17 @@ module _ (table : Table) (call : WriterCall) (rows : List Row) (spare : Spare) (
 
 -- every retired slot was found held
 pub lacks_slot : (table : Table) (call : WriterCall) (rows : List Row) (spare : Spare) (before after : MapSeat) (polls : ℕ)
-    → Searched table call rows spare before after polls → polls ≡ length spare.retired → LacksSlot table call (none_spare spare) spare spare before
+    → Searched table call rows spare before after polls → SearchedAll table before.me.0.heard after.me.0.heard spare.retired polls → polls ≡ length spare.retired → LacksSlot table call (none_spare spare) spare spare before
     after
-lacks_slot table call rows spare before after polls so_far all =
+lacks_slot table call rows spare before after polls so_far searched all =
     let desk = desk_with spare Idle in let is = swept_all table.shape desk call rows polls (omega arith) in let leads = so_far.leads in record {
       same = refl;
       writes = subst (λ (o : Desk × Step). WritesAt table o.0 after) is leads.writes;
-      grows = subst (λ (n : ℕ). Grows n (token before) [] (token after)) all (subst (λ (es : List Entry). Grows polls (token before) es (token after)) (swept_quiet table.shape desk call rows (call_of call) polls) leads.grows);
+      steps = polls;
+      searched = searched;
+      grows = subst (λ (es : List Entry). Grows polls (token before) es (token after)) (swept_quiet table.shape desk call rows (call_of call) polls) leads.grows;
       lacks = leads.short (none_spare spare) (ap (λ (o : Desk × Step). o.1) is ∙ ap (λ (n : ℕ). Ended (writer.NoSlot (record { live = n - length spare.retired; held = length spare.retired }))) (sym so_far.slots));
-      noted = so_far.noted;
-      held = so_far.held;
+      noted = λ _. so_far.noted;
+      held = λ _. so_far.held;
       marks = so_far.marks;
     }

@@ -107,7 +107,9 @@ lacks_so shape words roles log core id desk there full free call counts counted 
       held = held_is ∙ ap (λ r. length (desk_of r).retired) (sym role);
       full = subst (λ (p : ℕ × ℕ). p.0 ≤ p.1) (λ j. ((sym sized j).slots, (desk_of (sym role j)).fresh)) full;
       apart = λ slot. subst (λ (l : List Retired). retirements slot l ≤ 1) retired_is (polled.apart slot);
-      polled = subst (λ (l : List Retired). AllHeld l view.marks.polls) retired_is polled.held;
+      many = omega (arith, polled.held.many, ap length retired_is);
+      others = polled.held.different;
+      polled = λ _. subst (λ (l : List Retired). AllHeld l view.marks.polls) retired_is polled.held;
       few = let few = polled.few in let readers : view.shape.readers ≡ shape.readers = ap (λ (s : Shape). s.readers) sized in omega arith;
       all = (let sum : counts.live + counts.held ≡ shape.slots = omega (arith, all, live_is, held_is) in sum) ∙ ap (λ (s : Shape). s.slots) (sym sized);
     }

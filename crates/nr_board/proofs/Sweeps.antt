@@ -266,12 +266,12 @@ module _ (table : Table) (spare : Spare) (before after : MapSeat) (steps : ℕ) 
     writes = record {
       own = ap (λ (c : Caller). c.table) token_after ∙ rests.writes.own;
       role = ap (λ (v : View). v.role) view ∙ rests.writes.role;
-      counted = rests.writes.counted;
       room = rests.writes.room;
       numbers = subst (λ (c : Caller). AreNumbers table.shape (map_seen c) spare.numbers) (sym token_after) rests.writes.numbers;
     };
     slots = rests.slots;
     reaped = sym (ap (λ (v : View). v.marks.reaped) view);
+    counted = rests.counted;
     own = subst (λ (c : Caller). entries_of c.seen c.number ≡ c.mine) (sym token_after) rests.own;
   })
 
@@ -286,7 +286,7 @@ probes_at table spare before now place polled rests so_far low = record {
   room = rests.writes.room;
   poll = place;
   here = at_get spare.retired place low;
-  heard = let counted = rests.writes.counted in omega arith;
+  heard = let counted = rests.counted in omega arith;
 }
 
 -- and is one of the map's

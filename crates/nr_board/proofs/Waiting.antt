@@ -18,7 +18,7 @@ use Rattle.nr_board.specs.Views.{View, desk_of}
 use Rattle.nr_board.specs.WriterSeats.{MapSeat, TakesSlot, WritesAt, RestsAt}
 use Rattle.nr_board.specs.declared.answers.Reclaimed.{Reclaimed}
 use Rattle.nr_board.specs.Reclaiming.{HandsOut}
-use Rattle.nr_board.specs.Spares.{spare_of}
+use Rattle.nr_board.specs.Spares.{TookBySearch, spare_of}
 
 -- the slots that a resting token shows
 pub spare_shown : (table : Table) (spare : Spare) (seat : MapSeat) → RestsAt table spare seat → spare_of (token seat) ≡ spare
@@ -75,7 +75,6 @@ writes_later table desk mid new steps same waits writes = record {
   own = (λ j. record { id = same j; shape = (waits j).shape; announcers = (waits j).announcers }) ∙ writes.own;
   role = ap (λ (v : View). v.role) waits ∙ writes.role;
   room = writes.room;
-  counted = writes.counted;
   numbers = subst (λ (caller : Caller). AreNumbers table.shape (map_seen caller) desk.numbers) (sym (waited_token mid new steps same waits)) writes.numbers;
 }
 
@@ -84,14 +83,14 @@ pub takes_later : (table : Table) (call : WriterCall) (rows : List Row) (slot de
     → TakesSlot table call rows slot departed spare after old mid → new.table_id ≡ mid.table_id → new.me.0 ≡ waited steps mid.me.0
     → TakesSlot table call rows slot departed spare after (later steps old) new
 takes_later table call rows slot departed spare after old mid new steps takes same waits = record {
-  polls = takes.polls;
-  took = takes.took;
+  steps = takes.steps;
+  took = subst (λ (heard : List ℕ). TookBySearch table old.me.0.heard heard slot takes.steps spare after) (ap (λ (v : View). v.heard) (sym waits)) takes.took;
   few = takes.few;
   slots = takes.slots;
   numbers = takes.numbers;
   reaped = takes.reaped;
   writes = writes_later table _ mid new steps same waits takes.writes;
-  grows = subst (λ (caller : Caller). Grows takes.polls (token (later steps old)) [] caller) (sym (waited_token mid new steps same waits)) (grows_later steps takes.polls (token old) (token mid) [] takes.grows);
+  grows = subst (λ (caller : Caller). Grows takes.steps (token (later steps old)) [] caller) (sym (waited_token mid new steps same waits)) (grows_later steps takes.steps (token old) (token mid) [] takes.grows);
   marks = ap (λ (v : View). v.marks) waits ∙ takes.marks ∙ ap (λ (v : View). with_polls old.me.0.marks v.marks.polls) (sym waits);
 }
 
@@ -104,7 +103,7 @@ given_out shows {table = table} {spare = spare} {before = before} {mid = mid} sl
     subst (λ (p : ℕ × Spare × ℕ × List Row). HandsOut shows p.0 p.1 p.2 p.3 room then steps given) (λ j. ((sym own j).shape.rows, sym (spare_shown table spare before set.rests) j, sym same j, set_in (set.marks j) (sym same j))) out
 
 lacks_later : (call : Call) (counts : NoSlot) (caller : Caller) (steps : ℕ) → Lacks call counts caller → Lacks call counts (with_steps steps caller)
-lacks_later call counts caller steps lacks = record { would_be_done = lacks.would_be_done; live = lacks.live; held = lacks.held; all = lacks.all; full = lacks.full; apart = lacks.apart; polled = lacks.polled; few = lacks.few }
+lacks_later call counts caller steps lacks = record { would_be_done = lacks.would_be_done; live = lacks.live; held = lacks.held; all = lacks.all; full = lacks.full; apart = lacks.apart; many = lacks.many; others = lacks.others; few = lacks.few; polled = lacks.polled }
 
 -- a call that has its set has it still
 pub set_later : {table : Table} {spare : Spare} {made : ℕ} {call : WriterCall} {rows : List Row} {before mid : MapSeat} (steps : ℕ)
@@ -131,4 +130,5 @@ set_later {table = table} {made = made} {before = before} {mid = mid} steps set 
     pasts = grows.pasts;
   };
   marks = set.marks;
+  heard = set.heard;
 }

@@ -14,6 +14,7 @@ use Rattle.nr_machine.specs.declared.places.Retired.{Retired}
 use Rattle.nr_machine.specs.declared.roles.Desk.{Desk}
 use Rattle.nr_marks.specs.Marks.{Marks, Past, with_polls}
 use Rattle.nr_board.proofs.SearchSeats.{inside_list}
+use Rattle.nr_board.specs.Flags.{Flagged, OthersFlagged}
 use Rattle.nr_board.specs.Scans.{heard_before, heard_from, heard_now}
 use Rattle.nr_board.specs.SearchPlays.{NotesKeeper, Scanned, keeps_unheard, scan_base}
 use Rattle.nr_board.specs.Callers.{Table}
@@ -26,6 +27,12 @@ use Rattle.nr_machine.specs.declared.shape.Shape.{Shape}
 use Rattle.nr_board.specs.WholeScans.{HeardTo, KeepBack, KeepsOne, NoneFlagged, ScannedTo, announced, is_unheard, misses}
 
 -- what a load of a reader's word makes of one slot of the map
+-- what it makes of no slot of the map
+heard_outside : (desk : Desk) (own found : ℕ) (heard : List ℕ) (first more at : ℕ) → more ≤ at → get_or (heard_from desk own found heard first more) at 0 ≡ 0
+heard_outside desk own found heard first zero at past = refl
+heard_outside desk own found heard first (suc more) zero past = absurd (omega arith)
+heard_outside desk own found heard first (suc more) (suc at) past = heard_outside desk own found heard (suc first) more at (omega arith)
+
 pub heard_at_slot : (desk : Desk) (own found : ℕ) (heard : List ℕ) (first more at : ℕ) → at < more → get_or (heard_from desk own found heard first more) at 0 ≡ heard_now desk own found (first + at) (get_or heard (first + at) 0)
 heard_at_slot desk own found heard first zero at low = absurd (omega arith)
 heard_at_slot desk own found heard first (suc more) zero low = let same : first ≡ first + 0 = omega arith in ap (λ (s : ℕ). heard_now desk own found s (get_or heard s 0)) same
@@ -37,7 +44,7 @@ heard_at_slot desk own found heard first (suc more) (suc at) low = let same : su
 flag_there : (flags : List Bool) (slot : ℕ) → slot < length flags → is_unheard (set flags slot true) slot ≡ true
 flag_there flags slot low = get_or-set_same flags slot true true low
 
-flag_elsewhere : (flags : List Bool) (mine slot : ℕ) → slot ≢ mine → is_unheard (set flags mine true) slot ≡ is_unheard flags slot
+pub flag_elsewhere : (flags : List Bool) (mine slot : ℕ) → slot ≢ mine → is_unheard (set flags mine true) slot ≡ is_unheard flags slot
 flag_elsewhere flags mine slot apart = get_or-set_other flags mine slot true true apart
 
 -- a flag that stands is set once more
@@ -202,6 +209,25 @@ module _ (desk : Desk) (before now next : View) (flags : List Bool) (own found :
         (either desk own found slot (get_or now.heard slot 0));
   }
 
+  -- of the other slots nothing is heard from the first word on
+  quiet_so : (0 < own → (slot : ℕ) → retirements slot desk.retired ≡ 0 → get_or now.heard slot 0 ≡ 0) → (slot : ℕ) → retirements slot desk.retired ≡ 0 → get_or next.heard slot 0 ≡ 0
+  quiet_so before slot none = dite (ℕ_discrete (min_of slot) 0)
+      (λ low. heard_is slot (omega arith) ∙ now_is ∙ count_is)
+      (λ high. ap (λ (v : View). get_or v.heard slot 0) told.same ∙ heard_outside desk own found now.heard 0 now.shape.slots slot (omega arith))
+    where
+      min_of : ℕ → ℕ
+      min_of n = n + 1 - now.shape.slots
+
+      count : ℕ
+      count = heard_before own (get_or now.heard slot 0)
+
+      now_is : heard_now desk own found slot (get_or now.heard slot 0) ≡ count
+      now_is = ap (λ (n : ℕ). cond {A = ℕ} (nat_lt 0 n && (nat_eq count own && not (nat_eq found (suc slot)))) (suc own) count) none
+
+      count_is : count ≡ 0
+      count_is = dite (ℕ_discrete own 0) (λ e. ap (λ (b : Bool). cond {A = ℕ} b 0 (get_or now.heard slot 0)) (eq-eqb own 0 e))
+          (λ ne. ap (λ (b : Bool). cond {A = ℕ} b 0 (get_or now.heard slot 0)) (ne_eqb own 0 ne) ∙ before (omega arith) slot none)
+
   base_is : scan_base (suc own) next.marks.polls ≡ next.marks.polls
   base_is = ap (λ (b : Bool). cond {A = List Past} b [] next.marks.polls) (ne_eqb (suc own) 0 (λ e. omega arith))
 
@@ -239,6 +265,9 @@ module _ (desk : Desk) (before now next : View) (flags : List Bool) (own found :
           ∙ ap (λ (b : Bool). b && nat_eq (heard_before own (get_or now.heard (found - 1) 0)) own) (lt-ltb 0 (retirements (found - 1) desk.retired) (omega arith))
           ∙ eq-eqb (heard_before own (get_or now.heard (found - 1) 0)) own (whole_is (found - 1) (omega arith) is)) ∙ lets))) refl)
 
+  pub quiet_more : (0 < own → (slot : ℕ) → retirements slot desk.retired ≡ 0 → get_or now.heard slot 0 ≡ 0) → (slot : ℕ) → retirements slot desk.retired ≡ 0 → get_or next.heard slot 0 ≡ 0
+  quiet_more = quiet_so
+
   pub scanned_more : ScannedTo desk.retired before next said (suc own)
   scanned_more = record {
     rest = told.same ∙ (λ j. record now { steps = now.steps + 1; marks = with_polls now.marks next.marks.polls; heard = sym (ap (λ (v : View). v.heard) told.same) j })
@@ -258,9 +287,10 @@ module _ (desk : Desk) (before now next : View) (flags : List Bool) (own found :
 pub record ClearedTo (retired : List Retired) (before flags : List Bool) (place : ℕ) : Type 0 where
   pub wide : length flags ≡ length before
   pub clear : (at : ℕ) (entry : Retired) → at < place → get_elem? retired at ≡ some entry → is_unheard flags entry.slot ≡ false
+  pub others : OthersFlagged retired before → OthersFlagged retired flags
 
 pub cleared_none : (retired : List Retired) (flags : List Bool) → ClearedTo retired flags flags 0
-cleared_none retired flags = record { wide = refl; clear = λ at entry low. absurd (omega arith) }
+cleared_none retired flags = record { wide = refl; clear = λ at entry low. absurd (omega arith); others = λ flagged. flagged }
 
 pub cleared_more : (retired : List Retired) (before flags : List Bool) (place : ℕ) (entry : Retired) → ClearedTo retired before flags place → get_elem? retired place ≡ some entry → entry.slot < length before
     → ClearedTo retired before (set flags entry.slot false) (place + 1)
@@ -270,6 +300,7 @@ cleared_more retired before flags place entry so_far here low = record {
       (λ e. subst (λ (s : ℕ). is_unheard (set flags entry.slot false) s ≡ false) (sym e) (get_or-set_same flags entry.slot false true (let wide = so_far.wide in omega arith)))
       (λ ne. get_or-set_other flags entry.slot other.slot false true ne ∙ so_far.clear at other (dite (ℕ_discrete at place)
       (λ e. absurd (ne (ap (λ (r : Retired). r.slot) (some-injective other entry (sym there ∙ ap (get_elem? retired) e ∙ here))))) (λ other_place. omega arith)) there);
+  others = λ flagged slot none. get_or-set_other flags entry.slot slot false true (λ e. let waits = is_retired retired place entry here in let same = ap (λ (s : ℕ). retirements s retired) e in absurd (omega arith)) ∙ so_far.others flagged slot none;
 }
 
 pub none_flagged : (retired : List Retired) (before flags : List Bool) → ClearedTo retired before flags (length retired) → NoneFlagged retired flags
@@ -302,9 +333,11 @@ pub record ScanGoes (table : Table) (spare : Spare) (before now : MapSeat) (flag
   pub search : SearchesIn table spare now
   pub scanned : ScannedTo spare.retired before.me.0 now.me.0 flags own
   pub wide : length flags ≡ table.shape.slots
+  pub others : OthersFlagged spare.retired flags
+  pub quiet : 0 < own → (slot : ℕ) → retirements slot spare.retired ≡ 0 → get_or now.me.0.heard slot 0 ≡ 0
 
-pub scan_begins : (table : Table) (spare : Spare) (seat : MapSeat) (flags : List Bool) → SearchesIn table spare seat → NoneFlagged spare.retired flags → length flags ≡ table.shape.slots → ScanGoes table spare seat seat flags 0
-scan_begins table spare seat flags search none wide = let view = seat.me.0 in let more : view.steps ≡ view.steps + 0 = omega arith in record {
+pub scan_begins : (table : Table) (spare : Spare) (seat : MapSeat) (flags : List Bool) → SearchesIn table spare seat → NoneFlagged spare.retired flags → length flags ≡ table.shape.slots → OthersFlagged spare.retired flags → ScanGoes table spare seat seat flags 0
+scan_begins table spare seat flags search none wide others = let view = seat.me.0 in let more : view.steps ≡ view.steps + 0 = omega arith in record {
   own_table = refl;
   search = search;
   scanned = record {
@@ -318,6 +351,8 @@ scan_begins table spare seat flags search none wide = let view = seat.me.0 in le
     };
   };
   wide = wide;
+  others = others;
+  quiet = λ later. absurd (omega arith);
 }
 
 pub scan_goes : (table : Table) (spare : Spare) (before now next : MapSeat) (flags : List Bool) (own found : ℕ) → ScanGoes table spare before now flags own → next.table_id ≡ now.table_id → SearchesOn own found now.me.0 next.me.0
@@ -325,10 +360,12 @@ pub scan_goes : (table : Table) (spare : Spare) (before now next : MapSeat) (fla
 scan_goes table spare before now next flags own found so_far same tells = let search = so_far.search.search in let desk = search.desk in
     let told = tells desk search.call search.rows search.role search.place in
     let size = ap (λ (t : Table). t.shape) search.own in let listed = so_far.search.retired in let one_more : suc own ≡ own + 1 = omega arith in
-    let scanned = scanned_more desk before.me.0 now.me.0 next.me.0 flags own found (retired_once table.shape desk search.room)
-    (λ slot waits. let near = retired_inside table.shape desk search.room slot waits in let slots = ap (λ (s : Shape). s.slots) size in omega arith)
-    (so_far.wide ∙ ap (λ (s : Shape). s.slots) (sym size))
-    (subst (λ (l : List Retired). ScannedTo l before.me.0 now.me.0 flags own) (sym listed) so_far.scanned) told in record {
+    let once = retired_once table.shape desk search.room in
+    let near : (slot : ℕ) → 0 < retirements slot desk.retired → slot < now.me.0.shape.slots = λ slot waits. let near = retired_inside table.shape desk search.room slot waits in let slots = ap (λ (s : Shape). s.slots) size in omega arith in
+    let wide = so_far.wide ∙ ap (λ (s : Shape). s.slots) (sym size) in
+    let before_it = subst (λ (l : List Retired). ScannedTo l before.me.0 now.me.0 flags own) (sym listed) so_far.scanned in
+    let scanned = scanned_more desk before.me.0 now.me.0 next.me.0 flags own found once near wide before_it told in
+    let quiet = quiet_more desk before.me.0 now.me.0 next.me.0 flags own found once near wide before_it told (subst (λ (l : List Retired). 0 < own → (slot : ℕ) → retirements slot l ≡ 0 → get_or now.me.0.heard slot 0 ≡ 0) (sym listed) so_far.quiet) in record {
       own_table = same ∙ so_far.own_table;
       search = record {
         search = record {
@@ -345,7 +382,25 @@ scan_goes table spare before now next flags own found so_far same tells = let se
       };
       scanned = subst (λ (p : List Retired × ℕ). ScannedTo p.0 before.me.0 next.me.0 (announced found flags) p.1) (λ j. (listed j, one_more j)) scanned;
       wide = announced_wide found flags ∙ so_far.wide;
+      others = λ slot none. more_flags found flags slot (so_far.others slot none);
+      quiet = λ _. subst (λ (l : List Retired). (slot : ℕ) → retirements slot l ≡ 0 → get_or next.me.0.heard slot 0 ≡ 0) listed quiet;
     }
   where
     announced_wide : (found : ℕ) (flags : List Bool) → length (announced found flags) ≡ length flags
     announced_wide found flags = by_cases (λ (b : Bool). length (cond {A = List Bool} b flags (set flags (found - 1) true)) ≡ length flags) (nat_eq found 0) (λ _. refl) (λ _. length-set flags (found - 1) true)
+
+-- after the last word the flags tell just what was heard
+pub scan_flagged : (table : Table) (spare : Spare) (before now : MapSeat) (flags : List Bool) → 0 < table.announcers → ScanGoes table spare before now flags table.announcers → Flagged table spare.retired now.me.0.heard flags
+scan_flagged table spare before now flags some_words goes = let told = goes.scanned.heard some_words in record {
+  wide = goes.wide;
+  whole = λ slot unset. dite (ℕ_discrete (retirements slot spare.retired) 0)
+      (λ none. absurd (differ (sym (goes.others slot none) ∙ unset)))
+      (λ waits. let is = told.whole slot (omega arith) unset in omega arith);
+  stuck = λ slot set_now. dite (ℕ_discrete (retirements slot spare.retired) 0)
+      (λ none. let is = goes.quiet some_words slot none in omega arith)
+      (λ waits. told.stuck slot (omega arith) set_now);
+  others = goes.others;
+}
+  where
+    differ : true ≡ false → ⊥
+    differ clash = absurd (cc)

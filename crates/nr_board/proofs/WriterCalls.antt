@@ -28,7 +28,8 @@ use Rattle.nr_board.proofs.Tokens.{grows_both}
 use Rattle.nr_board.specs.WriterAnswers.{HasNoSlot, KeyHad, Publishes, RetiresOne, SlotsStay}
 use Rattle.nr_board.specs.Callers.{Gains, Grows, Table, map_at_opening, token}
 use Rattle.nr_machine.specs.Spares.{Spare}
-use Rattle.nr_board.specs.Spares.{TookByPolls, desk_with, spare_of}
+use Rattle.nr_machine.specs.declared.places.Retired.{Retired}
+use Rattle.nr_board.specs.Spares.{AreFewSteps, SearchedAll, TookBySearch, desk_with, spare_of}
 use Rattle.nr_marks.specs.Marks.{Marks, Past, with_name, with_polls, without_name}
 use Rattle.nr_marks.specs.PollNotes.{Noted}
 use Rattle.nr_board.proofs.Looks.{HasLooked, rests_own}
@@ -60,7 +61,7 @@ module _ (table : Table) (spare : Spare) (before : MapSeat) (rests : RestsAt tab
       → LeadsIn steps table call (desk_with after_spare Idle, ended answer) before after → RestsAt table after_spare after
       × Gains steps (token before) call answer (token after)
   ends steps call answer after_spare after slots same_reaped same_marks leads = (
-    record { writes = leads.writes; slots = slots ∙ rests.slots; reaped = same_reaped ∙ rests.reaped ∙ sym same_marks; own = leads.grows.own },
+    record { writes = leads.writes; slots = slots ∙ rests.slots; reaped = same_reaped ∙ rests.reaped ∙ sym same_marks; own = leads.grows.own; counted = rests.counted },
     subst (λ (n : ℕ). Grows steps (token before) (entry n call answer ∷ []) (token after)) (sym writer_number) leads.grows,
   )
 
@@ -74,30 +75,33 @@ module _ (table : Table) (spare : Spare) (before : MapSeat) (rests : RestsAt tab
       let grows = subst (λ (es : List Entry). Grows steps (token before) es (token mid)) (settled_quiet table.shape (desk_with spare Idle) call rows (call_of call)) leads.grows in
       (record { slots = rests.slots; writes = leads.writes; short = leads.short; knows = knows_after steps (token before) [] (token mid) grows; polls = polls }, grows)
 
-  module _ (steps : ℕ) (call : WriterCall) (rows : List Row) (mid after : MapSeat) (grows : Grows steps (token before) [] (token mid)) (only_polls : mid.me.0.marks ≡ with_polls before.me.0.marks []) (after_spare : Spare) where
+  module _ (steps : ℕ) (call : WriterCall) (rows : List Row) (mid after : MapSeat) (grows : Grows steps (token before) [] (token mid)) (only_polls : mid.me.0.marks ≡ with_polls before.me.0.marks []) (same_heard : mid.me.0.heard ≡ before.me.0.heard) (after_spare : Spare) where
     same_names : get_or before.me.0.marks.names (key_of call) 0 ≡ get_or mid.me.0.marks.names (key_of call) 0
     same_names = ap (λ (m : Marks). get_or m.names (key_of call) 0) (sym only_polls)
 
     -- the call put its set
     pub publishes_so : (published : PublishesSet table call rows spare after_spare mid after) → RestsAt table after_spare after × (put : Publishes steps (token before) (call_of call) rows (token after)) × (put.slot ≡ published.slot)
     publishes_so published =
-        let all = grows_both steps (2 * length rows + 2 + published.polls) (steps + 2 * length rows + 2 + published.polls) (token before) (token mid)
+        let all = grows_both steps (2 * length rows + 2 + published.steps) (steps + 2 * length rows + 2 + published.steps) (token before) (token mid)
         (entry 0 (call_of call) reply.Done ∷ []) (token after) (omega arith) grows published.grows in
         let reaped_after : after_spare.reaped ≡ after.me.0.marks.reaped = ap (λ (s : Spare). s.reaped) published.retires
         ∙ ap (λ (l : List Bool). slice_set l published.slot false) (rests.reaped ∙ ap (λ (m : Marks). m.reaped) (sym only_polls))
         ∙ ap (λ (m : Marks). m.reaped) (sym published.marks) in
-        let rests_after : RestsAt table after_spare after = record { writes = published.writes; slots = published.slots ∙ rests.slots; reaped = reaped_after; own = all.own } in
+        let rests_after : RestsAt table after_spare after = record { writes = published.writes; slots = published.slots ∙ rests.slots; reaped = reaped_after; own = all.own; counted = rests.counted } in
         let spare_after = spare_shown table after_spare after rests_after ∙ published.retires in
         let map_then = map_after before.me.0.shape published.log in
         let done_then = (legal_goes_on_lem (map_at_opening (token before).table) published.log (entry 0 (call_of call) reply.Done)).1.1 (subst (IsLegal (map_at_opening (token before).table)) published.seen all.legal) in (
           rests_after,
           record {
-            polls = published.polls;
+            searched = published.steps;
             slot = published.slot;
             inside = subst (λ (t : Table). published.slot < t.shape.slots) (sym rests.writes.own) published.inside;
             mid = published.mid;
-            took = subst (λ (s : Spare). TookByPolls published.slot published.polls s published.mid) (sym (spare_shown table spare before rests)) published.took;
-            few = subst (λ (t : Table). published.polls ≤ t.shape.readers + 1) (sym rests.writes.own) published.few;
+            scanned = published.scanned;
+            took = subst (λ (p : Table × List ℕ × Spare). TookBySearch p.0 p.1 published.scanned published.slot published.steps p.2 published.mid)
+                (λ j. (sym rests.writes.own j, same_heard j, sym (spare_shown table spare before rests) j)) published.took;
+            heard = published.heard;
+            few = subst (λ (t : Table). AreFewSteps t published.steps) (sym rests.writes.own) published.few;
             fresh = ap (λ (s : Spare). s.fresh) spare_after;
             numbers = ap (λ (s : Spare). s.numbers) (spare_shown table after_spare after rests_after) ∙ published.numbers ∙ sym (ap (λ (s : Spare). s.numbers) (spare_shown table spare before rests));
             retires = retires_so published.word (token before) published.mid.retired (token after).retired (ap (λ (s : Spare). s.retired) spare_after) map_then call done_then.1
@@ -106,7 +110,7 @@ module _ (table : Table) (spare : Spare) (before : MapSeat) (rests : RestsAt tab
             count = published.count;
             put = published.put;
             marks = published.marks ∙ (λ j. with_name (with_polls (only_polls j) after.me.0.marks.polls) (sym (key_same call) j) published.slot published.number rows);
-            gains = subst (λ (n : ℕ). Grows (steps + 2 * length rows + 2 + published.polls) (token before) (entry n (call_of call) reply.Done ∷ []) (token after)) (sym writer_number) all;
+            gains = subst (λ (n : ℕ). Grows (steps + 2 * length rows + 2 + published.steps) (token before) (entry n (call_of call) reply.Done ∷ []) (token after)) (sym writer_number) all;
           },
           refl,
         )
@@ -115,22 +119,27 @@ module _ (table : Table) (spare : Spare) (before : MapSeat) (rests : RestsAt tab
     pub lacks_so : (counts : NoSlot) → LacksSlot table call counts spare after_spare mid after → RestsAt table after_spare after × HasNoSlot steps (token before) (call_of call) counts (token after)
     lacks_so counts lacking =
         let retired_is : (token before).retired ≡ spare.retired = ap (λ (s : Spare). s.retired) (spare_shown table spare before rests) in
-        let all = grows_both steps (length spare.retired) (steps + length (token before).retired) (token before) (token mid) [] (token after) (omega (arith, ap length retired_is)) grows lacking.grows in
+        let counts_so : (token before).table.announcers ≡ 0 → table.announcers ≡ 0 = λ counted. ap (λ (t : Table). t.announcers) (sym rests.writes.own) ∙ counted in
+        let all = grows_both steps lacking.steps (steps + lacking.steps) (token before) (token mid) [] (token after) refl grows lacking.grows in
         let rests_spare : RestsAt table spare after = record {
           writes = lacking.writes;
           slots = rests.slots;
           reaped = rests.reaped
               ∙ ap (λ (m : Marks). m.reaped) (sym only_polls) ∙ ap (λ (m : Marks). m.reaped) (sym lacking.marks);
           own = all.own;
+          counted = rests.counted;
         } in
-        let noted = lacking.noted in (
+        (
           subst (λ (s : Spare). RestsAt table s after) (sym lacking.same) rests_spare,
           record {
+            searched = lacking.steps;
+            all = subst (λ (p : Table × List ℕ × List Retired). SearchedAll p.0 p.1 after.me.0.heard p.2 lacking.steps)
+                (λ j. (sym rests.writes.own j, same_heard j, sym retired_is j)) lacking.searched;
             grows = all;
-            readers = none_between (steps + length (token before).retired) (token before) [] (token after) rests.own refl all;
+            readers = none_between (steps + lacking.steps) (token before) [] (token after) rests.own refl all;
             lacks = lacking.lacks;
-            noted = subst (λ (p : Table × List Past). Noted p.0.shape p.1 after.me.0.marks.polls) (λ j. (sym rests.writes.own j, grows.pasts j)) noted;
-            held = λ at note there. held_since (lacking.held at note there);
+            noted = λ counted. subst (λ (p : Table × List Past). Noted p.0.shape p.1 after.me.0.marks.polls) (λ j. (sym rests.writes.own j, grows.pasts j)) (lacking.noted (counts_so counted));
+            held = λ counted at note there. held_since (lacking.held (counts_so counted) at note there);
             slots = same_slots after rests_spare;
             marks = lacking.marks ∙ ap (λ (m : Marks). with_polls m after.me.0.marks.polls) only_polls;
           },
@@ -151,19 +160,19 @@ pub look_ends : {table : Table} {spare : Spare} {call : WriterCall} {found : ℕ
     → RestsAt (token after).table spare after × (Gains 1 (token before) (call_of call) answer (token after) × SlotsStay (token before) (token after))
 look_ends {table = table} {spare = spare} {call = call} {before = before} {after = after} looks answer is =
     let ended_so = ends table spare before looks.rests 1 (call_of call) answer spare after refl refl (ap (λ (m : Marks). m.reaped) looks.marks) (subst (λ (o : Desk × Step). LeadsIn 1 table (call_of call) o before after) is looks.leads) in
-    (rests_own table spare after ended_so.0, (ended_so.1, (same_slots table spare before looks.rests after ended_so.0, looks.marks)))
+    (rests_own table spare after ended_so.0, (ended_so.1, (same_slots table spare before looks.rests after ended_so.0, looks.marks, looks.heard)))
 
 pub has_set : {table : Table} {spare : Spare} {steps : ℕ} {call : WriterCall} {rows : List Row} {before mid : MapSeat} → RestsAt table spare before
     → LeadsIn steps table (call_of call) (settled table.shape (desk_with spare Idle) call rows) before mid
-    → mid.me.0.marks ≡ with_polls before.me.0.marks [] → HasSet table spare steps call rows before mid
-has_set {table = table} {spare = spare} {steps = steps} {call = call} {rows = rows} {before = before} {mid = mid} rests leads marks =
-    let so = settles_so table spare before rests steps call rows mid leads (ap (λ (m : Marks). m.polls) marks) in record { rests = rests; settles = so.0; grows = so.1; marks = marks }
+    → mid.me.0.marks ≡ with_polls before.me.0.marks [] → mid.me.0.heard ≡ before.me.0.heard → HasSet table spare steps call rows before mid
+has_set {table = table} {spare = spare} {steps = steps} {call = call} {rows = rows} {before = before} {mid = mid} rests leads marks heard =
+    let so = settles_so table spare before rests steps call rows mid leads (ap (λ (m : Marks). m.polls) marks) in record { rests = rests; settles = so.0; grows = so.1; marks = marks; heard = heard }
 
 -- a fill and a replacement have it at their look
 pub look_settles : {table : Table} {spare : Spare} {call : WriterCall} {rows : List Row} {found : ℕ} {before after : MapSeat}
     → HasLooked table spare call found before after → looked table.shape (desk_with spare Idle) call found ≡ settled table.shape
     (desk_with spare Idle) call rows → HasSet table spare 1 call rows before after
-look_settles {table = table} {call = call} {before = before} {after = after} looks is = has_set looks.rests (subst (λ (o : Desk × Step). LeadsIn 1 table (call_of call) o before after) is looks.leads) looks.marks
+look_settles {table = table} {call = call} {before = before} {after = after} looks is = has_set looks.rests (subst (λ (o : Desk × Step). LeadsIn 1 table (call_of call) o before after) is looks.leads) looks.marks looks.heard
 
 -- and it had the slot, and put the set there, or found none
 module _ {table : Table} {spare after_spare : Spare} {steps : ℕ} {call given : WriterCall} {rows : List Row} {before mid after : MapSeat} (set : HasSet table spare steps call rows before mid) (is : given ≡ call) where
@@ -171,10 +180,10 @@ module _ {table : Table} {spare after_spare : Spare} {steps : ℕ} {call given :
       × (put : Publishes steps (token before) (call_of call) rows (token after)) × (put.slot ≡ published.slot)
   has_published published =
       let put = subst (λ (c : WriterCall). (here : PublishesSet table c rows spare after_spare mid after) × (here.slot ≡ published.slot)) is (published, refl) in
-      let so = publishes_so table spare before set.rests steps call rows mid after set.grows set.marks after_spare put.0 in (rests_own table after_spare after so.0, so.1, so.2 ∙ put.1)
+      let so = publishes_so table spare before set.rests steps call rows mid after set.grows set.marks set.heard after_spare put.0 in (rests_own table after_spare after so.0, so.1, so.2 ∙ put.1)
 
   pub has_lacked : {counts : NoSlot} → LacksSlot table given counts spare after_spare mid after → RestsAt (token after).table after_spare after × HasNoSlot steps (token before) (call_of call) counts (token after)
-  has_lacked {counts = counts} lacking = let so = lacks_so table spare before set.rests steps call rows mid after set.grows set.marks after_spare
+  has_lacked {counts = counts} lacking = let so = lacks_so table spare before set.rests steps call rows mid after set.grows set.marks set.heard after_spare
       counts (subst (λ (c : WriterCall). LacksSlot table c counts spare after_spare mid after) is lacking) in
       (rests_own table after_spare after so.0, so.1)
 
@@ -188,7 +197,7 @@ module _ {table : Table} {spare : Spare} {key word : ℕ} {before mid : MapSeat}
       → RestsAt (token after).table after_spare after × (Gains 2 (token before) (model.Evict key) reply.Evicted (token after)
       × ((token after).fresh ≡ (token before).fresh) × ((token after).numbers ≡ (token before).numbers)
       × RetiresOne key (token before) (token before).retired (token after).retired
-      × (after.me.0.marks ≡ without_name (with_polls before.me.0.marks []) key))
+      × (after.me.0.marks ≡ without_name (with_polls before.me.0.marks []) key) × (after.me.0.heard ≡ before.me.0.heard))
   has_evicted {found = found} {after = after} {after_spare = after_spare} board_is goes retires =
       let gone = subst (λ (t : Table). GoesOn t found mid after) board_is goes (desk_with spare (Leaving key)) about_to_leave.writes.role in let told = gone.leads in
       let all : LeadsIn 2 table (model.Evict key) (desk_with after_spare Idle, ended reply.Evicted) before after = record {
@@ -208,6 +217,7 @@ module _ {table : Table} {spare : Spare} {key word : ℕ} {before mid : MapSeat}
           evicted_one found (token before) (token before).retired (token after).retired (ap (λ (s : Spare). s.retired) slots) (map_after before.me.0.shape gone.log) key legal.1
               (gone.finds.state ∙ ap (λ (t : Table). kind_of (state_of (map_after t.shape gone.log) key)) (sym looks.own)) (ap (λ (m : Marks). get_or m.names key 0) (sym looks.marks) ∙ gone.finds.name),
           gone.marks.0 ∙ ap (λ (m : Marks). without_name m key) looks.marks,
+          gone.heard ∙ looks.heard,
         ),
       )
 
@@ -222,7 +232,7 @@ module _ {table : Table} {spare : Spare} {key word : ℕ} {before mid : MapSeat}
       → RestsAt (token after).table after_spare after × (Gains 2 (token before) (model.Cancel key) reply.Cancelled (token after)
       × (spare_of (token after) ≡ record (spare_of (token before))
       { numbers = slice_set (token before).numbers key (slice_index (token before).numbers key + 1) })
-      × (after.me.0.marks ≡ with_polls before.me.0.marks []))
+      × (after.me.0.marks ≡ with_polls before.me.0.marks []) × (after.me.0.heard ≡ before.me.0.heard))
   has_cancelled {found = found} {after = after} {after_spare = after_spare} board_is goes renumbers =
       let gone = subst (λ (t : Table). GoesOn t found mid after) board_is goes (desk_with spare (Withdrawing key)) about_to_withdraw.writes.role in let told = gone.leads in
       let all : LeadsIn 2 table (model.Cancel key) (desk_with after_spare Idle, ended reply.Cancelled) before after = record {
@@ -238,6 +248,7 @@ module _ {table : Table} {spare : Spare} {key word : ℕ} {before mid : MapSeat}
           ended_so.1,
           spare_shown table after_spare after ended_so.0 ∙ renumbers ∙ ap (λ (s : Spare). record s { numbers = slice_set s.numbers key (slice_index s.numbers key + 1) }) (sym (spare_shown table spare before looks.rests)),
           gone.marks.0 ∙ looks.marks,
+          gone.heard ∙ looks.heard,
         ),
       )
 
@@ -265,6 +276,7 @@ module _ {table : Table} {spare : Spare} {call given : WriterCall} {found : ℕ}
         leads = record { writes = then.writes; grows = grows_both 1 (2 * length rows + 1) (2 * length rows + 2) (token before) (token mid) _ (token after) (omega arith) leads_there.grows then.grows; short = then.short };
         had = subst (λ (p : Desk × WriterCall). KeyHas table p.1 rows (outcome p.0 p.1).1 after) (λ j. (same j, is j)) read.had;
         marks = read.marks ∙ looks.marks;
+        heard = read.heard ∙ looks.heard;
       }
 
 -- a find of the writer's own
@@ -272,7 +284,7 @@ pub has_found : {table : Table} {spare : Spare} {key slot : ℕ} {rows : List Ro
     → RestsAt (token after).table spare after × (Gains (2 * length rows + 2) (token before) (model.Find key) (reply.Rows rows) (token after) × SlotsStay (token before) (token after))
 has_found {table = table} {spare = spare} {key = key} {rows = rows} {before = before} {after = after} read =
     let ended_so = ends table spare before read.rests (2 * length rows + 2) (model.Find key) (reply.Rows rows) spare after refl refl (ap (λ (m : Marks). m.reaped) read.marks) read.leads in
-    (rests_own table spare after ended_so.0, (ended_so.1, (same_slots table spare before read.rests after ended_so.0, read.marks)))
+    (rests_own table spare after ended_so.0, (ended_so.1, (same_slots table spare before read.rests after ended_so.0, read.marks, read.heard)))
 
 -- an update whose batch is refused, or gives a new set
 module _ {table : Table} {spare : Spare} {key slot : ℕ} {batch : List Delta} {rows : List Row} {before after : MapSeat} (read : HasRead table spare (Update key batch) slot rows before after) where
@@ -296,11 +308,11 @@ module _ {table : Table} {spare : Spare} {key slot : ℕ} {batch : List Delta} {
       let ended_so = ends table spare before read.rests (2 * length rows + 2) (model.Update key batch) (applied_reply (Err why)) spare after refl refl (ap (λ (m : Marks). m.reaped) read.marks) (leads_by (Err why) is) in
       let log_is = before_last ((token before).seen ++ ended_so.1.between) read.had.log _ _ (sym ended_so.1.seen ∙ seen_by (Err why) is) in
       let had = ap (λ (l : List Entry). state_of (map_after before.me.0.shape l) key) log_is ∙ own_map read.had.log read.had.number read.had.state in
-      (rests_own table spare after ended_so.0, (ended_so.1, (read.had.number, had), (same_slots table spare before read.rests after ended_so.0, read.marks)))
+      (rests_own table spare after ended_so.0, (ended_so.1, (read.had.number, had), (same_slots table spare before read.rests after ended_so.0, read.marks, read.heard)))
 
   module _ {left : List Row} (is : applied (bound_of table.shape) rows batch ≡ Ok left) where
     pub has_renewed : HasSet table spare (2 * length rows + 2) (Update key batch) left before after
-    has_renewed = has_set read.rests (leads_by (Ok left) is) read.marks
+    has_renewed = has_set read.rests (leads_by (Ok left) is) read.marks read.heard
 
     still_has : state_of (map_after table.shape after.me.0.seen) key ≡ states.Rows read.had.number rows
     still_has = let quiet = ap (λ (l : List Entry). read.had.log ++ l) (settled_quiet table.shape at_read (Update key batch) left (model.Update key batch)) ∙ append-nil read.had.log in

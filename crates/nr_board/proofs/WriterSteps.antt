@@ -154,6 +154,7 @@ looks_so shape slots id me desk call is idle given near = let view = me.0 in let
           (leads_so shape id view desk is operation tells notes state kept at step marked marked.told.1 c outcome step.told.0 step.told.1 callers names
           short advances);
       marks = subst (λ (p : Shape × List Past). LooksMarks p.0 view.marks desk call found step.after (kept.log ++ step.entries) marked.now p.1) (λ j. (sym size j, marked.told.1 j)) marked.told;
+      heard = ap (λ r. heard_after r view.heard) is;
     })))
 
 -- no later step of a call learns of readers
@@ -339,6 +340,7 @@ goes_so shape slots id me desk is busy heard in_order = let view = me.0 in let t
       finds = subst (λ (s : Shape). Finds s desk.place found kept.log view.marks) (sym size) (finds_so shape kept.counted (map role_of state.views) kept.log kept.core id desk there view.marks own.names desk.place refl);
       notes = notes_so shape state kept view.marks.polls marked.now.polls marked.noted;
       marks = subst (λ (p : Shape × List Past). GoesMarks p.0 view.marks view.pasts desk found step.after (kept.log ++ step.entries) marked.now p.1) (λ j. (sym size j, no_news j)) marked.told;
+      heard = ap (λ r. heard_after r view.heard) is;
     })))
 
 -- what a step told, told otherwise
@@ -362,6 +364,7 @@ put_leads desk call rows slot departed index found old new is low went_so =
       marks = (subst (λ (b : Bool). PutsMarks b old.marks (key_of call) slot rows found new.role new.seen new.marks [])
           (le-leb index (2 * length rows) low) (subst (λ (p : Place). went_marks old.shape old.marks old.pasts desk p found new.role new.seen
           new.marks []) is went_so.marks)).0;
+      heard = went_so.heard;
     }
 
 pub puts_so : (shape : Shape) (slots id : ℕ) (me : Me (Unit {0}) View) (desk : Desk) (call : WriterCall) (rows : List Row) (slot departed index : ℕ)

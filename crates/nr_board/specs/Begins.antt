@@ -26,6 +26,7 @@ pub record HasSet (table : Table) (spare : Spare) (steps : ℕ) (call : WriterCa
   pub settles : Settles table call rows spare mid
   pub grows : Grows steps (token before) [] (token mid)
   pub marks : mid.me.0.marks ≡ with_polls before.me.0.marks []
+  pub heard : mid.me.0.heard ≡ before.me.0.heard
 
 -- the call's look found the key filled, and the call has read the set
 pub record HasRead (table : Table) (spare : Spare) (call : WriterCall) (slot : ℕ) (rows : List Row) (before after : MapSeat) : Type 0 where
@@ -35,6 +36,7 @@ pub record HasRead (table : Table) (spare : Spare) (call : WriterCall) (slot : �
   pub leads : LeadsIn (2 * length rows + 2) table (call_of call) (decided table.shape (desk_with spare (Reading call slot [])) call rows) before after
   pub had : KeyHas table call rows (decided table.shape (desk_with spare (Reading call slot [])) call rows).1 after
   pub marks : after.me.0.marks ≡ with_polls before.me.0.marks []
+  pub heard : after.me.0.heard ≡ before.me.0.heard
 
 -- a fill and a replacement have their set by their look
 abbrev pub BeginsFill : Table → Spare → ℕ → ℕ → List Row → MapSeat → MapSeat → Result (Unit {0}) FillFault → Type 0

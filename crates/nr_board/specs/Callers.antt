@@ -41,6 +41,8 @@ pub record Caller : Type 0 where
   pub marks : Marks
   -- how readers were when the writer learnt it
   pub pasts : List Past
+  -- of each slot how many readers, the first ones, the writer found not to announce it since a key named it last
+  pub heard : List ℕ
 
 abbrev pub caller_of : TableId → View → Caller
 caller_of id view = record {
@@ -55,6 +57,7 @@ caller_of id view = record {
   holds = gripped (grip_of view.role);
   marks = view.marks;
   pasts = view.pasts;
+  heard = view.heard;
 }
 
 abbrev pub token : Seat (Unit {0}) View → Caller

@@ -24,6 +24,7 @@ pub mod Scans
 pub mod SearchPlays
 pub mod SearchSeats
 pub mod WholeScans
+pub mod Flags
 pub mod Passes
 pub mod RetiredSearch
 pub mod HeldRows

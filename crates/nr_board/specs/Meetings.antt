@@ -35,6 +35,7 @@ pub record Learns (steps : ℕ) (old new : Caller) : Type 0 where
   pub numbers : new.numbers ≡ old.numbers
   pub holds : new.holds ≡ old.holds
   pub marks : new.marks ≡ old.marks
+  pub heard : new.heard ≡ old.heard
   -- it forgets nothing that it knew of readers
   pub news : List Past
   pub pasts : new.pasts ≡ news ++ old.pasts

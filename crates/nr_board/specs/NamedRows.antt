@@ -42,6 +42,7 @@ pub record ReadTo (table : Table) (call : WriterCall) (begin : ℕ) (before afte
   pub leads : LeadsIn words table (call_of call) (reads_on table (desk_of before.me.0.role) call slot (rows_named table call after) words) before after
   pub had : KeyHas table call (rows_named table call after) (reads_on table (desk_of before.me.0.role) call slot (rows_named table call after) words).1 after
   pub marks : after.me.0.marks ≡ before.me.0.marks
+  pub heard : after.me.0.heard ≡ before.me.0.heard
 
 -- it has read them all
 pub record ReadsAll (table : Table) (call : WriterCall) (rows : List Row) (before after : MapSeat) : Type 0 where
@@ -49,3 +50,4 @@ pub record ReadsAll (table : Table) (call : WriterCall) (rows : List Row) (befor
   pub leads : LeadsIn (2 * length rows + 1) table (call_of call) (decided table.shape (desk_of before.me.0.role) call rows) before after
   pub had : KeyHas table call rows (decided table.shape (desk_of before.me.0.role) call rows).1 after
   pub marks : after.me.0.marks ≡ before.me.0.marks
+  pub heard : after.me.0.heard ≡ before.me.0.heard

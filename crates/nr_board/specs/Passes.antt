@@ -15,10 +15,9 @@ use Rattle.nr_machine.specs.declared.roles.Role.TheVariants.{Writer}
 use Rattle.nr_marks.specs.Marks.{Past, with_polls}
 use Rattle.nr_board.specs.declared.publish.Taken.{Taken}
 use Rattle.nr_board.specs.Callers.{Grows, Table, token}
-use Rattle.nr_board.specs.Plays.{Room}
 use Rattle.nr_board.specs.SearchSeats.{SearchesIn}
 use Rattle.nr_board.specs.WholeScans.{is_unheard}
-use Rattle.nr_board.specs.WriterSeats.{MapSeat}
+use Rattle.nr_board.specs.WriterSeats.{MapSeat, WritesAt}
 
 abbrev pub hits : List Bool → Retired → ℕ
 hits flags entry = (if is_unheard flags entry.slot then 0 else 1)
@@ -61,8 +60,7 @@ pub record PassTakes (table : Table) (spare after : Spare) (flags : List Bool) (
   pub slot : taken.slot ≡ entry.slot
   pub after_is : after ≡ record spare { retired = remove spare.retired place }
   pub own : now.table_id ≡ before.table_id
-  pub role : (desk : Desk) (call : WriterCall) (rows : List Row) → before.me.0.role ≡ Writer desk → desk.place ≡ Searching call rows 0
-      → (now.me.0.role ≡ Writer (taking_retired desk call rows place taken.departures)) × Room table.shape (taking_retired desk call rows place taken.departures)
+  pub writes : (desk : Desk) (call : WriterCall) (rows : List Row) → before.me.0.role ≡ Writer desk → desk.place ≡ Searching call rows 0 → WritesAt table (taking_retired desk call rows place taken.departures) now
   pub grows : Grows (polls_before spare.retired flags place + 1) (token before) [] (token now)
   pub few : length before.me.0.marks.polls + polls_before spare.retired flags place ≤ table.shape.readers
   pub heard : now.me.0.heard ≡ before.me.0.heard

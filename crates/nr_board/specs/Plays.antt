@@ -34,10 +34,12 @@ use Rattle.nr_core.specs.Steps.{ask_word}
 use Rattle.nr_core.specs.Roles.{retirements}
 use Rattle.nr_machine.specs.Story.{call_of, ending, entry, map_after}
 use Rattle.nr_machine.specs.Writer.{looked, moved_to, went}
+use Rattle.nr_machine.specs.Sums.{only, total}
 use Rattle.nr_marks.specs.MarkSteps.{ComparesPuts, GoesMarks, LooksMarks, found_again}
 use Rattle.nr_marks.specs.Marks.{Marks, Past, acted}
 use Rattle.nr_marks.specs.PollNotes.{AllHeld}
 use Rattle.nr_marks.specs.Puts.{put_number}
+use Rattle.nr_board.specs.Announcing.{heard_at}
 use Rattle.nr_board.specs.Entries.{acts_told, to_depart}
 use Rattle.nr_board.specs.Kinds.{kind_of, kind_shown}
 use Rattle.nr_board.specs.Views.{View, caller_number, grip_of, is_sized, rows_held, slot_held}
@@ -152,10 +154,12 @@ pub record Lacks (call : Call) (counts : NoSlot) (caller : Caller) : Type 0 wher
   pub all : counts.live + counts.held ≡ caller.table.shape.slots
   -- every slot was taken once
   pub full : caller.table.shape.slots ≤ caller.fresh
-  -- each retired slot is another one and was polled, and held then by another reader
+  -- each retired slot is another one, and another reader kept it back; where no reader has a word, it was polled, and held then by that reader
   pub apart : (slot : ℕ) → retirements slot caller.retired ≤ 1
-  pub polled : AllHeld caller.retired caller.marks.polls
+  pub many : length caller.marks.polls ≡ length caller.retired
+  pub others : (reader : ℕ) → total (λ (note : Past). only reader note.reader) caller.marks.polls ≤ 1
   pub few : length caller.marks.polls ≤ caller.table.shape.readers
+  pub polled : caller.table.announcers ≡ 0 → AllHeld caller.retired caller.marks.polls
 
 -- a step of the writer's call leads to the desk of the outcome, and adds its entry where it ends the call with a reply
 pub record Leads (call : Call) (outcome : Desk × CallStep) (old new : View) : Type 0 where
@@ -169,6 +173,7 @@ pub record Leads (call : Call) (outcome : Desk × CallStep) (old new : View) : T
 pub record Looked (desk : Desk) (call : WriterCall) (found : ℕ) (old new : View) : Type 0 where
   pub leads : Leads (call_of call) (looked old.shape desk call found) old new
   pub marks : LooksMarks old.shape old.marks desk call found new.role new.seen new.marks []
+  pub heard : new.heard ≡ heard_at desk.place old.heard
 
 -- the call that is at a stage
 abbrev pub call_at : Place → Call
@@ -218,6 +223,7 @@ pub record Went (desk : Desk) (found : ℕ) (old new : View) : Type 0 where
   pub finds : Finds old.shape desk.place found log old.marks
   pub notes : NotesTell log old.marks.polls new.marks.polls
   pub marks : GoesMarks old.shape old.marks old.pasts desk found new.role new.seen new.marks []
+  pub heard : new.heard ≡ heard_at desk.place old.heard
 
 abbrev pub has_looked : WriterCall → Then
 has_looked call step before found after = (desk : Desk) → before.0.role ≡ Writer desk → Looked desk call found before.0 after.0
@@ -244,6 +250,7 @@ pub record Put (desk : Desk) (old new : View) : Type 0 where
   pub room : Room old.shape (next_put desk)
   pub numbers : AreNumbers old.shape (map_after old.shape new.seen) desk.numbers
   pub marks : new.marks ≡ old.marks
+  pub heard : new.heard ≡ heard_at desk.place old.heard
 
 abbrev pub has_put : Then
 has_put step before found after = (desk : Desk) → before.0.role ≡ Writer desk → Put desk before.0 after.0

@@ -29,15 +29,15 @@ use Rattle.nr_board.specs.declared.answers.Found.TheVariants as found
 use Rattle.nr_board.specs.Callers.{Caller, Gains, Grows, map_at_opening}
 use Rattle.nr_board.specs.Plays.{Lacks}
 use Rattle.nr_machine.specs.Spares.{Spare}
-use Rattle.nr_board.specs.Spares.{TookByPolls, spare_of}
+use Rattle.nr_board.specs.Spares.{AreFewSteps, SearchedAll, TookBySearch, spare_of}
 use Rattle.nr_marks.specs.Marks.{Marks, with_name, with_polls, without_name}
 use Rattle.nr_marks.specs.Puts.{put_count}
 use Rattle.nr_marks.specs.PollNotes.{Noted}
 use Rattle.nr_board.specs.Polls.{AllHeldThen}
 
--- the writer's slots and numbers are as they were, and the call polled none
+-- the writer's slots and numbers are as they were, and what it heard, and the call polled none
 abbrev pub SlotsStay : Caller → Caller → Type 0
-SlotsStay old new = (spare_of new ≡ spare_of old) × (new.marks ≡ with_polls old.marks [])
+SlotsStay old new = (spare_of new ≡ spare_of old) × (new.marks ≡ with_polls old.marks []) × (new.heard ≡ old.heard)
 
 -- the slot that the key named, as the map's words have it, is retired behind the others
 pub record RetiresOne (key : ℕ) (old : Caller) (before after : List Retired) : Type 0 where
@@ -70,14 +70,17 @@ abbrev pub LooksIn : {Room : Type 0} → (Room → List Row → Type 0) → ℕ 
 LooksIn shows key old before new room found.Rows = (rows : List Row) × Gains (2 * length rows + 2) old (model.Find key) (reply.Rows rows) new × SlotsStay old new × shows room rows × IsRowSet old.table.shape.rows rows
 LooksIn shows key old before new room found.Hole = Gains 1 old (model.Find key) reply.Hole new × SlotsStay old new × (room ≡ before)
 
--- a call that put a set, besides its other steps: by that many polls it took a slot, it put each word and named the slot at its key, with the next put number, and retired what the key named before
+-- a call that put a set, besides its other steps: by so many steps it took a slot, it put each word and named the slot at its key, with the next put number, and retired what the key named before
 pub record Publishes (steps : ℕ) (old : Caller) (call : Call) (rows : List Row) (new : Caller) : Type 0 where
-  pub polls : ℕ
+  pub searched : ℕ
   pub slot : ℕ
   pub inside : slot < old.table.shape.slots
   pub mid : Spare
-  pub took : TookByPolls slot polls (spare_of old) mid
-  pub few : polls ≤ old.table.shape.readers + 1
+  -- what was heard when the search ended; of the slot's new set nothing is
+  pub scanned : List ℕ
+  pub took : TookBySearch old.table old.heard scanned slot searched (spare_of old) mid
+  pub heard : new.heard ≡ slice_set scanned slot 0
+  pub few : AreFewSteps old.table searched
   pub fresh : new.fresh ≡ mid.fresh
   pub numbers : new.numbers ≡ old.numbers
   pub retires : Retires call old mid.retired new.retired
@@ -85,17 +88,19 @@ pub record Publishes (steps : ℕ) (old : Caller) (call : Call) (rows : List Row
   pub count : put_count new.seen ≡ suc number
   pub put : slice_index new.marks.puts slot ≡ number
   pub marks : new.marks ≡ with_name (with_polls old.marks new.marks.polls) (call_key call) slot number rows
-  pub gains : Gains (steps + 2 * length rows + 2 + polls) old call reply.Done new
+  pub gains : Gains (steps + 2 * length rows + 2 + searched) old call reply.Done new
 
--- A call that found no slot, after that many other steps and a poll of each retired slot. It is no entry: the writer has learnt readers' entries alone.
+-- A call that found no slot, after that many other steps and a search of all retired slots. It is no entry: the writer has learnt readers' entries alone.
 pub record HasNoSlot (steps : ℕ) (old : Caller) (call : Call) (counts : NoSlot) (new : Caller) : Type 0 where
-  pub grows : Grows (steps + length old.retired) old [] new
+  pub searched : ℕ
+  pub all : SearchedAll old.table old.heard new.heard old.retired searched
+  pub grows : Grows (steps + searched) old [] new
   pub readers : entries_of grows.between old.number ≡ []
-  -- it would be done now, and each slot is a filled key's or was polled
+  -- it would be done now, and each slot is a filled key's or was kept back by a reader
   pub lacks : Lacks call counts new
-  -- at its poll the noted reader held the slot and had made that many acts, no fewer than the writer knew of
-  pub held : AllHeldThen old.seen new.seen new.marks.polls
-  pub noted : Noted old.table.shape old.pasts new.marks.polls
+  -- where no reader has a word, at its poll the noted reader held the slot and had made that many acts, no fewer than the writer knew of
+  pub held : old.table.announcers ≡ 0 → AllHeldThen old.seen new.seen new.marks.polls
+  pub noted : old.table.announcers ≡ 0 → Noted old.table.shape old.pasts new.marks.polls
   pub slots : spare_of new ≡ spare_of old
   pub marks : new.marks ≡ with_polls old.marks new.marks.polls
 
@@ -135,7 +140,7 @@ after_unnaming marks key = without_name (with_polls marks []) key
 
 -- an eviction retires the key's slot
 abbrev pub EvictsKey : ℕ → Caller → Caller → Evict → Type 0
-EvictsKey key old new evict.Evicted = Gains 2 old (model.Evict key) reply.Evicted new × (new.fresh ≡ old.fresh) × (new.numbers ≡ old.numbers) × RetiresOne key old old.retired new.retired × (new.marks ≡ after_unnaming old.marks key)
+EvictsKey key old new evict.Evicted = Gains 2 old (model.Evict key) reply.Evicted new × (new.fresh ≡ old.fresh) × (new.numbers ≡ old.numbers) × RetiresOne key old old.retired new.retired × (new.marks ≡ after_unnaming old.marks key) × (new.heard ≡ old.heard)
 EvictsKey key old new evict.Nothing = Gains 1 old (model.Evict key) reply.Nothing new × SlotsStay old new
 
 -- the writer's slots and numbers, where the key has the next number
@@ -144,6 +149,6 @@ with_next_number old key = record (spare_of old) { numbers = slice_set old.numbe
 
 -- a cancel gives the key the next number; it retires no slot, and no key names another
 abbrev pub CancelsKey : ℕ → Caller → Caller → Cancel → Type 0
-CancelsKey key old new cancel.Cancelled = Gains 2 old (model.Cancel key) reply.Cancelled new × (spare_of new ≡ with_next_number old key) × (new.marks ≡ with_polls old.marks [])
+CancelsKey key old new cancel.Cancelled = Gains 2 old (model.Cancel key) reply.Cancelled new × (spare_of new ≡ with_next_number old key) × (new.marks ≡ with_polls old.marks []) × (new.heard ≡ old.heard)
 CancelsKey key old new cancel.Nothing = Gains 1 old (model.Cancel key) reply.Nothing new × SlotsStay old new
 CancelsKey key old new cancel.Worn = Gains 1 old (model.Cancel key) reply.Worn new × SlotsStay old new

@@ -24,7 +24,8 @@ use Rattle.nr_machine.specs.declared.roles.Desk.{Desk}
 use Rattle.nr_machine.specs.declared.roles.Role.TheVariants.{Writer}
 use Rattle.nr_board.specs.Callers.{Grows, KnowsOwn, Table, map_seen, token, IsSound}
 use Rattle.nr_machine.specs.Spares.{Spare}
-use Rattle.nr_board.specs.Spares.{TookByPolls, desk_with}
+use Rattle.nr_board.specs.Announcing.{heard_at}
+use Rattle.nr_board.specs.Spares.{AreFewSteps, SearchedAll, TookBySearch, desk_with}
 use Rattle.nr_board.specs.Plays.{Finds, Lacks, NotesTell, Room, SwapsAt, call_at, next_put}
 use Rattle.nr_board.specs.Polls.{AllHeldThen}
 use Rattle.nr_marks.specs.MarkSteps.{GoesMarks}
@@ -42,8 +43,6 @@ pub record WritesAt (table : Table) (desk : Desk) (seat : MapSeat) : Type 0 wher
   pub role : seat.me.0.role ≡ Writer desk
   pub room : Room table.shape desk
   pub numbers : AreNumbers table.shape (map_seen (token seat)) desk.numbers
-  -- the map's readers find by counts
-  pub counted : table.announcers ≡ 0
 
 -- between calls
 pub record IsBetween (table : Table) (seat : MapSeat) : Type 0 where
@@ -129,6 +128,7 @@ pub record GoesTo (table : Table) (desk : Desk) (found : ℕ) (old new : MapSeat
   pub finds : Finds table.shape desk.place found log old.me.0.marks
   pub notes : NotesTell log old.me.0.marks.polls new.me.0.marks.polls
   pub marks : GoesMarks table.shape old.me.0.marks old.me.0.pasts desk found new.me.0.role new.me.0.seen new.me.0.marks []
+  pub heard : new.me.0.heard ≡ heard_at desk.place old.me.0.heard
 
 abbrev pub GoesOn : Table → ℕ → MapSeat → MapSeat → Type 0
 GoesOn table found old new = (desk : Desk) → old.me.0.role ≡ Writer desk → GoesTo table desk found old new
@@ -138,6 +138,7 @@ pub record PutsTo (table : Table) (desk : Desk) (old new : MapSeat) : Type 0 whe
   pub writes : WritesAt table (next_put desk) new
   pub grows : Grows 1 (token old) [] (token new)
   pub marks : new.me.0.marks ≡ old.me.0.marks
+  pub heard : new.me.0.heard ≡ heard_at desk.place old.me.0.heard
 
 -- the call has its set, and looks for a slot
 pub record Settles (table : Table) (call : WriterCall) (rows : List Row) (spare : Spare) (seat : MapSeat) : Type 0 where
@@ -160,33 +161,37 @@ swept shape desk call rows polls = (if nat_lt polls (length desk.retired) then (
 
 -- the slot that a call took, with its departures, or there was none
 pub record TakesSlot (table : Table) (call : WriterCall) (rows : List Row) (slot departed : ℕ) (spare after : Spare) (old new : MapSeat) : Type 0 where
-  pub polls : ℕ
-  pub took : TookByPolls slot polls spare after
-  -- all polls but the last one found their slots held, each by another reader
-  pub few : polls ≤ table.shape.readers + 1
+  pub steps : ℕ
+  pub took : TookBySearch table old.me.0.heard new.me.0.heard slot steps spare after
+  pub few : AreFewSteps table steps
   pub slots : after.slots ≡ spare.slots
   pub numbers : after.numbers ≡ spare.numbers
   pub reaped : after.reaped ≡ spare.reaped
   pub writes : WritesAt table (desk_with after (Putting call rows slot departed 0)) new
-  pub grows : Grows polls (token old) [] (token new)
+  pub grows : Grows steps (token old) [] (token new)
   pub marks : new.me.0.marks ≡ with_polls old.me.0.marks new.me.0.marks.polls
 
 pub record LacksSlot (table : Table) (call : WriterCall) (counts : NoSlot) (spare after : Spare) (old new : MapSeat) : Type 0 where
   pub same : after ≡ spare
   pub writes : WritesAt table (desk_with spare Idle) new
-  pub grows : Grows (length spare.retired) (token old) [] (token new)
+  pub steps : ℕ
+  pub searched : SearchedAll table old.me.0.heard new.me.0.heard spare.retired steps
+  pub grows : Grows steps (token old) [] (token new)
   pub lacks : Lacks (call_of call) counts (token new)
-  pub noted : Noted table.shape old.me.0.pasts new.me.0.marks.polls
-  pub held : AllHeldThen old.me.0.seen new.me.0.seen new.me.0.marks.polls
+  pub noted : table.announcers ≡ 0 → Noted table.shape old.me.0.pasts new.me.0.marks.polls
+  pub held : table.announcers ≡ 0 → AllHeldThen old.me.0.seen new.me.0.seen new.me.0.marks.polls
   pub marks : new.me.0.marks ≡ with_polls old.me.0.marks new.me.0.marks.polls
 
 -- the set was published: the call's last step is its entry, and the slot that the key named before is retired
 pub record PublishesSet (table : Table) (call : WriterCall) (rows : List Row) (spare after : Spare) (old new : MapSeat) : Type 0 where
-  pub polls : ℕ
+  pub steps : ℕ
   pub slot : ℕ
   pub inside : slot < table.shape.slots
   pub mid : Spare
-  pub took : TookByPolls slot polls spare mid
+  -- what was heard when the search ended
+  pub scanned : List ℕ
+  pub took : TookBySearch table old.me.0.heard scanned slot steps spare mid
+  pub heard : new.me.0.heard ≡ slice_set scanned slot 0
   -- the word that the key had
   pub word : ℕ
   pub log : List Entry
@@ -194,7 +199,7 @@ pub record PublishesSet (table : Table) (call : WriterCall) (rows : List Row) (s
   pub swaps : SwapsAt table.shape (key_of call) word log old.me.0.marks
   -- the slot's new set is not reaped
   pub retires : after ≡ record mid { retired = mid.retired ++ unnamed word; reaped = slice_set spare.reaped slot false }
-  pub few : polls ≤ table.shape.readers + 1
+  pub few : AreFewSteps table steps
   pub slots : after.slots ≡ spare.slots
   pub numbers : after.numbers ≡ spare.numbers
   -- the set has the next put number
@@ -203,7 +208,7 @@ pub record PublishesSet (table : Table) (call : WriterCall) (rows : List Row) (s
   pub put : slice_index new.me.0.marks.puts slot ≡ number
   pub marks : new.me.0.marks ≡ with_name (with_polls old.me.0.marks new.me.0.marks.polls) (key_of call) slot number rows
   pub writes : WritesAt table (desk_with after Idle) new
-  pub grows : Grows (2 * length rows + 2 + polls) (token old) (entry 0 (call_of call) reply.Done ∷ []) (token new)
+  pub grows : Grows (2 * length rows + 2 + steps) (token old) (entry 0 (call_of call) reply.Done ∷ []) (token new)
 
 -- the writer between two calls, with its slots
 pub record RestsAt (table : Table) (spare : Spare) (seat : MapSeat) : Type 0 where
@@ -211,3 +216,5 @@ pub record RestsAt (table : Table) (spare : Spare) (seat : MapSeat) : Type 0 whe
   pub slots : spare.slots ≡ table.shape.slots
   pub reaped : spare.reaped ≡ seat.me.0.marks.reaped
   pub own : KnowsOwn (token seat)
+  -- the map's readers find by counts
+  pub counted : table.announcers ≡ 0

@@ -370,6 +370,7 @@ impl Board {
         requires key { key < self.now.shape.keys }
         ensures leads { (desk : Desk) → seat.old.me.0.role ≡ Writer desk → LeadsTo self.now (call_of G.call) (looked self.now.shape desk G.call result) seat.old seat.new }
         ensures marks { seat.new.me.0.marks ≡ with_polls seat.old.me.0.marks [] }
+        ensures heard { seat.new.me.0.heard ≡ seat.old.me.0.heard }
     {
         let words = &self.table.shared;
         words.load::<Looks<G>>(seat, key as usize)

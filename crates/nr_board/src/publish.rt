@@ -1,5 +1,5 @@
 //! How a call takes a slot that nobody holds, puts its set there and names the slot at its key.
-ghost use Rattle.std.specs.Prelude.{◌≡◌, ◌<◌, ◌≤◌, ◌+◌, ◌*◌, [], length};
+ghost use Rattle.std.specs.Prelude.{◌≡◌, ◌<◌, ◌≤◌, ◌+◌, ◌*◌, [], length, slice_set};
 ghost use Rattle.nr_machine.specs.States.{key_of};
 ghost use Rattle.nr_machine.specs.Writer.{moved_to};
 ghost use Rattle.nr_machine.specs.declared.places.Place.TheVariants.{Putting};
@@ -11,6 +11,7 @@ use crate::answers::Reclaimed;
 use crate::board::{Board, Seat};
 use crate::only_proved::only_proved;
 use crate::rule::BegunCall;
+use crate::scans::Unheard;
 use nr_core::{NoSlot, Spare};
 use nr_model::{Row, RowRoom};
 use nr_words::same_count;
@@ -24,49 +25,81 @@ pub struct Taken {
 
 impl Board {
     ghost use Rattle.nr_board.specs.Reclaiming.{PublishesReclaiming, TakesReclaiming};
+    ghost use Rattle.nr_board.specs.Flags.{IsFlagged};
     ghost use Rattle.nr_board.specs.Searches.{PublishesFor, TakesFor};
 
     /// Takes a slot for the set of a call, puts the set there, and names the slot at the call's
-    /// key; the slot that the key named before is retired. Takes the polls of the search, a put for
+    /// key; the slot that the key named before is retired. Takes the steps of the search, a put for
     /// each word of the set, and one swap.
     #[inline(always)]
     pub(crate) fn publish_set<G: BegunCall>(
         &self,
         seat: &mut Seat,
         spare: &mut Spare,
+        unheard: &mut Unheard,
         key: u32,
         rows: &[Row],
     ) -> Result<(), NoSlot>
         requires settles { Settles self.now G.call rows.now spare.old seat.old }
+        requires flagged { IsFlagged self.now spare.old.retired seat.old.me.0.heard unheard.old }
         requires call { key ≡ key_of G.call }
         requires key { key < self.now.shape.keys }
-        ensures { PublishesFor self.now G.call rows.now spare.old spare.new seat.old seat.new result }
+        ensures publishes { PublishesFor self.now G.call rows.now spare.old spare.new seat.old seat.new result }
+        ensures flagged { IsFlagged self.now spare.new.retired seat.new.me.0.heard unheard.new }
     {
-        let taken = self.take_slot::<G>(seat, spare, rows)?;
+        let taken = self.take_slot::<G>(seat, spare, unheard, rows)?;
         self.put_rows::<G>(seat, rows, taken);
         let old_word = self.publish(seat, key, taken.slot, taken.departures);
         spare.retire(old_word);
         spare.set_reaped(taken.slot, false);
+        unheard.flag(taken.slot);
         Ok(())
     }
 
     // Takes a slot for the set of a call: the next one that was never taken, without a step, or
-    // else the first retired one that no reader holds, by one poll of each up to it.
+    // else a retired one that no reader holds.
     #[inline(always)]
     fn take_slot<G: BegunCall>(
         &self,
         seat: &mut Seat,
         spare: &mut Spare,
+        unheard: &mut Unheard,
         rows: &[Row],
     ) -> Result<Taken, NoSlot>
-        requires { Settles self.now G.call rows.now spare.old seat.old }
-        ensures { TakesFor self.now G.call rows.now spare.old spare.new seat.old seat.new result }
+        requires settles { Settles self.now G.call rows.now spare.old seat.old }
+        requires flagged { IsFlagged self.now spare.old.retired seat.old.me.0.heard unheard.old }
+        ensures takes { TakesFor self.now G.call rows.now spare.old spare.new seat.old seat.new result }
+        ensures flagged { IsFlagged self.now spare.old.retired seat.new.me.0.heard unheard.new }
     {
         if let Some(slot) = spare.take_fresh() {
             let departures = self.shape().first_count;
             return Ok(Taken { slot, departures });
         }
-        self.poll_retired::<G>(seat, spare, rows)
+        self.take_retired::<G>(seat, spare, unheard, rows)
+    }
+
+    // Where no reader has a word, a poll of each retired slot tells whether it is held.
+    #[inline(always)]
+    fn take_retired<G: BegunCall>(
+        &self,
+        seat: &mut Seat,
+        spare: &mut Spare,
+        unheard: &mut Unheard,
+        rows: &[Row],
+    ) -> Result<Taken, NoSlot>
+        requires settles { Settles self.now G.call rows.now spare.old seat.old }
+        requires none_fresh { spare.old.slots ≤ spare.old.fresh }
+        requires flagged { IsFlagged self.now spare.old.retired seat.old.me.0.heard unheard.old }
+        ensures takes { TakesFor self.now G.call rows.now spare.old spare.new seat.old seat.new result }
+        ensures flagged { IsFlagged self.now spare.old.retired seat.new.me.0.heard unheard.new }
+    {
+        if self.announcers() == 0 {
+            return self.poll_retired::<G>(seat, spare, rows);
+        }
+        if spare.retired_len() == 0 {
+            return Err(spare.counts());
+        }
+        self.search_retired(seat, spare, unheard)
     }
 
     #[inline(always)]
@@ -78,6 +111,7 @@ impl Board {
     ) -> Result<Taken, NoSlot>
         requires settles { Settles self.now G.call rows.now spare.old seat.old }
         requires none_fresh { spare.old.slots ≤ spare.old.fresh }
+        requires counted { self.now.announcers ≡ 0 }
         ensures { TakesFor self.now G.call rows.now spare.old spare.new seat.old seat.new result }
     {
         only_proved(rows);
@@ -113,20 +147,24 @@ impl Board {
         &self,
         seat: &mut Seat,
         spare: &mut Spare,
+        unheard: &mut Unheard,
         key: u32,
         rows: &[Row],
         had: &mut R,
     ) -> Result<Reclaimed, NoSlot>
         requires settles { Settles self.now G.call rows.now spare.old seat.old }
+        requires flagged { IsFlagged self.now spare.old.retired seat.old.me.0.heard unheard.old }
         requires call { key ≡ key_of G.call }
         requires key { key < self.now.shape.keys }
-        ensures { PublishesReclaiming R.shows self.now G.call rows.now spare.old spare.new seat.old seat.new had.old had.new result }
+        ensures publishes { PublishesReclaiming R.shows self.now G.call rows.now spare.old spare.new seat.old seat.new had.old had.new result }
+        ensures flagged { IsFlagged self.now spare.new.retired seat.new.me.0.heard unheard.new }
     {
-        let (taken, given) = self.take_reclaiming::<G, R>(seat, spare, rows, had)?;
+        let (taken, given) = self.take_reclaiming::<G, R>(seat, spare, unheard, rows, had)?;
         self.put_rows::<G>(seat, rows, taken);
         let named = self.publish(seat, key, taken.slot, taken.departures);
         spare.retire(named);
         spare.set_reaped(taken.slot, false);
+        unheard.flag(taken.slot);
         Ok(given)
     }
 
@@ -136,17 +174,20 @@ impl Board {
         &self,
         seat: &mut Seat,
         spare: &mut Spare,
+        unheard: &mut Unheard,
         rows: &[Row],
         had: &mut R,
     ) -> Result<(Taken, Reclaimed), NoSlot>
-        requires { Settles self.now G.call rows.now spare.old seat.old }
-        ensures { TakesReclaiming R.shows self.now G.call rows.now spare.old spare.new seat.old seat.new had.old had.new result }
+        requires settles { Settles self.now G.call rows.now spare.old seat.old }
+        requires flagged { IsFlagged self.now spare.old.retired seat.old.me.0.heard unheard.old }
+        ensures takes { TakesReclaiming R.shows self.now G.call rows.now spare.old spare.new seat.old seat.new had.old had.new result }
+        ensures flagged { IsFlagged self.now spare.old.retired seat.new.me.0.heard unheard.new }
     {
         if let Some(slot) = spare.take_fresh() {
             let departures = self.shape().first_count;
             return Ok((Taken { slot, departures }, Reclaimed::Nothing));
         }
-        let taken = self.poll_retired::<G>(seat, spare, rows)?;
+        let taken = self.take_retired::<G>(seat, spare, unheard, rows)?;
         if spare.is_reaped(taken.slot) {
             return Ok((taken, Reclaimed::Nothing));
         }
@@ -160,6 +201,7 @@ impl Board {
         ensures writer { WritesAt self.now (moved_to (desk_of seat.old.me.0.role) (Putting G.call rows.now taken.slot taken.departures (2 * length rows.now + 1))) seat.new }
         ensures grows { Grows (2 * length rows.now + 1) (token seat.old) [] (token seat.new) }
         ensures marks { seat.new.me.0.marks ≡ seat.old.me.0.marks }
+        ensures heard { slice_set seat.new.me.0.heard taken.slot 0 ≡ slice_set seat.old.me.0.heard taken.slot 0 }
     {
         let begin = self.content(taken.slot);
         self.put(seat, begin, 0, rows.len() as u64);

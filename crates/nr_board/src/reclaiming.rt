@@ -5,11 +5,13 @@ ghost use Rattle.nr_model.specs.Rows.{IsRowSet};
 ghost use Rattle.nr_machine.specs.declared.calls.WriterCall.TheVariants as writer;
 ghost use Rattle.nr_board.specs.Callers.{token};
 ghost use Rattle.nr_board.specs.Reclaiming.{FillsReclaiming, ReplacesReclaiming, UpdatesReclaiming};
+ghost use Rattle.nr_board.specs.Flags.{IsFlagged};
 ghost use Rattle.nr_board.specs.WriterSeats.{RestsAt};
 
 use crate::answers::{FillFault, Reclaimed, ReplaceFault, UpdateFault};
 use crate::board::{Board, Seat};
 use crate::rule::BegunCall;
+use crate::scans::Unheard;
 use nr_core::Spare;
 use nr_model::{Delta, Pile, Row, RowRoom};
 
@@ -21,6 +23,7 @@ impl Board {
         &self,
         seat: &mut Seat,
         spare: &mut Spare,
+        unheard: &mut Unheard,
         key: u32,
         number: u64,
         rows: &[Row],
@@ -30,12 +33,14 @@ impl Board {
         requires row_set { IsRowSet self.now.shape.rows rows.now }
         requires own { (token seat.old).table ≡ self.now }
         requires rests { RestsAt (token seat.old).table spare.old seat.old }
+        requires flagged { IsFlagged self.now spare.old.retired (token seat.old).heard unheard.old }
         requires key { key < self.now.shape.keys }
         ensures rests { RestsAt (token seat.new).table spare.new seat.new }
+        ensures flagged { IsFlagged self.now spare.new.retired (token seat.new).heard unheard.new }
         ensures fills { FillsReclaiming R.shows key number rows.now (token seat.old) had.old (token seat.new) had.new result }
     {
         self.begin_fill::<G>(seat, spare, key, number, rows)?;
-        match self.publish_reclaiming::<G, R>(seat, spare, key, rows, had) {
+        match self.publish_reclaiming::<G, R>(seat, spare, unheard, key, rows, had) {
             Ok(given) => Ok(given),
             Err(counts) => Err(FillFault::NoSlot(counts)),
         }
@@ -46,6 +51,7 @@ impl Board {
         &self,
         seat: &mut Seat,
         spare: &mut Spare,
+        unheard: &mut Unheard,
         pile: &mut Pile,
         key: u32,
         deltas: &[Delta],
@@ -55,12 +61,14 @@ impl Board {
         requires batch { IsBatch deltas.now }
         requires own { (token seat.old).table ≡ self.now }
         requires rests { RestsAt (token seat.old).table spare.old seat.old }
+        requires flagged { IsFlagged self.now spare.old.retired (token seat.old).heard unheard.old }
         requires key { key < self.now.shape.keys }
         ensures rests { RestsAt (token seat.new).table spare.new seat.new }
+        ensures flagged { IsFlagged self.now spare.new.retired (token seat.new).heard unheard.new }
         ensures updates { UpdatesReclaiming R.shows self.now.shape.rows key deltas.now (token seat.old) had.old (token seat.new) had.new result }
     {
         self.begin_update::<G>(seat, spare, pile, key, deltas)?;
-        match self.publish_reclaiming::<G, R>(seat, spare, key, pile.as_slice(), had) {
+        match self.publish_reclaiming::<G, R>(seat, spare, unheard, key, pile.as_slice(), had) {
             Ok(given) => Ok(given),
             Err(counts) => Err(UpdateFault::NoSlot(counts)),
         }
@@ -71,6 +79,7 @@ impl Board {
         &self,
         seat: &mut Seat,
         spare: &mut Spare,
+        unheard: &mut Unheard,
         key: u32,
         rows: &[Row],
         had: &mut R,
@@ -79,12 +88,14 @@ impl Board {
         requires row_set { IsRowSet self.now.shape.rows rows.now }
         requires own { (token seat.old).table ≡ self.now }
         requires rests { RestsAt (token seat.old).table spare.old seat.old }
+        requires flagged { IsFlagged self.now spare.old.retired (token seat.old).heard unheard.old }
         requires key { key < self.now.shape.keys }
         ensures rests { RestsAt (token seat.new).table spare.new seat.new }
+        ensures flagged { IsFlagged self.now spare.new.retired (token seat.new).heard unheard.new }
         ensures replaces { ReplacesReclaiming R.shows key rows.now (token seat.old) had.old (token seat.new) had.new result }
     {
         self.begin_replace::<G>(seat, spare, key, rows)?;
-        match self.publish_reclaiming::<G, R>(seat, spare, key, rows, had) {
+        match self.publish_reclaiming::<G, R>(seat, spare, unheard, key, rows, had) {
             Ok(given) => Ok(given),
             Err(counts) => Err(ReplaceFault::NoSlot(counts)),
         }

@@ -1,6 +1,7 @@
 //! How a search hears which of the retired slots no reader announces.
 ghost use Rattle.std.specs.Prelude.{◌≡◌, ◌<◌, ◌≤◌, IfOk, false, length, replicate, slice_index_or, slice_set, true};
 ghost use Rattle.nr_board.specs.SearchSeats.{SearchesIn};
+ghost use Rattle.nr_board.specs.Flags.{Flagged, OthersFlagged};
 ghost use Rattle.nr_board.specs.WholeScans.{AreInside, NoneFlagged, ScannedTo, announced};
 
 use crate::board::{Board, Seat};
@@ -9,7 +10,7 @@ use std::alloc::{AllocError, Global};
 use std::marker::Model;
 
 /// A flag for each slot that isn't known to be heard: all but the retired ones that the last scan found
-/// announced by no reader.
+/// announced by no reader. Where no reader has a word there are none.
 #[derive(Drop)]
 pub struct Unheard {
     flags: Vec<bool>,
@@ -40,12 +41,13 @@ impl Unheard {
         self.flags[slot as usize]
     }
 
-    /// A slot into which a set was put isn't heard any more.
+    /// A slot into which a set was put isn't heard any more. Where there are no flags none is set.
     pub fn flag(&mut self, slot: u32)
-        requires { slot < length self.old }
         ensures { self.new ≡ slice_set self.old slot true }
     {
-        self.flags[slot as usize] = true;
+        if (slot as usize) < self.flags.len() {
+            self.flags[slot as usize] = true;
+        }
     }
 
     fn clear(&mut self, slot: u32)
@@ -59,6 +61,7 @@ impl Unheard {
     fn clear_retired(&mut self, spare: &Spare)
         requires { AreInside spare.now.retired self.old }
         ensures none { NoneFlagged spare.now.retired self.new }
+        ensures others { OthersFlagged spare.now.retired self.old → OthersFlagged spare.now.retired self.new }
         ensures wide { length self.new ≡ length self.old }
     {
         for place in 0..spare.retired_len() {
@@ -81,12 +84,13 @@ impl Board {
     /// Loads each reader's own word once, in order: what the flags tell afterwards is of this scan.
     pub fn scan_words(&self, seat: &mut Seat, spare: &Spare, unheard: &mut Unheard)
         requires search { SearchesIn self.now spare.now seat.old }
-        requires wide { length unheard.old ≡ self.now.shape.slots }
+        requires flagged { Flagged self.now spare.now.retired seat.old.me.0.heard unheard.old }
+        requires some_words { 0 < self.now.announcers }
         ensures own { seat.new.table_id ≡ seat.old.table_id }
         ensures scans { ScannedTo spare.now.retired seat.old.me.0 seat.new.me.0 unheard.new self.now.announcers }
         ensures search { SearchesIn self.now spare.now seat.new }
         ensures few { self.now.announcers ≤ self.now.shape.readers }
-        ensures wide { length unheard.new ≡ length unheard.old }
+        ensures flagged { Flagged self.now spare.now.retired seat.new.me.0.heard unheard.new }
     {
         unheard.clear_retired(spare);
         for own in 0..self.announcers() {

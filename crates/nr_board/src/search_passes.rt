@@ -1,6 +1,7 @@
 //! How a writer of a map whose readers have words searches its retired slots.
 ghost use Rattle.std.specs.Prelude.{◌≡◌, ◌<◌, [], length};
 ghost use Rattle.nr_board.specs.Callers.{IsSound, token};
+ghost use Rattle.nr_board.specs.Flags.{Flagged};
 ghost use Rattle.nr_board.specs.Passes.{AreHeard, NotesTo, PassesFor};
 ghost use Rattle.nr_board.specs.RetiredSearch.{SearchesFor};
 ghost use Rattle.nr_board.specs.SearchSeats.{SearchesIn};
@@ -24,11 +25,10 @@ impl Board {
         requires search { SearchesIn self.now spare.old seat.old }
         requires knows { IsSound (token seat.old) }
         requires some_words { 0 < self.now.announcers }
-        requires wide { length unheard.old ≡ self.now.shape.slots }
-        requires heard { AreHeard spare.old.retired unheard.old self.now.announcers seat.old.me.0.heard }
+        requires flagged { Flagged self.now spare.old.retired seat.old.me.0.heard unheard.old }
         requires begins { seat.old.me.0.marks.polls ≡ [] }
-        ensures searches { SearchesFor self.now spare.old spare.new unheard.old unheard.new seat.old seat.new result }
-        ensures wide { length unheard.new ≡ length unheard.old }
+        ensures searches { SearchesFor self.now spare.old spare.new seat.old seat.new result }
+        ensures flagged { Flagged self.now spare.old.retired seat.new.me.0.heard unheard.new }
     {
         if let Some(taken) = self.pass(seat, spare, unheard) {
             return Ok(taken);

@@ -6,12 +6,14 @@ ghost use Rattle.nr_model.specs.Batches.{IsBatch};
 ghost use Rattle.nr_model.specs.Rows.{IsRowSet};
 ghost use Rattle.nr_machine.specs.declared.calls.WriterCall.TheVariants as writer;
 ghost use Rattle.nr_board.specs.Callers.{token};
+ghost use Rattle.nr_board.specs.Flags.{IsFlagged};
 ghost use Rattle.nr_board.specs.WriterSeats.{RestsAt};
 
 use crate::answers::{Cancel, Evict, FillFault, Found, ReplaceFault, UpdateFault};
 use crate::board::{Board, Seat};
 use crate::only_proved::only_proved;
 use crate::rule::BegunCall;
+use crate::scans::Unheard;
 use nr_core::Spare;
 use nr_model::{Delta, LAST_NUMBER, Pile, Row, RowRoom};
 use nr_words::parts;
@@ -56,6 +58,7 @@ impl Board {
         &self,
         seat: &mut Seat,
         spare: &mut Spare,
+        unheard: &mut Unheard,
         key: u32,
         number: u64,
         rows: &[Row],
@@ -64,12 +67,14 @@ impl Board {
         requires row_set { IsRowSet self.now.shape.rows rows.now }
         requires own { (token seat.old).table ≡ self.now }
         requires rests { RestsAt (token seat.old).table spare.old seat.old }
+        requires flagged { IsFlagged self.now spare.old.retired (token seat.old).heard unheard.old }
         requires key { key < self.now.shape.keys }
         ensures rests { RestsAt (token seat.new).table spare.new seat.new }
+        ensures flagged { IsFlagged self.now spare.new.retired (token seat.new).heard unheard.new }
         ensures fills { FillsKey key number rows.now (token seat.old) (token seat.new) result }
     {
         self.begin_fill::<G>(seat, spare, key, number, rows)?;
-        if let Err(counts) = self.publish_set::<G>(seat, spare, key, rows) {
+        if let Err(counts) = self.publish_set::<G>(seat, spare, unheard, key, rows) {
             return Err(FillFault::NoSlot(counts));
         }
         Ok(())
@@ -86,6 +91,7 @@ impl Board {
         &self,
         seat: &mut Seat,
         spare: &mut Spare,
+        unheard: &mut Unheard,
         pile: &mut Pile,
         key: u32,
         deltas: &[Delta],
@@ -94,12 +100,14 @@ impl Board {
         requires batch { IsBatch deltas.now }
         requires own { (token seat.old).table ≡ self.now }
         requires rests { RestsAt (token seat.old).table spare.old seat.old }
+        requires flagged { IsFlagged self.now spare.old.retired (token seat.old).heard unheard.old }
         requires key { key < self.now.shape.keys }
         ensures rests { RestsAt (token seat.new).table spare.new seat.new }
+        ensures flagged { IsFlagged self.now spare.new.retired (token seat.new).heard unheard.new }
         ensures updates { UpdatesKey self.now.shape.rows key deltas.now (token seat.old) (token seat.new) result }
     {
         self.begin_update::<G>(seat, spare, pile, key, deltas)?;
-        if let Err(counts) = self.publish_set::<G>(seat, spare, key, pile.as_slice()) {
+        if let Err(counts) = self.publish_set::<G>(seat, spare, unheard, key, pile.as_slice()) {
             return Err(UpdateFault::NoSlot(counts));
         }
         Ok(())
@@ -112,6 +120,7 @@ impl Board {
         &self,
         seat: &mut Seat,
         spare: &mut Spare,
+        unheard: &mut Unheard,
         key: u32,
         rows: &[Row],
     ) -> Result<(), ReplaceFault>
@@ -119,12 +128,14 @@ impl Board {
         requires row_set { IsRowSet self.now.shape.rows rows.now }
         requires own { (token seat.old).table ≡ self.now }
         requires rests { RestsAt (token seat.old).table spare.old seat.old }
+        requires flagged { IsFlagged self.now spare.old.retired (token seat.old).heard unheard.old }
         requires key { key < self.now.shape.keys }
         ensures rests { RestsAt (token seat.new).table spare.new seat.new }
+        ensures flagged { IsFlagged self.now spare.new.retired (token seat.new).heard unheard.new }
         ensures replaces { ReplacesKey key rows.now (token seat.old) (token seat.new) result }
     {
         self.begin_replace::<G>(seat, spare, key, rows)?;
-        if let Err(counts) = self.publish_set::<G>(seat, spare, key, rows) {
+        if let Err(counts) = self.publish_set::<G>(seat, spare, unheard, key, rows) {
             return Err(ReplaceFault::NoSlot(counts));
         }
         Ok(())

@@ -14,13 +14,13 @@ use Rattle.nr_board.proofs.board.Board.begin_update.Goals as goal
 
 pub returns-then-not-found : goal.returns-then-not-found
 returns-then-not-found g c =
-    let looks = has_looked {before = c.args.seat.now} refl c.requires.own c.requires.rests c.requires.call c.look.ensures.leads c.look.ensures.marks in
+    let looks = has_looked {before = c.args.seat.now} refl c.requires.own c.requires.rests c.requires.call c.look.ensures.leads c.look.ensures.marks c.look.ensures.heard in
     let told = look_ends looks reply.Dropped (update_dropped c.args.self.now.shape (desk_with c.args.spare.now Idle) c.args.key c.look.result c.args.deltas.now (is_empty c.look.result c.parts-found.ensures.parts c.if-not-found.true)) in
     told
 
 pub read_set-requires : goal.read_set-requires
 read_set-requires g c =
-    let looks = has_looked {before = c.args.seat.now} refl c.requires.own c.requires.rests c.requires.call c.look.ensures.leads c.look.ensures.marks in
+    let looks = has_looked {before = c.args.seat.now} refl c.requires.own c.requires.rests c.requires.call c.look.ensures.leads c.look.ensures.marks c.look.ensures.heard in
     let full = is_full c.look.result c.parts-found.ensures.parts c.if-not-found.false in
     let desk = desk_with c.args.spare.now Idle in
     let reads = about_to_read looks (update_reads c.args.self.now.shape desk c.args.key c.look.result c.args.deltas.now full) c.requires.call (slot_so c.look.result c.parts-found.ensures.parts) in
@@ -28,7 +28,7 @@ read_set-requires g c =
 
 pub returns-in-Err-NoRow : goal.returns-in-Err-NoRow
 returns-in-Err-NoRow g c =
-    let looks = has_looked {before = c.args.seat.now} refl c.requires.own c.requires.rests c.requires.call c.look.ensures.leads c.look.ensures.marks in
+    let looks = has_looked {before = c.args.seat.now} refl c.requires.own c.requires.rests c.requires.call c.look.ensures.leads c.look.ensures.marks c.look.ensures.heard in
     let full = is_full c.look.result c.parts-found.ensures.parts c.if-not-found.false in
     let desk = desk_with c.args.spare.now Idle in
     let read = has_read looks (update_reads c.args.self.now.shape desk c.args.key c.look.result c.args.deltas.now full) c.requires.call (reads_set c.read_set.ensures) in
@@ -39,7 +39,7 @@ returns-in-Err-NoRow g c =
 
 pub returns-in-Err-TooMany : goal.returns-in-Err-TooMany
 returns-in-Err-TooMany g c =
-    let looks = has_looked {before = c.args.seat.now} refl c.requires.own c.requires.rests c.requires.call c.look.ensures.leads c.look.ensures.marks in
+    let looks = has_looked {before = c.args.seat.now} refl c.requires.own c.requires.rests c.requires.call c.look.ensures.leads c.look.ensures.marks c.look.ensures.heard in
     let full = is_full c.look.result c.parts-found.ensures.parts c.if-not-found.false in
     let desk = desk_with c.args.spare.now Idle in
     let read = has_read looks (update_reads c.args.self.now.shape desk c.args.key c.look.result c.args.deltas.now full) c.requires.call (reads_set c.read_set.ensures) in
@@ -50,7 +50,7 @@ returns-in-Err-TooMany g c =
 
 pub returns-in-Ok : goal.returns-in-Ok
 returns-in-Ok g c =
-    let looks = has_looked {before = c.args.seat.now} refl c.requires.own c.requires.rests c.requires.call c.look.ensures.leads c.look.ensures.marks in
+    let looks = has_looked {before = c.args.seat.now} refl c.requires.own c.requires.rests c.requires.call c.look.ensures.leads c.look.ensures.marks c.look.ensures.heard in
     let full = is_full c.look.result c.parts-found.ensures.parts c.if-not-found.false in
     let desk = desk_with c.args.spare.now Idle in
     let read = has_read looks (update_reads c.args.self.now.shape desk c.args.key c.look.result c.args.deltas.now full) c.requires.call (reads_set c.read_set.ensures) in

@@ -16,7 +16,7 @@ use Rattle.nr_board.proofs.board.Board.cancel_key.Goals as goal
 
 pub returns-then-found : goal.returns-then-found
 returns-then-found g c = let looks = has_looked {before = c.args.seat.now} refl c.requires.own c.requires.rests c.requires.call c.look.ensures.leads
-    c.look.ensures.marks in let word = c.look.result in let parts = c.parts-found.ensures.parts in
+    c.look.ensures.marks c.look.ensures.heard in let word = c.look.result in let parts = c.parts-found.ensures.parts in
     let outcome : looked c.args.self.now.shape (desk_with c.args.spare.now Idle) (writer.Cancel c.args.key) c.look.result ≡ (desk_with c.args.spare.now Idle, ended reply.Nothing) = elim c.then-found.branch [
       | then-found-via-then-found w ↦ cancel_filled c.args.self.now.shape (desk_with c.args.spare.now Idle) c.args.key c.look.result (filled_so word parts true w.if-found.true)
       | then-found-via-else-found+then-not-found w ↦ cancel_unasked c.args.self.now.shape (desk_with c.args.spare.now Idle) c.args.key c.look.result (filled_so word parts false w.if-found.false) (unasked_so word parts w.if-not-found.true)
@@ -26,28 +26,28 @@ returns-then-found g c = let looks = has_looked {before = c.args.seat.now} refl 
 
 pub returns-then-from-ge-LAST_NUMBER : goal.returns-then-from-ge-LAST_NUMBER
 returns-then-from-ge-LAST_NUMBER g c = let looks = has_looked {before = c.args.seat.now} refl c.requires.own c.requires.rests c.requires.call
-    c.look.ensures.leads c.look.ensures.marks in let word = c.look.result in let parts = c.parts-found.ensures.parts in
+    c.look.ensures.leads c.look.ensures.marks c.look.ensures.heard in let word = c.look.result in let parts = c.parts-found.ensures.parts in
     let last : last_number ≤ slot_of word = omega (arith, slot_so word parts, c.from.ensures, c.if-from-ge-LAST_NUMBER.true) in
     let told = look_ends looks reply.Worn (cancel_worn c.args.self.now.shape (desk_with c.args.spare.now Idle) c.args.key c.look.result (filled_so word parts false c.if-found.false) (asked_so word parts c.if-not-found.false) last) in
     record { rests = told.0; cancels = told.1 }
 
 pub overflow_add-next : goal.overflow_add-next
 overflow_add-next g c = let looks = has_looked {before = c.args.seat.now} refl c.requires.own c.requires.rests c.requires.call c.look.ensures.leads
-    c.look.ensures.marks in let word = c.look.result in let parts = c.parts-found.ensures.parts in
+    c.look.ensures.marks c.look.ensures.heard in let word = c.look.result in let parts = c.parts-found.ensures.parts in
     let early : slot_of word < last_number = omega (arith, slot_so word parts, c.from.ensures, c.if-from-ge-LAST_NUMBER.false) in
     let leads = about_to_withdraw looks (cancel_withdraws c.args.self.now.shape (desk_with c.args.spare.now Idle) c.args.key c.look.result (filled_so word parts false c.if-found.false) (asked_so word parts c.if-not-found.false) early) in
     omega (arith, leads.writes.room.place.1, c.number-next.ensures)
 
 pub withdraw-requires : goal.withdraw-requires
 withdraw-requires g c = let looks = has_looked {before = c.args.seat.now} refl c.requires.own c.requires.rests c.requires.call c.look.ensures.leads
-    c.look.ensures.marks in let word = c.look.result in let parts = c.parts-found.ensures.parts in
+    c.look.ensures.marks c.look.ensures.heard in let word = c.look.result in let parts = c.parts-found.ensures.parts in
     let early : slot_of word < last_number = omega (arith, slot_so word parts, c.from.ensures, c.if-from-ge-LAST_NUMBER.false) in
     let leads = about_to_withdraw looks (cancel_withdraws c.args.self.now.shape (desk_with c.args.spare.now Idle) c.args.key c.look.result (filled_so word parts false c.if-found.false) (asked_so word parts c.if-not-found.false) early) in
     subst (λ (t : Table). IsWithdrawing t c.args.key (c.number-next.result + 1) c.look.new.seat) (sym refl)
     (record { desk = desk_with c.args.spare.now (Withdrawing c.args.key); writes = leads.writes; place = refl; number_is = ap (λ (n : ℕ). n + 1) c.number-next.ensures })
 
 pub returns : goal.returns
-returns g c = let looks = has_looked {before = c.args.seat.now} refl c.requires.own c.requires.rests c.requires.call c.look.ensures.leads c.look.ensures.marks in let word = c.look.result in let parts = c.parts-found.ensures.parts in
+returns g c = let looks = has_looked {before = c.args.seat.now} refl c.requires.own c.requires.rests c.requires.call c.look.ensures.leads c.look.ensures.marks c.look.ensures.heard in let word = c.look.result in let parts = c.parts-found.ensures.parts in
     let early : slot_of word < last_number = omega (arith, slot_so word parts, c.from.ensures, c.if-from-ge-LAST_NUMBER.false) in
     let withdraws = cancel_withdraws c.args.self.now.shape (desk_with c.args.spare.now Idle) c.args.key c.look.result (filled_so word parts false c.if-found.false) (asked_so word parts c.if-not-found.false) early in
     let renumbers : c.renumber.new.self ≡ record c.args.spare.now { numbers = slice_set c.args.spare.now.numbers c.args.key (slice_index c.args.spare.now.numbers c.args.key + 1) }

@@ -7,6 +7,8 @@ use Rattle.nr_machine.specs.declared.roles.Role.TheVariants.{Writer}
 use Rattle.nr_machine.specs.declared.shape.Shape.{Shape}
 use Rattle.nr_board.proofs.WriterSeats.{looked_seat}
 use Rattle.nr_board.proofs.WriterSteps.{looks_so}
+use Rattle.nr_machine.specs.declared.places.Place.{Place}
+use Rattle.nr_board.specs.Announcing.{heard_at}
 use Rattle.nr_board.specs.Callers.{Table}
 use Rattle.nr_board.specs.Plays.{Looked}
 use Rattle.nr_board.specs.Rule.{Kept}
@@ -26,6 +28,7 @@ load-requires g c = let shared = c.self.inside.table.shared in let about = c.sel
 
 pub returns : goal.returns
 returns g c = let before = c.args.seat.now in let told = c.load.ensures.2 in record {
-  leads = λ desk is. looked_seat c.args.self.now before c.load.new.seat c.load.ensures.0 c.requires.writer.writes.own desk g.G.BegunCall.call c.load.result c.requires.writer.writes.counted (told desk is);
+  leads = λ desk is. looked_seat c.args.self.now before c.load.new.seat c.load.ensures.0 c.requires.writer.writes.own desk g.G.BegunCall.call c.load.result (told desk is);
   marks = (told c.requires.writer.desk c.requires.writer.writes.role).marks.0;
+  heard = (told c.requires.writer.desk c.requires.writer.writes.role).heard ∙ ap (λ (p : Place). heard_at p before.me.0.heard) c.requires.writer.place;
 }

@@ -38,4 +38,4 @@ load-requires c = let shared = c.self.inside.table.shared in let board = stands 
     )
 
 pub returns : goal.returns
-returns c = λ desk is. gone_seat c.args.self.now c.args.seat.now c.load.new.seat c.load.ensures.0 c.requires.writes.own desk c.load.result c.requires.writes.counted (c.load.ensures.2 desk is)
+returns c = λ desk is. gone_seat c.args.self.now c.args.seat.now c.load.new.seat c.load.ensures.0 c.requires.writes.own desk c.load.result (c.load.ensures.2 desk is)

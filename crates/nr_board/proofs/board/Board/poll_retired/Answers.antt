@@ -1,4 +1,4 @@
-use Rattle.std.proofs.Common.{List, ap, arith, get_or, inr, length, refl, subst, sym, true, ℕ, ◌+◌, ◌<◌, ◌≤◌, ◌∙◌, ◌≡◌, ◌∷◌}
+use Rattle.std.proofs.Common.{List, ap, arith, get_or, inl, inr, length, refl, subst, sym, true, ℕ, ◌+◌, ◌<◌, ◌≤◌, ◌∙◌, ◌≡◌, ◌∷◌}
 use Rattle.std.specs.Prelude.{remove}
 use Rattle.nr_model.specs.declared.rows.Row.{Row}
 use Rattle.nr_words.specs.KeyWords.{same_count}
@@ -13,13 +13,13 @@ use Rattle.nr_board.specs.WriterSeats.{GoesOn, MapSeat, TakesSlot}
 use Rattle.nr_board.proofs.board.Board.poll_retired.Goals as goal
 
 -- the search takes the slot at that place of the list, which no reader holds
-takes_at : (map : Table) (call : WriterCall) (rows : List Row) (spare : Spare) (before mid : MapSeat) (place : ℕ) → Searched map call rows spare before mid place → place < length spare.retired → spare.slots ≤ spare.fresh
+takes_at : (map : Table) (call : WriterCall) (rows : List Row) (spare : Spare) (before mid : MapSeat) (place : ℕ) → map.announcers ≡ 0 → Searched map call rows spare before mid place → place < length spare.retired → spare.slots ≤ spare.fresh
     → (found : ℕ) (after : MapSeat) → GoesOn map found mid after → same_count found (get_or spare.retired place no_retired).arrivals ≡ true
     → TakesSlot map call rows (get_or spare.retired place no_retired).slot found spare (record spare { retired = remove spare.retired place }) before after
-takes_at map call rows spare before mid place so_far low full found after goes agree = let took = takes_it map call rows spare before mid place so_far low found after goes agree in record {
-  polls = place + 1;
-  took = inr (full, place, get_or spare.retired place no_retired, at_get spare.retired place low, refl, refl, refl, refl);
-  few = let few = so_far.few in omega arith;
+takes_at map call rows spare before mid place counted so_far low full found after goes agree = let took = takes_it map call rows spare before mid place so_far low found after goes agree in record {
+  steps = place + 1;
+  took = inr (full, place, get_or spare.retired place no_retired, at_get spare.retired place low, refl, inl (counted, took.3, refl), refl, refl);
+  few = let few = so_far.few in (omega arith, λ _. omega arith);
   slots = refl;
   numbers = refl;
   reaped = refl;
@@ -48,7 +48,7 @@ returns-then-same_count g c = let map = c.args.self.now in let call = g.G.BegunC
     let rest = c.take_oldest.new.self in let oldest = c.in-Some.oldest in let is = c.in-Some.ensures in let found : ℕ = c.poll-first.result in let after = c.poll-first.new.seat in
     let goes = subst (λ (table : Table). GoesOn table found seat after) refl c.poll-first.ensures in let entry = first_is spare rest oldest is in
     subst (λ (p : Spare × ℕ). TakesSlot map call rows p.1 found spare p.0 seat after) (λ j. (rest_is spare rest oldest is j, (entry j).slot))
-    (takes_at map call rows spare seat seat 0 (searched_none map call rows spare seat c.requires.settles c.requires.none_fresh) (some_there spare rest oldest is) c.requires.none_fresh found after goes
+    (takes_at map call rows spare seat seat 0 c.requires.counted (searched_none map call rows spare seat c.requires.settles c.requires.none_fresh) (some_there spare rest oldest is) c.requires.none_fresh found after goes
     (ap (λ (e : Retired). same_count found e.arrivals) entry ∙ sym c.same_count.ensures ∙ c.if-same_count.true))
 
 pub loop-place-init : goal.loop-place-init
@@ -67,7 +67,7 @@ returns-then-same_count-2 g c = let map = c.args.self.now in let so_far = c.loop
     let goes = subst (λ (table : Table). GoesOn table found c.loop-place.seat c.poll-departures.new.seat) refl c.poll-departures.ensures in
     let after_is : c.take_retired.new.self ≡ record spare { retired = remove spare.retired place } = c.take_retired.ensures ∙ ap (λ (s : Spare). record s { retired = remove s.retired place }) so_far.0 in
     subst (λ (p : Spare × ℕ). TakesSlot map g.G.BegunCall.call c.args.rows.now p.1 found spare p.0 c.args.seat.now c.poll-departures.new.seat) (λ j. (sym after_is j, (sym entry j).slot))
-    (takes_at map g.G.BegunCall.call c.args.rows.now spare c.args.seat.now c.loop-place.seat place so_far.1 low c.requires.none_fresh found c.poll-departures.new.seat goes
+    (takes_at map g.G.BegunCall.call c.args.rows.now spare c.args.seat.now c.loop-place.seat place c.requires.counted so_far.1 low c.requires.none_fresh found c.poll-departures.new.seat goes
     (ap (λ (e : Retired). same_count found e.arrivals) (sym entry) ∙ sym c.same_count-in-loop-place.ensures ∙ c.if-same_count-2.true))
 
 pub loop-place-preserved : goal.loop-place-preserved

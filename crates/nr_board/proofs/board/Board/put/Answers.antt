@@ -29,4 +29,4 @@ store-requires c = let shared = c.self.inside.table.shared in let board = stands
     )
 
 pub returns : goal.returns
-returns c = λ desk is. put_seat c.args.self.now c.args.seat.now c.store.new.seat c.store.ensures.0 c.requires.writes.own desk c.requires.writes.counted (c.store.ensures.2 desk is)
+returns c = λ desk is. put_seat c.args.self.now c.args.seat.now c.store.new.seat c.store.ensures.0 c.requires.writes.own desk (c.store.ensures.2 desk is)

@@ -14,13 +14,13 @@ put-requires g c = let map = c.args.self.now in let board = c.args.self.now in l
     let call = g.G.BegunCall.call in let rows = c.args.rows.now in let slot = c.args.taken.slot in let departed = c.args.taken.departures in
     let seat = c.args.seat.now in
     puts_next map board refl desk call rows slot departed seat seat c.content-begin.result 0 (length rows) c.content-begin.ensures
-    (record { writes = c.requires.writer; grows = grows_none (token seat) c.requires.knows; marks = refl }) (omega arith) refl
+    (record { writes = c.requires.writer; grows = grows_none (token seat) c.requires.knows; marks = refl; heard = refl }) (omega arith) refl
 
 pub loop-i-init : goal.loop-i-init
 loop-i-init g c = let map = c.args.self.now in let board = c.args.self.now in let desk = desk_of c.args.seat.now.me.0.role in
     let call = g.G.BegunCall.call in let rows = c.args.rows.now in let slot = c.args.taken.slot in let departed = c.args.taken.departures in
     let seat = c.args.seat.now in
-    put_more map board refl desk call rows slot departed seat seat c.put.new.seat 0 (record { writes = c.requires.writer; grows = grows_none (token seat) c.requires.knows; marks = refl }) c.put.ensures
+    put_more map board refl desk call rows slot departed seat seat c.put.new.seat 0 (record { writes = c.requires.writer; grows = grows_none (token seat) c.requires.knows; marks = refl; heard = refl }) c.put.ensures
 
 pub put-requires-in-loop-i : goal.put-requires-in-loop-i
 put-requires-in-loop-i g c = let map = c.args.self.now in let board = c.args.self.now in let desk = desk_of c.args.seat.now.me.0.role in

@@ -29,4 +29,4 @@ swap-requires c = let shared = c.self.inside.table.shared in let about = c.self.
     )
 
 pub returns : goal.returns
-returns c = λ desk is. gone_seat c.args.self.now c.args.seat.now c.swap.new.seat c.swap.ensures.0 c.requires.writes.own desk c.swap.result c.requires.writes.counted (c.swap.ensures.2 desk is)
+returns c = λ desk is. gone_seat c.args.self.now c.args.seat.now c.swap.new.seat c.swap.ensures.0 c.requires.writes.own desk c.swap.result (c.swap.ensures.2 desk is)

@@ -1,0 +1,78 @@
+-- The writer's flags go along with what it hears: with a scan, with a set that it puts, and with a slot that it retires.
+use Rattle.std.proofs.Common.{◌≡◌, ◌≢◌, ℕ, suc, zero, ◌+◌, ◌<◌, ◌≤◌, ◌⊎◌, ⊎_elim, List, [], ◌∷◌, ◌++◌, Bool, true, false, cond, length, set, get_or, take, get_or-set_other, length-set, refl, sym, ap, ◌∙◌, subst, arith}
+use Rattle.std.proofs.lemmas.Bool.{le-ltb, lt-ltb}
+use mathlib.Core.Logic.{dite}
+use mathlib.Core.Option.{some}
+use native.Mathlib.Decide.{ℕ_discrete}
+use lib.ListN.{get_elem?}
+use Rattle.nr_core.proofs.Choices.{by_cases}
+use Rattle.nr_core.proofs.Sums.{only-other, total-append, total-remove}
+use Rattle.nr_core.specs.Roles.{retirements}
+use Rattle.nr_machine.specs.Spares.{Spare}
+use Rattle.nr_machine.specs.Sums.{only, total}
+use Rattle.nr_machine.specs.declared.places.Retired.{Retired}
+use Rattle.nr_board.proofs.Heard.{zero_at}
+use Rattle.nr_board.proofs.WholeScans.{flag_elsewhere}
+use Rattle.nr_board.specs.Callers.{Table}
+use Rattle.nr_board.specs.Flags.{Flagged, IsFlagged}
+use Rattle.nr_board.specs.Passes.{AreHeard, hits, polls_before}
+use Rattle.nr_board.specs.Spares.{TookBySearch, heard_hits, polls_heard}
+use Rattle.nr_board.specs.WholeScans.{is_unheard}
+
+module _ (table : Table) (retired : List Retired) (heard : List ℕ) (flags : List Bool) (flagged : Flagged table retired heard flags) where
+  hits_are : (entry : Retired) → hits flags entry ≡ heard_hits table.announcers heard entry
+  hits_are entry = let count : ℕ = get_or heard entry.slot 0 in
+      by_cases (λ (b : Bool). is_unheard flags entry.slot ≡ b → cond {A = ℕ} b 0 1 ≡ heard_hits table.announcers heard entry) (is_unheard flags entry.slot)
+      (λ _ set_there. sym (ap (λ (b : Bool). cond {A = ℕ} b 0 1) (lt-ltb count table.announcers (flagged.stuck entry.slot set_there))))
+      (λ _ unset. sym (ap (λ (b : Bool). cond {A = ℕ} b 0 1) (le-ltb count table.announcers (flagged.whole entry.slot unset)))) refl
+
+  -- a pass polls just the slots that all readers were heard of
+  pub polls_are : (place : ℕ) → polls_before retired flags place ≡ polls_heard table.announcers heard retired place
+  polls_are place = λ j. total (λ (entry : Retired). hits_are entry j) (take place retired)
+
+  pub all_heard : AreHeard retired flags table.announcers heard
+  all_heard slot waits unset = flagged.whole slot unset
+
+-- SETS THAT ARE PUT
+
+pub flag_set : (flags : List Bool) (slot : ℕ) → is_unheard (set flags slot true) slot ≡ true
+flag_set [] slot = refl
+flag_set (flag ∷ flags) zero = refl
+flag_set (flag ∷ flags) (suc slot) = flag_set flags slot
+
+-- of the slot into which a set was put nothing is heard
+pub flags_put : (table : Table) (retired last : List Retired) (scanned heard : List ℕ) (flags : List Bool) (mine : ℕ) → IsFlagged table retired scanned flags → heard ≡ set scanned mine 0
+    → ((slot : ℕ) → slot ≢ mine → retirements slot last ≡ 0 → retirements slot retired ≡ 0) → IsFlagged table last heard (set flags mine true)
+flags_put table retired last scanned heard flags mine flagged is fewer some_words = let before = flagged some_words in let count : (slot : ℕ) → get_or heard slot 0 ≡ get_or (set scanned mine 0) slot 0 = λ slot. ap (λ (l : List ℕ). get_or l slot 0) is in
+    record {
+      wide = length-set flags mine true ∙ before.wide;
+      whole = λ slot unset. dite (ℕ_discrete slot mine)
+          (λ e. absurd (clash (sym (ap (is_unheard (set flags mine true)) e ∙ flag_set flags mine) ∙ unset)))
+          (λ ne. let was = before.whole slot (sym (flag_elsewhere flags mine slot ne) ∙ unset) in let same = get_or-set_other scanned mine slot 0 0 ne in omega (arith, count slot));
+      stuck = λ slot set_now. dite (ℕ_discrete slot mine)
+          (λ e. let none = ap (get_or_at (set scanned mine 0)) e ∙ zero_at scanned mine in omega (arith, count slot))
+          (λ ne. let was = before.stuck slot (sym (flag_elsewhere flags mine slot ne) ∙ set_now) in let same = get_or-set_other scanned mine slot 0 0 ne in omega (arith, count slot));
+      others = λ slot none. dite (ℕ_discrete slot mine)
+          (λ e. ap (is_unheard (set flags mine true)) e ∙ flag_set flags mine)
+          (λ ne. flag_elsewhere flags mine slot ne ∙ before.others slot (fewer slot ne none));
+    }
+  where
+    clash : true ≡ false → ⊥
+    clash e = absurd (cc)
+
+    get_or_at : List ℕ → ℕ → ℕ
+    get_or_at l slot = get_or l slot 0
+
+-- what was retired when a slot was taken is retired still, but for that slot
+pub fewer_retired : (table : Table) (heard scanned : List ℕ) (mine steps : ℕ) (spare mid : Spare) (more : List Retired) → TookBySearch table heard scanned mine steps spare mid
+    → (slot : ℕ) → slot ≢ mine → retirements slot (mid.retired ++ more) ≡ 0 → retirements slot spare.retired ≡ 0
+fewer_retired table heard scanned mine steps spare mid more took slot ne none = let both = total-append (λ (entry : Retired). only slot entry.slot) mid.retired more in ⊎_elim
+    (λ (fresh : _). let same = ap (retirements slot) fresh.4 in omega arith)
+    (λ (polled : _). let gone = total-remove (λ (entry : Retired). only slot entry.slot) spare.retired polled.1 polled.2 polled.3 in
+    let other = only-other slot polled.2.slot (λ e. ne (sym e ∙ polled.4)) in let left = ap (retirements slot) polled.7 in omega arith) took
+
+-- a slot that is retired was flagged
+pub flags_retire : (table : Table) (retired last : List Retired) (heard now : List ℕ) (flags : List Bool) → IsFlagged table retired heard flags → now ≡ heard
+    → ((slot : ℕ) → retirements slot last ≡ 0 → retirements slot retired ≡ 0) → IsFlagged table last now flags
+flags_retire table retired last heard now flags flagged is fewer some_words = let before = flagged some_words in subst (λ (l : List ℕ). Flagged table last l flags) (sym is)
+    (record { wide = before.wide; whole = before.whole; stuck = before.stuck; others = λ slot none. before.others slot (fewer slot none) })
