@@ -1,6 +1,7 @@
 -- The writer's flags go along with what it hears: with a scan, with a set that it puts, and with a slot that it retires.
 use Rattle.std.proofs.Common.{◌≡◌, ◌≢◌, ℕ, suc, zero, ◌+◌, ◌<◌, ◌≤◌, ◌⊎◌, ⊎_elim, List, [], ◌∷◌, ◌++◌, Bool, true, false, cond, length, set, get_or, take, get_or-set_other, length-set, refl, sym, ap, ◌∙◌, subst, arith}
 use Rattle.std.proofs.lemmas.Bool.{le-ltb, lt-ltb}
+use Rattle.std.specs.Prelude.{nat_lt}
 use mathlib.Core.Logic.{dite}
 use mathlib.Core.Option.{some}
 use native.Mathlib.Decide.{ℕ_discrete}
@@ -76,3 +77,13 @@ pub flags_retire : (table : Table) (retired last : List Retired) (heard now : Li
     → ((slot : ℕ) → retirements slot last ≡ 0 → retirements slot retired ≡ 0) → IsFlagged table last now flags
 flags_retire table retired last heard now flags flagged is fewer some_words = let before = flagged some_words in subst (λ (l : List ℕ). Flagged table last l flags) (sym is)
     (record { wide = before.wide; whole = before.whole; stuck = before.stuck; others = λ slot none. before.others slot (fewer slot none) })
+
+-- what a flag tells, where readers have words or not
+pub unheard_is : (table : Table) (retired : List Retired) (heard : List ℕ) (flags : List Bool) → IsFlagged table retired heard flags → (slot : ℕ) (told : Bool) → (table.announcers ≡ 0 → told ≡ false)
+    → (0 < table.announcers → told ≡ is_unheard flags slot) → told ≡ nat_lt (get_or heard slot 0) table.announcers
+unheard_is table retired heard flags flagged slot told none some_words = dite (ℕ_discrete table.announcers 0)
+    (λ e. none e ∙ sym (le-ltb (get_or heard slot 0) table.announcers (omega arith)))
+    (λ ne. let before = flagged (omega arith) in some_words (omega arith)
+    ∙ by_cases (λ (b : Bool). is_unheard flags slot ≡ b → is_unheard flags slot ≡ nat_lt (get_or heard slot 0) table.announcers) (is_unheard flags slot)
+    (λ _ is. is ∙ sym (lt-ltb (get_or heard slot 0) table.announcers (before.stuck slot is)))
+    (λ _ is. is ∙ sym (le-ltb (get_or heard slot 0) table.announcers (before.whole slot is))) refl)

@@ -43,5 +43,6 @@ pub mod Retiring
 pub mod Looks
 pub mod WriterCalls
 pub mod Sweeps
+pub mod Reaps
 pub mod Waiting
 pub mod WordSearches

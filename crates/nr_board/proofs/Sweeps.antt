@@ -1,7 +1,8 @@
 -- A reap, poll by poll: the slots whose sets wait are split into those that were found held and those that are still to be polled.
 use Rattle.std.proofs.Common.{◌≡◌, ◌∙◌, ℕ, zero, suc, ◌+◌, ◌<◌, ◌≤◌, Bool, true, false, cond, List, [], ◌∷◌, ◌++◌, ap, append-nil, append_assoc, arith, drop, get_or, length, length-append, refl, subst, sym, ◌≢◌, ⊎_elim}
-use Rattle.std.proofs.lemmas.Bool.{lt-ltb, ltb-true}
-use Rattle.std.specs.Prelude.{Some, nat_lt}
+use Rattle.std.proofs.lemmas.Bool.{ltb-false}
+use Rattle.nr_core.proofs.Choices.{by_cases}
+use Rattle.std.specs.Prelude.{Some, nat_lt, ◌||◌}
 use lib.ListN.{get_elem?}
 use mathlib.Core.Logic.{dite}
 use mathlib.Core.Option.{some, some-injective, some-ne-none}
@@ -37,7 +38,7 @@ use Rattle.nr_board.specs.Callers.{Caller, Table, caller_of, map_seen, token}
 use Rattle.nr_board.specs.Entries.{AreCallers}
 use Rattle.nr_board.specs.Plays.{Room}
 use Rattle.nr_board.specs.Recalls.{RecallsAt}
-use Rattle.nr_board.specs.Reaping.{HeldEach, ProbesAt, ProbesTo, SweepsFor, SweptTo, probed, waiting}
+use Rattle.nr_board.specs.Reaping.{HeldEach, ProbesAt, ProbesTo, SweepsFor, SweptTo, probed, ready, ready_in, waiting, waits_by}
 use Rattle.nr_board.specs.Rule.{Kept, marks_of, role_of}
 use Rattle.nr_board.specs.Spares.{desk_with}
 use Rattle.nr_board.specs.Views.{View, caller_number, desk_of}
@@ -98,19 +99,26 @@ drop_all (x ∷ l) (suc place) all = drop_all l place (omega arith)
 abbrev flag : List Bool → ℕ → Bool
 flag flags slot = get_or flags slot false
 
--- what waits from a place of the list on, where the slot there was reaped, and where it waits
-module _ (flags : List Bool) (l : List Retired) (place : ℕ) (low : place < length l) where
+-- what waits from a place of the list on, where the slot there is passed by, and where it waits
+module _ (passes : ℕ → Bool) (l : List Retired) (place : ℕ) (low : place < length l) where
   abbrev entry_there : Retired
   entry_there = get_or l place no_retired
 
   drop_next : drop place l ≡ entry_there ∷ drop (place + 1) l
   drop_next = let e : suc place ≡ place + 1 = omega arith in drop_at l place low ∙ ap (λ (n : ℕ). entry_there ∷ drop n l) e
 
-  waits_not : flag flags entry_there.slot ≡ true → waiting flags (drop place l) ≡ waiting flags (drop (place + 1) l)
-  waits_not gone = ap (waiting flags) drop_next ∙ ap (λ (b : Bool). cond {A = List Retired} b (waiting flags (drop (place + 1) l)) (entry_there ∷ waiting flags (drop (place + 1) l))) gone
+  waits_not : passes entry_there.slot ≡ true → waits_by passes (drop place l) ≡ waits_by passes (drop (place + 1) l)
+  waits_not gone = ap (waits_by passes) drop_next ∙ ap (λ (b : Bool). cond {A = List Retired} b (waits_by passes (drop (place + 1) l)) (entry_there ∷ waits_by passes (drop (place + 1) l))) gone
 
-  waits_there : flag flags entry_there.slot ≡ false → waiting flags (drop place l) ≡ entry_there ∷ waiting flags (drop (place + 1) l)
-  waits_there stays = ap (waiting flags) drop_next ∙ ap (λ (b : Bool). cond {A = List Retired} b (waiting flags (drop (place + 1) l)) (entry_there ∷ waiting flags (drop (place + 1) l))) stays
+  waits_there : passes entry_there.slot ≡ false → waits_by passes (drop place l) ≡ entry_there ∷ waits_by passes (drop (place + 1) l)
+  waits_there stays = ap (waits_by passes) drop_next ∙ ap (λ (b : Bool). cond {A = List Retired} b (waits_by passes (drop (place + 1) l)) (entry_there ∷ waits_by passes (drop (place + 1) l))) stays
+
+-- one waits, if one at a place of the list does
+some_waits : (passes : ℕ → Bool) (l : List Retired) (place : ℕ) → place < length l → passes (get_or l place no_retired).slot ≡ false → 0 < length (waits_by passes l)
+some_waits passes [] place low stays = absurd (omega arith)
+some_waits passes (x ∷ l) zero low stays = let is = ap (λ (b : Bool). length (cond {A = List Retired} b (waits_by passes l) (x ∷ waits_by passes l))) stays in omega arith
+some_waits passes (x ∷ l) (suc place) low stays = let rest = some_waits passes l place (omega arith) stays in
+    by_cases (λ (b : Bool). 0 < length (cond {A = List Retired} b (waits_by passes l) (x ∷ waits_by passes l))) (passes x.slot) (λ _. rest) (λ _. omega arith)
 
 -- the element at the end of a list
 at_end : {A : Type 0} (l : List A) (x : A) (at : ℕ) → at ≡ length l → get_elem? (l ++ x ∷ []) at ≡ some x
@@ -153,11 +161,6 @@ module _ (readers : ℕ) (slots : List Retired) (notes : List Past) (entry : Ret
         (λ (new : (at ≡ length notes) × (note ≡ old)). subst (λ (n : Past). (0 < n.reader) × (n.reader ≤ readers)) new.1 (low, high)) (at_last notes note old at there);
   }
 
-none_polled : (readers : ℕ) (slots : List Retired) (notes : List Past) → HeldEach readers slots notes → false ≡ nat_lt 0 (length notes) → (slots ≡ []) × (notes ≡ [])
-none_polled readers [] [] each none = (refl, refl)
-none_polled readers (x ∷ slots) [] each none = absurd (let z = each.held.many in omega arith)
-none_polled readers slots (n ∷ notes) each none = absurd (let gone = lt-ltb 0 (length (n ∷ notes)) (omega arith) in let clash : false ≡ true = none ∙ gone in cc)
-
 -- THE SWEEP
 
 probed_none : (view : View) → probed [] 0 view ≡ view
@@ -175,28 +178,59 @@ swept_none spare seat = record {
   earlier = λ at entry there. absurd (some-ne-none entry (sym there));
   own = refl;
   view = sym (probed_none seat.me.0);
-  flag = refl;
+  some_wait = λ clash. absurd (cc);
+  none_wait = λ _. (refl, refl);
 }
 
-module _ (spare : Spare) (before mid : MapSeat) (place : ℕ) (polled : Bool) (so_far : SweptTo spare before mid place polled) (low : place < length spare.retired) where
+module _ (spare : Spare) (before mid : MapSeat) (place : ℕ) (waits : Bool) (so_far : SweptTo spare before mid place waits) (low : place < length spare.retired) where
   abbrev this : Retired
   this = get_or spare.retired place no_retired
 
-  pub swept_past : flag spare.reaped this.slot ≡ true → SweptTo spare before mid (place + 1) polled
+  -- a slot is passed by whose set was reaped, or which is not heard
+  abbrev unheard : ℕ → Bool
+  unheard slot = nat_lt (get_or before.me.0.heard slot 0) before.me.0.announcers
+
+  abbrev passes : ℕ → Bool
+  passes slot = flag spare.reaped slot || unheard slot
+
+  from_here : passes this.slot ≡ true → ready_in spare before.me.0 ≡ so_far.held ++ waits_by passes (drop (place + 1) spare.retired)
+  from_here gone = so_far.split ∙ ap (λ (l : List Retired). so_far.held ++ l) (waits_not passes spare.retired place low gone)
+
+  earlier_on : (at : ℕ) (entry : Retired) → get_elem? so_far.held at ≡ some entry → (other : ℕ) × (other < place + 1) × (get_elem? spare.retired other ≡ some entry)
+  earlier_on at entry there = let e = so_far.earlier at entry there in (e.0, (let low = e.1 in omega arith), e.2)
+
+  pub swept_past : flag spare.reaped this.slot ≡ true → SweptTo spare before mid (place + 1) waits
   swept_past gone = record {
     held = so_far.held;
     notes = so_far.notes;
-    split = so_far.split ∙ ap (λ (l : List Retired). so_far.held ++ l) (waits_not spare.reaped spare.retired place low gone);
+    split = from_here (ap (λ (b : Bool). b || unheard this.slot) gone);
     each = so_far.each;
-    earlier = λ at entry there. let e = so_far.earlier at entry there in (e.0, (let low = e.1 in omega arith), e.2);
+    earlier = earlier_on;
     own = so_far.own;
     view = so_far.view;
-    flag = so_far.flag;
+    some_wait = so_far.some_wait;
+    none_wait = λ none. let was = so_far.none_wait none in (was.0, was.1 ∙ waits_not (flag spare.reaped) spare.retired place low gone);
   }
 
-  module _ (shape : Shape) (found : ℕ) (after : MapSeat) (own : after.table_id ≡ mid.table_id) (tells : ProbesTo shape this found mid.me.0 after.me.0) (stays : flag spare.reaped this.slot ≡ false) where
-    split_here : waiting spare.reaped spare.retired ≡ so_far.held ++ this ∷ waiting spare.reaped (drop (place + 1) spare.retired)
-    split_here = so_far.split ∙ ap (λ (l : List Retired). so_far.held ++ l) (waits_there spare.reaped spare.retired place low stays)
+  waits_now : flag spare.reaped this.slot ≡ false → 0 < length (waiting spare.reaped spare.retired)
+  waits_now stays = some_waits (flag spare.reaped) spare.retired place low stays
+
+  pub swept_unheard : flag spare.reaped this.slot ≡ false → unheard this.slot ≡ true → SweptTo spare before mid (place + 1) true
+  swept_unheard stays far = record {
+    held = so_far.held;
+    notes = so_far.notes;
+    split = from_here ((λ j. stays j || far j));
+    each = so_far.each;
+    earlier = earlier_on;
+    own = so_far.own;
+    view = so_far.view;
+    some_wait = λ _. waits_now stays;
+    none_wait = λ clash. absurd (cc);
+  }
+
+  module _ (shape : Shape) (found : ℕ) (after : MapSeat) (own : after.table_id ≡ mid.table_id) (tells : ProbesTo shape this found mid.me.0 after.me.0) (stays : flag spare.reaped this.slot ≡ false) (near : unheard this.slot ≡ false) where
+    split_here : ready_in spare before.me.0 ≡ so_far.held ++ this ∷ waits_by passes (drop (place + 1) spare.retired)
+    split_here = so_far.split ∙ ap (λ (l : List Retired). so_far.held ++ l) (waits_there passes spare.retired place low ((λ j. stays j || near j)))
 
     pub swept_more : (table : Table) → shape ≡ table.shape → RestsAt table spare before → same_count found this.arrivals ≡ false → SweptTo spare before after (place + 1) true
     swept_more table sized rests apart = let told = subst (λ (b : Bool). ProbeTells b shape mid.me.0.marks this.slot after.me.0.marks) apart tells.1 in
@@ -214,7 +248,7 @@ module _ (spare : Spare) (before mid : MapSeat) (place : ℕ) (polled : Bool) (s
         let steps : before.me.0.steps + (length so_far.notes + 0) + 1 ≡ before.me.0.steps + (length notes + 0) = omega (arith, longer) in record {
           held = so_far.held ++ this ∷ [];
           notes = notes;
-          split = split_here ∙ sym (append_assoc so_far.held (this ∷ []) (waiting spare.reaped (drop (place + 1) spare.retired)));
+          split = split_here ∙ sym (append_assoc so_far.held (this ∷ []) (waits_by passes (drop (place + 1) spare.retired)));
           each = held_more before.me.0.shape.readers so_far.held so_far.notes this note so_far.each told.2 told.3 (let high = told.4 in omega arith) another;
           earlier = λ at entry there. ⊎_elim (λ (old : get_elem? so_far.held at ≡ some entry). let e = so_far.earlier at entry old in (e.0, (let early = e.1 in omega arith), e.2))
               (λ (new : (at ≡ length so_far.held) × (this ≡ entry)). (place, omega arith, here ∙ ap some new.1)) (at_last so_far.held this entry at there);
@@ -222,14 +256,15 @@ module _ (spare : Spare) (before mid : MapSeat) (place : ℕ) (polled : Bool) (s
           view = tells.0 ∙ (λ j. record mid.me.0 { steps = mid.me.0.steps + 1; marks = told.1 j })
               ∙ ap (λ (v : View). record v { steps = v.steps + 1; marks = with_polls v.marks (v.marks.polls ++ note ∷ []) }) so_far.view
               ∙ (λ j. record before.me.0 { steps = steps j; marks = with_polls before.me.0.marks (append_assoc before.me.0.marks.polls so_far.notes (note ∷ []) j) });
-          flag = sym (lt-ltb 0 (length notes) (omega (arith, longer)));
+          some_wait = λ _. waits_now stays;
+          none_wait = λ clash. absurd (cc);
         }
 
     pub sweeps_free : same_count found this.arrivals ≡ true → this.slot < spare.slots → SweepsFor spare before after (sweep.Free this.slot)
     sweeps_free agree near = let told = subst (λ (b : Bool). ProbeTells b shape mid.me.0.marks this.slot after.me.0.marks) agree tells.1 in
         let steps : before.me.0.steps + (length so_far.notes + 0) + 1 ≡ before.me.0.steps + (length so_far.notes + 1) = omega arith in (
           so_far.held,
-          waiting spare.reaped (drop (place + 1) spare.retired),
+          waits_by passes (drop (place + 1) spare.retired),
           this,
           so_far.notes,
           split_here,
@@ -241,24 +276,24 @@ module _ (spare : Spare) (before mid : MapSeat) (place : ℕ) (polled : Bool) (s
               ∙ (λ j. record before.me.0 { steps = steps j; marks = with_reaped (with_polls before.me.0.marks (before.me.0.marks.polls ++ so_far.notes)) this.slot }),
         )
 
--- all that wait were polled
+-- all were looked at
 module _ (spare : Spare) (before after : MapSeat) (place : ℕ) (all : length spare.retired ≤ place) where
-  all_held : (polled : Bool) (so_far : SweptTo spare before after place polled) → waiting spare.reaped spare.retired ≡ so_far.held
-  all_held polled so_far = so_far.split ∙ ap (λ (l : List Retired). so_far.held ++ waiting spare.reaped l) (drop_all spare.retired place all) ∙ append-nil so_far.held
+  all_held : (waits : Bool) (so_far : SweptTo spare before after place waits) → ready_in spare before.me.0 ≡ so_far.held
+  all_held waits so_far = so_far.split ∙ ap (λ (l : List Retired). so_far.held ++ ready before.me.0.announcers before.me.0.heard spare.reaped l) (drop_all spare.retired place all) ∙ append-nil so_far.held
 
   pub sweeps_held : SweptTo spare before after place true → SweepsFor spare before after sweep.Held
-  sweeps_held so_far = (so_far.notes, ltb-true 0 (length so_far.notes) (sym so_far.flag), subst (λ (l : List Retired). HeldEach before.me.0.shape.readers l so_far.notes) (sym (all_held true so_far)) so_far.each, so_far.view)
+  sweeps_held so_far = (so_far.notes, so_far.some_wait refl, subst (λ (l : List Retired). HeldEach before.me.0.shape.readers l so_far.notes) (sym (all_held true so_far)) so_far.each, so_far.view)
 
   pub sweeps_nothing : SweptTo spare before after place false → SweepsFor spare before after sweep.Nothing
-  sweeps_nothing so_far = let none = none_polled before.me.0.shape.readers so_far.held so_far.notes so_far.each so_far.flag in
-      (all_held false so_far ∙ none.0, so_far.view ∙ ap (λ (l : List Past). probed l 0 before.me.0) none.1 ∙ probed_none before.me.0)
+  sweeps_nothing so_far = let none = so_far.none_wait refl in
+      (none.1 ∙ ap (waiting spare.reaped) (drop_all spare.retired place all), so_far.view ∙ ap (λ (l : List Past). probed l 0 before.me.0) none.0 ∙ probed_none before.me.0)
 
 -- THE SEAT
 
--- the seat rests with its slots after steps that leave all but its marks
-module _ (table : Table) (spare : Spare) (before after : MapSeat) (steps : ℕ) (marks : Marks) (rests : RestsAt table spare before)
-    (own : after.table_id ≡ before.table_id) (view : after.me.0 ≡ record before.me.0 { steps = steps; marks = marks }) where
-  pub token_after : token after ≡ record (token before) { steps = steps; marks = marks }
+-- the seat rests with its slots after steps that leave all but its marks and what it heard
+module _ (table : Table) (spare : Spare) (before after : MapSeat) (steps : ℕ) (marks : Marks) (heard : List ℕ) (rests : RestsAt table spare before)
+    (own : after.table_id ≡ before.table_id) (view : after.me.0 ≡ record before.me.0 { steps = steps; marks = marks; heard = heard }) where
+  pub token_after : token after ≡ record (token before) { steps = steps; marks = marks; heard = heard }
   token_after = λ j. caller_of (own j) (view j)
 
   pub rests_after : (spare' : Spare) → spare' ≡ record spare { reaped = marks.reaped } → RestsAt table spare' after
@@ -271,14 +306,13 @@ module _ (table : Table) (spare : Spare) (before after : MapSeat) (steps : ℕ) 
     };
     slots = rests.slots;
     reaped = sym (ap (λ (v : View). v.marks.reaped) view);
-    counted = rests.counted;
     own = subst (λ (c : Caller). entries_of c.seen c.number ≡ c.mine) (sym token_after) rests.own;
   })
 
 -- a retired slot can be polled
-pub probes_at : (table : Table) (spare : Spare) (before now : MapSeat) (place : ℕ) (polled : Bool) → RestsAt table spare before
-    → SweptTo spare before now place polled → place < length spare.retired → ProbesAt table (get_or spare.retired place no_retired) now
-probes_at table spare before now place polled rests so_far low = record {
+pub probes_at : (table : Table) (spare : Spare) (before now : MapSeat) (place : ℕ) (waits : Bool) → RestsAt table spare before
+    → SweptTo spare before now place waits → (low : place < length spare.retired) → nat_lt (get_or before.me.0.heard (get_or spare.retired place no_retired).slot 0) before.me.0.announcers ≡ false → ProbesAt table (get_or spare.retired place no_retired) now
+probes_at table spare before now place waits rests so_far low near = record {
   own = (λ j. record { id = so_far.own j; shape = (so_far.view j).shape; announcers = (so_far.view j).announcers }) ∙ rests.writes.own;
   desk = desk_with spare Idle;
   role = ap (λ (v : View). v.role) so_far.view ∙ rests.writes.role;
@@ -286,21 +320,9 @@ probes_at table spare before now place polled rests so_far low = record {
   room = rests.writes.room;
   poll = place;
   here = at_get spare.retired place low;
-  heard = let counted = rests.counted in omega arith;
+  heard = let heard = ltb-false _ _ near in let is = ap (λ (v : View). get_or v.heard (get_or spare.retired place no_retired).slot 0) so_far.view in let same = ap (λ (t : Table). t.announcers) rests.writes.own in omega arith;
 }
 
 -- and is one of the map's
 pub retired_near : (table : Table) (spare : Spare) (seat : MapSeat) (place : ℕ) → RestsAt table spare seat → place < length spare.retired → (get_or spare.retired place no_retired).slot < spare.slots
 retired_near table spare seat place rests low = let near = rests.writes.room.inside place (get_or spare.retired place no_retired) (at_get spare.retired place low) in omega (arith, near, rests.slots)
-
--- the slot whose set is reaped can be read
-pub recalls_reaped : (table : Table) (spare : Spare) (before after : MapSeat) (slot : ℕ) → (token before).table ≡ table
-    → RestsAt (token before).table spare before → after.table_id ≡ before.table_id → SweepsFor spare before after (sweep.Free slot)
-    → RecallsAt table slot after
-recalls_reaped table spare before after slot own rests same swept = let view = swept.8 in record {
-  own = (λ j. record { id = same j; shape = (view j).shape; announcers = (view j).announcers }) ∙ own;
-  desk = desk_with spare Idle;
-  role = ap (λ (v : View). v.role) view ∙ rests.writes.role;
-  inside = let near = swept.7 in omega (arith, near, rests.slots, ap (λ (t : Table). t.shape.slots) own);
-  untouched = tt;
-}

@@ -19,9 +19,11 @@ use Rattle.nr_board.specs.Scans.{heard_before, heard_from, heard_now}
 use Rattle.nr_board.specs.SearchPlays.{NotesKeeper, Scanned, keeps_unheard, scan_base}
 use Rattle.nr_board.specs.Callers.{Table}
 use Rattle.nr_board.specs.Plays.{Room}
-use Rattle.nr_board.specs.SearchSeats.{SearchesIn, SearchesOn}
+use Rattle.nr_machine.specs.declared.places.Place.TheVariants.{Idle}
+use Rattle.nr_board.specs.SearchSeats.{HearsWord, ScansAt, SearchesIn, SearchesOn}
+use Rattle.nr_board.specs.Spares.{desk_with}
 use Rattle.nr_board.specs.Views.{View}
-use Rattle.nr_board.specs.WriterSeats.{MapSeat}
+use Rattle.nr_board.specs.WriterSeats.{MapSeat, RestsAt}
 use Rattle.nr_machine.specs.Spares.{Spare}
 use Rattle.nr_machine.specs.declared.shape.Shape.{Shape}
 use Rattle.nr_board.specs.WholeScans.{HeardTo, KeepBack, KeepsOne, NoneFlagged, ScannedTo, announced, is_unheard, misses}
@@ -159,9 +161,11 @@ either desk own found slot count = let hb : ℕ = heard_before own count in
     differ : true ≡ false → ⊥
     differ clash = absurd (cc)
 
-module _ (desk : Desk) (before now next : View) (flags : List Bool) (own found : ℕ) (once : (slot : ℕ) → retirements slot desk.retired ≤ 1)
+-- what a load of a reader's word makes heard, and what its flag tells of that
+module _ (desk : Desk) (now next : View) (flags : List Bool) (own found : ℕ) (once : (slot : ℕ) → retirements slot desk.retired ≤ 1)
     (inside : (slot : ℕ) → 0 < retirements slot desk.retired → slot < now.shape.slots) (wide : length flags ≡ now.shape.slots)
-    (so_far : ScannedTo desk.retired before now flags own) (told : Scanned desk own found now next) where
+    (first : own ≡ 0 → NoneFlagged desk.retired flags) (heard : 0 < own → HeardTo desk.retired flags own now.heard)
+    (told : next.heard ≡ heard_from desk own found now.heard 0 now.shape.slots) where
   abbrev said : List Bool
   said = announced found flags
 
@@ -172,16 +176,16 @@ module _ (desk : Desk) (before now next : View) (flags : List Bool) (own found :
   whole_is : (slot : ℕ) → 0 < retirements slot desk.retired → is_unheard flags slot ≡ false → heard_before own (get_or now.heard slot 0) ≡ own
   whole_is slot waits unset = dite (ℕ_discrete own 0)
       (λ e. ap (λ (b : Bool). cond {A = ℕ} b 0 (get_or now.heard slot 0)) (eq-eqb own 0 e) ∙ sym e)
-      (λ ne. ap (λ (b : Bool). cond {A = ℕ} b 0 (get_or now.heard slot 0)) (ne_eqb own 0 ne) ∙ (so_far.heard (omega arith)).whole slot waits unset)
+      (λ ne. ap (λ (b : Bool). cond {A = ℕ} b 0 (get_or now.heard slot 0)) (ne_eqb own 0 ne) ∙ (heard (omega arith)).whole slot waits unset)
 
   stuck_is : (slot : ℕ) → 0 < retirements slot desk.retired → is_unheard flags slot ≡ true → heard_before own (get_or now.heard slot 0) < own
   stuck_is slot waits set_before = dite (ℕ_discrete own 0)
-      (λ e. absurd (clash (sym set_before ∙ so_far.first e slot waits)))
-      (λ ne. let is = ap (λ (b : Bool). cond {A = ℕ} b 0 (get_or now.heard slot 0)) (ne_eqb own 0 ne) in let few = (so_far.heard (omega arith)).stuck slot waits set_before in omega arith)
+      (λ e. absurd (clash (sym set_before ∙ first e slot waits)))
+      (λ ne. let is = ap (λ (b : Bool). cond {A = ℕ} b 0 (get_or now.heard slot 0)) (ne_eqb own 0 ne) in let few = (heard (omega arith)).stuck slot waits set_before in omega arith)
 
   heard_is : (slot : ℕ) → slot < now.shape.slots → get_or next.heard slot 0 ≡ heard_now desk own found slot (get_or now.heard slot 0)
   heard_is slot low = let same : 0 + slot ≡ slot = omega arith in
-      ap (λ (v : View). get_or v.heard slot 0) told.same ∙ heard_at_slot desk own found now.heard 0 now.shape.slots slot low ∙ ap (λ (s : ℕ). heard_now desk own found s (get_or now.heard s 0)) same
+      ap (λ (l : List ℕ). get_or l slot 0) told ∙ heard_at_slot desk own found now.heard 0 now.shape.slots slot low ∙ ap (λ (s : ℕ). heard_now desk own found s (get_or now.heard s 0)) same
 
   -- a slot that the word says is flagged
   says_flag : (slot : ℕ) → slot < length flags → found ≡ suc slot → is_unheard said slot ≡ true
@@ -192,7 +196,7 @@ module _ (desk : Desk) (before now next : View) (flags : List Bool) (own found :
   other_flag slot other = dite (ℕ_discrete found 0) (λ e. ap (λ (l : List Bool). is_unheard l slot) (announced_none found flags e))
       (λ ne. ap (λ (l : List Bool). is_unheard l slot) (announced_loud found flags (omega arith)) ∙ flag_elsewhere flags (found - 1) slot (λ e. other (omega arith)))
 
-  heard_so : HeardTo desk.retired said (suc own) next.heard
+  pub heard_so : HeardTo desk.retired said (suc own) next.heard
   heard_so = record {
     whole = λ slot waits unset. let low = inside slot waits in
         let was : is_unheard flags slot ≡ false = by_cases (λ (b : Bool). is_unheard flags slot ≡ b → is_unheard flags slot ≡ false) (is_unheard flags slot) (λ _ is. absurd (clash (sym (more_flags found flags slot is) ∙ unset))) (λ _ is. is) refl in
@@ -210,10 +214,10 @@ module _ (desk : Desk) (before now next : View) (flags : List Bool) (own found :
   }
 
   -- of the other slots nothing is heard from the first word on
-  quiet_so : (0 < own → (slot : ℕ) → retirements slot desk.retired ≡ 0 → get_or now.heard slot 0 ≡ 0) → (slot : ℕ) → retirements slot desk.retired ≡ 0 → get_or next.heard slot 0 ≡ 0
+  pub quiet_so : (0 < own → (slot : ℕ) → retirements slot desk.retired ≡ 0 → get_or now.heard slot 0 ≡ 0) → (slot : ℕ) → retirements slot desk.retired ≡ 0 → get_or next.heard slot 0 ≡ 0
   quiet_so before slot none = dite (ℕ_discrete (min_of slot) 0)
       (λ low. heard_is slot (omega arith) ∙ now_is ∙ count_is)
-      (λ high. ap (λ (v : View). get_or v.heard slot 0) told.same ∙ heard_outside desk own found now.heard 0 now.shape.slots slot (omega arith))
+      (λ high. ap (λ (l : List ℕ). get_or l slot 0) told ∙ heard_outside desk own found now.heard 0 now.shape.slots slot (omega arith))
     where
       min_of : ℕ → ℕ
       min_of n = n + 1 - now.shape.slots
@@ -228,6 +232,25 @@ module _ (desk : Desk) (before now next : View) (flags : List Bool) (own found :
       count_is = dite (ℕ_discrete own 0) (λ e. ap (λ (b : Bool). cond {A = ℕ} b 0 (get_or now.heard slot 0)) (eq-eqb own 0 e))
           (λ ne. ap (λ (b : Bool). cond {A = ℕ} b 0 (get_or now.heard slot 0)) (ne_eqb own 0 ne) ∙ before (omega arith) slot none)
 
+-- a load of it by a search
+module _ (desk : Desk) (before now next : View) (flags : List Bool) (own found : ℕ) (once : (slot : ℕ) → retirements slot desk.retired ≤ 1)
+    (inside : (slot : ℕ) → 0 < retirements slot desk.retired → slot < now.shape.slots) (wide : length flags ≡ now.shape.slots)
+    (so_far : ScannedTo desk.retired before now flags own) (told : Scanned desk own found now next) where
+  abbrev said_now : List Bool
+  said_now = announced found flags
+
+  differs : true ≡ false → ⊥
+  differs e = absurd (cc)
+
+  heard_told : next.heard ≡ heard_from desk own found now.heard 0 now.shape.slots
+  heard_told = ap (λ (v : View). v.heard) told.same
+
+  whole_now : (slot : ℕ) → 0 < retirements slot desk.retired → is_unheard flags slot ≡ false → heard_before own (get_or now.heard slot 0) ≡ own
+  whole_now = whole_is desk now next flags own found once inside wide so_far.first so_far.heard heard_told
+
+  stuck_now : (slot : ℕ) → 0 < retirements slot desk.retired → is_unheard flags slot ≡ true → heard_before own (get_or now.heard slot 0) < own
+  stuck_now = stuck_is desk now next flags own found once inside wide so_far.first so_far.heard heard_told
+
   base_is : scan_base (suc own) next.marks.polls ≡ next.marks.polls
   base_is = ap (λ (b : Bool). cond {A = List Past} b [] next.marks.polls) (ne_eqb (suc own) 0 (λ e. omega arith))
 
@@ -236,16 +259,16 @@ module _ (desk : Desk) (before now next : View) (flags : List Bool) (own found :
 
   both : (a b : Bool) → (a && b) ≡ true → (a ≡ true) × (b ≡ true)
   both true b e = (refl, e)
-  both false b e = absurd (clash (sym e))
+  both false b e = absurd (differs (sym e))
 
-  keep_so : KeepBack desk.retired said (suc own) (scan_base (suc own) next.marks.polls)
-  keep_so = subst (KeepBack desk.retired said (suc own)) (sym base_is)
-      (by_cases (λ (b : Bool). keeps_it ≡ b → KeepBack desk.retired said (suc own) next.marks.polls) keeps_it
+  keep_so : KeepBack desk.retired said_now (suc own) (scan_base (suc own) next.marks.polls)
+  keep_so = subst (KeepBack desk.retired said_now (suc own)) (sym base_is)
+      (by_cases (λ (b : Bool). keeps_it ≡ b → KeepBack desk.retired said_now (suc own) next.marks.polls) keeps_it
       (λ _ keeps. let parts = both (nat_lt 0 found) _ keeps in let rest = both (nat_lt 0 (retirements (found - 1) desk.retired)) _ parts.1 in
       let loud = ltb-true 0 found parts.0 in let waits = ltb-true 0 (retirements (found - 1) desk.retired) rest.0 in let next_is = eqb-true (heard_before own (get_or now.heard (found - 1) 0)) own rest.1 in
       let low = inside (found - 1) waits in
       let unset : is_unheard flags (found - 1) ≡ false = by_cases (λ (b : Bool). is_unheard flags (found - 1) ≡ b → is_unheard flags (found - 1) ≡ false) (is_unheard flags (found - 1))
-      (λ _ is. absurd (let few = stuck_is (found - 1) waits is in omega arith)) (λ _ is. is) refl in
+      (λ _ is. absurd (let few = stuck_now (found - 1) waits is in omega arith)) (λ _ is. is) refl in
       let told_so = subst (λ (b : Bool). NotesKeeper b own found (scan_base own now.marks.polls) next.marks.polls) keeps told.keeper in
       let loudly = announced_loud found flags loud in
       kept_one desk.retired flags own found (scan_base own now.marks.polls) next.marks.polls (more_flags found flags) so_far.keep
@@ -261,25 +284,25 @@ module _ (desk : Desk) (before now next : View) (flags : List Bool) (own found :
       idle ne lets = dite (ℕ_discrete (retirements (found - 1) desk.retired) 0) inl
           (λ some_there. by_cases (λ (b : Bool). is_unheard flags (found - 1) ≡ b → (retirements (found - 1) desk.retired ≡ 0) ⊎ (is_unheard flags (found - 1) ≡ true)) (is_unheard flags (found - 1))
           (λ _ is. inr is)
-          (λ _ is. absurd (clash (sym (ap (λ (b : Bool). b && (nat_lt 0 (retirements (found - 1) desk.retired) && nat_eq (heard_before own (get_or now.heard (found - 1) 0)) own)) (lt-ltb 0 found (omega arith))
+          (λ _ is. absurd (differs (sym (ap (λ (b : Bool). b && (nat_lt 0 (retirements (found - 1) desk.retired) && nat_eq (heard_before own (get_or now.heard (found - 1) 0)) own)) (lt-ltb 0 found (omega arith))
           ∙ ap (λ (b : Bool). b && nat_eq (heard_before own (get_or now.heard (found - 1) 0)) own) (lt-ltb 0 (retirements (found - 1) desk.retired) (omega arith))
-          ∙ eq-eqb (heard_before own (get_or now.heard (found - 1) 0)) own (whole_is (found - 1) (omega arith) is)) ∙ lets))) refl)
+          ∙ eq-eqb (heard_before own (get_or now.heard (found - 1) 0)) own (whole_now (found - 1) (omega arith) is)) ∙ lets))) refl)
 
-  pub quiet_more : (0 < own → (slot : ℕ) → retirements slot desk.retired ≡ 0 → get_or now.heard slot 0 ≡ 0) → (slot : ℕ) → retirements slot desk.retired ≡ 0 → get_or next.heard slot 0 ≡ 0
-  quiet_more = quiet_so
-
-  pub scanned_more : ScannedTo desk.retired before next said (suc own)
+  pub scanned_more : ScannedTo desk.retired before next said_now (suc own)
   scanned_more = record {
     rest = told.same ∙ (λ j. record now { steps = now.steps + 1; marks = with_polls now.marks next.marks.polls; heard = sym (ap (λ (v : View). v.heard) told.same) j })
         ∙ (λ j. record (so_far.rest j) { steps = (so_far.rest j).steps + 1; marks = with_polls (so_far.rest j).marks next.marks.polls; heard = next.heard })
         ∙ (λ j. record before { steps = more_steps j; marks = with_polls before.marks next.marks.polls; heard = next.heard });
     first = λ e. absurd (omega arith);
-    heard = λ _. heard_so;
+    heard = λ _. heard_so desk now next flags own found once inside wide so_far.first so_far.heard heard_told;
     keep = keep_so;
   }
     where
       more_steps : before.steps + own + 1 ≡ before.steps + suc own
       more_steps = omega arith
+
+announced_wide : (found : ℕ) (flags : List Bool) → length (announced found flags) ≡ length flags
+announced_wide found flags = by_cases (λ (b : Bool). length (cond {A = List Bool} b flags (set flags (found - 1) true)) ≡ length flags) (nat_eq found 0) (λ _. refl) (λ _. length-set flags (found - 1) true)
 
 -- THE FLAGS BEFORE THE FIRST WORD
 
@@ -365,7 +388,7 @@ scan_goes table spare before now next flags own found so_far same tells = let se
     let wide = so_far.wide ∙ ap (λ (s : Shape). s.slots) (sym size) in
     let before_it = subst (λ (l : List Retired). ScannedTo l before.me.0 now.me.0 flags own) (sym listed) so_far.scanned in
     let scanned = scanned_more desk before.me.0 now.me.0 next.me.0 flags own found once near wide before_it told in
-    let quiet = quiet_more desk before.me.0 now.me.0 next.me.0 flags own found once near wide before_it told (subst (λ (l : List Retired). 0 < own → (slot : ℕ) → retirements slot l ≡ 0 → get_or now.me.0.heard slot 0 ≡ 0) (sym listed) so_far.quiet) in record {
+    let quiet = quiet_so desk now.me.0 next.me.0 flags own found once near wide before_it.first before_it.heard (ap (λ (v : View). v.heard) told.same) (subst (λ (l : List Retired). 0 < own → (slot : ℕ) → retirements slot l ≡ 0 → get_or now.me.0.heard slot 0 ≡ 0) (sym listed) so_far.quiet) in record {
       own_table = same ∙ so_far.own_table;
       search = record {
         search = record {
@@ -385,22 +408,76 @@ scan_goes table spare before now next flags own found so_far same tells = let se
       others = λ slot none. more_flags found flags slot (so_far.others slot none);
       quiet = λ _. subst (λ (l : List Retired). (slot : ℕ) → retirements slot l ≡ 0 → get_or next.me.0.heard slot 0 ≡ 0) listed quiet;
     }
-  where
-    announced_wide : (found : ℕ) (flags : List Bool) → length (announced found flags) ≡ length flags
-    announced_wide found flags = by_cases (λ (b : Bool). length (cond {A = List Bool} b flags (set flags (found - 1) true)) ≡ length flags) (nat_eq found 0) (λ _. refl) (λ _. length-set flags (found - 1) true)
 
 -- after the last word the flags tell just what was heard
-pub scan_flagged : (table : Table) (spare : Spare) (before now : MapSeat) (flags : List Bool) → 0 < table.announcers → ScanGoes table spare before now flags table.announcers → Flagged table spare.retired now.me.0.heard flags
-scan_flagged table spare before now flags some_words goes = let told = goes.scanned.heard some_words in record {
-  wide = goes.wide;
-  whole = λ slot unset. dite (ℕ_discrete (retirements slot spare.retired) 0)
-      (λ none. absurd (differ (sym (goes.others slot none) ∙ unset)))
+all_flagged : (table : Table) (retired : List Retired) (heard : List ℕ) (flags : List Bool) → 0 < table.announcers → length flags ≡ table.shape.slots → HeardTo retired flags table.announcers heard → OthersFlagged retired flags
+    → ((slot : ℕ) → retirements slot retired ≡ 0 → get_or heard slot 0 ≡ 0) → Flagged table retired heard flags
+all_flagged table retired heard flags some_words wide told others quiet = record {
+  wide = wide;
+  whole = λ slot unset. dite (ℕ_discrete (retirements slot retired) 0)
+      (λ none. absurd (differ (sym (others slot none) ∙ unset)))
       (λ waits. let is = told.whole slot (omega arith) unset in omega arith);
-  stuck = λ slot set_now. dite (ℕ_discrete (retirements slot spare.retired) 0)
-      (λ none. let is = goes.quiet some_words slot none in omega arith)
+  stuck = λ slot set_now. dite (ℕ_discrete (retirements slot retired) 0)
+      (λ none. let is = quiet slot none in omega arith)
       (λ waits. told.stuck slot (omega arith) set_now);
-  others = goes.others;
+  others = others;
 }
   where
     differ : true ≡ false → ⊥
     differ clash = absurd (cc)
+
+pub scan_flagged : (table : Table) (spare : Spare) (before now : MapSeat) (flags : List Bool) → 0 < table.announcers → ScanGoes table spare before now flags table.announcers → Flagged table spare.retired now.me.0.heard flags
+scan_flagged table spare before now flags some_words goes = all_flagged table spare.retired now.me.0.heard flags some_words goes.wide (goes.scanned.heard some_words) goes.others (goes.quiet some_words)
+
+-- BETWEEN CALLS
+
+-- the scan so far of a writer that rests
+pub record RestingScan (table : Table) (spare : Spare) (before now : MapSeat) (flags : List Bool) (own : ℕ) : Type 0 where
+  pub own_table : now.table_id ≡ before.table_id
+  pub rest : now.me.0 ≡ record before.me.0 { steps = before.me.0.steps + own; heard = now.me.0.heard }
+  pub first : own ≡ 0 → NoneFlagged spare.retired flags
+  pub heard : 0 < own → HeardTo spare.retired flags own now.me.0.heard
+  pub wide : length flags ≡ table.shape.slots
+  pub others : OthersFlagged spare.retired flags
+  pub quiet : 0 < own → (slot : ℕ) → retirements slot spare.retired ≡ 0 → get_or now.me.0.heard slot 0 ≡ 0
+
+pub resting_scan_begins : (table : Table) (spare : Spare) (seat : MapSeat) (flags : List Bool) → NoneFlagged spare.retired flags → length flags ≡ table.shape.slots → OthersFlagged spare.retired flags → RestingScan table spare seat seat flags 0
+resting_scan_begins table spare seat flags none wide others = let view = seat.me.0 in let more : view.steps ≡ view.steps + 0 = omega arith in record {
+  own_table = refl;
+  rest = λ j. record view { steps = more j };
+  first = λ _. none;
+  heard = λ later. absurd (omega arith);
+  wide = wide;
+  others = others;
+  quiet = λ later. absurd (omega arith);
+}
+
+module _ (table : Table) (spare : Spare) (before now : MapSeat) (flags : List Bool) (own : ℕ) (rests : RestsAt table spare before) (so_far : RestingScan table spare before now flags own) where
+  -- the next word may be loaded
+  pub resting_scan_at : own < table.announcers → ScansAt table own now
+  resting_scan_at low = record {
+    own_table = (λ j. record { id = so_far.own_table j; shape = (so_far.rest j).shape; announcers = (so_far.rest j).announcers }) ∙ rests.writes.own;
+    desk = desk_with spare Idle;
+    role = ap (λ (v : View). v.role) so_far.rest ∙ rests.writes.role;
+    within = low;
+  }
+
+  pub resting_scan_goes : (next : MapSeat) (found : ℕ) → next.table_id ≡ now.table_id → HearsWord own found now.me.0 next.me.0 → RestingScan table spare before next (announced found flags) (own + 1)
+  resting_scan_goes next found same hears = let desk = desk_with spare Idle in let told = hears desk (ap (λ (v : View). v.role) so_far.rest ∙ rests.writes.role) in
+      let size : now.me.0.shape ≡ table.shape = ap (λ (v : View). v.shape) so_far.rest ∙ ap (λ (t : Table). t.shape) rests.writes.own in
+      let once = retired_once table.shape desk rests.writes.room in
+      let near : (slot : ℕ) → 0 < retirements slot desk.retired → slot < now.me.0.shape.slots = λ slot waits. let near = retired_inside table.shape desk rests.writes.room slot waits in let slots = ap (λ (s : Shape). s.slots) size in omega arith in
+      let wide = so_far.wide ∙ ap (λ (s : Shape). s.slots) (sym size) in let heard = ap (λ (v : View). v.heard) told in let one_more : suc own ≡ own + 1 = omega arith in
+      let steps : before.me.0.steps + own + 1 ≡ before.me.0.steps + (own + 1) = omega arith in record {
+        own_table = same ∙ so_far.own_table;
+        rest = told ∙ (λ j. record now.me.0 { steps = now.me.0.steps + 1; heard = sym heard j }) ∙ (λ j. record (so_far.rest j) { steps = (so_far.rest j).steps + 1; heard = next.me.0.heard })
+            ∙ (λ j. record before.me.0 { steps = steps j; heard = next.me.0.heard });
+        first = λ none. absurd (omega arith);
+        heard = λ _. subst (λ (n : ℕ). HeardTo spare.retired (announced found flags) n next.me.0.heard) one_more (heard_so desk now.me.0 next.me.0 flags own found once near wide so_far.first so_far.heard heard);
+        wide = announced_wide found flags ∙ so_far.wide;
+        others = λ slot none. more_flags found flags slot (so_far.others slot none);
+        quiet = λ _. quiet_so desk now.me.0 next.me.0 flags own found once near wide so_far.first so_far.heard heard so_far.quiet;
+      }
+
+pub resting_scan_flagged : (table : Table) (spare : Spare) (before now : MapSeat) (flags : List Bool) → 0 < table.announcers → RestingScan table spare before now flags table.announcers → Flagged table spare.retired now.me.0.heard flags
+resting_scan_flagged table spare before now flags some_words goes = all_flagged table spare.retired now.me.0.heard flags some_words goes.wide (goes.heard some_words) goes.others (goes.quiet some_words)

@@ -61,7 +61,7 @@ module _ (table : Table) (spare : Spare) (before : MapSeat) (rests : RestsAt tab
       → LeadsIn steps table call (desk_with after_spare Idle, ended answer) before after → RestsAt table after_spare after
       × Gains steps (token before) call answer (token after)
   ends steps call answer after_spare after slots same_reaped same_marks leads = (
-    record { writes = leads.writes; slots = slots ∙ rests.slots; reaped = same_reaped ∙ rests.reaped ∙ sym same_marks; own = leads.grows.own; counted = rests.counted },
+    record { writes = leads.writes; slots = slots ∙ rests.slots; reaped = same_reaped ∙ rests.reaped ∙ sym same_marks; own = leads.grows.own },
     subst (λ (n : ℕ). Grows steps (token before) (entry n call answer ∷ []) (token after)) (sym writer_number) leads.grows,
   )
 
@@ -87,7 +87,7 @@ module _ (table : Table) (spare : Spare) (before : MapSeat) (rests : RestsAt tab
         let reaped_after : after_spare.reaped ≡ after.me.0.marks.reaped = ap (λ (s : Spare). s.reaped) published.retires
         ∙ ap (λ (l : List Bool). slice_set l published.slot false) (rests.reaped ∙ ap (λ (m : Marks). m.reaped) (sym only_polls))
         ∙ ap (λ (m : Marks). m.reaped) (sym published.marks) in
-        let rests_after : RestsAt table after_spare after = record { writes = published.writes; slots = published.slots ∙ rests.slots; reaped = reaped_after; own = all.own; counted = rests.counted } in
+        let rests_after : RestsAt table after_spare after = record { writes = published.writes; slots = published.slots ∙ rests.slots; reaped = reaped_after; own = all.own } in
         let spare_after = spare_shown table after_spare after rests_after ∙ published.retires in
         let map_then = map_after before.me.0.shape published.log in
         let done_then = (legal_goes_on_lem (map_at_opening (token before).table) published.log (entry 0 (call_of call) reply.Done)).1.1 (subst (IsLegal (map_at_opening (token before).table)) published.seen all.legal) in (
@@ -127,9 +127,7 @@ module _ (table : Table) (spare : Spare) (before : MapSeat) (rests : RestsAt tab
           reaped = rests.reaped
               ∙ ap (λ (m : Marks). m.reaped) (sym only_polls) ∙ ap (λ (m : Marks). m.reaped) (sym lacking.marks);
           own = all.own;
-          counted = rests.counted;
-        } in
-        (
+        } in (
           subst (λ (s : Spare). RestsAt table s after) (sym lacking.same) rests_spare,
           record {
             searched = lacking.steps;

@@ -41,13 +41,13 @@ pub record HasRead (table : Table) (spare : Spare) (call : WriterCall) (slot : �
 -- a fill and a replacement have their set by their look
 abbrev pub BeginsFill : Table → Spare → ℕ → ℕ → List Row → MapSeat → MapSeat → Result (Unit {0}) FillFault → Type 0
 BeginsFill table spare key number rows old new (Ok done) = HasSet table spare 1 (Fill key number rows) rows old new
-BeginsFill table spare key number rows old new (Err fault) = RestsAt (token new).table spare new × FillsKey key number rows (token old) (token new) (Err fault)
+BeginsFill table spare key number rows old new (Err fault) = RestsAt (token new).table spare new × FillsKey key number rows (token old) (token new) (Err fault) × (new.me.0.heard ≡ old.me.0.heard)
 
 abbrev pub BeginsReplace : Table → Spare → ℕ → List Row → MapSeat → MapSeat → Result (Unit {0}) ReplaceFault → Type 0
 BeginsReplace table spare key rows old new (Ok done) = HasSet table spare 1 (Replace key rows) rows old new
-BeginsReplace table spare key rows old new (Err fault) = RestsAt (token new).table spare new × ReplacesKey key rows (token old) (token new) (Err fault)
+BeginsReplace table spare key rows old new (Err fault) = RestsAt (token new).table spare new × ReplacesKey key rows (token old) (token new) (Err fault) × (new.me.0.heard ≡ old.me.0.heard)
 
 -- an update has read the key's set, and applied the batch to it
 abbrev pub BeginsUpdate : Table → Spare → ℕ → List Delta → List Row → MapSeat → MapSeat → Result (Unit {0}) UpdateFault → Type 0
 BeginsUpdate table spare key batch left old new (Ok done) = (slot : ℕ) × (rows : List Row) × HasRead table spare (Update key batch) slot rows old new × (applied (bound_of table.shape) rows batch ≡ Ok left)
-BeginsUpdate table spare key batch left old new (Err fault) = RestsAt (token new).table spare new × UpdatesKey (bound_of table.shape) key batch (token old) (token new) (Err fault)
+BeginsUpdate table spare key batch left old new (Err fault) = RestsAt (token new).table spare new × UpdatesKey (bound_of table.shape) key batch (token old) (token new) (Err fault) × (new.me.0.heard ≡ old.me.0.heard)

@@ -1,5 +1,5 @@
 -- A reap: the writer polls the retired slots whose sets wait, oldest first, and gives out the set of the first that no reader holds. The slot stays retired, and its set is reaped.
-use Rattle.std.specs.Prelude.{◌≡◌, ℕ, ◌+◌, ◌*◌, ◌<◌, ◌≤◌, if◌then◌else◌, Bool, false, List, [], ◌∷◌, ◌++◌, drop, length, nat_lt, slice_index, slice_index_or}
+use Rattle.std.specs.Prelude.{◌≡◌, ℕ, ◌+◌, ◌*◌, ◌<◌, ◌≤◌, ◌⊎◌, ◌||◌, if◌then◌else◌, Bool, true, false, List, [], ◌∷◌, ◌++◌, drop, length, nat_lt, slice_index, slice_index_or}
 use mathlib.Core.Option.{some}
 use lib.ListN.{get_elem?}
 use Rattle.nr_model.specs.Rows.{IsRowSet}
@@ -50,10 +50,18 @@ pub record ProbesAt (table : Table) (entry : Retired) (seat : MapSeat) : Type 0 
 
 -- THE SWEEP
 
--- the retired slots whose sets wait: those that were not reaped
+-- the retired slots that are not passed by
+abbrev pub waits_by : (ℕ → Bool) → List Retired → List Retired
+waits_by passes [] = []
+waits_by passes (entry ∷ retired) = (if passes entry.slot then waits_by passes retired else entry ∷ waits_by passes retired)
+
+-- those whose sets wait: they were not reaped
 abbrev pub waiting : List Bool → List Retired → List Retired
-waiting flags [] = []
-waiting flags (entry ∷ retired) = (if slice_index_or flags entry.slot false then waiting flags retired else entry ∷ waiting flags retired)
+waiting flags retired = waits_by (λ slot. slice_index_or flags slot false) retired
+
+-- those of them of which all readers that have a word were heard
+abbrev pub ready : ℕ → List ℕ → List Bool → List Retired → List Retired
+ready announcers heard flags retired = waits_by (λ slot. slice_index_or flags slot false || nat_lt (slice_index heard slot) announcers) retired
 
 -- each of these slots was polled, in their order, and held by one of that many readers, each by another one
 pub record HeldEach (readers : ℕ) (slots : List Retired) (notes : List Past) : Type 0 where
@@ -67,23 +75,38 @@ probed notes more view = record view { steps = view.steps + (length notes + more
 abbrev pub reaping : ℕ → View → View
 reaping slot view = record view { marks = with_reaped view.marks slot }
 
+abbrev pub ready_in : Spare → View → List Retired
+ready_in spare view = ready view.announcers view.heard spare.reaped spare.retired
+
 abbrev pub SweepsFor : Spare → MapSeat → MapSeat → Sweep → Type 0
-SweepsFor spare old new (sweep.Free slot) = (held later : List Retired) × (entry : Retired) × (notes : List Past) × (waiting spare.reaped spare.retired ≡ held ++ entry ∷ later) × HeldEach old.me.0.shape.readers held notes
+SweepsFor spare old new (sweep.Free slot) = (held later : List Retired) × (entry : Retired) × (notes : List Past) × (ready_in spare old.me.0 ≡ held ++ entry ∷ later) × HeldEach old.me.0.shape.readers held notes
     × (slot ≡ entry.slot) × (slot < spare.slots) × (new.me.0 ≡ reaping slot (probed notes 1 old.me.0))
-SweepsFor spare old new sweep.Held = (notes : List Past) × (0 < length notes) × HeldEach old.me.0.shape.readers (waiting spare.reaped spare.retired) notes × (new.me.0 ≡ probed notes 0 old.me.0)
+SweepsFor spare old new sweep.Held = (notes : List Past) × (0 < length (waiting spare.reaped spare.retired)) × HeldEach old.me.0.shape.readers (ready_in spare old.me.0) notes × (new.me.0 ≡ probed notes 0 old.me.0)
 SweepsFor spare old new sweep.Nothing = (waiting spare.reaped spare.retired ≡ []) × (new.me.0 ≡ old.me.0)
 
 -- the sweep so far
-pub record SweptTo (spare : Spare) (before now : MapSeat) (place : ℕ) (polled : Bool) : Type 0 where
+pub record SweptTo (spare : Spare) (before now : MapSeat) (place : ℕ) (waits : Bool) : Type 0 where
   pub held : List Retired
   pub notes : List Past
-  pub split : waiting spare.reaped spare.retired ≡ held ++ waiting spare.reaped (drop place spare.retired)
+  pub split : ready_in spare before.me.0 ≡ held ++ ready before.me.0.announcers before.me.0.heard spare.reaped (drop place spare.retired)
   pub each : HeldEach before.me.0.shape.readers held notes
   -- each of them stands before the place in the list
   pub earlier : (at : ℕ) (entry : Retired) → get_elem? held at ≡ some entry → (other : ℕ) × (other < place) × (get_elem? spare.retired other ≡ some entry)
   pub own : now.table_id ≡ before.table_id
   pub view : now.me.0 ≡ probed notes 0 before.me.0
-  pub flag : polled ≡ nat_lt 0 (length notes)
+  -- whether a set waits
+  pub some_wait : waits ≡ true → 0 < length (waiting spare.reaped spare.retired)
+  pub none_wait : waits ≡ false → (notes ≡ []) × (waiting spare.reaped spare.retired ≡ waiting spare.reaped (drop place spare.retired))
+
+-- the view after a scan between two calls
+abbrev pub scanned_to : ℕ → List ℕ → View → View
+scanned_to loads heard view = record view { steps = view.steps + loads; heard = heard }
+
+-- a sweep; or, where readers have words, one that was in vain, a scan, and another sweep
+abbrev pub SweepsHeard : Spare → MapSeat → MapSeat → Sweep → Type 0
+SweepsHeard spare old new found =
+    (SweepsFor spare old new found × (found ≡ sweep.Held → old.me.0.announcers ≡ 0))
+    ⊎ ((0 < old.me.0.announcers) × (mid last : MapSeat) × SweepsFor spare old mid sweep.Held × (last.me.0 ≡ scanned_to old.me.0.announcers last.me.0.heard mid.me.0) × SweepsFor spare last new found)
 
 -- THE CALL
 
@@ -94,10 +117,24 @@ after_polls notes more caller = record caller { steps = caller.steps + (length n
 abbrev pub with_reap : ℕ → Caller → Caller
 with_reap slot caller = record caller { marks = with_reaped caller.marks slot }
 
--- A reap gives out the oldest set that waits and that nobody holds, by a poll of each up to it and a load of each word. Or each that waits was held at its poll, each by another reader, or none waits. Else the token is as it was.
+abbrev pub ready_to : Caller → List ℕ → List Retired
+ready_to caller heard = ready caller.table.announcers heard caller.marks.reaped caller.retired
+
+-- before its last sweep a reap polls nothing, or, where readers have words, each set that is ready, in vain; then it scans the words
+abbrev pub ScansFirst : Caller → List ℕ → List Past → ℕ → Type 0
+ScansFirst old scanned earlier scan =
+    ((scanned ≡ old.heard) × (earlier ≡ []) × (scan ≡ 0))
+    ⊎ ((0 < old.table.announcers) × HeldEach old.table.shape.readers (ready_to old old.heard) earlier × (scan ≡ old.table.announcers))
+
+abbrev pub hearing : List ℕ → Caller → Caller
+hearing heard caller = record caller { heard = heard }
+
+-- A reap gives out the oldest set that waits, that no reader's word announced and that nobody holds, by a poll of each up to it and a load of each word. Or each that waits is kept back: it was announced when the words were scanned, or held at its poll, each by another reader. Or none waits. Else the token is as it was.
 abbrev pub ReapsIn : {Room : Type 0} → (Room → List Row → Type 0) → Caller → Room → Caller → Room → Reaped → Type 0
-ReapsIn shows old before new after reaped.Set = (held later : List Retired) × (entry : Retired) × (notes : List Past) × (waiting old.marks.reaped old.retired ≡ held ++ entry ∷ later) × HeldEach old.table.shape.readers held notes
+ReapsIn shows old before new after reaped.Set = (held later : List Retired) × (entry : Retired) × (notes earlier : List Past) × (scanned : List ℕ) × (scan : ℕ) × ScansFirst old scanned earlier scan
+    × (ready_to old scanned ≡ held ++ entry ∷ later) × HeldEach old.table.shape.readers held notes
     × shows after (set_in old.marks entry.slot) × IsRowSet old.table.shape.rows (set_in old.marks entry.slot)
-    × (new ≡ with_reap entry.slot (after_polls notes (1 + (2 * length (set_in old.marks entry.slot) + 1)) old))
-ReapsIn shows old before new after reaped.Held = (notes : List Past) × (0 < length notes) × HeldEach old.table.shape.readers (waiting old.marks.reaped old.retired) notes × (new ≡ after_polls notes 0 old) × (after ≡ before)
+    × (new ≡ hearing scanned (with_reap entry.slot (after_polls (earlier ++ notes) (scan + (1 + (2 * length (set_in old.marks entry.slot) + 1))) old)))
+ReapsIn shows old before new after reaped.Held = (notes earlier : List Past) × (scanned : List ℕ) × (scan : ℕ) × ScansFirst old scanned earlier scan × (0 < old.table.announcers → scan ≡ old.table.announcers)
+    × (0 < length (waiting old.marks.reaped old.retired)) × HeldEach old.table.shape.readers (ready_to old scanned) notes × (new ≡ hearing scanned (after_polls (earlier ++ notes) scan old)) × (after ≡ before)
 ReapsIn shows old before new after reaped.Nothing = (waiting old.marks.reaped old.retired ≡ []) × (new ≡ old) × (after ≡ before)

@@ -51,3 +51,7 @@ pub record ScannedTo (retired : List Retired) (before now : View) (flags : List 
   pub first : own ≡ 0 → NoneFlagged retired flags
   pub heard : 0 < own → HeardTo retired flags own now.heard
   pub keep : KeepBack retired flags own (scan_base own now.marks.polls)
+
+-- a scan by a writer between two calls tells it nothing but what it hears
+abbrev pub RestsHearing : ℕ → View → View → Type 0
+RestsHearing loads old new = new ≡ record old { steps = old.steps + loads; heard = new.heard }

@@ -216,5 +216,3 @@ pub record RestsAt (table : Table) (spare : Spare) (seat : MapSeat) : Type 0 whe
   pub slots : spare.slots ≡ table.shape.slots
   pub reaped : spare.reaped ≡ seat.me.0.marks.reaped
   pub own : KnowsOwn (token seat)
-  -- the map's readers find by counts
-  pub counted : table.announcers ≡ 0

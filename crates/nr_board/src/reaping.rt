@@ -1,11 +1,13 @@
 //! How the writer gives out a retired set before its slot is taken again.
 ghost use Rattle.std.specs.Prelude.{◌≡◌};
 ghost use Rattle.nr_board.specs.Callers.{token};
-ghost use Rattle.nr_board.specs.Reaping.{ReapsIn, SweepsFor};
+ghost use Rattle.nr_board.specs.Flags.{IsFlagged};
+ghost use Rattle.nr_board.specs.Reaping.{ReapsIn, SweepsFor, SweepsHeard};
 ghost use Rattle.nr_board.specs.WriterSeats.{RestsAt};
 
 use crate::answers::Reaped;
 use crate::board::{Board, Seat};
+use crate::scans::Unheard;
 use nr_core::Spare;
 use nr_model::RowRoom;
 use nr_words::same_count;
@@ -24,14 +26,24 @@ impl Board {
     /// Writes the oldest retired set that waits and that nobody holds over the rows of the caller's
     /// (`Set`): a poll of each set that waits, up to this one, and 2m + 1 reads for its m rows. The
     /// slot stays retired, and what takes it gives out no set of it. `Held` after the polls, where
-    /// readers hold all that wait; `Nothing`, without a step, where none waits.
-    pub fn reap<R: RowRoom>(&self, seat: &mut Seat, spare: &mut Spare, had: &mut R) -> Reaped
+    /// readers hold all that wait; `Nothing`, without a step, where none waits. Where readers have
+    /// words, a set is polled only if all were heard not to announce it; if that finds none, the
+    /// words are scanned, and what they don't announce is polled.
+    pub fn reap<R: RowRoom>(
+        &self,
+        seat: &mut Seat,
+        spare: &mut Spare,
+        unheard: &mut Unheard,
+        had: &mut R,
+    ) -> Reaped
         requires own { (token seat.old).table ≡ self.now }
         requires rests { RestsAt (token seat.old).table spare.old seat.old }
+        requires flagged { IsFlagged self.now spare.old.retired (token seat.old).heard unheard.old }
         ensures rests { RestsAt (token seat.new).table spare.new seat.new }
+        ensures flagged { IsFlagged self.now spare.new.retired (token seat.new).heard unheard.new }
         ensures reaps { ReapsIn R.shows (token seat.old) had.old (token seat.new) had.new result }
     {
-        match self.sweep(seat, spare) {
+        match self.sweep_heard(seat, spare, unheard) {
             Sweep::Free(slot) => {
                 spare.set_reaped(slot, true);
                 self.recall_set::<R>(seat, slot, had);
@@ -42,23 +54,43 @@ impl Board {
         }
     }
 
-    // Polls the retired slots whose sets wait, oldest first, up to the first that nobody holds.
-    fn sweep(&self, seat: &mut Seat, spare: &Spare) -> Sweep
+    // A sweep, and where it is in vain and readers have words a scan and another one.
+    fn sweep_heard(&self, seat: &mut Seat, spare: &Spare, unheard: &mut Unheard) -> Sweep
         requires rests { RestsAt self.now spare.now seat.old }
+        requires flagged { IsFlagged self.now spare.now.retired seat.old.me.0.heard unheard.old }
+        ensures own { seat.new.table_id ≡ seat.old.table_id }
+        ensures sweeps { SweepsHeard spare.now seat.old seat.new result }
+        ensures flagged { IsFlagged self.now spare.now.retired seat.new.me.0.heard unheard.new }
+    {
+        let first = self.sweep(seat, spare, unheard);
+        if self.announcers() == 0 || !matches!(first, Sweep::Held) {
+            return first;
+        }
+        self.scan_at_rest(seat, spare, unheard);
+        self.sweep(seat, spare, unheard)
+    }
+
+    // Polls the retired slots whose sets wait and that were heard, oldest first, up to the first that
+    // nobody holds.
+    fn sweep(&self, seat: &mut Seat, spare: &Spare, unheard: &Unheard) -> Sweep
+        requires rests { RestsAt self.now spare.now seat.old }
+        requires flagged { IsFlagged self.now spare.now.retired seat.old.me.0.heard unheard.now }
         ensures own { seat.new.table_id ≡ seat.old.table_id }
         ensures sweeps { SweepsFor spare.now seat.old seat.new result }
     {
-        let mut polled = false;
+        let mut waits = false;
         for place in 0..spare.retired_len() {
             let entry = spare.retired_at(place);
             if !spare.is_reaped(entry.slot) {
-                let departures = self.probe(seat, entry);
-                if same_count(departures, entry.arrivals) {
-                    return Sweep::Free(entry.slot);
+                waits = true;
+                if !self.is_unheard(unheard, entry.slot) {
+                    let departures = self.probe(seat, entry);
+                    if same_count(departures, entry.arrivals) {
+                        return Sweep::Free(entry.slot);
+                    }
                 }
-                polled = true;
             }
         }
-        if polled { Sweep::Held } else { Sweep::Nothing }
+        if waits { Sweep::Held } else { Sweep::Nothing }
     }
 }

@@ -2,7 +2,8 @@
 ghost use Rattle.std.specs.Prelude.{◌≡◌, ◌<◌, ◌≤◌, IfOk, false, length, replicate, slice_index_or, slice_set, true};
 ghost use Rattle.nr_board.specs.SearchSeats.{SearchesIn};
 ghost use Rattle.nr_board.specs.Flags.{Flagged, OthersFlagged};
-ghost use Rattle.nr_board.specs.WholeScans.{AreInside, NoneFlagged, ScannedTo, announced};
+ghost use Rattle.nr_board.specs.WholeScans.{AreInside, NoneFlagged, RestsHearing, ScannedTo, announced, is_unheard};
+ghost use Rattle.nr_board.specs.WriterSeats.{RestsAt};
 
 use crate::board::{Board, Seat};
 use nr_core::Spare;
@@ -97,5 +98,30 @@ impl Board {
             let word = self.scan_on(seat, own);
             unheard.announce(word);
         }
+    }
+
+    /// As `scan_words`, by a writer between two calls.
+    pub fn scan_at_rest(&self, seat: &mut Seat, spare: &Spare, unheard: &mut Unheard)
+        requires rests { RestsAt self.now spare.now seat.old }
+        requires flagged { Flagged self.now spare.now.retired seat.old.me.0.heard unheard.old }
+        requires some_words { 0 < self.now.announcers }
+        ensures own { seat.new.table_id ≡ seat.old.table_id }
+        ensures hears { RestsHearing self.now.announcers seat.old.me.0 seat.new.me.0 }
+        ensures flagged { Flagged self.now spare.now.retired seat.new.me.0.heard unheard.new }
+    {
+        unheard.clear_retired(spare);
+        for own in 0..self.announcers() {
+            let word = self.scan(seat, own);
+            unheard.announce(word);
+        }
+    }
+
+    /// Whether a slot isn't known to be heard of all readers that have a word.
+    pub fn is_unheard(&self, unheard: &Unheard, slot: u32) -> bool
+        requires wide { 0 < self.now.announcers → slot < length unheard.now }
+        ensures none { self.now.announcers ≡ 0 → result ≡ false }
+        ensures flag { 0 < self.now.announcers → result ≡ is_unheard unheard.now slot }
+    {
+        self.announcers() > 0 && unheard.is_flagged(slot)
     }
 }

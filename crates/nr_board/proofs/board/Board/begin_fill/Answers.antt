@@ -17,14 +17,14 @@ pub returns-then-found : goal.returns-then-found
 returns-then-found g c = let looks = has_looked {before = c.args.seat.now} refl c.requires.own c.requires.rests c.requires.call c.look.ensures.leads
     c.look.ensures.marks c.look.ensures.heard in let word = c.look.result in let parts = c.parts-found.ensures.parts in
     let told = look_ends looks reply.Already (fill_already c.args.self.now.shape (desk_with c.args.spare.now Idle) c.args.key c.look.result c.args.number c.args.rows.now (filled_so word parts true c.if-found.true)) in
-    told
+    (told.0, told.1, told.1.1.2)
 
 pub returns-then-not-found : goal.returns-then-not-found
 returns-then-not-found g c = let looks = has_looked {before = c.args.seat.now} refl c.requires.own c.requires.rests c.requires.call
     c.look.ensures.leads c.look.ensures.marks c.look.ensures.heard in let word = c.look.result in let parts = c.parts-found.ensures.parts in
     let told = look_ends looks reply.NotAsked (fill_not_asked c.args.self.now.shape (desk_with c.args.spare.now Idle) c.args.key c.look.result
     c.args.number c.args.rows.now (filled_so word parts false c.if-found.false) (unasked_so word parts c.if-not-found.true)) in
-    told
+    (told.0, told.1, told.1.1.2)
 
 pub returns-then-from-number : goal.returns-then-from-number
 returns-then-from-number g c = let looks = has_looked {before = c.args.seat.now} refl c.requires.own c.requires.rests c.requires.call
@@ -32,7 +32,7 @@ returns-then-from-number g c = let looks = has_looked {before = c.args.seat.now}
     let stale = λ (own : slot_of word ≡ c.args.number). absurd (omega (arith, own, slot_so word parts, c.from.ensures, c.if-from-number.true)) in
     let told = look_ends looks reply.Stale (fill_stale c.args.self.now.shape (desk_with c.args.spare.now Idle) c.args.key c.look.result c.args.number
     c.args.rows.now (filled_so word parts false c.if-found.false) (asked_so word parts c.if-not-found.false) stale) in
-    told
+    (told.0, told.1, told.1.1.2)
 
 pub returns : goal.returns
 returns g c = let looks = has_looked {before = c.args.seat.now} refl c.requires.own c.requires.rests c.requires.call c.look.ensures.leads c.look.ensures.marks c.look.ensures.heard in let word = c.look.result in let parts = c.parts-found.ensures.parts in

@@ -16,7 +16,7 @@ pub returns-then-not-parts : goal.returns-then-not-parts
 returns-then-not-parts g c =
     let looks = has_looked {before = c.args.seat.now} refl c.requires.own c.requires.rests c.requires.call c.look.ensures.leads c.look.ensures.marks c.look.ensures.heard in
     let told = look_ends looks reply.Dropped (replace_dropped c.args.self.now.shape (desk_with c.args.spare.now Idle) c.args.key c.look.result c.args.rows.now (is_empty c.look.result c.parts.ensures.parts c.if-not-parts.true)) in
-    told
+    (told.0, told.1, told.1.1.2)
 
 pub returns : goal.returns
 returns g c =

@@ -1,8 +1,9 @@
-use Rattle.std.proofs.Common.{ap, refl, subst, sym}
+use Rattle.std.proofs.Common.{List, ap, refl, subst, sym, ℕ}
 use Rattle.nr_machine.specs.States.{key_of}
 use Rattle.nr_machine.specs.declared.calls.WriterCall.{WriterCall}
 use Rattle.nr_board.proofs.Waiting.{given_out, set_later}
 use Rattle.nr_board.proofs.WriterCalls.{has_lacked, has_published}
+use Rattle.nr_board.specs.Flags.{IsFlagged}
 use Rattle.nr_board.proofs.board.Board.fill_reclaiming.Goals as goal
 
 pub returns-in-Ok : goal.returns-in-Ok
@@ -11,3 +12,6 @@ returns-in-Ok g c = let begun = c.in_ok-begin_fill.ensures in let put = c.in-Ok.
 
 pub returns-in-Err : goal.returns-in-Err
 returns-in-Err g c = let told = has_lacked c.in_ok-begin_fill.ensures c.requires.call c.in-Err.ensures.publishes.0 in record { rests = told.0; flagged = c.in-Err.ensures.flagged; fills = (told.1, c.in-Err.ensures.publishes.1) }
+
+pub returns-in_err-begin_fill-clause-flagged : goal.returns-in_err-begin_fill-clause-flagged
+returns-in_err-begin_fill-clause-flagged g c = subst (λ (heard : List ℕ). IsFlagged c.args.self.now c.args.spare.now.retired heard c.args.unheard.now) (sym c.in_err-begin_fill.ensures.2) c.requires.flagged

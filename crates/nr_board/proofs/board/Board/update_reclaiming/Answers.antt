@@ -23,3 +23,6 @@ returns-in-Ok g c = let begun = c.in_ok-begin_update.ensures in let is = begun.3
 pub returns-in-Err : goal.returns-in-Err
 returns-in-Err g c = let begun = c.in_ok-begin_update.ensures in let is = begun.3 ∙ ap Ok (sym c.as_slice.ensures.value) in
     let told = has_not_updated begun.2 is c.requires.call c.requires.key c.in-Err.ensures.publishes.0 in record { rests = told.0; flagged = c.in-Err.ensures.flagged; updates = ((begun.1, c.as_slice.result.now, is, told.1.0, told.1.1), c.in-Err.ensures.publishes.1) }
+
+pub returns-in_err-begin_update-clause-flagged : goal.returns-in_err-begin_update-clause-flagged
+returns-in_err-begin_update-clause-flagged g c = subst (λ (heard : List ℕ). IsFlagged c.args.self.now c.args.spare.now.retired heard c.args.unheard.now) (sym c.in_err-begin_update.ensures.2) c.requires.flagged
