@@ -1,6 +1,6 @@
 -- The sets that stand in slots and those that were let go, call by call: a call that puts a set lets go of the one that its slot had, and a reap of the one that it gives out.
 use Rattle.std.proofs.Common.{Bool, List, [], ap, arith, cond, drop, eq-eqb, false, get_or, get_or-set_other, get_or-set_same, inl, inr, length, length-append, length-set, nat_eq, refl, set, subst, suc, sym, take, true, zero, ℕ, ⊎_elim, ◌++◌, ◌+◌, ◌<◌, ◌∙◌, ◌∷◌, ◌≡◌, ◌≤◌, ◌≢◌, ◌⊎◌}
-use Rattle.std.specs.Prelude.{Some, replicate}
+use Rattle.std.specs.Prelude.{◌||◌, Some, replicate}
 use Rattle.std.proofs.lemmas.Bool.{eqb-false, le-ltb, lt-ltb, ne_eqb}
 use Rattle.std.proofs.lemmas.List.{length-replicate, take_all}
 use lib.ListN.{get_elem?}
@@ -31,7 +31,7 @@ use Rattle.nr_board.specs.declared.answers.Evict.TheVariants as evict
 use Rattle.nr_board.specs.Callers.{Caller, Gains, Table, map_at_opening}
 use Rattle.nr_board.specs.Entries.{AreCallers, is_reading}
 use Rattle.nr_machine.specs.Spares.{Spare}
-use Rattle.nr_board.specs.Reaping.{waiting}
+use Rattle.nr_board.specs.Reaping.{ready_to, waits_by}
 use Rattle.nr_board.specs.WriterAnswers.{Publishes, Retires, RetiresOne}
 use Rattle.nr_map.specs.Reclaims.{CancelLeaves, EvictionLeaves, GatheredStands, HandedOutOnce, Ledger, LedgerStays, NobodyHoldsIt, NoSlotLeaves, OpeningBegins, QuietLeaves, ReapedOnce, StandsAfterReap, StandsYet, had_number, standing, unreaped}
 
@@ -209,9 +209,9 @@ gathered_stands_lem writer reader current slot holds = let placed = current.plac
 pub stands_after_reap_lem : {Room : Type 0} (shows : Room → List Row → Type 0) → StandsAfterReap shows
 stands_after_reap_lem shows old new before after reader = (
   λ reaps stands other.
-      subst (λ (c : Caller). StandsYet c reader) (sym reaps.8)
+      subst (λ (c : Caller). StandsYet c reader) (sym reaps.12)
       (λ slot holds. let was = stands slot holds in (was.0, was.1, get_or-set_other old.marks.reaped reaps.2.slot slot true false (λ same. other (holds ∙ ap (λ (n : ℕ). Some n) same)) ∙ was.2)),
-  λ held stands. subst (λ (c : Caller). StandsYet c reader) (sym held.3) stands,
+  λ held stands. subst (λ (c : Caller). StandsYet c reader) (sym held.8) stands,
   λ nothing stands. subst (λ (c : Caller). StandsYet c reader) (sym nothing.1) stands,
 )
 
@@ -324,26 +324,34 @@ handed_out_once_lem = ledger_goes_on
 
 -- A REAP
 
--- a slot whose set waits is retired, and was not reaped
-pub waits_there : (flags : List Bool) (retired held later : List Retired) (entry : Retired) → waiting flags retired ≡ held ++ entry ∷ later → (at : ℕ) × (get_elem? retired at ≡ some entry) × (get_or flags entry.slot false ≡ false)
-waits_there flags [] held later entry is = absurd (let size = ap length is in let longer = length-append held (entry ∷ later) in omega arith)
-waits_there flags (e ∷ retired) held later entry is =
-    let Goal : Type 0 = (at : ℕ) × (get_elem? (e ∷ retired) at ≡ some entry) × (get_or flags entry.slot false ≡ false) in
-    let deeper : (held' : List Retired) → waiting flags retired ≡ held' ++ entry ∷ later → Goal = λ held' rest. let t = waits_there flags retired held' later entry rest in (suc t.0, t.1, t.2) in
-    by_cases (λ (b : Bool). get_or flags e.slot false ≡ b → cond {A = List Retired} b (waiting flags retired) (e ∷ waiting flags retired) ≡ held ++ entry ∷ later → Goal) (get_or flags e.slot false)
+-- a slot that waits is retired, and not passed by
+waits_there : (passes : ℕ → Bool) (retired held later : List Retired) (entry : Retired) → waits_by passes retired ≡ held ++ entry ∷ later → (at : ℕ) × (get_elem? retired at ≡ some entry) × (passes entry.slot ≡ false)
+waits_there passes [] held later entry is = absurd (let size = ap length is in let longer = length-append held (entry ∷ later) in omega arith)
+waits_there passes (e ∷ retired) held later entry is =
+    let Goal : Type 0 = (at : ℕ) × (get_elem? (e ∷ retired) at ≡ some entry) × (passes entry.slot ≡ false) in
+    let deeper : (held' : List Retired) → waits_by passes retired ≡ held' ++ entry ∷ later → Goal = λ held' rest. let t = waits_there passes retired held' later entry rest in (suc t.0, t.1, t.2) in
+    by_cases (λ (b : Bool). passes e.slot ≡ b → cond {A = List Retired} b (waits_by passes retired) (e ∷ waits_by passes retired) ≡ held ++ entry ∷ later → Goal) (passes e.slot)
     (λ _ _ rest. deeper held rest)
     (λ _ kept rest. here held rest kept deeper) refl is
   where
-    here : (held : List Retired) → e ∷ waiting flags retired ≡ held ++ entry ∷ later → get_or flags e.slot false ≡ false
-        → ((held' : List Retired) → waiting flags retired ≡ held' ++ entry ∷ later → (at : ℕ) × (get_elem? (e ∷ retired) at ≡ some entry)
-        × (get_or flags entry.slot false ≡ false))
-        → (at : ℕ) × (get_elem? (e ∷ retired) at ≡ some entry) × (get_or flags entry.slot false ≡ false)
-    here [] rest kept deeper = let same : e ≡ entry = some-injective e entry (ap (λ (l : List Retired). get_elem? l 0) rest) in (0, ap some same, ap (λ (x : Retired). get_or flags x.slot false) (sym same) ∙ kept)
+    here : (held : List Retired) → e ∷ waits_by passes retired ≡ held ++ entry ∷ later → passes e.slot ≡ false
+        → ((held' : List Retired) → waits_by passes retired ≡ held' ++ entry ∷ later → (at : ℕ) × (get_elem? (e ∷ retired) at ≡ some entry)
+        × (passes entry.slot ≡ false))
+        → (at : ℕ) × (get_elem? (e ∷ retired) at ≡ some entry) × (passes entry.slot ≡ false)
+    here [] rest kept deeper = let same : e ≡ entry = some-injective e entry (ap (λ (l : List Retired). get_elem? l 0) rest) in (0, ap some same, ap (λ (x : Retired). passes x.slot) (sym same) ∙ kept)
     here (h ∷ held) rest kept deeper = deeper held (ap (drop 1) rest)
 
+-- a slot whose set is ready to be reaped was not reaped
+pub ready_there : (old : Caller) (scanned : List ℕ) (held later : List Retired) (entry : Retired) → ready_to old scanned ≡ held ++ entry ∷ later → (at : ℕ) × (get_elem? old.retired at ≡ some entry) × (get_or old.marks.reaped entry.slot false ≡ false)
+ready_there old scanned held later entry is = let there = waits_there _ old.retired held later entry is in (there.0, there.1, first_of (get_or old.marks.reaped entry.slot false) _ there.2)
+  where
+    first_of : (a b : Bool) → (a || b) ≡ false → a ≡ false
+    first_of true b clash = absurd (cc)
+    first_of false b is = refl
+
 pub reaped_once_lem : ReapedOnce
-reaped_once_lem held later entry notes steps old new gone waits is ledger =
-    let there = waits_there old.marks.reaped old.retired held later entry waits in let slot : ℕ = entry.slot in let puts = old.marks.puts in let n : ℕ = get_or puts slot 0 in
+reaped_once_lem held later entry notes steps scanned old new gone waits is ledger =
+    let there = ready_there old scanned held later entry waits in let slot : ℕ = entry.slot in let puts = old.marks.puts in let n : ℕ = get_or puts slot 0 in
     let low = ledger.taken slot (inr (there.0, entry, there.1, refl)) in let size = length_take puts old.fresh (omega (arith, ledger.slots.0, ledger.slots.1)) in
     let counts : (number : ℕ) → count_of_put (unreaped (take old.fresh puts) (set old.marks.reaped slot true)) number + count_of_put (gone ++ n ∷ []) number ≡ count_of_put (standing old) number + count_of_put gone number
     = λ number. omega (

@@ -14,3 +14,4 @@ pub mod Ledgers
 pub mod Remainders
 pub mod GivenBack
 pub mod SlotCounting
+pub mod Evictions

@@ -20,7 +20,7 @@ use Rattle.nr_map.specs.ExactPlaces.{DoneMeansFewerInUse, NoSlotMeansAllInUse}
 use Rattle.nr_board.specs.Meetings.{desk_seen}
 
 pub no_slot_lem : NoSlotByMarks → NoSlotMeansAllInUse
-no_slot_lem law steps call counts old new after readers all known without learnt gathered =
+no_slot_lem law steps call counts old new after readers all known counted without learnt gathered =
     let shape = after.table.shape in let lacks = without.lacks in let lists = gathered.lists in
     let table : after.table ≡ old.table = learnt.table ∙ without.grows.table in
     let readers_are : shape.readers ≡ old.table.shape.readers = ap (λ (t : Table). t.shape.readers) table in
@@ -29,8 +29,8 @@ no_slot_lem law steps call counts old new after readers all known without learnt
     law shape (desk_seen after) after.marks after.seen old.pasts readers
     (subst (λ (n : ℕ). AllReaders n readers) (sym readers_are) all)
     known
-    (subst (λ (p : Shape × List Past). Noted p.0 old.pasts p.1) (λ j. ((sym table j).shape, (sym learnt.marks j).polls)) without.noted)
-    (subst (λ (p : List Retired × Marks). AllHeld p.0 p.1.polls) (λ j. (sym learnt.retired j, sym learnt.marks j)) lacks.polled)
+    (subst (λ (p : Shape × List Past). Noted p.0 old.pasts p.1) (λ j. ((sym table j).shape, (sym learnt.marks j).polls)) (without.noted counted))
+    (subst (λ (p : List Retired × Marks). AllHeld p.0 p.1.polls) (λ j. (sym learnt.retired j, sym learnt.marks j)) (lacks.polled (ap (λ (t : Table). t.announcers) without.grows.table ∙ counted)))
     lists gathered.current (let room = lists.room in omega arith)
 
 -- the number of the set that a call put is none of those before the call

@@ -28,12 +28,13 @@ pub record HasGathered (writer : Caller) (readers : List Past) : Type 0 where
 abbrev pub in_use : Caller → List Past → ℕ
 in_use writer readers = slots_in_use writer.table.shape writer.seen readers
 
--- The writer knew how all readers are, its call found no slot, and it gathered them again, unchanged: all slots are in use.
+-- No reader has a word. The writer knew how all readers are, its call found no slot, and it gathered them again, unchanged: all slots are in use.
 abbrev pub NoSlotMeansAllInUse : Type 0
 NoSlotMeansAllInUse =
     (steps : ℕ) (call : Call) (counts : NoSlot) (old new after : Caller) (readers : List Past) →
     AllReaders old.table.shape.readers readers →
     AllKnown old.pasts readers →
+    old.table.announcers ≡ 0 →
     HasNoSlot steps old call counts new →
     OnlyLearnt new after →
     HasGathered after readers →

@@ -15,7 +15,7 @@ use Rattle.nr_board.specs.declared.answers.Cancel.{Cancel}
 use Rattle.nr_board.specs.declared.answers.Evict.{Evict}
 use Rattle.nr_board.specs.Callers.{Caller, Gains, Table}
 use Rattle.nr_board.specs.declared.answers.Reaped.TheVariants as reaped
-use Rattle.nr_board.specs.Reaping.{ReapsIn, after_polls, waiting, with_reap}
+use Rattle.nr_board.specs.Reaping.{ReapsIn, after_polls, hearing, ready_to, with_reap}
 use Rattle.nr_board.specs.WriterAnswers.{CancelsKey, EvictsKey, HasNoSlot, Publishes, SlotsStay}
 use Rattle.nr_map.specs.Opened.{IsOpened}
 
@@ -53,9 +53,9 @@ HandedOutOnce =
 -- a reap lets go of the set that it gives out
 abbrev pub ReapedOnce : Type 0
 ReapedOnce =
-    (held later : List Retired) (entry : Retired) (notes : List Past) (steps : ℕ) (old new : Caller) (gone : List ℕ) →
-    waiting old.marks.reaped old.retired ≡ held ++ entry ∷ later →
-    new ≡ with_reap entry.slot (after_polls notes steps old) →
+    (held later : List Retired) (entry : Retired) (notes : List Past) (steps : ℕ) (scanned : List ℕ) (old new : Caller) (gone : List ℕ) →
+    ready_to old scanned ≡ held ++ entry ∷ later →
+    new ≡ hearing scanned (with_reap entry.slot (after_polls notes steps old)) →
     Ledger old gone →
     Ledger new (gone ++ slice_index old.marks.puts entry.slot ∷ [])
 

@@ -9,18 +9,19 @@ use Rattle.nr_board.specs.declared.answers.ReplaceFault.TheVariants as replace
 use Rattle.nr_board.specs.declared.answers.UpdateFault.TheVariants as update
 use Rattle.nr_board.specs.WriterAnswers.{FillsKey, HasNoSlot, Publishes, ReplacesKey, UpdatesKey}
 use Rattle.nr_board.specs.Callers.{Caller, Table}
+use Rattle.nr_board.specs.Spares.{AreFewSteps}
 
 -- the map has a slot for each key, each reader and one more
 abbrev pub HasRoomForAll : Table → Type 0
 HasRoomForAll map = map.shape.keys + map.shape.readers + 1 ≤ map.shape.slots
 
--- a call that was done polled at most one slot more than there are readers
-abbrev pub PollsAreFew : Type 0
-PollsAreFew =
+-- a call that was done searched in few steps: without a word it polled at most one slot more than there are readers
+abbrev pub SearchesAreShort : Type 0
+SearchesAreShort =
     (steps : ℕ) (call : Call) (rows : List Row) (old new : Caller) (published : Publishes steps old call rows new) →
-    published.polls ≤ old.table.shape.readers + 1
+    AreFewSteps old.table published.searched
 
--- a call that found no slot polled no more than there are readers, and each held one; where the map has room for all, it finds one
+-- a call that found no slot had no more retired slots than there are readers, each of which kept one back; where the map has room for all, it finds one
 abbrev pub NoSlotIsRare : Type 0
 NoSlotIsRare =
     (steps : ℕ) (call : Call) (counts : NoSlot) (old new : Caller) →

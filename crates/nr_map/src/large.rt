@@ -1,7 +1,7 @@
 //! Maps that are larger than those of scripts.
 ghost use Rattle.std.specs.Prelude.{◌≡◌, ◌↔◌, IfOk, Err};
 ghost use Rattle.nr_machine.specs.Sizes.{IsBadLargeShape};
-ghost use Rattle.nr_map.specs.Opened.{IsOpened, words_of_large};
+ghost use Rattle.nr_map.specs.Opened.{IsOpened};
 
 use crate::reader::Reader;
 use crate::reader_map::{ReaderMap, seated};
@@ -12,18 +12,19 @@ use std::alloc::Global;
 
 impl ReaderMap {
     /// A map of that shape with its tokens, as `open_with`, for programs that need more: 1 to
-    /// 4,294,967,295 keys, also more than slots, 1 to 4,194,303 slots, and 1 to 65,535 readers. What is
-    /// out of these limits is refused first, and then want of memory.
+    /// 4,294,967,295 keys, also more than slots, 1 to 4,194,303 slots, and 1 to 65,535 readers. Each
+    /// reader has a word of its own, and finds by it. What is out of these limits is refused first,
+    /// and then want of memory.
     pub fn open_large(
         alloc: Global,
         shape: &Shape,
     ) -> Result<(ReaderMap, Writer, Vec<Reader>), OpenFault>
         ensures bad_size { (result ≡ Err OpenFault.BadSize) ↔ IsBadLargeShape shape.now }
-        ensures ok { IfOk result (λ opened. IsOpened shape.now (words_of_large shape.now) opened.0 opened.1 opened.2.items) }
+        ensures ok { IfOk result (λ opened. IsOpened shape.now shape.now.readers opened.0 opened.1 opened.2.items) }
     {
         if shape.is_bad_large() {
             return Err(OpenFault::BadSize);
         }
-        seated(alloc, *shape, 0).map_err(|_| OpenFault::Memory)
+        seated(alloc, *shape, shape.readers).map_err(|_| OpenFault::Memory)
     }
 }

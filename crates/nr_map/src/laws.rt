@@ -2,7 +2,7 @@
 ghost use Rattle.nr_map.specs.Answers.{FindsByCounts};
 ghost use Rattle.nr_map.specs.ExactPlaces.{DoneMeansFewerInUse, NoSlotMeansAllInUse};
 ghost use Rattle.nr_map.specs.Written.{FindsWhatItHeard, FindsWritten, HearsAllCalls, ReadsNoOlder};
-ghost use Rattle.nr_map.specs.SlotBounds.{NoSlotIsRare, PollsAreFew, RoomForFills, RoomForReplacements, RoomForUpdates};
+ghost use Rattle.nr_map.specs.SlotBounds.{NoSlotIsRare, SearchesAreShort, RoomForFills, RoomForReplacements, RoomForUpdates};
 ghost use Rattle.nr_map.specs.SlotCounts.{CountsAtNoSlot};
 ghost use Rattle.nr_map.specs.Reclaims.{CancelLeaves, EvictionLeaves, GatheredStands, HandedOutOnce, LedgerStays, NobodyHoldsIt, NoSlotLeaves, OpeningBegins, QuietLeaves, ReapedOnce, StandsAfterReap};
 ghost use Rattle.nr_map.specs.GivenBack.{EachSetComesOutOnce};
@@ -52,7 +52,7 @@ pub fn beginnings_meet()
     ensures { BeginningsMeet }
 {}
 
-/// Where the writer knows how all readers are, and gathers them again after a call that found no
+/// Where no reader has a word of its own, and the writer knows how all readers are, and gathers them again after a call that found no
 /// slot, the filled keys and the different pinned put numbers that no key has are all the slots.
 pub fn no_slot_means_all_in_use()
     ensures { NoSlotMeansAllInUse }
@@ -67,9 +67,10 @@ pub fn done_means_fewer_in_use()
     nr_marks::laws::done_by_marks();
 }
 
-/// A fill or an update that is done polls at most one slot more than there are readers.
-pub fn polls_are_few()
-    ensures { PollsAreFew }
+/// A fill or an update that is done searches in few steps: where no reader has a word of its own, it
+/// polls at most one slot more than there are readers.
+pub fn searches_are_short()
+    ensures { SearchesAreShort }
 {}
 
 /// One that finds no slot polls no more slots than there are readers, and `held` is at most that.

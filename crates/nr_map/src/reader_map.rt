@@ -114,13 +114,12 @@ pub(crate) fn seated(
     requires sizes { IsShape shape }
     requires keys { 0 < shape.keys }
     requires few { announcers ≤ shape.readers }
-    requires counted { announcers ≡ 0 }
     ensures { IfOk result (λ opened. IsOpened shape announcers opened.0 opened.1 opened.2.items) }
 {
     let plan = Plan { shape, announcers };
     let (board, mut seat) = Board::open(alloc, plan)?;
     let readers = seat_readers(alloc, &board, &mut seat, shape.readers)?;
-    let writer = Writer::of_seat(alloc, seat, &shape)?;
+    let writer = Writer::of_seat(alloc, seat, &shape, announcers)?;
     Ok((ReaderMap { board }, writer, readers))
 }
 

@@ -36,6 +36,7 @@ impl ReaderMap {
         self.board.fill_reclaiming::<Brand, R>(
             &mut writer.seat,
             &mut writer.spare,
+            &mut writer.unheard,
             key,
             number,
             rows,
@@ -60,6 +61,7 @@ impl ReaderMap {
         self.board.update_reclaiming::<Brand, R>(
             &mut writer.seat,
             &mut writer.spare,
+            &mut writer.unheard,
             &mut writer.pile,
             key,
             deltas,
@@ -81,8 +83,14 @@ impl ReaderMap {
         requires row_set { IsRowSet self.now.shape.rows rows.now }
         ensures { ReplacesReclaiming R.shows key rows.now writer.old had.old writer.new had.new result }
     {
-        self.board
-            .replace_reclaiming::<Brand, R>(&mut writer.seat, &mut writer.spare, key, rows, had)
+        self.board.replace_reclaiming::<Brand, R>(
+            &mut writer.seat,
+            &mut writer.spare,
+            &mut writer.unheard,
+            key,
+            rows,
+            had,
+        )
     }
 
     /// Writes a retired set into `had` before its slot is taken again: the oldest that waits and that
@@ -93,7 +101,11 @@ impl ReaderMap {
         requires own { writer.old.table ≡ self.now }
         ensures { ReapsIn R.shows writer.old had.old writer.new had.new result }
     {
-        self.board
-            .reap::<R>(&mut writer.seat, &mut writer.spare, had)
+        self.board.reap::<R>(
+            &mut writer.seat,
+            &mut writer.spare,
+            &mut writer.unheard,
+            had,
+        )
     }
 }

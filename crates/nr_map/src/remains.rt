@@ -74,6 +74,7 @@ impl ReaderMap {
         let Writer {
             seat,
             spare,
+            unheard: _,
             pile: _,
         } = writer;
         Rest {

@@ -5,7 +5,7 @@ ghost use Rattle.nr_machine.specs.States.{opening_desk};
 ghost use Rattle.nr_machine.specs.declared.roles.Role.TheVariants.{Writer as writer_role};
 ghost use Rattle.nr_board.specs.Callers.{KnowsOwn, token};
 
-use nr_board::Seat;
+use nr_board::{Seat, Unheard};
 use nr_core::{Shape, Spare};
 use nr_model::Pile;
 use std::alloc::{AllocError, Global};
@@ -16,6 +16,7 @@ use std::marker::Model;
 pub struct Writer {
     pub(crate) seat: Seat,
     pub(crate) spare: Spare,
+    pub(crate) unheard: Unheard,
     /// The rows on which an update works, written anew by each.
     pub(crate) pile: Pile,
 }
@@ -25,27 +26,41 @@ impl Model for Writer {
 
     ghost Value = { Caller };
 
+    ghost use Rattle.nr_board.specs.Flags.{IsFlagged};
     ghost use Rattle.nr_board.specs.WriterSeats.{RestsAt};
 
     ghost view = { λ writer. token writer.seat };
 
-    ghost invariant = { λ writer. RestsAt (token writer.seat).table writer.spare writer.seat };
+    ghost invariant = { λ writer. RestsAt (token writer.seat).table writer.spare writer.seat × IsFlagged (token writer.seat).table writer.spare.retired (token writer.seat).heard writer.unheard };
 }
 
 impl Writer {
-    /// The writer of a new map of that shape.
-    pub(crate) fn of_seat(alloc: Global, seat: Seat, shape: &Shape) -> Result<Writer, AllocError>
+    /// The writer of a new map of that shape, of whose readers that many have a word of their own.
+    pub(crate) fn of_seat(
+        alloc: Global,
+        seat: Seat,
+        shape: &Shape,
+        announcers: u32,
+    ) -> Result<Writer, AllocError>
         requires sizes { IsShape shape.now }
         requires role { seat.me.0.role ≡ writer_role (opening_desk shape.now) }
         requires shape { seat.me.0.shape ≡ shape.now }
         requires new { seat.me.0.seen ≡ [] }
-        requires counted { seat.me.0.announcers ≡ 0 }
+        requires announcers { seat.me.0.announcers ≡ announcers }
+        requires none_heard { seat.me.0.heard ≡ replicate shape.now.slots 0 }
         requires own { KnowsOwn (token seat) }
         requires none_reaped { seat.me.0.marks.reaped ≡ replicate shape.now.slots false }
         ensures { IfOk result (λ writer. writer ≡ token seat) }
     {
         let spare = Spare::open(alloc, shape)?;
+        let flags = if announcers == 0 { 0 } else { shape.slots };
+        let unheard = Unheard::open(alloc, flags)?;
         let pile = Pile::new();
-        Ok(Writer { seat, spare, pile })
+        Ok(Writer {
+            seat,
+            spare,
+            unheard,
+            pile,
+        })
     }
 }

@@ -70,8 +70,14 @@ impl ReaderMap {
         requires row_set { IsRowSet self.now.shape.rows rows.now }
         ensures { FillsKey key number rows.now writer.old writer.new result }
     {
-        self.board
-            .fill_key::<Brand>(&mut writer.seat, &mut writer.spare, key, number, rows)
+        self.board.fill_key::<Brand>(
+            &mut writer.seat,
+            &mut writer.spare,
+            &mut writer.unheard,
+            key,
+            number,
+            rows,
+        )
     }
 
     /// Applies a batch to the set of a filled key, whole or not at all. Refused where the key is not
@@ -104,6 +110,7 @@ impl ReaderMap {
         self.board.update_key::<Brand>(
             &mut writer.seat,
             &mut writer.spare,
+            &mut writer.unheard,
             &mut writer.pile,
             key,
             deltas,
@@ -136,8 +143,13 @@ impl ReaderMap {
         requires row_set { IsRowSet self.now.shape.rows rows.now }
         ensures { ReplacesKey key rows.now writer.old writer.new result }
     {
-        self.board
-            .replace_key::<Brand>(&mut writer.seat, &mut writer.spare, key, rows)
+        self.board.replace_key::<Brand>(
+            &mut writer.seat,
+            &mut writer.spare,
+            &mut writer.unheard,
+            key,
+            rows,
+        )
     }
 
     /// Makes a filled key a hole, which keeps its ticket number. Takes 2 steps, and 1 where the key
