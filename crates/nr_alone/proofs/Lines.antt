@@ -168,7 +168,7 @@ module _ (laws : Laws) (table : Table) (w0 : Caller) (tokens0 : List ReaderToken
       (subst (λ (l : List Entry). slots_in_use g.mid.table.shape l (map how_of tokens0) ≡ g.mid.table.shape.slots) same
       (laws.no_slot steps call counts w0 w g.mid (map how_of tokens0)
       (subst (λ (t : Table). AllReaders t.shape.readers (map how_of tokens0)) (sym alone.stands.own) (all_readers table w0 tokens0 alone))
-      (all_known table w0 tokens0 alone) lacks only (record { lists = g.sound.lists; current = current_mid }))))
+      (all_known table w0 tokens0 alone) (ap (λ (t : Table). t.announcers) alone.stands.own ∙ alone.stands.counted) lacks only (record { lists = g.sound.lists; current = current_mid }))))
 
   -- the writer had seen no more than the history
   pub had_just : (steps : ℕ) → Grows steps w0 es w → 0 < length es → w0.seen ≡ log

@@ -88,6 +88,7 @@ module _ (laws : Laws) (shape : Shape) (table : Table) (w : Caller) (readers : L
     number = ap (λ (c : Caller). c.number) new.writes;
     count = size ∙ ap (λ (s : Shape). s.readers) (sym new.sizes);
     some_one = omega (arith, size, some);
+    counted = new.words_are;
     just = λ caller. ap (λ (l : List Entry). entries_of l caller) log_none ∙ sym (calls_none caller);
   }) line g
 

@@ -118,7 +118,7 @@ module _ (laws : Laws) (table : Table) (w0 : Caller) (tokens0 : List ReaderToken
   pub settled : SettlesLine table w0 tokens0 tokens es g.mid.seen w' tokens'
   settled = record {
     alone = record {
-      stands = record { own = own; number = number; count = count; some_one = omega (arith, size, some_one); just = subst (λ (l : List Entry). HasJust l w' tokens') (sym log_now) just };
+      stands = record { counted = alone.counted; own = own; number = number; count = count; some_one = omega (arith, size, some_one); just = subst (λ (l : List Entry). HasJust l w' tokens') (sym log_now) just };
       places = places;
       sound = g.round.sound;
       known = λ at other low. let shown = g.round.each at other (omega (arith, size, low)) in record {

@@ -60,6 +60,8 @@ pub record ReadyForRound (table : Table) (writer : Caller) (tokens : List Reader
   pub count : length tokens ≡ table.shape.readers
   pub some_one : 0 < length tokens
   pub just : HasJust (log_of writer tokens) writer tokens
+  -- readers find by counts
+  pub counted : table.announcers ≡ 0
 
 -- between two lines the writer knows too how each reader is, and each reader what was called
 pub record IsAlone (table : Table) (writer : Caller) (tokens : List ReaderToken) : Type 0 where
