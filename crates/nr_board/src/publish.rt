@@ -163,8 +163,9 @@ impl Board {
         self.put_rows::<G>(seat, rows, taken);
         let named = self.publish(seat, key, taken.slot, taken.departures);
         spare.retire(named);
-        spare.set_reaped(taken.slot, false);
-        unheard.flag(taken.slot);
+        let slot = taken.slot;
+        spare.set_reaped(slot, false);
+        unheard.flag(slot);
         Ok(given)
     }
 

@@ -110,9 +110,9 @@ impl Board {
         ensures flagged { Flagged self.now spare.now.retired seat.new.me.0.heard unheard.new }
     {
         unheard.clear_retired(spare);
-        for own in 0..self.announcers() {
-            let word = self.scan(seat, own);
-            unheard.announce(word);
+        for reader in 0..self.announcers() {
+            let said = self.scan(seat, reader);
+            unheard.announce(said);
         }
     }
 

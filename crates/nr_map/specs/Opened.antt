@@ -21,6 +21,10 @@ pub record Seated (table : Table) (seat : Seat (Unit {0}) View) (readers : List 
   pub count : length readers ≡ made
   pub reads : (place : ℕ) → place < made → slice_get readers place ≡ Some (newcomer table (place + 1) no_marks)
 
+-- how many readers of a map that is opened as a large one have a word of their own
+abbrev pub words_of_large : Shape → ℕ
+words_of_large shape = shape.readers
+
 -- the map has its sizes, and so many of its readers have a word of their own; the writer and the readers, in the order of their numbers, are its newcomers; each key has the first number
 pub record IsOpened (shape : Shape) (words : ℕ) (map : Table) (writer : Caller) (readers : List Caller) : Type 0 where
   pub sizes : map.shape ≡ shape

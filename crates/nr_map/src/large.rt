@@ -1,7 +1,7 @@
 //! Maps that are larger than those of scripts.
 ghost use Rattle.std.specs.Prelude.{◌≡◌, ◌↔◌, IfOk, Err};
 ghost use Rattle.nr_machine.specs.Sizes.{IsBadLargeShape};
-ghost use Rattle.nr_map.specs.Opened.{IsOpened};
+ghost use Rattle.nr_map.specs.Opened.{IsOpened, words_of_large};
 
 use crate::reader::Reader;
 use crate::reader_map::{ReaderMap, seated};
@@ -20,7 +20,7 @@ impl ReaderMap {
         shape: &Shape,
     ) -> Result<(ReaderMap, Writer, Vec<Reader>), OpenFault>
         ensures bad_size { (result ≡ Err OpenFault.BadSize) ↔ IsBadLargeShape shape.now }
-        ensures ok { IfOk result (λ opened. IsOpened shape.now shape.now.readers opened.0 opened.1 opened.2.items) }
+        ensures ok { IfOk result (λ opened. IsOpened shape.now (words_of_large shape.now) opened.0 opened.1 opened.2.items) }
     {
         if shape.is_bad_large() {
             return Err(OpenFault::BadSize);

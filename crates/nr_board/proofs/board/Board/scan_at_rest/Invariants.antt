@@ -1,5 +1,5 @@
 use Rattle.nr_board.proofs.WholeScans.{RestingScan}
 use Rattle.nr_board.proofs.board.Board.scan_at_rest.Given as goal
 
-abbrev pub invariant-loop-own : goal.invariant-loop-own
-invariant-loop-own l = RestingScan l.self l.fn.spare l.fn.seat l.seat l.unheard l.own
+abbrev pub invariant-loop-reader : goal.invariant-loop-reader
+invariant-loop-reader l = RestingScan l.self l.fn.spare l.fn.seat l.seat l.unheard l.reader
