@@ -229,9 +229,10 @@ typedef struct nr_poster {
    Both are from embed/c/wait.c, a whole program whose dataflow also sleeps while nothing is posted.
    No slot. Nothing has changed. After NR_NO_SLOT have readers release what they hold, or evict a key; after
    NR_ALL_FILLED evict a key. Then repeat the call. nr_stats counts the slots of either kind.
-   Hot keys. Number keys that are hot together at least eight apart: each find writes its key's word, and eight
-   neighbours share a cache line. A reader of its own for one hot key finds it by nr_find_kept, which writes nothing
-   while the key keeps its set.
+   Hot keys. A find writes a word of its reader's own, and nothing that readers share. A reader of its own for one hot
+   key finds it by nr_find_kept, which writes nothing while the key keeps its set.
+   Slots. With keys + readers + 1 slots no write lacks one. Where many readers hold sets for long, each write then
+   loads every reader's word to find a slot: open keys + 2 readers.
    Preloading. To fill keys before anybody reads, request each by a reader (nr_ask), and fill it by the ticket
    number that nr_ask tells.
    Large maps. With GLIBC_TUNABLES=glibc.malloc.hugetlb=1 in the environment glibc from 2.35 on asks for huge pages,
@@ -290,8 +291,9 @@ void nr_close_remains(nr_remains *remains);
    nr_row_at, nr_copy, nr_again and nr_release NR_NOT_HOLDING if it holds none. Then there was no step, and nothing has
    changed. */
 
-/* Looks a key up. NR_ROWS after 2n + 3 steps for n rows, and `rows` has them; NR_HOLE after 1 step, and `rows` stays as
-   it was. */
+/* Looks a key up. NR_ROWS after 2n + 5 steps for n rows, and `rows` has them; NR_HOLE after 1 step, and `rows` stays as
+   it was. If the writer put the key's set anew meanwhile, NR_ROWS comes after 2 or 4 steps more, and NR_HOLE after 4, 6
+   or 7. */
 uint32_t nr_find(nr_reader *reader, uint32_t key, nr_rows *rows);
 
 /* Looks n keys up in their order, as nr_find does one, even if a key is wanted twice. NR_DONE, and each has its answer
@@ -306,8 +308,8 @@ uint32_t nr_find_each(nr_reader *reader, nr_wanted *wanted, size_t n);
 uint32_t nr_ask(nr_reader *reader, uint32_t key, uint64_t *number);
 
 /* Finds a key and holds its set. The set stays as it is, and its slot isn't used again, until the reader releases it,
-   whatever the writer does meanwhile. NR_ROWS after 2 steps, and `count` is the number of rows; NR_HOLE after 1, and
-   the reader holds nothing and `count` stays as it was. */
+   whatever the writer does meanwhile. NR_ROWS after 4 steps, and `count` is the number of rows; NR_HOLE after 1, and
+   the reader holds nothing and `count` stays as it was; or more, as of nr_find. */
 uint32_t nr_pin(nr_reader *reader, uint32_t key, uint32_t *count);
 
 /* The row at index `place` of the held set, from 0, in 2 steps: NR_ROWS. NR_NO_ROW without a step if the set has no
@@ -323,8 +325,8 @@ uint32_t nr_copy(nr_reader *reader, nr_rows *rows);
 uint32_t nr_again(nr_reader *reader, uint32_t key);
 
 /* As nr_find, but the reader holds the set for the next call. If the key still has the set that the reader holds,
-   NR_ROWS after 2n + 1 steps, which write no word. Otherwise the reader releases what it held, in 2 steps, and finds
-   the key: NR_ROWS after 2n + 2 steps; NR_HOLE after 1, and it holds nothing and `rows` stays as it was. No write uses
+   NR_ROWS after 2n + 1 steps, which write no word. Otherwise it finds the key: NR_ROWS after 2n + 4 steps, or more, as
+   of nr_find; NR_HOLE after 1, or 3 if it held a set, and it holds nothing and `rows` stays as it was. No write uses
    the slot of a held set again, so release a reader that finds nothing for a while. */
 uint32_t nr_find_kept(nr_reader *reader, uint32_t key, nr_rows *rows);
 
@@ -341,20 +343,21 @@ uint32_t nr_look(nr_writer *writer, uint32_t key, nr_rows *rows);
 
 /* Fills a key that was asked for, by its request's ticket number, with n rows in ascending order; duplicates stay.
    NR_TOO_MANY and NR_NOT_SORTED without a step; NR_NOT_ASKED, NR_ALREADY or NR_STALE after 1; NR_DONE after 2n + 3
-   and a poll of each slot that it tried, at most one more than there are readers; NR_NO_SLOT or NR_ALL_FILLED after 1
-   and the polls. A poll is 1 step. Owed: use each answer to a request once. An eviction keeps the key's ticket number,
+   and its search for a slot; NR_NO_SLOT or NR_ALL_FILLED after 1 and the search. A search polls slots, in 1 step each,
+   and if all are held it loads each reader's word once, and polls once more: at most 3 readers + 1 steps. Owed: use
+   each answer to a request once. An eviction keeps the key's ticket number,
    so an answer used twice would fill a later request with old rows, and nothing notices. */
 uint32_t nr_fill(nr_writer *writer, uint32_t key, uint64_t number, const nr_row *rows, size_t n);
 
 /* Applies 1 to 64 signed rows to the rows of a filled key, whole or not at all. It adds rows before it takes any away,
    and tests only the result for more rows than a key may have. NR_BAD_BATCH without a step; NR_DROPPED after 1; with o
-   rows before and n after, NR_NO_ROW or NR_TOO_MANY after 2o + 2, NR_DONE after 2o + 2n + 4 and the polls, NR_NO_SLOT
-   or NR_ALL_FILLED after 2o + 2 and the polls. */
+   rows before and n after, NR_NO_ROW or NR_TOO_MANY after 2o + 2, NR_DONE after 2o + 2n + 4 and the search, NR_NO_SLOT
+   or NR_ALL_FILLED after 2o + 2 and the search. */
 uint32_t nr_update(nr_writer *writer, uint32_t key, const nr_delta *deltas, size_t n);
 
 /* Replaces all rows of a filled key at once by n rows in ascending order, without reading the old ones.
-   NR_TOO_MANY and NR_NOT_SORTED without a step; NR_DROPPED after 1; NR_DONE after 2n + 3 and the polls; NR_NO_SLOT or
-   NR_ALL_FILLED after 1 and the polls. */
+   NR_TOO_MANY and NR_NOT_SORTED without a step; NR_DROPPED after 1; NR_DONE after 2n + 3 and the search; NR_NO_SLOT or
+   NR_ALL_FILLED after 1 and the search. */
 uint32_t nr_replace(nr_writer *writer, uint32_t key, const nr_row *rows, size_t n);
 
 /* As nr_fill, nr_update and nr_replace, but each also gives out the set that its slot had, which no key has and no
@@ -366,8 +369,8 @@ uint32_t nr_update_reclaiming(nr_writer *writer, uint32_t key, const nr_delta *d
 uint32_t nr_replace_reclaiming(nr_writer *writer, uint32_t key, const nr_row *rows, size_t n, nr_rows *had);
 
 /* Gives out a set that no key has any more, before a write takes its slot again: the oldest that waits and that no
-   reader holds. NR_GIVEN after a poll of each that waits, oldest first, up to that one, and 2m + 1 steps for its m
-   rows; NR_HELD after the polls; NR_NOTHING without a step, if no set waits. Any answer but NR_GIVEN leaves `had` as it
+   reader holds. NR_GIVEN after a search of those that wait, oldest first, up to that one, and 2m + 1 steps for its m
+   rows; NR_HELD after the search; NR_NOTHING without a step, if no set waits. Any answer but NR_GIVEN leaves `had` as it
    was. */
 uint32_t nr_reap(nr_writer *writer, nr_rows *had);
 
