@@ -3,6 +3,7 @@ ghost use Rattle.std.specs.Prelude.{◌≡◌, ◌<◌, All, IfSome, length};
 ghost use Rattle.nr_held.specs.Caches.{AreOf, IsOf};
 
 use crate::calls::{Told, ask, fill, rows_of};
+use crate::worked::next;
 use nr_held::Cache;
 use nr_map::{Found, Hand, MAX_LARGE_READERS, Reader, ReaderMap, Shape, Writer};
 use nr_model::RowSet;
@@ -81,11 +82,8 @@ fn the_largest_cache_finds(rt: HostRuntime) {
         first_number: 0,
         rows: 1,
     };
-    let Ok((map, writer, mut readers)) = ReaderMap::open_large(rt.alloc(), &shape) else {
-        panic!(rt; "the map does not open")
-    };
-    match readers.pop() {
-        Some(once) => works(&rt, &map, writer, once, readers),
-        None => panic!(rt; "no reader"),
-    }
+    let opened = ReaderMap::open_large(rt.alloc(), &shape);
+    let (map, writer, mut readers) = opened.expect(&rt, "a map");
+    let once = next(&rt, &map, &mut readers);
+    works(&rt, &map, writer, once, readers);
 }

@@ -3,7 +3,7 @@
 ghost use Rattle.std.specs.Prelude.{◌≡◌, ◌<◌};
 
 use crate::calls::{Told, UPDATED, minus, plus, update};
-use crate::worked::Worked;
+use crate::worked::{Worked, next};
 use nr_map::{Reader, ReaderMap, Writer};
 use std::process::Abort;
 use std::thread::{Threads, join};
@@ -116,21 +116,17 @@ fn with_three<R: Abort + AllocGlobal>(rt: &R) -> (Worked, Reader, Reader)
     ensures keys { result.0.shape.keys ≡ 2 }
     ensures readers { (result.1.table ≡ result.0) × (result.2.table ≡ result.0) }
 {
-    let Ok((map, writer, mut readers)) = ReaderMap::open(rt.alloc(), 2, 6, 3, u64::MAX) else {
-        panic!(rt; "the map does not open")
+    let opened = ReaderMap::open(rt.alloc(), 2, 6, 3, u64::MAX);
+    let (map, writer, mut readers) = opened.expect(rt, "a map");
+    let three = next(rt, &map, &mut readers);
+    let two = next(rt, &map, &mut readers);
+    let reader = next(rt, &map, &mut readers);
+    let worked = Worked {
+        map,
+        writer,
+        reader,
     };
-    match (readers.pop(), readers.pop(), readers.pop()) {
-        (Some(three), Some(two), Some(reader)) => (
-            Worked {
-                map,
-                writer,
-                reader,
-            },
-            two,
-            three,
-        ),
-        _ => panic!(rt; "too few readers"),
-    }
+    (worked, two, three)
 }
 
 #[test]

@@ -1,6 +1,6 @@
 //! A map with its tokens, whose calls tests make one after another. Each method makes one call and
 //! asserts its answer, so that a test is a list of calls.
-ghost use Rattle.std.specs.Prelude.{◌≡◌, ◌<◌, IfSome};
+ghost use Rattle.std.specs.Prelude.{◌≡◌, ◌<◌, All};
 
 use crate::calls::{Told, ask, evict, fill, find, look, pairs_are, rows_of, state, update};
 use nr_map::{Evict, Found, KeyKind, Reader, ReaderMap, Shape, UpdateFault, Writer};
@@ -38,6 +38,15 @@ fn rows_are<R: Abort>(rt: &R, rows: &RowSet, pairs: &[(u64, u64)]) {
     assert!(rt; pairs_are(rows, pairs));
 }
 
+/// The last of a map's readers, which there is.
+pub(crate) fn next<R: Abort>(rt: &R, map: &ReaderMap, readers: &mut Vec<Reader>) -> Reader
+    requires { All (λ reader. reader.table ≡ map.now) readers.old.items }
+    ensures next { result.table ≡ map.now }
+    ensures others { All (λ reader. reader.table ≡ map.now) readers.new.items }
+{
+    readers.pop().expect(rt, "a reader")
+}
+
 impl Worked {
     /// A new map of those sizes, with its last reader.
     pub(crate) fn open<R: Abort + AllocGlobal>(
@@ -49,25 +58,37 @@ impl Worked {
     ) -> Worked
         ensures { result.shape.keys ≡ keys }
     {
-        match ReaderMap::open(rt.alloc(), keys, slots, readers, first_count) {
-            Ok((map, writer, mut readers)) => Worked::of(rt, map, writer, readers.pop()),
-            Err(_) => panic!(rt; "the map does not open"),
+        let opened = ReaderMap::open(rt.alloc(), keys, slots, readers, first_count);
+        let (map, writer, mut readers) = opened.expect(rt, "a map");
+        let reader = next(rt, &map, &mut readers);
+        Worked {
+            map,
+            writer,
+            reader,
         }
     }
 
     /// A new map of that shape, with its last reader.
     pub(crate) fn open_with<R: Abort + AllocGlobal>(rt: &R, shape: &Shape) -> Worked {
-        match ReaderMap::open_with(rt.alloc(), shape) {
-            Ok((map, writer, mut readers)) => Worked::of(rt, map, writer, readers.pop()),
-            Err(_) => panic!(rt; "the map does not open"),
+        let opened = ReaderMap::open_with(rt.alloc(), shape);
+        let (map, writer, mut readers) = opened.expect(rt, "a map");
+        let reader = next(rt, &map, &mut readers);
+        Worked {
+            map,
+            writer,
+            reader,
         }
     }
 
     /// A new map of that shape, which may be large, with its last reader.
     pub(crate) fn open_large<R: Abort + AllocGlobal>(rt: &R, shape: &Shape) -> Worked {
-        match ReaderMap::open_large(rt.alloc(), shape) {
-            Ok((map, writer, mut readers)) => Worked::of(rt, map, writer, readers.pop()),
-            Err(_) => panic!(rt; "the map does not open"),
+        let opened = ReaderMap::open_large(rt.alloc(), shape);
+        let (map, writer, mut readers) = opened.expect(rt, "a map");
+        let reader = next(rt, &map, &mut readers);
+        Worked {
+            map,
+            writer,
+            reader,
         }
     }
 
@@ -80,41 +101,16 @@ impl Worked {
     ) -> (Worked, Reader)
         ensures { (result.0.shape.keys ≡ keys) × (result.1.table ≡ result.0) }
     {
-        let Ok((map, writer, mut readers)) = ReaderMap::open(
-            rt.alloc(),
-            keys,
-            slots,
-            2,
-            first_count,
-        ) else {
-            panic!(rt; "the map does not open")
+        let opened = ReaderMap::open(rt.alloc(), keys, slots, 2, first_count);
+        let (map, writer, mut readers) = opened.expect(rt, "a map");
+        let second = next(rt, &map, &mut readers);
+        let reader = next(rt, &map, &mut readers);
+        let worked = Worked {
+            map,
+            writer,
+            reader,
         };
-        match (readers.pop(), readers.pop()) {
-            (Some(second), Some(reader)) => (
-                Worked {
-                    map,
-                    writer,
-                    reader,
-                },
-                second,
-            ),
-            _ => panic!(rt; "too few readers"),
-        }
-    }
-
-    fn of<R: Abort>(rt: &R, map: ReaderMap, writer: Writer, reader: Option<Reader>) -> Worked
-        requires writer { writer.table ≡ map }
-        requires reader { IfSome reader (λ reader. reader.table ≡ map) }
-        ensures { result ≡ map }
-    {
-        match reader {
-            Some(reader) => Worked {
-                map,
-                writer,
-                reader,
-            },
-            None => panic!(rt; "no reader"),
-        }
+        (worked, second)
     }
 
     pub(crate) fn asks<R: Abort>(&mut self, rt: &R, key: u32, told: Told)
