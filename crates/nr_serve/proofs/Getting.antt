@@ -1,6 +1,6 @@
 -- The tries of a get, put together: the tries that found a hole so far, one more of them, and the end.
 use Rattle.std.specs.Prelude.{nat_lt}
-use Rattle.std.proofs.Common.{◌≡◌, ℕ, Bool, false, ◌+◌, ◌-◌, ◌*◌, ◌<◌, ◌≤◌, List, [], ◌∷◌, ◌++◌, length, refl, sym, ap, ◌∙◌, subst, arith, append_assoc, append-nil, length-append}
+use Rattle.std.proofs.Common.{◌≡◌, ℕ, Bool, false, ◌+◌, ◌-◌, ◌*◌, ◌<◌, ◌≤◌, Result, Ok, Err, List, [], ◌∷◌, ◌++◌, length, refl, sym, ap, ◌∙◌, subst, arith, append_assoc, append-nil, length-append}
 use Rattle.nr_model.specs.declared.rows.Row.{Row}
 use Rattle.nr_model.specs.declared.calls.Reply.TheVariants as reply
 use Rattle.nr_model.specs.Histories.{Entry}
@@ -10,7 +10,8 @@ use Rattle.nr_serve.specs.declared.answers.Got.{Got}
 use Rattle.nr_serve.specs.declared.answers.Got.TheVariants as got
 use Rattle.nr_serve.specs.declared.answers.Requested.{Requested}
 use Rattle.nr_serve.specs.declared.answers.Tried.TheVariants as tried
-use Rattle.nr_serve.specs.Gets.{Gets, MissesAll, MissesOnce, TriesOnce, found, miss, misses, requested}
+use Rattle.nr_serve.specs.declared.sleepers.TooLate.{TooLate}
+use Rattle.nr_serve.specs.Gets.{AwaitsFill, EndsLate, Gets, GetsInTime, MissesAll, MissesOnce, TriesOnce, found, miss, misses, requested}
 use Rattle.nr_serve.specs.Hands.{Moves, last_count}
 use Rattle.nr_serve.proofs.Moving.{moves_both, moves_none}
 
@@ -116,3 +117,18 @@ gets_by_none key n tries a b before rows all missed same = record {
   attempts = omega arith;
   moves = moves_both missed.steps 0 _ a (misses a.reader.number key missed.requests) b [] b refl missed.moves (moves_none b (let counted = missed.moves.sends in omega (arith, counted)));
 }
+
+-- the sleep after the last of the tries so far timed out
+pub ends_late : (key n tries : ℕ) (a b c : Hands) (before rows : List Row) (request : Requested) → n + 1 < tries → Missed key (n + 1) a c → rows ≡ before → AwaitsFill key b request c → EndsLate key tries a before c rows
+ends_late key n tries a b c before rows request few missed same slept =
+    record { made = n + 1; few = few; gets = gets_by_none key (n + 1) (n + 1) a c before rows refl missed same; last = b; request = request; slept = slept }
+
+-- the calls of a get, however it ended
+pub record Called (old new : Hands) : Type 0 where
+  pub steps : ℕ
+  pub entries : List Entry
+  pub moves : Moves steps old entries new
+
+pub called_in_time : (key tries : ℕ) (a b : Hands) (before rows : List Row) (answer : Result Got TooLate) → GetsInTime key tries a before answer b rows → Called a b
+called_in_time key tries a b before rows (Ok got) gets = record { steps = _; entries = _; moves = gets.moves }
+called_in_time key tries a b before rows (Err late) gets = record { steps = _; entries = _; moves = gets.gets.moves }

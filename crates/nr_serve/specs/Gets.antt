@@ -1,5 +1,5 @@
 -- What a get does: tries that find a hole, and how it ends.
-use Rattle.std.specs.Prelude.{◌≡◌, ◌<◌, ◌+◌, ◌*◌, ℕ, Bool, true, false, List, [], ◌∷◌, ◌++◌, length, Option, None, Some, is_some}
+use Rattle.std.specs.Prelude.{◌≡◌, ◌<◌, ◌+◌, ◌*◌, ℕ, Bool, true, false, List, [], ◌∷◌, ◌++◌, length, Option, None, Some, Result, Ok, Err, is_some}
 use Rattle.nr_model.specs.declared.rows.Row.{Row}
 use Rattle.nr_model.specs.declared.calls.Call.TheVariants as call
 use Rattle.nr_model.specs.declared.calls.Reply.{Reply}
@@ -17,6 +17,7 @@ use Rattle.nr_serve.specs.declared.answers.Requested.{Requested}
 use Rattle.nr_serve.specs.declared.answers.Requested.TheVariants.{NotMade, Sent, Waiting, Filled}
 use Rattle.nr_serve.specs.declared.answers.Tried.{Tried}
 use Rattle.nr_serve.specs.declared.answers.Tried.TheVariants as tried
+use Rattle.nr_serve.specs.declared.sleepers.TooLate.{TooLate}
 use Rattle.nr_serve.specs.Hands.{Moves}
 
 abbrev pub found : ℕ → ℕ → Reply → Entry
@@ -131,3 +132,18 @@ pub record Gets (key tries : ℕ) (old : Hands) (before : List Row) (got : Got) 
   pub attempts : new.poster.tries ≡ between.poster.tries + last_attempts got between.kept
   -- and all that together
   pub moves : Moves (missed_steps + last_steps) old (misses old.reader.number key requests ++ last) new
+
+-- a get that a sleep ended which timed out: tries were left, those that it made found a hole, and to the last of them a fill was to come
+pub record EndsLate (key tries : ℕ) (old : Hands) (before : List Row) (new : Hands) (rows : List Row) : Type 0 where
+  pub made : ℕ
+  pub few : made < tries
+  -- as a get of so many tries that found a hole
+  pub gets : Gets key made old before got.GaveUp new rows
+  pub last : Hands
+  pub request : Requested
+  pub slept : AwaitsFill key last request new
+
+-- a get that may end by a sleep that timed out
+abbrev pub GetsInTime : ℕ → ℕ → Hands → List Row → Result Got TooLate → Hands → List Row → Type 0
+GetsInTime key tries old before (Ok got) new rows = Gets key tries old before got new rows
+GetsInTime key tries old before (Err late) new rows = EndsLate key tries old before new rows

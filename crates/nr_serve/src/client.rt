@@ -1,10 +1,10 @@
 //! A client, which gets rows, and asks and waits for those that are missing.
-ghost use Rattle.std.specs.Prelude.{◌≡◌, ◌<◌, ◌≤◌, ◌+◌, length, None, slice_index};
+ghost use Rattle.std.specs.Prelude.{◌≡◌, ◌<◌, ◌≤◌, ◌+◌, IfErr, IfOk, length, None, slice_index};
 ghost use Rattle.nr_board.specs.Callers.{KnowsOwn};
 ghost use Rattle.nr_board.specs.Meetings.{HearsNote, known_to, with_step};
 ghost use Rattle.nr_serve.specs.Clients.{since};
 ghost use Rattle.nr_serve.specs.Counts.{IsNew, OnlyLooks, failed_at};
-ghost use Rattle.nr_serve.specs.Gets.{Gets};
+ghost use Rattle.nr_serve.specs.Gets.{Gets, GetsInTime};
 ghost use Rattle.nr_serve.specs.Hands.{capped, with_idle_reader};
 ghost use Rattle.nr_serve.specs.Rings.{Rings};
 ghost use Rattle.nr_serve.specs.Tickets.{sent};
@@ -14,6 +14,7 @@ use crate::gate::Gate;
 use crate::hands::Hands;
 use crate::places::Places;
 use crate::service::Service;
+use crate::sleepers::{Limit, NoLimit, TooLate};
 use crate::tries::get_by_tries;
 use crate::watched::Watched;
 use nr_map::{Note, Reader, Ticket};
@@ -22,6 +23,7 @@ use nr_trigger::Poster;
 use std::marker::Model;
 use std::snapshot::Snapshot;
 use std::sync::Wait;
+use std::time::{Clock, Instant};
 
 /// A reader of a map and a poster of its queue, in one hand. It can't be dropped, since it may keep
 /// a ticket: it must be ended.
@@ -106,6 +108,60 @@ impl<'a, G: Gate> Client<'a, G> {
         ensures gate { (self.new.gate ≡ self.old.gate) × (self.new.reader ≡ self.old.reader) }
         ensures opened { self.new.opened ≡ self.old.opened }
     {
+        match self.get_within(rt, key, tries, rows, &NoLimit) {
+            Ok(got) => got,
+            Err(_) => unreachable!(),
+        }
+    }
+
+    /// As `get`, but a sleep lasts until that time at most. One that timed out ends the get with
+    /// `TooLate`, after fewer tries, which found a hole; the set is unchanged then, and the ticket that
+    /// was posted stays under way. Nothing else answers `TooLate`, and no time is promised. A clock that
+    /// can't be read ends a sleep too.
+    pub fn get_until<R: Wait + Clock>(
+        &mut self,
+        rt: &R,
+        key: u32,
+        tries: u32,
+        rows: &mut RowSet,
+        until: Instant,
+    ) -> Result<Got, TooLate>
+        requires { key < self.old.map.shape.keys }
+        ensures gets { GetsInTime key tries self.old.hands rows.old result self.new.hands rows.new }
+        ensures late { IfErr result (λ late. late.until ≡ until) }
+        ensures released { self.new.hands.reader.holds ≡ None }
+        ensures at_once { tries ≡ 0 → self.new.hands ≡ self.old.hands }
+        ensures rings { Rings self.old.hands self.old.guest self.new.hands self.new.guest }
+        ensures counts { self.new.gets ≡ capped (self.old.gets + 1) }
+        ensures asks { IfOk result (λ got. AsksGate G.lets G.hears self.old.gate self.old.reader self.new.gets got) }
+        ensures places { (self.new.map ≡ self.old.map) × (self.new.queue ≡ self.old.queue) }
+        ensures gate { (self.new.gate ≡ self.old.gate) × (self.new.reader ≡ self.old.reader) }
+        ensures opened { self.new.opened ≡ self.old.opened }
+    {
+        self.get_within(rt, key, tries, rows, &until)
+    }
+
+    // A get whose sleeps have that limit.
+    fn get_within<L: Limit<R>, R: Wait>(
+        &mut self,
+        rt: &R,
+        key: u32,
+        tries: u32,
+        rows: &mut RowSet,
+        limit: &L,
+    ) -> Result<Got, TooLate>
+        requires { key < self.old.map.shape.keys }
+        ensures gets { GetsInTime key tries self.old.hands rows.old result self.new.hands rows.new }
+        ensures late { IfErr result (λ late. L.lapses limit.now late) }
+        ensures released { self.new.hands.reader.holds ≡ None }
+        ensures at_once { tries ≡ 0 → self.new.hands ≡ self.old.hands }
+        ensures rings { Rings self.old.hands self.old.guest self.new.hands self.new.guest }
+        ensures counts { self.new.gets ≡ capped (self.old.gets + 1) }
+        ensures asks { IfOk result (λ got. AsksGate G.lets G.hears self.old.gate self.old.reader self.new.gets got) }
+        ensures places { (self.new.map ≡ self.old.map) × (self.new.queue ≡ self.old.queue) }
+        ensures gate { (self.new.gate ≡ self.old.gate) × (self.new.reader ≡ self.old.reader) }
+        ensures opened { self.new.opened ≡ self.old.opened }
+    {
         let Some(hands) = self.hands.take() else {
             unreachable!()
         };
@@ -114,6 +170,7 @@ impl<'a, G: Gate> Client<'a, G> {
             rt,
             &self.places,
             &mut self.lobby,
+            limit,
             self.gets,
             key,
             tries,

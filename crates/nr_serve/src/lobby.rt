@@ -1,12 +1,12 @@
 //! Where clients sleep until the dataflow has done something, and the dataflow until something was
 //! posted.
-ghost use Rattle.std.specs.Prelude.{◌≡◌, ◌≢◌, ◌<◌, ◌≤◌, ◌+◌, ◌⊎◌, ◌++◌, ◌∷◌, ◌↔◌, [], IfErr, IfSome, IsTrue, slice_index};
+ghost use Rattle.std.specs.Prelude.{◌≡◌, ◌≢◌, ◌<◌, ◌≤◌, ◌+◌, ◌⊎◌, ◌++◌, ◌∷◌, ◌↔◌, [], IfErr, IfOk, IfSome, IsTrue, slice_index};
 ghost use Rattle.nr_serve.specs.Hands.{capped, last_count};
 ghost use Rattle.nr_serve.specs.Counts.{IsLaterOf, IsNew, OnlyLooks, Raises, closed_at, failed_at, fails_for, group_at, groups_below, raises_for, rung_at, whole_at};
 
 use crate::counts::{CLOSED_AT, Counts, Guest};
+use crate::sleepers::{Limit, NoLimit, Sleepers, TooLate};
 use crossbeam_utils::CachePadded;
-use crossbeam_utils::sync::EventCount;
 use nr_model::OpenFault;
 use std::alloc::Global;
 use std::hint;
@@ -32,9 +32,9 @@ const LOOKS: u32 = 1_000;
 #[derive(Drop)]
 pub struct Lobby {
     counts: Counts,
-    groups: [CachePadded<EventCount>; 64],
-    whole: CachePadded<EventCount>,
-    rung: CachePadded<EventCount>,
+    groups: [CachePadded<Sleepers>; 64],
+    whole: CachePadded<Sleepers>,
+    rung: CachePadded<Sleepers>,
 }
 
 impl Model for Lobby {
@@ -70,9 +70,9 @@ impl Lobby {
         };
         Ok(Lobby {
             counts,
-            groups: std::array::from_fn(|_| CachePadded::new(EventCount::new())),
-            whole: CachePadded::new(EventCount::new()),
-            rung: CachePadded::new(EventCount::new()),
+            groups: std::array::from_fn(|_| CachePadded::new(Sleepers::new())),
+            whole: CachePadded::new(Sleepers::new()),
+            rung: CachePadded::new(Sleepers::new()),
         })
     }
 
@@ -126,8 +126,8 @@ impl Lobby {
     {
         self.raise_at(rt, guest, group_at(key));
         self.raise_at(rt, guest, WHOLE_AT);
-        self.groups[(key % GROUPS) as usize].notify_all();
-        self.whole.notify_all();
+        self.groups[(key % GROUPS) as usize].wake_all();
+        self.whole.wake_all();
     }
 
     /// As `raise_for`, once the rows of a key couldn't be had: before that it counts so for the key's
@@ -158,7 +158,7 @@ impl Lobby {
         ensures past { (n < result) ⊎ (0 < slice_index guest.new.seen closed_at) }
         ensures between { (slice_index guest.old.seen whole_at ≤ result) × (result ≤ slice_index guest.new.seen whole_at) }
     {
-        self.wait_at(rt, guest, WHOLE_AT, &self.whole, n)
+        self.wait_for_ever(rt, guest, WHOLE_AT, &self.whole, n)
     }
 
     /// Sleeps while the count of this key's group is at most `n` and the lobby isn't closed, and
@@ -170,7 +170,26 @@ impl Lobby {
         ensures between { (slice_index guest.old.seen (group_at key) ≤ result) × (result ≤ slice_index guest.new.seen (group_at key)) }
     {
         let changed = &self.groups[(key % GROUPS) as usize];
-        self.wait_at(rt, guest, group_at(key), changed, n)
+        self.wait_for_ever(rt, guest, group_at(key), changed, n)
+    }
+
+    // The same, with a limit of time.
+    pub(crate) fn wait_within<L: Limit<R>, R: Wait>(
+        &self,
+        rt: &R,
+        guest: &mut Guest,
+        key: u32,
+        n: u64,
+        limit: &L,
+    ) -> Result<(), TooLate>
+        requires { guest.old.lobby ≡ self.now }
+        ensures looks { OnlyLooks guest.old guest.new }
+        ensures past { IfOk result (λ _. (n < slice_index guest.new.seen (group_at key)) ⊎ (0 < slice_index guest.new.seen closed_at)) }
+        ensures late { IfErr result (λ late. L.lapses limit.now late) }
+    {
+        let changed = &self.groups[(key % GROUPS) as usize];
+        self.wait_at(rt, guest, group_at(key), changed, n, limit)?;
+        Ok(())
     }
 
     /// Closes it for good and wakes all sleepers; from now on nobody sleeps here.
@@ -202,7 +221,7 @@ impl Lobby {
         ensures { Raises guest.old (rung_at ∷ []) guest.new }
     {
         self.raise_at(rt, guest, RUNG_AT);
-        self.rung.notify_all();
+        self.rung.wake_all();
     }
 
     // How often the bell was rung, up to 2^64 - 1.
@@ -222,7 +241,7 @@ impl Lobby {
         ensures past { (rings < result) ⊎ (0 < slice_index guest.new.seen closed_at) }
         ensures between { (slice_index guest.old.seen rung_at ≤ result) × (result ≤ slice_index guest.new.seen rung_at) }
     {
-        self.wait_at(rt, guest, RUNG_AT, &self.rung, rings)
+        self.wait_for_ever(rt, guest, RUNG_AT, &self.rung, rings)
     }
 
     #[tactic(auto, using(crate::proofs::Later::raises_none, crate::proofs::Later::raises_both, crate::proofs::Later::raises_then_steps))]
@@ -258,14 +277,12 @@ impl Lobby {
         (count, next)
     }
 
-    // The wait is announced before the count is read, so no raise is missed.
-    #[tactic(auto, using(crate::proofs::Later::looks_none, crate::proofs::Later::looks_both))]
-    fn wait_at<R: Wait>(
+    fn wait_for_ever<R: Wait>(
         &self,
         rt: &R,
         guest: &mut Guest,
         place: usize,
-        changed: &EventCount,
+        changed: &Sleepers,
         n: u64,
     ) -> u64
         requires lobby { guest.old.lobby ≡ self.now }
@@ -274,15 +291,39 @@ impl Lobby {
         ensures past { (n < result) ⊎ (0 < slice_index guest.new.seen closed_at) }
         ensures between { (slice_index guest.old.seen place ≤ result) × (result ≤ slice_index guest.new.seen place) }
     {
+        match self.wait_at(rt, guest, place, changed, n, &NoLimit) {
+            Ok(count) => count,
+            Err(_) => unreachable!(),
+        }
+    }
+
+    // The sleep is announced before the count is read, so no raise is missed.
+    #[tactic(auto, using(crate::proofs::Later::looks_none, crate::proofs::Later::looks_both))]
+    fn wait_at<L: Limit<R>, R: Wait>(
+        &self,
+        rt: &R,
+        guest: &mut Guest,
+        place: usize,
+        changed: &Sleepers,
+        n: u64,
+        limit: &L,
+    ) -> Result<u64, TooLate>
+        requires lobby { guest.old.lobby ≡ self.now }
+        requires place { place < 536 }
+        ensures looks { OnlyLooks guest.old guest.new }
+        ensures past { IfOk result (λ count. (n < count) ⊎ (0 < slice_index guest.new.seen closed_at)) }
+        ensures between { IfOk result (λ count. (slice_index guest.old.seen place ≤ count) × (count ≤ slice_index guest.new.seen place)) }
+        ensures late { IfErr result (λ late. L.lapses limit.now late) }
+    {
         if let Some(count) = self.soon_past(guest, place, n) {
-            return count;
+            return Ok(count);
         }
         for _ in rt.forever() {
-            let wait = changed.prepare_wait();
+            let announced = changed.announce();
             if let Some(count) = self.past(guest, place, n) {
-                return count;
+                return Ok(count);
             }
-            wait.wait(rt);
+            limit.sleep(rt, announced)?;
         }
         unreachable!()
     }
@@ -323,9 +364,9 @@ impl Lobby {
 
     fn wake_all(&self) {
         for group in self.groups.iter() {
-            group.notify_all();
+            group.wake_all();
         }
-        self.whole.notify_all();
-        self.rung.notify_all();
+        self.whole.wake_all();
+        self.rung.wake_all();
     }
 }

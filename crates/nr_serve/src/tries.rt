@@ -1,9 +1,9 @@
 //! The tries of a get.
-ghost use Rattle.std.specs.Prelude.{◌≡◌, ◌<◌, ◌+◌, ◌*◌, [], length, None};
+ghost use Rattle.std.specs.Prelude.{◌≡◌, ◌<◌, ◌+◌, ◌*◌, [], IfErr, IfOk, length, None};
 ghost use Rattle.nr_board.specs.Callers.{Rests};
 ghost use Rattle.nr_serve.specs.Counts.{OnlyLooks};
 ghost use Rattle.nr_serve.specs.Gates.{AsksGate, AsksOnce};
-ghost use Rattle.nr_serve.specs.Gets.{AnswersPin, Gets, LeavesKept, MissesOnce, TriesOnce, kept_attempts, requested, sent_attempts};
+ghost use Rattle.nr_serve.specs.Gets.{AnswersPin, AwaitsFill, GetsInTime, LeavesKept, MissesOnce, TriesOnce, kept_attempts, requested, sent_attempts};
 ghost use Rattle.nr_serve.specs.Hands.{IsReady, Moves};
 ghost use Rattle.nr_serve.specs.Rings.{Rings};
 
@@ -11,6 +11,7 @@ use crate::answers::{Got, Requested, Tried};
 use crate::gate::Gate;
 use crate::hands::Hands;
 use crate::places::Places;
+use crate::sleepers::{Limit, TooLate};
 use crate::watched::{Counted, Watched};
 use nr_map::{Asked, Pin, Reader, ReaderMap};
 use nr_model::RowSet;
@@ -172,41 +173,48 @@ fn try_once<G: Gate, R: Wait>(
 // After a try that found a hole: sleeps until the count has gone past what it was before the try, if
 // another try is to follow, no ticket is kept and a fill is to come.
 #[tactic(auto, using(crate::proofs::Later::looks_none))]
-fn sleep_if<R: Wait>(
+fn sleep_if<L: Limit<R>, R: Wait>(
     rt: &R,
     lobby: &mut Watched<'_>,
-    has_more: bool,
+    tries_left: u32,
     counted: &Counted,
     requested: &Requested,
     hands: &Hands,
-)
+    limit: &L,
+) -> Result<(), TooLate>
     requires { MissesOnce counted.now.key counted.now.hands.value requested.now hands.now }
-    ensures { OnlyLooks lobby.old lobby.new }
+    ensures looks { OnlyLooks lobby.old lobby.new }
+    ensures late { IfErr result (λ late. L.lapses limit.now late) }
+    ensures slept { IfErr result (λ _. (0 < tries_left) × AwaitsFill counted.now.key counted.now.hands.value requested.now hands.now) }
 {
-    if has_more && requested.is_pending() && hands.kept.is_none() {
-        lobby.wait_past(rt, counted, requested, hands);
+    if tries_left > 0 && requested.is_pending() && hands.kept.is_none() {
+        lobby.wait_past(rt, counted, requested, hands, limit)?;
     }
+    Ok(())
 }
 
 /// Tries to get the rows of a key, and sleeps in the lobby between two tries where an upquery is
-/// under way, until the count of the key's group has gone past what it was before the try.
-pub(crate) fn get_by_tries<G: Gate, R: Wait>(
+/// under way, until the count of the key's group has gone past what it was before the try. A sleep
+/// that times out ends the get.
+pub(crate) fn get_by_tries<G: Gate, L: Limit<R>, R: Wait>(
     rt: &R,
     places: &Places<'_, G>,
     lobby: &mut Watched<'_>,
+    limit: &L,
     get: u64,
     key: u32,
     tries: u32,
     hands: Hands,
     rows: &mut RowSet,
-) -> (Got, Hands)
+) -> (Result<Got, TooLate>, Hands)
     requires ready { IsReady places.now.map.now places.now.triggers.now hands }
     requires key { key < places.now.map.now.shape.keys }
     ensures ready { IsReady places.now.map.now places.now.triggers.now result.1 }
-    ensures gets { Gets key tries hands rows.old result.0 result.1 rows.new }
+    ensures gets { GetsInTime key tries hands rows.old result.0 result.1 rows.new }
+    ensures late { IfErr result.0 (λ late. L.lapses limit.now late) }
     ensures at_once { tries ≡ 0 → result.1 ≡ hands }
     ensures rings { Rings hands lobby.old result.1 lobby.new }
-    ensures asks { AsksGate G.lets G.hears places.now.gate.now places.now.reader get result.0 }
+    ensures asks { IfOk result.0 (λ got. AsksGate G.lets G.hears places.now.gate.now places.now.reader get got) }
 {
     let mut hands = hands;
     for i in 0..tries {
@@ -214,10 +222,20 @@ pub(crate) fn get_by_tries<G: Gate, R: Wait>(
         let (tried, left) = try_once(rt, places, lobby, get, key, hands, rows);
         hands = left;
         let requested = match tried {
-            Tried::Ended(got) => return (got, hands),
+            Tried::Ended(got) => return (Ok(got), hands),
             Tried::Missed(requested) => requested,
         };
-        sleep_if(rt, lobby, i + 1 < tries, &counted, &requested, &hands);
+        if let Err(late) = sleep_if(
+            rt,
+            lobby,
+            tries - i - 1,
+            &counted,
+            &requested,
+            &hands,
+            limit,
+        ) {
+            return (Err(late), hands);
+        }
     }
-    (Got::GaveUp, hands)
+    (Ok(Got::GaveUp), hands)
 }

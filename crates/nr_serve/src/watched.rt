@@ -1,5 +1,5 @@
 //! The lobby as a client has it.
-ghost use Rattle.std.specs.Prelude.{◌≡◌, ◌∷◌, [], slice_index};
+ghost use Rattle.std.specs.Prelude.{◌≡◌, ◌∷◌, [], IfErr, slice_index};
 ghost use Rattle.nr_serve.specs.Counts.{IsNew, OnlyLooks, Raises, failed_at, group_at, rung_at};
 ghost use Rattle.nr_serve.specs.Gets.{AwaitsFill};
 
@@ -7,6 +7,7 @@ use crate::answers::Requested;
 use crate::counts::Guest;
 use crate::hands::Hands;
 use crate::lobby::Lobby;
+use crate::sleepers::{Limit, TooLate};
 use std::marker::Model;
 use std::snapshot::Snapshot;
 use std::sync::Wait;
@@ -71,21 +72,23 @@ impl<'a> Watched<'a> {
     }
 
     /// Sleeps after a try that was made since the count was read, and to which a fill is to come: while
-    /// the count of the key's group is at most that and the lobby isn't closed.
-    pub(crate) fn wait_past<R: Wait>(
+    /// the count of the key's group is at most that and the lobby isn't closed, within the limit.
+    pub(crate) fn wait_past<L: Limit<R>, R: Wait>(
         &mut self,
         rt: &R,
         counted: &Counted,
         requested: &Requested,
         hands: &Hands,
-    )
+        limit: &L,
+    ) -> Result<(), TooLate>
         requires { AwaitsFill counted.now.key counted.now.hands.value requested.now hands.now }
-        ensures { OnlyLooks self.old self.new }
+        ensures looks { OnlyLooks self.old self.new }
+        ensures late { IfErr result (λ late. L.lapses limit.now late) }
     {
         let _ = requested;
         let _ = hands;
         self.lobby
-            .wait_past_for(rt, &mut self.guest, counted.key, counted.count);
+            .wait_within(rt, &mut self.guest, counted.key, counted.count, limit)
     }
 
     /// Rings the bell, once a ticket was posted.

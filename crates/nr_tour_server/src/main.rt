@@ -5,6 +5,7 @@
 
 mod attempts;
 mod clients;
+mod deadlines;
 mod flow;
 mod gates;
 mod large;
@@ -20,6 +21,7 @@ use nr_model::Batch;
 use std::io::Print;
 use std::sync::Wait;
 use std::thread::Threads;
+use std::time::{Clock, Instant};
 
 // The queue, and what goes with a ticket.
 fn show_queue<R: AllocGlobal + Print + Threads + Wait + Sync>(rt: &R) -> anyhow::Result<()> {
@@ -31,12 +33,15 @@ fn show_queue<R: AllocGlobal + Print + Threads + Wait + Sync>(rt: &R) -> anyhow:
 }
 
 // Clients, the dataflow and their lobby.
-fn show_server<R: AllocGlobal + Print + Threads + Wait + Sync>(rt: &R) -> anyhow::Result<()> {
+fn show_server<R: AllocGlobal + Clock + Print + Threads + Wait + Sync>(
+    rt: &R,
+) -> anyhow::Result<()> {
     let alloc = rt.alloc();
     let rise = Batch::of(&RISE)?;
     clients::waited_for(rt, alloc)?.print(rt)?;
     flow::in_one_hand(rt, alloc, &rise)?.print(rt)?;
     upqueries::under_way(rt, alloc, &rise)?.print(rt)?;
+    deadlines::in_time(rt, alloc, Instant::now(rt)?)?.print(rt)?;
     gates::held_back(rt, alloc)?.print(rt)?;
     lobbies::raised_once(rt, alloc)?.print(rt)?;
     services::without_clients(rt, alloc)?.print(rt)

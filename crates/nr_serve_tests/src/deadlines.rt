@@ -1,0 +1,148 @@
+//! Gets with a limit of time: those that are too late, and those that end before, with rows or without.
+ghost use Rattle.std.specs.Prelude.{◌≡◌, ◌<◌};
+
+use crate::opened::{Opened, Plain, end_client, end_flow, one_row};
+use nr_map::{Reader, Writer};
+use nr_model::{Row, RowSet};
+use nr_serve::{Client, Dataflow, Got, OpenGate, Service, Turn};
+use nr_trigger::{Poster, Taker};
+use std::process::Abort;
+use std::sync::Wait;
+use std::test::Fail;
+use std::thread::{self, Threads};
+use std::time::{Clock, Duration, Instant};
+
+/// How a get ended, or None where it was too late.
+type Ended = Option<Got>;
+
+// A time so many milliseconds from now.
+fn in_millis<R: Clock>(rt: &R, millis: u64) -> Option<Instant> {
+    Instant::now(rt)
+        .ok()?
+        .checked_add(Duration::from_millis(millis))
+}
+
+// Gets key 0 until that many milliseconds from now, with the row `9:9` in its set before: how it ended, and the first row
+// of its set then.
+fn gets_in<R: Wait + Clock>(
+    rt: &R,
+    client: &mut Client<'_, OpenGate>,
+    millis: u64,
+    tries: u32,
+) -> (Ended, Option<Row>)
+    requires { 0 < client.old.map.shape.keys }
+    ensures { client.new.map ≡ client.old.map }
+{
+    let mut rows = one_row(9, 9);
+    let Some(until) = in_millis(rt, millis) else {
+        return (Some(Got::Barred), None);
+    };
+    match client.get_until(rt, 0, tries, &mut rows, until) {
+        Ok(got) => (Some(got), rows.get(0)),
+        Err(_late) => (None, rows.get(0)),
+    }
+}
+
+// A get is too late, also where the time is past before; one that doesn't sleep never is. Its ticket is filled later.
+fn is_late_and_filled<R: Abort + Wait + Clock>(
+    rt: &R,
+    client: &mut Client<'_, OpenGate>,
+    flow: &mut Dataflow<'_, Plain>,
+)
+    requires client { client.old.map.shape.keys ≡ 2 }
+    requires flow { flow.old.map ≡ client.old.map }
+{
+    let unchanged = Some(Row { a: 9, b: 9 });
+    assert_eq!(rt; gets_in(rt, client, 20, 10), (None, unchanged));
+    assert_eq!(rt; gets_in(rt, client, 0, 10), (None, unchanged));
+    assert_eq!(rt; gets_in(rt, client, 0, 1), (Some(Got::GaveUp), unchanged));
+    assert_eq!(rt; (client.sends(), flow.turn(rt)), (1, Turn::Filled(0)));
+    let filled = Some(Row { a: 0, b: 5 });
+    assert_eq!(rt; gets_in(rt, client, 0, 10), (Some(Got::Rows), filled));
+}
+
+// Calls that with a client and a dataflow of what was opened.
+fn is_late<R: Abort + Wait + Clock>(rt: &R, opened: Opened) {
+    let Opened {
+        service,
+        writer,
+        taker,
+        reader,
+        poster,
+    } = opened;
+    let gate = OpenGate;
+    let mut client = Client::open(&service, reader, poster, &gate);
+    let mut flow = Dataflow::open(&service, writer, taker, Plain { bound: 0 });
+    is_late_and_filled(rt, &mut client, &mut flow);
+    assert_eq!(rt; (end_client(client), end_flow(flow)), (false, false));
+}
+
+// Gets key 0 within a minute.
+fn gets_soon<R: Wait + Clock>(
+    rt: &R,
+    service: &Service,
+    tokens: (Reader, Poster),
+) -> (Ended, Option<Row>)
+    requires map { (tokens.0.table ≡ service.now.map) × (service.now.map.shape.keys ≡ 2) }
+    requires queue { (tokens.1.queue ≡ service.now.queue.id) × (tokens.1.keys ≡ 2) }
+{
+    let (reader, poster) = tokens;
+    let gate = OpenGate;
+    let mut client = Client::open(service, reader, poster, &gate);
+    let ended = gets_in(rt, &mut client, 60_000, 10);
+    end_client(client);
+    ended
+}
+
+// Fills key 0 once it is asked for, and a client that waits for it sleeps.
+fn fills_later<R: Wait + Clock>(rt: &R, service: &Service, tokens: (Writer, Taker))
+    requires map { (tokens.0.table ≡ service.now.map) × (service.now.map.shape.keys ≡ 2) }
+    requires queue { (tokens.1.queue ≡ service.now.queue.id) × (tokens.1.keys ≡ 2) }
+{
+    let (writer, taker) = tokens;
+    let mut flow = Dataflow::open(service, writer, taker, Plain { bound: 0 });
+    for _ in 0..1_000 {
+        thread::sleep(rt, Duration::from_millis(50));
+        if flow.turn(rt) == Turn::Filled(0) {
+            break;
+        }
+    }
+    end_flow(flow);
+}
+
+fn is_woken<R: Threads + Wait + Clock + Sync>(rt: &R, opened: Opened) -> (Ended, Option<Row>) {
+    let Opened {
+        service,
+        writer,
+        taker,
+        reader,
+        poster,
+    } = opened;
+    let service = &service;
+    let (ended, _) = thread::join(
+        rt,
+        move || -> (Ended, Option<Row>)
+            requires map { (reader.table ≡ service.now.map) × (service.now.map.shape.keys ≡ 2) }
+            requires queue { (poster.queue ≡ service.now.queue.id) × (poster.keys ≡ 2) }
+        { gets_soon(rt, service, (reader, poster)) },
+        move || -> ()
+            requires map { (writer.table ≡ service.now.map) × (service.now.map.shape.keys ≡ 2) }
+            requires queue { (taker.queue ≡ service.now.queue.id) × (taker.keys ≡ 2) }
+        { fills_later(rt, service, (writer, taker)) },
+    );
+    ended
+}
+
+#[test]
+fn a_get_that_sleeps_too_long_is_too_late(rt: HostRuntime) -> Result<(), Fail> {
+    is_late(&rt, Opened::open(rt.alloc(), 4)?);
+    Ok(())
+}
+
+// It would sleep for a minute otherwise, as long as a test may take.
+#[test]
+fn a_fill_ends_a_sleep_before_its_time(rt: HostRuntime) -> Result<(), Fail> {
+    let ended = is_woken(&rt, Opened::open(rt.alloc(), 4)?);
+    assert_eq!(rt; ended, (Some(Got::Rows), Some(Row { a: 0, b: 5 })));
+    Ok(())
+}
