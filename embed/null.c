@@ -203,3 +203,73 @@ uint32_t proved_nr_take(nr_taker *taker, uint32_t *key, uint64_t *number);
 uint32_t nr_take(nr_taker *taker, uint32_t *key, uint64_t *number) {
   return taker ? proved_nr_take(taker, key, number) : NR_CLOSED;
 }
+
+uint32_t proved_nr_id_group(const nr_id_shape *shape, uint64_t id);
+uint32_t nr_id_group(const nr_id_shape *shape, uint64_t id) {
+  return proved_nr_id_group(shape, id);
+}
+
+uint32_t proved_nr_open_ids(const nr_id_shape *shape, nr_id_writer *writer);
+uint32_t nr_open_ids(const nr_id_shape *shape, nr_id_writer *writer) {
+  return writer ? proved_nr_open_ids(shape, writer) : NR_CLOSED;
+}
+
+uint32_t proved_nr_open_id_reader(nr_id_writer *writer, nr_id_reader *reader);
+uint32_t nr_open_id_reader(nr_id_writer *writer, nr_id_reader *reader) {
+  return writer && reader ? proved_nr_open_id_reader(writer, reader) : NR_CLOSED;
+}
+
+void proved_nr_close_id_reader(nr_id_reader *reader);
+void nr_close_id_reader(nr_id_reader *reader) {
+  if (reader) proved_nr_close_id_reader(reader);
+}
+
+void proved_nr_close_id_writer(nr_id_writer *writer);
+void nr_close_id_writer(nr_id_writer *writer) {
+  if (writer) proved_nr_close_id_writer(writer);
+}
+
+uint32_t proved_nr_find_id(nr_id_reader *reader, uint64_t id, nr_rows *rows);
+uint32_t nr_find_id(nr_id_reader *reader, uint64_t id, nr_rows *rows) {
+  return reader ? proved_nr_find_id(reader, id, rows) : NR_CLOSED;
+}
+
+uint32_t proved_nr_request_id(nr_id_reader *reader, uint64_t id);
+uint32_t nr_request_id(nr_id_reader *reader, uint64_t id) {
+  return reader ? proved_nr_request_id(reader, id) : NR_CLOSED;
+}
+
+uint32_t proved_nr_look_id(nr_id_writer *writer, uint64_t id, nr_rows *rows);
+uint32_t nr_look_id(nr_id_writer *writer, uint64_t id, nr_rows *rows) {
+  return writer ? proved_nr_look_id(writer, id, rows) : NR_CLOSED;
+}
+
+uint32_t proved_nr_admit(nr_id_writer *writer, uint64_t id, nr_upquery *upquery);
+uint32_t nr_admit(nr_id_writer *writer, uint64_t id, nr_upquery *upquery) {
+  return writer ? proved_nr_admit(writer, id, upquery) : NR_CLOSED;
+}
+
+uint32_t proved_nr_fill_id(nr_id_writer *writer, const nr_upquery *upquery, const nr_row *rows, size_t n);
+uint32_t nr_fill_id(nr_id_writer *writer, const nr_upquery *upquery, const nr_row *rows, size_t n) {
+  return writer ? proved_nr_fill_id(writer, upquery, rows, n) : NR_CLOSED;
+}
+
+uint32_t proved_nr_withdraw_id(nr_id_writer *writer, const nr_upquery *upquery);
+uint32_t nr_withdraw_id(nr_id_writer *writer, const nr_upquery *upquery) {
+  return writer ? proved_nr_withdraw_id(writer, upquery) : NR_CLOSED;
+}
+
+uint32_t proved_nr_update_id(nr_id_writer *writer, uint64_t id, const nr_delta *deltas, size_t n);
+uint32_t nr_update_id(nr_id_writer *writer, uint64_t id, const nr_delta *deltas, size_t n) {
+  return writer ? proved_nr_update_id(writer, id, deltas, n) : NR_CLOSED;
+}
+
+uint32_t proved_nr_replace_id(nr_id_writer *writer, uint64_t id, const nr_row *rows, size_t n);
+uint32_t nr_replace_id(nr_id_writer *writer, uint64_t id, const nr_row *rows, size_t n) {
+  return writer ? proved_nr_replace_id(writer, id, rows, n) : NR_CLOSED;
+}
+
+uint32_t proved_nr_evict_id(nr_id_writer *writer, uint64_t id);
+uint32_t nr_evict_id(nr_id_writer *writer, uint64_t id) {
+  return writer ? proved_nr_evict_id(writer, id) : NR_CLOSED;
+}

@@ -68,6 +68,8 @@ extern "C" {
 #define NR_GIVEN 34u     /* done, and a set came back, which nobody holds or can find: its rows are in `had` */
 #define NR_HELD 35u      /* sets wait, and a reader holds each of them */
 #define NR_READERS_OUT 36u /* some reader was not returned */
+#define NR_NAMED 37u     /* the id has a way: rows, or an upquery under way */
+#define NR_BAD_ROW 38u   /* a row of an id has an `a` of 0 */
 
 /* An answer in words. */
 static inline const char *nr_strerror(uint32_t answer) {
@@ -109,6 +111,8 @@ static inline const char *nr_strerror(uint32_t answer) {
   case NR_GIVEN: return "done, and a set came back";
   case NR_HELD: return "readers hold the sets that wait";
   case NR_READERS_OUT: return "some reader was not returned";
+  case NR_NAMED: return "the id has a way";
+  case NR_BAD_ROW: return "a row's first number is 0";
   default: return "no answer of this library";
   }
 }
@@ -119,7 +123,7 @@ static inline const char *nr_strerror(uint32_t answer) {
 uint32_t nr_version(void);
 
 /* The bytes that a struct takes in the library, which have to be those that it takes by this header: for programs that
-   link another library or are written in another language. The structs below count from nr_row, 0, to nr_poster, 11;
+   link another library or are written in another language. The structs below count from nr_row, 0, to nr_id_reader, 15;
    beyond these the answer is 0. */
 uint32_t nr_struct_size(uint32_t place);
 
@@ -200,6 +204,34 @@ typedef struct nr_taker {
 typedef struct nr_poster {
   void *at;
 } nr_poster;
+
+/* What a map over ids is opened with: 1 to 536,870,911 groups of eight ways, 1 to 4,194,303 slots and 1 to 65,534
+   readers. An id may have `rows` rows, 1 to 254. `key` decides which group an id has: draw it at random where strangers
+   choose ids. Ticket numbers begin at `first_number`: set it to 0. With 8 * groups + readers + 2 slots no fill or
+   replacement answers NR_NO_SLOT or NR_ALL_FILLED. A group takes 456 bytes, and a slot 16 * rows + 49. */
+typedef struct nr_id_shape {
+  uint32_t groups;
+  uint32_t slots;
+  uint32_t readers;
+  uint32_t rows;
+  uint64_t key;
+  uint64_t first_number;
+} nr_id_shape;
+
+/* An upquery that nr_admit opened, by its numbers: whose rows are wanted, and which answer fits. */
+typedef struct nr_upquery {
+  uint64_t id;
+  uint64_t number;
+  uint32_t way;
+} nr_upquery;
+
+typedef struct nr_id_writer {
+  void *at;
+} nr_id_writer;
+
+typedef struct nr_id_reader {
+  void *at;
+} nr_id_reader;
 
 /* WORKING WITH IT
 
@@ -435,6 +467,69 @@ uint32_t nr_post(nr_poster *poster, uint32_t key, uint64_t number);
 /* Takes the request at the front. NR_DONE, and `key` and `number` are its key and ticket number. NR_EMPTY, if the queue
    was empty at one moment of the call, and NR_IN_THE_WAY leave them as they were. */
 uint32_t nr_take(nr_taker *taker, uint32_t *key, uint64_t *number);
+
+/* A MAP OVER IDS, numbers from 1 on, of which as many have rows as there are slots. A group of ids has eight ways; an id
+   has one of them as long as it has rows or an upquery is open for it. Each call with an id answers NR_NO_KEY for 0.
+   A get. Find the id. At NR_HOLE or NR_OTHER request it; who is answered NR_SEND passes the id to the thread that
+   writes, which admits it, gets the rows, and fills. At NR_ASKED, NR_WAITING or NR_NAMED wait and find again.
+   A full group. At NR_FULL evict an id whose nr_id_group is the same, and admit again: the claim stays open.
+   Dropping an id's rows, because the base changed. Withdraw its upquery, if one is open, and evict it: a late fill is
+   NR_STALE. embed/c/ids.c is a whole program. */
+
+/* The group of an id in a map of that shape, from 0. 0 if the shape has no groups, or too many. No step. */
+uint32_t nr_id_group(const nr_id_shape *shape, uint64_t id);
+
+/* Opens a map over ids, and makes the writer's handle live: NR_DONE. NR_LIVE if it is live already, NR_BAD_SIZE or
+   NR_NO_MEMORY leave it as it was. */
+uint32_t nr_open_ids(const nr_id_shape *shape, nr_id_writer *writer);
+
+/* Makes a reader's handle live: NR_DONE. NR_LIVE if `reader` is live already, NR_NO_READER or NR_NO_MEMORY leave it as
+   it was. */
+uint32_t nr_open_id_reader(nr_id_writer *writer, nr_id_reader *reader);
+
+/* End a handle, which is then zeros; if it isn't live, they do nothing. No handle gets a closed reader again; a thread
+   that ends can hand its reader on. The upqueries that are open end with the writer, and the memory with the last
+   handle. */
+void nr_close_id_reader(nr_id_reader *reader);
+void nr_close_id_writer(nr_id_writer *writer);
+
+/* Looks an id up. It takes W steps, one for each way's name that it looks at, up to the id's own; W is 8 if no way has
+   it. NR_ROWS after 2n + 5 more for n rows, and `rows` has them; NR_ASKED after 1 more, if its upquery is open; NR_OTHER
+   if its way became another id's within the call; NR_HOLE, if it had no way at a moment within the call. Any answer
+   but NR_ROWS leaves `rows` as it was. */
+uint32_t nr_find_id(nr_id_reader *reader, uint64_t id, nr_rows *rows);
+
+/* Requests an id. NR_SEND after 10 steps: the claim of its group is the caller's, who passes the id to the thread that
+   writes. Until that admits an id of the group others get NR_WAITING, after 1 or 10. NR_NAMED after 2 to 9. NR_WORN
+   after 1, once its group has had 2^62 claims. */
+uint32_t nr_request_id(nr_id_reader *reader, uint64_t id);
+
+/* The writer's own find: as nr_find_id, but never NR_OTHER, and NR_ROWS after W + 2n + 4 steps. */
+uint32_t nr_look_id(nr_id_writer *writer, uint64_t id, nr_rows *rows);
+
+/* Gives an id of a claimed group a way, and opens an upquery for it: NR_SEND after 16 steps, and `upquery` has its
+   numbers. NR_NOT_ASKED after 1, if no claim of the group is open; NR_NAMED after 2 to 9; NR_FULL after 9, if each way
+   of the group is another id's. They leave `upquery` as it was. */
+uint32_t nr_admit(nr_id_writer *writer, uint64_t id, nr_upquery *upquery);
+
+/* Fills the id of an open upquery with n rows in ascending order, of which each `a` is above 0. NR_TOO_MANY,
+   NR_NOT_SORTED, NR_BAD_ROW and NR_STALE, if no upquery with these numbers is open, without a step; NR_DONE,
+   NR_NO_SLOT or NR_ALL_FILLED after W steps and those of nr_fill for n + 1 rows. After the last two it is open still. */
+uint32_t nr_fill_id(nr_id_writer *writer, const nr_upquery *upquery, const nr_row *rows, size_t n);
+
+/* Takes an open upquery back: its id has no way then. NR_CANCELLED after W + 3 steps: wake those who wait for the id.
+   NR_STALE without a step, if no upquery with these numbers is open. NR_WORN after W + 1: its ticket number is the last
+   one, and only its own fill ends it. */
+uint32_t nr_withdraw_id(nr_id_writer *writer, const nr_upquery *upquery);
+
+/* As nr_update and nr_replace, of an id's rows, of which each `a` is above 0: NR_BAD_ROW without a step. NR_NOTHING
+   after 8, if the id has no way; NR_DROPPED, if its upquery is open. */
+uint32_t nr_update_id(nr_id_writer *writer, uint64_t id, const nr_delta *deltas, size_t n);
+uint32_t nr_replace_id(nr_id_writer *writer, uint64_t id, const nr_row *rows, size_t n);
+
+/* Takes an id's rows and its way: NR_EVICTED after W + 3 steps. NR_NOTHING after W or W + 1, if the id has no way or its
+   upquery is open. */
+uint32_t nr_evict_id(nr_id_writer *writer, uint64_t id);
 
 #ifdef __cplusplus
 }

@@ -44,6 +44,19 @@ TAKES(nr_reader, 8);
 TAKES(nr_remains, 8);
 TAKES(nr_taker, 8);
 TAKES(nr_poster, 8);
+TAKES(nr_id_shape, 32);
+LIES(nr_id_shape, groups, 0);
+LIES(nr_id_shape, slots, 4);
+LIES(nr_id_shape, readers, 8);
+LIES(nr_id_shape, rows, 12);
+LIES(nr_id_shape, key, 16);
+LIES(nr_id_shape, first_number, 24);
+TAKES(nr_upquery, 24);
+LIES(nr_upquery, id, 0);
+LIES(nr_upquery, number, 8);
+LIES(nr_upquery, way, 16);
+TAKES(nr_id_writer, 8);
+TAKES(nr_id_reader, 8);
 
 static void wants(const char *what, uint64_t wanted, uint64_t got) {
   if (wanted == got) return;
@@ -55,7 +68,7 @@ static void wants(const char *what, uint64_t wanted, uint64_t got) {
 static void test_struct_sizes(void) {
   const size_t sizes[] = {sizeof(nr_row), sizeof(nr_rows), sizeof(nr_wanted), sizeof(nr_delta), sizeof(nr_shape),
     sizeof(nr_size), sizeof(nr_slots), sizeof(nr_writer), sizeof(nr_reader), sizeof(nr_remains), sizeof(nr_taker),
-    sizeof(nr_poster)};
+    sizeof(nr_poster), sizeof(nr_id_shape), sizeof(nr_upquery), sizeof(nr_id_writer), sizeof(nr_id_reader)};
   const uint32_t structs = sizeof sizes / sizeof sizes[0];
   for (uint32_t place = 0; place < structs; place++) wants("a struct's size", sizes[place], nr_struct_size(place));
   wants("no struct's size", 0, nr_struct_size(structs));
@@ -191,7 +204,7 @@ static void test_closing(void) {
 
 /* Each answer has words of its own, and the library is of this header's version. */
 static void test_words(void) {
-  const uint32_t answers = NR_READERS_OUT + 1;
+  const uint32_t answers = NR_BAD_ROW + 1;
   for (uint32_t one = 0; one < answers; one++)
     for (uint32_t other = one + 1; other <= answers; other++)
       wants("two answers in the same words", 1, strcmp(nr_strerror(one), nr_strerror(other)) != 0);

@@ -83,6 +83,21 @@ static void call_all(nr_writer *writer, nr_reader *reader, nr_taker *taker, nr_p
   want(slots.retired == sizes.slots, "retired slots, of which one was reaped");
 }
 
+/* And those by id. */
+static void call_ids(nr_id_writer *writer, nr_id_reader *reader) {
+  const nr_row rows[2] = {{1, 1}, {2, 2}};
+  const nr_delta batch = {{3, 3}, true};
+  static nr_rows found;
+  nr_upquery upquery;
+  want(nr_request_id(reader, 1) == NR_SEND && nr_admit(writer, 1, &upquery) == NR_SEND, "an admission");
+  want(nr_withdraw_id(writer, &upquery) == NR_CANCELLED, "a withdrawal");
+  want(nr_request_id(reader, 1) == NR_SEND && nr_admit(writer, 1, &upquery) == NR_SEND, "a second admission");
+  want(nr_fill_id(writer, &upquery, rows, 2) == NR_DONE, "a fill by id");
+  want(nr_update_id(writer, 1, &batch, 1) == NR_DONE && nr_replace_id(writer, 1, rows, 1) == NR_DONE, "writes by id");
+  want(nr_look_id(writer, 1, &found) == NR_ROWS && nr_find_id(reader, 1, &found) == NR_ROWS, "finds by id");
+  want(nr_evict_id(writer, 1) == NR_EVICTED, "an eviction by id");
+}
+
 /* All openings with one refusal, after that many grants; whether there was one. */
 static bool refuse(long after) {
   const nr_shape shape = {3, 6, 2, 4, 0, 0};
@@ -90,6 +105,9 @@ static bool refuse(long after) {
   nr_reader readers[2] = {{0}, {0}};
   nr_taker taker = {0};
   nr_poster poster = {0};
+  const nr_id_shape ids = {2, 8, 1, 4, 0, 0};
+  nr_id_writer id_writer = {0};
+  nr_id_reader id_reader = {0};
   refusals = 0;
   grants = after;
   while (again(nr_open(&shape, &writer), &writer.at, "a map")) {
@@ -101,9 +119,14 @@ static bool refuse(long after) {
   }
   while (again(nr_open_poster(&taker, &poster), &poster.at, "a poster")) {
   }
+  while (again(nr_open_ids(&ids, &id_writer), &id_writer.at, "a map over ids")) {
+  }
+  while (again(nr_open_id_reader(&id_writer, &id_reader), &id_reader.at, "a reader by id")) {
+  }
   want(refusals == (grants < 0), "one answer of no memory for one refusal");
   long before = requests;
   call_all(&writer, &readers[0], &taker, &poster);
+  call_ids(&id_writer, &id_reader);
   want(nr_return_reader(&writer, &readers[1]) == NR_DONE, "a reader that is returned");
   want(nr_return_poster(&taker, &poster) == NR_DONE, "a poster that is returned");
   want(requests == before, "calls that ask for no memory");
@@ -111,6 +134,8 @@ static bool refuse(long after) {
   nr_close_writer(&writer);
   nr_close_poster(&poster);
   nr_close_taker(&taker);
+  nr_close_id_reader(&id_reader);
+  nr_close_id_writer(&id_writer);
   return refusals;
 }
 

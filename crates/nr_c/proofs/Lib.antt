@@ -3,5 +3,8 @@ pub mod AsWriterBox
 pub mod AsPosterBox
 pub mod AsTakerBox
 pub mod AsRemainsBox
+pub mod AsIdReaderBox
+pub mod AsIdWriterBox
 pub mod Ending
 pub mod FindsMade
+pub mod LedgerLemmas

@@ -26,3 +26,16 @@ pub mod TakerHandles
 pub mod TakerFollows
 pub mod Queues
 pub mod Posting
+pub mod IdReaderHandles
+pub mod IdReaderFollows
+pub mod IdWriterHandles
+pub mod IdWriterFollows
+pub mod Ledgers
+pub mod IdGroups
+pub mod IdLive
+pub mod IdOpenings
+pub mod IdCodes
+pub mod IdRows
+pub mod IdReads
+pub mod IdWrites
+pub mod IdUpqueries

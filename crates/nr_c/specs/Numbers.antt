@@ -112,6 +112,12 @@ answer_held = 35
 abbrev pub answer_readers_out : ℕ
 answer_readers_out = 36
 
+abbrev pub answer_named : ℕ
+answer_named = 37
+
+abbrev pub answer_bad_row : ℕ
+answer_bad_row = 38
+
 -- the version 0.2.0, whose numbers have 8 bits each
 abbrev pub version : ℕ
 version = 512

@@ -121,6 +121,12 @@ pub const NR_HELD: u32 = 35;
 /// To what takes a map apart: some of its readers are not back.
 pub const NR_READERS_OUT: u32 = 36;
 
+/// To a request by id, or an admission: the id has a way.
+pub const NR_NAMED: u32 = 37;
+
+/// To a call by id: a row's first number is 0.
+pub const NR_BAD_ROW: u32 = 38;
+
 /// The number of a find's answer.
 pub fn of_found(found: Found) -> u32
     ensures { result ≡ found_code found }
@@ -131,7 +137,8 @@ pub fn of_found(found: Found) -> u32
     }
 }
 
-fn of_no_slot(counts: NoSlot) -> u32
+/// The number of a call that found no slot.
+pub fn of_no_slot(counts: NoSlot) -> u32
     ensures { result ≡ no_slot_code counts }
 {
     if counts.held == 0 {

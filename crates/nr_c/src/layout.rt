@@ -3,6 +3,10 @@
 ghost use Rattle.std.specs.Prelude.{◌≡◌};
 ghost use Rattle.nr_c.specs.Layout.{struct_size};
 
+use crate::id_reader_handle::NrIdReader;
+use crate::id_shape::NrIdShape;
+use crate::id_writer_handle::NrIdWriter;
+use crate::kept_upquery::NrUpquery;
 use crate::many::NrWanted;
 use crate::poster_handle::NrPoster;
 use crate::reader_handle::NrReader;
@@ -39,6 +43,14 @@ const _: () = prove!(size_of::<NrTaker>() == 8);
 
 const _: () = prove!(size_of::<NrPoster>() == 8);
 
+const _: () = prove!(size_of::<NrIdShape>() == 32);
+
+const _: () = prove!(size_of::<NrUpquery>() == 24);
+
+const _: () = prove!(size_of::<NrIdWriter>() == 8);
+
+const _: () = prove!(size_of::<NrIdReader>() == 8);
+
 const _: () = prove!(align_of::<NrRows>() == 8);
 
 /// How many bytes the struct takes that has this place among the header's, from 0; 0 beyond the last. No step.
@@ -59,6 +71,10 @@ pub extern "C" fn nr_struct_size(place: u32) -> u32
         9 => size_of::<NrRemains>(),
         10 => size_of::<NrTaker>(),
         11 => size_of::<NrPoster>(),
+        12 => size_of::<NrIdShape>(),
+        13 => size_of::<NrUpquery>(),
+        14 => size_of::<NrIdWriter>(),
+        15 => size_of::<NrIdReader>(),
         _ => 0,
     };
     size as u32

@@ -12,8 +12,23 @@
 
 mod codes;
 mod hand;
+mod id_codes;
+mod id_open;
+mod id_reader_handle;
+mod id_reader_lend;
+mod id_reader_side;
+mod id_reads;
+mod id_rows;
+mod id_shape;
+mod id_upqueries;
+mod id_writer_handle;
+mod id_writer_lend;
+mod id_writer_side;
+mod id_writes;
 mod kept;
+mod kept_upquery;
 mod layout;
+mod ledger;
 mod many;
 mod open;
 mod parts;

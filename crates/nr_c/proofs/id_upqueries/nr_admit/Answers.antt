@@ -1,0 +1,39 @@
+use Rattle.std.proofs.Common.{ap, arith, inl, inr, refl, sym, ◌∙◌}
+use Rattle.nr_c.proofs.id_upqueries.nr_admit.Goals as goal
+
+pub returns-then-id-eq0 : goal.returns-then-id-eq0
+returns-then-id-eq0 c = let (side, is) = c.if-not-is_live.ensures.live in inr (inl (
+  refl,
+  c.if-id-eq0.true,
+  refl,
+  (side, ap (λ handle. handle.live) (sym c.is_live.ensures.same) ∙ is),
+  ap (λ handle. handle.live) c.is_live.ensures.same,
+))
+
+pub returns-in-Ok : goal.returns-in-Ok
+returns-in-Ok c = inr (inr (
+  omega (arith, c.if-id-eq0.false),
+  record {
+    old = c.side-side.result.now;
+    new = _;
+    was = ap (λ handle. handle.live) (sym c.is_live.ensures.same) ∙ c.side-side.ensures.value;
+    is = refl;
+    map = refl;
+    spare = refl;
+    made = inl (record { code_is = refl; upquery = c.in-Ok.opened; admits = c.in-Ok.ensures.admits.1; numbers = c.of.ensures; keeps = c.keep.ensures });
+  },
+))
+
+pub returns-in-Err : goal.returns-in-Err
+returns-in-Err c = inr (inr (
+  omega (arith, c.if-id-eq0.false),
+  record {
+    old = c.side-side.result.now;
+    new = _;
+    was = ap (λ handle. handle.live) (sym c.is_live.ensures.same) ∙ c.side-side.ensures.value;
+    is = refl;
+    map = refl;
+    spare = refl;
+    made = inr (record { why = c.in-Err.why; code_is = c.of_refused.ensures; refuses = c.in-Err.ensures.refused; stays = refl; keeps = refl });
+  },
+))

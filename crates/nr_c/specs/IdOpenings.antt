@@ -1,0 +1,53 @@
+-- What opens a map over ids and its handles.
+use Rattle.std.specs.Prelude.{ℕ, ◌≡◌, ◌↔◌, ◌⊎◌, List, [], ◌∷◌, ◌++◌, None, replicate}
+use Rattle.nr_idmap.specs.declared.id_map.IdShape.{IdShape}
+use Rattle.nr_idmap.specs.IdOpenings.{IsBadIdShape, OpensIds}
+use Rattle.nr_idmap.specs.Keepers.{IdCaller}
+use Rattle.nr_c.specs.declared.id_reader_side.IdReaderSide.{IdReaderSide}
+use Rattle.nr_c.specs.declared.id_shape.NrIdShape.{NrIdShape}
+use Rattle.nr_c.specs.declared.id_writer_side.IdWriterSide.{IdWriterSide}
+use Rattle.nr_c.specs.Numbers.{answer_bad_size, answer_done, answer_no_memory, answer_no_reader}
+
+abbrev pub id_shape_of : NrIdShape → IdShape
+id_shape_of shape = record { groups = shape.groups; key = shape.key; slots = shape.slots; readers = shape.readers; rows = shape.rows; first_number = shape.first_number }
+
+-- the writer's side of a new map over ids: its writer, its readers, none of which has a handle, and no upquery
+pub record IsNewIdWriter (shape : IdShape) (side : IdWriterSide) : Type 0 where
+  pub opens : OpensIds shape side.map.value side.writer side.spare.items
+  pub none_kept : side.ledger ≡ replicate side.map.value.map.shape.keys None
+
+-- the handle leads to the side of a new map, or nowhere
+abbrev pub LeadsToIds : IdShape → ℕ → List IdWriterSide → Type 0
+LeadsToIds shape code after = ((code ≡ answer_done) × (side : IdWriterSide) × (after ≡ side ∷ []) × IsNewIdWriter shape side) ⊎ (((code ≡ answer_bad_size) ⊎ (code ≡ answer_no_memory)) × (after ≡ []))
+
+-- an opening by its code: sizes out of their limits are refused
+abbrev pub OpensIdMap : IdShape → ℕ → List IdWriterSide → Type 0
+OpensIdMap shape code after = ((code ≡ answer_bad_size) ↔ IsBadIdShape shape) × LeadsToIds shape code after
+
+-- the writer's handle leads to one side, of the same map, with the same writer and upqueries, and these readers have no handle
+pub record KeepsIdWriter (before after : List IdWriterSide) (had has : List IdCaller) : Type 0 where
+  pub old : IdWriterSide
+  pub new : IdWriterSide
+  pub was : before ≡ old ∷ []
+  pub is : after ≡ new ∷ []
+  pub map : new.map ≡ old.map
+  pub writer : new.writer ≡ old.writer
+  pub ledger : new.ledger ≡ old.ledger
+  pub had_spare : old.spare.items ≡ had
+  pub has_spare : new.spare.items ≡ has
+
+-- the reader's handle leads to the side of that reader, of the writer's map
+pub record LeadsToIdReader (before : List IdWriterSide) (reader : IdCaller) (handle : List IdReaderSide) : Type 0 where
+  pub held : IdWriterSide
+  pub side : IdReaderSide
+  pub was : before ≡ held ∷ []
+  pub is : handle ≡ side ∷ []
+  pub map : side.map.value ≡ held.map.value
+  pub reader_is : side.reader ≡ reader
+
+-- no reader is without a handle; or the last one without gets one, or for want of memory stays without
+abbrev pub TakesIdReader : ℕ → List IdWriterSide → List IdReaderSide → List IdWriterSide → List IdReaderSide → Type 0
+TakesIdReader code before other after handle =
+    ((code ≡ answer_no_reader) × KeepsIdWriter before after [] [] × (handle ≡ other))
+    ⊎ ((code ≡ answer_done) × (rest : List IdCaller) × (reader : IdCaller) × KeepsIdWriter before after (rest ++ reader ∷ []) rest × LeadsToIdReader before reader handle)
+    ⊎ ((code ≡ answer_no_memory) × (rest : List IdCaller) × (reader : IdCaller) × KeepsIdWriter before after (rest ++ reader ∷ []) (rest ++ reader ∷ []) × (handle ≡ other))

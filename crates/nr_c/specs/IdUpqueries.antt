@@ -1,0 +1,85 @@
+-- What the calls of the writer by id say that open and close upqueries, by their codes.
+use Rattle.std.specs.Prelude.{ℕ, ◌≡◌, ◌⊎◌, List, Option, Some, Result, Ok, Err, set}
+use Rattle.nr_model.specs.declared.rows.Row.{Row}
+use Rattle.nr_ids.specs.declared.admissions.Refused.{Refused}
+use Rattle.nr_idmap.specs.declared.upqueries.Unfilled.{Unfilled}
+use Rattle.nr_idmap.specs.declared.upqueries.Unfilled.TheVariants as unfilled
+use Rattle.nr_idmap.specs.declared.upqueries.Withdrawn.{Withdrawn}
+use Rattle.nr_idmap.specs.declared.upqueries.Withdrawn.TheVariants as withdrawn
+use Rattle.nr_idmap.specs.IdWrites.{AdmitsId, FillsId, RefusesId, WithdrawsId}
+use Rattle.nr_idmap.specs.Keepers.{Keeper, Sent, id_rows}
+use Rattle.nr_idmap.specs.Tags.{IsIdSet}
+use Rattle.nr_c.specs.declared.kept_upquery.NrUpquery.{NrUpquery}
+use Rattle.nr_c.specs.IdCodes.{filled_code, refused_code, withdrawn_code}
+use Rattle.nr_c.specs.IdRows.{AreIdRowsRefused}
+use Rattle.nr_c.specs.Ledgers.{GivesUp, KeepsNone, owed_of}
+use Rattle.nr_c.specs.Numbers.{answer_send, answer_stale}
+
+-- the upquery that the map opened is kept, and its numbers are told
+pub record AdmitsAndKeeps (id : ℕ) (told : NrUpquery) (code : ℕ) (old : Keeper) (kept : List (Option Sent)) (new : Keeper) (kept' : List (Option Sent)) : Type 0 where
+  pub code_is : code ≡ answer_send
+  pub upquery : Sent
+  pub admits : AdmitsId id old upquery.owed new
+  pub numbers : owed_of told ≡ upquery.owed
+  pub keeps : kept' ≡ set kept upquery.owed.way (Some upquery)
+
+-- the directory refuses, and nothing else happened
+pub record AdmitsNot (id : ℕ) (before after : NrUpquery) (code : ℕ) (old : Keeper) (kept : List (Option Sent)) (new : Keeper) (kept' : List (Option Sent)) : Type 0 where
+  pub why : Refused
+  pub code_is : code ≡ refused_code why
+  pub refuses : RefusesId id old why new
+  pub stays : after ≡ before
+  pub keeps : kept' ≡ kept
+
+abbrev pub AdmitsByCode : ℕ → NrUpquery → NrUpquery → ℕ → Keeper → List (Option Sent) → Keeper → List (Option Sent) → Type 0
+AdmitsByCode id before after code old kept new kept' = AdmitsAndKeeps id after code old kept new kept' ⊎ AdmitsNot id before after code old kept new kept'
+
+-- no upquery with these numbers is open
+pub record IsStale (wanted : NrUpquery) (code : ℕ) (old : Keeper) (kept : List (Option Sent)) (new : Keeper) (kept' : List (Option Sent)) : Type 0 where
+  pub code_is : code ≡ answer_stale
+  pub stays : new ≡ old
+  pub none : KeepsNone wanted kept kept'
+
+-- one that comes back is kept again
+abbrev pub kept_unfilled : Result (Unit {0}) Unfilled → List (Option Sent) → List (Option Sent)
+kept_unfilled (Ok done) kept = kept
+kept_unfilled (Err unfilled.Closed) kept = kept
+kept_unfilled (Err (unfilled.NoSlot upquery counts)) kept = set kept upquery.owed.way (Some upquery)
+
+abbrev pub kept_worn : Withdrawn → List (Option Sent) → List (Option Sent)
+kept_worn withdrawn.Done kept = kept
+kept_worn withdrawn.Closed kept = kept
+kept_worn (withdrawn.Worn upquery) kept = set kept upquery.owed.way (Some upquery)
+
+-- the one that was kept is the map's fill
+pub record FillsKept (wanted : NrUpquery) (rows : List Row) (code : ℕ) (old : Keeper) (kept : List (Option Sent)) (new : Keeper) (kept' : List (Option Sent)) : Type 0 where
+  pub upquery : Sent
+  pub rest : List (Option Sent)
+  pub gives_up : GivesUp wanted upquery kept rest
+  pub answer : Result (Unit {0}) Unfilled
+  pub code_is : code ≡ filled_code answer
+  pub fills : FillsId upquery.owed rows old new answer
+  pub keeps : kept' ≡ kept_unfilled answer rest
+
+-- rows that are no id's change nothing
+pub record RefusesIdRows (rows : List Row) (code : ℕ) (old : Keeper) (kept : List (Option Sent)) (new : Keeper) (kept' : List (Option Sent)) : Type 0 where
+  pub refused : AreIdRowsRefused (id_rows old.table) rows code
+  pub stays : new ≡ old
+  pub keeps : kept' ≡ kept
+
+abbrev pub FillsIdByCode : NrUpquery → List Row → ℕ → Keeper → List (Option Sent) → Keeper → List (Option Sent) → Type 0
+FillsIdByCode wanted rows code old kept new kept' =
+    RefusesIdRows rows code old kept new kept'
+    ⊎ (IsIdSet (id_rows old.table) rows × (IsStale wanted code old kept new kept' ⊎ FillsKept wanted rows code old kept new kept'))
+
+pub record WithdrawsKept (wanted : NrUpquery) (code : ℕ) (old : Keeper) (kept : List (Option Sent)) (new : Keeper) (kept' : List (Option Sent)) : Type 0 where
+  pub upquery : Sent
+  pub rest : List (Option Sent)
+  pub gives_up : GivesUp wanted upquery kept rest
+  pub answer : Withdrawn
+  pub code_is : code ≡ withdrawn_code answer
+  pub withdraws : WithdrawsId upquery.owed old new answer
+  pub keeps : kept' ≡ kept_worn answer rest
+
+abbrev pub WithdrawsByCode : NrUpquery → ℕ → Keeper → List (Option Sent) → Keeper → List (Option Sent) → Type 0
+WithdrawsByCode wanted code old kept new kept' = IsStale wanted code old kept new kept' ⊎ WithdrawsKept wanted code old kept new kept'

@@ -1,0 +1,156 @@
+/* A map over ids of 64 bits, of which few are resident: an id is claimed once, admitted, filled, changed and evicted, and
+   a late answer fills no later absence. Each function gives each of its answers. */
+#include "../../include/nr.h"
+#include <stdio.h>
+#include <stdlib.h>
+
+#define WANTS(answer, call) wants(answer, call, #call)
+
+static void wants(uint32_t wanted, uint32_t got, const char *call) {
+  if (wanted == got) return;
+  fprintf(stderr, "ids: %s: wanted \"%s\", got \"%s\"\n", call, nr_strerror(wanted), nr_strerror(got));
+  exit(1);
+}
+
+static const uint64_t USER = 0xfeedfacecafebeef;
+static const nr_row ORDERS[] = {{1, 5}, {2, 9}};
+static nr_rows rows;
+
+/* A get that misses: the one whose request is answered NR_SEND passes the id to the thread that writes. */
+static nr_upquery admitted(nr_id_writer *writer, nr_id_reader *reader, uint64_t id) {
+  nr_upquery upquery = {0};
+  WANTS(NR_HOLE, nr_find_id(reader, id, &rows));
+  WANTS(NR_SEND, nr_request_id(reader, id));
+  WANTS(NR_WAITING, nr_request_id(reader, id));
+  WANTS(NR_SEND, nr_admit(writer, id, &upquery));
+  WANTS(NR_ASKED, nr_find_id(reader, id, &rows));
+  WANTS(NR_NAMED, nr_request_id(reader, id));
+  return upquery;
+}
+
+static void test_life(nr_id_writer *writer, nr_id_reader *reader) {
+  const nr_delta batch[] = {{{1, 5}, false}, {{3, 7}, true}};
+  nr_upquery other = {USER, 0, 0}, upquery;
+  WANTS(NR_NOT_ASKED, nr_admit(writer, USER, &other));
+  WANTS(NR_HOLE, nr_look_id(writer, USER, &rows));
+  WANTS(NR_NOTHING, nr_evict_id(writer, USER));
+  WANTS(NR_NOTHING, nr_update_id(writer, USER, batch, 2));
+  upquery = admitted(writer, reader, USER);
+  WANTS(NR_ASKED, nr_look_id(writer, USER, &rows));
+  WANTS(NR_DROPPED, nr_replace_id(writer, USER, ORDERS, 1));
+  WANTS(NR_NOTHING, nr_evict_id(writer, USER));
+  other = upquery;
+  other.number++;
+  WANTS(NR_STALE, nr_fill_id(writer, &other, ORDERS, 2));
+  WANTS(NR_DONE, nr_fill_id(writer, &upquery, ORDERS, 2));
+  WANTS(NR_STALE, nr_fill_id(writer, &upquery, ORDERS, 2));
+  WANTS(NR_STALE, nr_withdraw_id(writer, &upquery));
+  WANTS(NR_DONE, nr_update_id(writer, USER, batch, 2));
+  WANTS(NR_NO_ROW, nr_update_id(writer, USER, batch, 2));
+  WANTS(NR_ROWS, nr_find_id(reader, USER, &rows));
+  if (rows.count != 2 || rows.row[0].a != 2 || rows.row[0].b != 9 || rows.row[1].a != 3) WANTS(NR_ROWS, NR_OTHER);
+  WANTS(NR_DONE, nr_replace_id(writer, USER, ORDERS, 1));
+  WANTS(NR_ROWS, nr_look_id(writer, USER, &rows));
+  WANTS(NR_EVICTED, nr_evict_id(writer, USER));
+  /* The base changes while the rows are on their way. */
+  upquery = admitted(writer, reader, USER);
+  WANTS(NR_CANCELLED, nr_withdraw_id(writer, &upquery));
+  other = admitted(writer, reader, USER);
+  WANTS(NR_STALE, nr_fill_id(writer, &upquery, ORDERS, 2));
+  WANTS(NR_DONE, nr_fill_id(writer, &other, ORDERS, 2));
+}
+
+static void test_refusals(nr_id_writer *writer, nr_id_reader *reader) {
+  const nr_row zero[] = {{0, 1}}, mixed[] = {{2, 1}, {1, 1}}, many[] = {{1, 1}, {2, 1}, {3, 1}, {4, 1}};
+  const nr_delta tag[] = {{{0, 1}, true}};
+  nr_upquery upquery = admitted(writer, reader, 7);
+  WANTS(NR_BAD_ROW, nr_fill_id(writer, &upquery, zero, 1));
+  WANTS(NR_NOT_SORTED, nr_fill_id(writer, &upquery, mixed, 2));
+  WANTS(NR_TOO_MANY, nr_fill_id(writer, &upquery, many, 4));
+  WANTS(NR_BAD_ROW, nr_replace_id(writer, USER, zero, 1));
+  WANTS(NR_BAD_ROW, nr_update_id(writer, USER, tag, 1));
+  WANTS(NR_BAD_BATCH, nr_update_id(writer, USER, tag, 0));
+  WANTS(NR_NO_KEY, nr_find_id(reader, 0, &rows));
+  WANTS(NR_NO_KEY, nr_request_id(reader, 0));
+  WANTS(NR_NO_KEY, nr_admit(writer, 0, &upquery));
+  WANTS(NR_NO_KEY, nr_evict_id(writer, 0));
+  WANTS(NR_DONE, nr_fill_id(writer, &upquery, ORDERS, 0));
+}
+
+/* The ids of a full group: one makes room. */
+static void test_full(const nr_id_shape *shape, nr_id_writer *writer, nr_id_reader *reader) {
+  uint64_t ids[9], found = 0;
+  nr_upquery upquery;
+  for (uint64_t id = 1000; found < 9; id++)
+    if (nr_id_group(shape, id) == 1) ids[found++] = id;
+  WANTS(NR_EVICTED, nr_evict_id(writer, USER));
+  WANTS(NR_EVICTED, nr_evict_id(writer, 7));
+  for (int next = 0; next < 8; next++) {
+    upquery = admitted(writer, reader, ids[next]);
+    WANTS(NR_DONE, nr_fill_id(writer, &upquery, ORDERS, 1));
+  }
+  WANTS(NR_SEND, nr_request_id(reader, ids[8]));
+  WANTS(NR_FULL, nr_admit(writer, ids[8], &upquery));
+  WANTS(NR_EVICTED, nr_evict_id(writer, ids[3]));
+  WANTS(NR_SEND, nr_admit(writer, ids[8], &upquery));
+  WANTS(NR_DONE, nr_fill_id(writer, &upquery, ORDERS, 2));
+  for (int next = 0; next < 9; next++) WANTS(next == 3 ? NR_HOLE : NR_ROWS, nr_find_id(reader, ids[next], &rows));
+}
+
+static void test_closed(nr_id_writer *writer, nr_id_reader *reader) {
+  nr_upquery upquery = {0};
+  nr_id_reader other = {0};
+  WANTS(NR_CLOSED, nr_open_id_reader(writer, &other));
+  WANTS(NR_CLOSED, nr_find_id(reader, USER, &rows));
+  WANTS(NR_CLOSED, nr_request_id(reader, USER));
+  WANTS(NR_CLOSED, nr_look_id(writer, USER, &rows));
+  WANTS(NR_CLOSED, nr_admit(writer, USER, &upquery));
+  WANTS(NR_CLOSED, nr_fill_id(writer, &upquery, ORDERS, 1));
+  WANTS(NR_CLOSED, nr_withdraw_id(writer, &upquery));
+  WANTS(NR_CLOSED, nr_replace_id(writer, USER, ORDERS, 1));
+  WANTS(NR_CLOSED, nr_evict_id(writer, USER));
+  nr_close_id_reader(reader);
+  nr_close_id_writer(writer);
+}
+
+/* Where there are few slots a fill may lack one, and its upquery stays open. */
+static void test_slots(void) {
+  const nr_id_shape few = {.groups = 4, .slots = 1, .readers = 1, .rows = 3, .first_number = 4194303};
+  nr_id_writer writer = {0};
+  nr_id_reader reader = {0};
+  WANTS(NR_DONE, nr_open_ids(&few, &writer));
+  WANTS(NR_DONE, nr_open_id_reader(&writer, &reader));
+  nr_upquery one = admitted(&writer, &reader, 1), two = admitted(&writer, &reader, 2);
+  WANTS(NR_DONE, nr_fill_id(&writer, &one, ORDERS, 1));
+  WANTS(NR_ALL_FILLED, nr_fill_id(&writer, &two, ORDERS, 1));
+  WANTS(NR_WORN, nr_withdraw_id(&writer, &two));
+  WANTS(NR_EVICTED, nr_evict_id(&writer, 1));
+  WANTS(NR_DONE, nr_fill_id(&writer, &two, ORDERS, 1));
+  nr_close_id_writer(&writer);
+  WANTS(NR_ROWS, nr_find_id(&reader, 2, &rows));
+  nr_close_id_reader(&reader);
+}
+
+int main(void) {
+  const nr_id_shape shape = {.groups = 2, .slots = 2 * 8 + 1 + 2, .readers = 1, .rows = 3, .key = 0x9e3779b97f4a7c15};
+  const nr_id_shape none = {.groups = 0, .slots = 1, .readers = 1, .rows = 1};
+  nr_id_writer writer = {0};
+  nr_id_reader reader = {0}, second = {0};
+  test_closed(&writer, &reader);
+  test_closed(NULL, NULL);
+  WANTS(NR_BAD_SIZE, nr_open_ids(&none, &writer));
+  WANTS(NR_DONE, nr_open_ids(&shape, &writer));
+  WANTS(NR_LIVE, nr_open_ids(&shape, &writer));
+  WANTS(NR_DONE, nr_open_id_reader(&writer, &reader));
+  WANTS(NR_LIVE, nr_open_id_reader(&writer, &reader));
+  WANTS(NR_NO_READER, nr_open_id_reader(&writer, &second));
+  test_life(&writer, &reader);
+  test_refusals(&writer, &reader);
+  test_full(&shape, &writer, &reader);
+  nr_close_id_reader(&reader);
+  nr_close_id_writer(&writer);
+  test_closed(&writer, &reader);
+  test_slots();
+  puts("an id was claimed once for each absence");
+  return 0;
+}
