@@ -1,4 +1,5 @@
 //! The functions of `include/nr.h`.
+use crate::ids::{IdShape, Upquery};
 use crate::{Delta, Row, Rows, Shape, Sizes, SlotCounts, Wanted};
 use std::ffi::c_void;
 
@@ -30,6 +31,7 @@ pub const NR_NO_SLOT: u32 = 12;
 pub const NR_EVICTED: u32 = 13;
 pub const NR_CANCELLED: u32 = 14;
 pub const NR_NOTHING: u32 = 15;
+pub const NR_WORN: u32 = 16;
 pub const NR_BAD_BATCH: u32 = 18;
 pub const NR_NOT_SORTED: u32 = 19;
 pub const NR_BAD_SIZE: u32 = 20;
@@ -89,4 +91,16 @@ extern "C" {
     pub fn nr_close_taker(taker: *mut Handle);
     pub fn nr_post(poster: *mut Handle, key: u32, number: u64) -> u32;
     pub fn nr_take(taker: *mut Handle, key: *mut u32, number: *mut u64) -> u32;
+    pub fn nr_id_group(shape: *const IdShape, id: u64) -> u32;
+    pub fn nr_open_ids(shape: *const IdShape, writer: *mut Handle) -> u32;
+    pub fn nr_open_id_reader(writer: *mut Handle, reader: *mut Handle) -> u32;
+    pub fn nr_close_id_reader(reader: *mut Handle);
+    pub fn nr_close_id_writer(writer: *mut Handle);
+    pub fn nr_find_id(reader: *mut Handle, id: u64, rows: *mut Rows) -> u32;
+    pub fn nr_request_id(reader: *mut Handle, id: u64) -> u32;
+    pub fn nr_admit(writer: *mut Handle, id: u64, upquery: *mut Upquery) -> u32;
+    pub fn nr_fill_id(writer: *mut Handle, upquery: *const Upquery, rows: *const Row, n: usize) -> u32;
+    pub fn nr_withdraw_id(writer: *mut Handle, upquery: *const Upquery) -> u32;
+    pub fn nr_replace_id(writer: *mut Handle, id: u64, rows: *const Row, n: usize) -> u32;
+    pub fn nr_evict_id(writer: *mut Handle, id: u64) -> u32;
 }

@@ -114,9 +114,11 @@
 //! ```
 
 mod answers;
+mod cache;
 mod emptied;
 mod ends;
 mod ffi;
+mod ids;
 mod inbox;
 mod library;
 mod lobby;
@@ -135,6 +137,7 @@ mod values;
 mod writer;
 
 pub use answers::{Asked, Cancel, Fault, KeyKind, Updated};
+pub use cache::{Cache, CacheBuilder, CacheReader, CacheRef, CacheStats, LoadError};
 pub use emptied::Emptied;
 pub use inbox::{Arrival, EventSender, Inbox, InboxPoster, InboxTaker};
 pub use lobby::Lobby;

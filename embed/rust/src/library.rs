@@ -1,5 +1,6 @@
 //! Whether the library that is linked is the one of this crate's version.
 use crate::ffi::{self, Handle};
+use crate::ids::{IdShape, Upquery};
 use crate::{Delta, Fault, Row, Rows, Shape, Sizes, SlotCounts, Wanted};
 use std::mem::size_of;
 
@@ -13,8 +14,8 @@ macro_rules! version {
 /// What is said of any other.
 pub const IS_ANOTHER: &str = concat!("the library that is linked isn't that of version ", version!());
 
-/// What the header's structs take here, in its order: the last five are handles.
-const SIZES: [usize; 12] = [
+/// What the header's structs take here, in its order: five of them are handles, as are the last two.
+const SIZES: [usize; 16] = [
     size_of::<Row>(),
     size_of::<Rows>(),
     size_of::<Wanted>(),
@@ -25,6 +26,10 @@ const SIZES: [usize; 12] = [
     size_of::<Handle>(),
     size_of::<Handle>(),
     size_of::<Handle>(),
+    size_of::<Handle>(),
+    size_of::<Handle>(),
+    size_of::<IdShape>(),
+    size_of::<Upquery>(),
     size_of::<Handle>(),
     size_of::<Handle>(),
 ];

@@ -1,0 +1,56 @@
+//! What a set of the cache's map refers to.
+use super::expiry::Moment;
+use crate::Row;
+use std::panic::{catch_unwind, resume_unwind, AssertUnwindSafe};
+use std::ptr::NonNull;
+use std::sync::atomic::{AtomicBool, AtomicU64, Ordering::Relaxed};
+
+/// A value with its key, in a box of its own that the store owns.
+pub(super) struct Entry<K, V> {
+    pub id: u64,
+    pub key: K,
+    pub value: V,
+    pub born: Moment,
+    /// When it was last found, as far as the time to idle asks.
+    pub touched: AtomicU64,
+    /// Whether it was found since the store last looked for something to evict.
+    pub used: AtomicBool,
+}
+
+impl<K, V> Entry<K, V> {
+    pub fn new(id: u64, key: K, value: V, now: Moment) -> Entry<K, V> {
+        Entry { id, key, value, born: now, touched: AtomicU64::new(now), used: AtomicBool::new(false) }
+    }
+
+    /// Notes that it was found, and writes only what isn't so yet.
+    pub fn mark(&self) {
+        if !self.used.load(Relaxed) {
+            self.used.store(true, Relaxed);
+        }
+    }
+}
+
+/// The row of an entry's set.
+pub(super) fn row_of<K, V>(entry: NonNull<Entry<K, V>>) -> Row {
+    Row { a: 1, b: entry.as_ptr() as u64 }
+}
+
+/// The entry that the rows of a set refer to.
+pub(super) fn entry_of<K, V>(rows: &[Row]) -> Option<NonNull<Entry<K, V>>> {
+    NonNull::new(rows.first()?.b as *mut Entry<K, V>)
+}
+
+/// Drops each of them, also where the drop of one panics.
+pub(super) fn drop_each<T>(doomed: Vec<T>) {
+    let mut panicked = None;
+    for one in doomed {
+        if let Err(why) = catch_unwind(AssertUnwindSafe(|| drop(one))) {
+            panicked.get_or_insert(why);
+        }
+    }
+    if let Some(why) = panicked {
+        if !std::thread::panicking() {
+            resume_unwind(why);
+        }
+    }
+}

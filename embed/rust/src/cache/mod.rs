@@ -1,0 +1,115 @@
+//! A cache of values of any type by keys of any type.
+mod builder;
+mod entry;
+mod expiry;
+mod flights;
+mod reader;
+mod seats;
+mod shared;
+mod stats;
+mod store;
+
+pub use builder::CacheBuilder;
+pub use reader::{CacheReader, CacheRef, LoadError};
+pub use stats::CacheStats;
+
+use entry::Entry;
+use shared::Shared;
+use std::borrow::Borrow;
+use std::collections::hash_map::RandomState;
+use std::fmt;
+use std::hash::{BuildHasher, Hash};
+use std::sync::{Arc, PoisonError};
+
+/// A cache in front of something slow: it holds so many values, of keys from a set of any size, and has each missing
+/// value loaded once, however many threads miss it. A get that finds its key takes no lock, and writes no word that
+/// others read but its key's and its reader's.
+///
+/// It is a handle: clones are of one cache, whose memory goes with the last of them and of its readers.
+///
+/// ```
+/// use nr::Cache;
+///
+/// let cache: Cache<String, usize> = Cache::builder().capacity(100).open()?;
+/// let mut reader = cache.reader().expect("there are readers left");
+/// assert!(reader.get("four").is_none());
+/// assert_eq!(*reader.get_with("four", || "four".len()), 4);
+/// assert_eq!(reader.get("four").as_deref(), Some(&4));
+/// cache.invalidate("four");
+/// assert_eq!(reader.try_get_with("four", || Err("no answer")).map(|found| *found), Err("no answer"));
+/// # Ok::<(), nr::Fault>(())
+/// ```
+pub struct Cache<K: Hash + Eq, V, S: BuildHasher = RandomState> {
+    shared: Arc<Shared<K, V, S>>,
+}
+
+impl<K: Hash + Eq, V> Cache<K, V> {
+    /// What a cache is opened with.
+    pub fn builder() -> CacheBuilder<K, V> {
+        CacheBuilder::new()
+    }
+}
+
+impl<K: Hash + Eq, V, S: BuildHasher> Cache<K, V, S> {
+    /// A reader for the thread that asks, or none where all are out.
+    pub fn reader(&self) -> Option<CacheReader<K, V, S>> {
+        let (ids, seat) = self.shared.spare.lock().unwrap_or_else(PoisonError::into_inner).pop()?;
+        Some(CacheReader::of(ids, seat, self.clone()))
+    }
+
+    /// Puts a value, whatever its key has. A load that is under way for the key will not be held. Whether the cache holds
+    /// the value: it doesn't where another key has its hash, or where all of its group is being loaded.
+    pub fn insert(&self, key: K, value: V) -> bool {
+        let id = self.shared.id_of(&key);
+        self.shared.put(Box::new(Entry::new(id, key, value, self.shared.now())))
+    }
+
+    /// Takes a key's value: whether there was one. No get that begins after this has returned sees it, nor what a load
+    /// gives that began before.
+    pub fn invalidate<Q: Hash + Eq + ?Sized>(&self, key: &Q) -> bool
+    where
+        K: Borrow<Q>,
+    {
+        self.shared.invalidate(self.shared.id_of(key), key)
+    }
+
+    /// Takes each key's value, as [`Cache::invalidate`] does one.
+    pub fn invalidate_all(&self) {
+        self.shared.invalidate_all();
+    }
+
+    /// How many entries it holds, of which some may have expired.
+    pub fn len(&self) -> usize {
+        self.shared.held()
+    }
+
+    /// Whether it holds none.
+    pub fn is_empty(&self) -> bool {
+        self.len() == 0
+    }
+
+    /// How many entries it holds at most.
+    pub fn capacity(&self) -> usize {
+        self.shared.capacity
+    }
+
+    /// What it has counted.
+    pub fn stats(&self) -> CacheStats {
+        self.shared.counts.stats(self.shared.seats.hits())
+    }
+}
+
+impl<K: Hash + Eq, V, S: BuildHasher> Clone for Cache<K, V, S> {
+    fn clone(&self) -> Self {
+        Cache { shared: Arc::clone(&self.shared) }
+    }
+}
+
+impl<K: Hash + Eq, V, S: BuildHasher> fmt::Debug for Cache<K, V, S> {
+    fn fmt(&self, f: &mut fmt::Formatter<'_>) -> fmt::Result {
+        f.debug_struct("Cache")
+            .field("capacity", &self.capacity())
+            .field("stats", &self.stats())
+            .finish_non_exhaustive()
+    }
+}

@@ -1,0 +1,324 @@
+//! What a thread finds and loads values with.
+use super::entry::{entry_of, Entry};
+use super::flights::Flight;
+use super::seats::Seat;
+use super::shared::{Begun, Landed, Shared};
+use super::stats::count;
+use super::store::Place;
+use super::Cache;
+use crate::ids::IdReader;
+use crate::Rows;
+use std::borrow::Borrow;
+use std::convert::Infallible;
+use std::error::Error;
+use std::fmt;
+use std::hash::{BuildHasher, Hash};
+use std::mem::ManuallyDrop;
+use std::ops::Deref;
+use std::sync::{Arc, PoisonError};
+use std::time::{Duration, Instant};
+
+/// A reader of a cache, for one thread at a time. Dropped, it goes back to its cache by itself.
+///
+/// A thread that waits for a load while it runs a load of its own, or that loads a key within the load of the same key,
+/// may wait for itself: give a load's inner gets a time limit.
+pub struct CacheReader<K: Hash + Eq, V, S: BuildHasher> {
+    ids: ManuallyDrop<IdReader>,
+    seat: usize,
+    rows: Box<Rows>,
+    cache: Cache<K, V, S>,
+}
+
+impl<K: Hash + Eq, V, S: BuildHasher> CacheReader<K, V, S> {
+    pub(super) fn of(ids: IdReader, seat: usize, cache: Cache<K, V, S>) -> CacheReader<K, V, S> {
+        CacheReader { ids: ManuallyDrop::new(ids), seat, rows: Box::default(), cache }
+    }
+
+    /// The cache that it reads.
+    pub fn cache(&self) -> &Cache<K, V, S> {
+        &self.cache
+    }
+
+    /// The value of a key, where the cache holds it. It stays as it is while it is borrowed, whatever happens to its key.
+    /// Takes no lock.
+    pub fn get<Q: Hash + Eq + ?Sized>(&mut self, key: &Q) -> Option<CacheRef<'_, K, V>>
+    where
+        K: Borrow<Q>,
+    {
+        let id = self.shared().id_of(key);
+        let found = self.find(id, key);
+        if found.is_none() {
+            count(&self.shared().counts.misses);
+        }
+        found.map(|place| self.borrowed(place))
+    }
+
+    /// The value of a key. Where the cache doesn't hold it, one caller loads it, by its own thread and without a lock,
+    /// and the others wait for that.
+    pub fn get_with<Q>(&mut self, key: &Q, load: impl FnOnce() -> V) -> CacheRef<'_, K, V>
+    where
+        K: Borrow<Q>,
+        Q: Hash + Eq + ToOwned<Owned = K> + ?Sized,
+    {
+        match self.obtain(key, None, || Ok::<V, Infallible>(load())) {
+            Ok(found) => found,
+            Err(LoadError::Failed(never)) => match never {},
+            Err(LoadError::TimedOut) => unreachable!("it has no time limit"),
+        }
+    }
+
+    /// As [`CacheReader::get_with`], by a load that may fail. Where it does, or panics, one of those who wait tries.
+    pub fn try_get_with<Q, E>(&mut self, key: &Q, load: impl FnOnce() -> Result<V, E>) -> Result<CacheRef<'_, K, V>, E>
+    where
+        K: Borrow<Q>,
+        Q: Hash + Eq + ToOwned<Owned = K> + ?Sized,
+    {
+        self.obtain(key, None, load).map_err(|why| match why {
+            LoadError::Failed(why) => why,
+            LoadError::TimedOut => unreachable!("it has no time limit"),
+        })
+    }
+
+    /// As [`CacheReader::get_with`], and none once it has waited that long for others. Its own load has no limit.
+    pub fn get_with_timeout<Q>(
+        &mut self,
+        key: &Q,
+        timeout: Duration,
+        load: impl FnOnce() -> V,
+    ) -> Option<CacheRef<'_, K, V>>
+    where
+        K: Borrow<Q>,
+        Q: Hash + Eq + ToOwned<Owned = K> + ?Sized,
+    {
+        self.obtain(key, Some(timeout), || Ok::<V, Infallible>(load())).ok()
+    }
+
+    /// As [`CacheReader::try_get_with`], and refused with [`LoadError::TimedOut`] once it has waited that long for others.
+    pub fn try_get_with_timeout<Q, E>(
+        &mut self,
+        key: &Q,
+        timeout: Duration,
+        load: impl FnOnce() -> Result<V, E>,
+    ) -> Result<CacheRef<'_, K, V>, LoadError<E>>
+    where
+        K: Borrow<Q>,
+        Q: Hash + Eq + ToOwned<Owned = K> + ?Sized,
+    {
+        self.obtain(key, Some(timeout), load)
+    }
+
+    /// Puts a new value in place of a key's, made of the one that it has; `change` runs again where that was replaced
+    /// meanwhile. Whether the cache held one.
+    pub fn update<Q>(&mut self, key: &Q, mut change: impl FnMut(&V) -> V) -> bool
+    where
+        K: Borrow<Q>,
+        Q: Hash + Eq + ToOwned<Owned = K> + ?Sized,
+    {
+        let id = self.shared().id_of(key);
+        while let Some(place) = self.find(id, key) {
+            let old = self.borrowed(place);
+            let value = change(&old);
+            let entry = Box::new(Entry::new(id, key.to_owned(), value, self.shared().now()));
+            let is_done = self.shared().swap(place, entry);
+            // Until here no other entry can have come to lie where the old one lies.
+            drop(old);
+            if is_done {
+                return true;
+            }
+        }
+        false
+    }
+
+    fn obtain<Q, E>(
+        &mut self,
+        key: &Q,
+        timeout: Option<Duration>,
+        load: impl FnOnce() -> Result<V, E>,
+    ) -> Result<CacheRef<'_, K, V>, LoadError<E>>
+    where
+        K: Borrow<Q>,
+        Q: Hash + Eq + ToOwned<Owned = K> + ?Sized,
+    {
+        let id = self.shared().id_of(key);
+        if let Some(place) = self.find(id, key) {
+            return Ok(self.borrowed(place));
+        }
+        count(&self.shared().counts.misses);
+        let until = timeout.map(|timeout| Instant::now() + timeout);
+        let flight = loop {
+            match self.shared().begin(id, key, key.to_owned()) {
+                Begun::Load(flight) => break flight,
+                Begun::Wait(flight) => {
+                    count(&self.shared().counts.waits);
+                    if !flight.wait(until) {
+                        return Err(LoadError::TimedOut);
+                    }
+                }
+                Begun::Held => {}
+            }
+            if let Some(place) = self.find(id, key) {
+                return Ok(self.borrowed(place));
+            }
+        };
+        let loading = Loading { shared: &self.cache.shared, id, flight: Some(flight) };
+        let value = load().map_err(LoadError::Failed)?;
+        let landed = loading.land(key.to_owned(), value, self.seat);
+        Ok(match landed {
+            Landed::Held(place) => self.borrowed(place),
+            Landed::Own(entry) => CacheRef(Borrowed::Own(entry)),
+        })
+    }
+
+    /// Where the entry of a key lies, which stays there while the reader has its seat. Without one the seat is left.
+    fn find<Q: Eq + ?Sized>(&mut self, id: u64, key: &Q) -> Option<Place<K, V>>
+    where
+        K: Borrow<Q>,
+    {
+        let shared = &*self.cache.shared;
+        shared.seats.sit(self.seat);
+        let seat = Leaving(shared.seats.seat(self.seat));
+        let place = entry_of::<K, V>(self.ids.find(id, &mut self.rows)?)?;
+        // SAFETY: the reader sat down before it found the entry.
+        let entry = unsafe { place.as_ref() };
+        let now = shared.now();
+        if entry.key.borrow() != key || shared.expiry.is_over(entry, now) {
+            return None;
+        }
+        entry.mark();
+        shared.expiry.touch(entry, now);
+        seat.0.count_hit();
+        std::mem::forget(seat);
+        Some(place)
+    }
+
+    fn borrowed(&self, place: Place<K, V>) -> CacheRef<'_, K, V> {
+        CacheRef(Borrowed::Held(place, Leaving(self.shared().seats.seat(self.seat))))
+    }
+
+    fn shared(&self) -> &Shared<K, V, S> {
+        &self.cache.shared
+    }
+}
+
+impl<K: Hash + Eq, V, S: BuildHasher> Drop for CacheReader<K, V, S> {
+    fn drop(&mut self) {
+        // What was borrowed and forgotten is let go.
+        self.shared().seats.seat(self.seat).leave();
+        // SAFETY: nothing uses it after this.
+        let ids = unsafe { ManuallyDrop::take(&mut self.ids) };
+        self.shared().spare.lock().unwrap_or_else(PoisonError::into_inner).push((ids, self.seat));
+    }
+}
+
+impl<K: Hash + Eq, V, S: BuildHasher> fmt::Debug for CacheReader<K, V, S> {
+    fn fmt(&self, f: &mut fmt::Formatter<'_>) -> fmt::Result {
+        f.debug_struct("CacheReader").field("seat", &self.seat).finish_non_exhaustive()
+    }
+}
+
+/// A load that is under way: where it ends without a value, by an error or a panic, those who wait are woken.
+struct Loading<'a, K: Hash + Eq, V, S: BuildHasher> {
+    shared: &'a Shared<K, V, S>,
+    id: u64,
+    flight: Option<Arc<Flight<K>>>,
+}
+
+impl<K: Hash + Eq, V, S: BuildHasher> Loading<'_, K, V, S> {
+    fn land(mut self, key: K, value: V, seat: usize) -> Landed<K, V> {
+        let flight = self.flight.take().expect("a load ends once");
+        let entry = Box::new(Entry::new(self.id, key, value, self.shared.now()));
+        self.shared.land(self.id, &flight, entry, seat)
+    }
+}
+
+impl<K: Hash + Eq, V, S: BuildHasher> Drop for Loading<'_, K, V, S> {
+    fn drop(&mut self) {
+        if let Some(flight) = self.flight.take() {
+            self.shared.crash(self.id, &flight);
+        }
+    }
+}
+
+/// A seat that is left with this.
+struct Leaving<'a>(&'a Seat);
+
+impl Drop for Leaving<'_> {
+    fn drop(&mut self) {
+        self.0.leave();
+    }
+}
+
+enum Borrowed<'a, K, V> {
+    Held(Place<K, V>, #[allow(dead_code)] Leaving<'a>),
+    Own(Box<Entry<K, V>>),
+}
+
+/// A value that is borrowed from a cache, or that was loaded and the cache doesn't hold.
+pub struct CacheRef<'a, K, V>(Borrowed<'a, K, V>);
+
+// SAFETY: it gives references to key and value, or owns both.
+unsafe impl<K: Send + Sync, V: Send + Sync> Send for CacheRef<'_, K, V> {}
+// SAFETY: as above.
+unsafe impl<K: Sync, V: Sync> Sync for CacheRef<'_, K, V> {}
+
+impl<K, V> CacheRef<'_, K, V> {
+    /// Its key, as the cache has it.
+    pub fn key(&self) -> &K {
+        &self.entry().key
+    }
+
+    /// Whether the cache held the value when it was borrowed. It doesn't hold what was loaded while its key was
+    /// invalidated, nor a value for which it had no place.
+    pub fn is_held(&self) -> bool {
+        matches!(self.0, Borrowed::Held(..))
+    }
+
+    fn entry(&self) -> &Entry<K, V> {
+        match &self.0 {
+            // SAFETY: the reader has its seat, which it took before it found the entry, as long as this borrows it.
+            Borrowed::Held(place, _) => unsafe { place.as_ref() },
+            Borrowed::Own(entry) => entry,
+        }
+    }
+}
+
+impl<K, V> Deref for CacheRef<'_, K, V> {
+    type Target = V;
+
+    fn deref(&self) -> &V {
+        &self.entry().value
+    }
+}
+
+impl<K, V: fmt::Debug> fmt::Debug for CacheRef<'_, K, V> {
+    fn fmt(&self, f: &mut fmt::Formatter<'_>) -> fmt::Result {
+        V::fmt(self, f)
+    }
+}
+
+/// Why a get with a time limit has no value.
+#[derive(Clone, Copy, Debug, PartialEq, Eq)]
+pub enum LoadError<E> {
+    /// Another's load took too long.
+    TimedOut,
+    /// Its own load failed.
+    Failed(E),
+}
+
+impl<E: fmt::Display> fmt::Display for LoadError<E> {
+    fn fmt(&self, f: &mut fmt::Formatter<'_>) -> fmt::Result {
+        match self {
+            LoadError::TimedOut => f.write_str("another's load took too long"),
+            LoadError::Failed(why) => why.fmt(f),
+        }
+    }
+}
+
+impl<E: Error + 'static> Error for LoadError<E> {
+    fn source(&self) -> Option<&(dyn Error + 'static)> {
+        match self {
+            LoadError::TimedOut => None,
+            LoadError::Failed(why) => Some(why),
+        }
+    }
+}

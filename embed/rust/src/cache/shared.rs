@@ -1,0 +1,211 @@
+//! What the handles of a cache have in common.
+use super::entry::{drop_each, Entry};
+use super::expiry::{Expiry, Moment};
+use super::flights::Flight;
+use super::seats::Seats;
+use super::stats::{count, Counts};
+use super::store::{Place, Store};
+use crate::ids::IdReader;
+use std::borrow::Borrow;
+use std::hash::{BuildHasher, Hash};
+use std::sync::atomic::Ordering::Relaxed;
+use std::sync::{Arc, Mutex, MutexGuard, PoisonError};
+
+pub(super) struct Shared<K, V, S> {
+    pub hasher: S,
+    pub expiry: Expiry,
+    pub seats: Seats,
+    pub counts: Counts,
+    pub capacity: usize,
+    /// The readers that no handle has, each with its seat.
+    pub spare: Mutex<Vec<(IdReader, usize)>>,
+    store: Mutex<Store<K, V>>,
+}
+
+// SAFETY: the entries go between threads, and are read by several at a time; the rest is behind locks or atomic.
+unsafe impl<K: Send + Sync, V: Send + Sync, S: Send> Send for Shared<K, V, S> {}
+// SAFETY: as above.
+unsafe impl<K: Send + Sync, V: Send + Sync, S: Sync> Sync for Shared<K, V, S> {}
+
+/// What a get finds that misses.
+pub(super) enum Begun<K> {
+    /// The key is held by now.
+    Held,
+    /// Another loads it.
+    Wait(Arc<Flight<K>>),
+    /// The caller loads it.
+    Load(Arc<Flight<K>>),
+}
+
+/// A value that was loaded.
+pub(super) enum Landed<K, V> {
+    /// The cache holds it, and the caller's seat was taken before.
+    Held(Place<K, V>),
+    /// The caller alone has it.
+    Own(Box<Entry<K, V>>),
+}
+
+impl<K: Hash + Eq, V, S: BuildHasher> Shared<K, V, S> {
+    pub fn new(
+        hasher: S,
+        expiry: Expiry,
+        seats: Seats,
+        spare: Vec<(IdReader, usize)>,
+        capacity: usize,
+        store: Store<K, V>,
+    ) -> Self {
+        let (counts, spare, store) = (Counts::default(), Mutex::new(spare), Mutex::new(store));
+        Shared { hasher, expiry, seats, counts, capacity, spare, store }
+    }
+
+    /// The id of a key, which is never 0.
+    pub fn id_of<Q: Hash + ?Sized>(&self, key: &Q) -> u64 {
+        self.hasher.hash_one(key).max(1)
+    }
+
+    /// Opens a flight of a key, unless it is held or there is one.
+    pub fn begin<Q: Eq + ?Sized>(&self, id: u64, key: &Q, owned: K) -> Begun<K>
+    where
+        K: Borrow<Q>,
+    {
+        let now = self.expiry.now();
+        self.change(|store| {
+            if let Some(flight) = store.flights.find(id, key) {
+                return Begun::Wait(flight);
+            }
+            match store.find(id).map(|entry| (entry.key.borrow() == key, self.expiry.is_over(entry, now))) {
+                Some((true, false)) => return Begun::Held,
+                // Another key has the id.
+                Some((false, false)) => return Begun::Load(store.flights.begin(id, owned, None)),
+                Some((_, true)) => {
+                    store.evict(id, &self.seats);
+                    count(&self.counts.evictions);
+                }
+                None => {}
+            }
+            let is_taken = store.flights.has_upquery(id);
+            let upquery = if is_taken { None } else { store.admit(id, &self.seats, &self.expiry, now) };
+            Begun::Load(store.flights.begin(id, owned, upquery))
+        })
+    }
+
+    /// Ends a flight by its value, for the reader of that seat.
+    pub fn land(&self, id: u64, flight: &Arc<Flight<K>>, entry: Box<Entry<K, V>>, seat: usize) -> Landed<K, V> {
+        count(&self.counts.loads);
+        let landed = self.change(|store| match store.flights.end(id, flight) {
+            Some(upquery) => {
+                self.seats.sit(seat);
+                Landed::Held(store.fill(upquery, entry, &self.seats, &self.expiry))
+            }
+            None => {
+                count(&self.counts.refused);
+                Landed::Own(entry)
+            }
+        });
+        flight.end();
+        landed
+    }
+
+    /// Ends a flight without a value.
+    pub fn crash(&self, id: u64, flight: &Arc<Flight<K>>) {
+        count(&self.counts.failures);
+        self.change(|store| {
+            if let Some(upquery) = store.flights.end(id, flight) {
+                store.withdraw(upquery, id);
+            }
+        });
+        flight.end();
+    }
+
+    /// Puts an entry, whatever its key has, and whatever is under way for it: whether it is held.
+    pub fn put(&self, entry: Box<Entry<K, V>>) -> bool {
+        let id = entry.id;
+        let refused = self.change(|store| {
+            self.revoke(store, id);
+            let is_same = store.find(id).map(|old| old.key == entry.key);
+            match is_same {
+                Some(true) => store.replace(entry, &self.seats),
+                Some(false) => return Some(entry),
+                None => match store.admit(id, &self.seats, &self.expiry, entry.born) {
+                    Some(upquery) => drop(store.fill(upquery, entry, &self.seats, &self.expiry)),
+                    None => return Some(entry),
+                },
+            }
+            None
+        });
+        if refused.is_some() {
+            count(&self.counts.refused);
+        }
+        refused.is_none()
+    }
+
+    /// Puts an entry in place of one that its key has still.
+    pub fn swap(&self, old: Place<K, V>, entry: Box<Entry<K, V>>) -> bool {
+        let refused = self.change(|store| {
+            if store.place(entry.id) != Some(old) {
+                return Some(entry);
+            }
+            store.replace(entry, &self.seats);
+            None
+        });
+        refused.is_none()
+    }
+
+    /// Takes a key's entry, and what is under way for it will not be held: whether there was an entry.
+    pub fn invalidate<Q: Eq + ?Sized>(&self, id: u64, key: &Q) -> bool
+    where
+        K: Borrow<Q>,
+    {
+        self.change(|store| {
+            self.revoke(store, id);
+            let is_its_own = store.find(id).is_some_and(|entry| entry.key.borrow() == key);
+            is_its_own && store.evict(id, &self.seats)
+        })
+    }
+
+    pub fn invalidate_all(&self) {
+        self.change(|store| {
+            for upquery in store.flights.revoke_all() {
+                let id = upquery.id();
+                store.withdraw(upquery, id);
+            }
+            store.evict_all(&self.seats);
+        });
+    }
+
+    pub fn held(&self) -> usize {
+        self.store().held()
+    }
+
+    fn revoke(&self, store: &mut Store<K, V>, id: u64) {
+        if let Some(upquery) = store.flights.revoke(id) {
+            store.withdraw(upquery, id);
+        }
+    }
+
+    /// Changes the store under its lock, and then drops what nobody can see any more, without it.
+    fn change<R>(&self, change: impl FnOnce(&mut Store<K, V>) -> R) -> R {
+        let mut store = self.store();
+        let result = change(&mut store);
+        let doomed = store.sweep(&self.seats);
+        self.counts.evictions.fetch_add(std::mem::take(&mut store.evictions), Relaxed);
+        drop(store);
+        drop_each(doomed);
+        result
+    }
+
+    fn store(&self) -> MutexGuard<'_, Store<K, V>> {
+        self.store.lock().unwrap_or_else(PoisonError::into_inner)
+    }
+
+    pub fn now(&self) -> Moment {
+        self.expiry.now()
+    }
+}
+
+impl<K, V, S> Drop for Shared<K, V, S> {
+    fn drop(&mut self) {
+        let store = self.store.get_mut().unwrap_or_else(PoisonError::into_inner);
+        drop_each(store.take_all());
+    }
+}

@@ -1,0 +1,153 @@
+//! The map over ids, as the cache calls it.
+use crate::answers::done;
+use crate::ffi::{self, Handle};
+use crate::{library, Fault, Row, Rows};
+
+/// What a map over ids is opened with. Each group has eight ways, each of which one id can have at a time.
+#[repr(C)]
+#[derive(Clone, Copy, Debug)]
+pub struct IdShape {
+    pub groups: u32,
+    pub slots: u32,
+    pub readers: u32,
+    pub rows: u32,
+    pub key: u64,
+    pub first_number: u64,
+}
+
+impl IdShape {
+    /// The group of an id: its ways are those from eight times that on.
+    pub fn group_of(&self, id: u64) -> usize {
+        // SAFETY: the shape is laid out as the header's.
+        unsafe { ffi::nr_id_group(self, id) as usize }
+    }
+}
+
+/// An upquery that is open, for one absence of one id.
+#[repr(C)]
+#[derive(Debug, Default)]
+pub struct Upquery {
+    id: u64,
+    number: u64,
+    way: u32,
+}
+
+impl Upquery {
+    pub fn id(&self) -> u64 {
+        self.id
+    }
+
+    pub fn way(&self) -> usize {
+        self.way as usize
+    }
+}
+
+/// Why an id isn't admitted.
+#[derive(Clone, Copy, Debug, PartialEq, Eq)]
+pub enum Refused {
+    /// Each way of its group is another id's.
+    Full,
+    /// It has a way, or nobody claimed it.
+    Other,
+}
+
+/// Opens a map over ids: its writer, and its readers.
+pub fn open(shape: &IdShape) -> Result<(IdWriter, Vec<IdReader>), Fault> {
+    library::is_own()?;
+    let mut writer = IdWriter { handle: Handle::empty() };
+    // SAFETY: the handle isn't live, and the shape is laid out as the header's.
+    done(unsafe { ffi::nr_open_ids(shape, &mut writer.handle) })?;
+    let readers = (0..shape.readers).map(|_| writer.open_reader()).collect::<Result<_, _>>()?;
+    Ok((writer, readers))
+}
+
+/// A reader by id.
+#[derive(Debug)]
+pub struct IdReader {
+    handle: Handle,
+}
+
+// SAFETY: a handle may go to another thread, and calls take it by `&mut`, so that two threads never use it at a time.
+unsafe impl Send for IdReader {}
+
+impl IdReader {
+    /// The rows of an id, where it has some.
+    pub fn find<'a>(&mut self, id: u64, rows: &'a mut Rows) -> Option<&'a [Row]> {
+        // SAFETY: the handle is live, and the rows are laid out as the header's.
+        let found = unsafe { ffi::nr_find_id(&mut self.handle, id, rows) } == ffi::NR_ROWS;
+        found.then(|| rows.as_slice())
+    }
+
+    /// Claims the group of an id that has no way, for the writer to admit it.
+    pub fn request(&mut self, id: u64) {
+        // SAFETY: the handle is live.
+        unsafe { ffi::nr_request_id(&mut self.handle, id) };
+    }
+}
+
+impl Drop for IdReader {
+    fn drop(&mut self) {
+        // SAFETY: the handle is not used after this.
+        unsafe { ffi::nr_close_id_reader(&mut self.handle) }
+    }
+}
+
+/// The writer by id.
+#[derive(Debug)]
+pub struct IdWriter {
+    handle: Handle,
+}
+
+// SAFETY: as of a reader.
+unsafe impl Send for IdWriter {}
+
+impl IdWriter {
+    fn open_reader(&mut self) -> Result<IdReader, Fault> {
+        let mut reader = IdReader { handle: Handle::empty() };
+        // SAFETY: the writer's handle is live, and the other is not.
+        done(unsafe { ffi::nr_open_id_reader(&mut self.handle, &mut reader.handle) })?;
+        Ok(reader)
+    }
+
+    /// Gives a claimed id a way, and opens an upquery for it.
+    pub fn admit(&mut self, id: u64) -> Result<Upquery, Refused> {
+        let mut upquery = Upquery::default();
+        // SAFETY: the handle is live, and the upquery is laid out as the header's.
+        match unsafe { ffi::nr_admit(&mut self.handle, id, &mut upquery) } {
+            ffi::NR_SEND => Ok(upquery),
+            ffi::NR_FULL => Err(Refused::Full),
+            _ => Err(Refused::Other),
+        }
+    }
+
+    /// Fills the id of an upquery; where that isn't open it is refused with [`Fault::Stale`].
+    pub fn fill(&mut self, upquery: &Upquery, rows: &[Row]) -> Result<(), Fault> {
+        // SAFETY: the handle is live, what the pointers lead to is laid out as the header's, and there are so many rows.
+        done(unsafe { ffi::nr_fill_id(&mut self.handle, upquery, rows.as_ptr(), rows.len()) })
+    }
+
+    /// Takes an upquery back: whether its id has no way now. If not, its own fill alone ends it.
+    pub fn withdraw(&mut self, upquery: &Upquery) -> bool {
+        // SAFETY: the handle is live, and the upquery is laid out as the header's.
+        unsafe { ffi::nr_withdraw_id(&mut self.handle, upquery) != ffi::NR_WORN }
+    }
+
+    /// Puts rows in place of those of an id that has some.
+    pub fn replace(&mut self, id: u64, rows: &[Row]) -> Result<(), Fault> {
+        // SAFETY: the handle is live, and there are so many rows, laid out as the header's.
+        done(unsafe { ffi::nr_replace_id(&mut self.handle, id, rows.as_ptr(), rows.len()) })
+    }
+
+    /// Takes an id's rows and its way.
+    pub fn evict(&mut self, id: u64) {
+        // SAFETY: the handle is live.
+        unsafe { ffi::nr_evict_id(&mut self.handle, id) };
+    }
+}
+
+impl Drop for IdWriter {
+    fn drop(&mut self) {
+        // SAFETY: the handle is not used after this.
+        unsafe { ffi::nr_close_id_writer(&mut self.handle) }
+    }
+}

@@ -1,0 +1,433 @@
+//! A cache loads each missing value once, never gives one that was invalidated, and drops each once.
+use crate::*;
+use std::cell::Cell;
+use std::hash::{BuildHasher, BuildHasherDefault, Hasher};
+use std::panic::{catch_unwind, resume_unwind, AssertUnwindSafe};
+use std::sync::atomic::{AtomicBool, AtomicU64, AtomicUsize, Ordering::SeqCst};
+use std::sync::{mpsc, Barrier};
+use std::thread;
+use std::time::Duration;
+
+const LONG: Duration = Duration::from_secs(3600);
+
+/// What a call gave that may panic by a load's own panic, and by no other.
+fn caught<T>(call: impl FnOnce() -> T) -> Option<T> {
+    match catch_unwind(AssertUnwindSafe(call)) {
+        Ok(gave) => Some(gave),
+        Err(why) if why.downcast_ref() == Some(&"a load") => None,
+        Err(why) => resume_unwind(why),
+    }
+}
+
+/// Hashes each key to the same number.
+#[derive(Default)]
+struct Same;
+
+impl Hasher for Same {
+    fn write(&mut self, _: &[u8]) {}
+
+    fn finish(&self) -> u64 {
+        7
+    }
+}
+
+fn cache<V: Send + Sync>(capacity: usize) -> Cache<u64, V> {
+    Cache::builder().capacity(capacity).threads(8).open().unwrap()
+}
+
+fn panicking<T>() -> T {
+    // Without the hook's message.
+    resume_unwind(Box::new("a load"))
+}
+
+#[test]
+fn a_value_is_loaded_once_and_then_found() {
+    let cache = Cache::<String, usize>::builder().open().unwrap();
+    let mut reader = cache.reader().unwrap();
+    assert!(reader.get("four").is_none());
+    let loaded = reader.get_with("four", || 4);
+    assert!(loaded.is_held() && *loaded == 4 && loaded.key() == "four");
+    drop(loaded);
+    assert_eq!(*reader.get_with("four", || unreachable!()), 4);
+    assert_eq!((cache.len(), cache.capacity(), cache.is_empty()), (1, 1000, false));
+    let counted = CacheStats { hits: 1, misses: 2, loads: 1, ..CacheStats::default() };
+    assert_eq!(cache.stats(), counted);
+}
+
+#[test]
+fn those_who_miss_together_wait_for_one_load() {
+    let cache = cache(10);
+    let (loads, gate) = (AtomicUsize::new(0), Barrier::new(8));
+    thread::scope(|scope| {
+        for _ in 0..8 {
+            scope.spawn(|| {
+                let mut reader = cache.reader().unwrap();
+                gate.wait();
+                let found = reader.get_with(&1, || {
+                    thread::sleep(Duration::from_millis(20));
+                    loads.fetch_add(1, SeqCst)
+                });
+                assert_eq!(*found, 0);
+            });
+        }
+    });
+    assert_eq!(loads.into_inner(), 1);
+}
+
+#[test]
+fn where_a_load_fails_or_panics_one_of_those_who_wait_tries() {
+    let cache = cache(10);
+    for panics in [false, true] {
+        let key = u64::from(panics);
+        let (begun, has_begun) = mpsc::channel();
+        thread::scope(|scope| {
+            let cache = &cache;
+            scope.spawn(move || {
+                let mut reader = cache.reader().unwrap();
+                let load = || {
+                    begun.send(()).unwrap();
+                    thread::sleep(Duration::from_millis(20));
+                    if panics {
+                        panicking()
+                    } else {
+                        Err(3)
+                    }
+                };
+                let failed = caught(|| reader.try_get_with(&key, load).map(|found| *found));
+                assert_eq!(failed, (!panics).then_some(Err(3)));
+            });
+            has_begun.recv().unwrap();
+            let mut reader = cache.reader().unwrap();
+            let waits = Duration::from_millis(1);
+            let timed_out = reader.try_get_with_timeout(&key, waits, || -> Result<u8, ()> { unreachable!() });
+            assert_eq!(timed_out.err(), Some(LoadError::TimedOut));
+            assert!(reader.get_with_timeout(&key, waits, || unreachable!()).is_none());
+            assert_eq!(*reader.get_with(&key, || 9), 9);
+        });
+        assert_eq!(cache.reader().unwrap().get(&key).as_deref(), Some(&9));
+    }
+    assert_eq!(cache.stats().failures, 2);
+}
+
+#[test]
+fn what_was_loaded_before_an_invalidation_is_its_loaders_alone() {
+    let cache = cache(10);
+    let mut reader = cache.reader().unwrap();
+    for all in [false, true] {
+        let loaded = reader.get_with(&1, || {
+            if all {
+                cache.invalidate_all();
+            } else {
+                assert!(!cache.invalidate(&1));
+            }
+            3
+        });
+        assert!(!loaded.is_held() && *loaded == 3);
+        drop(loaded);
+        assert!(reader.get(&1).is_none());
+        assert_eq!(*reader.get_with(&1, || 4), 4);
+        assert!(cache.invalidate(&1) && cache.is_empty());
+    }
+}
+
+#[test]
+fn what_was_inserted_within_a_load_stays() {
+    let cache = cache(10);
+    let mut reader = cache.reader().unwrap();
+    let loaded = reader.get_with(&1, || {
+        assert!(cache.insert(1, 5));
+        3
+    });
+    assert!(!loaded.is_held() && *loaded == 3);
+    drop(loaded);
+    assert_eq!(reader.get(&1).as_deref(), Some(&5));
+}
+
+#[test]
+fn a_borrowed_value_stays_whatever_happens_to_its_key() {
+    let cache = cache(10);
+    let mut reader = cache.reader().unwrap();
+    cache.insert(1, vec![1]);
+    let found = reader.get(&1).unwrap();
+    cache.insert(1, vec![2]);
+    cache.invalidate(&1);
+    cache.insert(1, vec![3]);
+    assert_eq!(*found, [1]);
+    std::mem::forget(found);
+    assert_eq!(reader.get(&1).as_deref(), Some(&vec![3]));
+}
+
+#[test]
+fn an_update_is_made_of_the_value_that_it_replaces() {
+    let cache = cache(10);
+    let mut reader = cache.reader().unwrap();
+    assert!(!reader.update(&1, |_| unreachable!()));
+    cache.insert(1, 5);
+    let tries = Cell::new(0);
+    let change = |old: &u64| {
+        if tries.replace(tries.get() + 1) == 0 {
+            cache.insert(1, 7);
+        }
+        old * 10
+    };
+    assert!(reader.update(&1, change));
+    assert_eq!((tries.get(), reader.get(&1).as_deref()), (2, Some(&70)));
+}
+
+#[test]
+fn of_keys_of_one_hash_one_is_held() {
+    let cache = Cache::<u64, u64>::builder().hasher(BuildHasherDefault::<Same>::default()).open().unwrap();
+    let mut reader = cache.reader().unwrap();
+    assert!(cache.insert(1, 10));
+    assert!(reader.get(&2).is_none());
+    assert!(!reader.get_with(&2, || 20).is_held());
+    assert!(!cache.insert(2, 20) && !cache.invalidate(&2));
+    assert_eq!(reader.get(&1).as_deref(), Some(&10));
+    let mut other = cache.reader().unwrap();
+    cache.invalidate(&1);
+    let loaded = reader.get_with(&1, || {
+        assert!(!other.get_with(&2, || 20).is_held());
+        10
+    });
+    assert!(loaded.is_held());
+}
+
+#[test]
+fn entries_expire() {
+    for to_idle in [false, true] {
+        let builder = Cache::<u64, u64>::builder();
+        let time = Duration::from_millis(40);
+        let builder = if to_idle { builder.time_to_idle(time) } else { builder.time_to_live(time) };
+        let cache = builder.open().unwrap();
+        let mut reader = cache.reader().unwrap();
+        cache.insert(1, 1);
+        for _ in 0..6 {
+            thread::sleep(time / 4);
+            if to_idle {
+                assert!(reader.get(&1).is_some());
+            }
+        }
+        if to_idle {
+            thread::sleep(time + time / 4);
+        }
+        assert!(reader.get(&1).is_none());
+        assert_eq!(*reader.get_with(&1, || 2), 2);
+        assert_eq!(cache.stats().evictions, 1);
+    }
+}
+
+#[test]
+fn it_holds_no_more_than_its_capacity() {
+    let cache = cache(50);
+    let mut reader = cache.reader().unwrap();
+    for key in 0..500 {
+        assert_eq!(*reader.get_with(&key, || key), key);
+        assert!(cache.len() <= 50);
+    }
+    assert!(cache.len() >= 40 && cache.stats().evictions as usize == 500 - cache.len());
+    cache.invalidate_all();
+    assert!(cache.is_empty());
+}
+
+#[test]
+fn what_is_found_again_and_again_stays() {
+    let cache = cache(50);
+    let mut reader = cache.reader().unwrap();
+    cache.insert(7, 7);
+    let mut lost = 0;
+    for key in 1000..3000 {
+        lost += u32::from(reader.get(&7).is_none());
+        cache.insert(7, 7);
+        assert!(reader.get(&7).is_some());
+        cache.insert(key, key);
+    }
+    assert!(lost < 20, "it was lost {lost} times");
+}
+
+#[test]
+fn readers_come_back_by_themselves() {
+    let cache = Cache::<u64, u64>::builder().threads(2).open().unwrap();
+    for _ in 0..3 {
+        let readers = [cache.reader().unwrap(), cache.reader().unwrap()];
+        assert!(cache.reader().is_none());
+        drop(readers);
+    }
+}
+
+#[test]
+fn sizes_out_of_their_limits_are_refused() {
+    for builder in [Cache::<u64, u64>::builder().capacity(0), Cache::<u64, u64>::builder().threads(0)] {
+        assert_eq!(builder.open().err(), Some(Fault::BadSize));
+    }
+}
+
+/// Counts the drops, of which that of a number panics.
+struct Fragile<'a>(u64, &'a AtomicUsize);
+
+impl Drop for Fragile<'_> {
+    fn drop(&mut self) {
+        self.1.fetch_add(1, SeqCst);
+        if self.0 % 3 == 0 {
+            panicking()
+        }
+    }
+}
+
+#[test]
+fn a_drop_that_panics_leaves_nothing_undropped() {
+    let drops = AtomicUsize::new(0);
+    let cache = Cache::<u64, Fragile>::builder().open().unwrap();
+    for key in 0..20 {
+        cache.insert(key, Fragile(key, &drops));
+    }
+    assert!(caught(|| cache.invalidate(&3)).is_none());
+    assert_eq!(drops.load(SeqCst), 1);
+    assert!(caught(|| drop(cache)).is_none());
+    assert_eq!(drops.into_inner(), 20);
+}
+
+const KEYS: usize = 400;
+
+/// What stands behind the cache: a version for each key.
+struct Base {
+    versions: Vec<AtomicU64>,
+    /// The version whose invalidation has returned.
+    floors: Vec<AtomicU64>,
+    loading: Vec<AtomicBool>,
+    made: AtomicUsize,
+    dropped: AtomicUsize,
+}
+
+/// A version of a key, which counts its drop.
+struct Version<'a> {
+    key: u64,
+    version: u64,
+    bytes: Vec<u8>,
+    base: &'a Base,
+}
+
+impl Drop for Version<'_> {
+    fn drop(&mut self) {
+        self.base.dropped.fetch_add(1, SeqCst);
+        self.bytes.fill(0);
+    }
+}
+
+/// A key's load, of which there is one at a time.
+struct Alone<'a>(&'a AtomicBool);
+
+impl<'a> Alone<'a> {
+    fn begin(loading: &'a AtomicBool) -> Alone<'a> {
+        assert!(!loading.swap(true, SeqCst), "two loads of a key overlap");
+        Alone(loading)
+    }
+}
+
+impl Drop for Alone<'_> {
+    fn drop(&mut self) {
+        self.0.store(false, SeqCst);
+    }
+}
+
+impl Base {
+    fn new() -> Base {
+        let zeros = || (0..KEYS).map(|_| AtomicU64::new(0)).collect();
+        let loading = (0..KEYS).map(|_| AtomicBool::new(false)).collect();
+        Base { versions: zeros(), floors: zeros(), loading, made: AtomicUsize::new(0), dropped: AtomicUsize::new(0) }
+    }
+
+    fn version(&self, key: u64, version: u64) -> Version<'_> {
+        self.made.fetch_add(1, SeqCst);
+        Version { key, version, bytes: vec![key as u8; 40], base: self }
+    }
+
+    fn load(&self, key: u64, dice: u64) -> Result<Version<'_>, ()> {
+        let _alone = Alone::begin(&self.loading[key as usize]);
+        let version = self.versions[key as usize].load(SeqCst);
+        match dice % 32 {
+            0 => return Err(()),
+            1 => panicking(),
+            2..=4 => thread::sleep(Duration::from_micros(200)),
+            5..=12 => thread::yield_now(),
+            _ => {}
+        }
+        Ok(self.version(key, version))
+    }
+
+    /// Changes a key, and takes it from the cache.
+    fn change<S: BuildHasher>(&self, key: u64, cache: &Cache<u64, Version<'_>, S>) {
+        let version = self.versions[key as usize].fetch_add(1, SeqCst) + 1;
+        cache.invalidate(&key);
+        self.floors[key as usize].fetch_max(version, SeqCst);
+    }
+}
+
+/// A number from 0 on, each half as often as the one that is half as large.
+fn zipf(dice: u64) -> u64 {
+    let even = (dice >> 11) as f64 / (1u64 << 53) as f64;
+    (KEYS as f64).powf(even) as u64 - 1
+}
+
+fn roll(dice: &mut u64) -> u64 {
+    *dice ^= *dice << 13;
+    *dice ^= *dice >> 7;
+    *dice ^= *dice << 17;
+    dice.wrapping_mul(0x2545_f491_4f6c_dd1d)
+}
+
+fn one_thread<'a, S: BuildHasher>(base: &'a Base, cache: &Cache<u64, Version<'a>, S>, mut dice: u64) {
+    let mut reader = cache.reader().unwrap();
+    for round in 0..2000 {
+        let key = zipf(roll(&mut dice));
+        let (choice, luck) = (roll(&mut dice), roll(&mut dice));
+        let floor = base.floors[key as usize].load(SeqCst);
+        let is_right = |found: &Version<'_>| {
+            assert_eq!((found.key, &found.bytes[..]), (key, &vec![key as u8; 40][..]));
+            assert!(found.version >= floor, "version {} of key {key} is older than {floor}", found.version);
+        };
+        match choice % 16 {
+            0 => base.change(key, cache),
+            1..=4 => {
+                reader.get(&key).as_deref().into_iter().for_each(is_right);
+            }
+            5..=6 => {
+                let limit = Duration::from_micros(luck % 300);
+                let load = || base.load(key, luck);
+                let get =
+                    || reader.try_get_with_timeout(&key, limit, load).into_iter().for_each(|found| is_right(&found));
+                caught(get);
+            }
+            7 => {
+                reader.update(&key, |old| {
+                    is_right(old);
+                    base.version(key, old.version)
+                });
+            }
+            8 if round % 400 == 0 => cache.invalidate_all(),
+            _ => {
+                let load = || base.load(key, luck);
+                let get = || reader.try_get_with(&key, load).into_iter().for_each(|found| is_right(&found));
+                caught(get);
+            }
+        }
+    }
+}
+
+#[test]
+fn eight_threads_see_no_old_value_and_load_each_key_alone() {
+    let base = Base::new();
+    for (to_live, to_idle) in [(LONG, LONG), (Duration::from_millis(2), Duration::from_millis(1))] {
+        let builder = Cache::<u64, Version>::builder().capacity(60).threads(8);
+        let cache = builder.time_to_live(to_live).time_to_idle(to_idle).open().unwrap();
+        thread::scope(|scope| {
+            for seed in 1..=8u64 {
+                let (base, cache) = (&base, &cache);
+                scope.spawn(move || one_thread(base, cache, 0x9e37_79b9_7f4a_7c15 ^ seed << 40));
+            }
+        });
+        let stats = cache.stats();
+        assert!(stats.hits > 0 && stats.loads > 0 && stats.failures > 0 && stats.evictions > 0, "{stats:?}");
+        assert!(cache.len() <= 60);
+    }
+    assert_eq!(base.made.into_inner(), base.dropped.into_inner());
+}
