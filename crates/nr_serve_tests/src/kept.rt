@@ -8,7 +8,6 @@ use nr_serve::{Client, Dataflow, Got, OpenGate, Service, Turn};
 use nr_trigger::{Poster, Taker};
 use std::sync::Wait;
 use std::sync::atomic::{AtomicBool, Ordering};
-use std::test::Fail;
 use std::thread::{self, Threads};
 use std::time::{Clock, Duration};
 
@@ -135,8 +134,7 @@ fn beside<R: Threads + Wait + Clock + Sync>(
 }
 
 #[test]
-fn the_post_of_a_kept_ticket_wakes_a_dataflow(rt: HostRuntime) -> Result<(), Fail> {
-    let woken = plays(&rt, Opened::with_room(rt.alloc(), 4, 1)?);
+fn the_post_of_a_kept_ticket_wakes_a_dataflow(rt: HostRuntime) {
+    let woken = plays(&rt, Opened::with_room(&rt, 4, 1));
     assert_eq!(rt; woken, Some((true, Got::Rows)));
-    Ok(())
 }

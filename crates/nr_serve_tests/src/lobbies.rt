@@ -4,7 +4,6 @@ ghost use Rattle.std.specs.Prelude.{◌≡◌};
 use nr_serve::{Guest, Lobby};
 use std::process::Abort;
 use std::sync::Wait;
-use std::test::Fail;
 
 fn counts<R: Abort>(rt: &R, lobby: &Lobby, guest: &mut Guest, count: u64, is_closed: bool)
     requires { guest.old.lobby ≡ lobby.now }
@@ -27,10 +26,9 @@ fn counts_and_closes<R: Abort + Wait>(rt: &R, lobby: &Lobby) {
 }
 
 #[test]
-fn a_lobby_counts_and_closes(rt: HostRuntime) -> Result<(), Fail> {
-    let lobby = Lobby::open(rt.alloc())?;
+fn a_lobby_counts_and_closes(rt: HostRuntime) {
+    let lobby = Lobby::open(rt.alloc()).expect(&rt, "a lobby");
     counts_and_closes(&rt, &lobby);
-    Ok(())
 }
 
 fn counts_for<R: Abort>(rt: &R, lobby: &Lobby, guest: &mut Guest, key: u32, count: u64)
@@ -52,8 +50,7 @@ fn raises_for_a_key<R: Abort + Wait>(rt: &R, lobby: &Lobby) {
 
 // A raise for key 3 is one of its group, which has key 67 too, and one of the whole lobby.
 #[test]
-fn a_raise_for_a_key_counts_for_its_group_and_the_whole(rt: HostRuntime) -> Result<(), Fail> {
-    let lobby = Lobby::open(rt.alloc())?;
+fn a_raise_for_a_key_counts_for_its_group_and_the_whole(rt: HostRuntime) {
+    let lobby = Lobby::open(rt.alloc()).expect(&rt, "a lobby");
     raises_for_a_key(&rt, &lobby);
-    Ok(())
 }

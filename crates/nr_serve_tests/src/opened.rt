@@ -1,16 +1,14 @@
 //! Maps and queues with their tokens, and calls of clients and dataflows whose answers are asserted.
-ghost use Rattle.std.specs.Prelude.{◌≡◌, ◌<◌, ◌≤◌, IfOk, length};
+ghost use Rattle.std.specs.Prelude.{◌≡◌, ◌<◌, ◌≤◌, All, length};
 
 use crate::gates::Noting;
 use nr_map::{Reader, ReaderMap, Shape, Writer};
 use nr_model::{Row, RowSet};
 use nr_serve::{Client, Dataflow, Gate, Got, Lobby, Service, Source, SourceFault, Turn};
 use nr_trigger::{Poster, Taker, Triggers};
-use std::alloc::Global;
 use std::marker::Model;
 use std::process::Abort;
 use std::sync::Wait;
-use std::test::Fail;
 
 /// Key `k` has the one row `k:5`. Notes the bound that it was told last.
 #[derive(Drop)]
@@ -35,29 +33,38 @@ pub(crate) fn one_row(a: u64, b: u64) -> RowSet
     }
 }
 
+// The last of a map's readers, which there is.
+fn next<R: Abort>(rt: &R, map: &ReaderMap, readers: &mut Vec<Reader>) -> Reader
+    requires { All (λ reader. reader.table ≡ map.now) readers.old.items }
+    ensures next { result.table ≡ map.now }
+    ensures others { All (λ reader. reader.table ≡ map.now) readers.new.items }
+{
+    readers.pop().expect(rt, "a reader")
+}
+
 /// A map of that many keys with its two readers.
-pub(crate) fn two_readers(
-    alloc: Global,
+pub(crate) fn two_readers<R: Abort + AllocGlobal>(
+    rt: &R,
     keys: u32,
     slots: u32,
-) -> Result<(ReaderMap, Writer, Reader, Reader), Fail>
-    ensures sizes { IfOk result (λ opened. (opened.0.shape.keys ≡ keys) × (opened.0.shape.rows ≡ 15)) }
-    ensures writer { IfOk result (λ opened. opened.1.table ≡ opened.0) }
-    ensures readers { IfOk result (λ opened. (opened.2.table ≡ opened.0) × (opened.3.table ≡ opened.0)) }
+) -> (ReaderMap, Writer, Reader, Reader)
+    ensures sizes { (result.0.shape.keys ≡ keys) × (result.0.shape.rows ≡ 15) }
+    ensures writer { result.1.table ≡ result.0 }
+    ensures readers { (result.2.table ≡ result.0) × (result.3.table ≡ result.0) }
 {
-    numbered_from(alloc, keys, slots, 0)
+    numbered_from(rt, keys, slots, 0)
 }
 
 // Whose ticket numbers begin at that one.
-fn numbered_from(
-    alloc: Global,
+fn numbered_from<R: Abort + AllocGlobal>(
+    rt: &R,
     keys: u32,
     slots: u32,
     first_number: u64,
-) -> Result<(ReaderMap, Writer, Reader, Reader), Fail>
-    ensures sizes { IfOk result (λ opened. (opened.0.shape.keys ≡ keys) × (opened.0.shape.rows ≡ 15)) }
-    ensures writer { IfOk result (λ opened. opened.1.table ≡ opened.0) }
-    ensures readers { IfOk result (λ opened. (opened.2.table ≡ opened.0) × (opened.3.table ≡ opened.0)) }
+) -> (ReaderMap, Writer, Reader, Reader)
+    ensures sizes { (result.0.shape.keys ≡ keys) × (result.0.shape.rows ≡ 15) }
+    ensures writer { result.1.table ≡ result.0 }
+    ensures readers { (result.2.table ≡ result.0) × (result.3.table ≡ result.0) }
 {
     let shape = Shape {
         keys,
@@ -67,23 +74,22 @@ fn numbered_from(
         first_number,
         rows: 15,
     };
-    let (map, writer, mut readers) = ReaderMap::open_with(alloc, &shape)?;
-    match (readers.pop(), readers.pop()) {
-        (Some(two), Some(one)) => Ok((map, writer, one, two)),
-        _ => Err(Fail::from("no reader")),
-    }
+    let (map, writer, mut readers) = ReaderMap::open_with(rt.alloc(), &shape).expect(rt, "a map");
+    let two = next(rt, &map, &mut readers);
+    let one = next(rt, &map, &mut readers);
+    (map, writer, one, two)
 }
 
 // A queue for tickets of keys below 2, with its one poster.
-fn one_poster(alloc: Global, capacity: u32) -> Result<(Triggers, Taker, Poster), Fail>
-    ensures taker { IfOk result (λ opened. (opened.1.queue ≡ opened.0.id) × (opened.1.keys ≡ 2)) }
-    ensures poster { IfOk result (λ opened. (opened.2.queue ≡ opened.0.id) × (opened.2.keys ≡ 2)) }
+fn one_poster<R: Abort + AllocGlobal>(rt: &R, capacity: u32) -> (Triggers, Taker, Poster)
+    ensures taker { (result.1.queue ≡ result.0.id) × (result.1.keys ≡ 2) }
+    ensures poster { (result.2.queue ≡ result.0.id) × (result.2.keys ≡ 2) }
 {
-    let (triggers, mut posters, taker) = Triggers::open(alloc, capacity, 1)?;
-    match posters.pop() {
-        Some(poster) => Ok((triggers, taker, poster)),
-        None => Err(Fail::from("no poster")),
-    }
+    let (triggers, mut posters, taker) = Triggers::open(rt.alloc(), capacity, 1).expect(
+        rt, "a queue",
+    );
+    let poster = posters.pop().expect(rt, "a poster");
+    (triggers, taker, poster)
 }
 
 /// A map of two keys, a queue of their tickets and a lobby, with a token of each kind.
@@ -111,31 +117,32 @@ impl Model for Opened {
 }
 
 impl Opened {
-    pub(crate) fn open(alloc: Global, slots: u32) -> Result<Opened, Fail> {
-        Opened::with_room(alloc, slots, 2)
+    pub(crate) fn open<R: Abort + AllocGlobal>(rt: &R, slots: u32) -> Opened {
+        Opened::with_room(rt, slots, 2)
     }
 
     /// With a queue of that many places.
-    pub(crate) fn with_room(alloc: Global, slots: u32, capacity: u32) -> Result<Opened, Fail> {
-        Opened::numbered(alloc, slots, capacity, 0)
+    pub(crate) fn with_room<R: Abort + AllocGlobal>(rt: &R, slots: u32, capacity: u32) -> Opened {
+        Opened::numbered(rt, slots, capacity, 0)
     }
 
     /// Whose ticket numbers begin at that one.
-    pub(crate) fn numbered(
-        alloc: Global,
+    pub(crate) fn numbered<R: Abort + AllocGlobal>(
+        rt: &R,
         slots: u32,
         capacity: u32,
         first_number: u64,
-    ) -> Result<Opened, Fail> {
-        let (map, writer, reader, _two) = numbered_from(alloc, 2, slots, first_number)?;
-        let (triggers, taker, poster) = one_poster(alloc, capacity)?;
-        Ok(Opened {
-            service: Service::of(map, triggers, Lobby::open(alloc)?),
+    ) -> Opened {
+        let (map, writer, reader, _two) = numbered_from(rt, 2, slots, first_number);
+        let (triggers, taker, poster) = one_poster(rt, capacity);
+        let lobby = Lobby::open(rt.alloc()).expect(rt, "a lobby");
+        Opened {
+            service: Service::of(map, triggers, lobby),
             writer,
             taker,
             reader,
             poster,
-        })
+        }
     }
 }
 

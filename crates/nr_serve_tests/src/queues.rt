@@ -1,6 +1,6 @@
 //! Queues of tickets. What is asserted does not depend on how the threads' steps fall. In the test of refused memory each
 //! `open` is made once more where memory was refused, so it passes where any one allocation fails.
-ghost use Rattle.std.specs.Prelude.{◌≡◌, ◌<◌, ◌≤◌, ◌+◌, IfOk};
+ghost use Rattle.std.specs.Prelude.{◌≡◌, ◌<◌, ◌≤◌, ◌+◌, All};
 
 use crate::opened::two_readers;
 use nr_map::{Asked, Reader, ReaderMap, Shape, Ticket, Writer};
@@ -9,20 +9,27 @@ use nr_trigger::{Poster, Taker, Triggers};
 use std::alloc::Global;
 use std::process::Abort;
 use std::sync::Wait;
-use std::test::Fail;
 use std::thread;
 use std::thread::{Threads, join};
 
-// A queue of three places for keys below 20, with its two posters.
-fn queue_of(alloc: Global) -> Result<(Triggers, Taker, Poster, Poster), Fail>
-    ensures queue { IfOk result (λ opened. (opened.1.queue ≡ opened.0.id) × (opened.2.queue ≡ opened.0.id) × (opened.3.queue ≡ opened.0.id)) }
-    ensures keys { IfOk result (λ opened. (opened.2.keys ≡ 20) × (opened.3.keys ≡ 20)) }
+// The last of a queue's posters, which there is.
+fn next<R: Abort>(rt: &R, triggers: &Triggers, posters: &mut Vec<Poster>) -> Poster
+    requires { All (λ poster. (poster.queue ≡ triggers.now.id) × (poster.keys ≡ 20)) posters.old.items }
+    ensures next { (result.queue ≡ triggers.now.id) × (result.keys ≡ 20) }
+    ensures others { All (λ poster. (poster.queue ≡ triggers.now.id) × (poster.keys ≡ 20)) posters.new.items }
 {
-    let (triggers, mut posters, taker) = Triggers::open(alloc, 3, 2)?;
-    match (posters.pop(), posters.pop()) {
-        (Some(one), Some(other)) => Ok((triggers, taker, one, other)),
-        _ => Err(Fail::from("no poster")),
-    }
+    posters.pop().expect(rt, "a poster")
+}
+
+// A queue of three places for keys below 20, with its two posters.
+fn queue_of<R: Abort + AllocGlobal>(rt: &R) -> (Triggers, Taker, Poster, Poster)
+    ensures queue { (result.1.queue ≡ result.0.id) × (result.2.queue ≡ result.0.id) × (result.3.queue ≡ result.0.id) }
+    ensures keys { (result.2.keys ≡ 20) × (result.3.keys ≡ 20) }
+{
+    let (triggers, mut posters, taker) = Triggers::open(rt.alloc(), 3, 2).expect(rt, "a queue");
+    let one = next(rt, &triggers, &mut posters);
+    let other = next(rt, &triggers, &mut posters);
+    (triggers, taker, one, other)
 }
 
 fn sent(rt: &impl Abort, map: &ReaderMap, reader: &mut Reader, key: u32) -> Ticket
@@ -220,10 +227,9 @@ fn assert_in_order(rt: &impl Abort, keys: [u32; 20]) {
 }
 
 #[test]
-fn each_ticket_comes_once_and_in_order(rt: HostRuntime) -> Result<(), Fail> {
-    let (map, _writer, one, two) = two_readers(rt.alloc(), 20, 1)?;
-    let (triggers, taker, first, second) = queue_of(rt.alloc())?;
+fn each_ticket_comes_once_and_in_order(rt: HostRuntime) {
+    let (map, _writer, one, two) = two_readers(&rt, 20, 1);
+    let (triggers, taker, first, second) = queue_of(&rt);
     let keys = all_at_once(&rt, &map, &triggers, (one, two), (first, second), taker);
     assert_in_order(&rt, keys);
-    Ok(())
 }

@@ -6,10 +6,8 @@ use crate::opened::{Opened, Plain, end_client, end_flow, gets, misses, turns};
 use nr_map::{Evict, NoSlot};
 use nr_model::{Delta, Row, RowSet};
 use nr_serve::{Client, Dataflow, Got, Lobby, Turn};
-use std::alloc::Global;
 use std::process::Abort;
 use std::sync::Wait;
-use std::test::Fail;
 
 #[derive(Clone, Copy, Debug)]
 enum Scene {
@@ -142,27 +140,26 @@ fn play_in<R: Abort + Wait>(rt: &R, scene: Scene, opened: Opened) {
     end_flow(flow);
 }
 
-fn play<R: Abort + Wait>(rt: &R, alloc: Global, scene: Scene) -> Result<(), Fail> {
-    play_in(rt, scene, Opened::open(alloc, scene.slots())?);
-    Ok(())
+fn play<R: Abort + Wait + AllocGlobal>(rt: &R, scene: Scene) {
+    play_in(rt, scene, Opened::open(rt, scene.slots()));
 }
 
 #[test]
-fn nobody_sleeps_in_a_closed_lobby(rt: HostRuntime) -> Result<(), Fail> {
-    play(&rt, rt.alloc(), Scene::ClosedLobby)
+fn nobody_sleeps_in_a_closed_lobby(rt: HostRuntime) {
+    play(&rt, Scene::ClosedLobby);
 }
 
 #[test]
-fn a_gate_that_never_lets_pass_bars_a_get(rt: HostRuntime) -> Result<(), Fail> {
-    play(&rt, rt.alloc(), Scene::ShutGate)
+fn a_gate_that_never_lets_pass_bars_a_get(rt: HostRuntime) {
+    play(&rt, Scene::ShutGate);
 }
 
 #[test]
-fn a_turn_without_a_slot_keeps_its_trigger(rt: HostRuntime) -> Result<(), Fail> {
-    play(&rt, rt.alloc(), Scene::NoSlot)
+fn a_turn_without_a_slot_keeps_its_trigger(rt: HostRuntime) {
+    play(&rt, Scene::NoSlot);
 }
 
 #[test]
-fn a_client_that_is_told_finds_what_was_applied(rt: HostRuntime) -> Result<(), Fail> {
-    play(&rt, rt.alloc(), Scene::Note)
+fn a_client_that_is_told_finds_what_was_applied(rt: HostRuntime) {
+    play(&rt, Scene::Note);
 }

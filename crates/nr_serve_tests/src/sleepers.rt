@@ -2,9 +2,9 @@
 //! one call alone. On a slow machine it may not sleep yet, and what is asserted holds all the same.
 use nr_serve::Lobby;
 use std::alloc::{AllocError, Global};
+use std::process::Abort;
 use std::sync::Wait;
 use std::sync::atomic::{AtomicBool, Ordering};
-use std::test::Fail;
 use std::thread::{self, Scope, Threads};
 use std::time::{Clock, Duration};
 
@@ -154,69 +154,55 @@ fn of_each_group(alloc: Global) -> Result<Vec<Sleeper>, AllocError> {
     Ok(sleepers)
 }
 
-fn all_wake<R: Threads + Wait + Clock + Sync + AllocGlobal>(
+fn all_wake<R: Threads + Wait + Clock + Sync + AllocGlobal + Abort>(
     rt: &R,
     sleepers: &[Sleeper],
     deed: Deed,
-) -> Result<bool, Fail> {
-    let lobby = Lobby::open(rt.alloc())?;
-    Ok(are_woken(rt, &lobby, sleepers, deed) == Some(true))
+) {
+    let lobby = Lobby::open(rt.alloc()).expect(rt, "a lobby");
+    assert_eq!(rt; are_woken(rt, &lobby, sleepers, deed), Some(true));
 }
 
 #[test]
-fn a_raise_wakes_who_waits_for_the_whole_lobby(rt: HostRuntime) -> Result<(), Fail> {
-    let woken = all_wake(&rt, &[Sleeper::of(Cause::Whole)], Deed::Raise)?;
-    assert!(rt; woken);
-    Ok(())
+fn a_raise_wakes_who_waits_for_the_whole_lobby(rt: HostRuntime) {
+    all_wake(&rt, &[Sleeper::of(Cause::Whole)], Deed::Raise);
 }
 
 #[test]
-fn a_raise_for_a_key_wakes_who_waits_for_the_whole_lobby(rt: HostRuntime) -> Result<(), Fail> {
-    let woken = all_wake(&rt, &[Sleeper::of(Cause::Whole)], Deed::RaiseFor(5))?;
-    assert!(rt; woken);
-    Ok(())
+fn a_raise_for_a_key_wakes_who_waits_for_the_whole_lobby(rt: HostRuntime) {
+    all_wake(&rt, &[Sleeper::of(Cause::Whole)], Deed::RaiseFor(5));
 }
 
 #[test]
-fn a_close_wakes_who_waits_for_the_whole_lobby(rt: HostRuntime) -> Result<(), Fail> {
-    let woken = all_wake(&rt, &[Sleeper::of(Cause::Whole)], Deed::Close)?;
-    assert!(rt; woken);
-    Ok(())
+fn a_close_wakes_who_waits_for_the_whole_lobby(rt: HostRuntime) {
+    all_wake(&rt, &[Sleeper::of(Cause::Whole)], Deed::Close);
 }
 
 // Keys 3 and 67 are of one group, and one raise wakes all three.
 #[test]
-fn a_raise_for_a_key_wakes_all_sleepers_of_its_group(rt: HostRuntime) -> Result<(), Fail> {
+fn a_raise_for_a_key_wakes_all_sleepers_of_its_group(rt: HostRuntime) {
     let sleepers = [
         Sleeper::of(Cause::Key(3)),
         Sleeper::of(Cause::Key(3)),
         Sleeper::of(Cause::Key(67)),
     ];
-    let woken = all_wake(&rt, &sleepers, Deed::RaiseFor(3))?;
-    assert!(rt; woken);
-    Ok(())
+    all_wake(&rt, &sleepers, Deed::RaiseFor(3));
 }
 
 #[test]
-fn raises_for_keys_wake_each_group_by_itself(rt: HostRuntime) -> Result<(), Fail> {
-    let sleepers = of_each_group(rt.alloc())?;
-    let woken = all_wake(&rt, sleepers.as_slice(), Deed::RaiseForEach)?;
-    assert!(rt; woken);
-    Ok(())
+fn raises_for_keys_wake_each_group_by_itself(rt: HostRuntime) {
+    let sleepers = of_each_group(rt.alloc()).expect(&rt, "memory");
+    all_wake(&rt, sleepers.as_slice(), Deed::RaiseForEach);
 }
 
 #[test]
-fn a_raise_wakes_all_groups(rt: HostRuntime) -> Result<(), Fail> {
-    let sleepers = of_each_group(rt.alloc())?;
-    let woken = all_wake(&rt, sleepers.as_slice(), Deed::Raise)?;
-    assert!(rt; woken);
-    Ok(())
+fn a_raise_wakes_all_groups(rt: HostRuntime) {
+    let sleepers = of_each_group(rt.alloc()).expect(&rt, "memory");
+    all_wake(&rt, sleepers.as_slice(), Deed::Raise);
 }
 
 #[test]
-fn a_close_wakes_all_groups(rt: HostRuntime) -> Result<(), Fail> {
-    let sleepers = of_each_group(rt.alloc())?;
-    let woken = all_wake(&rt, sleepers.as_slice(), Deed::Close)?;
-    assert!(rt; woken);
-    Ok(())
+fn a_close_wakes_all_groups(rt: HostRuntime) {
+    let sleepers = of_each_group(rt.alloc()).expect(&rt, "memory");
+    all_wake(&rt, sleepers.as_slice(), Deed::Close);
 }

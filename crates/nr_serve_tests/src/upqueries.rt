@@ -7,10 +7,8 @@ use nr_map::{Cancel, Evict};
 use nr_model::{Row, RowSet};
 use nr_serve::{Client, Dataflow, Got, Lobby, Source, SourceFault, Spent, Turn};
 use nr_trigger::Trigger;
-use std::alloc::Global;
 use std::process::Abort;
 use std::sync::Wait;
-use std::test::Fail;
 
 /// Fails that often, and then has the row `k:5` of key `k`.
 #[derive(Drop)]
@@ -64,6 +62,35 @@ fn ends<R: Wait>(rt: &R, flow: &mut Flow<'_>, trigger: Option<Trigger>, act: Act
     None
 }
 
+// What comes of a trigger so.
+fn comes_to<R: Abort + Wait>(
+    rt: &R,
+    flow: &mut Flow<'_>,
+    trigger: Option<Trigger>,
+    act: Act,
+    wanted: Option<Spent>,
+)
+    requires key { IfSome trigger (λ trigger. trigger.upquery.key < 2) }
+    requires sizes { (flow.old.map.shape.keys ≡ 2) × (flow.old.map.shape.rows ≡ 15) }
+    ensures { flow.new.map ≡ flow.old.map }
+{
+    assert_eq!(rt; ends(rt, flow, trigger, act), wanted);
+}
+
+// The next turn.
+fn turns<R: Abort + Wait>(rt: &R, flow: &mut Flow<'_>, wanted: Turn)
+    ensures { flow.new.map ≡ flow.old.map }
+{
+    assert_eq!(rt; flow.turn(rt), wanted);
+}
+
+// How often the client was told that the source failed for key 0.
+fn failures<R: Abort>(rt: &R, client: &mut Client<'_, Noting>, wanted: u64)
+    ensures { client.new.map ≡ client.old.map }
+{
+    assert_eq!(rt; client.failures_for(0), wanted);
+}
+
 // The next trigger.
 fn takes<R: Wait>(rt: &R, flow: &mut Flow<'_>) -> Option<Trigger>
     requires { flow.old.map.shape.keys ≡ 2 }
@@ -96,10 +123,10 @@ fn out_of_order<R: Abort + Wait>(rt: &R, client: &mut Client<'_, Noting>, flow: 
     misses(rt, client, 1);
     let one = takes(rt, flow);
     let two = takes(rt, flow);
-    assert_eq!(rt; ends(rt, flow, two, Act::Fill), Some(Spent::Filled));
+    comes_to(rt, flow, two, Act::Fill, Some(Spent::Filled));
     finds(rt, client, 1, 7);
     misses(rt, client, 0);
-    assert_eq!(rt; ends(rt, flow, one, Act::Fill), Some(Spent::Filled));
+    comes_to(rt, flow, one, Act::Fill, Some(Spent::Filled));
     finds(rt, client, 0, 7);
 }
 
@@ -109,11 +136,12 @@ fn source_fails<R: Abort + Wait>(rt: &R, client: &mut Client<'_, Noting>, flow: 
 {
     flow.source().faults = 1;
     misses(rt, client, 0);
-    assert_eq!(rt; client.failures_for(0), 0);
-    assert_eq!(rt; flow.turn(rt), Turn::Failed(0));
-    assert_eq!(rt; client.failures_for(0), 1);
+    failures(rt, client, 0);
+    turns(rt, flow, Turn::Failed(0));
+    failures(rt, client, 1);
     misses(rt, client, 0);
-    assert_eq!(rt; (flow.turn(rt), client.sends()), (Turn::Filled(0), 2));
+    turns(rt, flow, Turn::Filled(0));
+    assert_eq!(rt; client.sends(), 2);
     finds(rt, client, 0, 5);
 }
 
@@ -131,12 +159,10 @@ fn comes_late<R: Abort + Wait>(
     let late = takes(rt, flow);
     assert_eq!(rt; flow.cancel(rt, 0), Cancel::Cancelled);
     misses(rt, client, 0);
-    assert_eq!(rt; ends(rt, flow, late, act), Some(Spent::Passed));
+    comes_to(rt, flow, late, act, Some(Spent::Passed));
     misses(rt, client, 0);
-    assert_eq!(rt;
-        (flow.turn(rt), client.failures_for(0)),
-        (Turn::Filled(0), 0)
-    );
+    turns(rt, flow, Turn::Filled(0));
+    failures(rt, client, 0);
     finds(rt, client, 0, 5);
 }
 
@@ -149,11 +175,11 @@ fn finds_no_slot<R: Abort + Wait>(rt: &R, client: &mut Client<'_, Noting>, flow:
     misses(rt, client, 1);
     let one = takes(rt, flow);
     let two = takes(rt, flow);
-    assert_eq!(rt; ends(rt, flow, one, Act::Fill), Some(Spent::Filled));
-    assert_eq!(rt; ends(rt, flow, two, Act::Fill), None);
+    comes_to(rt, flow, one, Act::Fill, Some(Spent::Filled));
+    comes_to(rt, flow, two, Act::Fill, None);
     assert_eq!(rt; flow.evict(0), Evict::Evicted);
     let two = takes(rt, flow);
-    assert_eq!(rt; ends(rt, flow, two, Act::Fill), Some(Spent::Filled));
+    comes_to(rt, flow, two, Act::Fill, Some(Spent::Filled));
     finds(rt, client, 1, 7);
 }
 
@@ -165,12 +191,10 @@ fn wears<R: Abort + Wait>(rt: &R, client: &mut Client<'_, Noting>, flow: &mut Fl
     flow.source().faults = 1;
     misses(rt, client, 0);
     let trigger = takes(rt, flow);
-    assert_eq!(rt; ends(rt, flow, trigger, Act::Fail), None);
-    assert_eq!(rt; flow.turn(rt), Turn::Worn(0));
-    assert_eq!(rt;
-        (flow.turn(rt), client.failures_for(0)),
-        (Turn::Filled(0), 0)
-    );
+    comes_to(rt, flow, trigger, Act::Fail, None);
+    turns(rt, flow, Turn::Worn(0));
+    turns(rt, flow, Turn::Filled(0));
+    failures(rt, client, 0);
     finds(rt, client, 0, 5);
 }
 
@@ -200,11 +224,11 @@ enum Scene {
 }
 
 impl Scene {
-    fn open(self, alloc: Global) -> Result<Opened, Fail> {
+    fn open<R: Abort + AllocGlobal>(self, rt: &R) -> Opened {
         match self {
-            Scene::NoSlot => Opened::open(alloc, 1),
-            Scene::Wears => Opened::numbered(alloc, 4, 2, 4_194_303),
-            _ => Opened::open(alloc, 4),
+            Scene::NoSlot => Opened::open(rt, 1),
+            Scene::Wears => Opened::numbered(rt, 4, 2, 4_194_303),
+            _ => Opened::open(rt, 4),
         }
     }
 
@@ -245,42 +269,41 @@ fn play_in<R: Abort + Wait>(rt: &R, scene: Scene, opened: Opened) {
     assert_eq!(rt; (end_client(client), end_flow(flow)), (false, false));
 }
 
-fn play<R: Abort + Wait>(rt: &R, alloc: Global, scene: Scene) -> Result<(), Fail> {
-    play_in(rt, scene, scene.open(alloc)?);
-    Ok(())
+fn play<R: Abort + Wait + AllocGlobal>(rt: &R, scene: Scene) {
+    play_in(rt, scene, scene.open(rt));
 }
 
 #[test]
-fn triggers_are_filled_in_any_order(rt: HostRuntime) -> Result<(), Fail> {
-    play(&rt, rt.alloc(), Scene::OutOfOrder)
+fn triggers_are_filled_in_any_order(rt: HostRuntime) {
+    play(&rt, Scene::OutOfOrder);
 }
 
 #[test]
-fn a_source_that_fails_is_told_and_asked_anew(rt: HostRuntime) -> Result<(), Fail> {
-    play(&rt, rt.alloc(), Scene::SourceFails)
+fn a_source_that_fails_is_told_and_asked_anew(rt: HostRuntime) {
+    play(&rt, Scene::SourceFails);
 }
 
 #[test]
-fn rows_that_come_after_a_cancel_fill_nothing(rt: HostRuntime) -> Result<(), Fail> {
-    play(&rt, rt.alloc(), Scene::ComesLate(Act::Fill))
+fn rows_that_come_after_a_cancel_fill_nothing(rt: HostRuntime) {
+    play(&rt, Scene::ComesLate(Act::Fill));
 }
 
 #[test]
-fn a_failure_after_a_cancel_takes_nothing_back(rt: HostRuntime) -> Result<(), Fail> {
-    play(&rt, rt.alloc(), Scene::ComesLate(Act::Fail))
+fn a_failure_after_a_cancel_takes_nothing_back(rt: HostRuntime) {
+    play(&rt, Scene::ComesLate(Act::Fail));
 }
 
 #[test]
-fn a_trigger_without_a_slot_is_kept_and_taken_first(rt: HostRuntime) -> Result<(), Fail> {
-    play(&rt, rt.alloc(), Scene::NoSlot)
+fn a_trigger_without_a_slot_is_kept_and_taken_first(rt: HostRuntime) {
+    play(&rt, Scene::NoSlot);
 }
 
 #[test]
-fn a_worn_request_is_kept_until_it_is_filled(rt: HostRuntime) -> Result<(), Fail> {
-    play(&rt, rt.alloc(), Scene::Wears)
+fn a_worn_request_is_kept_until_it_is_filled(rt: HostRuntime) {
+    play(&rt, Scene::Wears);
 }
 
 #[test]
-fn a_ring_since_the_bell_was_read_ends_a_sleep(rt: HostRuntime) -> Result<(), Fail> {
-    play(&rt, rt.alloc(), Scene::SleepsOnce)
+fn a_ring_since_the_bell_was_read_ends_a_sleep(rt: HostRuntime) {
+    play(&rt, Scene::SleepsOnce);
 }

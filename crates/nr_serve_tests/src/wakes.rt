@@ -10,7 +10,6 @@ use nr_serve::{Client, Dataflow, Got, OpenGate, Service, Turn};
 use nr_trigger::{Poster, Taker};
 use std::sync::Wait;
 use std::sync::atomic::{AtomicBool, Ordering};
-use std::test::Fail;
 use std::thread::{self, Threads};
 use std::time::{Clock, CpuClock, Duration};
 
@@ -319,44 +318,38 @@ fn ended(got: Got, sends: u64) -> Slept {
 
 // The client requests the key twice, since the first request was taken back.
 #[test]
-fn a_cancel_and_a_fill_wake_a_client(rt: HostRuntime) -> Result<(), Fail> {
-    let woken = client_is_woken(&rt, Opened::open(rt.alloc(), 4)?, Cause::Work);
+fn a_cancel_and_a_fill_wake_a_client(rt: HostRuntime) {
+    let woken = client_is_woken(&rt, Opened::open(&rt, 4), Cause::Work);
     assert_eq!(rt; woken, Some((ended(Got::Rows, 2), true)));
-    Ok(())
 }
 
 #[test]
-fn a_close_wakes_a_client(rt: HostRuntime) -> Result<(), Fail> {
-    let woken = client_is_woken(&rt, Opened::open(rt.alloc(), 4)?, Cause::Close);
+fn a_close_wakes_a_client(rt: HostRuntime) {
+    let woken = client_is_woken(&rt, Opened::open(&rt, 4), Cause::Close);
     assert_eq!(rt; woken, Some((ended(Got::GaveUp, 1), true)));
-    Ok(())
 }
 
 // A client that waits for a second has a processor for next to none of it.
 #[test]
-fn a_client_that_waits_is_idle(rt: HostRuntime) -> Result<(), Fail> {
-    let woken = client_is_woken(&rt, Opened::open(rt.alloc(), 4)?, Cause::LateClose);
+fn a_client_that_waits_is_idle(rt: HostRuntime) {
+    let woken = client_is_woken(&rt, Opened::open(&rt, 4), Cause::LateClose);
     assert_eq!(rt; woken, Some((ended(Got::GaveUp, 1), true)));
-    Ok(())
 }
 
 #[test]
-fn a_post_wakes_a_dataflow(rt: HostRuntime) -> Result<(), Fail> {
-    let woken = flow_is_woken(&rt, Opened::open(rt.alloc(), 4)?, Cause::Work);
+fn a_post_wakes_a_dataflow(rt: HostRuntime) {
+    let woken = flow_is_woken(&rt, Opened::open(&rt, 4), Cause::Work);
     assert_eq!(rt; woken, Some((true, true)));
-    Ok(())
 }
 
 #[test]
-fn a_close_wakes_a_dataflow(rt: HostRuntime) -> Result<(), Fail> {
-    let woken = flow_is_woken(&rt, Opened::open(rt.alloc(), 4)?, Cause::Close);
+fn a_close_wakes_a_dataflow(rt: HostRuntime) {
+    let woken = flow_is_woken(&rt, Opened::open(&rt, 4), Cause::Close);
     assert_eq!(rt; woken, Some((true, true)));
-    Ok(())
 }
 
 #[test]
-fn a_dataflow_that_waits_is_idle(rt: HostRuntime) -> Result<(), Fail> {
-    let woken = flow_is_woken(&rt, Opened::open(rt.alloc(), 4)?, Cause::LateClose);
+fn a_dataflow_that_waits_is_idle(rt: HostRuntime) {
+    let woken = flow_is_woken(&rt, Opened::open(&rt, 4), Cause::LateClose);
     assert_eq!(rt; woken, Some((true, true)));
-    Ok(())
 }

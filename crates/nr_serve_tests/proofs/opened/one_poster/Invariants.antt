@@ -1,4 +1,4 @@
 use Rattle.nr_serve_tests.proofs.opened.one_poster.Given as goal
 
 abbrev pub ghost-open : goal.ghost-open
-ghost-open a = 2
+ghost-open g a = 2

@@ -1,4 +1,4 @@
 use Rattle.nr_serve_tests.proofs.queues.queue_of.Given as goal
 
 abbrev pub ghost-open : goal.ghost-open
-ghost-open a = 20
+ghost-open g a = 20
