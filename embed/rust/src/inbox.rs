@@ -2,7 +2,8 @@
 use crate::{Fault, Poster, Queue, Taker, Ticket, Writer};
 use std::sync::atomic::{AtomicBool, Ordering::SeqCst};
 use std::sync::mpsc::{self, TryRecvError};
-use std::{fmt, sync::Arc, thread};
+use std::sync::{Arc, Weak};
+use std::{fmt, thread};
 
 /// An inbox's tokens as they come: what the writer's thread takes with, what as many threads post tickets of missing keys
 /// with, and what any number send events with, of a type of the program's own, such as the changes of a base.
@@ -46,10 +47,11 @@ impl<E> Inbox<E> {
     pub fn open(writer: &Writer, capacity: u32, posters: u32) -> Result<Inbox<E>, Fault> {
         let Queue { taker, posters } = Queue::open(writer, capacity, posters)?;
         let (letters, came) = mpsc::channel();
-        let bell = Arc::new(AtomicBool::new(false));
-        let poster = |poster| InboxPoster { poster, letters: letters.clone(), bell: Arc::clone(&bell) };
+        let (letters, bell) = (Arc::new(letters), Arc::new(AtomicBool::new(false)));
+        let poster = |poster| InboxPoster { poster, letters: Arc::clone(&letters), bell: Arc::clone(&bell) };
         let posters = posters.into_iter().map(poster).collect();
-        let taker = InboxTaker { taker, came, bell, has_tickets: false, is_tickets_turn: false };
+        let senders = Arc::downgrade(&letters);
+        let taker = InboxTaker { taker, came, senders, bell, with_tickets: None, is_tickets_turn: false };
         Ok(Inbox { taker, posters, events: EventSender { letters } })
     }
 }
@@ -69,15 +71,20 @@ pub enum Arrival<E> {
 pub struct InboxTaker<E> {
     taker: Taker,
     came: mpsc::Receiver<Letter<E>>,
+    senders: Weak<mpsc::Sender<Letter<E>>>,
     bell: Arc<AtomicBool>,
-    /// There may be tickets, and whether they come next.
-    has_tickets: bool,
+    /// There may be tickets, as long as this is there, and whether they come next.
+    with_tickets: Option<Letters<E>>,
     is_tickets_turn: bool,
 }
 
-/// The bell is in the channel of the events, so that one sleep waits for both.
+/// What all that post and send share. The inbox is open while there is one.
+type Letters<E> = Arc<mpsc::Sender<Letter<E>>>;
+
+/// The bell is in the channel of the events, so that one sleep waits for both. It keeps the inbox open until the tickets
+/// are taken, so that what loads them can send events.
 enum Letter<E> {
-    Bell,
+    Bell(Letters<E>),
     Event(E),
 }
 
@@ -85,7 +92,7 @@ impl<E> InboxTaker<E> {
     /// Waits for the next ticket or event; none when all that post and send are gone.
     pub fn wait(&mut self) -> Option<Arrival<E>> {
         loop {
-            self.is_tickets_turn = !self.is_tickets_turn && self.has_tickets;
+            self.is_tickets_turn = !self.is_tickets_turn && self.with_tickets.is_some();
             let came = if self.is_tickets_turn { self.ticket() } else { self.event()? };
             if came.is_some() {
                 return came;
@@ -93,11 +100,16 @@ impl<E> InboxTaker<E> {
         }
     }
 
+    /// What can send events for as long as anything can that was made with the inbox.
+    pub(crate) fn weak_sender(&self) -> WeakSender<E> {
+        WeakSender { letters: Weak::clone(&self.senders) }
+    }
+
     fn ticket(&mut self) -> Option<Arrival<E>> {
         match self.taker.take() {
             Ok(ticket) => return Some(Arrival::Ticket(ticket)),
             Err(Fault::InTheWay) => thread::yield_now(),
-            Err(_) => self.has_tickets = false,
+            Err(_) => self.with_tickets = None,
         }
         None
     }
@@ -106,16 +118,16 @@ impl<E> InboxTaker<E> {
     fn event(&mut self) -> Option<Option<Arrival<E>>> {
         let letter = match self.came.try_recv() {
             Ok(letter) => letter,
-            Err(_) if self.has_tickets => return Some(None),
+            Err(_) if self.with_tickets.is_some() => return Some(None),
             Err(TryRecvError::Disconnected) => return None,
             Err(TryRecvError::Empty) => self.came.recv().ok()?,
         };
         match letter {
             Letter::Event(event) => Some(Some(Arrival::Event(event))),
-            Letter::Bell => {
+            Letter::Bell(letters) => {
                 // Before the look: a ticket that comes after it rings again.
                 self.bell.store(false, SeqCst);
-                self.has_tickets = true;
+                self.with_tickets = Some(letters);
                 Some(None)
             }
         }
@@ -125,7 +137,7 @@ impl<E> InboxTaker<E> {
 /// What one thread posts tickets with.
 pub struct InboxPoster<E> {
     poster: Poster,
-    letters: mpsc::Sender<Letter<E>>,
+    letters: Letters<E>,
     bell: Arc<AtomicBool>,
 }
 
@@ -135,14 +147,14 @@ impl<E> InboxPoster<E> {
     pub fn post_waiting(&mut self, ticket: Ticket) {
         self.poster.post_waiting(ticket);
         if !self.bell.swap(true, SeqCst) {
-            _ = self.letters.send(Letter::Bell);
+            _ = self.letters.send(Letter::Bell(Arc::clone(&self.letters)));
         }
     }
 }
 
 /// What threads send events with, each with a clone.
 pub struct EventSender<E> {
-    letters: mpsc::Sender<Letter<E>>,
+    letters: Letters<E>,
 }
 
 impl<E> EventSender<E> {
@@ -150,14 +162,25 @@ impl<E> EventSender<E> {
     pub fn send(&self, event: E) -> Result<(), E> {
         self.letters.send(Letter::Event(event)).map_err(|mpsc::SendError(letter)| match letter {
             Letter::Event(event) => event,
-            Letter::Bell => unreachable!("an event was sent"),
+            Letter::Bell(_) => unreachable!("an event was sent"),
         })
+    }
+}
+
+/// What makes an event's sender while there is another, and keeps no inbox open.
+pub(crate) struct WeakSender<E> {
+    letters: Weak<mpsc::Sender<Letter<E>>>,
+}
+
+impl<E> WeakSender<E> {
+    pub(crate) fn sender(&self) -> Option<EventSender<E>> {
+        self.letters.upgrade().map(|letters| EventSender { letters })
     }
 }
 
 impl<E> Clone for EventSender<E> {
     fn clone(&self) -> EventSender<E> {
-        EventSender { letters: self.letters.clone() }
+        EventSender { letters: Arc::clone(&self.letters) }
     }
 }
 

@@ -49,7 +49,7 @@
 //!
 //! Keys of a [`ValueMap`] have values of any type in place of rows, which readers borrow. A [`Lobby`] lists who waits for a
 //! missing key, and who waits until the writer has come as far as a number. An [`Inbox`] brings one sleeping thread both
-//! tickets and events. Tokens go from thread to thread, but two threads never use one at a time:
+//! tickets and events, and [`Loaders`] query side by side for it. Tokens go from thread to thread, but two threads never use one at a time:
 //!
 //! ```compile_fail,E0277
 //! let readers = nr::ReaderMap::open(&nr::Shape::new(1, 3, 1)).unwrap().readers;
@@ -121,6 +121,7 @@ mod ffi;
 mod ids;
 mod inbox;
 mod library;
+mod loaders;
 mod lobby;
 mod map;
 mod net;
@@ -140,6 +141,7 @@ pub use answers::{Asked, Cancel, Fault, KeyKind, Updated};
 pub use cache::{Cache, CacheBuilder, CacheReader, CacheRef, CacheStats, LoadError};
 pub use emptied::Emptied;
 pub use inbox::{Arrival, EventSender, Inbox, InboxPoster, InboxTaker};
+pub use loaders::Loaders;
 pub use lobby::Lobby;
 pub use map::ReaderMap;
 pub use progress::Progress;

@@ -4,6 +4,7 @@ use crate::*;
 mod cache;
 mod emptied;
 mod inbox;
+mod loaders;
 mod lobby;
 mod net;
 mod progress;
