@@ -144,7 +144,8 @@ impl<K: Hash + Eq, V, S: BuildHasher> CacheReader<K, V, S> {
             return Ok(self.borrowed(place));
         }
         count(&self.shared().counts.misses);
-        let until = timeout.map(|timeout| Instant::now() + timeout);
+        // A limit beyond the end of time is none.
+        let until = timeout.and_then(|timeout| Instant::now().checked_add(timeout));
         let flight = loop {
             match self.shared().begin(id, key, key.to_owned()) {
                 Begun::Load(flight) => break flight,

@@ -1,5 +1,5 @@
 //! Who may still see an entry that the map has no more.
-use std::sync::atomic::{AtomicU64, Ordering::SeqCst};
+use std::sync::atomic::{AtomicU64, Ordering::Relaxed, Ordering::SeqCst};
 
 /// The epochs of a cache. A reader takes its seat at the present epoch before it finds an entry, and leaves it once it
 /// is done with that. The store ends an epoch after it took an entry out of the map. So who saw the entry sits at that
@@ -45,7 +45,7 @@ impl Seats {
     }
 
     pub fn hits(&self) -> u64 {
-        self.seats.iter().map(|seat| seat.hits.load(SeqCst)).sum()
+        self.seats.iter().map(|seat| seat.hits.load(Relaxed)).sum()
     }
 }
 
@@ -56,7 +56,6 @@ impl Seat {
 
     /// Counts a hit. Only the seat's reader does.
     pub fn count_hit(&self) {
-        use std::sync::atomic::Ordering::Relaxed;
         self.hits.store(self.hits.load(Relaxed) + 1, Relaxed);
     }
 }

@@ -69,6 +69,9 @@ impl<K: Hash + Eq, V, S: BuildHasher> Shared<K, V, S> {
         K: Borrow<Q>,
     {
         let now = self.expiry.now();
+        // Where the key isn't needed it is dropped without the lock.
+        let mut owned = Some(owned);
+        let mut take_key = || owned.take().expect("a flight takes the key once");
         self.change(|store| {
             if let Some(flight) = store.flights.find(id, key) {
                 return Begun::Wait(flight);
@@ -76,7 +79,7 @@ impl<K: Hash + Eq, V, S: BuildHasher> Shared<K, V, S> {
             match store.find(id).map(|entry| (entry.key.borrow() == key, self.expiry.is_over(entry, now))) {
                 Some((true, false)) => return Begun::Held,
                 // Another key has the id.
-                Some((false, false)) => return Begun::Load(store.flights.begin(id, owned, None)),
+                Some((false, false)) => return Begun::Load(store.flights.begin(id, take_key(), None)),
                 Some((_, true)) => {
                     store.evict(id, &self.seats);
                     count(&self.counts.evictions);
@@ -85,7 +88,7 @@ impl<K: Hash + Eq, V, S: BuildHasher> Shared<K, V, S> {
             }
             let is_taken = store.flights.has_upquery(id);
             let upquery = if is_taken { None } else { store.admit(id, &self.seats, &self.expiry, now) };
-            Begun::Load(store.flights.begin(id, owned, upquery))
+            Begun::Load(store.flights.begin(id, take_key(), upquery))
         })
     }
 

@@ -6,7 +6,7 @@ use std::panic::{catch_unwind, resume_unwind, AssertUnwindSafe};
 use std::sync::atomic::{AtomicBool, AtomicU64, AtomicUsize, Ordering::SeqCst};
 use std::sync::{mpsc, Barrier};
 use std::thread;
-use std::time::Duration;
+use std::time::{Duration, Instant};
 
 const LONG: Duration = Duration::from_secs(3600);
 
@@ -193,27 +193,35 @@ fn of_keys_of_one_hash_one_is_held() {
 }
 
 #[test]
-fn entries_expire() {
-    for to_idle in [false, true] {
-        let builder = Cache::<u64, u64>::builder();
-        let time = Duration::from_millis(40);
-        let builder = if to_idle { builder.time_to_idle(time) } else { builder.time_to_live(time) };
-        let cache = builder.open().unwrap();
-        let mut reader = cache.reader().unwrap();
-        cache.insert(1, 1);
-        for _ in 0..6 {
-            thread::sleep(time / 4);
-            if to_idle {
-                assert!(reader.get(&1).is_some());
-            }
+fn an_entry_expires_so_long_after_it_was_put() {
+    let time = Duration::from_millis(40);
+    let cache = Cache::<u64, u64>::builder().time_to_live(time).open().unwrap();
+    let mut reader = cache.reader().unwrap();
+    cache.insert(1, 1);
+    thread::sleep(time + time / 4);
+    assert!(reader.get(&1).is_none());
+    assert_eq!(*reader.get_with(&1, || 2), 2);
+    assert_eq!((cache.stats().evictions, cache.len()), (1, 1));
+}
+
+#[test]
+fn an_entry_expires_so_long_after_it_was_last_found() {
+    let time = Duration::from_millis(200);
+    let cache = Cache::<u64, u64>::builder().time_to_idle(time).time_to_live(LONG).open().unwrap();
+    let mut reader = cache.reader().unwrap();
+    cache.insert(1, 1);
+    for _ in 0..6 {
+        let since = Instant::now();
+        thread::sleep(time / 4);
+        let is_found = reader.get(&1).is_some();
+        // On a machine that is busy a sleep may take long.
+        assert!(is_found || since.elapsed() > time / 2);
+        if !is_found {
+            cache.insert(1, 1);
         }
-        if to_idle {
-            thread::sleep(time + time / 4);
-        }
-        assert!(reader.get(&1).is_none());
-        assert_eq!(*reader.get_with(&1, || 2), 2);
-        assert_eq!(cache.stats().evictions, 1);
     }
+    thread::sleep(time + time / 4);
+    assert!(reader.get(&1).is_none());
 }
 
 #[test]
