@@ -3,9 +3,9 @@ ghost use Rattle.std.specs.Prelude.{◌≡◌, ◌<◌, All, IfSome, length};
 ghost use Rattle.nr_held.specs.Caches.{AreOf, IsOf};
 
 use crate::calls::{Told, ask, fill, rows_of};
-use crate::worked::next;
+use crate::worked::{next, of_sizes};
 use nr_held::Cache;
-use nr_map::{Found, Hand, MAX_LARGE_READERS, Reader, ReaderMap, Shape, Writer};
+use nr_map::{Found, Hand, MAX_LARGE_READERS, Reader, ReaderMap, Writer};
 use nr_model::RowSet;
 use std::process::Abort;
 
@@ -74,14 +74,7 @@ fn works<R: Abort + AllocGlobal>(
 
 #[test]
 fn the_largest_cache_finds(rt: HostRuntime) {
-    let shape = Shape {
-        keys: HANDS,
-        slots: HANDS,
-        readers: MAX_LARGE_READERS,
-        first_count: 0,
-        first_number: 0,
-        rows: 1,
-    };
+    let shape = of_sizes(HANDS, HANDS, MAX_LARGE_READERS, 1);
     let opened = ReaderMap::open_large(rt.alloc(), &shape);
     let (map, writer, mut readers) = opened.expect(&rt, "a map");
     let once = next(&rt, &map, &mut readers);

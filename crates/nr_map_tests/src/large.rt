@@ -1,21 +1,10 @@
 //! The largest maps, and keys that have as many rows as they may have.
 
 use crate::calls::{Told, minus, plus};
-use crate::worked::Worked;
-use nr_map::{MAX_LARGE_SLOTS, MAX_READERS, MAX_SLOTS, Shape, UpdateFault};
+use crate::worked::{Worked, of_sizes};
+use nr_map::{MAX_LARGE_SLOTS, MAX_READERS, MAX_SLOTS, UpdateFault};
 use nr_model::{MAX_KEYS, MAX_ROWS, Row, RowSet};
 use std::process::Abort;
-
-fn of_sizes(keys: u32, slots: u32, readers: u32, rows: u32) -> Shape {
-    Shape {
-        keys,
-        slots,
-        readers,
-        first_count: 0,
-        first_number: 0,
-        rows,
-    }
-}
 
 // The row that a key is filled with.
 fn row_of(key: u32) -> [(u64, u64); 1] {

@@ -4,7 +4,7 @@ ghost use Rattle.std.specs.Prelude.{◌≡◌, ◌<◌};
 
 use crate::calls::{Told, UPDATED, minus, plus, update};
 use crate::worked::{Worked, next};
-use nr_map::{Reader, ReaderMap, Writer};
+use nr_map::{Reader, ReaderMap, Shape, Writer};
 use std::process::Abort;
 use std::thread::{Threads, join};
 
@@ -111,12 +111,24 @@ fn update_beside<R: Threads + Sync>(
     )
 }
 
-// A map of two keys with three readers.
-fn with_three<R: Abort + AllocGlobal>(rt: &R) -> (Worked, Reader, Reader)
+// A map of two keys with three readers, each of which may have a word of its own.
+fn with_three<R: Abort + AllocGlobal>(rt: &R, words: bool) -> (Worked, Reader, Reader)
     ensures keys { result.0.shape.keys ≡ 2 }
     ensures readers { (result.1.table ≡ result.0) × (result.2.table ≡ result.0) }
 {
-    let opened = ReaderMap::open(rt.alloc(), 2, 6, 3, u64::MAX);
+    let shape = Shape {
+        keys: 2,
+        slots: 6,
+        readers: 3,
+        first_count: u64::MAX,
+        first_number: 0,
+        rows: 1,
+    };
+    let opened = if words {
+        ReaderMap::open_large(rt.alloc(), &shape)
+    } else {
+        ReaderMap::open_with(rt.alloc(), &shape)
+    };
     let (map, writer, mut readers) = opened.expect(rt, "a map");
     let three = next(rt, &map, &mut readers);
     let two = next(rt, &map, &mut readers);
@@ -129,18 +141,27 @@ fn with_three<R: Abort + AllocGlobal>(rt: &R) -> (Worked, Reader, Reader)
     (worked, two, three)
 }
 
-#[test]
-fn updates_beside_pins_are_all_done(rt: HostRuntime) {
-    let (mut worked, two, three) = with_three(&rt);
-    worked.asks(&rt, 0, Told::Send(0, 0));
-    worked.fills(&rt, 0, 0, &[]);
+fn are_all_done<R: Abort + AllocGlobal + Threads + Sync>(rt: &R, words: bool) {
+    let (mut worked, two, three) = with_three(rt, words);
+    worked.asks(rt, 0, Told::Send(0, 0));
+    worked.fills(rt, 0, 0, &[]);
     let Worked {
         map,
         writer,
         reader: one,
     } = worked;
     assert_eq!(rt;
-        update_beside(&rt, &map, writer, one, two, three),
+        update_beside(rt, &map, writer, one, two, three),
         (TURNS, (TURNS, (TURNS, TURNS)))
     );
+}
+
+#[test]
+fn updates_beside_pins_are_all_done(rt: HostRuntime) {
+    are_all_done(&rt, false);
+}
+
+#[test]
+fn updates_beside_pins_by_words_are_all_done(rt: HostRuntime) {
+    are_all_done(&rt, true);
 }

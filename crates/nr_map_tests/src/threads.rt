@@ -2,7 +2,7 @@
 ghost use Rattle.std.specs.Prelude.{◌≡◌, ◌<◌};
 
 use crate::calls::{Told, ask, find, pairs_are, rows_of};
-use crate::worked::Worked;
+use crate::worked::{Worked, of_sizes};
 use nr_map::{Evict, Found, Reader, ReaderMap, Writer};
 use nr_model::RowSet;
 use std::process::Abort;
@@ -140,15 +140,28 @@ fn both_at_once<R: Threads + Sync>(
     )
 }
 
-#[test]
-fn sets_are_found_whole(rt: HostRuntime) {
-    let mut worked = Worked::open(&rt, 1, 3, 1, u64::MAX);
-    worked.asks(&rt, 0, Told::Send(0, 0));
-    worked.fills(&rt, 0, 0, &marked(0));
+fn are_found_whole<R: Abort + Threads + Sync>(rt: &R, mut worked: Worked)
+    requires key { worked.shape.keys ≡ 1 }
+{
+    worked.asks(rt, 0, Told::Send(0, 0));
+    worked.fills(rt, 0, 0, &marked(0));
     let Worked {
         map,
         writer,
         reader,
     } = worked;
-    assert_eq!(rt; both_at_once(&rt, &map, writer, reader), (true, true));
+    assert_eq!(rt; both_at_once(rt, &map, writer, reader), (true, true));
+}
+
+#[test]
+fn sets_are_found_whole(rt: HostRuntime) {
+    let worked = Worked::open(&rt, 1, 3, 1, u64::MAX);
+    are_found_whole(&rt, worked);
+}
+
+// The finds of a large map are by the reader's own word.
+#[test]
+fn sets_of_a_large_map_are_found_whole(rt: HostRuntime) {
+    let worked = Worked::open_large(&rt, &of_sizes(1, 3, 1, 3));
+    are_found_whole(&rt, worked);
 }

@@ -47,6 +47,20 @@ pub(crate) fn next<R: Abort>(rt: &R, map: &ReaderMap, readers: &mut Vec<Reader>)
     readers.pop().expect(rt, "a reader")
 }
 
+/// A map's shape of those sizes, whose counts begin with 0.
+pub(crate) fn of_sizes(keys: u32, slots: u32, readers: u32, rows: u32) -> Shape
+    ensures { result.keys ≡ keys }
+{
+    Shape {
+        keys,
+        slots,
+        readers,
+        first_count: 0,
+        first_number: 0,
+        rows,
+    }
+}
+
 impl Worked {
     /// A new map of those sizes, with its last reader.
     pub(crate) fn open<R: Abort + AllocGlobal>(
@@ -81,7 +95,9 @@ impl Worked {
     }
 
     /// A new map of that shape, which may be large, with its last reader.
-    pub(crate) fn open_large<R: Abort + AllocGlobal>(rt: &R, shape: &Shape) -> Worked {
+    pub(crate) fn open_large<R: Abort + AllocGlobal>(rt: &R, shape: &Shape) -> Worked
+        ensures { result.shape.keys ≡ shape.now.keys }
+    {
         let opened = ReaderMap::open_large(rt.alloc(), shape);
         let (map, writer, mut readers) = opened.expect(rt, "a map");
         let reader = next(rt, &map, &mut readers);
