@@ -1,8 +1,16 @@
-//! Tests of the map over ids by public calls alone.
+//! Tests of the map over ids, and of its directory alone, by public calls.
 #![tactic(auto)]
 
 #[cfg(test)]
+mod admitting;
+#[cfg(test)]
 mod calls;
+#[cfg(test)]
+mod directory_threads;
+#[cfg(test)]
+mod groups;
+#[cfg(test)]
+mod office;
 #[cfg(test)]
 mod reclaiming;
 #[cfg(test)]
