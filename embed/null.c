@@ -269,6 +269,29 @@ uint32_t nr_replace_id(nr_id_writer *writer, uint64_t id, const nr_row *rows, si
   return writer ? proved_nr_replace_id(writer, id, rows, n) : NR_CLOSED;
 }
 
+uint32_t proved_nr_fill_id_reclaiming(nr_id_writer *writer, const nr_upquery *upquery, const nr_row *rows, size_t n,
+  nr_rows *had);
+uint32_t nr_fill_id_reclaiming(nr_id_writer *writer, const nr_upquery *upquery, const nr_row *rows, size_t n,
+  nr_rows *had) {
+  return writer ? proved_nr_fill_id_reclaiming(writer, upquery, rows, n, had) : NR_CLOSED;
+}
+
+uint32_t proved_nr_update_id_reclaiming(nr_id_writer *writer, uint64_t id, const nr_delta *deltas, size_t n,
+  nr_rows *had);
+uint32_t nr_update_id_reclaiming(nr_id_writer *writer, uint64_t id, const nr_delta *deltas, size_t n, nr_rows *had) {
+  return writer ? proved_nr_update_id_reclaiming(writer, id, deltas, n, had) : NR_CLOSED;
+}
+
+uint32_t proved_nr_replace_id_reclaiming(nr_id_writer *writer, uint64_t id, const nr_row *rows, size_t n, nr_rows *had);
+uint32_t nr_replace_id_reclaiming(nr_id_writer *writer, uint64_t id, const nr_row *rows, size_t n, nr_rows *had) {
+  return writer ? proved_nr_replace_id_reclaiming(writer, id, rows, n, had) : NR_CLOSED;
+}
+
+uint32_t proved_nr_reap_id(nr_id_writer *writer, nr_rows *had);
+uint32_t nr_reap_id(nr_id_writer *writer, nr_rows *had) {
+  return writer ? proved_nr_reap_id(writer, had) : NR_CLOSED;
+}
+
 uint32_t proved_nr_evict_id(nr_id_writer *writer, uint64_t id);
 uint32_t nr_evict_id(nr_id_writer *writer, uint64_t id) {
   return writer ? proved_nr_evict_id(writer, id) : NR_CLOSED;

@@ -527,6 +527,18 @@ uint32_t nr_withdraw_id(nr_id_writer *writer, const nr_upquery *upquery);
 uint32_t nr_update_id(nr_id_writer *writer, uint64_t id, const nr_delta *deltas, size_t n);
 uint32_t nr_replace_id(nr_id_writer *writer, uint64_t id, const nr_row *rows, size_t n);
 
+/* As nr_fill_id, nr_update_id and nr_replace_id, but each also gives out the set that its slot had, as
+   nr_fill_reclaiming: NR_GIVEN instead of NR_DONE, after 2m + 1 more steps for a set of m rows. The first of these is
+   (0, id), whose the set was. A set that came back is in no later find, but a thread may still read what an earlier find
+   wrote: no reader by id holds a set. */
+uint32_t nr_fill_id_reclaiming(nr_id_writer *writer, const nr_upquery *upquery, const nr_row *rows, size_t n,
+  nr_rows *had);
+uint32_t nr_update_id_reclaiming(nr_id_writer *writer, uint64_t id, const nr_delta *deltas, size_t n, nr_rows *had);
+uint32_t nr_replace_id_reclaiming(nr_id_writer *writer, uint64_t id, const nr_row *rows, size_t n, nr_rows *had);
+
+/* Gives out a set that no id has any more, as nr_reap. */
+uint32_t nr_reap_id(nr_id_writer *writer, nr_rows *had);
+
 /* Takes an id's rows and its way: NR_EVICTED after W + 3 steps. NR_NOTHING after W or W + 1, if the id has no way or its
    upquery is open. */
 uint32_t nr_evict_id(nr_id_writer *writer, uint64_t id);

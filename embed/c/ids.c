@@ -97,6 +97,28 @@ static void test_full(const nr_id_shape *shape, nr_id_writer *writer, nr_id_read
   for (int next = 0; next < 9; next++) WANTS(next == 3 ? NR_HOLE : NR_ROWS, nr_find_id(reader, ids[next], &rows));
 }
 
+/* Sets come back with the id that they were of. */
+static void test_reclaiming(nr_id_writer *writer, nr_id_reader *reader) {
+  const nr_delta batch = {{9, 9}, true};
+  const nr_row zero = {0, 1};
+  nr_rows had;
+  had.count = 77;
+  WANTS(NR_NOTHING, nr_reap_id(writer, &had));
+  WANTS(NR_NOTHING, nr_update_id_reclaiming(writer, USER, &batch, 1, &had));
+  nr_upquery upquery = admitted(writer, reader, USER);
+  WANTS(NR_BAD_ROW, nr_fill_id_reclaiming(writer, &upquery, &zero, 1, &had));
+  WANTS(NR_DROPPED, nr_replace_id_reclaiming(writer, USER, ORDERS, 1, &had));
+  WANTS(NR_DONE, nr_fill_id_reclaiming(writer, &upquery, ORDERS, 1, &had));
+  WANTS(NR_STALE, nr_fill_id_reclaiming(writer, &upquery, ORDERS, 1, &had));
+  WANTS(NR_DONE, nr_replace_id_reclaiming(writer, USER, ORDERS, 2, &had));
+  if (had.count != 77) WANTS(NR_DONE, NR_GIVEN);
+  WANTS(NR_GIVEN, nr_update_id_reclaiming(writer, USER, &batch, 1, &had));
+  if (had.count != 2 || had.row[0].a || had.row[0].b != USER || had.row[1].b != 5) WANTS(NR_GIVEN, NR_OTHER);
+  WANTS(NR_GIVEN, nr_reap_id(writer, &had));
+  if (had.count != 3 || had.row[0].b != USER) WANTS(NR_GIVEN, NR_OTHER);
+  WANTS(NR_NOTHING, nr_reap_id(writer, &had));
+}
+
 static void test_closed(nr_id_writer *writer, nr_id_reader *reader) {
   nr_upquery upquery = {0};
   nr_id_reader other = {0};
@@ -109,6 +131,8 @@ static void test_closed(nr_id_writer *writer, nr_id_reader *reader) {
   WANTS(NR_CLOSED, nr_withdraw_id(writer, &upquery));
   WANTS(NR_CLOSED, nr_replace_id(writer, USER, ORDERS, 1));
   WANTS(NR_CLOSED, nr_evict_id(writer, USER));
+  WANTS(NR_CLOSED, nr_update_id_reclaiming(writer, USER, NULL, 0, &rows));
+  WANTS(NR_CLOSED, nr_reap_id(writer, &rows));
   nr_close_id_reader(reader);
   nr_close_id_writer(writer);
 }
@@ -151,6 +175,12 @@ int main(void) {
   nr_close_id_writer(&writer);
   test_closed(&writer, &reader);
   test_slots();
+  const nr_id_shape two = {.groups = 1, .slots = 2, .readers = 1, .rows = 3};
+  WANTS(NR_DONE, nr_open_ids(&two, &writer));
+  WANTS(NR_DONE, nr_open_id_reader(&writer, &reader));
+  test_reclaiming(&writer, &reader);
+  nr_close_id_reader(&reader);
+  nr_close_id_writer(&writer);
   puts("an id was claimed once for each absence");
   return 0;
 }

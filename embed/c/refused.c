@@ -95,6 +95,8 @@ static void call_ids(nr_id_writer *writer, nr_id_reader *reader) {
   want(nr_fill_id(writer, &upquery, rows, 2) == NR_DONE, "a fill by id");
   want(nr_update_id(writer, 1, &batch, 1) == NR_DONE && nr_replace_id(writer, 1, rows, 1) == NR_DONE, "writes by id");
   want(nr_look_id(writer, 1, &found) == NR_ROWS && nr_find_id(reader, 1, &found) == NR_ROWS, "finds by id");
+  want(nr_replace_id_reclaiming(writer, 1, rows, 2, &found) == NR_DONE, "a replacement by id in a new slot");
+  want(nr_reap_id(writer, &found) == NR_GIVEN, "a reap by id");
   want(nr_evict_id(writer, 1) == NR_EVICTED, "an eviction by id");
 }
 

@@ -39,3 +39,4 @@ pub mod IdRows
 pub mod IdReads
 pub mod IdWrites
 pub mod IdUpqueries
+pub mod IdReclaims

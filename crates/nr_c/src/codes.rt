@@ -185,7 +185,8 @@ pub fn of_replace(answer: Result<(), ReplaceFault>) -> u32
     }
 }
 
-fn of_reclaimed(given: Reclaimed) -> u32
+/// The number of what a call gave out that put its set.
+pub fn of_reclaimed(given: Reclaimed) -> u32
     ensures { result ≡ reclaimed_code given }
 {
     match given {

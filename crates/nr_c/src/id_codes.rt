@@ -1,12 +1,15 @@
 //! The numbers that stand for answers to calls by id.
 ghost use Rattle.std.specs.Prelude.{◌≡◌};
 ghost use Rattle.nr_c.specs.IdCodes.{found_id_code, id_replace_code, id_update_code, looked_code, refused_code, request_code};
+ghost use Rattle.nr_c.specs.IdReclaims.{id_replace_reclaiming_code, id_update_reclaiming_code};
 
 use crate::codes::{
     NR_ASKED, NR_FULL, NR_HOLE, NR_NAMED, NR_NOT_ASKED, NR_NOTHING, NR_OTHER, NR_ROWS, NR_SEND,
-    NR_WAITING, NR_WORN, of_replace, of_update,
+    NR_WAITING, NR_WORN, of_reclaimed, of_replace, of_update,
 };
-use nr_idmap::{FoundId, IdFault, Looked, Refused, ReplaceFault, Requested, UpdateFault};
+use nr_idmap::{
+    FoundId, IdFault, Looked, Reclaimed, Refused, ReplaceFault, Requested, UpdateFault,
+};
 
 /// The number of a find's answer.
 pub fn of_found_id(found: FoundId) -> u32
@@ -75,6 +78,28 @@ pub fn of_id_replace(answer: Result<(), IdFault<ReplaceFault>>) -> u32
 {
     match answer {
         Ok(()) => of_replace(Ok(())),
+        Err(IdFault::Absent) => NR_NOTHING,
+        Err(IdFault::Refused(fault)) => of_replace(Err(fault)),
+    }
+}
+
+/// The number of a reclaiming update's answer.
+pub fn of_id_update_reclaiming(answer: Result<Reclaimed, IdFault<UpdateFault>>) -> u32
+    ensures { result ≡ id_update_reclaiming_code answer }
+{
+    match answer {
+        Ok(given) => of_reclaimed(given),
+        Err(IdFault::Absent) => NR_NOTHING,
+        Err(IdFault::Refused(fault)) => of_update(Err(fault)),
+    }
+}
+
+/// The number of a reclaiming replacement's answer.
+pub fn of_id_replace_reclaiming(answer: Result<Reclaimed, IdFault<ReplaceFault>>) -> u32
+    ensures { result ≡ id_replace_reclaiming_code answer }
+{
+    match answer {
+        Ok(given) => of_reclaimed(given),
         Err(IdFault::Absent) => NR_NOTHING,
         Err(IdFault::Refused(fault)) => of_replace(Err(fault)),
     }

@@ -18,6 +18,7 @@ mod id_reader_handle;
 mod id_reader_lend;
 mod id_reader_side;
 mod id_reads;
+mod id_reclaims;
 mod id_rows;
 mod id_shape;
 mod id_upqueries;

@@ -1,0 +1,13 @@
+use Rattle.std.proofs.Common.{ap, inr, refl, sym, ◌∙◌}
+use Rattle.nr_c.proofs.id_reclaims.nr_reap_id.Goals as goal
+
+pub returns : goal.returns
+returns c = inr (record {
+  old = c.side-side.result.now;
+  new = _;
+  was = ap (λ handle. handle.live) (sym c.is_live.ensures.same) ∙ c.side-side.ensures.value;
+  is = refl;
+  map = refl;
+  spare = refl;
+  made = record { became_so = (c.reap.result, c.of_reaped.ensures, c.reap.ensures.reaps, c.reap.ensures.clerk); owes = c.reap.ensures.owes; asker = c.reap.ensures.asker; keeps = refl };
+})
