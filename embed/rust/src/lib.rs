@@ -138,7 +138,7 @@ mod values;
 mod writer;
 
 pub use answers::{Asked, Cancel, Fault, KeyKind, Updated};
-pub use cache::{Cache, CacheBuilder, CacheReader, CacheRef, CacheStats, LoadError};
+pub use cache::{Cache, CacheBuilder, CacheReader, CacheRef, CacheStats, LoadError, Request, Sought};
 pub use emptied::Emptied;
 pub use inbox::{Arrival, EventSender, Inbox, InboxPoster, InboxTaker};
 pub use loaders::Loaders;

@@ -29,6 +29,10 @@ impl<K> Flight<K> {
         true
     }
 
+    pub fn key(&self) -> &K {
+        &self.key
+    }
+
     pub fn end(&self) {
         *self.has_ended() = true;
         self.ended.notify_all();

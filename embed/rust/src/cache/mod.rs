@@ -4,6 +4,7 @@ mod entry;
 mod expiry;
 mod flights;
 mod reader;
+mod request;
 mod seats;
 mod shared;
 mod stats;
@@ -11,6 +12,7 @@ mod store;
 
 pub use builder::CacheBuilder;
 pub use reader::{CacheReader, CacheRef, LoadError};
+pub use request::{Request, Sought};
 pub use stats::CacheStats;
 
 use entry::Entry;

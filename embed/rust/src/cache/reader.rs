@@ -1,6 +1,6 @@
 //! What a thread finds and loads values with.
 use super::entry::{entry_of, Entry};
-use super::flights::Flight;
+use super::request::{Request, Sought};
 use super::seats::Seat;
 use super::shared::{Begun, Landed, Shared};
 use super::stats::count;
@@ -15,7 +15,7 @@ use std::fmt;
 use std::hash::{BuildHasher, Hash};
 use std::mem::ManuallyDrop;
 use std::ops::Deref;
-use std::sync::{Arc, PoisonError};
+use std::sync::PoisonError;
 use std::time::{Duration, Instant};
 
 /// A reader of a cache, for one thread at a time. Dropped, it goes back to its cache by itself.
@@ -107,6 +107,47 @@ impl<K: Hash + Eq, V, S: BuildHasher> CacheReader<K, V, S> {
         self.obtain(key, Some(timeout), load)
     }
 
+    /// The value of a key, or its request, which one caller gets until it is filled or has failed: for loads in a pool or
+    /// in a thread of their own.
+    pub fn get_or_request<Q>(&mut self, key: &Q) -> Sought<'_, K, V, S>
+    where
+        K: Borrow<Q>,
+        Q: Hash + Eq + ToOwned<Owned = K> + ?Sized,
+    {
+        let id = self.shared().id_of(key);
+        loop {
+            if let Some(place) = self.find(id, key) {
+                return Sought::Held(self.borrowed(place));
+            }
+            count(&self.shared().counts.misses);
+            match self.shared().begin(id, key, key.to_owned()) {
+                Begun::Held => {}
+                Begun::Wait(_) => return Sought::UnderWay,
+                Begun::Load(flight) => return Sought::Missing(Request::of(self.cache.clone(), id, flight)),
+            }
+        }
+    }
+
+    /// The value of a key, for whose load, where one is under way, it waits so long.
+    pub fn get_waiting<Q>(&mut self, key: &Q, timeout: Duration) -> Option<CacheRef<'_, K, V>>
+    where
+        K: Borrow<Q>,
+        Q: Hash + Eq + ?Sized,
+    {
+        let id = self.shared().id_of(key);
+        if let Some(place) = self.find(id, key) {
+            return Some(self.borrowed(place));
+        }
+        count(&self.shared().counts.misses);
+        let flight = self.shared().flight_of(id, key);
+        if let Some(flight) = flight {
+            count(&self.shared().counts.waits);
+            flight.wait(Instant::now().checked_add(timeout));
+        }
+        let place = self.find(id, key)?;
+        Some(self.borrowed(place))
+    }
+
     /// Puts a new value in place of a key's, made of the one that it has; `change` runs again where that was replaced
     /// meanwhile. Whether the cache held one.
     pub fn update<Q>(&mut self, key: &Q, mut change: impl FnMut(&V) -> V) -> bool
@@ -161,10 +202,10 @@ impl<K: Hash + Eq, V, S: BuildHasher> CacheReader<K, V, S> {
                 return Ok(self.borrowed(place));
             }
         };
-        let loading = Loading { shared: &self.cache.shared, id, flight: Some(flight) };
+        // Where the load ends without a value, by an error or a panic, this is dropped, which wakes those who wait.
+        let request = Request::of(self.cache.clone(), id, flight);
         let value = load().map_err(LoadError::Failed)?;
-        let landed = loading.land(key.to_owned(), value, self.seat);
-        Ok(match landed {
+        Ok(match request.land(key.to_owned(), value, Some(self.seat)) {
             Landed::Held(place) => self.borrowed(place),
             Landed::Own(entry) => CacheRef(Borrowed::Own(entry)),
         })
@@ -214,29 +255,6 @@ impl<K: Hash + Eq, V, S: BuildHasher> Drop for CacheReader<K, V, S> {
 impl<K: Hash + Eq, V, S: BuildHasher> fmt::Debug for CacheReader<K, V, S> {
     fn fmt(&self, f: &mut fmt::Formatter<'_>) -> fmt::Result {
         f.debug_struct("CacheReader").field("seat", &self.seat).finish_non_exhaustive()
-    }
-}
-
-/// A load that is under way: where it ends without a value, by an error or a panic, those who wait are woken.
-struct Loading<'a, K: Hash + Eq, V, S: BuildHasher> {
-    shared: &'a Shared<K, V, S>,
-    id: u64,
-    flight: Option<Arc<Flight<K>>>,
-}
-
-impl<K: Hash + Eq, V, S: BuildHasher> Loading<'_, K, V, S> {
-    fn land(mut self, key: K, value: V, seat: usize) -> Landed<K, V> {
-        let flight = self.flight.take().expect("a load ends once");
-        let entry = Box::new(Entry::new(self.id, key, value, self.shared.now()));
-        self.shared.land(self.id, &flight, entry, seat)
-    }
-}
-
-impl<K: Hash + Eq, V, S: BuildHasher> Drop for Loading<'_, K, V, S> {
-    fn drop(&mut self) {
-        if let Some(flight) = self.flight.take() {
-            self.shared.crash(self.id, &flight);
-        }
     }
 }
 

@@ -39,7 +39,7 @@ pub(super) enum Begun<K> {
 
 /// A value that was loaded.
 pub(super) enum Landed<K, V> {
-    /// The cache holds it, and the caller's seat was taken before.
+    /// The cache holds it; where a seat was given, that was taken before.
     Held(Place<K, V>),
     /// The caller alone has it.
     Own(Box<Entry<K, V>>),
@@ -92,12 +92,20 @@ impl<K: Hash + Eq, V, S: BuildHasher> Shared<K, V, S> {
         })
     }
 
+    /// The flight of a key, where there is one.
+    pub fn flight_of<Q: Eq + ?Sized>(&self, id: u64, key: &Q) -> Option<Arc<Flight<K>>>
+    where
+        K: Borrow<Q>,
+    {
+        self.store().flights.find(id, key)
+    }
+
     /// Ends a flight by its value, for the reader of that seat.
-    pub fn land(&self, id: u64, flight: &Arc<Flight<K>>, entry: Box<Entry<K, V>>, seat: usize) -> Landed<K, V> {
+    pub fn land(&self, id: u64, flight: &Arc<Flight<K>>, entry: Box<Entry<K, V>>, seat: Option<usize>) -> Landed<K, V> {
         count(&self.counts.loads);
         let landed = self.change(|store| match store.flights.end(id, flight) {
             Some(upquery) => {
-                self.seats.sit(seat);
+                seat.into_iter().for_each(|seat| self.seats.sit(seat));
                 Landed::Held(store.fill(upquery, entry, &self.seats, &self.expiry))
             }
             None => {

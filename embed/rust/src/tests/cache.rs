@@ -144,6 +144,27 @@ fn what_was_inserted_within_a_load_stays() {
 }
 
 #[test]
+fn a_request_is_one_callers_until_it_is_filled_or_fails() {
+    let cache = cache(10);
+    let mut reader = cache.reader().unwrap();
+    let mut other = cache.reader().unwrap();
+    let Sought::Missing(request) = reader.get_or_request(&1) else { panic!() };
+    assert!(*request.key() == 1 && matches!(other.get_or_request(&1), Sought::UnderWay));
+    request.fail();
+    let Sought::Missing(request) = other.get_or_request(&1) else { panic!() };
+    thread::scope(|scope| {
+        scope.spawn(|| assert_eq!(reader.get_waiting(&1, LONG).as_deref(), Some(&7)));
+        thread::sleep(Duration::from_millis(10));
+        assert!(request.fill(7));
+    });
+    assert!(matches!(reader.get_or_request(&1), Sought::Held(found) if *found == 7));
+    let Sought::Missing(request) = other.get_or_request(&2) else { panic!() };
+    assert!(reader.get_waiting(&2, Duration::from_millis(1)).is_none());
+    cache.invalidate(&2);
+    assert!(!request.fill(8) && reader.get_waiting(&2, LONG).is_none());
+}
+
+#[test]
 fn a_borrowed_value_stays_whatever_happens_to_its_key() {
     let cache = cache(10);
     let mut reader = cache.reader().unwrap();
