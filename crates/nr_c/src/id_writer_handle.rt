@@ -14,7 +14,9 @@ use std::mem::{self, ManuallyDrop};
 use std::ptr;
 
 /// C starts one as zeros, which leads nowhere, as does one that was closed; it never copies one that
-/// leads somewhere. It can't be dropped: its owner ends what it leads to.
+/// leads somewhere. It can't be dropped: its owner ends what it leads to. That it may go to another
+/// thread is shown of the writer, and not of the upqueries that lie beside it: the kit shows it of no
+/// type that can't be dropped.
 #[repr(C)]
 pub struct NrIdWriter {
     pub(crate) ptr: *mut u8,

@@ -72,7 +72,8 @@ impl<K: Hash + Eq, V, S: BuildHasher> Shared<K, V, S> {
         // Where the key isn't needed it is dropped without the lock.
         let mut owned = Some(owned);
         let mut take_key = || owned.take().expect("a flight takes the key once");
-        self.change(|store| {
+        // What is taken out is dropped by a later call: where a drop panicked here, nobody would end the flight.
+        self.change_alone(|store| {
             if let Some(flight) = store.flights.find(id, key) {
                 return Begun::Wait(flight);
             }
@@ -103,29 +104,30 @@ impl<K: Hash + Eq, V, S: BuildHasher> Shared<K, V, S> {
     /// Ends a flight by its value, for the reader of that seat.
     pub fn land(&self, id: u64, flight: &Arc<Flight<K>>, entry: Box<Entry<K, V>>, seat: Option<usize>) -> Landed<K, V> {
         count(&self.counts.loads);
-        let landed = self.change(|store| match store.flights.end(id, flight) {
-            Some(upquery) => {
-                seat.into_iter().for_each(|seat| self.seats.sit(seat));
-                Landed::Held(store.fill(upquery, entry, &self.seats, &self.expiry))
-            }
-            None => {
-                count(&self.counts.refused);
-                Landed::Own(entry)
-            }
-        });
-        flight.end();
-        landed
+        self.change_then(
+            |store| match store.flights.end(id, flight) {
+                Some(upquery) => {
+                    seat.into_iter().for_each(|seat| self.seats.sit(seat));
+                    Landed::Held(store.fill(upquery, entry, &self.seats, &self.expiry))
+                }
+                None => {
+                    count(&self.counts.refused);
+                    Landed::Own(entry)
+                }
+            },
+            || flight.end(),
+        )
     }
 
     /// Ends a flight without a value.
     pub fn crash(&self, id: u64, flight: &Arc<Flight<K>>) {
         count(&self.counts.failures);
-        self.change(|store| {
+        let withdraw = |store: &mut Store<K, V>| {
             if let Some(upquery) = store.flights.end(id, flight) {
                 store.withdraw(upquery, id);
             }
-        });
-        flight.end();
+        };
+        self.change_then(withdraw, || flight.end());
     }
 
     /// Puts an entry, whatever its key has, and whatever is under way for it: whether it is held.
@@ -196,12 +198,21 @@ impl<K: Hash + Eq, V, S: BuildHasher> Shared<K, V, S> {
 
     /// Changes the store under its lock, and then drops what nobody can see any more, without it.
     fn change<R>(&self, change: impl FnOnce(&mut Store<K, V>) -> R) -> R {
+        self.change_then(change, || {})
+    }
+
+    /// The same, and does something before the drops, of which one may panic.
+    fn change_then<R>(&self, change: impl FnOnce(&mut Store<K, V>) -> R, then: impl FnOnce()) -> R {
+        let (result, doomed) = self.change_alone(|store| (change(store), store.sweep(&self.seats)));
+        then();
+        drop_each(doomed);
+        result
+    }
+
+    fn change_alone<R>(&self, change: impl FnOnce(&mut Store<K, V>) -> R) -> R {
         let mut store = self.store();
         let result = change(&mut store);
-        let doomed = store.sweep(&self.seats);
         self.counts.evictions.fetch_add(std::mem::take(&mut store.evictions), Relaxed);
-        drop(store);
-        drop_each(doomed);
         result
     }
 

@@ -315,6 +315,27 @@ fn a_drop_that_panics_leaves_nothing_undropped() {
     assert_eq!(drops.into_inner(), 20);
 }
 
+#[test]
+fn a_drop_that_panics_within_a_load_leaves_nobody_waiting() {
+    let drops = AtomicUsize::new(0);
+    let cache = Cache::<u64, Fragile>::builder().capacity(1).open().unwrap();
+    let (mut reader, mut other) = (cache.reader().unwrap(), cache.reader().unwrap());
+    drop(reader.get_with(&3, || Fragile(3, &drops)));
+    // This one's reader may still see the value whose place it takes, so the next load drops that.
+    drop(reader.get_with(&4, || Fragile(4, &drops)));
+    thread::scope(|scope| {
+        let (other, drops) = (&mut other, &drops);
+        let load = move || {
+            scope.spawn(move || assert!(other.get_with_timeout(&5, LONG / 600, || unreachable!()).is_some()));
+            thread::sleep(Duration::from_millis(20));
+            Fragile(5, drops)
+        };
+        assert!(caught(|| drop(reader.get_with(&5, load))).is_none());
+    });
+    assert_eq!(drops.load(SeqCst), 1);
+    assert!(other.get_with_timeout(&7, LONG, || Fragile(7, &drops)).is_some());
+}
+
 const KEYS: usize = 400;
 
 /// What stands behind the cache: a version for each key.
