@@ -8,5 +8,6 @@ pub mod Trying
 pub mod Getting
 pub mod Serving
 pub mod Heard
+pub mod Telling
 pub mod Ledger
 pub mod Live

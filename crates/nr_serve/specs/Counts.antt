@@ -67,6 +67,10 @@ group_at key = 8 * (key % 64)
 abbrev pub whole_at : ℕ
 whole_at = 512
 
+-- the index of the count of how often the dataflow told how much it has applied
+abbrev pub told_at : ℕ
+told_at = 513
+
 -- the index of the bell, which is a count too
 abbrev pub rung_at : ℕ
 rung_at = 528

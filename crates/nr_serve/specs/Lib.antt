@@ -14,3 +14,4 @@ pub mod Gets
 pub mod Gates
 pub mod Clients
 pub mod Heard
+pub mod Applied

@@ -10,6 +10,7 @@ ghost use Rattle.nr_serve.specs.Rings.{Rings};
 ghost use Rattle.nr_serve.specs.Tickets.{sent};
 
 use crate::answers::Got;
+use crate::applied::{Applied, Measure};
 use crate::gate::Gate;
 use crate::hands::Hands;
 use crate::places::Places;
@@ -56,6 +57,7 @@ impl<'a, G> Model for Client<'a, G> {
 }
 
 impl<'a, G: Gate> Client<'a, G> {
+    ghost use Rattle.nr_serve.specs.Applied.{HearsApplied};
     ghost use Rattle.nr_serve.specs.Gates.{AsksGate};
 
     /// A client of a service whose queue takes all keys of its map.
@@ -204,6 +206,34 @@ impl<'a, G: Gate> Client<'a, G> {
     {
         match &mut self.hands {
             Some(hands) => self.places.map.hear(&mut hands.reader, note),
+            None => unreachable!(),
+        }
+    }
+
+    /// Sleeps until the dataflow told that it has applied so much at least, hears in 4 steps of its
+    /// reader the note that tells it, and gives the amount that was told. A get after that finds what was
+    /// applied then, or later rows (`laws::gets_what_was_applied`). None, and no step, where the lobby
+    /// was closed and nothing had told it.
+    pub fn wait_applied<M: Measure, R: Wait>(
+        &mut self,
+        rt: &R,
+        applied: &Applied<'_, M>,
+        least: u64,
+    ) -> Option<u64>
+        requires lobby { applied.now ≡ self.old.guest.lobby }
+        requires notes { (amount : _) (note : _) → M.reached amount note → note.table ≡ self.old.map }
+        ensures hears { HearsApplied M.reached least self.old.hands.reader result self.new.guest self.new.hands.reader }
+        ensures looks { OnlyLooks self.old.guest self.new.guest }
+        ensures rest { self.new ≡ record self.old { hands = with_idle_reader self.old.hands self.new.hands.reader; guest = self.new.guest } }
+    {
+        match &mut self.hands {
+            Some(hands) => applied.wait(
+                rt,
+                self.places.map,
+                &mut self.lobby,
+                &mut hands.reader,
+                least,
+            ),
             None => unreachable!(),
         }
     }

@@ -1,12 +1,13 @@
 //! The dataflow's side: it fills the keys whose tickets were posted, and keeps the map's rows right.
-ghost use Rattle.std.specs.Prelude.{◌≡◌, ◌≢◌, ◌<◌, ◌≤◌, length, None, Some, Err};
+ghost use Rattle.std.specs.Prelude.{◌≡◌, ◌≢◌, ◌<◌, ◌≤◌, ◌∷◌, [], length, None, Some, Err};
 ghost use Rattle.std.specs.Borrow.{sem};
 ghost use Rattle.nr_model.specs.Batches.{IsBatch};
 ghost use Rattle.nr_board.specs.Callers.{KnowsOwn};
 ghost use Rattle.nr_board.specs.Meetings.{HearsNote, known_to, with_step};
 ghost use Rattle.nr_board.specs.WriterAnswers.{CancelsKey, EvictsKey, ReplacesKey, UpdatesKey};
-ghost use Rattle.nr_serve.specs.Counts.{IsNew};
+ghost use Rattle.nr_serve.specs.Counts.{IsNew, Raises, told_at};
 
+use crate::applied::{Applied, Measure};
 use crate::raiser::Raiser;
 use crate::service::Service;
 use nr_map::{Cancel, Evict, NoSlot, Note, ReaderMap, ReplaceFault, UpdateFault, Writer, laws};
@@ -123,6 +124,25 @@ impl<'a, S> Dataflow<'a, S> {
             self.raiser.raise_for(rt, key);
         }
         answer
+    }
+
+    /// Tells those who wait for it that so much was applied, in 1 step of its writer: with a note of what
+    /// the writer has seen now, and so after all that it applied before. Less than was told before
+    /// tells nothing.
+    pub fn tell_applied<M: Measure, R: Wait>(
+        &mut self,
+        rt: &R,
+        applied: &Applied<'_, M>,
+        amount: u64,
+    )
+        requires lobby { applied.now ≡ self.old.guest.lobby }
+        requires reached { KnowsOwn self.old.writer → M.reached amount (known_to self.old.writer) }
+        ensures raised { Raises self.old.guest (told_at ∷ []) self.new.guest }
+        ensures rest { self.new ≡ record self.old { writer = with_step self.old.writer; guest = self.new.guest } }
+    {
+        let note = self.map.note_writer(&mut self.writer);
+        applied.raise(rt, amount, note);
+        self.raiser.tell(rt);
     }
 
     /// A note of what the dataflow has seen, in 1 step of its writer. Else the dataflow stays as it

@@ -1,8 +1,10 @@
 //! Laws over the definitions alone. Nothing runs here: each function's contract is the law.
+ghost use Rattle.nr_serve.specs.Applied.{GetsWhatWasApplied};
 ghost use Rattle.nr_serve.specs.Heard.{GetsWhatItHeard};
 ghost use Rattle.nr_serve.specs.Ledger.{EachTriggerEndsOnce};
 ghost use Rattle.nr_serve.specs.Requests.{CancelledIsStale, OneAtATime};
 
+use crate::applied::Measure;
 use crate::source::Source;
 
 /// A client that hears a note whose maker had seen a put of a key, and then gets the key, finds the
@@ -12,6 +14,15 @@ pub fn gets_what_it_heard()
     ensures { GetsWhatItHeard }
 {
     nr_map::laws::finds_written();
+}
+
+/// A client that waited until so much was applied, and then gets a key that had been put by then, finds
+/// the rows of that put or of a later one in each of the get's finds, or a hole where the key was evicted
+/// since.
+pub fn gets_what_was_applied<M: Measure>()
+    ensures { GetsWhatWasApplied M.reached }
+{
+    gets_what_it_heard();
 }
 
 /// From the opening of a dataflow on, each trigger that was taken was filled, passed or failed, or it is

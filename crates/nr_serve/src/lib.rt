@@ -3,6 +3,7 @@
 #![tactic(auto)]
 
 mod answers;
+mod applied;
 mod client;
 mod counts;
 mod dataflow;
@@ -20,6 +21,7 @@ mod turns;
 mod watched;
 
 pub use answers::Got;
+pub use applied::{Applied, Measure};
 pub use client::Client;
 pub use counts::Guest;
 pub use dataflow::Dataflow;

@@ -2,7 +2,7 @@
 //! posted.
 ghost use Rattle.std.specs.Prelude.{◌≡◌, ◌≢◌, ◌<◌, ◌≤◌, ◌+◌, ◌⊎◌, ◌++◌, ◌∷◌, ◌↔◌, [], IfErr, IfOk, IfSome, IsTrue, slice_index};
 ghost use Rattle.nr_serve.specs.Hands.{capped, last_count};
-ghost use Rattle.nr_serve.specs.Counts.{IsLaterOf, IsNew, OnlyLooks, Raises, closed_at, failed_at, fails_for, group_at, groups_below, raises_for, rung_at, whole_at};
+ghost use Rattle.nr_serve.specs.Counts.{IsLaterOf, IsNew, OnlyLooks, Raises, closed_at, failed_at, fails_for, group_at, groups_below, raises_for, rung_at, told_at, whole_at};
 
 use crate::counts::{CLOSED_AT, Counts, Guest};
 use crate::sleepers::{Limit, NoLimit, Sleepers, TooLate};
@@ -19,6 +19,9 @@ const GROUPS: u32 = 64;
 /// The index of the count of the whole lobby.
 const WHOLE_AT: usize = 512;
 
+/// The index of the count of tellings, on the same line as the one before: who raises either is the dataflow.
+const TOLD_AT: usize = 513;
+
 /// The index of the bell.
 const RUNG_AT: usize = 528;
 
@@ -34,6 +37,7 @@ pub struct Lobby {
     counts: Counts,
     groups: [CachePadded<Sleepers>; 64],
     whole: CachePadded<Sleepers>,
+    told: CachePadded<Sleepers>,
     rung: CachePadded<Sleepers>,
 }
 
@@ -72,6 +76,7 @@ impl Lobby {
             counts,
             groups: std::array::from_fn(|_| CachePadded::new(Sleepers::new())),
             whole: CachePadded::new(Sleepers::new()),
+            told: CachePadded::new(Sleepers::new()),
             rung: CachePadded::new(Sleepers::new()),
         })
     }
@@ -224,6 +229,33 @@ impl Lobby {
         self.rung.wake_all();
     }
 
+    // Wakes those who wait until the dataflow told that more was applied.
+    pub(crate) fn tell<R: Wait>(&self, rt: &R, guest: &mut Guest)
+        requires { guest.old.lobby ≡ self.now }
+        ensures { Raises guest.old (told_at ∷ []) guest.new }
+    {
+        self.raise_at(rt, guest, TOLD_AT);
+        self.told.wake_all();
+    }
+
+    // How often it told so, up to 2^64 - 1.
+    pub(crate) fn tellings(&self, guest: &mut Guest) -> u64
+        requires { guest.old.lobby ≡ self.now }
+        ensures looks { OnlyLooks guest.old guest.new }
+        ensures found { slice_index guest.new.seen told_at ≡ result }
+    {
+        self.counts.at(guest, TOLD_AT)
+    }
+
+    // Sleeps while it told so at most that often and the lobby isn't closed.
+    pub(crate) fn wait_for_telling<R: Wait>(&self, rt: &R, guest: &mut Guest, tellings: u64)
+        requires { guest.old.lobby ≡ self.now }
+        ensures looks { OnlyLooks guest.old guest.new }
+        ensures past { (tellings < slice_index guest.new.seen told_at) ⊎ (0 < slice_index guest.new.seen closed_at) }
+    {
+        self.wait_for_ever(rt, guest, TOLD_AT, &self.told, tellings);
+    }
+
     // How often the bell was rung, up to 2^64 - 1.
     pub(crate) fn rings(&self, guest: &mut Guest) -> u64
         requires { guest.old.lobby ≡ self.now }
@@ -367,6 +399,7 @@ impl Lobby {
             group.wake_all();
         }
         self.whole.wake_all();
+        self.told.wake_all();
         self.rung.wake_all();
     }
 }

@@ -1,6 +1,6 @@
 //! The lobby as a dataflow has it.
-ghost use Rattle.std.specs.Prelude.{◌≡◌, slice_index};
-ghost use Rattle.nr_serve.specs.Counts.{IsNew, OnlyLooks, Raises, fails_for, raises_for, rung_at};
+ghost use Rattle.std.specs.Prelude.{◌≡◌, ◌∷◌, [], slice_index};
+ghost use Rattle.nr_serve.specs.Counts.{IsNew, OnlyLooks, Raises, fails_for, raises_for, rung_at, told_at};
 ghost use Rattle.nr_serve.specs.Turns.{AwaitsPost};
 
 use crate::counts::Guest;
@@ -64,6 +64,13 @@ impl<'a> Raiser<'a> {
         ensures { Raises self.old (fails_for key) self.new }
     {
         self.lobby.fail_for(rt, &mut self.guest, key);
+    }
+
+    /// Wakes those who wait until more was applied.
+    pub(crate) fn tell<R: Wait>(&mut self, rt: &R)
+        ensures { Raises self.old (told_at ∷ []) self.new }
+    {
+        self.lobby.tell(rt, &mut self.guest);
     }
 
     /// How often the bell was rung, for a dataflow that looks then what was posted.

@@ -1,6 +1,6 @@
 //! The lobby as a client has it.
-ghost use Rattle.std.specs.Prelude.{◌≡◌, ◌∷◌, [], IfErr, slice_index};
-ghost use Rattle.nr_serve.specs.Counts.{IsNew, OnlyLooks, Raises, failed_at, group_at, rung_at};
+ghost use Rattle.std.specs.Prelude.{◌≡◌, ◌<◌, ◌⊎◌, ◌↔◌, ◌∷◌, [], IfErr, IsTrue, slice_index};
+ghost use Rattle.nr_serve.specs.Counts.{IsNew, OnlyLooks, Raises, closed_at, failed_at, group_at, rung_at, told_at};
 ghost use Rattle.nr_serve.specs.Gets.{AwaitsFill};
 
 use crate::answers::Requested;
@@ -89,6 +89,30 @@ impl<'a> Watched<'a> {
         let _ = hands;
         self.lobby
             .wait_within(rt, &mut self.guest, counted.key, counted.count, limit)
+    }
+
+    /// How often the dataflow told how much it has applied.
+    pub(crate) fn tellings(&mut self) -> u64
+        ensures looks { OnlyLooks self.old self.new }
+        ensures found { slice_index self.new.seen told_at ≡ result }
+    {
+        self.lobby.tellings(&mut self.guest)
+    }
+
+    /// Sleeps while it told so at most that often and the lobby isn't closed.
+    pub(crate) fn wait_for_telling<R: Wait>(&mut self, rt: &R, tellings: u64)
+        ensures looks { OnlyLooks self.old self.new }
+        ensures past { (tellings < slice_index self.new.seen told_at) ⊎ (0 < slice_index self.new.seen closed_at) }
+    {
+        self.lobby.wait_for_telling(rt, &mut self.guest, tellings);
+    }
+
+    /// Whether the lobby is closed.
+    pub(crate) fn is_closed(&mut self) -> bool
+        ensures looks { OnlyLooks self.old self.new }
+        ensures closed { IsTrue result ↔ (0 < slice_index self.new.seen closed_at) }
+    {
+        self.lobby.is_closed(&mut self.guest)
     }
 
     /// Rings the bell, once a ticket was posted.

@@ -3,6 +3,8 @@
 #![tactic(auto)]
 
 #[cfg(test)]
+mod applied;
+#[cfg(test)]
 mod deadlines;
 #[cfg(test)]
 mod gates;

@@ -3,6 +3,7 @@
 //! of what they answered. Chapters on the map alone are in `nr_tour`.
 #![tactic(auto)]
 
+mod applied;
 mod attempts;
 mod clients;
 mod deadlines;
@@ -42,6 +43,7 @@ fn show_server<R: AllocGlobal + Clock + Print + Threads + Wait + Sync>(
     flow::in_one_hand(rt, alloc, &rise)?.print(rt)?;
     upqueries::under_way(rt, alloc, &rise)?.print(rt)?;
     deadlines::in_time(rt, alloc, Instant::now(rt)?)?.print(rt)?;
+    applied::told_and_heard(rt, alloc)?.print(rt)?;
     gates::held_back(rt, alloc)?.print(rt)?;
     lobbies::raised_once(rt, alloc)?.print(rt)?;
     services::without_clients(rt, alloc)?.print(rt)
