@@ -1,23 +1,21 @@
 -- How a reader comes to hold a set, step by step.
-use Rattle.std.proofs.Common.{◌≡◌, ℕ, suc, ◌+◌, ◌-◌, ◌<◌, ◌≤◌, ◌⊎◌, ⊎_elim, inl, inr, Bool, true, false, List, [], ◌∷◌, ◌++◌, refl, ap, sym, subst, arith, ◌∙◌}
-use Rattle.std.specs.Prelude.{Option, Some, None, Result, Ok, Err}
+use Rattle.std.proofs.Common.{◌≡◌, ℕ, ◌+◌, ◌-◌, ◌<◌, inl, inr, Bool, true, false, List, [], ◌∷◌, ◌++◌, refl, ap, sym, subst, arith, ◌∙◌}
+use Rattle.std.specs.Prelude.{Option, Some, None}
 use Rattle.nr_model.specs.Histories.{Entry, IsLegal}
 use Rattle.nr_model.specs.declared.calls.Call.{Call}
 use Rattle.nr_model.specs.declared.calls.Call.TheVariants as model
 use Rattle.nr_model.specs.declared.calls.Reply.{Reply}
 use Rattle.nr_model.specs.declared.calls.Reply.TheVariants as reply
-use Rattle.nr_model.specs.declared.rows.Row.{Row}
 use Rattle.nr_machine.specs.Story.{entry}
 use Rattle.nr_machine.specs.declared.roles.Role.{Role}
 use Rattle.nr_machine.specs.declared.shape.Shape.{Shape}
 use Rattle.std.proofs.lemmas.Bool.{lt-ltb}
 use Rattle.nr_marks.specs.Marks.{Marks, acted}
-use Rattle.nr_marks.specs.Puts.{put_number}
-use Rattle.nr_board.proofs.Tokens.{MapSeat, grows_both, grows_rests}
+use Rattle.nr_board.proofs.Tokens.{MapSeat, grows_both}
 use Rattle.nr_board.specs.declared.holds.Held.{Held}
 use Rattle.nr_board.specs.Callers.{Caller, Gains, Grows, Rests, Table, map_at_opening, token}
 use Rattle.nr_board.specs.Entries.{AreCallers}
-use Rattle.nr_board.specs.Holds.{HoldsAfter, HoldsOn, IsAnswered, MovesTo, NamesOther, TakesSteps, TriesWord, finds_by_word}
+use Rattle.nr_board.specs.Holds.{HoldsAfter, HoldsOn, IsAnswered, MovesTo, NamesOther, TakesSteps, finds_by_word}
 use Rattle.nr_board.specs.Plays.{Holds, IsIdle}
 use Rattle.nr_board.specs.Views.{caller_number, grip_of, rows_held}
 use Rattle.nr_board.specs.WordPlays.{HasWord, let_go}

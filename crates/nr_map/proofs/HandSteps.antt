@@ -1,5 +1,5 @@
 -- How a hand that keeps its hold finds a key, after it asked in vain, or loaded another key's word, or had nothing to go on from.
-use Rattle.std.proofs.Common.{◌≡◌, ℕ, ◌+◌, ◌-◌, ◌<◌, ◌≤◌, Option, Some, None, cond, eq-eqb, ne_eqb, inl, inr, ⊎_elim, ◌⊎◌, ◌≢◌, refl, ap, ◌∙◌, sym, subst, arith, append_assoc, Bool, true, false, List, [], ◌++◌}
+use Rattle.std.proofs.Common.{◌≡◌, ℕ, ◌+◌, ◌-◌, ◌<◌, Option, Some, None, cond, eq-eqb, ne_eqb, inr, ⊎_elim, ◌≢◌, refl, ap, ◌∙◌, sym, subst, arith, append_assoc, Bool, true, false, List, [], ◌++◌}
 use Rattle.std.specs.Prelude.{◌↔◌, IsSome, nat_lt}
 use Rattle.std.proofs.lemmas.Bool.{lt-ltb}
 use Rattle.nr_model.specs.Histories.{Entry}

@@ -1,7 +1,5 @@
-use Rattle.std.proofs.Common.{subst, sym, Bool, true, false, [], ◌∙◌, ◌≡◌}
+use Rattle.std.proofs.Common.{subst, sym, Bool, true, ◌∙◌, ◌≡◌}
 use Rattle.std.specs.Prelude.{◌↔◌}
-use Rattle.nr_model.specs.declared.calls.Call.TheVariants as model
-use Rattle.nr_model.specs.declared.calls.Reply.TheVariants as reply
 use Rattle.nr_machine.specs.Slots.{names_slot}
 use Rattle.nr_marks.specs.MarkSteps.{found_again}
 use Rattle.nr_board.proofs.ReaderSeats.{names_held}

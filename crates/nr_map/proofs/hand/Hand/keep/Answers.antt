@@ -1,6 +1,6 @@
 use Rattle.nr_board.specs.Callers.{Caller, token}
 use Rattle.std.proofs.lemmas.Bool.{not-false}
-use Rattle.std.proofs.Common.{ap, arith, refl, subst, sym, ◌∙◌, ◌≡◌, ◌≢◌, Some, Option, ℕ}
+use Rattle.std.proofs.Common.{ap, arith, refl, subst, sym, ◌∙◌, ◌≡◌, ◌≢◌, Some, Option}
 use Rattle.nr_board.proofs.ReaderSeats.{names_held}
 use Rattle.nr_map.proofs.HandSteps.{anew_keeps, asked_anew, finds_so, loaded_anew, looked_in_vain, step_rests}
 use Rattle.nr_map.specs.Hands.{Handed, IsHand, KeepsAnew, handed, key_held}
