@@ -23,6 +23,7 @@ hears_after_steps many old new note hears = let learns = hears.learns in let ste
     numbers = learns.numbers;
     holds = learns.holds;
     marks = learns.marks;
+    heard = learns.heard;
     news = learns.news;
     pasts = learns.pasts;
   };
