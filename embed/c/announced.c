@@ -50,6 +50,7 @@ static void *reads(void *of) {
   for (uint64_t turn = 0; !atomic_load(&done); turn++) {
     uint32_t key = (uint32_t)(turn * 0x9e3779b1u >> 7) % client->keys;
     bool keeps = turn / 512 % 2;
+    if (turn && turn % 1024 == 0) want(nr_release(&client->reader) == NR_DONE, "a release");
     want((keeps ? nr_find_kept(&client->reader, key, &rows) : nr_find(&client->reader, key, &rows)) == NR_ROWS, "rows");
     is_found(client, key, &rows);
     *(keeps ? &client->kept : &client->finds) += 1;
