@@ -401,8 +401,8 @@ uint32_t nr_fill_reclaiming(nr_writer *writer, uint32_t key, uint64_t number, co
 uint32_t nr_update_reclaiming(nr_writer *writer, uint32_t key, const nr_delta *deltas, size_t n, nr_rows *had);
 uint32_t nr_replace_reclaiming(nr_writer *writer, uint32_t key, const nr_row *rows, size_t n, nr_rows *had);
 
-/* Gives out a set that no key has any more, before a write takes its slot again: the oldest that waits and that no
-   reader holds. NR_GIVEN after a search of those that wait, oldest first, up to that one, and 2m + 1 steps for its m
+/* Gives out a set that no key has any more and that no reader holds, before a write takes its slot again: the oldest of
+   those that the last look at the readers' words found free, else of all, after a look anew. NR_GIVEN after a search of those that wait, oldest first, up to that one, and 2m + 1 steps for its m
    rows; NR_HELD after the search; NR_NOTHING without a step, if no set waits. Any answer but NR_GIVEN leaves `had` as it
    was. */
 uint32_t nr_reap(nr_writer *writer, nr_rows *had);

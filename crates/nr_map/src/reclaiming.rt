@@ -94,9 +94,11 @@ impl ReaderMap {
     }
 
     /// Writes a retired set into `had` before its slot is taken again: the oldest that waits and that
-    /// no reader holds. Where there is none `had` stays as it is. The slot stays retired, and a call
-    /// that takes it gives out nothing. Takes a step for each slot that it polls, which are those whose
-    /// sets wait, oldest first, and 2m + 1 for a set of m rows; none where no set waits.
+    /// no reader holds; where readers have words, the oldest of those that none was heard to announce,
+    /// or after a scan of all. Where there is none `had` stays as it is. The slot stays retired, and a
+    /// call that takes it gives out nothing. Takes a step for each slot that it polls, which are those
+    /// whose sets wait, oldest first, one for each word that it scans, and 2m + 1 for a set of m rows;
+    /// none where no set waits.
     pub fn reap<R: RowRoom>(&self, writer: &mut Writer, had: &mut R) -> Reaped
         requires own { writer.old.table ≡ self.now }
         ensures { ReapsIn R.shows writer.old had.old writer.new had.new result }

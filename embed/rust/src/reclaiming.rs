@@ -15,7 +15,7 @@ pub enum Reclaimed<'a> {
 /// What a reap found.
 #[derive(Clone, Copy, Debug, PartialEq, Eq)]
 pub enum Reaped<'a> {
-    /// The oldest set that waited and that no reader held.
+    /// A set that waited and that no reader held.
     Set(&'a [Row]),
     /// Sets wait, and readers hold each of them.
     Held,
@@ -98,7 +98,8 @@ impl Writer {
         reclaimed(code, had)
     }
 
-    /// Writes the oldest set that waits and that no reader holds into `had`, before its slot is taken.
+    /// Writes a set that waits and that no reader holds into `had`, before its slot is taken: the oldest, but for those
+    /// that a reader held at the last look.
     pub fn reap<'a>(&mut self, had: &'a mut Rows) -> Reaped<'a> {
         // SAFETY: the handle is live, and the rows are laid out as the header's.
         match unsafe { ffi::nr_reap(&mut self.handle, had) } {
