@@ -8,7 +8,6 @@ use nr_serve::{Applied, Client, Dataflow, Got, Measure, OpenGate, Service};
 use nr_trigger::{Poster, Taker};
 use std::marker::Brand;
 use std::sync::Wait;
-use std::test::Fail;
 use std::thread::{self, Threads};
 use std::time::{Clock, Duration};
 
@@ -126,8 +125,7 @@ fn waits<R: Threads + Wait + Clock + Sync>(rt: &R, opened: Opened) -> Heard {
 }
 
 #[test]
-fn who_waits_until_so_much_was_applied_finds_it(rt: HostRuntime) -> Result<(), Fail> {
-    let heard = waits(&rt, Opened::open(rt.alloc(), 4)?);
+fn who_waits_until_so_much_was_applied_finds_it(rt: HostRuntime) {
+    let heard = waits(&rt, Opened::open(&rt, 4));
     assert_eq!(rt; heard, (Some(4), Got::Rows, Some(ADDED)));
-    Ok(())
 }

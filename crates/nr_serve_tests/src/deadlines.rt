@@ -8,7 +8,6 @@ use nr_serve::{Client, Dataflow, Got, OpenGate, Service, Turn};
 use nr_trigger::{Poster, Taker};
 use std::process::Abort;
 use std::sync::Wait;
-use std::test::Fail;
 use std::thread::{self, Threads};
 use std::time::{Clock, Duration, Instant};
 
@@ -134,15 +133,13 @@ fn is_woken<R: Threads + Wait + Clock + Sync>(rt: &R, opened: Opened) -> (Ended,
 }
 
 #[test]
-fn a_get_that_sleeps_too_long_is_too_late(rt: HostRuntime) -> Result<(), Fail> {
-    is_late(&rt, Opened::open(rt.alloc(), 4)?);
-    Ok(())
+fn a_get_that_sleeps_too_long_is_too_late(rt: HostRuntime) {
+    is_late(&rt, Opened::open(&rt, 4));
 }
 
 // It would sleep for a minute otherwise, as long as a test may take.
 #[test]
-fn a_fill_ends_a_sleep_before_its_time(rt: HostRuntime) -> Result<(), Fail> {
-    let ended = is_woken(&rt, Opened::open(rt.alloc(), 4)?);
+fn a_fill_ends_a_sleep_before_its_time(rt: HostRuntime) {
+    let ended = is_woken(&rt, Opened::open(&rt, 4));
     assert_eq!(rt; ended, (Some(Got::Rows), Some(Row { a: 0, b: 5 })));
-    Ok(())
 }
