@@ -12,7 +12,7 @@
 #define FEWER 0
 #endif
 
-enum { READERS = 3, WRITES = 60000, ROWS = 4 };
+enum { READERS = 3, WRITES = 60000, FINDS = 2048, ROWS = 4 };
 
 typedef struct client {
   nr_reader reader;
@@ -47,7 +47,7 @@ static void is_found(client *client, uint32_t key, const nr_rows *found) {
 static void *reads(void *of) {
   client *client = of;
   nr_rows rows;
-  for (uint64_t turn = 0; !atomic_load(&done); turn++) {
+  for (uint64_t turn = 0; turn < FINDS || !atomic_load(&done); turn++) {
     uint32_t key = (uint32_t)(turn * 0x9e3779b1u >> 7) % client->keys;
     bool keeps = turn / 512 % 2;
     if (turn && turn % 1024 == 0) want(nr_release(&client->reader) == NR_DONE, "a release");
@@ -67,20 +67,27 @@ static void fills(nr_writer *writer, client *client) {
   }
 }
 
-static uint64_t writes(nr_writer *writer, uint32_t keys) {
+/* With one slot more than keys, and a set that is held. */
+static void lacks_a_slot(nr_writer *writer, nr_reader *reader) {
   nr_row rows[ROWS];
-  uint64_t no_slots = 0;
+  uint32_t count;
+  rows_of(0, 0, rows);
+  want(nr_pin(reader, 0, &count) == NR_ROWS && nr_replace(writer, 0, rows, ROWS) == NR_DONE, "the last slot");
+  want(nr_replace(writer, 0, rows, ROWS) == NR_NO_SLOT, "no slot, with fewer than enough");
+  want(nr_release(reader) == NR_DONE, "a release");
+}
+
+static void writes(nr_writer *writer, uint32_t keys) {
+  nr_row rows[ROWS];
   for (uint64_t version = 1; version <= WRITES; version++) {
     uint32_t key = (uint32_t)(version % keys);
     rows_of(key, version, rows);
     uint32_t answer = nr_replace(writer, key, rows, ROWS);
     want(answer == NR_DONE || (FEWER && answer == NR_NO_SLOT), "a slot for each write");
-    no_slots += answer == NR_NO_SLOT;
   }
-  return no_slots;
 }
 
-static uint64_t runs(uint32_t keys) {
+static void runs(uint32_t keys) {
   nr_shape shape = {.keys = keys, .slots = keys + READERS + 1 - FEWER, .readers = READERS, .rows = ROWS};
   nr_writer writer = {0};
   static client clients[READERS];
@@ -91,22 +98,20 @@ static uint64_t runs(uint32_t keys) {
     want(nr_open_reader(&writer, &clients[i].reader) == NR_DONE, "a reader");
   }
   fills(&writer, &clients[0]);
+  if (FEWER) lacks_a_slot(&writer, &clients[0].reader);
   atomic_store(&done, false);
   for (int i = 0; i < READERS; i++) want(pthread_create(&threads[i], NULL, reads, &clients[i]) == 0, "a thread");
-  uint64_t no_slots = writes(&writer, keys);
+  writes(&writer, keys);
   atomic_store(&done, true);
   for (int i = 0; i < READERS; i++) {
     pthread_join(threads[i], NULL);
-    want(clients[i].finds + clients[i].kept > 0, "a find by each reader");
+    want(clients[i].finds > 0 && clients[i].kept > 0, "finds of both kinds by each reader");
     nr_close_reader(&clients[i].reader);
   }
   nr_close_writer(&writer);
-  return no_slots;
 }
 
 int main(void) {
-  uint64_t no_slots = 0;
-  for (uint32_t keys = 1; keys <= 64; keys *= 2) no_slots += runs(keys);
-  want(!FEWER || no_slots > 0, "no slot, with fewer than enough");
+  for (uint32_t keys = 1; keys <= 64; keys *= 2) runs(keys);
   puts("announced: each write found a slot, and each find a whole set");
 }
