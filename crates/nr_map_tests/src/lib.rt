@@ -2,7 +2,7 @@
 #![tactic(auto)]
 
 #[cfg(test)]
-mod caches;
+mod kept;
 #[cfg(test)]
 mod calls;
 #[cfg(test)]

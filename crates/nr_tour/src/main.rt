@@ -3,7 +3,6 @@
 //! answered. Chapters over a queue and a server are in `nr_tour_server`.
 #![tactic(auto)]
 
-mod caches;
 mod cancels;
 mod hands;
 mod lookups;
@@ -37,8 +36,7 @@ fn show_changes<R: AllocGlobal + Print>(rt: &R, change: &Batch) -> anyhow::Resul
     let alloc = rt.alloc();
     upkeep::chapter(alloc, change)?.print(rt)?;
     pins::chapter(alloc, change)?.print(rt)?;
-    hands::chapter(alloc, change)?.print(rt)?;
-    caches::chapter(alloc)?.print(rt)
+    hands::chapter(alloc, change)?.print(rt)
 }
 
 // Rooms, slots and sizes.
