@@ -11,6 +11,9 @@ use Rattle.nr_machine.specs.Slots.{names_slot}
 use Rattle.nr_machine.specs.Story.{entry}
 use Rattle.nr_marks.specs.Marks.{Marks, acted}
 use Rattle.nr_marks.specs.Puts.{put_number}
+use Rattle.nr_board.specs.declared.board.Own.{Own}
+use Rattle.nr_board.specs.Announcing.{says_at}
+use Rattle.nr_board.specs.Callers.{Table}
 use Rattle.nr_board.specs.Plays.{Advances, Holds, Then, Waits}
 use Rattle.nr_board.specs.Views.{View, caller_number, grip_of, rows_held, slot_held}
 
@@ -18,6 +21,10 @@ use Rattle.nr_board.specs.Views.{View, caller_number, grip_of, rows_held, slot_h
 pub record HasWord (own : ℕ) (view : View) : Type 0 where
   pub number : caller_number view.role ≡ suc own
   pub within : own < view.announcers
+
+-- where the own word of the reader of that index stands, if it has one
+abbrev pub IsOwn : Table → Own → Type 0
+IsOwn table own = own.index < table.announcers → own.place ≡ says_at table.shape own.index
 
 -- the slot that a word announces, where it announces one
 abbrev pub slot_said : View → ℕ

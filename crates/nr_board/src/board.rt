@@ -27,7 +27,7 @@ ghost use Rattle.nr_marks.specs.Puts.{put_number};
 ghost use Rattle.nr_board.specs.Seats.{AnnouncesAt, IdlesAt, HoldsAt};
 ghost use Rattle.nr_board.specs.Announcing.{says_at};
 ghost use Rattle.nr_board.specs.Plays.{IsIdle};
-ghost use Rattle.nr_board.specs.WordPlays.{HasWord, HoldsByWord, let_go};
+ghost use Rattle.nr_board.specs.WordPlays.{HasWord, HoldsByWord, IsOwn, let_go};
 ghost use Rattle.nr_board.specs.Notes.{IsCaller, IsNote, has_noted, note_of, retold, with_note};
 ghost use Rattle.nr_board.specs.Kinds.{kind_of, kind_shown};
 ghost use Rattle.nr_board.specs.Learning.{HearsOf};
@@ -84,6 +84,14 @@ impl Model for Board {
     ghost invariant = { λ board. (board.table.shared.key.shape ≡ board.plan.shape) × (board.table.shared.table_id.words ≡ total_of (layout board.plan.shape) + 8 * board.plan.announcers) × (0 < board.plan.shape.keys) × (board.plan.shape.keys < 2 ^ 32) × IsShape board.plan.shape × (board.plan.announcers ≤ board.plan.shape.readers) };
 }
 
+/// What a reader says of itself: its index, which is its number less one, and where its own word
+/// stands, if it has one. The readers that have a word are the first ones.
+#[derive(Clone, Copy)]
+pub struct Own {
+    pub index: u32,
+    pub place: u64,
+}
+
 /// What a token has seen. The token that made the note counts its step, so nothing is lost where the
 /// note is dropped.
 #[derive(Drop)]
@@ -138,12 +146,30 @@ impl Board {
         self.plan.shape.rows
     }
 
-    /// Where the first content word of a slot stands.
+    /// Where the first content word of a slot stands: behind the words of all slots before it, and its
+    /// departures.
     pub fn content(&self, slot: u32) -> u64
-        requires { slot < self.now.shape.slots }
         ensures { result ≡ content self.now.shape slot 0 }
     {
-        self.layout().content(slot, 0)
+        let before = Layout {
+            keys: self.plan.shape.keys,
+            slots: slot,
+            rows: self.plan.shape.rows,
+        };
+        before.total() + 1
+    }
+
+    /// What a reader of that index says of itself.
+    pub fn own(&self, index: u32) -> Own
+        ensures index { result.index ≡ index }
+        ensures place { IsOwn self.now result }
+    {
+        let place = if index < self.announcers() {
+            self.own_word(index)
+        } else {
+            0
+        };
+        Own { index, place }
     }
 
     /// The writer makes the next reader.
@@ -199,54 +225,53 @@ impl Board {
         words.load::<LooksUp>(seat, key as usize)
     }
 
-    /// A reader's own word announces a slot: what it held by its word is let go. The readers that have a
-    /// word are the first ones, and `own` is the reader's number less one.
-    pub fn announce(&self, seat: &mut Seat, own: u32, slot: u32)
+    /// A reader's own word announces a slot: what it held by its word is let go.
+    pub fn announce(&self, seat: &mut Seat, own: Own, slot: u32)
         requires own { (token seat.old).table ≡ self.now }
-        requires word { HasWord own seat.old.me.0 }
+        requires place { IsOwn self.now own }
+        requires word { HasWord own.index seat.old.me.0 }
         requires free { IsIdle seat.old.me.0.role ⊎ HoldsByWord self.now.shape seat.old.me.0 }
         ensures says { AnnouncesAt self.now slot seat.new }
-        ensures word { HasWord own seat.new.me.0 }
+        ensures word { HasWord own.index seat.new.me.0 }
         ensures rests { Rests 1 (token seat.old) (token seat.new) }
         ensures marks { seat.new.me.0.marks ≡ let_go (grip_of seat.old.me.0.role) seat.old.me.0.marks }
     {
         let words = &self.table.shared;
-        let place = self.own_word(own);
-        words.swap::<Says>(seat, place as usize, slot as u64 + 1);
+        words.swap::<Says>(seat, own.place as usize, slot as u64 + 1);
     }
 
     /// A second look at the key of the slot that the reader's word announces: the key's word. Where it
     /// names that slot still, the reader holds it, and the find is an entry.
-    pub fn confirm(&self, seat: &mut Seat, own: u32, slot: u32, key: u32) -> u64
+    pub fn confirm(&self, seat: &mut Seat, own: Own, slot: u32, key: u32) -> u64
         requires reader { AnnouncesAt self.now slot seat.old }
-        requires word { HasWord own seat.old.me.0 }
+        requires word { HasWord own.index seat.old.me.0 }
         requires key { key < self.now.shape.keys }
         ensures held { names_slot slot result ≡ true → HoldsAt self.now (content self.now.shape slot 0) seat.new × Gains 1 (token seat.old) (model.Find key) (reply.Rows (rows_held seat.new.me.0.role)) (token seat.new) }
         ensures hole { is_filled result ≡ false → AnnouncesAt self.now slot seat.new × Gains 1 (token seat.old) (model.Find key) reply.Hole (token seat.new) }
         ensures other { names_slot slot result ≡ false → is_filled result ≡ true → AnnouncesAt self.now slot seat.new × Grows 1 (token seat.old) [] (token seat.new) }
         ensures says { seat.new.me.0.says ≡ seat.old.me.0.says }
-        ensures word { HasWord own seat.new.me.0 }
+        ensures word { HasWord own.index seat.new.me.0 }
         ensures found { (names_slot slot result ≡ true) ⊎ (is_filled result ≡ false) → seat.new.me.0.marks ≡ acted seat.old.me.0.marks (put_number seat.new.me.0.seen key) }
         ensures not_yet { names_slot slot result ≡ false → is_filled result ≡ true → seat.new.me.0.marks ≡ seat.old.me.0.marks }
     {
-        only_proved(own);
+        only_proved(own.index);
         let words = &self.table.shared;
         words.load::<Confirms>(seat, key as usize)
     }
 
     /// A reader's own word says nothing any more: what it held by its word is let go.
-    pub fn clear(&self, seat: &mut Seat, own: u32)
+    pub fn clear(&self, seat: &mut Seat, own: Own)
         requires own { (token seat.old).table ≡ self.now }
-        requires word { HasWord own seat.old.me.0 }
+        requires place { IsOwn self.now own }
+        requires word { HasWord own.index seat.old.me.0 }
         requires free { IsIdle seat.old.me.0.role ⊎ HoldsByWord self.now.shape seat.old.me.0 }
         ensures reader { IdlesAt self.now seat.new }
-        ensures word { HasWord own seat.new.me.0 }
+        ensures word { HasWord own.index seat.new.me.0 }
         ensures rests { Rests 1 (token seat.old) (token seat.new) }
         ensures marks { seat.new.me.0.marks ≡ let_go (grip_of seat.old.me.0.role) seat.old.me.0.marks }
     {
         let words = &self.table.shared;
-        let place = self.own_word(own);
-        words.store::<Says>(seat, place as usize, 0);
+        words.store::<Says>(seat, own.place as usize, 0);
     }
 
     // Where a reader's own word lies.

@@ -9,9 +9,9 @@ ghost use Rattle.nr_board.specs.Holds.{HeldAs, HoldsAfter, HoldsOn, MovesTo, Tri
 ghost use Rattle.nr_board.specs.Plays.{IsIdle};
 ghost use Rattle.nr_board.specs.Seats.{HoldsAt, IdlesAt};
 ghost use Rattle.nr_board.specs.Views.{caller_number, rows_held};
-ghost use Rattle.nr_board.specs.WordPlays.{HasWord, HoldsByWord};
+ghost use Rattle.nr_board.specs.WordPlays.{HasWord, HoldsByWord, IsOwn};
 
-use crate::board::{Board, Seat};
+use crate::board::{Board, Own, Seat};
 use crate::only_proved::only_proved;
 use nr_words::{names, parts};
 
@@ -27,15 +27,15 @@ pub struct Held {
 
 impl Board {
     /// A reader that holds nothing finds a key and holds its set; `None` where the key is a hole.
-    /// `own` is the reader's number less one.
     #[inline(always)]
-    pub fn hold_key(&self, seat: &mut Seat, own: u32, key: u32) -> Option<Held>
+    pub fn hold_key(&self, seat: &mut Seat, own: Own, key: u32) -> Option<Held>
         requires reader { IdlesAt self.now seat.old }
-        requires number { (token seat.old).number ≡ suc own }
+        requires number { (token seat.old).number ≡ suc own.index }
+        requires place { IsOwn self.now own }
         requires key { key < self.now.shape.keys }
         ensures { HoldsAfter 0 (finds_by_word (token seat.old)) self.now key seat.old.me.0.marks seat.old seat.new result }
     {
-        if own >= self.announcers() {
+        if own.index >= self.announcers() {
             return self.hold_by_count(seat, key);
         }
         let word = self.look_at_key(seat, key);
@@ -48,9 +48,10 @@ impl Board {
     /// A reader that holds a set by its word finds a key and holds its set, by the key's word, which it
     /// loaded. What it held is let go by the announcement of the next slot, or, at a hole, by a clear
     /// before it finds anew.
-    pub fn move_to(&self, seat: &mut Seat, own: u32, key: u32, word: u64) -> Option<Held>
+    pub fn move_to(&self, seat: &mut Seat, own: Own, key: u32, word: u64) -> Option<Held>
         requires own { (token seat.old).table ≡ self.now }
-        requires word { HasWord own seat.old.me.0 }
+        requires place { IsOwn self.now own }
+        requires word { HasWord own.index seat.old.me.0 }
         requires holds { HoldsByWord self.now.shape seat.old.me.0 }
         requires key { key < self.now.shape.keys }
         ensures { MovesTo self.now key seat.old seat.new result }
@@ -64,9 +65,10 @@ impl Board {
 
     /// A reader lets go what it holds, in 1 step.
     #[inline(always)]
-    pub fn let_go(&self, seat: &mut Seat, own: u32, held: Held)
+    pub fn let_go(&self, seat: &mut Seat, own: Own, held: Held)
         requires held { HeldAs self.now held seat.old }
-        requires number { (token seat.old).number ≡ suc own }
+        requires number { (token seat.old).number ≡ suc own.index }
+        requires place { IsOwn self.now own }
         ensures reader { IdlesAt self.now seat.new }
         ensures rests { Rests 1 (token seat.old) (token seat.new) }
         ensures marks { seat.new.me.0.marks ≡ acted seat.old.me.0.marks seat.old.me.0.marks.put }
@@ -80,9 +82,10 @@ impl Board {
 
     // A reader that has a word finds a key by the word that its look found.
     #[inline(always)]
-    fn hold_named(&self, seat: &mut Seat, own: u32, key: u32, word: u64) -> Option<Held>
+    fn hold_named(&self, seat: &mut Seat, own: Own, key: u32, word: u64) -> Option<Held>
         requires own { (token seat.old).table ≡ self.now }
-        requires word { HasWord own seat.old.me.0 }
+        requires place { IsOwn self.now own }
+        requires word { HasWord own.index seat.old.me.0 }
         requires free { IsIdle seat.old.me.0.role ⊎ HoldsByWord self.now.shape seat.old.me.0 }
         requires key { key < self.now.shape.keys }
         ensures { HoldsOn 1 self.now key seat.old seat.new result }
@@ -95,9 +98,10 @@ impl Board {
 
     // The same by the newer word that a first try found, and then by the count.
     #[inline(never)]
-    fn hold_newer(&self, seat: &mut Seat, own: u32, key: u32, word: u64) -> Option<Held>
+    fn hold_newer(&self, seat: &mut Seat, own: Own, key: u32, word: u64) -> Option<Held>
         requires own { (token seat.old).table ≡ self.now }
-        requires word { HasWord own seat.old.me.0 }
+        requires place { IsOwn self.now own }
+        requires word { HasWord own.index seat.old.me.0 }
         requires idle { IsIdle seat.old.me.0.role }
         requires key { key < self.now.shape.keys }
         ensures { HoldsOn 3 self.now key seat.old seat.new result }
@@ -112,18 +116,20 @@ impl Board {
     // A reader announces the slot that a key's word names, and looks at the key again: what it holds
     // then, or the key's newer word. At a hole it says nothing any more.
     #[inline(always)]
-    fn try_word(&self, seat: &mut Seat, own: u32, key: u32, word: u64) -> Result<Option<Held>, u64>
+    fn try_word(&self, seat: &mut Seat, own: Own, key: u32, word: u64) -> Result<Option<Held>, u64>
         requires own { (token seat.old).table ≡ self.now }
-        requires word { HasWord own seat.old.me.0 }
+        requires place { IsOwn self.now own }
+        requires word { HasWord own.index seat.old.me.0 }
         requires free { IsIdle seat.old.me.0.role ⊎ HoldsByWord self.now.shape seat.old.me.0 }
         requires key { key < self.now.shape.keys }
         ensures { TriesWord self.now key word seat.old seat.new result }
     {
         let slot = parts(word).slot;
+        let begin = self.content(slot);
         self.announce(seat, own, slot);
         let newer = self.confirm(seat, own, slot, key);
         if names(newer, slot) {
-            return Ok(Some(self.held_at(seat, slot, true)));
+            return Ok(Some(self.held_at(seat, slot, begin, true)));
         }
         if parts(newer).filled {
             return Err(newer);
@@ -143,13 +149,15 @@ impl Board {
         if !found.filled {
             return None;
         }
-        Some(self.held_at(seat, found.slot, false))
+        let begin = self.content(found.slot);
+        Some(self.held_at(seat, found.slot, begin, false))
     }
 
     // What a reader holds, by the slot: it reads how many rows there are.
     #[inline(always)]
-    fn held_at(&self, seat: &mut Seat, slot: u32, by_word: bool) -> Held
-        requires reader { HoldsAt self.now (content self.now.shape slot 0) seat.old }
+    fn held_at(&self, seat: &mut Seat, slot: u32, begin: u64, by_word: bool) -> Held
+        requires reader { HoldsAt self.now begin seat.old }
+        requires begin { begin ≡ content self.now.shape slot 0 }
         requires says { seat.old.me.0.says ≡ (if by_word then suc slot else 0) }
         requires worded { by_word ≡ true → caller_number seat.old.me.0.role ≤ self.now.announcers }
         ensures held { HeldAs self.now result seat.new }
@@ -158,7 +166,6 @@ impl Board {
         ensures marks { seat.new.me.0.marks ≡ seat.old.me.0.marks }
     {
         only_proved(self.rows());
-        let begin = self.content(slot);
         let count = self.read(seat, begin, 0) as u32;
         Held {
             slot,

@@ -26,7 +26,7 @@ mod writer_calls;
 pub use answers::{
     Cancel, Evict, FillFault, Found, KeyKind, Reaped, Reclaimed, ReplaceFault, UpdateFault,
 };
-pub use board::{Board, Note, Plan, Seat};
+pub use board::{Board, Note, Own, Plan, Seat};
 pub use holds::Held;
 pub use rule::BegunCall;
 pub use scans::Unheard;

@@ -16,6 +16,7 @@ use Rattle.nr_board.proofs.Holding.{grows_gains, rests_gains}
 use Rattle.nr_board.proofs.Tokens.{MapSeat}
 use Rattle.nr_board.specs.Callers.{Caller, Gains, Grows, Rests, Table, token}
 use Rattle.nr_board.specs.Holds.{HeldIn, HoleIn, finds_by_word}
+use Rattle.nr_board.specs.declared.board.Own.{Own}
 use Rattle.nr_board.specs.declared.holds.Held.{Held}
 use Rattle.nr_board.specs.Meetings.{HasPut, with_step}
 use Rattle.nr_board.specs.Views.{caller_number, grip_of, rows_held}
@@ -202,5 +203,5 @@ step_rests before after is = record {
 }
 
 -- who holds by its word has one
-pub finds_so : (number : ℕ) (held : Held) (seat : MapSeat) → Pins seat number held → held.by_word ≡ true → finds_by_word (token seat) ≡ true
-finds_so number held seat pins by_word = lt-ltb (caller_number seat.me.0.role - 1) (token seat).table.announcers (omega (arith, pins.positive, pins.number_is, pins.holds.worded by_word))
+pub finds_so : (own : Own) (held : Held) (seat : MapSeat) → Pins seat own held → held.by_word ≡ true → finds_by_word (token seat) ≡ true
+finds_so own held seat pins by_word = lt-ltb (caller_number seat.me.0.role - 1) (token seat).table.announcers (omega (arith, pins.reader.number, pins.holds.worded by_word))

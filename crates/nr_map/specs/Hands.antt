@@ -1,24 +1,25 @@
 -- A reader that is idle or holds the set of a key.
-use Rattle.std.specs.Prelude.{◌≡◌, ◌≢◌, ℕ, ◌+◌, ◌-◌, ◌*◌, ◌==◌, ◌<◌, ◌≤◌, ◌⊎◌, Bool, true, false, if◌then◌else◌, List, [], length, Option, Some, None, IsSome, Result, Ok, Err}
+use Rattle.std.specs.Prelude.{◌≡◌, ◌≢◌, ℕ, ◌+◌, ◌-◌, ◌*◌, ◌==◌, ◌≤◌, ◌⊎◌, Bool, true, false, if◌then◌else◌, List, [], length, Option, Some, None, IsSome, Result, Ok, Err}
 use Rattle.atomic_table.specs.declared.shared.Seat.{Seat}
 use Rattle.nr_model.specs.declared.rows.Row.{Row}
 use Rattle.nr_model.specs.Rows.{IsRowSet}
 use Rattle.nr_model.specs.declared.calls.Call.TheVariants as model
 use Rattle.nr_model.specs.declared.calls.Reply.TheVariants as reply
-use Rattle.nr_machine.specs.declared.roles.Grip.TheVariants.{Nothing}
-use Rattle.nr_machine.specs.declared.roles.Role.TheVariants.{Reader}
 use Rattle.nr_marks.specs.Marks.{Marks, acted}
 use Rattle.nr_marks.specs.MarkSteps.{found_again}
 use Rattle.nr_marks.specs.Puts.{put_number}
 use Rattle.nr_board.specs.declared.answers.Found.{Found}
 use Rattle.nr_board.specs.declared.answers.Found.TheVariants as found
-use Rattle.nr_board.specs.Callers.{Caller, Gains, Grows, KnowsOwn, Rests, token}
+use Rattle.nr_board.specs.Callers.{Caller, Gains, Grows, Rests, token}
 use Rattle.nr_board.specs.Holds.{FindsHole, FindsRows, HeldIn, HoleIn, finds_by_word}
 use Rattle.nr_board.specs.Meetings.{HasPut}
 use Rattle.nr_board.specs.Rule.{StartsWith}
+use Rattle.nr_board.specs.Seats.{IdlesAt}
+use Rattle.nr_board.specs.declared.board.Own.{Own}
 use Rattle.nr_board.specs.Views.{View, rows_held}
 use Rattle.nr_map.specs.declared.hand.Kept.{Kept}
 use Rattle.nr_map.specs.Pins.{Pinned, Pins}
+use Rattle.nr_map.specs.Tokens.{IsReader}
 
 -- the reader, the key whose set it holds, and the rows of that set; none where it holds nothing
 pub record Handed : Type 0 where
@@ -47,9 +48,9 @@ abbrev pub handed : Seat (Unit {0}) View → Option Kept → Handed
 handed seat held = record { reader = token seat; key = key_held held; rows = rows_held seat.me.0.role }
 
 -- the seat is that of a reader, which holds nothing or what stands there
-abbrev pub IsHand : Seat (Unit {0}) View → ℕ → Option Kept → Type 0
-IsHand seat number None = (seat.me.0.role ≡ Reader number Nothing) × KnowsOwn (token seat) × (seat.me.0.says ≡ 0) × (0 < number)
-IsHand seat number (Some kept) = Pins seat number kept.set
+abbrev pub IsHand : Seat (Unit {0}) View → Own → Option Kept → Type 0
+IsHand seat own None = IsReader seat own × IdlesAt (token seat).table seat
+IsHand seat own (Some kept) = Pins seat own kept.set
 
 -- a hand that holds a set lets it go by one step, an act; one that holds nothing makes none
 abbrev pub steps_to_depart : Option ℕ → ℕ

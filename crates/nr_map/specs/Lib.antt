@@ -1,4 +1,5 @@
 pub mod Rounds
+pub mod Tokens
 pub mod Pins
 pub mod Hands
 pub mod Written

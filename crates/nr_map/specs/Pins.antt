@@ -1,15 +1,17 @@
 -- A reader that holds a set.
-use Rattle.std.specs.Prelude.{◌≡◌, ℕ, ◌+◌, ◌<◌, Bool, true, false, List, [], length, IsSome, None, Result, Ok, Err}
+use Rattle.std.specs.Prelude.{◌≡◌, ℕ, ◌+◌, Bool, true, false, List, [], IsSome, None, Result, Ok, Err}
 use Rattle.atomic_table.specs.declared.shared.Seat.{Seat}
 use Rattle.nr_model.specs.declared.rows.Row.{Row}
 use Rattle.nr_model.specs.declared.calls.Call.TheVariants as model
 use Rattle.nr_model.specs.declared.calls.Reply.TheVariants as reply
 use Rattle.nr_marks.specs.Marks.{acted}
 use Rattle.nr_marks.specs.Puts.{put_number}
-use Rattle.nr_board.specs.Callers.{Caller, Gains, Grows, KnowsOwn, token}
+use Rattle.nr_board.specs.Callers.{Caller, Gains, Grows, token}
+use Rattle.nr_board.specs.declared.board.Own.{Own}
 use Rattle.nr_board.specs.declared.holds.Held.{Held}
 use Rattle.nr_board.specs.Holds.{FindsHole, FindsRows, HeldAs}
-use Rattle.nr_board.specs.Views.{View, caller_number, rows_held}
+use Rattle.nr_board.specs.Views.{View, rows_held}
+use Rattle.nr_map.specs.Tokens.{IsReader}
 
 -- the reader, and the set that its find found
 pub record Pinned : Type 0 where
@@ -19,12 +21,10 @@ pub record Pinned : Type 0 where
 abbrev pub pinned : Seat (Unit {0}) View → Pinned
 pinned seat = record { reader = token seat; rows = rows_held seat.me.0.role }
 
--- the seat of a reader of that number, which holds this
-pub record Pins (seat : Seat (Unit {0}) View) (number : ℕ) (held : Held) : Type 0 where
+-- the seat of that reader, which holds this
+pub record Pins (seat : Seat (Unit {0}) View) (own : Own) (held : Held) : Type 0 where
   pub holds : HeldAs (token seat).table held seat
-  pub number_is : number ≡ caller_number seat.me.0.role
-  pub positive : 0 < number
-  pub own : KnowsOwn (token seat)
+  pub reader : IsReader seat own
 
 -- a pin is a find, in the steps of a hold: of a filled key it holds the rows of the reply, whose put number is the key's, and a hole gives the reader back
 abbrev pub PinsKey : ℕ → Caller → Result Pinned Caller → Type 0

@@ -8,7 +8,8 @@ use crate::notes::Note;
 use crate::pin::Pin;
 use crate::reader::Reader;
 use crate::reader_map::ReaderMap;
-use nr_board::{Held, Seat};
+use crate::token::Token;
+use nr_board::Held;
 use nr_model::RowRoom;
 use nr_words::names;
 use std::marker::Model;
@@ -17,8 +18,7 @@ use std::marker::Model;
 /// holds stays as it is until a call lets it go. A hand can't be dropped: its reader is taken out of
 /// it.
 pub struct Hand {
-    seat: Seat,
-    number: u32,
+    caller: Token,
     held: Option<Kept>,
 }
 
@@ -34,9 +34,9 @@ impl Model for Hand {
 
     ghost Value = { Handed };
 
-    ghost view = { λ hand. handed hand.seat hand.held };
+    ghost view = { λ hand. handed hand.caller.seat hand.held };
 
-    ghost invariant = { λ hand. IsHand hand.seat hand.number hand.held };
+    ghost invariant = { λ hand. IsHand hand.caller.seat hand.caller.own hand.held };
 }
 
 impl Hand {
@@ -44,10 +44,8 @@ impl Hand {
     pub fn of(reader: Reader) -> Hand
         ensures { result ≡ idle reader }
     {
-        let (seat, number) = reader.into_seat();
         Hand {
-            seat,
-            number,
+            caller: reader.into_token(),
             held: None,
         }
     }
@@ -60,22 +58,17 @@ impl Hand {
     {
         let mut hand = self;
         hand.release(map);
-        let Hand {
-            seat,
-            number,
-            held: _,
-        } = hand;
-        Reader::of_seat(seat, number)
+        let Hand { caller, held: _ } = hand;
+        Reader::of_token(caller)
     }
 
     /// A hand of a pin: it holds what the pin held, and takes it for a set of that key. No step.
     pub fn of_pin(pin: Pin, key: u32) -> Hand
         ensures { result ≡ in_hand key pin }
     {
-        let Pin { seat, number, held } = pin;
+        let Pin { caller, held } = pin;
         Hand {
-            seat,
-            number,
+            caller,
             held: Some(Kept { key, set: held }),
         }
     }
@@ -84,14 +77,13 @@ impl Hand {
     pub fn into_pin(self) -> Result<Pin, Reader>
         ensures { BecomesPin self result }
     {
-        let Hand { seat, number, held } = self;
+        let Hand { caller, held } = self;
         match held {
             Some(kept) => Ok(Pin {
-                seat,
-                number,
+                caller,
                 held: kept.set,
             }),
-            None => Err(Reader::of_seat(seat, number)),
+            None => Err(Reader::of_token(caller)),
         }
     }
 
@@ -99,7 +91,7 @@ impl Hand {
     pub fn number(&self) -> u32
         ensures { result ≡ self.now.reader.number }
     {
-        self.number
+        self.caller.number()
     }
 
     /// The key whose set is held.
@@ -131,7 +123,7 @@ impl Hand {
         ensures reads { CopiesHeld (2 * length self.old.rows) self.old self.new }
     {
         if let Some(kept) = self.held {
-            map.board.copy_held(&mut self.seat, kept.set, rows);
+            self.caller.copy(map, kept.set, rows);
         }
     }
 
@@ -142,7 +134,7 @@ impl Hand {
         ensures lets_go { LetsGo self.old self.new }
     {
         if let Some(kept) = self.held {
-            map.board.let_go(&mut self.seat, self.number - 1, kept.set);
+            self.caller.release(map, kept.set);
             self.held = None;
         }
     }
@@ -156,7 +148,7 @@ impl Hand {
         ensures pins { PinsByHand key self.old self.new result }
     {
         self.release(map);
-        match map.board.hold_key(&mut self.seat, self.number - 1, key) {
+        match self.caller.hold(map, key) {
             Some(set) => {
                 self.held = Some(Kept { key, set });
                 true
@@ -175,9 +167,7 @@ impl Hand {
         ensures again { AgainByHand key self.old self.new result }
     {
         match self.held {
-            Some(kept) if kept.key == key => {
-                map.board.find_again(&mut self.seat, kept.set.slot, key)
-            }
+            Some(kept) if kept.key == key => self.caller.again(map, kept.set, key),
             _ => false,
         }
     }
@@ -193,7 +183,7 @@ impl Hand {
             return self.pin(map, key);
         };
         if kept.key == key {
-            let word = map.board.look_again(&mut self.seat, kept.set.slot, key);
+            let word = map.board.look_again(&mut self.caller.seat, kept.set.slot, key);
             if names(word, kept.set.slot) {
                 return true;
             }
@@ -202,7 +192,7 @@ impl Hand {
         if !kept.set.by_word {
             return self.pin(map, key);
         }
-        let word = map.board.load_key(&mut self.seat, key);
+        let word = map.board.load_key(&mut self.caller.seat, key);
         self.move_to(map, key, word)
     }
 
@@ -217,8 +207,8 @@ impl Hand {
     {
         match self.held {
             Some(kept) if kept.set.by_word => {
-                let own = self.number - 1;
-                match map.board.move_to(&mut self.seat, own, key, word) {
+                let own = self.caller.own;
+                match map.board.move_to(&mut self.caller.seat, own, key, word) {
                     Some(set) => {
                         self.held = Some(Kept { key, set });
                         true
@@ -241,9 +231,7 @@ impl Hand {
         ensures note { result ≡ known_to self.old.reader }
         ensures knows { KnowsOwn self.old.reader }
     {
-        Note {
-            told: map.board.note(&mut self.seat),
-        }
+        self.caller.note(map)
     }
 
     /// Its reader learns, in 1 step, all that the note's maker had seen. What is held stays held.
@@ -252,6 +240,6 @@ impl Hand {
         ensures reader { HearsNote 1 self.old.reader note self.new.reader }
         ensures held { (self.new.key ≡ self.old.key) × (self.new.rows ≡ self.old.rows) }
     {
-        map.board.hear_note(&mut self.seat, note.told);
+        self.caller.hear(map, note);
     }
 }

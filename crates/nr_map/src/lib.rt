@@ -33,6 +33,7 @@ mod reclaiming;
 mod remains;
 mod slot_counts;
 mod ticket;
+mod token;
 mod wanted;
 mod writer;
 mod writer_calls;

@@ -27,7 +27,7 @@ impl ReaderMap {
         ensures reader { Meets 1 reader.old writer.old reader.new }
         ensures writer { writer.new ≡ with_step writer.old }
     {
-        self.board.hear(&mut reader.seat, &mut writer.seat);
+        self.board.hear(&mut reader.caller.seat, &mut writer.seat);
     }
 
     /// The reader learns, in 1 step, all that another reader has seen, which makes a note of it in 1
@@ -37,7 +37,7 @@ impl ReaderMap {
         ensures reader { Meets 1 reader.old other.old reader.new }
         ensures other { other.new ≡ with_step other.old }
     {
-        self.board.hear(&mut reader.seat, &mut other.seat);
+        self.board.hear(&mut reader.caller.seat, &mut other.caller.seat);
     }
 
     /// The writer learns all that the reader has seen, and then the reader all that the writer has:
@@ -46,8 +46,8 @@ impl ReaderMap {
         requires own { (reader.old.table ≡ self.now) × (writer.old.table ≡ self.now) }
         ensures { Gathers writer.old reader.old writer.new reader.new }
     {
-        self.board.hear(&mut writer.seat, &mut reader.seat);
-        self.board.hear(&mut reader.seat, &mut writer.seat);
+        self.board.hear(&mut writer.seat, &mut reader.caller.seat);
+        self.board.hear(&mut reader.caller.seat, &mut writer.seat);
     }
 
     /// The same with a reader that holds a set, which it keeps.
@@ -56,7 +56,7 @@ impl ReaderMap {
         ensures gathers { Gathers writer.old pin.old.reader writer.new pin.new.reader }
         ensures rows { pin.new.rows ≡ pin.old.rows }
     {
-        self.board.hear(&mut writer.seat, &mut pin.seat);
-        self.board.hear(&mut pin.seat, &mut writer.seat);
+        self.board.hear(&mut writer.seat, &mut pin.caller.seat);
+        self.board.hear(&mut pin.caller.seat, &mut writer.seat);
     }
 }

@@ -38,9 +38,7 @@ impl ReaderMap {
         ensures note { result ≡ known_to reader.old }
         ensures knows { KnowsOwn reader.old }
     {
-        Note {
-            told: self.board.note(&mut reader.seat),
-        }
+        reader.caller.note(self)
     }
 
     /// A note of what the writer has seen, in 1 step. Else the writer stays as it is.
@@ -64,9 +62,7 @@ impl ReaderMap {
         ensures note { result ≡ known_to pin.old.reader }
         ensures knows { KnowsOwn pin.old.reader }
     {
-        Note {
-            told: self.board.note(&mut pin.seat),
-        }
+        pin.caller.note(self)
     }
 
     /// The reader learns, in 1 step, all that the note's maker had seen.
@@ -74,7 +70,7 @@ impl ReaderMap {
         requires own { (reader.old.table ≡ self.now) × (note.table ≡ self.now) }
         ensures { HearsNote 1 reader.old note reader.new }
     {
-        self.board.hear_note(&mut reader.seat, note.told);
+        reader.caller.hear(self, note);
     }
 
     /// The writer learns the same.
@@ -91,7 +87,7 @@ impl ReaderMap {
         ensures reader { HearsNote 1 pin.old.reader note pin.new.reader }
         ensures rows { pin.new.rows ≡ pin.old.rows }
     {
-        self.board.hear_note(&mut pin.seat, note.told);
+        pin.caller.hear(self, note);
     }
 
     /// Two notes of one, for two hearers: each says what it said. Takes 3 steps of the reader's, which
@@ -101,7 +97,7 @@ impl ReaderMap {
         ensures reader { reader.new ≡ with_steps 3 reader.old }
         ensures notes { (result.0 ≡ note) × (result.1 ≡ note) }
     {
-        let (one, other) = self.board.split_note(&mut reader.seat, note.told);
+        let (one, other) = self.board.split_note(&mut reader.caller.seat, note.told);
         (Note { told: one }, Note { told: other })
     }
 }

@@ -8,7 +8,8 @@ ghost use Rattle.nr_board.specs.Callers.{Rests};
 
 use crate::reader::Reader;
 use crate::reader_map::ReaderMap;
-use nr_board::{Held, Seat};
+use crate::token::Token;
+use nr_board::Held;
 use nr_model::{Row, RowSet};
 use std::marker::Model;
 
@@ -16,8 +17,7 @@ use std::marker::Model;
 /// released, whatever is filled, updated or evicted meanwhile. A pin can't be dropped: it must be
 /// released.
 pub struct Pin {
-    pub(crate) seat: Seat,
-    pub(crate) number: u32,
+    pub(crate) caller: Token,
     pub(crate) held: Held,
 }
 
@@ -26,9 +26,9 @@ impl Model for Pin {
 
     ghost Value = { Pinned };
 
-    ghost view = { λ pin. pinned pin.seat };
+    ghost view = { λ pin. pinned pin.caller.seat };
 
-    ghost invariant = { λ pin. Pins pin.seat pin.number pin.held };
+    ghost invariant = { λ pin. Pins pin.caller.seat pin.caller.own pin.held };
 }
 
 impl ReaderMap {
@@ -41,10 +41,10 @@ impl ReaderMap {
         requires key { key < self.now.shape.keys }
         ensures { PinsKey key reader result }
     {
-        let (mut seat, number) = reader.into_seat();
-        match self.board.hold_key(&mut seat, number - 1, key) {
-            Some(held) => Ok(Pin { seat, number, held }),
-            None => Err(Reader::of_seat(seat, number)),
+        let mut caller = reader.into_token();
+        match caller.hold(self, key) {
+            Some(held) => Ok(Pin { caller, held }),
+            None => Err(Reader::of_token(caller)),
         }
     }
 }
@@ -56,7 +56,7 @@ impl Pin {
     pub fn number(&self) -> u32
         ensures { result ≡ self.now.reader.number }
     {
-        self.number
+        self.caller.number()
     }
 
     /// How many rows the set has. Takes no step.
@@ -80,7 +80,7 @@ impl Pin {
         ensures marks { self.new.reader.marks ≡ self.old.reader.marks }
     {
         map.board
-            .read_row(&mut self.seat, self.held.begin, u64::from(i))
+            .read_row(&mut self.caller.seat, self.held.begin, u64::from(i))
     }
 
     /// Writes the rows of the set over those of the caller's, in 2 steps a row.
@@ -92,7 +92,7 @@ impl Pin {
         ensures holds { self.new.reader.holds ≡ self.old.reader.holds }
         ensures marks { self.new.reader.marks ≡ self.old.reader.marks }
     {
-        map.board.copy_held(&mut self.seat, self.held, rows);
+        self.caller.copy(map, self.held, rows);
     }
 
     /// Finds a key again, in 1 step, which loads one word and writes none: whether the key still has
@@ -108,7 +108,7 @@ impl Pin {
         ensures holds { self.new.reader.holds ≡ self.old.reader.holds }
         ensures marks { self.new.reader.marks ≡ found_again result self.old.reader.marks }
     {
-        map.board.find_again(&mut self.seat, self.held.slot, key)
+        self.caller.again(map, self.held, key)
     }
 
     /// Ends the hold, in 1 step, and gives the reader back.
@@ -118,12 +118,8 @@ impl Pin {
         ensures idle { result.holds ≡ None }
         ensures marks { result.marks ≡ acted self.reader.marks self.reader.marks.put }
     {
-        let Pin {
-            mut seat,
-            number,
-            held,
-        } = self;
-        map.board.let_go(&mut seat, number - 1, held);
-        Reader::of_seat(seat, number)
+        let Pin { mut caller, held } = self;
+        caller.release(map, held);
+        Reader::of_token(caller)
     }
 }

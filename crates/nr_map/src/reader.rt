@@ -5,7 +5,8 @@ ghost use Rattle.nr_board.specs.Callers.{token};
 use crate::answers::Asked;
 use crate::reader_map::ReaderMap;
 use crate::ticket::Ticket;
-use nr_board::{Found, Seat};
+use crate::token::Token;
+use nr_board::Found;
 use nr_model::{RowRoom, RowSet};
 use nr_words::parts;
 use std::marker::Model;
@@ -13,48 +14,41 @@ use std::marker::Model;
 /// What a reader makes its steps with. Between its calls it holds no slot.
 #[derive(Drop)]
 pub struct Reader {
-    pub(crate) seat: Seat,
-    number: u32,
+    pub(crate) caller: Token,
 }
 
 impl Model for Reader {
-    ghost use Rattle.std.specs.Prelude.{◌≡◌, ◌<◌};
-    ghost use Rattle.nr_machine.specs.declared.roles.Role.TheVariants.{Reader as reader_role};
-    ghost use Rattle.nr_machine.specs.declared.roles.Grip.TheVariants.{Nothing};
-    ghost use Rattle.nr_board.specs.Callers.{Caller, token, KnowsOwn};
+    ghost use Rattle.nr_board.specs.Callers.{Caller, token};
+    ghost use Rattle.nr_board.specs.Seats.{IdlesAt};
+    ghost use Rattle.nr_map.specs.Tokens.{IsReader};
 
     ghost Value = { Caller };
 
-    ghost view = { λ reader. token reader.seat };
+    ghost view = { λ reader. token reader.caller.seat };
 
-    ghost invariant = { λ reader. (reader.seat.me.0.role ≡ reader_role reader.number Nothing) × KnowsOwn (token reader.seat) × (reader.seat.me.0.says ≡ 0) × (0 < reader.number) };
+    ghost invariant = { λ reader. IsReader reader.caller.seat reader.caller.own × IdlesAt (token reader.caller.seat).table reader.caller.seat };
 }
 
 impl Reader {
-    ghost use Rattle.nr_machine.specs.declared.roles.Role.TheVariants.{Reader as reader_role};
-    ghost use Rattle.nr_machine.specs.declared.roles.Grip.TheVariants.{Nothing};
-    ghost use Rattle.nr_board.specs.Callers.{KnowsOwn};
+    ghost use Rattle.nr_board.specs.Seats.{IdlesAt};
+    ghost use Rattle.nr_map.specs.Tokens.{IsReader};
 
-    pub(crate) fn of_seat(seat: Seat, number: u32) -> Reader
-        requires role { seat.me.0.role ≡ reader_role number Nothing }
-        requires own { KnowsOwn (token seat) }
-        requires silent { seat.me.0.says ≡ 0 }
-        requires positive { 0 < number }
-        ensures { result ≡ token seat }
+    pub(crate) fn of_token(caller: Token) -> Reader
+        requires reader { IsReader caller.seat caller.own }
+        requires idle { IdlesAt (token caller.seat).table caller.seat }
+        ensures { result ≡ token caller.seat }
     {
-        Reader { seat, number }
+        Reader { caller }
     }
 
-    /// The reader's parts. The reader ends.
-    pub(crate) fn into_seat(self) -> (Seat, u32)
-        ensures role { result.0.me.0.role ≡ reader_role result.1 Nothing }
-        ensures own { KnowsOwn (token result.0) }
-        ensures silent { result.0.me.0.says ≡ 0 }
-        ensures positive { 0 < result.1 }
-        ensures token { token result.0 ≡ self }
+    /// The reader's token. The reader ends.
+    pub(crate) fn into_token(self) -> Token
+        ensures reader { IsReader result.seat result.own }
+        ensures idle { IdlesAt self.table result.seat }
+        ensures token { token result.seat ≡ self }
     {
-        let Reader { seat, number } = self;
-        (seat, number)
+        let Reader { caller } = self;
+        caller
     }
 
     /// The reader's number, from 1.
@@ -62,7 +56,7 @@ impl Reader {
         ensures number { result ≡ self.now.number }
         ensures idle { self.now.holds ≡ None }
     {
-        self.number
+        self.caller.number()
     }
 }
 
@@ -100,12 +94,11 @@ impl ReaderMap {
         ensures idle { reader.new.holds ≡ None }
         ensures acts { reader.new.marks.acts ≡ reader.old.marks.acts + acts_of result }
     {
-        let own = reader.number - 1;
-        let Some(held) = self.board.hold_key(&mut reader.seat, own, key) else {
+        let Some(held) = reader.caller.hold(self, key) else {
             return Found::Hole;
         };
-        self.board.copy_held(&mut reader.seat, held, rows);
-        self.board.let_go(&mut reader.seat, own, held);
+        reader.caller.copy(self, held, rows);
+        reader.caller.release(self, held);
         Found::Rows
     }
 
@@ -119,7 +112,7 @@ impl ReaderMap {
         ensures idle { reader.new.holds ≡ None }
         ensures marks { reader.new.marks ≡ reader.old.marks }
     {
-        let found = parts(self.board.ask(&mut reader.seat, key));
+        let found = parts(self.board.ask(&mut reader.caller.seat, key));
         if found.filled {
             Asked::Filled
         } else if found.ask {

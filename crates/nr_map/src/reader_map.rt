@@ -8,6 +8,7 @@ ghost use Rattle.nr_machine.specs.declared.shape.TheConstants.{MAX_READERS, MAX_
 ghost use Rattle.nr_map.specs.Opened.{IsOpened, Seated};
 
 use crate::reader::Reader;
+use crate::token::Token;
 use crate::writer::Writer;
 use nr_board::{Board, Plan, Seat};
 use nr_core::Shape;
@@ -137,7 +138,7 @@ fn seat_readers(
     let mut readers = Vec::with_capacity(alloc, count as usize)?;
     for made in 0..count {
         let next = board.seat(seat);
-        readers.push_reserved(Reader::of_seat(next, made + 1));
+        readers.push_reserved(Reader::of_token(Token::of_seat(board, next, made)));
     }
     Ok(readers)
 }

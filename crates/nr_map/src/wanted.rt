@@ -150,7 +150,7 @@ impl ReaderMap {
         requires key { key < self.now.shape.keys }
         ensures { reader.new ≡ with_loads 1 reader.old }
     {
-        self.board.load_key(&mut reader.seat, key)
+        self.board.load_key(&mut reader.caller.seat, key)
     }
 
     fn slot_ahead(&self, reader: &mut Reader, word: u64) -> u64
@@ -181,7 +181,7 @@ impl ReaderMap {
         requires own { reader.old.table ≡ self.now }
         ensures { reader.new ≡ with_loads 1 reader.old }
     {
-        self.board.load_near(&mut reader.seat, place)
+        self.board.load_near(&mut reader.caller.seat, place)
     }
 }
 

@@ -11,7 +11,7 @@ load-requires c = let shared = c.self.inside.table.shared in let board = stands 
     let near : c.args.key < shared.key.shape.keys = omega (arith, c.requires.key, ap (λ (s : Shape). s.keys) board.key_is) in let says = reader.says in (
       ap (λ (t : Table). t.id) (reader.own ∙ sym c.self.view_is),
       key_in board c.requires.key,
-      confirms_so shared.key.shape shared.table_id.slots seat.id c.args.own seat.me c.args.key near c.requires.word (ap (λ (t : Table). t.shape) reader.own ∙ sym board.key_is) reader.idle (omega arith),
+      confirms_so shared.key.shape shared.table_id.slots seat.id c.args.own.index seat.me c.args.key near c.requires.word (ap (λ (t : Table). t.shape) reader.own ∙ sym board.key_is) reader.idle (omega arith),
     )
 
 pub returns : goal.returns
@@ -21,7 +21,7 @@ returns c = let before = c.args.seat.now in let after = c.load.new.seat in let s
       hole = λ empty. let looked = confirmed_other map before after same slot key found at told (names_empty_not slot found empty) in (looked_announces map before after same slot key found at looked, looked_hole map before after same key found looked empty);
       other = λ no full. let looked = confirmed_other map before after same slot key found at told no in (looked_announces map before after same slot key found at looked, looked_named map before after same key found looked full);
       says = confirmed_says map before after same slot key found at told;
-      word = confirmed_word map before after same slot key found at told c.args.own c.requires.word;
+      word = confirmed_word map before after same slot key found at told c.args.own.index c.requires.word;
       found = confirmed_marks map before after same slot key found at told;
       not_yet = confirmed_not_yet map before after same slot key found at told;
     }
