@@ -1,5 +1,5 @@
 -- An eviction leaves what the writer heard, and retires slots alone.
-use Rattle.std.proofs.Common.{◌≡◌, ℕ, ◌+◌, [], ◌∷◌, ap, arith, sym}
+use Rattle.std.proofs.Common.{◌≡◌, ℕ, [], ◌∷◌, ap, arith}
 use Rattle.nr_core.proofs.Sums.{total-append}
 use Rattle.nr_core.specs.Roles.{retirements}
 use Rattle.nr_machine.specs.Spares.{Spare}

@@ -29,8 +29,6 @@ use Rattle.nr_board.specs.declared.answers.Evict.{Evict}
 use Rattle.nr_board.specs.declared.answers.Evict.TheVariants as evict
 use Rattle.nr_board.specs.declared.answers.FillFault.{FillFault}
 use Rattle.nr_board.specs.declared.answers.FillFault.TheVariants as fill
-use Rattle.nr_board.specs.declared.answers.Found.{Found}
-use Rattle.nr_board.specs.declared.answers.Found.TheVariants as found
 use Rattle.nr_board.specs.declared.answers.Reaped.TheVariants as reaped
 use Rattle.nr_board.specs.declared.answers.Reclaimed.{Reclaimed}
 use Rattle.nr_board.specs.declared.answers.Reclaimed.TheVariants as reclaimed
@@ -43,7 +41,7 @@ use Rattle.nr_board.specs.Meetings.{Learns}
 use Rattle.nr_board.specs.Reaping.{ReapsIn}
 use Rattle.nr_board.specs.Reclaiming.{HandsOutAt}
 use Rattle.nr_board.specs.Spares.{spare_of}
-use Rattle.nr_board.specs.WriterAnswers.{CancelsKey, EvictsKey, FillsKey, HasNoSlot, LooksIn, Publishes, ReplacesKey, SlotsStay, UpdatesKey}
+use Rattle.nr_board.specs.WriterAnswers.{CancelsKey, EvictsKey, FillsKey, HasNoSlot, Publishes, ReplacesKey, SlotsStay, UpdatesKey}
 use Rattle.nr_map.specs.GivenBack.{Cancels, Deals, EachSetComesOutOnce, Evicts, FillRefused, Fills, Goes, Lacks, LearnsMore, Opens, Quiet, ReapHeld, ReapNothing, Reaps, ReplaceRefused, Replaces, Rests, Run, UpdateRefused, Updates, given_by, rows_put}
 use Rattle.nr_map.specs.Reclaims.{Ledger, had_number}
 use Rattle.nr_map.specs.Remains.{Given, given_at, numbers}

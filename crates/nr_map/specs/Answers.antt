@@ -4,6 +4,7 @@ use Rattle.nr_model.specs.declared.rows.Row.{Row}
 use Rattle.nr_model.specs.Rows.{IsRowSet}
 use Rattle.nr_model.specs.declared.calls.Call.TheVariants as model
 use Rattle.nr_model.specs.declared.calls.Reply.TheVariants as reply
+use Rattle.nr_marks.specs.Marks.{Marks, acted}
 use Rattle.nr_board.specs.declared.answers.Found.{Found}
 use Rattle.nr_board.specs.declared.answers.Found.TheVariants as found
 use Rattle.nr_map.specs.declared.answers.Asked.{Asked}
@@ -32,6 +33,11 @@ FindsIn shows key old before new room found.Hole = FindsHole 0 key old new × (r
 abbrev pub acts_of : Found → ℕ
 acts_of found.Rows = 2
 acts_of found.Hole = 1
+
+-- a reader's marks after its find, of the put number that the key had
+abbrev pub marks_found : Found → Marks → ℕ → Marks
+marks_found found.Rows marks put = acted (acted marks put) put
+marks_found found.Hole marks put = acted marks put
 
 -- a request: a ticket comes with Send alone, and has the map, the key and the number of the reply
 abbrev pub AsksKey : ℕ → Caller → Caller → Asked → Type 0

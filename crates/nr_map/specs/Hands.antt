@@ -18,6 +18,7 @@ use Rattle.nr_board.specs.Seats.{IdlesAt}
 use Rattle.nr_board.specs.declared.board.Own.{Own}
 use Rattle.nr_board.specs.Views.{View, rows_held}
 use Rattle.nr_map.specs.declared.hand.Kept.{Kept}
+use Rattle.nr_map.specs.Answers.{FindsIn, marks_found}
 use Rattle.nr_map.specs.Pins.{Pinned, Pins}
 use Rattle.nr_map.specs.Tokens.{IsReader}
 
@@ -39,6 +40,14 @@ in_hand key pin = record { reader = pin.reader; key = Some key; rows = pin.rows 
 abbrev pub BecomesPin : Handed → Result Pinned Caller → Type 0
 BecomesPin hand (Ok pin) = (key : ℕ) × (hand ≡ in_hand key pin)
 BecomesPin hand (Err reader) = hand ≡ idle reader
+
+-- what is held is taken for a set of that key
+abbrev pub taken_for : ℕ → Option ℕ → Option ℕ
+taken_for key None = None
+taken_for key (Some other) = Some key
+
+abbrev pub held_for : ℕ → Handed → Handed
+held_for key hand = record hand { key = taken_for key hand.key }
 
 abbrev pub key_held : Option Kept → Option ℕ
 key_held None = None
@@ -132,9 +141,15 @@ abbrev pub FindsAnew : {Room : Type 0} → (Room → List Row → Type 0) → �
 FindsAnew shows begun key old before new room found.Rows = FindsRows (begun + 2 * length new.rows) key new.rows old.reader new.reader × HoldsKey key old new × shows room new.rows
 FindsAnew shows begun key old before new room found.Hole = FindsHole begun key old.reader new.reader × HoldsNothing key old new × (room ≡ before)
 
--- such a find, after which nothing is held
-abbrev pub FindsAndLetsGo : {Room : Type 0} → (Room → List Row → Type 0) → ℕ → Handed → Room → Handed → Room → Found → Type 0
-FindsAndLetsGo shows key old before new room answer = (kept : Handed) × FindsAnew shows (steps_to_depart old.key) key old before kept room answer × LetsGo kept new
+-- what is held is let go, and then a find is made after which nothing is held
+pub record FindsAndLetsGo {Room : Type 0} (shows : Room → List Row → Type 0) (key : ℕ) (old : Handed) (before : Room) (new : Handed) (room : Room) (answer : Found) : Type 0 where
+  pub reader : Caller
+  pub lets_go : LetsGo old (idle reader)
+  pub was_idle : old.key ≡ None → reader ≡ old.reader
+  pub finds : FindsIn shows key reader before new.reader room answer
+  pub rests : new ≡ idle new.reader
+  pub holds : new.reader.holds ≡ None
+  pub marks : new.reader.marks ≡ marks_found answer reader.marks (put_number new.reader.seen key)
 
 -- the hand asked in vain before it came to where it is
 abbrev pub AskedBefore : ℕ → Handed → Handed → Type 0

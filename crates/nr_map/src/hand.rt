@@ -1,16 +1,18 @@
 //! A reader that is idle or holds the set of a key, from call to call.
-ghost use Rattle.std.specs.Prelude.{◌≡◌, ◌<◌, ◌*◌, length, IsSome};
-ghost use Rattle.nr_map.specs.Hands.{AgainByHand, BecomesPin, LetsGo, KeepsByHand, MovesByHand, PinsByHand, CopiesHeld, in_hand, idle};
+ghost use Rattle.std.specs.Prelude.{◌≡◌, ◌<◌, ◌*◌, length, slice_get, IsSome, None, Some};
+ghost use Rattle.nr_map.specs.Hands.{AgainByHand, BecomesPin, LetsGo, KeepsByHand, MovesByHand, PinsByHand, CopiesHeld, held_for, in_hand, idle};
+ghost use Rattle.nr_map.specs.Answers.{AsksKey};
 ghost use Rattle.nr_board.specs.Callers.{KnowsOwn};
 ghost use Rattle.nr_board.specs.Meetings.{HearsNote, known_to, with_step};
 
+use crate::answers::Asked;
 use crate::notes::Note;
 use crate::pin::Pin;
 use crate::reader::Reader;
 use crate::reader_map::ReaderMap;
 use crate::token::Token;
 use nr_board::Held;
-use nr_model::RowRoom;
+use nr_model::{Row, RowRoom};
 use nr_words::names;
 use std::marker::Model;
 
@@ -18,7 +20,7 @@ use std::marker::Model;
 /// holds stays as it is until a call lets it go. A hand can't be dropped: its reader is taken out of
 /// it.
 pub struct Hand {
-    caller: Token,
+    pub(crate) caller: Token,
     held: Option<Kept>,
 }
 
@@ -127,11 +129,49 @@ impl Hand {
         }
     }
 
+    /// A row that is held, in 2 steps.
+    pub fn row(&mut self, map: &ReaderMap, i: u32) -> Row
+        requires own { self.old.reader.table ≡ map.now }
+        requires holds { IsSome self.old.key }
+        requires i { i < length self.old.rows }
+        ensures own { self.new.reader.table ≡ map.now }
+        ensures row { slice_get self.old.rows i ≡ Some result }
+        ensures reads { CopiesHeld 2 self.old self.new }
+    {
+        match self.held {
+            Some(kept) => self.caller.row(map, kept.set, i),
+            None => unreachable!(),
+        }
+    }
+
+    /// Takes what is held for a set of that key. No step.
+    pub fn hold_for(&mut self, key: u32)
+        ensures { self.new ≡ held_for key self.old }
+    {
+        if let Some(kept) = self.held {
+            self.held = Some(Kept { key, set: kept.set });
+        }
+    }
+
+    /// Requests a key as the map's `ask` does, in 1 step: nothing may be held.
+    pub fn ask(&mut self, map: &ReaderMap, key: u32) -> Asked
+        requires own { self.old.reader.table ≡ map.now }
+        requires idle { self.old.key ≡ None }
+        requires key { key < map.now.shape.keys }
+        ensures own { self.new.reader.table ≡ map.now }
+        ensures asks { AsksKey key self.old.reader self.new.reader result }
+        ensures idle { (self.new ≡ idle self.new.reader) × (self.new.reader.holds ≡ None) }
+        ensures marks { self.new.reader.marks ≡ self.old.reader.marks }
+    {
+        self.caller.ask(map, key)
+    }
+
     /// Lets go what is held, in 1 step; no step where nothing is.
     pub fn release(&mut self, map: &ReaderMap)
         requires own { self.old.reader.table ≡ map.now }
         ensures own { self.new.reader.table ≡ map.now }
         ensures lets_go { LetsGo self.old self.new }
+        ensures idle { self.old.key ≡ None → self.new ≡ self.old }
     {
         if let Some(kept) = self.held {
             self.caller.release(map, kept.set);

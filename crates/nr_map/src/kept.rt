@@ -1,6 +1,6 @@
 //! Finds by a hand, which may keep what it found for the next one.
 ghost use Rattle.std.specs.Prelude.{◌≡◌, ◌<◌};
-ghost use Rattle.nr_map.specs.Hands.{FindsAndLetsGo, FindsAnew, FindsKept, steps_to_depart};
+ghost use Rattle.nr_map.specs.Hands.{FindsAndLetsGo, FindsKept};
 
 use crate::hand::Hand;
 use crate::reader_map::ReaderMap;
@@ -15,9 +15,8 @@ impl Hand {
         ensures own { self.new.reader.table ≡ map.now }
         ensures finds { FindsAndLetsGo R.shows key self.old rows.old self.new rows.new result }
     {
-        let found = self.find_anew(map, key, rows);
         self.release(map);
-        found
+        self.caller.find(map, key, rows)
     }
 
     /// Looks a key up and holds its set for the next call. Where it holds the key's set already and
@@ -33,20 +32,6 @@ impl Hand {
         ensures finds { FindsKept R.shows key self.old rows.old self.new rows.new result }
     {
         if !self.keep(map, key) {
-            return Found::Hole;
-        }
-        self.copy_to(map, rows);
-        Found::Rows
-    }
-
-    // Lets go what is held, finds, reads and holds.
-    fn find_anew<R: RowRoom>(&mut self, map: &ReaderMap, key: u32, rows: &mut R) -> Found
-        requires own { self.old.reader.table ≡ map.now }
-        requires key { key < map.now.shape.keys }
-        ensures own { self.new.reader.table ≡ map.now }
-        ensures finds { FindsAnew R.shows (steps_to_depart self.old.key) key self.old rows.old self.new rows.new result }
-    {
-        if !self.pin(map, key) {
             return Found::Hole;
         }
         self.copy_to(map, rows);

@@ -79,8 +79,7 @@ impl Pin {
         ensures holds { self.new.reader.holds ≡ self.old.reader.holds }
         ensures marks { self.new.reader.marks ≡ self.old.reader.marks }
     {
-        map.board
-            .read_row(&mut self.caller.seat, self.held.begin, u64::from(i))
+        self.caller.row(map, self.held, i)
     }
 
     /// Writes the rows of the set over those of the caller's, in 2 steps a row.

@@ -4,11 +4,9 @@ ghost use Rattle.nr_board.specs.Callers.{token};
 
 use crate::answers::Asked;
 use crate::reader_map::ReaderMap;
-use crate::ticket::Ticket;
 use crate::token::Token;
 use nr_board::Found;
 use nr_model::{RowRoom, RowSet};
-use nr_words::parts;
 use std::marker::Model;
 
 /// What a reader makes its steps with. Between its calls it holds no slot.
@@ -94,12 +92,7 @@ impl ReaderMap {
         ensures idle { reader.new.holds ≡ None }
         ensures acts { reader.new.marks.acts ≡ reader.old.marks.acts + acts_of result }
     {
-        let Some(held) = reader.caller.hold(self, key) else {
-            return Found::Hole;
-        };
-        reader.caller.copy(self, held, rows);
-        reader.caller.release(self, held);
-        Found::Rows
+        reader.caller.find(self, key, rows)
     }
 
     /// Requests a key, in 1 step. Of the requests since the key became a hole the first is
@@ -112,13 +105,6 @@ impl ReaderMap {
         ensures idle { reader.new.holds ≡ None }
         ensures marks { reader.new.marks ≡ reader.old.marks }
     {
-        let found = parts(self.board.ask(&mut reader.caller.seat, key));
-        if found.filled {
-            Asked::Filled
-        } else if found.ask {
-            Asked::Waiting
-        } else {
-            Asked::Send(Ticket::of(&self.board, key, u64::from(found.slot)))
-        }
+        reader.caller.ask(self, key)
     }
 }

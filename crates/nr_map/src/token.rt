@@ -1,20 +1,25 @@
 //! What a reader, a pin and a hand have in common: the token of a reader, whatever it holds.
-ghost use Rattle.std.specs.Prelude.{◌≡◌, ◌↔◌, ◌<◌, ◌*◌, ◌^◌, suc, length, true};
+ghost use Rattle.std.specs.Prelude.{◌≡◌, ◌↔◌, ◌<◌, ◌*◌, ◌^◌, suc, length, slice_get, true, Some};
 ghost use Rattle.nr_marks.specs.Marks.{acted};
 ghost use Rattle.nr_marks.specs.MarkSteps.{found_again};
+ghost use Rattle.nr_marks.specs.Puts.{put_number};
 ghost use Rattle.nr_board.specs.Callers.{KnowsOwn, Rests, token};
 ghost use Rattle.nr_board.specs.Holds.{HeldAs, HoldsAfter, finds_by_word};
 ghost use Rattle.nr_board.specs.Meetings.{HasPut, HearsNote, known_to, with_step};
 ghost use Rattle.nr_board.specs.Notes.{IsCaller};
 ghost use Rattle.nr_board.specs.Seats.{IdlesAt};
 ghost use Rattle.nr_board.specs.Views.{rows_held};
+ghost use Rattle.nr_map.specs.Answers.{AsksKey, FindsIn, marks_found};
 ghost use Rattle.nr_map.specs.Pins.{FindsByPin};
 ghost use Rattle.nr_map.specs.Tokens.{IsReader};
 
+use crate::answers::Asked;
 use crate::notes::Note;
 use crate::reader_map::ReaderMap;
-use nr_board::{Board, Held, Own, Seat};
-use nr_model::RowRoom;
+use crate::ticket::Ticket;
+use nr_board::{Board, Found, Held, Own, Seat};
+use nr_model::{Row, RowRoom};
+use nr_words::parts;
 
 /// A reader's seat, and what the reader says of itself.
 #[derive(Drop)]
@@ -97,6 +102,61 @@ impl Token {
         ensures marks { self.new.seat.me.0.marks ≡ acted self.old.seat.me.0.marks self.old.seat.me.0.marks.put }
     {
         map.board.let_go(&mut self.seat, self.own, held);
+    }
+
+    /// Looks a key up, and writes its rows where it is filled: nothing is held before and after.
+    #[inline(always)]
+    pub(crate) fn find<R: RowRoom>(&mut self, map: &ReaderMap, key: u32, rows: &mut R) -> Found
+        requires reader { IsReader self.old.seat self.old.own }
+        requires idle { IdlesAt map.now self.old.seat }
+        requires key { key < map.now.shape.keys }
+        ensures reader { IsReader self.new.seat self.new.own }
+        ensures idle { IdlesAt map.now self.new.seat }
+        ensures finds { FindsIn R.shows key (token self.old.seat) rows.old (token self.new.seat) rows.new result }
+        ensures marks { self.new.seat.me.0.marks ≡ marks_found result self.old.seat.me.0.marks (put_number self.new.seat.me.0.seen key) }
+    {
+        let Some(held) = self.hold(map, key) else {
+            return Found::Hole;
+        };
+        self.copy(map, held, rows);
+        self.release(map, held);
+        Found::Rows
+    }
+
+    /// Requests a key, in 1 step: nothing is held before and after.
+    pub(crate) fn ask(&mut self, map: &ReaderMap, key: u32) -> Asked
+        requires reader { IsReader self.old.seat self.old.own }
+        requires idle { IdlesAt map.now self.old.seat }
+        requires key { key < map.now.shape.keys }
+        ensures reader { IsReader self.new.seat self.new.own }
+        ensures idle { IdlesAt map.now self.new.seat }
+        ensures asks { AsksKey key (token self.old.seat) (token self.new.seat) result }
+        ensures marks { self.new.seat.me.0.marks ≡ self.old.seat.me.0.marks }
+    {
+        let found = parts(map.board.ask(&mut self.seat, key));
+        if found.filled {
+            Asked::Filled
+        } else if found.ask {
+            Asked::Waiting
+        } else {
+            Asked::Send(Ticket::of(&map.board, key, u64::from(found.slot)))
+        }
+    }
+
+    /// A row of the set that is held, in 2 steps.
+    pub(crate) fn row(&mut self, map: &ReaderMap, held: Held, i: u32) -> Row
+        requires held { HeldAs map.now held self.old.seat }
+        requires i { i < length (rows_held self.old.seat.me.0.role) }
+        ensures own { self.new.own ≡ self.old.own }
+        ensures held { HeldAs map.now held self.new.seat }
+        ensures row { slice_get (rows_held self.old.seat.me.0.role) i ≡ Some result }
+        ensures same { rows_held self.new.seat.me.0.role ≡ rows_held self.old.seat.me.0.role }
+        ensures rests { Rests 2 (token self.old.seat) (token self.new.seat) }
+        ensures hold { (token self.new.seat).holds ≡ (token self.old.seat).holds }
+        ensures marks { self.new.seat.me.0.marks ≡ self.old.seat.me.0.marks }
+    {
+        map.board
+            .read_row(&mut self.seat, held.begin, u64::from(i))
     }
 
     /// A note of what the reader has seen, in 1 step. Else it stays as it is.

@@ -1,7 +1,7 @@
 //! A reader that keeps the set that it found, from one find to the next.
-ghost use Rattle.std.specs.Prelude.{◌≡◌, ◌<◌};
+ghost use Rattle.std.specs.Prelude.{◌≡◌, ◌<◌, None};
 
-use nr_map::{Hand, Reader, ReaderMap, Writer};
+use nr_map::{Asked, Hand, Reader, ReaderMap, Writer};
 use nr_model::{Batch, OpenFault, RowSet};
 use nr_tour_parts::{Page, opened_filled};
 use std::alloc::Global;
@@ -60,6 +60,23 @@ fn copy_again(map: &ReaderMap, hand: &mut Hand, rows: &mut RowSet) -> bool
     again
 }
 
+// Whether a request finds key 0 filled.
+fn is_filled(map: &ReaderMap, hand: &mut Hand) -> bool
+    requires own { hand.old.reader.table ≡ map.now }
+    requires idle { hand.old.key ≡ None }
+    requires key { 0 < map.now.shape.keys }
+    ensures own { hand.new.reader.table ≡ map.now }
+{
+    match hand.ask(map, 0) {
+        Asked::Filled => true,
+        Asked::Waiting => false,
+        Asked::Send(ticket) => {
+            ticket.into_key();
+            false
+        }
+    }
+}
+
 fn pin_anew(map: &ReaderMap, mut hand: Hand, page: &mut Page)
     requires own { hand.reader.table ≡ map.now }
     requires key { 0 < map.now.shape.keys }
@@ -74,9 +91,15 @@ fn pin_anew(map: &ReaderMap, mut hand: Hand, page: &mut Page)
         &(pinned, hand.len()),
     );
     page.line("the key has this set still: ", &again);
+    // Whichever key it is taken for, the set stays as it is.
+    hand.hold_for(1);
+    if hand.key().is_some() && 0 < hand.len() {
+        page.line("its first row: ", &hand.row(map, 0));
+    }
     let once = hand.find(map, 0, &mut after);
     page.line("a find that keeps nothing: ", &once);
     page.more(", ", &hand.key());
+    page.line("a request finds the key filled: ", &is_filled(map, &mut hand));
     page.line("its reader: ", &hand.number());
     hand.into_reader(map);
 }
