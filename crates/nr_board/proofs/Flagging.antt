@@ -14,6 +14,7 @@ use Rattle.nr_machine.specs.Sums.{only, total}
 use Rattle.nr_machine.specs.declared.places.Retired.{Retired}
 use Rattle.nr_board.proofs.Heard.{zero_at}
 use Rattle.nr_board.proofs.WholeScans.{flag_elsewhere}
+use Rattle.nr_marks.specs.Marks.{WordLoad}
 use Rattle.nr_board.specs.Callers.{Table}
 use Rattle.nr_board.specs.Flags.{Flagged, IsFlagged}
 use Rattle.nr_board.specs.Passes.{AreHeard, hits, polls_before}
@@ -65,9 +66,9 @@ flags_put table retired last scanned heard flags mine flagged is fewer some_word
     get_or_at l slot = get_or l slot 0
 
 -- what was retired when a slot was taken is retired still, but for that slot
-pub fewer_retired : (table : Table) (heard scanned : List ℕ) (mine steps : ℕ) (spare mid : Spare) (more : List Retired) → TookBySearch table heard scanned mine steps spare mid
+pub fewer_retired : (table : Table) (heard scanned : List ℕ) (loads : List WordLoad) (mine steps : ℕ) (spare mid : Spare) (more : List Retired) → TookBySearch table heard scanned loads mine steps spare mid
     → (slot : ℕ) → slot ≢ mine → retirements slot (mid.retired ++ more) ≡ 0 → retirements slot spare.retired ≡ 0
-fewer_retired table heard scanned mine steps spare mid more took slot ne none = let both = total-append (λ (entry : Retired). only slot entry.slot) mid.retired more in ⊎_elim
+fewer_retired table heard scanned loads mine steps spare mid more took slot ne none = let both = total-append (λ (entry : Retired). only slot entry.slot) mid.retired more in ⊎_elim
     (λ (fresh : _). let same = ap (retirements slot) fresh.4 in omega arith)
     (λ (polled : _). let gone = total-remove (λ (entry : Retired). only slot entry.slot) spare.retired polled.1 polled.2 polled.3 in
     let other = only-other slot polled.2.slot (λ e. ne (sym e ∙ polled.4)) in let left = ap (retirements slot) polled.7 in omega arith) took

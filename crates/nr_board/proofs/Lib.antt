@@ -25,6 +25,7 @@ pub mod Brings
 pub mod WriterSteps
 pub mod Scanning
 pub mod SearchSeats
+pub mod WordLoads
 pub mod WholeScans
 pub mod Passes
 pub mod Flagging

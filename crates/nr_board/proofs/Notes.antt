@@ -24,7 +24,7 @@ use Rattle.nr_marks.proofs.Knowing.{knowing_set, knowing_snoc, told_since}
 use Rattle.nr_marks.proofs.ListPlaces.{no_places}
 use Rattle.nr_marks.proofs.SeatMarks.{alike_marked, evolves_alike, seats_marked}
 use Rattle.nr_marks.specs.Marked.{AllSince, Since}
-use Rattle.nr_marks.specs.Marks.{told_by}
+use Rattle.nr_marks.specs.Marks.{told_by, with_loads}
 use Rattle.nr_board.specs.Rule.{Fits, Kept, StartsWith, counts, marks_of, pasts_of, role_of, told_pasts_of}
 use Rattle.nr_board.specs.Views.{View, no_desk}
 use Rattle.std.specs.Prelude.{nat_lt}
@@ -49,9 +49,9 @@ pub heard_same : (views : List View) (id : ℕ) (view next : View) → get_elem?
 heard_same views id view next at same says alike = hears_on views id view next at (λ caller. ap (is_by caller) same) (ap is_writer same)
     (λ slot j. cond (nat_lt 0 (says j)) (holds slot (same j)) 0) (λ writes. let both = alike writes in hears_as view next both.0 both.1)
 
--- a view that keeps its role, its marks, and what it knows of itself takes the place of one; what it was told of readers is so
+-- a view that keeps its role, its marks but the loads, and what it knows of itself takes the place of one; what it was told of readers is so
 module _ (shape : Shape) (state : State (Unit {0}) View) (id : ℕ) (view next : View) (kept : Kept shape state)
-    (at : get_elem? state.views id ≡ some view) (same : next.role ≡ view.role) (alike : (next.marks ≡ view.marks) ⊎ (view.role ≡ Note)) (says : next.says ≡ view.says) (heard : AllHear (set state.views id next)) (of_announcers : 0 < is_writer next.role + is_reader next.role → next.announcers ≡ kept.announcers) where
+    (at : get_elem? state.views id ≡ some view) (same : next.role ≡ view.role) (alike : (next.marks ≡ with_loads view.marks next.marks.loads) ⊎ (view.role ≡ Note)) (says : next.says ≡ view.says) (heard : AllHear (set state.views id next)) (of_announcers : 0 < is_writer next.role + is_reader next.role → next.announcers ≡ kept.announcers) where
   abbrev later : List View
   later = set state.views id next
 

@@ -1,12 +1,12 @@
 -- The two passes of a search and the scan between them, put together.
-use Rattle.std.proofs.Common.{◌≡◌, ℕ, suc, zero, ◌+◌, ◌<◌, ◌≤◌, ◌⊎◌, ⊎_elim, inl, inr, List, [], ◌∷◌, Bool, true, false, cond, ne_eqb, length, take, take_all, get_or, refl, sym, ap, ◌∙◌, subst, arith}
+use Rattle.std.proofs.Common.{◌≡◌, ℕ, suc, zero, ◌+◌, ◌<◌, ◌≤◌, ◌⊎◌, ⊎_elim, inl, inr, List, [], ◌∷◌, ◌++◌, Bool, true, false, cond, ne_eqb, length, take, take_all, get_or, refl, sym, ap, ◌∙◌, subst, arith}
 use mathlib.Core.Option.{some, some-ne-none}
 use lib.ListN.{get_elem?}
 use Rattle.nr_core.proofs.Choices.{by_cases}
 use Rattle.nr_machine.specs.Spares.{Spare, none_spare}
 use Rattle.nr_machine.specs.Sums.{only, total}
 use Rattle.nr_machine.specs.declared.places.Retired.{Retired}
-use Rattle.nr_marks.specs.Marks.{Marks, Past, with_polls}
+use Rattle.nr_marks.specs.Marks.{Marks, Past, WordLoad, with_polls, with_scan}
 use Rattle.std.specs.Prelude.{Some, None}
 use Rattle.nr_model.specs.Histories.{IsLegal}
 use Rattle.nr_board.specs.Entries.{AreCallers}
@@ -32,6 +32,8 @@ use Rattle.nr_model.specs.Maps.{filled_count, reply_to}
 use Rattle.nr_model.specs.declared.calls.Reply.TheVariants as reply
 use Rattle.nr_board.specs.SearchPlays.{scan_base}
 use Rattle.nr_board.specs.SearchSeats.{Ends, SearchesIn}
+use Rattle.nr_board.proofs.WordLoads.{no_loads, words_told}
+use Rattle.nr_board.specs.WordLoads.{WordsTell}
 use Rattle.nr_board.specs.Views.{View}
 use Rattle.nr_board.specs.WholeScans.{KeepBack, KeepsOne, ScannedTo, is_unheard, misses}
 use Rattle.nr_board.specs.WriterSeats.{MapSeat}
@@ -110,10 +112,11 @@ takes_first table spare after flags before now taken flagged begins takes = reco
   after_is = takes.after_is;
   writes = takes.writes;
   steps = polls_before spare.retired flags takes.place + 1;
-  takes = inl (takes.heard, ap (λ (n : ℕ). n + 1) (polls_are table spare.retired before.me.0.heard flags flagged takes.place));
+  loads = [];
+  takes = inl (takes.heard, refl, ap (λ (n : ℕ). n + 1) (polls_are table spare.retired before.me.0.heard flags flagged takes.place));
   grows = takes.grows;
   few = let few = takes.few in omega arith;
-  marks = takes.marks;
+  marks = takes.marks ∙ no_loads before.me.0.marks now.me.0.marks.polls;
 }
 
 module _ (table : Table) (spare : Spare) (flags scanned : List Bool) (before mid swept : MapSeat) (flagged : Flagged table spare.retired before.me.0.heard flags) (first : PassedTo table spare flags before mid (length spare.retired)) (begins : before.me.0.marks.polls ≡ [])
@@ -137,8 +140,19 @@ module _ (table : Table) (spare : Spare) (flags scanned : List Bool) (before mid
   second_polls : (now : MapSeat) (place : ℕ) → now.me.0.heard ≡ swept.me.0.heard → polls_before spare.retired scanned place ≡ polls_heard table.announcers now.me.0.heard spare.retired place
   second_polls now place heard = polls_are table spare.retired swept.me.0.heard scanned flagged_now place ∙ ap (λ (l : List ℕ). polls_heard table.announcers l spare.retired place) (sym heard)
 
-  marks_on : (marks : Marks) → marks ≡ with_polls swept.me.0.marks marks.polls → marks ≡ with_polls before.me.0.marks marks.polls
-  marks_on marks is = is ∙ ap (λ (m : Marks). with_polls m marks.polls) (ap (λ (v : View). v.marks) scan.rest ∙ ap (λ (m : Marks). with_polls m swept.me.0.marks.polls) first.marks)
+  -- what the scan heard is what the words tell
+  words_are : (loads : List WordLoad) × WordsTell table.announcers spare.retired mid.me.0.shape.slots loads swept.me.0.heard × (swept.me.0.marks.loads ≡ mid.me.0.marks.loads ++ loads)
+  words_are = words_told table.announcers spare.retired mid.me.0.shape.slots mid.me.0.marks.loads swept.me.0.marks.loads swept.me.0.heard some_words scan.words
+
+  abbrev loads : List WordLoad
+  loads = words_are.0
+
+  tells : (now : MapSeat) → now.me.0.heard ≡ swept.me.0.heard → WordsTell table.announcers spare.retired table.shape.slots loads now.me.0.heard
+  tells now heard = subst (λ (p : ℕ × List ℕ). WordsTell table.announcers spare.retired p.0 loads p.1) (λ j. ((sized j).shape.slots, sym heard j)) words_are.1
+
+  marks_on : (marks : Marks) → marks ≡ with_polls swept.me.0.marks marks.polls → marks ≡ with_scan before.me.0.marks marks.polls (before.me.0.marks.loads ++ loads)
+  marks_on marks is = is ∙ ap (λ (m : Marks). with_polls m marks.polls) (ap (λ (v : View). v.marks) scan.rest)
+      ∙ (λ j. with_scan mid.me.0.marks marks.polls (words_are.2 j)) ∙ ap (λ (m : Marks). with_scan m marks.polls (m.loads ++ loads)) first.marks
 
   pub takes_second : (after : Spare) (now : MapSeat) (taken : Taken) → PassTakes table spare after scanned swept now taken → SearchTakes table spare after before now taken
   takes_second after now taken takes = let a = first_polls in let b = second_polls now takes.place takes.heard in record {
@@ -149,7 +163,8 @@ module _ (table : Table) (spare : Spare) (flags scanned : List Bool) (before mid
     after_is = takes.after_is;
     writes = λ desk call rows is is_at. takes.writes desk call rows (role_is ∙ is) is_at;
     steps = polls + table.announcers + (polls_before spare.retired scanned takes.place + 1);
-    takes = inr (omega arith);
+    loads = loads;
+    takes = inr (tells now takes.heard, omega arith);
     grows = grows_both (polls + table.announcers) (polls_before spare.retired scanned takes.place + 1) (polls + table.announcers + (polls_before spare.retired scanned takes.place + 1)) (token before) (token swept) [] (token now) refl up_to takes.grows;
     few = let one = polls_few in let other = takes.few in omega arith;
     marks = marks_on now.me.0.marks takes.marks;
@@ -187,5 +202,7 @@ module _ (table : Table) (spare : Spare) (flags scanned : List Bool) (before mid
         many = many;
         apart = λ reader. subst (λ (l : List Past). total (λ (note : Past). only reader note.reader) l ≤ 1) (sym polls_now) (second.notes.apart reader);
         few = let most = notes_few spare.retired scanned table.shape.readers (length spare.retired) (length swept.me.0.marks.polls) last.me.0.marks.polls second.notes in omega (arith, missed, all);
+        loads = loads;
+        words = tells now (gave.heard ∙ second.heard);
         marks = marks_on now.me.0.marks (gave.marks ∙ second.marks ∙ ap (λ (l : List Past). with_polls swept.me.0.marks l) (sym polls_now));
       }

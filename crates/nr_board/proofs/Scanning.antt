@@ -1,5 +1,5 @@
 -- The writer loads a reader's word: what it hears then is so.
-use Rattle.std.proofs.Common.{◌≡◌, ◌≢◌, ℕ, suc, ◌+◌, ◌<◌, ◌≤◌, ◌⊎◌, ⊎_elim, inl, inr, List, zero, length, [], ◌∷◌, Bool, true, false, cond, get_or, map, set, eq-eqb, refl, sym, ap, ◌∙◌, subst, arith}
+use Rattle.std.proofs.Common.{◌≡◌, ◌≢◌, ℕ, suc, ◌+◌, ◌<◌, ◌≤◌, ◌⊎◌, ⊎_elim, inl, inr, List, zero, length, [], ◌∷◌, ◌++◌, Bool, true, false, cond, get_or, map, set, eq-eqb, refl, sym, ap, ◌∙◌, subst, arith}
 use Rattle.std.proofs.lemmas.Bool.{eqb-true, ltb-true}
 use Rattle.std.specs.Prelude.{nat_eq, nat_lt, not, ◌&&◌}
 use mathlib.Core.Logic.{dite}
@@ -19,6 +19,7 @@ use Rattle.nr_machine.specs.declared.roles.Role.{Role}
 use Rattle.nr_machine.specs.declared.roles.Role.TheVariants.{Writer}
 use Rattle.nr_machine.specs.declared.shape.Shape.{Shape}
 use Rattle.nr_marks.specs.Marked.{KnowsMarks}
+use Rattle.nr_marks.specs.Marks.{with_loads}
 use Rattle.nr_board.proofs.Heard.{AllHear, hears_after, no_reader}
 use Rattle.nr_board.proofs.WriterSteps.{same_desk, writer_shape}
 use Rattle.nr_core.proofs.Counting.{named_inside, names_it}
@@ -27,6 +28,7 @@ use Rattle.nr_board.specs.Announcing.{Hears, lends, says_at}
 use Rattle.nr_board.specs.Rule.{Fits, Kept, marks_of, role_of}
 use Rattle.nr_board.specs.Scans.{has_scanned, heard_before, heard_from, heard_now}
 use Rattle.nr_board.specs.Views.{View}
+use Rattle.nr_board.specs.WordLoads.{word_load}
 
 -- what is heard more is heard of a retired slot, of that reader, whose word says something else
 abbrev HeardMore : Desk → ℕ → ℕ → ℕ → ℕ → ℕ → Type 0
@@ -116,7 +118,8 @@ pub scans_so : (shape : Shape) (slots id own : ℕ) (me : Me (Unit {0}) View) (d
     → Allows (Kept shape) slots id me (says_at shape own) (λ word. word) (has_scanned (step slots (says_at shape own) 0 0 none) me)
 scans_so shape slots id own me desk is within state kept homes at bounded =
     let view = me.0 in let words = state.words in let place : ℕ = says_at shape own in let found : ℕ = get_or words place 0 in let fits = kept.fits id view at in
-    let next = record view { steps = view.steps + 1; heard = heard_from desk own found view.heard 0 view.shape.slots } in
+    let marks = with_loads view.marks (view.marks.loads ++ word_load own found ∷ []) in
+    let next = record view { steps = view.steps + 1; marks = marks; heard = heard_from desk own found view.heard 0 view.shape.slots } in
     let heard = scan_heard shape state kept id own view next desk at is within refl refl refl in
     let own_fits : Fits shape kept.log next = record { begins = fits.begins; told = fits.told; own = fits.own; knows_own = fits.knows_own; acts = fits.acts; sized = fits.sized } in
     let rests = replaced shape state id view next kept at refl (inl refl) refl heard (kept.told_of id view at) own_fits (kept.maker id view at) (kept.pasts id view at) (kept.told_pasts id view at) in (
@@ -125,5 +128,5 @@ scans_so shape slots id own me desk is within state kept homes at bounded =
       tt,
       subst (λ (l : List ℕ). Kept shape (record { words = l; homes = state.homes; views = set state.views id next })) (sym (set-get_or words place 0)) rests,
       λ other mine also low place_is. let same : own ≡ mine = says_apart shape view.shape own mine (writer_shape shape kept.log view desk is fits) place_is in
-          λ j. record view { steps = view.steps + 1; heard = heard_from (same_desk view.role desk other is also j) (same j) found view.heard 0 view.shape.slots },
+          λ j. record view { steps = view.steps + 1; marks = with_loads view.marks (view.marks.loads ++ word_load (same j) found ∷ []); heard = heard_from (same_desk view.role desk other is also j) (same j) found view.heard 0 view.shape.slots },
     )

@@ -39,7 +39,7 @@ use Rattle.nr_machine.specs.declared.shape.Shape.{Shape}
 use Rattle.nr_marks.proofs.SearchMarks.{Begins, gives_up_marked, notes_marked, scans_marked, tries_marked}
 use Rattle.nr_marks.specs.Marked.{MarkTelling, Remarked}
 use Rattle.nr_marks.specs.MarkSteps.{KeepsMarks, TriesMarks, TryTells}
-use Rattle.nr_marks.specs.Marks.{Marks, Past, gripped, past, with_polls}
+use Rattle.nr_marks.specs.Marks.{Marks, Past, WordLoad, gripped, past, with_scan}
 use Rattle.nr_board.proofs.Counting.{announces_on, counted_same, lent_same}
 use Rattle.nr_board.proofs.Lift.{Follows, keeps_core, key_inside, key_no_count, knows_pasts, lends_on, lifts, sees_alone, sees_plain}
 use Rattle.nr_board.proofs.Moves.{names_go}
@@ -53,6 +53,7 @@ use Rattle.nr_board.specs.Plays.{NotesTell}
 use Rattle.nr_board.specs.Rule.{Fits, Kept, marks_of, role_of}
 use Rattle.nr_board.specs.SearchPlays.{GaveUp, NotesKeeper, Scanned, Tried, keeps_unheard, scan_base, tried}
 use Rattle.nr_board.specs.Views.{View}
+use Rattle.nr_board.specs.WordLoads.{word_load}
 
 -- a poll of a search names no slot
 try_names : (b : Bool) (shape : Shape) (marks : Marks) (slot : ℕ) (now : Marks) → TryTells b shape marks slot now → now.names ≡ marks.names
@@ -145,9 +146,12 @@ module _ (shape : Shape) (id own : ℕ) (view : View) (desk : Desk) (call : Writ
   abbrev Result : Type 0
   Result = (next : View) × Kept shape (record { words = state.words; homes = state.homes; views = set state.views id next }) × Scanned desk own found view next
 
+  abbrev loads : List WordLoad
+  loads = view.marks.loads ++ word_load own found ∷ []
+
   -- the core sees a load, and the notes are these
   abbrev noting : List Past → MarkTelling
-  noting polls word after log now news = (now ≡ with_polls view.marks polls) × (news ≡ [])
+  noting polls word after log now news = (now ≡ with_scan view.marks polls loads) × (news ≡ [])
 
   loaded : Stepped shape kept.counted (map role_of state.views) kept.log id view.role (Load 0) (LoadsWord view.role)
   loaded = learns shape id view.role 0 kept.counted (map role_of state.views) kept.log kept.core (at_map role_of state.views id view at)
@@ -169,7 +173,7 @@ module _ (shape : Shape) (id own : ℕ) (view : View) (desk : Desk) (call : Writ
         callers = subst (AreCallers shape) (sym loaded.told.1) tt;
       } in
       let lend : (slot : ℕ) → lends slot next ≡ lends slot view = λ _. refl in
-      let same_marks : marked.now ≡ with_polls view.marks marked.now.polls = marked.told.0 ∙ ap (λ (m : Marks). with_polls view.marks m.polls) (sym marked.told.0) in (
+      let same_marks : marked.now ≡ with_scan view.marks marked.now.polls loads = marked.told.0 ∙ ap (λ (m : Marks). with_scan view.marks m.polls loads) (sym marked.told.0) in (
         next,
         keeps_core shape id view (Load 0) (LoadsWord view.role) (noting polls) state kept at loaded marked next follows state.words
             (subst (Counted shape (lent (set state.views id next)) state.words) (sym (set-get_or kept.counted 0 0))
@@ -187,12 +191,12 @@ module _ (shape : Shape) (id own : ℕ) (view : View) (desk : Desk) (call : Writ
       (λ _ keeps_it. let loud : 0 < found = ltb-true 0 found (first_of (nat_lt 0 found) _ keeps_it) in ⊎_elim
       (λ (t : (other : ℕ) × (viewed : View) × (get_elem? state.views other ≡ some viewed) × (is_by (suc own) viewed.role ≡ true)). let r = reader_role t.1.role own t.3 in
       searched_with (base ++ past (suc own) r.0 t.1.marks ∷ [])
-      (notes_marked role_of marks_of shape id view view.pasts desk call rows is_at is base begins 0 kept.counted state.views kept.log kept.core kept.marked kept.once at loaded.after loaded.entries loaded.told t.0 (suc own) t.1 r.0 t.2 r.1)
+      (notes_marked role_of marks_of shape id view view.pasts desk call rows is_at is base begins loads 0 kept.counted state.views kept.log kept.core kept.marked kept.once at loaded.after loaded.entries loaded.told t.0 (suc own) t.1 r.0 t.2 r.1)
       (subst (λ (b : Bool). NotesKeeper b own found base (base ++ past (suc own) r.0 t.1.marks ∷ [])) (sym keeps_it) (past (suc own) r.0 t.1.marks, refl, refl, keeper_holds shape state kept t.0 own t.1 r.0 t.2 t.3 r.1 (let told = kept.told_of id view at (let one = ap is_writer is in omega arith) in omega arith) loud)))
       (λ (none_there : HasNoReader own state.views). absurd (let silent = kept.announced.unsaid own none_there (let told = kept.told_of id view at (let one = ap is_writer is in omega arith) in omega arith) in omega arith))
       (reader_there state.views own))
       (λ _ lets_it. searched_with base
-      (scans_marked role_of marks_of shape id view view.pasts desk call rows is_at is base begins 0 kept.counted state.views kept.log kept.core kept.marked kept.once at (knows_pasts shape id view state kept at) loaded.after loaded.entries loaded.told)
+      (scans_marked role_of marks_of shape id view view.pasts desk call rows is_at is base begins loads 0 kept.counted state.views kept.log kept.core kept.marked kept.once at (knows_pasts shape id view state kept at) loaded.after loaded.entries loaded.told)
       (subst (λ (b : Bool). NotesKeeper b own found base base) (sym lets_it) refl)) refl
     where
       first_of : (a b : Bool) → (a && b) ≡ true → a ≡ true

@@ -1,5 +1,5 @@
 -- The search for a slot: each retired one is polled in order, until one is not held.
-use Rattle.std.proofs.Common.{◌≡◌, ℕ, ◌+◌, ◌-◌, ◌<◌, ◌≤◌, List, [], ◌∷◌, ◌++◌, length-append, Bool, true, false, cond, length, nat_eq, refl, sym, ap, ◌∙◌, subst, arith, append-nil, append_assoc, ⊎_elim}
+use Rattle.std.proofs.Common.{◌≡◌, ℕ, ◌+◌, ◌-◌, ◌<◌, ◌≤◌, List, [], ◌∷◌, ◌++◌, length-append, Bool, true, false, cond, length, nat_eq, refl, sym, ap, ◌∙◌, subst, arith, append-nil, append_assoc, ⊎_elim, inl}
 use Rattle.std.proofs.lemmas.Bool.{eq-eqb, lt-ltb, le-ltb, ne_eqb}
 use Rattle.std.specs.Prelude.{Some, nat_lt}
 use mathlib.Core.Option.{some, some-ne-none}
@@ -18,9 +18,10 @@ use Rattle.nr_machine.specs.declared.calls.Step.{Step}
 use Rattle.nr_machine.specs.declared.calls.Step.TheVariants.{Ended, Going}
 use Rattle.nr_machine.specs.declared.calls.WReply.TheVariants as writer
 use Rattle.nr_machine.specs.declared.calls.WriterCall.{WriterCall}
-use Rattle.nr_machine.specs.declared.places.Place.TheVariants.{Idle, Searching}
+use Rattle.nr_machine.specs.declared.places.Place.TheVariants.{Idle, Putting, Searching}
 use Rattle.nr_machine.specs.declared.roles.Desk.{Desk}
 use Rattle.nr_machine.specs.declared.shape.Shape.{Shape}
+use Rattle.nr_board.proofs.WordLoads.{no_loads}
 use Rattle.nr_board.proofs.Tokens.{grows_both}
 use Rattle.nr_board.specs.Callers.{Caller, Grows, Table, token, IsSound}
 use Rattle.nr_board.specs.Entries.{acts_told, to_depart}
@@ -33,7 +34,7 @@ use Rattle.nr_marks.specs.MarkSteps.{PollTells}
 use Rattle.nr_marks.proofs.ListPlaces.{at_last, inside}
 use Rattle.nr_marks.specs.Marks.{Marks, Past, with_polls}
 use Rattle.nr_marks.specs.PollNotes.{Missed, Noted}
-use Rattle.nr_board.specs.WriterSeats.{GoesOn, GoesTo, LacksSlot, LeadsIn, MapSeat, Settles, WritesAt, swept}
+use Rattle.nr_board.specs.WriterSeats.{GoesOn, GoesTo, LacksSlot, LeadsIn, MapSeat, Settles, swept, TakesSlot, WritesAt}
 
 -- no step, where what is known is legal
 pub grows_none : (caller : Caller) → IsSound caller → Grows 0 caller [] caller
@@ -185,17 +186,37 @@ module _ (table : Table) (call : WriterCall) (rows : List Row) (spare : Spare) (
 
 -- every retired slot was found held
 pub lacks_slot : (table : Table) (call : WriterCall) (rows : List Row) (spare : Spare) (before after : MapSeat) (polls : ℕ)
-    → Searched table call rows spare before after polls → SearchedAll table before.me.0.heard after.me.0.heard spare.retired polls → polls ≡ length spare.retired → LacksSlot table call (none_spare spare) spare spare before
+    → Searched table call rows spare before after polls → SearchedAll table before.me.0.heard after.me.0.heard [] spare.retired polls → polls ≡ length spare.retired → LacksSlot table call (none_spare spare) spare spare before
     after
 lacks_slot table call rows spare before after polls so_far searched all =
     let desk = desk_with spare Idle in let is = swept_all table.shape desk call rows polls (omega arith) in let leads = so_far.leads in record {
       same = refl;
       writes = subst (λ (o : Desk × Step). WritesAt table o.0 after) is leads.writes;
       steps = polls;
+      loads = [];
       searched = searched;
       grows = subst (λ (es : List Entry). Grows polls (token before) es (token after)) (swept_quiet table.shape desk call rows (call_of call) polls) leads.grows;
       lacks = leads.short (none_spare spare) (ap (λ (o : Desk × Step). o.1) is ∙ ap (λ (n : ℕ). Ended (writer.NoSlot (record { live = n - length spare.retired; held = length spare.retired }))) (sym so_far.slots));
       noted = λ _. so_far.noted;
       held = λ _. so_far.held;
-      marks = so_far.marks;
+      marks = so_far.marks ∙ no_loads before.me.0.marks after.me.0.marks.polls;
+    }
+
+-- a slot is taken that was never taken, without a step
+pub takes_fresh : (table : Table) (call : WriterCall) (rows : List Row) (spare after : Spare) (seat : MapSeat) (slot : ℕ) → Settles table call rows spare seat
+    → spare.fresh < spare.slots → slot ≡ spare.fresh → after ≡ record spare { fresh = spare.fresh + 1 } → TakesSlot table call rows slot table.shape.first_count spare after seat seat
+takes_fresh table call rows spare after seat slot settles low slot_is after_is = let shape = table.shape in let desk = desk_with spare Idle in let size = settles.slots in
+    let outcome : settled shape desk call rows ≡ (taking_fresh shape desk call rows, Going) = ap (λ (b : Bool). cond {A = Desk × Step} b (taking_fresh shape desk call rows, Going)
+    (cond {A = Desk × Step} (nat_eq (length desk.retired) 0) (moved_to desk Idle, no_slot shape desk) (moved_to desk (Searching call rows 0), Going))) (lt-ltb spare.fresh shape.slots (omega arith)) in record {
+      steps = 0;
+      loads = [];
+      took = inl (low, slot_is, refl, ap (λ (s : Spare). s.fresh) after_is, ap (λ (s : Spare). s.retired) after_is, refl, refl);
+      few = (omega arith, λ _. omega arith);
+      slots = ap (λ (s : Spare). s.slots) after_is;
+      numbers = ap (λ (s : Spare). s.numbers) after_is;
+      reaped = ap (λ (s : Spare). s.reaped) after_is;
+      writes = subst (λ (p : ℕ × Spare). WritesAt table (desk_with p.1 (Putting call rows p.0 shape.first_count 0)) seat) (λ j. (sym slot_is j, sym after_is j))
+          (subst (λ (o : Desk × Step). WritesAt table o.0 seat) outcome settles.writes);
+      grows = grows_none (token seat) settles.knows;
+      marks = no_loads seat.me.0.marks seat.me.0.marks.polls;
     }

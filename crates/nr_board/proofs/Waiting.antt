@@ -1,5 +1,5 @@
 -- A call that reads what its taken slot had stands as if it had made these steps before it looked for the slot: they tell it nothing.
-use Rattle.std.proofs.Common.{◌≡◌, ℕ, ◌+◌, ◌∙◌, List, refl, sym, ap, subst, arith, []}
+use Rattle.std.proofs.Common.{◌≡◌, ℕ, ◌+◌, ◌++◌, ◌∙◌, List, refl, sym, ap, subst, arith, []}
 use Rattle.nr_model.specs.Histories.{Entry}
 use Rattle.nr_model.specs.declared.calls.Call.{Call}
 use Rattle.nr_model.specs.declared.rows.Row.{Row}
@@ -8,7 +8,7 @@ use Rattle.nr_machine.specs.Spares.{Spare}
 use Rattle.nr_machine.specs.declared.calls.NoSlot.{NoSlot}
 use Rattle.nr_machine.specs.declared.calls.WriterCall.{WriterCall}
 use Rattle.nr_machine.specs.declared.roles.Desk.{Desk}
-use Rattle.nr_marks.specs.Marks.{with_polls, set_in}
+use Rattle.nr_marks.specs.Marks.{with_scan, set_in}
 use Rattle.nr_board.specs.Begins.{HasSet}
 use Rattle.nr_board.specs.Callers.{Caller, Grows, Table, caller_of, map_seen, token}
 use Rattle.nr_board.specs.Meetings.{with_steps}
@@ -84,14 +84,15 @@ pub takes_later : (table : Table) (call : WriterCall) (rows : List Row) (slot de
     → TakesSlot table call rows slot departed spare after (later steps old) new
 takes_later table call rows slot departed spare after old mid new steps takes same waits = record {
   steps = takes.steps;
-  took = subst (λ (heard : List ℕ). TookBySearch table old.me.0.heard heard slot takes.steps spare after) (ap (λ (v : View). v.heard) (sym waits)) takes.took;
+  loads = takes.loads;
+  took = subst (λ (heard : List ℕ). TookBySearch table old.me.0.heard heard takes.loads slot takes.steps spare after) (ap (λ (v : View). v.heard) (sym waits)) takes.took;
   few = takes.few;
   slots = takes.slots;
   numbers = takes.numbers;
   reaped = takes.reaped;
   writes = writes_later table _ mid new steps same waits takes.writes;
   grows = subst (λ (caller : Caller). Grows takes.steps (token (later steps old)) [] caller) (sym (waited_token mid new steps same waits)) (grows_later steps takes.steps (token old) (token mid) [] takes.grows);
-  marks = ap (λ (v : View). v.marks) waits ∙ takes.marks ∙ ap (λ (v : View). with_polls old.me.0.marks v.marks.polls) (sym waits);
+  marks = ap (λ (v : View). v.marks) waits ∙ takes.marks ∙ ap (λ (v : View). with_scan old.me.0.marks v.marks.polls (old.me.0.marks.loads ++ takes.loads)) (sym waits);
 }
 
 -- what the call gives out, as contracts see it

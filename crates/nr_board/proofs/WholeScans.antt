@@ -12,8 +12,9 @@ use Rattle.nr_core.specs.Roles.{retirements}
 use Rattle.nr_machine.specs.Sums.{only, total}
 use Rattle.nr_machine.specs.declared.places.Retired.{Retired}
 use Rattle.nr_machine.specs.declared.roles.Desk.{Desk}
-use Rattle.nr_marks.specs.Marks.{Marks, Past, with_polls}
+use Rattle.nr_marks.specs.Marks.{Marks, Past, with_loads, with_scan}
 use Rattle.nr_board.proofs.SearchSeats.{inside_list}
+use Rattle.nr_board.proofs.WordLoads.{words_begin, words_many, words_more, words_told}
 use Rattle.nr_board.specs.Flags.{Flagged, OthersFlagged}
 use Rattle.nr_board.specs.Scans.{heard_before, heard_from, heard_now}
 use Rattle.nr_board.specs.SearchPlays.{NotesKeeper, Scanned, keeps_unheard, scan_base}
@@ -23,10 +24,11 @@ use Rattle.nr_machine.specs.declared.places.Place.TheVariants.{Idle}
 use Rattle.nr_board.specs.SearchSeats.{HearsWord, ScansAt, SearchesIn, SearchesOn}
 use Rattle.nr_board.specs.Spares.{desk_with}
 use Rattle.nr_board.specs.Views.{View}
+use Rattle.nr_board.specs.WordLoads.{WordsSoFar, word_load}
 use Rattle.nr_board.specs.WriterSeats.{MapSeat, RestsAt}
 use Rattle.nr_machine.specs.Spares.{Spare}
 use Rattle.nr_machine.specs.declared.shape.Shape.{Shape}
-use Rattle.nr_board.specs.WholeScans.{HeardTo, KeepBack, KeepsOne, NoneFlagged, ScannedTo, announced, is_unheard, misses}
+use Rattle.nr_board.specs.WholeScans.{HeardTo, KeepBack, KeepsOne, NoneFlagged, RestsHearing, ScannedTo, announced, is_unheard, misses, scanned_to}
 
 -- what a load of a reader's word makes of one slot of the map
 -- what it makes of no slot of the map
@@ -290,9 +292,11 @@ module _ (desk : Desk) (before now next : View) (flags : List Bool) (own found :
 
   pub scanned_more : ScannedTo desk.retired before next said_now (suc own)
   scanned_more = record {
-    rest = told.same ∙ (λ j. record now { steps = now.steps + 1; marks = with_polls now.marks next.marks.polls; heard = sym (ap (λ (v : View). v.heard) told.same) j })
-        ∙ (λ j. record (so_far.rest j) { steps = (so_far.rest j).steps + 1; marks = with_polls (so_far.rest j).marks next.marks.polls; heard = next.heard })
-        ∙ (λ j. record before { steps = more_steps j; marks = with_polls before.marks next.marks.polls; heard = next.heard });
+    rest = told.same ∙ (λ j. record now { steps = now.steps + 1; marks = same_marks j; heard = sym (ap (λ (v : View). v.heard) told.same) j })
+        ∙ (λ j. record (so_far.rest j) { steps = (so_far.rest j).steps + 1; marks = with_scan (so_far.rest j).marks next.marks.polls next.marks.loads; heard = next.heard })
+        ∙ (λ j. record before { steps = more_steps j; marks = with_scan before.marks next.marks.polls next.marks.loads; heard = next.heard });
+    words = words_more desk own found before.shape.slots before.marks.loads now.marks.loads next.marks.loads now.heard next.heard so_far.words (ap (λ (v : View). v.marks.loads) told.same)
+        (heard_told ∙ ap (λ (v : View). heard_from desk own found now.heard 0 v.shape.slots) so_far.rest);
     first = λ e. absurd (omega arith);
     heard = λ _. heard_so desk now next flags own found once inside wide so_far.first so_far.heard heard_told;
     keep = keep_so;
@@ -300,6 +304,9 @@ module _ (desk : Desk) (before now next : View) (flags : List Bool) (own found :
     where
       more_steps : before.steps + own + 1 ≡ before.steps + suc own
       more_steps = omega arith
+
+      same_marks : with_scan now.marks next.marks.polls (now.marks.loads ++ word_load own found ∷ []) ≡ with_scan now.marks next.marks.polls next.marks.loads
+      same_marks = ap (λ (v : View). with_scan now.marks next.marks.polls v.marks.loads) (sym told.same)
 
 announced_wide : (found : ℕ) (flags : List Bool) → length (announced found flags) ≡ length flags
 announced_wide found flags = by_cases (λ (b : Bool). length (cond {A = List Bool} b flags (set flags (found - 1) true)) ≡ length flags) (nat_eq found 0) (λ _. refl) (λ _. length-set flags (found - 1) true)
@@ -365,6 +372,7 @@ scan_begins table spare seat flags search none wide others = let view = seat.me.
   search = search;
   scanned = record {
     rest = λ j. record view { steps = more j };
+    words = words_begin spare.retired view.shape.slots view.marks.loads view.heard;
     first = λ _. none;
     heard = λ later. absurd (omega arith);
     keep = record {
@@ -434,7 +442,8 @@ scan_flagged table spare before now flags some_words goes = all_flagged table sp
 -- the scan so far of a writer that rests
 pub record RestingScan (table : Table) (spare : Spare) (before now : MapSeat) (flags : List Bool) (own : ℕ) : Type 0 where
   pub own_table : now.table_id ≡ before.table_id
-  pub rest : now.me.0 ≡ record before.me.0 { steps = before.me.0.steps + own; heard = now.me.0.heard }
+  pub rest : now.me.0 ≡ record before.me.0 { steps = before.me.0.steps + own; marks = with_loads before.me.0.marks now.me.0.marks.loads; heard = now.me.0.heard }
+  pub words : WordsSoFar own spare.retired before.me.0.shape.slots before.me.0.marks.loads now.me.0.marks.loads now.me.0.heard
   pub first : own ≡ 0 → NoneFlagged spare.retired flags
   pub heard : 0 < own → HeardTo spare.retired flags own now.me.0.heard
   pub wide : length flags ≡ table.shape.slots
@@ -445,6 +454,7 @@ pub resting_scan_begins : (table : Table) (spare : Spare) (seat : MapSeat) (flag
 resting_scan_begins table spare seat flags none wide others = let view = seat.me.0 in let more : view.steps ≡ view.steps + 0 = omega arith in record {
   own_table = refl;
   rest = λ j. record view { steps = more j };
+  words = words_begin spare.retired view.shape.slots view.marks.loads view.heard;
   first = λ _. none;
   heard = λ later. absurd (omega arith);
   wide = wide;
@@ -467,11 +477,15 @@ module _ (table : Table) (spare : Spare) (before now : MapSeat) (flags : List Bo
       let size : now.me.0.shape ≡ table.shape = ap (λ (v : View). v.shape) so_far.rest ∙ ap (λ (t : Table). t.shape) rests.writes.own in
       let once = retired_once table.shape desk rests.writes.room in
       let near : (slot : ℕ) → 0 < retirements slot desk.retired → slot < now.me.0.shape.slots = λ slot waits. let near = retired_inside table.shape desk rests.writes.room slot waits in let slots = ap (λ (s : Shape). s.slots) size in omega arith in
-      let wide = so_far.wide ∙ ap (λ (s : Shape). s.slots) (sym size) in let heard = ap (λ (v : View). v.heard) told in let one_more : suc own ≡ own + 1 = omega arith in
+      let wide = so_far.wide ∙ ap (λ (s : Shape). s.slots) (sym size) in let heard = ap (λ (v : View). v.heard) told in let loads = ap (λ (v : View). v.marks.loads) told in let one_more : suc own ≡ own + 1 = omega arith in
       let steps : before.me.0.steps + own + 1 ≡ before.me.0.steps + (own + 1) = omega arith in record {
         own_table = same ∙ so_far.own_table;
-        rest = told ∙ (λ j. record now.me.0 { steps = now.me.0.steps + 1; heard = sym heard j }) ∙ (λ j. record (so_far.rest j) { steps = (so_far.rest j).steps + 1; heard = next.me.0.heard })
-            ∙ (λ j. record before.me.0 { steps = steps j; heard = next.me.0.heard });
+        rest = told ∙ (λ j. record now.me.0 { steps = now.me.0.steps + 1; marks = with_loads now.me.0.marks (sym loads j); heard = sym heard j })
+            ∙ (λ j. record (so_far.rest j) { steps = (so_far.rest j).steps + 1; marks = with_loads (so_far.rest j).marks next.me.0.marks.loads; heard = next.me.0.heard })
+            ∙ (λ j. record before.me.0 { steps = steps j; marks = with_loads before.me.0.marks next.me.0.marks.loads; heard = next.me.0.heard });
+        words = subst (λ (n : ℕ). WordsSoFar n spare.retired before.me.0.shape.slots before.me.0.marks.loads next.me.0.marks.loads next.me.0.heard) one_more
+            (words_more desk own found before.me.0.shape.slots before.me.0.marks.loads now.me.0.marks.loads next.me.0.marks.loads now.me.0.heard next.me.0.heard so_far.words loads
+            (heard ∙ ap (λ (v : View). heard_from desk own found now.me.0.heard 0 v.shape.slots) so_far.rest));
         first = λ none. absurd (omega arith);
         heard = λ _. subst (λ (n : ℕ). HeardTo spare.retired (announced found flags) n next.me.0.heard) one_more (heard_so desk now.me.0 next.me.0 flags own found once near wide so_far.first so_far.heard heard);
         wide = announced_wide found flags ∙ so_far.wide;
@@ -481,3 +495,10 @@ module _ (table : Table) (spare : Spare) (before now : MapSeat) (flags : List Bo
 
 pub resting_scan_flagged : (table : Table) (spare : Spare) (before now : MapSeat) (flags : List Bool) → 0 < table.announcers → RestingScan table spare before now flags table.announcers → Flagged table spare.retired now.me.0.heard flags
 resting_scan_flagged table spare before now flags some_words goes = all_flagged table spare.retired now.me.0.heard flags some_words goes.wide (goes.heard some_words) goes.others (goes.quiet some_words)
+
+-- and the words that were loaded are what it heard by
+pub resting_scan_hears : (table : Table) (spare : Spare) (before now : MapSeat) (flags : List Bool) → 0 < table.announcers → RestingScan table spare before now flags table.announcers → RestsHearing table.announcers spare.retired before.me.0 now.me.0
+resting_scan_hears table spare before now flags some_words goes =
+    let told = words_told table.announcers spare.retired before.me.0.shape.slots before.me.0.marks.loads now.me.0.marks.loads now.me.0.heard some_words goes.words in
+    let many : before.me.0.steps + table.announcers ≡ before.me.0.steps + length told.0 = ap (λ (n : ℕ). before.me.0.steps + n) (sym (words_many told.1)) in
+    (told.0, told.1, goes.rest ∙ (λ j. record before.me.0 { steps = many j; marks = with_loads before.me.0.marks (told.2 j); heard = now.me.0.heard }))

@@ -25,7 +25,7 @@ use Rattle.nr_board.specs.WriterSeats.{LacksSlot, MapSeat, Settles, TakesSlot, W
 module _ (table : Table) (call : WriterCall) (rows : List Row) (spare : Spare) (before : MapSeat) (settles : Settles table call rows spare before) (full : spare.slots ≤ spare.fresh) (some_words : 0 < table.announcers) where
   -- where no slot is retired the look was the call's last step
   pub lacks_none : spare.retired ≡ [] → LacksSlot table call (none_spare spare) spare spare before before
-  lacks_none none = lacks_slot table call rows spare before before 0 (searched_none table call rows spare before settles full) (inr (inl (some_words, none, refl, refl))) (sym (ap length none))
+  lacks_none none = lacks_slot table call rows spare before before 0 (searched_none table call rows spare before settles full) (inr (inl (some_words, none, refl, refl, refl))) (sym (ap length none))
 
   module _ (waits : 0 < length spare.retired) where
     abbrev desk : Desk
@@ -41,6 +41,7 @@ module _ (table : Table) (call : WriterCall) (rows : List Row) (spare : Spare) (
     takes_words after now taken takes = let is = takes.after_is in
         let slot_is : (retired_at desk takes.place).slot ≡ taken.slot = ap (λ (e : Retired). e.slot) (sym (there_is spare.retired takes.place takes.entry takes.here)) ∙ sym takes.slot in record {
           steps = takes.steps;
+          loads = takes.loads;
           took = inr (full, takes.place, takes.entry, takes.here, sym takes.slot, inr (some_words, takes.takes), ap (λ (s : Spare). s.fresh) is, ap (λ (s : Spare). s.retired) is);
           few = (takes.few, λ none. absurd (omega arith));
           slots = ap (λ (s : Spare). s.slots) is;
@@ -61,7 +62,8 @@ module _ (table : Table) (call : WriterCall) (rows : List Row) (spare : Spare) (
           same = lacks.same;
           writes = writes;
           steps = _;
-          searched = inr (inr (some_words, refl));
+          loads = lacks.loads;
+          searched = inr (inr (some_words, lacks.words, refl));
           grows = lacks.grows;
           lacks = record {
             would_be_done = done;

@@ -30,7 +30,7 @@ use Rattle.nr_board.specs.Callers.{Gains, Grows, Table, map_at_opening, token}
 use Rattle.nr_machine.specs.Spares.{Spare}
 use Rattle.nr_machine.specs.declared.places.Retired.{Retired}
 use Rattle.nr_board.specs.Spares.{AreFewSteps, SearchedAll, TookBySearch, desk_with, spare_of}
-use Rattle.nr_marks.specs.Marks.{Marks, Past, with_name, with_polls, without_name}
+use Rattle.nr_marks.specs.Marks.{Marks, Past, with_loads, with_name, with_polls, with_scan, without_name}
 use Rattle.nr_marks.specs.PollNotes.{Noted}
 use Rattle.nr_board.proofs.Looks.{HasLooked, rests_own}
 use Rattle.nr_board.proofs.ReadingOn.{settled_quiet}
@@ -98,7 +98,8 @@ module _ (table : Table) (spare : Spare) (before : MapSeat) (rests : RestsAt tab
             inside = subst (λ (t : Table). published.slot < t.shape.slots) (sym rests.writes.own) published.inside;
             mid = published.mid;
             scanned = published.scanned;
-            took = subst (λ (p : Table × List ℕ × Spare). TookBySearch p.0 p.1 published.scanned published.slot published.steps p.2 published.mid)
+            loads = published.loads;
+            took = subst (λ (p : Table × List ℕ × Spare). TookBySearch p.0 p.1 published.scanned published.loads published.slot published.steps p.2 published.mid)
                 (λ j. (sym rests.writes.own j, same_heard j, sym (spare_shown table spare before rests) j)) published.took;
             heard = published.heard;
             few = subst (λ (t : Table). AreFewSteps t published.steps) (sym rests.writes.own) published.few;
@@ -109,7 +110,7 @@ module _ (table : Table) (spare : Spare) (before : MapSeat) (rests : RestsAt tab
             number = published.number;
             count = published.count;
             put = published.put;
-            marks = published.marks ∙ (λ j. with_name (with_polls (only_polls j) after.me.0.marks.polls) (sym (key_same call) j) published.slot published.number rows);
+            marks = published.marks ∙ (λ j. with_name (with_loads (only_polls j) ((only_polls j).loads ++ published.loads)) (sym (key_same call) j) published.slot published.number rows);
             gains = subst (λ (n : ℕ). Grows (steps + 2 * length rows + 2 + published.steps) (token before) (entry n (call_of call) reply.Done ∷ []) (token after)) (sym writer_number) all;
           },
           refl,
@@ -131,7 +132,8 @@ module _ (table : Table) (spare : Spare) (before : MapSeat) (rests : RestsAt tab
           subst (λ (s : Spare). RestsAt table s after) (sym lacking.same) rests_spare,
           record {
             searched = lacking.steps;
-            all = subst (λ (p : Table × List ℕ × List Retired). SearchedAll p.0 p.1 after.me.0.heard p.2 lacking.steps)
+            loads = lacking.loads;
+            all = subst (λ (p : Table × List ℕ × List Retired). SearchedAll p.0 p.1 after.me.0.heard lacking.loads p.2 lacking.steps)
                 (λ j. (sym rests.writes.own j, same_heard j, sym retired_is j)) lacking.searched;
             grows = all;
             readers = none_between (steps + lacking.steps) (token before) [] (token after) rests.own refl all;
@@ -139,7 +141,7 @@ module _ (table : Table) (spare : Spare) (before : MapSeat) (rests : RestsAt tab
             noted = λ counted. subst (λ (p : Table × List Past). Noted p.0.shape p.1 after.me.0.marks.polls) (λ j. (sym rests.writes.own j, grows.pasts j)) (lacking.noted (counts_so counted));
             held = λ counted at note there. held_since (lacking.held (counts_so counted) at note there);
             slots = same_slots after rests_spare;
-            marks = lacking.marks ∙ ap (λ (m : Marks). with_polls m after.me.0.marks.polls) only_polls;
+            marks = lacking.marks ∙ ap (λ (m : Marks). with_scan m after.me.0.marks.polls (m.loads ++ lacking.loads)) only_polls;
           },
         )
       where

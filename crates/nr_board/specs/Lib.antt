@@ -12,6 +12,7 @@ pub mod Seats
 pub mod Kinds
 pub mod Meetings
 pub mod Learning
+pub mod WordLoads
 pub mod Spares
 pub mod Polls
 pub mod WriterSeats

@@ -12,7 +12,7 @@ use Rattle.nr_machine.specs.declared.places.Retired.{Retired}
 use Rattle.nr_machine.specs.declared.roles.Desk.{Desk}
 use Rattle.nr_machine.specs.declared.roles.Role.TheVariants.{Writer}
 use Rattle.nr_machine.specs.declared.shape.Shape.{Shape}
-use Rattle.nr_marks.specs.Marks.{Past, set_in, with_polls, with_reaped}
+use Rattle.nr_marks.specs.Marks.{Past, WordLoad, set_in, with_loads, with_polls, with_reaped}
 use Rattle.nr_marks.specs.MarkSteps.{ProbeTells}
 use Rattle.nr_marks.specs.PollNotes.{AllHeld}
 use Rattle.nr_board.specs.declared.answers.Reaped.{Reaped}
@@ -22,6 +22,8 @@ use Rattle.nr_board.specs.declared.reaping.Sweep.TheVariants as sweep
 use Rattle.nr_board.specs.Callers.{Caller, Table, token}
 use Rattle.nr_board.specs.Plays.{Room, Then}
 use Rattle.nr_board.specs.Views.{View}
+use Rattle.nr_board.specs.WholeScans.{scanned_to}
+use Rattle.nr_board.specs.WordLoads.{WordsTell}
 use Rattle.nr_board.specs.WriterSeats.{MapSeat}
 
 -- THE POLL
@@ -98,15 +100,12 @@ pub record SweptTo (spare : Spare) (before now : MapSeat) (place : ℕ) (waits :
   pub some_wait : waits ≡ true → 0 < length (waiting spare.reaped spare.retired)
   pub none_wait : waits ≡ false → (notes ≡ []) × (waiting spare.reaped spare.retired ≡ waiting spare.reaped (drop place spare.retired))
 
--- the view after a scan between two calls
-abbrev pub scanned_to : ℕ → List ℕ → View → View
-scanned_to loads heard view = record view { steps = view.steps + loads; heard = heard }
-
 -- a sweep; or, where readers have words, one that was in vain, a scan, and another sweep
 abbrev pub SweepsHeard : Spare → MapSeat → MapSeat → Sweep → Type 0
 SweepsHeard spare old new found =
     (SweepsFor spare old new found × (found ≡ sweep.Held → old.me.0.announcers ≡ 0))
-    ⊎ ((0 < old.me.0.announcers) × (mid last : MapSeat) × SweepsFor spare old mid sweep.Held × (last.me.0 ≡ scanned_to old.me.0.announcers last.me.0.heard mid.me.0) × SweepsFor spare last new found)
+    ⊎ ((0 < old.me.0.announcers) × (mid last : MapSeat) × SweepsFor spare old mid sweep.Held
+      × (loads : List WordLoad) × WordsTell old.me.0.announcers spare.retired old.me.0.shape.slots loads last.me.0.heard × (last.me.0 ≡ scanned_to loads last.me.0.heard mid.me.0) × SweepsFor spare last new found)
 
 -- THE CALL
 
@@ -121,20 +120,20 @@ abbrev pub ready_to : Caller → List ℕ → List Retired
 ready_to caller heard = ready caller.table.announcers heard caller.marks.reaped caller.retired
 
 -- before its last sweep a reap polls nothing, or, where readers have words, each set that is ready, in vain; then it scans the words
-abbrev pub ScansFirst : Caller → List ℕ → List Past → ℕ → Type 0
-ScansFirst old scanned earlier scan =
-    ((scanned ≡ old.heard) × (earlier ≡ []) × (scan ≡ 0))
-    ⊎ ((0 < old.table.announcers) × HeldEach old.table.shape.readers (ready_to old old.heard) earlier × (scan ≡ old.table.announcers))
+abbrev pub ScansFirst : Caller → List ℕ → List WordLoad → List Past → Type 0
+ScansFirst old scanned loads earlier =
+    ((scanned ≡ old.heard) × (loads ≡ []) × (earlier ≡ []))
+    ⊎ ((0 < old.table.announcers) × HeldEach old.table.shape.readers (ready_to old old.heard) earlier × WordsTell old.table.announcers old.retired old.table.shape.slots loads scanned)
 
-abbrev pub hearing : List ℕ → Caller → Caller
-hearing heard caller = record caller { heard = heard }
+abbrev pub hearing : List ℕ → List WordLoad → Caller → Caller
+hearing heard loads caller = record caller { marks = with_loads caller.marks (caller.marks.loads ++ loads); heard = heard }
 
 -- A reap gives out the oldest set that waits, that no reader's word announced and that nobody holds, by a poll of each up to it and a load of each word. Or each that waits is kept back: it was announced when the words were scanned, or held at its poll, each by another reader. Or none waits. Else the token is as it was.
 abbrev pub ReapsIn : {Room : Type 0} → (Room → List Row → Type 0) → Caller → Room → Caller → Room → Reaped → Type 0
-ReapsIn shows old before new after reaped.Set = (held later : List Retired) × (entry : Retired) × (notes earlier : List Past) × (scanned : List ℕ) × (scan : ℕ) × ScansFirst old scanned earlier scan
+ReapsIn shows old before new after reaped.Set = (held later : List Retired) × (entry : Retired) × (notes earlier : List Past) × (scanned : List ℕ) × (loads : List WordLoad) × ScansFirst old scanned loads earlier
     × (ready_to old scanned ≡ held ++ entry ∷ later) × HeldEach old.table.shape.readers held notes
     × shows after (set_in old.marks entry.slot) × IsRowSet old.table.shape.rows (set_in old.marks entry.slot)
-    × (new ≡ hearing scanned (with_reap entry.slot (after_polls (earlier ++ notes) (scan + (1 + (2 * length (set_in old.marks entry.slot) + 1))) old)))
-ReapsIn shows old before new after reaped.Held = (notes earlier : List Past) × (scanned : List ℕ) × (scan : ℕ) × ScansFirst old scanned earlier scan × (0 < old.table.announcers → scan ≡ old.table.announcers)
-    × (0 < length (waiting old.marks.reaped old.retired)) × HeldEach old.table.shape.readers (ready_to old scanned) notes × (new ≡ hearing scanned (after_polls (earlier ++ notes) scan old)) × (after ≡ before)
+    × (new ≡ hearing scanned loads (with_reap entry.slot (after_polls (earlier ++ notes) (length loads + (1 + (2 * length (set_in old.marks entry.slot) + 1))) old)))
+ReapsIn shows old before new after reaped.Held = (notes earlier : List Past) × (scanned : List ℕ) × (loads : List WordLoad) × ScansFirst old scanned loads earlier × (0 < old.table.announcers → length loads ≡ old.table.announcers)
+    × (0 < length (waiting old.marks.reaped old.retired)) × HeldEach old.table.shape.readers (ready_to old scanned) notes × (new ≡ hearing scanned loads (after_polls (earlier ++ notes) (length loads) old)) × (after ≡ before)
 ReapsIn shows old before new after reaped.Nothing = (waiting old.marks.reaped old.retired ≡ []) × (new ≡ old) × (after ≡ before)

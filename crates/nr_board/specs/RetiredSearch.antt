@@ -1,5 +1,5 @@
 -- A search of the retired slots where readers have words: a pass over those that the last scan heard, and if it takes none a scan and another pass. What a refusal rests on comes after the scan, so each note is of another reader.
-use Rattle.std.specs.Prelude.{◌≡◌, ℕ, ◌+◌, ◌≤◌, List, [], length, remove, Result, Ok, Err}
+use Rattle.std.specs.Prelude.{◌≡◌, ℕ, ◌+◌, ◌≤◌, List, [], ◌++◌, length, remove, Result, Ok, Err}
 use mathlib.Core.Option.{some}
 use lib.ListN.{get_elem?}
 use Rattle.nr_model.specs.declared.rows.Row.{Row}
@@ -15,10 +15,11 @@ use Rattle.nr_machine.specs.declared.places.Place.TheVariants.{Idle, Searching}
 use Rattle.nr_machine.specs.declared.places.Retired.{Retired}
 use Rattle.nr_machine.specs.declared.roles.Desk.{Desk}
 use Rattle.nr_machine.specs.declared.roles.Role.TheVariants.{Writer}
-use Rattle.nr_marks.specs.Marks.{Past, with_polls}
+use Rattle.nr_marks.specs.Marks.{Past, WordLoad, with_scan}
 use Rattle.nr_board.specs.declared.publish.Taken.{Taken}
 use Rattle.nr_board.specs.Callers.{Grows, Table, map_seen, token}
 use Rattle.nr_board.specs.Spares.{PollsOrScans, polls_heard}
+use Rattle.nr_board.specs.WordLoads.{WordsTell}
 use Rattle.nr_board.specs.WriterSeats.{MapSeat, WritesAt}
 
 pub record SearchTakes (table : Table) (spare after : Spare) (before now : MapSeat) (taken : Taken) : Type 0 where
@@ -29,11 +30,12 @@ pub record SearchTakes (table : Table) (spare after : Spare) (before now : MapSe
   pub after_is : after ≡ record spare { retired = remove spare.retired place }
   pub writes : (desk : Desk) (call : WriterCall) (rows : List Row) → before.me.0.role ≡ Writer desk → desk.place ≡ Searching call rows 0 → WritesAt table (taking_retired desk call rows place taken.departures) now
   pub steps : ℕ
-  pub takes : PollsOrScans table.announcers before.me.0.heard now.me.0.heard spare.retired place steps
+  pub loads : List WordLoad
+  pub takes : PollsOrScans table before.me.0.heard now.me.0.heard loads spare.retired place steps
   pub grows : Grows steps (token before) [] (token now)
   -- no pass polled more slots that were held than there are readers
   pub few : steps ≤ table.shape.readers + table.announcers + (table.shape.readers + 1)
-  pub marks : now.me.0.marks ≡ with_polls before.me.0.marks now.me.0.marks.polls
+  pub marks : now.me.0.marks ≡ with_scan before.me.0.marks now.me.0.marks.polls (before.me.0.marks.loads ++ loads)
 
 -- there is no slot: each is a filled key's, or is retired and kept back by a reader, each by another one
 pub record SearchLacks (table : Table) (spare after : Spare) (before now : MapSeat) (counts : NoSlot) : Type 0 where
@@ -46,7 +48,9 @@ pub record SearchLacks (table : Table) (spare after : Spare) (before now : MapSe
   pub many : length now.me.0.marks.polls ≡ length spare.retired
   pub apart : (reader : ℕ) → total (λ (note : Past). only reader note.reader) now.me.0.marks.polls ≤ 1
   pub few : length spare.retired ≤ table.shape.readers
-  pub marks : now.me.0.marks ≡ with_polls before.me.0.marks now.me.0.marks.polls
+  pub loads : List WordLoad
+  pub words : WordsTell table.announcers spare.retired table.shape.slots loads now.me.0.heard
+  pub marks : now.me.0.marks ≡ with_scan before.me.0.marks now.me.0.marks.polls (before.me.0.marks.loads ++ loads)
 
 abbrev pub SearchesFor : Table → Spare → Spare → MapSeat → MapSeat → Result Taken NoSlot → Type 0
 SearchesFor table spare after before now (Ok taken) = SearchTakes table spare after before now taken

@@ -1,11 +1,13 @@
 -- A scan: the writer loads the readers' words in their order, and hears which retired slots they don't say.
-use Rattle.std.specs.Prelude.{◌≡◌, ℕ, zero, suc, ◌+◌, ◌<◌, ◌==◌, ◌&&◌, if◌then◌else◌, nat_lt, not, slice_index, List, [], ◌∷◌}
+use Rattle.std.specs.Prelude.{◌≡◌, ℕ, zero, suc, ◌+◌, ◌<◌, ◌==◌, ◌&&◌, if◌then◌else◌, nat_lt, not, slice_index, List, [], ◌∷◌, ◌++◌}
 use Rattle.nr_core.specs.Roles.{retirements}
 use Rattle.nr_machine.specs.declared.roles.Desk.{Desk}
 use Rattle.nr_machine.specs.declared.roles.Role.TheVariants.{Writer}
+use Rattle.nr_marks.specs.Marks.{with_loads}
 use Rattle.nr_board.specs.Announcing.{says_at}
 use Rattle.nr_board.specs.Plays.{Then}
 use Rattle.nr_board.specs.Views.{View}
+use Rattle.nr_board.specs.WordLoads.{word_load}
 
 -- of how many readers a slot was heard before that one, by a scan, which hears all slots anew
 abbrev pub heard_before : ℕ → ℕ → ℕ
@@ -23,7 +25,7 @@ heard_from desk own found heard slot (suc more) = heard_now desk own found slot 
 
 -- a load of a reader's word
 abbrev pub ScansTo : Desk → ℕ → ℕ → View → View → Type 0
-ScansTo desk own found old new = new ≡ record old { steps = old.steps + 1; heard = heard_from desk own found old.heard 0 old.shape.slots }
+ScansTo desk own found old new = new ≡ record old { steps = old.steps + 1; marks = with_loads old.marks (old.marks.loads ++ word_load own found ∷ []); heard = heard_from desk own found old.heard 0 old.shape.slots }
 
 abbrev pub has_scanned : Then
 has_scanned step before found after =

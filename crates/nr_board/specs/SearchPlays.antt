@@ -15,11 +15,12 @@ use Rattle.nr_machine.specs.declared.roles.Role.TheVariants.{Writer}
 use Rattle.nr_machine.specs.Slots.{departures}
 use Rattle.nr_machine.specs.declared.roles.Desk.{Desk}
 use Rattle.nr_marks.specs.MarkSteps.{TryTells}
-use Rattle.nr_marks.specs.Marks.{Past, with_polls}
+use Rattle.nr_marks.specs.Marks.{Past, with_scan}
 use Rattle.nr_board.specs.Plays.{Leads, NotesTell, Room, Then}
 use Rattle.nr_board.specs.Announcing.{says_at}
 use Rattle.nr_board.specs.Scans.{heard_before, heard_from}
 use Rattle.nr_board.specs.Views.{View}
+use Rattle.nr_board.specs.WordLoads.{word_load}
 
 -- the desk after a poll of the retired slot at a place of the list
 abbrev pub tried : Desk → WriterCall → List Row → ℕ → ℕ → Desk
@@ -52,7 +53,7 @@ scan_base own polls = (if own == 0 then [] else polls)
 
 -- a load of a reader's word by a search
 pub record Scanned (desk : Desk) (own found : ℕ) (old new : View) : Type 0 where
-  pub same : new ≡ record old { steps = old.steps + 1; marks = with_polls old.marks new.marks.polls; heard = heard_from desk own found old.heard 0 old.shape.slots }
+  pub same : new ≡ record old { steps = old.steps + 1; marks = with_scan old.marks new.marks.polls (old.marks.loads ++ word_load own found ∷ []); heard = heard_from desk own found old.heard 0 old.shape.slots }
   pub keeper : NotesKeeper (keeps_unheard desk own found old.heard) own found (scan_base own old.marks.polls) new.marks.polls
 
 -- a search is given up: its call would be done, and each slot is a filled key's or retired

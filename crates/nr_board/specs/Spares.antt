@@ -7,7 +7,9 @@ use Rattle.nr_machine.specs.declared.places.Retired.{Retired}
 use Rattle.nr_machine.specs.declared.roles.Desk.{Desk}
 use Rattle.nr_machine.specs.Spares.{Spare}
 use Rattle.nr_machine.specs.Sums.{total}
+use Rattle.nr_marks.specs.Marks.{WordLoad}
 use Rattle.nr_board.specs.Callers.{Caller, Table}
+use Rattle.nr_board.specs.WordLoads.{WordsTell}
 
 -- the writer's desk with them
 abbrev pub desk_with : Spare → Place → Desk
@@ -25,30 +27,30 @@ abbrev pub polls_heard : ℕ → List ℕ → List Retired → ℕ → ℕ
 polls_heard announcers heard retired place = total (heard_hits announcers heard) (take place retired)
 
 -- the steps of a search up to that place: by what was heard before, or after all these polls by a scan
-abbrev pub PollsOrScans : ℕ → List ℕ → List ℕ → List Retired → ℕ → ℕ → Type 0
-PollsOrScans announcers heard scanned retired place steps =
-    ((scanned ≡ heard) × (steps ≡ polls_heard announcers heard retired place + 1))
-    ⊎ (steps ≡ polls_heard announcers heard retired (length retired) + announcers + (polls_heard announcers scanned retired place + 1))
+abbrev pub PollsOrScans : Table → List ℕ → List ℕ → List WordLoad → List Retired → ℕ → ℕ → Type 0
+PollsOrScans table heard scanned loads retired place steps =
+    ((scanned ≡ heard) × (loads ≡ []) × (steps ≡ polls_heard table.announcers heard retired place + 1))
+    ⊎ (WordsTell table.announcers retired table.shape.slots loads scanned × (steps ≡ polls_heard table.announcers heard retired (length retired) + table.announcers + (polls_heard table.announcers scanned retired place + 1)))
 
 -- where no reader has a word each slot up to it is polled
-abbrev pub SearchedTo : Table → List ℕ → List ℕ → List Retired → ℕ → ℕ → Type 0
-SearchedTo table heard scanned retired place steps =
-    ((table.announcers ≡ 0) × (scanned ≡ heard) × (steps ≡ place + 1))
-    ⊎ ((0 < table.announcers) × PollsOrScans table.announcers heard scanned retired place steps)
+abbrev pub SearchedTo : Table → List ℕ → List ℕ → List WordLoad → List Retired → ℕ → ℕ → Type 0
+SearchedTo table heard scanned loads retired place steps =
+    ((table.announcers ≡ 0) × (scanned ≡ heard) × (loads ≡ []) × (steps ≡ place + 1))
+    ⊎ ((0 < table.announcers) × PollsOrScans table heard scanned loads retired place steps)
 
 -- a slot was taken, by that many steps: the next that was never taken, or else the retired one at which the last poll was made
-abbrev pub TookBySearch : Table → List ℕ → List ℕ → ℕ → ℕ → Spare → Spare → Type 0
-TookBySearch table heard scanned slot steps old new =
-    ((old.fresh < old.slots) × (slot ≡ old.fresh) × (steps ≡ 0) × (new.fresh ≡ old.fresh + 1) × (new.retired ≡ old.retired) × (scanned ≡ heard))
-    ⊎ ((old.slots ≤ old.fresh) × (place : ℕ) × (entry : Retired) × (get_elem? old.retired place ≡ some entry) × (entry.slot ≡ slot) × SearchedTo table heard scanned old.retired place steps × (new.fresh ≡ old.fresh) × (new.retired ≡ remove old.retired place))
+abbrev pub TookBySearch : Table → List ℕ → List ℕ → List WordLoad → ℕ → ℕ → Spare → Spare → Type 0
+TookBySearch table heard scanned loads slot steps old new =
+    ((old.fresh < old.slots) × (slot ≡ old.fresh) × (steps ≡ 0) × (new.fresh ≡ old.fresh + 1) × (new.retired ≡ old.retired) × (scanned ≡ heard) × (loads ≡ []))
+    ⊎ ((old.slots ≤ old.fresh) × (place : ℕ) × (entry : Retired) × (get_elem? old.retired place ≡ some entry) × (entry.slot ≡ slot) × SearchedTo table heard scanned loads old.retired place steps × (new.fresh ≡ old.fresh) × (new.retired ≡ remove old.retired place))
 
 -- no pass polls more slots that are held than there are readers
 abbrev pub AreFewSteps : Table → ℕ → Type 0
 AreFewSteps table steps = (steps ≤ table.shape.readers + table.announcers + (table.shape.readers + 1)) × (table.announcers ≡ 0 → steps ≤ table.shape.readers + 1)
 
 -- a search that found no slot: each was polled, or was not heard of all readers by a scan
-abbrev pub SearchedAll : Table → List ℕ → List ℕ → List Retired → ℕ → Type 0
-SearchedAll table heard scanned retired steps =
-    ((table.announcers ≡ 0) × (scanned ≡ heard) × (steps ≡ length retired))
-    ⊎ ((0 < table.announcers) × (retired ≡ []) × (scanned ≡ heard) × (steps ≡ 0))
-    ⊎ ((0 < table.announcers) × (steps ≡ polls_heard table.announcers heard retired (length retired) + table.announcers + (polls_heard table.announcers scanned retired (length retired) + 1)))
+abbrev pub SearchedAll : Table → List ℕ → List ℕ → List WordLoad → List Retired → ℕ → Type 0
+SearchedAll table heard scanned loads retired steps =
+    ((table.announcers ≡ 0) × (scanned ≡ heard) × (loads ≡ []) × (steps ≡ length retired))
+    ⊎ ((0 < table.announcers) × (retired ≡ []) × (scanned ≡ heard) × (loads ≡ []) × (steps ≡ 0))
+    ⊎ ((0 < table.announcers) × WordsTell table.announcers retired table.shape.slots loads scanned × (steps ≡ polls_heard table.announcers heard retired (length retired) + table.announcers + (polls_heard table.announcers scanned retired (length retired) + 1)))

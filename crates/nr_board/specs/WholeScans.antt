@@ -1,13 +1,14 @@
 -- A whole scan by a search: each reader's word is loaded once, in order, and the writer flags the slots that it doesn't know to be heard.
-use Rattle.std.specs.Prelude.{◌≡◌, ℕ, ◌+◌, ◌-◌, ◌<◌, ◌≤◌, ◌==◌, ◌⊎◌, if◌then◌else◌, Bool, true, false, List, length, slice_index, slice_index_or, slice_set, Some, None}
+use Rattle.std.specs.Prelude.{◌≡◌, ℕ, ◌+◌, ◌-◌, ◌<◌, ◌≤◌, ◌==◌, ◌⊎◌, if◌then◌else◌, Bool, true, false, List, ◌++◌, length, slice_index, slice_index_or, slice_set, Some, None}
 use mathlib.Core.Option.{some}
 use lib.ListN.{get_elem?}
 use Rattle.nr_machine.specs.Sums.{only, total}
 use Rattle.nr_machine.specs.declared.places.Retired.{Retired}
-use Rattle.nr_marks.specs.Marks.{Past, with_polls}
+use Rattle.nr_marks.specs.Marks.{Past, WordLoad, with_loads, with_scan}
 use Rattle.nr_core.specs.Roles.{retirements}
 use Rattle.nr_board.specs.SearchPlays.{scan_base}
 use Rattle.nr_board.specs.Views.{View}
+use Rattle.nr_board.specs.WordLoads.{WordsSoFar, WordsTell}
 
 -- whether the slot's flag is set
 abbrev pub is_unheard : List Bool → ℕ → Bool
@@ -47,11 +48,16 @@ pub record HeardTo (retired : List Retired) (flags : List Bool) (readers : ℕ) 
 
 -- the scan after the words of the first readers
 pub record ScannedTo (retired : List Retired) (before now : View) (flags : List Bool) (own : ℕ) : Type 0 where
-  pub rest : now ≡ record before { steps = before.steps + own; marks = with_polls before.marks now.marks.polls; heard = now.heard }
+  pub rest : now ≡ record before { steps = before.steps + own; marks = with_scan before.marks now.marks.polls now.marks.loads; heard = now.heard }
+  pub words : WordsSoFar own retired before.shape.slots before.marks.loads now.marks.loads now.heard
   pub first : own ≡ 0 → NoneFlagged retired flags
   pub heard : 0 < own → HeardTo retired flags own now.heard
   pub keep : KeepBack retired flags own (scan_base own now.marks.polls)
 
+-- the view after those loads between two calls
+abbrev pub scanned_to : List WordLoad → List ℕ → View → View
+scanned_to loads heard view = record view { steps = view.steps + length loads; marks = with_loads view.marks (view.marks.loads ++ loads); heard = heard }
+
 -- a scan by a writer between two calls tells it nothing but what it hears
-abbrev pub RestsHearing : ℕ → View → View → Type 0
-RestsHearing loads old new = new ≡ record old { steps = old.steps + loads; heard = new.heard }
+abbrev pub RestsHearing : ℕ → List Retired → View → View → Type 0
+RestsHearing readers retired old new = (loads : List WordLoad) × WordsTell readers retired old.shape.slots loads new.heard × (new ≡ scanned_to loads new.heard old)

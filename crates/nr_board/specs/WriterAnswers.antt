@@ -30,7 +30,7 @@ use Rattle.nr_board.specs.Callers.{Caller, Gains, Grows, map_at_opening}
 use Rattle.nr_board.specs.Plays.{Lacks}
 use Rattle.nr_machine.specs.Spares.{Spare}
 use Rattle.nr_board.specs.Spares.{AreFewSteps, SearchedAll, TookBySearch, spare_of}
-use Rattle.nr_marks.specs.Marks.{Marks, with_name, with_polls, without_name}
+use Rattle.nr_marks.specs.Marks.{Marks, WordLoad, with_loads, with_name, with_polls, with_scan, without_name}
 use Rattle.nr_marks.specs.Puts.{put_count}
 use Rattle.nr_marks.specs.PollNotes.{Noted}
 use Rattle.nr_board.specs.Polls.{AllHeldThen}
@@ -76,9 +76,10 @@ pub record Publishes (steps : ℕ) (old : Caller) (call : Call) (rows : List Row
   pub slot : ℕ
   pub inside : slot < old.table.shape.slots
   pub mid : Spare
-  -- what was heard when the search ended; of the slot's new set nothing is
+  -- what was heard when the search ended, of the slot's new set nothing is; and its loads of readers' words
   pub scanned : List ℕ
-  pub took : TookBySearch old.table old.heard scanned slot searched (spare_of old) mid
+  pub loads : List WordLoad
+  pub took : TookBySearch old.table old.heard scanned loads slot searched (spare_of old) mid
   pub heard : new.heard ≡ slice_set scanned slot 0
   pub few : AreFewSteps old.table searched
   pub fresh : new.fresh ≡ mid.fresh
@@ -87,13 +88,14 @@ pub record Publishes (steps : ℕ) (old : Caller) (call : Call) (rows : List Row
   pub number : ℕ
   pub count : put_count new.seen ≡ suc number
   pub put : slice_index new.marks.puts slot ≡ number
-  pub marks : new.marks ≡ with_name (with_polls old.marks new.marks.polls) (call_key call) slot number rows
+  pub marks : new.marks ≡ with_name (with_loads old.marks (old.marks.loads ++ loads)) (call_key call) slot number rows
   pub gains : Gains (steps + 2 * length rows + 2 + searched) old call reply.Done new
 
 -- A call that found no slot, after that many other steps and a search of all retired slots. It is no entry: the writer has learnt readers' entries alone.
 pub record HasNoSlot (steps : ℕ) (old : Caller) (call : Call) (counts : NoSlot) (new : Caller) : Type 0 where
   pub searched : ℕ
-  pub all : SearchedAll old.table old.heard new.heard old.retired searched
+  pub loads : List WordLoad
+  pub all : SearchedAll old.table old.heard new.heard loads old.retired searched
   pub grows : Grows (steps + searched) old [] new
   pub readers : entries_of grows.between old.number ≡ []
   -- it would be done now, and each slot is a filled key's or was kept back by a reader
@@ -102,7 +104,7 @@ pub record HasNoSlot (steps : ℕ) (old : Caller) (call : Call) (counts : NoSlot
   pub held : old.table.announcers ≡ 0 → AllHeldThen old.seen new.seen new.marks.polls
   pub noted : old.table.announcers ≡ 0 → Noted old.table.shape old.pasts new.marks.polls
   pub slots : spare_of new ≡ spare_of old
-  pub marks : new.marks ≡ with_polls old.marks new.marks.polls
+  pub marks : new.marks ≡ with_scan old.marks new.marks.polls (old.marks.loads ++ loads)
 
 -- a fill names the number of the request that it answers
 abbrev pub FillsKey : ℕ → ℕ → List Row → Caller → Caller → Result (Unit {0}) FillFault → Type 0

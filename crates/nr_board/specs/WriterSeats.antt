@@ -29,7 +29,7 @@ use Rattle.nr_board.specs.Spares.{AreFewSteps, SearchedAll, TookBySearch, desk_w
 use Rattle.nr_board.specs.Plays.{Finds, Lacks, NotesTell, Room, SwapsAt, call_at, next_put}
 use Rattle.nr_board.specs.Polls.{AllHeldThen}
 use Rattle.nr_marks.specs.MarkSteps.{GoesMarks}
-use Rattle.nr_marks.specs.Marks.{with_name, with_polls}
+use Rattle.nr_marks.specs.Marks.{WordLoad, with_loads, with_name, with_scan}
 use Rattle.nr_marks.specs.PollNotes.{Noted}
 use Rattle.nr_marks.specs.Puts.{put_count}
 use Rattle.nr_board.specs.Views.{View}
@@ -162,25 +162,27 @@ swept shape desk call rows polls = (if nat_lt polls (length desk.retired) then (
 -- the slot that a call took, with its departures, or there was none
 pub record TakesSlot (table : Table) (call : WriterCall) (rows : List Row) (slot departed : ℕ) (spare after : Spare) (old new : MapSeat) : Type 0 where
   pub steps : ℕ
-  pub took : TookBySearch table old.me.0.heard new.me.0.heard slot steps spare after
+  pub loads : List WordLoad
+  pub took : TookBySearch table old.me.0.heard new.me.0.heard loads slot steps spare after
   pub few : AreFewSteps table steps
   pub slots : after.slots ≡ spare.slots
   pub numbers : after.numbers ≡ spare.numbers
   pub reaped : after.reaped ≡ spare.reaped
   pub writes : WritesAt table (desk_with after (Putting call rows slot departed 0)) new
   pub grows : Grows steps (token old) [] (token new)
-  pub marks : new.me.0.marks ≡ with_polls old.me.0.marks new.me.0.marks.polls
+  pub marks : new.me.0.marks ≡ with_scan old.me.0.marks new.me.0.marks.polls (old.me.0.marks.loads ++ loads)
 
 pub record LacksSlot (table : Table) (call : WriterCall) (counts : NoSlot) (spare after : Spare) (old new : MapSeat) : Type 0 where
   pub same : after ≡ spare
   pub writes : WritesAt table (desk_with spare Idle) new
   pub steps : ℕ
-  pub searched : SearchedAll table old.me.0.heard new.me.0.heard spare.retired steps
+  pub loads : List WordLoad
+  pub searched : SearchedAll table old.me.0.heard new.me.0.heard loads spare.retired steps
   pub grows : Grows steps (token old) [] (token new)
   pub lacks : Lacks (call_of call) counts (token new)
   pub noted : table.announcers ≡ 0 → Noted table.shape old.me.0.pasts new.me.0.marks.polls
   pub held : table.announcers ≡ 0 → AllHeldThen old.me.0.seen new.me.0.seen new.me.0.marks.polls
-  pub marks : new.me.0.marks ≡ with_polls old.me.0.marks new.me.0.marks.polls
+  pub marks : new.me.0.marks ≡ with_scan old.me.0.marks new.me.0.marks.polls (old.me.0.marks.loads ++ loads)
 
 -- the set was published: the call's last step is its entry, and the slot that the key named before is retired
 pub record PublishesSet (table : Table) (call : WriterCall) (rows : List Row) (spare after : Spare) (old new : MapSeat) : Type 0 where
@@ -188,9 +190,10 @@ pub record PublishesSet (table : Table) (call : WriterCall) (rows : List Row) (s
   pub slot : ℕ
   pub inside : slot < table.shape.slots
   pub mid : Spare
-  -- what was heard when the search ended
+  -- what was heard when the search ended, and its loads of readers' words
   pub scanned : List ℕ
-  pub took : TookBySearch table old.me.0.heard scanned slot steps spare mid
+  pub loads : List WordLoad
+  pub took : TookBySearch table old.me.0.heard scanned loads slot steps spare mid
   pub heard : new.me.0.heard ≡ slice_set scanned slot 0
   -- the word that the key had
   pub word : ℕ
@@ -206,7 +209,7 @@ pub record PublishesSet (table : Table) (call : WriterCall) (rows : List Row) (s
   pub number : ℕ
   pub count : put_count new.me.0.seen ≡ suc number
   pub put : slice_index new.me.0.marks.puts slot ≡ number
-  pub marks : new.me.0.marks ≡ with_name (with_polls old.me.0.marks new.me.0.marks.polls) (key_of call) slot number rows
+  pub marks : new.me.0.marks ≡ with_name (with_loads old.me.0.marks (old.me.0.marks.loads ++ loads)) (key_of call) slot number rows
   pub writes : WritesAt table (desk_with after Idle) new
   pub grows : Grows (2 * length rows + 2 + steps) (token old) (entry 0 (call_of call) reply.Done ∷ []) (token new)
 

@@ -106,7 +106,7 @@ impl Board {
         requires flagged { Flagged self.now spare.now.retired seat.old.me.0.heard unheard.old }
         requires some_words { 0 < self.now.announcers }
         ensures own { seat.new.table_id ≡ seat.old.table_id }
-        ensures hears { RestsHearing self.now.announcers seat.old.me.0 seat.new.me.0 }
+        ensures hears { RestsHearing self.now.announcers spare.now.retired seat.old.me.0 seat.new.me.0 }
         ensures flagged { Flagged self.now spare.now.retired seat.new.me.0.heard unheard.new }
     {
         unheard.clear_retired(spare);

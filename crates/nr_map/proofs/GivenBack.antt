@@ -20,7 +20,7 @@ use Rattle.nr_model.specs.declared.calls.Call.TheVariants as model
 use Rattle.nr_model.specs.declared.calls.Reply.{Reply}
 use Rattle.nr_model.specs.declared.calls.Reply.TheVariants as reply
 use Rattle.nr_model.specs.declared.rows.Row.{Row}
-use Rattle.nr_marks.specs.Marks.{Marks, Past, is_reaped, set_in, with_polls}
+use Rattle.nr_marks.specs.Marks.{Marks, Past, WordLoad, is_reaped, set_in, with_scan}
 use Rattle.nr_marks.specs.Pasts.{Living}
 use Rattle.nr_marks.specs.Puts.{put_count}
 use Rattle.nr_board.specs.declared.answers.Cancel.{Cancel}
@@ -170,10 +170,10 @@ module _ {Room : Type 0} (shows : Room → List Row → Type 0) (others : ℕ) (
 
 module _ {Room : Type 0} (shows : Room → List Row → Type 0) (old new : Caller) (before after : Room) (put : List (List Row)) (given : List Given) (books : Books old put given) where
   reap_goes_on : (reaps : ReapsIn shows old before new after reaped.Set) → Books new (put ++ []) (given ++ given_at old reaps.2.slot ∷ [])
-  reap_goes_on (held, later, entry, notes, earlier, scanned, scan, first, waits, each, shown, row_set, is) =
+  reap_goes_on (held, later, entry, notes, earlier, scanned, loads, first, waits, each, shown, row_set, is) =
       let slot : ℕ = entry.slot in let one = given_at old slot in let there = ready_there old scanned held later entry waits in
       let low = books.ledger.taken slot (inr (there.0, entry, there.1, refl)) in let has = stands_so old put given slot books low there.2 in
-      let ledger = reaped_once_lem held later entry (earlier ++ notes) _ scanned old new (numbers given) waits is books.ledger in
+      let ledger = reaped_once_lem held later entry (earlier ++ notes) _ scanned loads old new (numbers given) waits is books.ledger in
       subst (λ (l : List (List Row)). Books new l (given ++ one ∷ [])) (sym (append-nil put)) (subst (λ (c : Caller). Ledger c (numbers given ++ one.number ∷ []) → Books c put (given ++ one ∷ [])) (sym is)
       (λ goes. record {
         writes = books.writes;
@@ -252,9 +252,9 @@ module _ (old new : Caller) (put : List (List Row)) (given : List Given) (books 
   cancel_goes_on key cancel.Nothing says = quiet_goes_on 1 (model.Cancel key) reply.Nothing refl says.0 says.1
   cancel_goes_on key cancel.Worn says = quiet_goes_on 1 (model.Cancel key) reply.Worn refl says.0 says.1
 
-  -- only its steps and polls and what it heard are others
-  same_goes_on : (steps : ℕ) (polls : List Past) (heard : List ℕ) → new ≡ record old { steps = steps; marks = with_polls old.marks polls; heard = heard } → Books new (put ++ []) (given ++ [])
-  same_goes_on steps polls heard is =
+  -- only its steps, polls and loads and what it heard are others
+  same_goes_on : (steps : ℕ) (polls : List Past) (loads : List WordLoad) (heard : List ℕ) → new ≡ record old { steps = steps; marks = with_scan old.marks polls loads; heard = heard } → Books new (put ++ []) (given ++ [])
+  same_goes_on steps polls loads heard is =
       let table = ap (λ (c : Caller). c.table) is in let fresh = ap (λ (c : Caller). c.fresh) is in let many = ap (λ (c : Caller). put_count c.mine) is in
       let puts = ap (λ (c : Caller). c.marks.puts) is in let flags = ap (λ (c : Caller). c.marks.reaped) is in
       books_stay (ledger_stays_lem old new (numbers given) table fresh puts flags (λ slot lives. subst (λ (c : Caller). Living c.retired c.marks slot) is lives) many books.ledger)
@@ -271,14 +271,14 @@ module _ {Room : Type 0} (shows : Room → List Row → Type 0) where
   deal_goes_on put given (Replaces key rows old new before after back done) books = gave_back shows 1 (model.Replace key rows) rows old new before after put given books done.0 done.1 back done.2
   deal_goes_on put given (ReplaceRefused key rows old new before after fault says) books = replace_refused old new put given books key rows fault says.0
   deal_goes_on put given (Reaps old new before after done) books = reap_goes_on shows old new before after put given books done
-  deal_goes_on put given (ReapHeld old new before after says) books = same_goes_on old new put given books _ _ _ says.8
-  deal_goes_on put given (ReapNothing old new before after says) books = same_goes_on old new put given books old.steps old.marks.polls old.heard says.1
+  deal_goes_on put given (ReapHeld old new before after says) books = same_goes_on old new put given books _ _ _ _ says.8
+  deal_goes_on put given (ReapNothing old new before after says) books = same_goes_on old new put given books old.steps old.marks.polls old.marks.loads old.heard says.1
   deal_goes_on put given (Evicts key old new answer says) books = evict_goes_on old new put given books key answer says
   deal_goes_on put given (Cancels key old new answer says) books = cancel_goes_on old new put given books key answer says
   deal_goes_on put given (Quiet steps call answer old new quiet gains stays) books = quiet_goes_on old new put given books steps call answer quiet gains stays
   deal_goes_on put given (Lacks steps call counts old new without) books = without_goes_on old new put given books steps call counts without
   deal_goes_on put given (LearnsMore steps old new says) books = learning_goes_on old new put given books steps says
-  deal_goes_on put given (Rests steps old new says) books = same_goes_on old new put given books (old.steps + steps) old.marks.polls old.heard says
+  deal_goes_on put given (Rests steps old new says) books = same_goes_on old new put given books (old.steps + steps) old.marks.polls old.marks.loads old.heard says
 
   run_books : {writer : Caller} {put : List (List Row)} {given : List Given} → Run shows writer put given → Books writer put given
   run_books (Opens shape words map writer readers opened) = subst (λ (c : Caller). Ledger c [] → Books c [] []) (sym opened.writes) (λ ledger. record {

@@ -23,7 +23,7 @@ use Rattle.nr_model.specs.declared.rows.Row.{Row}
 use Rattle.nr_model.specs.declared.states.KeyState.{KeyState}
 use Rattle.nr_model.specs.declared.states.KeyState.TheVariants.{Asked, Hole, Rows}
 use Rattle.nr_machine.specs.Story.{entry}
-use Rattle.nr_marks.specs.Marks.{Marks, Past, with_polls}
+use Rattle.nr_marks.specs.Marks.{Marks, Past, WordLoad, with_scan}
 use Rattle.nr_marks.specs.Pasts.{Living}
 use Rattle.nr_marks.specs.Puts.{put_count, puts_set}
 use Rattle.nr_board.specs.declared.answers.Cancel.TheVariants as cancel
@@ -350,7 +350,7 @@ ready_there old scanned held later entry is = let there = waits_there _ old.reti
     first_of false b is = refl
 
 pub reaped_once_lem : ReapedOnce
-reaped_once_lem held later entry notes steps scanned old new gone waits is ledger =
+reaped_once_lem held later entry notes steps scanned loads old new gone waits is ledger =
     let there = ready_there old scanned held later entry waits in let slot : ℕ = entry.slot in let puts = old.marks.puts in let n : ℕ = get_or puts slot 0 in
     let low = ledger.taken slot (inr (there.0, entry, there.1, refl)) in let size = length_take puts old.fresh (omega (arith, ledger.slots.0, ledger.slots.1)) in
     let counts : (number : ℕ) → count_of_put (unreaped (take old.fresh puts) (set old.marks.reaped slot true)) number + count_of_put (gone ++ n ∷ []) number ≡ count_of_put (standing old) number + count_of_put gone number
@@ -395,22 +395,22 @@ pub quiet_puts : (steps : ℕ) (call : Call) (answer : Reply) (old new : Caller)
 quiet_puts steps call answer old new quiet gains = let none : puts_set (entry old.number call answer) ≡ 0 = ap (λ (b : Bool). cond {A = ℕ} b 1 0) quiet in
     omega (arith, ap put_count gains.mine, total-append puts_set old.mine (entry old.number call answer ∷ []), none)
 
--- the slots stay, and of the marks all but the polls
-same_slots : (old new : Caller) (gone : List ℕ) (polls : List Past) → new.table ≡ old.table → new.fresh ≡ old.fresh → new.retired ≡ old.retired
-    → new.marks ≡ with_polls old.marks polls → put_count new.mine ≡ put_count old.mine → Ledger old gone → Ledger new gone
-same_slots old new gone polls table fresh retired marks many = ledger_stays_lem old new gone table fresh (ap (λ (m : Marks). m.puts) marks) (ap (λ (m : Marks). m.reaped) marks)
+-- the slots stay, and of the marks all but the polls and the loads
+same_slots : (old new : Caller) (gone : List ℕ) (polls : List Past) (loads : List WordLoad) → new.table ≡ old.table → new.fresh ≡ old.fresh → new.retired ≡ old.retired
+    → new.marks ≡ with_scan old.marks polls loads → put_count new.mine ≡ put_count old.mine → Ledger old gone → Ledger new gone
+same_slots old new gone polls loads table fresh retired marks many = ledger_stays_lem old new gone table fresh (ap (λ (m : Marks). m.puts) marks) (ap (λ (m : Marks). m.reaped) marks)
     (λ slot lives. subst (λ (p : List Retired × Marks). Living p.0 p.1 slot) (λ j. (retired j, marks j)) lives) many
 
 pub quiet_leaves_lem : QuietLeaves
-quiet_leaves_lem steps call answer old new gone quiet gains stays = same_slots old new gone [] gains.table (ap (λ (s : Spare). s.fresh) stays.0)
+quiet_leaves_lem steps call answer old new gone quiet gains stays = same_slots old new gone [] old.marks.loads gains.table (ap (λ (s : Spare). s.fresh) stays.0)
     (ap (λ (s : Spare). s.retired) stays.0) stays.1 (quiet_puts steps call answer old new quiet gains)
 
 pub no_slot_leaves_lem : NoSlotLeaves
-no_slot_leaves_lem steps call counts old new gone without = same_slots old new gone new.marks.polls without.grows.table (ap (λ (s : Spare). s.fresh) without.slots) (ap (λ (s : Spare). s.retired) without.slots) without.marks
+no_slot_leaves_lem steps call counts old new gone without = same_slots old new gone new.marks.polls _ without.grows.table (ap (λ (s : Spare). s.fresh) without.slots) (ap (λ (s : Spare). s.retired) without.slots) without.marks
     (ap put_count without.grows.mine ∙ total-append puts_set old.mine [] ∙ omega arith)
 
 pub cancel_leaves_lem : CancelLeaves
-cancel_leaves_lem key old new cancel.Cancelled gone cancels = same_slots old new gone [] cancels.0.table (ap (λ (s : Spare). s.fresh) cancels.1)
+cancel_leaves_lem key old new cancel.Cancelled gone cancels = same_slots old new gone [] old.marks.loads cancels.0.table (ap (λ (s : Spare). s.fresh) cancels.1)
     (ap (λ (s : Spare). s.retired) cancels.1) cancels.2 (quiet_puts 2 (model.Cancel key) reply.Cancelled old new refl cancels.0)
 cancel_leaves_lem key old new cancel.Nothing gone cancels = quiet_leaves_lem 1 (model.Cancel key) reply.Nothing old new gone refl cancels.0 cancels.1
 cancel_leaves_lem key old new cancel.Worn gone cancels = quiet_leaves_lem 1 (model.Cancel key) reply.Worn old new gone refl cancels.0 cancels.1

@@ -98,7 +98,7 @@ module _ {A : Type 0} (role : A → Role) (marks : A → Marks) where
       → length names ≡ shape.keys → ((i : ℕ) → i < shape.keys → get_or names i 0 ≡ name_number (get_or words' i 0)) → ((i s : ℕ) → i < shape.keys → name_number (get_or words' i 0) ≡ suc s → name_number (get_or words i 0) ≡ suc s)
       → ((i : ℕ) → put_number log' i ≡ put_number log i) → put_count log' ≡ put_count log → ((s : ℕ) → s < shape.slots → 0 < lives shape words' desk' s → 0 < lives shape words desk s)
       → AllSince role marks callers polls → Sweeping role marks callers desk' polls desk'.place → Leaves shape words words' desk.place desk'.place
-      → Desked role marks shape words' callers log' desk' (record { acts = mine.acts; put = mine.put; names = names; puts = mine.puts; sets = mine.sets; reaped = mine.reaped; polls = polls })
+      → Desked role marks shape words' callers log' desk' (record mine { names = names; polls = polls })
   desk_keep shape words words' callers log log' desk desk' mine names polls t long named_so older numbers many live noted sweep leaves = record {
     wide = (long, t.wide.1);
     names = named_so;

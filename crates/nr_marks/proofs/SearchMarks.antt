@@ -27,11 +27,12 @@ use Rattle.nr_machine.specs.declared.roles.Grip.{Grip}
 use Rattle.nr_machine.specs.declared.roles.Role.{Role}
 use Rattle.nr_machine.specs.declared.roles.Role.TheVariants.{Reader, Writer}
 use Rattle.nr_machine.specs.declared.shape.Shape.{Shape}
-use Rattle.nr_marks.specs.Marks.{Marks, Past, gripped, past, with_polls}
+use Rattle.nr_marks.specs.Marks.{Marks, Past, WordLoad, gripped, past, with_polls, with_scan}
 use Rattle.nr_marks.specs.Marked.{AllSince, CanMark, HoldNoOthers, IsPresent, KnowsMarks, MarkTelling, Marked, NotesPresent, Once, Remarked, Since, Sweeping, Sweeps, Untouched}
 use Rattle.nr_marks.specs.MarkSteps.{KeepsMarks, NotedNowhereElse, TriesMarks, TryTells}
 use Rattle.nr_marks.proofs.ListPlaces.{at_last, at_maps, at_unmap, no_places}
 use Rattle.nr_marks.proofs.DeskMarks.{QuietEnd, desk_of, desk_stay, nothing_ends, writer_step}
+use Rattle.nr_marks.proofs.MarksSince.{desk_loads}
 use Rattle.nr_marks.proofs.PollMarks.{grip_in, reader_of, same_caller}
 use Rattle.nr_marks.proofs.LookMarks.{no_notes, none_hold}
 use Rattle.nr_marks.proofs.ReaderMarks.{contents_loaded}
@@ -56,16 +57,16 @@ module _ {A : Type 0} (role : A → Role) (marks : A → Marks) where
         by_length [] e = no_notes role marks callers desk
         by_length (note ∷ l) e = absurd (omega arith)
 
-    -- a load by the search, after which its notes are these
+    -- a load by the search, after which its notes and its loads of readers' words are these
     notes_now : (place : ℕ) (answers : Telling) (tells : MarkTelling) (words : List ℕ) (callers : List A) (log : List Entry) → Core shape words (map role callers) log → Marked role marks shape words callers log → get_elem? callers id ≡ some me
-        → (after : Role) (entries : List Entry) → after ≡ Writer desk → entries ≡ [] → (polls : List Past) → AllSince role marks callers polls → NotesPresent role marks callers (marks me).polls polls → HoldNoOthers role marks callers desk polls
-        → tells (get_or words place 0) after (log ++ entries) (with_polls (marks me) polls) [] → Remarked role marks shape words callers log id me (Load place) after entries tells
-    notes_now place answers tells words callers log core m at after entries is none_added polls since present others told =
+        → (after : Role) (entries : List Entry) → after ≡ Writer desk → entries ≡ [] → (polls : List Past) (loads : List WordLoad) → AllSince role marks callers polls → NotesPresent role marks callers (marks me).polls polls → HoldNoOthers role marks callers desk polls
+        → tells (get_or words place 0) after (log ++ entries) (with_scan (marks me) polls loads) [] → Remarked role marks shape words callers log id me (Load place) after entries tells
+    notes_now place answers tells words callers log core m at after entries is none_added polls loads since present others told =
         let own = desk_of role marks shape words callers log id me desk m at was in let words' = set words place (get_or words place 0) in
-        writer_step role marks shape id me (Load place) tells words callers log core m at desk desk was after entries is (with_polls (marks me) polls) [] (no_places (Since role marks callers)) present
-        (desk_stay role marks shape words words' callers log entries desk desk (marks me) polls own
+        writer_step role marks shape id me (Load place) tells words callers log core m at desk desk was after entries is (with_scan (marks me) polls loads) [] (no_places (Since role marks callers)) present
+        (desk_loads role marks shape words' callers (log ++ entries) desk (with_polls (marks me) polls) loads (desk_stay role marks shape words words' callers log entries desk desk (marks me) polls own
         (λ j _. ap (λ l. get_or l j 0) (set-get_or words place 0)) (subst (QuietEnd log) (sym none_added) (nothing_ends log)) (λ s. omega arith) since
-        (search_goes callers polls others) (λ s _ untouched. (untouched, contents_loaded shape words place s))) told
+        (search_goes callers polls others) (λ s _ untouched. (untouched, contents_loaded shape words place s)))) told
 
     pub tries_marked : (poll : ℕ) → poll < length desk.retired → CanMark role marks shape id me known (Load (departures shape (retired_at desk poll).slot)) (Tries desk call rows poll) (TriesMarks shape (marks me) desk poll)
     tries_marked poll low words callers log core m once at sinces after entries ans =
@@ -96,7 +97,7 @@ module _ {A : Type 0} (role : A → Role) (marks : A → Marks) where
         let range = subst (λ b. KnowsMarks role marks shape words callers log b (marks u)) reads (m.each f.0 u g.1) in
         let elsewhere : NotedNowhereElse (marks me).polls note = λ n e there' same_reader.
         others n e there' f.0 slot u y g.1 (reads ∙ ap (λ (b : ℕ). Reader b y) (sym same_reader)) o.3 (omega arith) ∙ sym o.3 in
-        notes_now i (Tries desk call rows poll) tells words callers log core m at after entries is ans.1 polls since present
+        notes_now i (Tries desk call rows poll) tells words callers log core m at after entries is ans.1 polls (marks me).loads since present
         (present_alone callers desk (same_caller role marks callers once) (marks me).polls others f.0 c u y g.1 reads)
         (refl, subst (λ b. TryTells b shape (marks me) slot (with_polls (marks me) polls)) (sym miss) (note, refl, o.3, range.0, range.1, elsewhere)))
         refl ans.0
@@ -121,18 +122,18 @@ module _ {A : Type 0} (role : A → Role) (marks : A → Marks) where
     own_so : (words : List ℕ) (callers : List A) (log : List Entry) → Marked role marks shape words callers log → get_elem? callers id ≡ some me → OwnNotes callers
     own_so words callers log m at = let own = desk_of role marks shape words callers log id me desk m at was in (own.noted, (subst (Sweeping role marks callers desk (marks me).polls) is_at own.sweep).0)
 
-    pub scans_marked : (base : List Past) → Begins base → (place : ℕ) → CanMark role marks shape id me known (Load place) (LoadsWord (role me)) (λ word after log now news. (now ≡ with_polls (marks me) base) × (news ≡ []))
-    scans_marked base begins place words callers log core m once at sinces after entries ans = let own = own_so words callers log m at in
-        notes_now place (LoadsWord (role me)) (λ word after log now news. (now ≡ with_polls (marks me) base) × (news ≡ [])) words callers log core m at after entries (ans.0 ∙ was) ans.1 base
+    pub scans_marked : (base : List Past) → Begins base → (loads : List WordLoad) (place : ℕ) → CanMark role marks shape id me known (Load place) (LoadsWord (role me)) (λ word after log now news. (now ≡ with_scan (marks me) base loads) × (news ≡ []))
+    scans_marked base begins loads place words callers log core m once at sinces after entries ans = let own = own_so words callers log m at in
+        notes_now place (LoadsWord (role me)) (λ word after log now news. (now ≡ with_scan (marks me) base loads) × (news ≡ [])) words callers log core m at after entries (ans.0 ∙ was) ans.1 base loads
         (begins_since callers base begins own.0) (λ n e there'. inl (begins_there base begins n e there')) (begins_alone callers base begins own.1) (refl, refl)
 
     -- and notes a reader as it is
-    pub notes_marked : (base : List Past) → Begins base → (place : ℕ) (words : List ℕ) (callers : List A) (log : List Entry) → Core shape words (map role callers) log → Marked role marks shape words callers log → Once role marks callers → get_elem? callers id ≡ some me
+    pub notes_marked : (base : List Past) → Begins base → (loads : List WordLoad) (place : ℕ) (words : List ℕ) (callers : List A) (log : List Entry) → Core shape words (map role callers) log → Marked role marks shape words callers log → Once role marks callers → get_elem? callers id ≡ some me
         → (after : Role) (entries : List Entry) → LoadsWord (role me) (get_or words place 0) after entries → (other reader : ℕ) (who : A) (grip : Grip) → get_elem? callers other ≡ some who → role who ≡ Reader reader grip
-        → Remarked role marks shape words callers log id me (Load place) after entries (λ word after log now news. (now ≡ with_polls (marks me) (base ++ past reader grip (marks who) ∷ [])) × (news ≡ []))
-    notes_marked base begins place words callers log core m once at after entries ans other reader who grip here reads =
+        → Remarked role marks shape words callers log id me (Load place) after entries (λ word after log now news. (now ≡ with_scan (marks me) (base ++ past reader grip (marks who) ∷ []) loads) × (news ≡ []))
+    notes_marked base begins loads place words callers log core m once at after entries ans other reader who grip here reads =
         let own = own_so words callers log m at in let note : Past = past reader grip (marks who) in let polls = base ++ note ∷ [] in
-        notes_now place (LoadsWord (role me)) (λ word after log now news. (now ≡ with_polls (marks me) polls) × (news ≡ [])) words callers log core m at after entries (ans.0 ∙ was) ans.1 polls
+        notes_now place (LoadsWord (role me)) (λ word after log now news. (now ≡ with_scan (marks me) polls loads) × (news ≡ [])) words callers log core m at after entries (ans.0 ∙ was) ans.1 polls loads
         (λ n e there'. ⊎_elim (begins_since callers base begins own.0 n e) (λ (z : (n ≡ length base) × (note ≡ e)). subst (Since role marks callers) z.1
         (record { place = other; who = who; there = here; grip = grip; is = reads; least = omega arith; same = λ _. (refl, refl) })) (at_last base note e n there'))
         (λ n e there'. ⊎_elim (λ (z : get_elem? base n ≡ some e). inl (begins_there base begins n e z)) (λ (z : (n ≡ length base) × (note ≡ e)). inr (subst (IsPresent role marks callers) z.1 (other, who, grip, here, reads, refl))) (at_last base note e n there'))

@@ -17,10 +17,10 @@ use Rattle.nr_machine.specs.declared.roles.Grip.{Grip}
 use Rattle.nr_machine.specs.declared.roles.Role.{Role}
 use Rattle.nr_machine.specs.declared.roles.Role.TheVariants.{Note, Reader, Writer}
 use Rattle.nr_machine.specs.declared.shape.Shape.{Shape}
-use Rattle.nr_marks.specs.Marks.{Marks, gripped, opening_marks}
+use Rattle.nr_marks.specs.Marks.{Marks, gripped, opening_marks, with_loads}
 use Rattle.nr_marks.specs.Marked.{Desked, Evolves, KnowsMarks, Marked, Since}
 use Rattle.nr_marks.proofs.ListPlaces.{at_left, no_places, set_other}
-use Rattle.nr_marks.proofs.MarksSince.{desk_frame, knows_frame, since_set, since_snoc}
+use Rattle.nr_marks.proofs.MarksSince.{desk_frame, knows_frame, knows_loads, since_set, since_snoc}
 use Rattle.nr_model.specs.declared.rows.Row.{Row}
 
 zeros : (n i : ℕ) → let none : ℕ = 0 in get_or (replicate n none) i 0 ≡ none
@@ -90,14 +90,14 @@ module _ {A : Type 0} (role : A → Role) (marks : A → Marks) where
           (λ place reader slot who grip there reads on. ⊎_elim (λ (z : get_elem? callers place ≡ some who). (t.held place reader slot who grip z reads on, λ _. (place, who, grip, z, reads, on)))
           (λ (z : next ≡ who). absurd (let none : None ≡ Some slot = sym (idle reader grip (ap role z ∙ reads)) ∙ on in cc)) (at_snoc callers next who place there)) (λ _ _ _. refl) t
 
-  module _ (shape : Shape) (words : List ℕ) (callers : List A) (log : List Entry) (id : ℕ) (me next : A) (at : get_elem? callers id ≡ some me) (same : role next ≡ role me) (alike : (marks next ≡ marks me) ⊎ (role me ≡ Note)) where
-    reader_marks : (reader : ℕ) (grip : Grip) → role me ≡ Reader reader grip → marks next ≡ marks me
+  module _ (shape : Shape) (words : List ℕ) (callers : List A) (log : List Entry) (id : ℕ) (me next : A) (at : get_elem? callers id ≡ some me) (same : role next ≡ role me) (alike : (marks next ≡ with_loads (marks me) (marks next).loads) ⊎ (role me ≡ Note)) where
+    reader_marks : (reader : ℕ) (grip : Grip) → role me ≡ Reader reader grip → marks next ≡ with_loads (marks me) (marks next).loads
     reader_marks reader grip reads = ⊎_elim (λ e. e) (λ e. absurd (not_reader me Note reader grip refl e reads)) alike
 
     pub evolves_alike : Evolves role marks me next
     evolves_alike reader grip reads = let e = reader_marks reader grip reads in (grip, same ∙ reads, inl (refl, ap (λ (k : Marks). k.acts) e, ap (λ (k : Marks). k.put) e))
 
-    -- a view that changes and keeps its role, and its marks if it is a caller's
+    -- a view that changes and keeps its role, and its marks but the loads if it is a caller's
     pub alike_marked : Marked role marks shape words callers log → Marked role marks shape words (set callers id next) log
     alike_marked m = record {
       each = λ j u there. ⊎_elim (λ (z : (j ≡ id) × (next ≡ u)). subst (λ (b : A). KnowsMarks role marks shape words (set callers id next) log (role b) (marks b)) z.1 own)
@@ -119,5 +119,6 @@ module _ {A : Type 0} (role : A → Role) (marks : A → Marks) where
 
         own : KnowsMarks role marks shape words (set callers id next) log (role next) (marks next)
         own = subst (λ r. KnowsMarks role marks shape words (set callers id next) log r (marks next)) (sym same)
-            (⊎_elim (λ (e : marks next ≡ marks me). subst (KnowsMarks role marks shape words (set callers id next) log (role me)) (sym e) (knows (role me) (marks me) (m.each id me at)))
+            (⊎_elim (λ (e : marks next ≡ with_loads (marks me) (marks next).loads). subst (KnowsMarks role marks shape words (set callers id next) log (role me)) (sym e)
+            (knows_loads role marks shape words (set callers id next) log (role me) (marks me) (marks next).loads (knows (role me) (marks me) (m.each id me at))))
             (λ (e : role me ≡ Note). subst (λ r. KnowsMarks role marks shape words (set callers id next) log r (marks next)) (sym e) tt) alike)

@@ -1,4 +1,4 @@
--- Marks, which contracts alone see beside a caller's role: a reader's count of acts and the put number of its hold; the writer's names, put numbers, sets, reaped slots and polls.
+-- Marks, which contracts alone see beside a caller's role: a reader's count of acts and the put number of its hold; the writer's names, put numbers, sets, reaped slots, polls and loads of readers' words.
 use Rattle.std.specs.Prelude.{ℕ, suc, Bool, true, false, List, [], ◌∷◌, slice_index_or, slice_set, Option, Some, None, replicate}
 use Rattle.nr_model.specs.declared.rows.Row.{Row}
 use Rattle.nr_machine.specs.declared.shape.Shape.{Shape}
@@ -13,6 +13,11 @@ pub record Past : Type 0 where
   pub count : ℕ
   pub slot : Option ℕ
   pub put : ℕ
+
+-- a load of that reader's own word, and what it found
+pub record WordLoad : Type 0 where
+  pub reader : ℕ
+  pub word : ℕ
 
 -- a reader has the first two, the writer the others
 pub record Marks : Type 0 where
@@ -29,6 +34,8 @@ pub record Marks : Type 0 where
   pub reaped : List Bool
   -- the polls that found their slots held, of the last call, unless that put a set, and of the reaps since
   pub polls : List Past
+  -- its loads of readers' own words, in their order
+  pub loads : List WordLoad
 
 -- the slot that a reader holds
 abbrev pub gripped : Grip → Option ℕ
@@ -41,10 +48,10 @@ past reader grip marks = record { reader = reader; count = marks.acts; slot = gr
 
 -- the writer's marks at the opening: no key names a slot; who has no marks yet
 abbrev pub opening_marks : Shape → Marks
-opening_marks shape = record { acts = 0; put = 0; names = replicate shape.keys 0; puts = replicate shape.slots 0; sets = replicate shape.slots []; reaped = replicate shape.slots false; polls = [] }
+opening_marks shape = record { acts = 0; put = 0; names = replicate shape.keys 0; puts = replicate shape.slots 0; sets = replicate shape.slots []; reaped = replicate shape.slots false; polls = []; loads = [] }
 
 abbrev pub no_marks : Marks
-no_marks = record { acts = 0; put = 0; names = []; puts = []; sets = []; reaped = []; polls = [] }
+no_marks = record { acts = 0; put = 0; names = []; puts = []; sets = []; reaped = []; polls = []; loads = [] }
 
 -- what a note tells of readers: a reader's of itself, the writer's all that it knows
 abbrev pub told_by : Role → Marks → List Past → List Past
@@ -58,6 +65,13 @@ acted marks put = record marks { acts = suc marks.acts; put = put }
 
 abbrev pub with_polls : Marks → List Past → Marks
 with_polls marks polls = record marks { polls = polls }
+
+abbrev pub with_loads : Marks → List WordLoad → Marks
+with_loads marks loads = record marks { loads = loads }
+
+-- after a scan by a search, which notes readers too
+abbrev pub with_scan : Marks → List Past → List WordLoad → Marks
+with_scan marks polls loads = record marks { polls = polls; loads = loads }
 
 -- the set that was put into the slot last
 abbrev pub set_in : Marks → ℕ → List Row

@@ -10,7 +10,7 @@ use Rattle.nr_machine.specs.declared.roles.Desk.{Desk}
 use Rattle.nr_board.proofs.Publishing.{published}
 use Rattle.nr_board.proofs.Tokens.{grows_both}
 use Rattle.nr_board.specs.Callers.{Table, token}
-use Rattle.nr_marks.specs.Marks.{Marks, set_in, with_polls}
+use Rattle.nr_marks.specs.Marks.{Marks, set_in, with_scan}
 use Rattle.nr_board.specs.Reclaiming.{HandsOut}
 use Rattle.nr_board.specs.Recalls.{later}
 use Rattle.nr_board.specs.Views.{desk_of}
@@ -24,8 +24,8 @@ returns-clause-publishes g c = let map = c.args.self.now in let call = g.G.Begun
     let writes = subst (λ (desk : Desk). WritesAt map (moved_to desk (Putting call rows slot departed last)) mid) (ap desk_of took.writes.role) c.put_rows.ensures.writer in
     let goes = subst (λ (table : Table). GoesOn table c.publish-named.result mid c.publish-named.new.seat) refl c.publish-named.ensures in
     let put = published map call rows c.args.spare.now c.take_reclaiming.new.spare c.set_reaped.new.self slot departed took.steps before mid
-    c.publish-named.new.seat at.me.0.heard c.publish-named.result took.took took.few took.slots took.numbers took.reaped
-    (c.put_rows.ensures.marks ∙ took.marks ∙ ap (λ (m : Marks). with_polls before.me.0.marks m.polls) (sym c.put_rows.ensures.marks)) c.put_rows.ensures.heard writes
+    c.publish-named.new.seat at.me.0.heard took.loads c.publish-named.result took.took took.few took.slots took.numbers took.reaped
+    (c.put_rows.ensures.marks ∙ took.marks ∙ ap (λ (m : Marks). with_scan before.me.0.marks m.polls (before.me.0.marks.loads ++ took.loads)) (sym c.put_rows.ensures.marks)) c.put_rows.ensures.heard writes
     (grows_both took.steps last (took.steps + last) (token before) (token at) [] (token mid) refl took.grows c.put_rows.ensures.grows) goes
     (c.set_reaped.ensures ∙ ap (λ (s : Spare). record s { reaped = slice_set s.reaped slot false }) c.retire.ensures) in
     (steps, put.0, subst (λ (i : ℕ). HandsOut g.R.RowRoom.shows map.shape.rows c.args.spare.now i (set_in c.args.seat.now.me.0.marks i) c.args.had.now c.take_reclaiming.new.had steps c.in_ok-taken.given) (sym put.1) c.in_ok-taken.ensures.takes.2)
@@ -41,4 +41,4 @@ returns-clause-flagged g c = let steps : ℕ = c.in_ok-taken.ensures.takes.0 in 
     let retired : c.set_reaped.new.self.retired ≡ c.take_reclaiming.new.spare.retired ++ unnamed c.publish-named.result = ap (λ (s : Spare). s.retired) (c.set_reaped.ensures ∙ ap (λ (s : Spare). record s { reaped = slice_set s.reaped slot false }) c.retire.ensures) in
     subst (λ (p : List Retired × List Bool). IsFlagged map p.0 c.publish-named.new.seat.me.0.heard p.1) (λ j. (sym retired j, sym c.flag.ensures j))
     (flags_put map c.args.spare.now.retired (c.take_reclaiming.new.spare.retired ++ unnamed c.publish-named.result) at.me.0.heard c.publish-named.new.seat.me.0.heard c.take_reclaiming.new.unheard slot c.in_ok-taken.ensures.flagged forgets
-    (fewer_retired map before.me.0.heard at.me.0.heard slot took.steps c.args.spare.now c.take_reclaiming.new.spare (unnamed c.publish-named.result) took.took))
+    (fewer_retired map before.me.0.heard at.me.0.heard took.loads slot took.steps c.args.spare.now c.take_reclaiming.new.spare (unnamed c.publish-named.result) took.took))

@@ -22,10 +22,10 @@ returns-in-Free-clause-reaps g c = let map = c.args.self.now in let spare = c.ar
     let token_is = reaped_token map spare before rests mid c.recall_set.new.seat slot (length (set_in mid.me.0.marks slot)) c.in-Free.ensures.own found c.recall_set.ensures.own c.recall_set.ensures.waits in
     let gives = subst (λ (s : ℕ).
     g.R.RowRoom.shows c.recall_set.new.rows (set_in before.me.0.marks s) × IsRowSet (token before).table.shape.rows (set_in before.me.0.marks s)
-    × (token c.recall_set.new.seat ≡ hearing found.scanned (with_reap s (after_polls (found.earlier ++ found.notes) (found.scan + (1 + (2 * length (set_in before.me.0.marks s) + 1))) (token before)))))
+    × (token c.recall_set.new.seat ≡ hearing found.scanned found.loads (with_reap s (after_polls (found.earlier ++ found.notes) (length found.loads + (1 + (2 * length (set_in before.me.0.marks s) + 1))) (token before)))))
     found.slot_is
     (subst (λ (rows : List Row). g.R.RowRoom.shows c.recall_set.new.rows rows × IsRowSet (token before).table.shape.rows rows
-    × (token c.recall_set.new.seat ≡ hearing found.scanned (with_reap slot (after_polls (found.earlier ++ found.notes) (found.scan + (1 + (2 * length rows + 1))) (token before)))))
+    × (token c.recall_set.new.seat ≡ hearing found.scanned found.loads (with_reap slot (after_polls (found.earlier ++ found.notes) (length found.loads + (1 + (2 * length rows + 1))) (token before)))))
     set_is (c.recall_set.ensures.rows, subst (λ (t : Table). IsRowSet t.shape.rows (set_in mid.me.0.marks slot)) (sym c.requires.own) c.recall_set.ensures.row_set, token_is)) in (
       found.held,
       found.later,
@@ -33,7 +33,7 @@ returns-in-Free-clause-reaps g c = let map = c.args.self.now in let spare = c.ar
       found.notes,
       found.earlier,
       found.scanned,
-      found.scan,
+      found.loads,
       found.first,
       found.split,
       found.each,
@@ -46,4 +46,4 @@ pub returns-in-Held-clause-reaps : goal.returns-in-Held-clause-reaps
 returns-in-Held-clause-reaps g c = let map = c.args.self.now in let spare = c.args.spare.now in let before = c.args.seat.now in
     let rests = rests_here map spare before c.requires.own c.requires.rests in
     let keeps = keeps_all map spare before rests c.sweep_heard.new.seat c.in-Held.ensures.sweeps in
-    (keeps.notes, keeps.earlier, keeps.scanned, keeps.scan, keeps.first, keeps.scans, keeps.some_wait, keeps.each, kept_token map spare before rests c.sweep_heard.new.seat c.in-Held.ensures.own keeps, refl)
+    (keeps.notes, keeps.earlier, keeps.scanned, keeps.loads, keeps.first, keeps.scans, keeps.some_wait, keeps.each, kept_token map spare before rests c.sweep_heard.new.seat c.in-Held.ensures.own keeps, refl)

@@ -1,5 +1,5 @@
-use Rattle.std.proofs.Common.{Bool, List, arith, sym, subst, ℕ, ◌+◌, ◌∙◌}
-use Rattle.nr_board.proofs.WholeScans.{RestingScan, resting_scan_at, resting_scan_begins, resting_scan_goes}
+use Rattle.std.proofs.Common.{Bool, List, arith, sym, subst, ℕ, ◌+◌, ◌∙◌, ◌≡◌}
+use Rattle.nr_board.proofs.WholeScans.{RestingScan, resting_scan_at, resting_scan_begins, resting_scan_goes, resting_scan_hears}
 use Rattle.nr_board.proofs.board.Board.scan_at_rest.Goals as goal
 
 pub loop-reader-init : goal.loop-reader-init
@@ -12,3 +12,9 @@ pub loop-reader-preserved : goal.loop-reader-preserved
 loop-reader-preserved c = let told = c.scan-said.ensures in let own : ℕ = c.loop-reader.reader in
     subst (λ (flags : List Bool). RestingScan c.args.self.now c.args.spare.now c.args.seat.now c.scan-said.new.seat flags (own + 1)) (sym c.announce.ensures.flags)
     (resting_scan_goes c.args.self.now c.args.spare.now c.args.seat.now c.loop-reader.seat c.loop-reader.unheard own c.requires.rests c.loop-reader.invariant c.scan-said.new.seat c.scan-said.result told.own told.hears)
+
+pub returns-clause-hears : goal.returns-clause-hears
+returns-clause-hears c = let own : ℕ = c.loop-reader.reader in let map = c.args.self.now in
+    let all : own ≡ map.announcers = omega (arith, c.loop-reader-test.false, c.loop-reader.auto.reader-end, c.announcers-reader-end.ensures.value) in
+    resting_scan_hears map c.args.spare.now c.args.seat.now c.loop-reader.seat c.loop-reader.unheard c.requires.some_words
+    (subst (λ (n : ℕ). RestingScan map c.args.spare.now c.args.seat.now c.loop-reader.seat c.loop-reader.unheard n) all c.loop-reader.invariant)

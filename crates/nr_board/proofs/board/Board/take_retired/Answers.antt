@@ -1,9 +1,11 @@
-use Rattle.std.proofs.Common.{arith, length, ℕ, ◌<◌}
+use Rattle.std.proofs.Common.{List, [], arith, length, refl, subst, sym, ℕ, ◌<◌, ◌∷◌, ◌≡◌}
 use Rattle.std.specs.Prelude.{Result, Ok, Err}
 use Rattle.nr_machine.specs.declared.calls.NoSlot.{NoSlot}
-use Rattle.nr_board.proofs.WordSearches.{lacks_words, searches_in, takes_words}
+use Rattle.nr_machine.specs.declared.places.Retired.{Retired}
+use Rattle.nr_board.proofs.WordSearches.{lacks_none, lacks_words, searches_in, takes_words}
 use Rattle.nr_board.specs.RetiredSearch.{SearchesFor}
 use Rattle.nr_board.specs.Searches.{TakesFor}
+use Rattle.nr_board.specs.WriterSeats.{LacksSlot}
 use Rattle.nr_board.specs.declared.publish.Taken.{Taken}
 use Rattle.nr_board.proofs.board.Board.take_retired.Goals as goal
 
@@ -21,3 +23,14 @@ returns-clause-takes g c = let some_words : 0 < c.args.self.now.announcers = ome
         → TakesFor c.args.self.now g.G.BegunCall.call c.args.rows.now c.args.spare.now c.search_retired.new.spare c.args.seat.now c.search_retired.new.seat result
     all some_words waits (Ok taken) takes = takes_words c.args.self.now g.G.BegunCall.call c.args.rows.now c.args.spare.now c.args.seat.now c.requires.settles c.requires.none_fresh some_words waits c.search_retired.new.spare c.search_retired.new.seat taken takes
     all some_words waits (Err counts) lacks = lacks_words c.args.self.now g.G.BegunCall.call c.args.rows.now c.args.spare.now c.args.seat.now c.requires.settles c.requires.none_fresh some_words waits c.search_retired.new.spare c.search_retired.new.seat counts lacks
+
+pub returns-then-retired_len-eq0-clause-takes : goal.returns-then-retired_len-eq0-clause-takes
+returns-then-retired_len-eq0-clause-takes g c = let map = c.args.self.now in let spare = c.args.spare.now in let seat = c.args.seat.now in
+    let some_words : 0 < map.announcers = omega (arith, c.announcers.ensures.value, c.if-announcers-eq0.false) in
+    let none : length spare.retired ≡ 0 = omega (arith, c.retired_len.ensures, c.if-retired_len-eq0.true) in
+    subst (λ (counts : NoSlot). LacksSlot map g.G.BegunCall.call counts spare spare seat seat) (sym c.counts.ensures)
+    (lacks_none map g.G.BegunCall.call c.args.rows.now spare seat c.requires.settles c.requires.none_fresh some_words (empty spare.retired none))
+  where
+    empty : (l : List Retired) → length l ≡ 0 → l ≡ []
+    empty [] e = refl
+    empty (entry ∷ l) e = absurd (omega arith)
