@@ -1,11 +1,9 @@
 -- The writer's flags go along with what it hears: with a scan, with a set that it puts, and with a slot that it retires.
-use Rattle.std.proofs.Common.{◌≡◌, ◌≢◌, ℕ, suc, zero, ◌+◌, ◌<◌, ◌≤◌, ◌⊎◌, ⊎_elim, List, [], ◌∷◌, ◌++◌, Bool, true, false, cond, length, set, get_or, take, get_or-set_other, length-set, refl, sym, ap, ◌∙◌, subst, arith}
+use Rattle.std.proofs.Common.{◌≡◌, ◌≢◌, ℕ, suc, zero, ◌<◌, ⊎_elim, List, [], ◌∷◌, ◌++◌, Bool, true, false, cond, set, get_or, take, get_or-set_other, length-set, refl, sym, ap, ◌∙◌, subst, arith}
 use Rattle.std.proofs.lemmas.Bool.{le-ltb, lt-ltb}
 use Rattle.std.specs.Prelude.{nat_lt}
 use mathlib.Core.Logic.{dite}
-use mathlib.Core.Option.{some}
 use native.Mathlib.Decide.{ℕ_discrete}
-use lib.ListN.{get_elem?}
 use Rattle.nr_core.proofs.Choices.{by_cases}
 use Rattle.nr_core.proofs.Sums.{only-other, total-append, total-remove}
 use Rattle.nr_core.specs.Roles.{retirements}

@@ -1,15 +1,12 @@
 -- A reap: its sweeps and the scan between them, put together.
-use Rattle.std.proofs.Common.{◌≡◌, ℕ, ◌+◌, ◌*◌, ◌<◌, ◌⊎◌, ⊎_elim, inl, inr, Bool, true, List, [], ◌∷◌, ◌++◌, ap, append_assoc, arith, length, length-append, refl, set, subst, sym, ◌∙◌}
+use Rattle.std.proofs.Common.{◌≡◌, ℕ, ◌+◌, ◌*◌, ◌<◌, ⊎_elim, inl, inr, true, List, [], ◌∷◌, ◌++◌, ap, append_assoc, arith, length, length-append, refl, set, subst, sym, ◌∙◌}
 use Rattle.nr_machine.specs.Spares.{Spare}
 use Rattle.nr_machine.specs.declared.places.Place.TheVariants.{Idle}
 use Rattle.nr_machine.specs.declared.places.Retired.{Retired}
-use Rattle.nr_machine.specs.declared.roles.Desk.{Desk}
-use Rattle.nr_machine.specs.declared.roles.Role.TheVariants.{Writer}
-use Rattle.nr_machine.specs.declared.shape.Shape.{Shape}
-use Rattle.nr_marks.specs.Marks.{Marks, Past, WordLoad, with_loads, with_polls, with_reaped, with_scan}
+use Rattle.nr_marks.specs.Marks.{Marks, Past, WordLoad, with_reaped, with_scan}
 use Rattle.nr_board.proofs.Sweeps.{rests_after, token_after}
 use Rattle.nr_board.proofs.WordLoads.{no_loads, words_many}
-use Rattle.nr_board.specs.Callers.{Caller, Table, caller_of, token}
+use Rattle.nr_board.specs.Callers.{Table, token}
 use Rattle.nr_board.specs.Reaping.{HeldEach, ScansFirst, SweepsFor, SweepsHeard, after_polls, hearing, probed, ready_in, ready_to, reaping, waiting, with_reap}
 use Rattle.nr_board.specs.Recalls.{RecallsAt, waited}
 use Rattle.nr_board.specs.Spares.{desk_with}

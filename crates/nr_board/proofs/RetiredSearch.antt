@@ -1,20 +1,20 @@
 -- The two passes of a search and the scan between them, put together.
-use Rattle.std.proofs.Common.{◌≡◌, ℕ, suc, zero, ◌+◌, ◌<◌, ◌≤◌, ◌⊎◌, ⊎_elim, inl, inr, List, [], ◌∷◌, ◌++◌, Bool, true, false, cond, ne_eqb, length, take, take_all, get_or, refl, sym, ap, ◌∙◌, subst, arith}
-use mathlib.Core.Option.{some, some-ne-none}
+use Rattle.std.proofs.Common.{◌≡◌, ℕ, ◌+◌, ◌<◌, ◌≤◌, ⊎_elim, inl, inr, List, [], ◌∷◌, ◌++◌, Bool, true, cond, ne_eqb, length, take, take_all, refl, sym, ap, ◌∙◌, subst, arith}
+use mathlib.Core.Option.{some-ne-none}
 use lib.ListN.{get_elem?}
 use Rattle.nr_core.proofs.Choices.{by_cases}
 use Rattle.nr_machine.specs.Spares.{Spare, none_spare}
 use Rattle.nr_machine.specs.Sums.{only, total}
 use Rattle.nr_machine.specs.declared.places.Retired.{Retired}
 use Rattle.nr_marks.specs.Marks.{Marks, Past, WordLoad, with_polls, with_scan}
-use Rattle.std.specs.Prelude.{Some, None}
+use Rattle.std.specs.Prelude.{Some}
 use Rattle.nr_model.specs.Histories.{IsLegal}
 use Rattle.nr_board.specs.Entries.{AreCallers}
 use Rattle.nr_board.proofs.Passes.{notes_few}
 use Rattle.nr_board.proofs.Tokens.{grows_both, grows_rests, seat_grows}
 use Rattle.nr_board.specs.Callers.{Grows, IsSound, Rests, Table, map_at_opening, token}
 use Rattle.nr_board.specs.Flags.{Flagged}
-use Rattle.nr_board.specs.Passes.{NotesOne, NotesTo, PassTakes, PassedTo, hits, polls_before}
+use Rattle.nr_board.specs.Passes.{NotesTo, PassTakes, PassedTo, hits, polls_before}
 use Rattle.nr_board.specs.Spares.{polls_heard}
 use Rattle.nr_board.proofs.Flagging.{polls_are}
 use Rattle.nr_board.proofs.WriterSeats.{numbers_seat}
@@ -31,11 +31,11 @@ use Rattle.nr_machine.specs.declared.shape.Shape.{Shape}
 use Rattle.nr_model.specs.Maps.{filled_count, reply_to}
 use Rattle.nr_model.specs.declared.calls.Reply.TheVariants as reply
 use Rattle.nr_board.specs.SearchPlays.{scan_base}
-use Rattle.nr_board.specs.SearchSeats.{Ends, SearchesIn}
+use Rattle.nr_board.specs.SearchSeats.{Ends}
 use Rattle.nr_board.proofs.WordLoads.{no_loads, words_told}
 use Rattle.nr_board.specs.WordLoads.{WordsTell}
 use Rattle.nr_board.specs.Views.{View}
-use Rattle.nr_board.specs.WholeScans.{KeepBack, KeepsOne, ScannedTo, is_unheard, misses}
+use Rattle.nr_board.specs.WholeScans.{KeepBack, ScannedTo, is_unheard, misses}
 use Rattle.nr_board.specs.WriterSeats.{MapSeat}
 
 -- no notes, before the first pass

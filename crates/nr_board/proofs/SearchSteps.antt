@@ -6,7 +6,7 @@ use mathlib.Core.Option.{some, some-injective, some-ne-none}
 use lib.ListN.{get_elem?}
 use lib.Seq.{set-get_or}
 use Rattle.atomic_table.proofs.Lists.{at_map}
-use Rattle.atomic_table.specs.Table.{Allows, Me, State, keeps, step}
+use Rattle.atomic_table.specs.Table.{Allows, Me, State, keeps}
 use Rattle.nr_model.specs.Histories.{Entry}
 use Rattle.nr_model.specs.Maps.{filled_count, reply_to}
 use Rattle.nr_model.specs.declared.calls.Reply.TheVariants as reply

@@ -1,6 +1,6 @@
 -- A whole scan, word by word: the flags tell which retired slots were heard, and a reader is noted for each other one.
 use Rattle.std.proofs.Common.{◌≡◌, ◌≢◌, ℕ, suc, zero, ◌+◌, ◌-◌, ◌<◌, ◌≤◌, ◌⊎◌, ⊎_elim, inl, inr, List, [], ◌∷◌, ◌++◌, Bool, true, false, cond, length, get_or, set, nat_eq, eq-eqb, ne_eqb, get_or-set_other, get_or-set_same, length-set, refl, sym, ap, ◌∙◌, subst, arith, length-append}
-use Rattle.std.proofs.lemmas.Bool.{eqb-true, eqb-false, lt-ltb, ltb-true}
+use Rattle.std.proofs.lemmas.Bool.{eqb-true, lt-ltb, ltb-true}
 use Rattle.std.specs.Prelude.{nat_lt, not, Some, None, ◌&&◌}
 use mathlib.Core.Logic.{dite}
 use mathlib.Core.Option.{some, some-injective, some-ne-none}
@@ -12,7 +12,7 @@ use Rattle.nr_core.specs.Roles.{retirements}
 use Rattle.nr_machine.specs.Sums.{only, total}
 use Rattle.nr_machine.specs.declared.places.Retired.{Retired}
 use Rattle.nr_machine.specs.declared.roles.Desk.{Desk}
-use Rattle.nr_marks.specs.Marks.{Marks, Past, with_loads, with_scan}
+use Rattle.nr_marks.specs.Marks.{Past, with_loads, with_scan}
 use Rattle.nr_board.proofs.SearchSeats.{inside_list}
 use Rattle.nr_board.proofs.WordLoads.{words_begin, words_many, words_more, words_told}
 use Rattle.nr_board.specs.Flags.{Flagged, OthersFlagged}
@@ -28,7 +28,7 @@ use Rattle.nr_board.specs.WordLoads.{WordsSoFar, word_load}
 use Rattle.nr_board.specs.WriterSeats.{MapSeat, RestsAt}
 use Rattle.nr_machine.specs.Spares.{Spare}
 use Rattle.nr_machine.specs.declared.shape.Shape.{Shape}
-use Rattle.nr_board.specs.WholeScans.{HeardTo, KeepBack, KeepsOne, NoneFlagged, RestsHearing, ScannedTo, announced, is_unheard, misses, scanned_to}
+use Rattle.nr_board.specs.WholeScans.{HeardTo, KeepBack, KeepsOne, NoneFlagged, RestsHearing, ScannedTo, announced, is_unheard, misses}
 
 -- what a load of a reader's word makes of one slot of the map
 -- what it makes of no slot of the map

@@ -1,8 +1,7 @@
 -- What a search gives where readers have words, as every search tells it.
-use Rattle.std.proofs.Common.{◌≡◌, ℕ, ◌+◌, ◌-◌, ◌<◌, ◌≤◌, inl, inr, List, [], length, refl, sym, ap, ◌∙◌, subst, arith}
+use Rattle.std.proofs.Common.{◌≡◌, ℕ, ◌<◌, ◌≤◌, inl, inr, List, [], length, refl, sym, ap, ◌∙◌, subst, arith}
 use Rattle.nr_model.specs.declared.rows.Row.{Row}
 use Rattle.nr_machine.specs.Spares.{Spare, none_spare}
-use Rattle.nr_machine.specs.Story.{call_of}
 use Rattle.nr_machine.specs.States.{retired_at}
 use Rattle.nr_machine.specs.declared.calls.NoSlot.{NoSlot}
 use Rattle.nr_machine.specs.declared.calls.WriterCall.{WriterCall}

@@ -1,5 +1,5 @@
 -- The writer's calls, put together of their steps.
-use Rattle.std.proofs.Common.{Bool, false, List, [], ap, append-nil, append_assoc, arith, get_or, length, refl, slice_index, subst, sym, ℕ, ◌*◌, ◌++◌, ◌+◌, ◌<◌, ◌∙◌, ◌∷◌, ◌≡◌, ◌≤◌}
+use Rattle.std.proofs.Common.{Bool, false, List, [], ap, append-nil, append_assoc, arith, get_or, length, refl, slice_index, subst, sym, ℕ, ◌*◌, ◌++◌, ◌+◌, ◌<◌, ◌∙◌, ◌∷◌, ◌≡◌}
 use Rattle.std.specs.Prelude.{Result, Ok, Err, slice_set}
 use Rattle.nr_model.specs.declared.calls.Call.{Call}
 use Rattle.nr_model.specs.declared.calls.Call.TheVariants as model
@@ -49,7 +49,6 @@ use Rattle.nr_board.specs.Views.{desk_of, caller_number}
 use Rattle.nr_board.specs.Begins.{HasRead, HasSet}
 use Rattle.nr_board.specs.WriterSeats.{GoesOn, LacksSlot, LeadsIn, MapSeat, PublishesSet, RestsAt, Settles, WritesAt, KeyHas}
 use Rattle.nr_machine.specs.Slots.{bound_of}
-use Rattle.nr_model.specs.Rows.{IsRowSet}
 
 module _ (table : Table) (spare : Spare) (before : MapSeat) (rests : RestsAt table spare before) where
   writer_number : (token before).number ≡ 0

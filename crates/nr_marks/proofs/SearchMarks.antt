@@ -1,5 +1,5 @@
 -- A search that polls in any order: it notes a reader for each slot that it finds held, as a reap does, and may be given up.
-use Rattle.std.proofs.Common.{inl, inr, List, [], ap, arith, cond, get_or, length, map, refl, set, subst, sym, ℕ, ⊎_elim, ◌%◌, ◌++◌, ◌+◌, ◌<◌, ◌^◌, ◌∙◌, ◌∷◌, ◌≡◌, ◌≢◌, ◌⊎◌}
+use Rattle.std.proofs.Common.{inl, inr, List, [], ap, arith, cond, get_or, length, map, refl, set, subst, sym, ℕ, ⊎_elim, ◌%◌, ◌++◌, ◌<◌, ◌^◌, ◌∙◌, ◌∷◌, ◌≡◌, ◌≢◌, ◌⊎◌}
 use Rattle.std.proofs.lemmas.Bool.{eqb-false}
 use lib.ListN.{get_elem?}
 use lib.Seq.{set-get_or}

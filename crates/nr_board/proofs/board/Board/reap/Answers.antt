@@ -4,8 +4,8 @@ use Rattle.nr_model.specs.declared.rows.Row.{Row}
 use Rattle.nr_marks.specs.Marks.{set_in}
 use Rattle.nr_board.specs.Reaping.{after_polls, hearing, with_reap}
 use Rattle.nr_board.specs.Views.{View}
-use Rattle.nr_board.proofs.Looks.{rests_here, rests_own}
-use Rattle.nr_board.proofs.Reaps.{FoundSet, KeepsAll, found_set, keeps_all, kept_rests, kept_token, none_waits, reaped_rests, reaped_token, recalls_found, stays_rests}
+use Rattle.nr_board.proofs.Looks.{rests_here}
+use Rattle.nr_board.proofs.Reaps.{found_set, keeps_all, kept_token, reaped_token, recalls_found}
 use Rattle.nr_board.specs.Callers.{Table, token}
 use Rattle.nr_board.proofs.board.Board.reap.Goals as goal
 

@@ -1,6 +1,6 @@
-use Rattle.std.proofs.Common.{List, arith, ap, false, inr, subst, sym, true, ℕ, ◌<◌, ◌∙◌, ◌≡◌}
+use Rattle.std.proofs.Common.{arith, ap, false, inr, subst, sym, true, ℕ, ◌<◌, ◌∙◌, ◌≡◌}
 use Rattle.nr_board.specs.Callers.{Table}
-use Rattle.nr_board.specs.Reaping.{SweepsFor, SweepsHeard}
+use Rattle.nr_board.specs.Reaping.{SweepsFor}
 use Rattle.nr_board.specs.Views.{View}
 use Rattle.nr_board.specs.WordLoads.{WordsTell}
 use Rattle.nr_board.specs.declared.reaping.Sweep.TheVariants as sweep

@@ -1,4 +1,4 @@
-use Rattle.std.proofs.Common.{arith, inl, refl, subst, sym, ℕ, ◌+◌, ◌≡◌}
+use Rattle.std.proofs.Common.{arith, inl, refl, subst, sym, ◌+◌, ◌≡◌}
 use Rattle.nr_machine.specs.declared.shape.Shape.{Shape}
 use Rattle.nr_board.proofs.Searching.{takes_fresh}
 use Rattle.nr_board.specs.Recalls.{later}

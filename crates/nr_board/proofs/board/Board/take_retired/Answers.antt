@@ -1,4 +1,4 @@
-use Rattle.std.proofs.Common.{List, [], arith, length, refl, subst, sym, ℕ, ◌<◌, ◌∷◌, ◌≡◌}
+use Rattle.std.proofs.Common.{List, [], arith, length, refl, subst, sym, ◌<◌, ◌∷◌, ◌≡◌}
 use Rattle.std.specs.Prelude.{Result, Ok, Err}
 use Rattle.nr_machine.specs.declared.calls.NoSlot.{NoSlot}
 use Rattle.nr_machine.specs.declared.places.Retired.{Retired}
