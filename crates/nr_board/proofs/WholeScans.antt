@@ -463,9 +463,9 @@ resting_scan_begins table spare seat flags none wide others = let view = seat.me
 }
 
 module _ (table : Table) (spare : Spare) (before now : MapSeat) (flags : List Bool) (own : ℕ) (rests : RestsAt table spare before) (so_far : RestingScan table spare before now flags own) where
-  -- the next word may be loaded
-  pub resting_scan_at : own < table.announcers → ScansAt table own now
-  resting_scan_at low = record {
+  -- each word may be loaded
+  pub resting_scan_at : (word : ℕ) → word < table.announcers → ScansAt table word now
+  resting_scan_at word low = record {
     own_table = (λ j. record { id = so_far.own_table j; shape = (so_far.rest j).shape; announcers = (so_far.rest j).announcers }) ∙ rests.writes.own;
     desk = desk_with spare Idle;
     role = ap (λ (v : View). v.role) so_far.rest ∙ rests.writes.role;

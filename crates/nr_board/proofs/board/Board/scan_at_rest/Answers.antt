@@ -6,7 +6,7 @@ pub loop-reader-init : goal.loop-reader-init
 loop-reader-init c = let none = c.clear_retired.ensures in resting_scan_begins c.args.self.now c.args.spare.now c.args.seat.now c.clear_retired.new.self none.none (none.wide ∙ c.requires.flagged.wide) (none.others c.requires.flagged.others)
 
 pub scan-said-requires : goal.scan-said-requires
-scan-said-requires c = resting_scan_at c.args.self.now c.args.spare.now c.args.seat.now c.loop-reader.seat c.loop-reader.unheard c.loop-reader.reader c.requires.rests c.loop-reader.invariant (omega (arith, c.loop-reader-test.true, c.loop-reader.auto.reader-end, c.announcers-reader-end.ensures.value))
+scan-said-requires c = resting_scan_at c.args.self.now c.args.spare.now c.args.seat.now c.loop-reader.seat c.loop-reader.unheard c.loop-reader.reader c.requires.rests c.loop-reader.invariant _ (omega (arith, c.loop-reader-test.true, c.loop-reader.auto.reader-end, c.announcers-reader-end.ensures.value))
 
 pub loop-reader-preserved : goal.loop-reader-preserved
 loop-reader-preserved c = let told = c.scan-said.ensures in let own : ℕ = c.loop-reader.reader in
