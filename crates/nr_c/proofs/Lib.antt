@@ -5,6 +5,5 @@ pub mod AsTakerBox
 pub mod AsRemainsBox
 pub mod AsIdReaderBox
 pub mod AsIdWriterBox
-pub mod Ending
 pub mod FindsMade
 pub mod LedgerLemmas

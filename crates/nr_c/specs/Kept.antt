@@ -1,17 +1,14 @@
 -- A reader that keeps what it finds, as C calls it.
-use Rattle.std.specs.Prelude.{ℕ, ◌≡◌, List, IsSome, Some}
+use Rattle.std.specs.Prelude.{ℕ, ◌≡◌, List}
 use Rattle.nr_board.specs.declared.answers.Found.{Found}
-use Rattle.nr_map.specs.Hands.{FindsKept, Handed}
-use Rattle.nr_c.specs.declared.hand.Hand.{Hand}
+use Rattle.nr_map.specs.Hands.{FindsKept, Handed, held_for}
 use Rattle.nr_c.specs.declared.reader_side.ReaderSide.{ReaderSide}
 use Rattle.nr_c.specs.declared.rows.NrRows.{NrRows}
 use Rattle.nr_c.specs.Codes.{found_code}
-use Rattle.nr_c.specs.Hands.{InHand}
 use Rattle.nr_c.specs.Live.{TurnsHand}
 use Rattle.nr_c.specs.RowCells.{ShowsSet}
 
--- a find that keeps its hold, by its code, of a hand that takes what it held for a set of the key
+-- a find that keeps its hold, by its code, of a reader that takes what it held for a set of the key
 abbrev pub KeepsByCode : ℕ → NrRows → NrRows → ℕ → List ReaderSide → List ReaderSide → Type 0
 KeepsByCode key rows rows' code before after =
-    (found : Found) × (code ≡ found_code found) × (was is : Hand) × TurnsHand before after was is
-    × (old new : Handed) × InHand was old × InHand is new × (IsSome old.key → old.key ≡ Some key) × FindsKept ShowsSet key old rows new rows' found
+    (found : Found) × (code ≡ found_code found) × (old new : Handed) × TurnsHand before after old new × FindsKept ShowsSet key (held_for key old) rows new rows' found

@@ -6,20 +6,13 @@ use Rattle.nr_board.specs.declared.answers.Found.{Found}
 use Rattle.nr_map.specs.Answers.{AsksKey, FindsIn, acts_of}
 use Rattle.nr_map.specs.Hands.{Handed}
 use Rattle.nr_board.specs.Callers.{Caller}
-use Rattle.nr_c.specs.declared.hand.Hand.{Hand}
-use Rattle.nr_c.specs.declared.hand.Hand.TheVariants.{Idle}
 use Rattle.nr_c.specs.declared.reader_side.ReaderSide.{ReaderSide}
 use Rattle.nr_c.specs.declared.writer_side.WriterSide.{WriterSide}
 use Rattle.nr_c.specs.declared.rows.NrRows.{NrRows}
 use Rattle.nr_c.specs.Codes.{ask_code, found_code}
-use Rattle.nr_c.specs.Hands.{HoldsNone, HoldsSome, InHand}
+use Rattle.nr_c.specs.Hands.{HoldsNone, HoldsSome}
 use Rattle.nr_c.specs.Numbers.{answer_closed, answer_holding, answer_live, answer_no_key, answer_not_holding}
 use Rattle.nr_c.specs.RowCells.{ShowsSet}
-
--- no call has the reader of the handle, if that is live
-abbrev pub MayRead : List ReaderSide → Type 0
-MayRead [] = ⊤
-MayRead (held ∷ others) = (hand : Handed) × InHand held.hand hand
 
 -- the handle leads somewhere
 abbrev pub IsLive : {Side : Type 0} → List Side → Type 0
@@ -82,7 +75,7 @@ abbrev pub WithKey : {Side : Type 0} → (Side → ℕ) → ℕ → ℕ → Type
 WithKey keys key code stays does before after = RefusesKey keys key code stays before after ⊎ (HasKey keys key before × does before after)
 
 -- the reader isn't as the call wants it, which the code says; nothing has changed
-pub record RefusesHand (kind : Hand → Type 0) (answer code : ℕ) (stays : Type 0) (before after : List ReaderSide) : Type 0 where
+pub record RefusesHand (kind : Handed → Type 0) (answer code : ℕ) (stays : Type 0) (before after : List ReaderSide) : Type 0 where
   pub code_is : code ≡ answer
   pub stay : stays
   pub held : ReaderSide
@@ -103,7 +96,7 @@ abbrev pub ByIdleReader : ℕ → ℕ → Type 0 → (List ReaderSide → List R
 ByIdleReader key code stays does = WhenLive code stays (WithKey reader_keys key code stays (WhenIdle code stays does))
 
 -- the handle leads to one side, of the same map before and after, whose reader was in the one hand and is in the other
-pub record TurnsHand (before after : List ReaderSide) (was is : Hand) : Type 0 where
+pub record TurnsHand (before after : List ReaderSide) (was is : Handed) : Type 0 where
   pub old : ReaderSide
   pub new : ReaderSide
   pub led : before ≡ old ∷ []
@@ -114,7 +107,7 @@ pub record TurnsHand (before after : List ReaderSide) (was is : Hand) : Type 0 w
 
 -- so a reader that holds nothing became another such one
 abbrev pub ReaderCalls : (Caller → Caller → Type 0) → List ReaderSide → List ReaderSide → Type 0
-ReaderCalls became before after = (old new : Caller) × TurnsHand before after (Idle old) (Idle new) × became old new
+ReaderCalls became before after = (old new : Handed) × TurnsHand before after old new × HoldsNone old × HoldsNone new × became old.reader new.reader
 
 -- and the writer's, whose readers without a handle stay
 pub record WriterCalls (became : Caller → Caller → Type 0) (before after : List WriterSide) : Type 0 where

@@ -3,10 +3,10 @@ use Rattle.std.specs.Prelude.{ℕ, ◌≡◌, ◌↔◌, ◌⊎◌, List, [], �
 use Rattle.nr_machine.specs.Sizes.{IsBadLargeShape, IsBadShape}
 use Rattle.nr_machine.specs.declared.shape.Shape.{Shape}
 use Rattle.nr_board.specs.Callers.{Caller}
+use Rattle.nr_map.specs.Hands.{idle}
 use Rattle.nr_map.specs.Opened.{IsOpened, words_of_large}
 use Rattle.nr_c.specs.Hands.{EndsHand}
 use Rattle.nr_c.specs.Numbers.{answer_bad_size, answer_done, answer_no_memory, answer_no_reader}
-use Rattle.nr_c.specs.declared.hand.Hand.TheVariants.{Idle}
 use Rattle.nr_c.specs.declared.reader_side.ReaderSide.{ReaderSide}
 use Rattle.nr_c.specs.declared.writer_side.WriterSide.{WriterSide}
 
@@ -44,7 +44,7 @@ pub record LeadsToReader (before : List WriterSide) (reader : Caller) (handle : 
   pub was : before ≡ held ∷ []
   pub is : handle ≡ side ∷ []
   pub map : side.map.value ≡ held.map.value
-  pub idle : side.hand ≡ Idle reader
+  pub holds_none : side.hand ≡ idle reader
 
 -- no reader is without a handle; or the last one without gets one, or for want of memory stays without
 abbrev pub TakesReader : ℕ → List WriterSide → List ReaderSide → List WriterSide → List ReaderSide → Type 0
@@ -56,5 +56,5 @@ TakesReader code before other after handle =
 -- the reader's handle leads nowhere any more, and its reader, which holds nothing now, is the last one without a handle; or for want of memory all stay
 abbrev pub ReturnsReader : ℕ → List WriterSide → List ReaderSide → List WriterSide → List ReaderSide → Type 0
 ReturnsReader code before other after handle =
-    ((code ≡ answer_done) × (rest : List Caller) × (reader : Caller) × (held : ReaderSide) × (other ≡ held ∷ []) × EndsHand held.hand (Some reader) × KeepsWriter before after rest (rest ++ reader ∷ []) × (handle ≡ []))
+    ((code ≡ answer_done) × (rest : List Caller) × (reader : Caller) × (held : ReaderSide) × (other ≡ held ∷ []) × EndsHand held.hand reader × KeepsWriter before after rest (rest ++ reader ∷ []) × (handle ≡ []))
     ⊎ ((code ≡ answer_no_memory) × (rest : List Caller) × KeepsWriter before after rest rest × (handle ≡ other))

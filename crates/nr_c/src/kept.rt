@@ -1,6 +1,6 @@
 //! Finds by a reader that keeps what it found.
 ghost use Rattle.std.specs.Prelude.{◌≡◌};
-ghost use Rattle.nr_c.specs.Live.{MayRead, WhenLive, WithKey, reader_keys};
+ghost use Rattle.nr_c.specs.Live.{WhenLive, WithKey, reader_keys};
 ghost use Rattle.nr_c.specs.Kept.{KeepsByCode};
 
 use crate::codes::{NR_CLOSED, NR_NO_KEY, of_found};
@@ -14,7 +14,6 @@ use crate::rows::NrRows;
 /// with no step.
 #[unsafe(no_mangle)]
 pub extern "C" fn nr_find_kept(reader: &mut NrReader, key: u32, rows: &mut NrRows) -> u32
-    requires rests { MayRead reader.old.live }
     ensures { WhenLive result (rows.new ≡ rows.old) (WithKey reader_keys key result (rows.new ≡ rows.old) (KeepsByCode key rows.old rows.new result)) reader.old.live reader.new.live }
 {
     if !reader.is_live() {
@@ -24,8 +23,6 @@ pub extern "C" fn nr_find_kept(reader: &mut NrReader, key: u32, rows: &mut NrRow
     if !side.has_key(key) {
         return NR_NO_KEY;
     }
-    let mut hand = side.take_hand(key);
-    let found = hand.find_kept(&side.map, key, rows);
-    side.put_hand(hand);
-    of_found(found)
+    side.hand.hold_for(key);
+    of_found(side.hand.find_kept(&side.map, key, rows))
 }

@@ -12,7 +12,6 @@
 #![tactic(auto)]
 
 mod codes;
-mod hand;
 mod id_codes;
 mod id_open;
 mod id_reader_handle;

@@ -1,19 +1,17 @@
 //! Finds of many keys by one call.
 ghost use Rattle.std.specs.Prelude.{◌≡◌, ◌<◌, ◌≤◌, ℕ, All, length, take};
 ghost use Rattle.std.specs.Bool.{OnFalse, OnTrue};
-ghost use Rattle.nr_board.specs.Callers.{Caller};
-ghost use Rattle.nr_c.specs.declared.hand.Hand.TheVariants as hands;
 ghost use Rattle.nr_map.specs.FindsEach.{loads_at, with_loads};
-ghost use Rattle.nr_c.specs.Hands.{table_of};
-ghost use Rattle.nr_c.specs.Live.{MayRead, WhenIdle, WhenLive};
+ghost use Rattle.nr_c.specs.Hands.{HoldsNone};
+ghost use Rattle.nr_c.specs.Live.{WhenIdle, WhenLive};
 ghost use Rattle.nr_c.specs.Many.{AreKeysOf, FindsEachByCode, FindsOneByCode, FindsSome, WithKeys};
 
 use crate::codes::{NR_CLOSED, NR_DONE, NR_HOLDING, NR_NO_KEY, of_found};
-use crate::hand::Hand;
 use crate::reader_handle::NrReader;
 use crate::reader_side::ReaderSide;
 use crate::rows::NrRows;
-use nr_map::{Reader, ReaderMap};
+use core::mem::replace_with;
+use nr_map::{Hand, Reader, ReaderMap};
 
 // How many keys' words are loaded ahead at a time.
 const GROUP: usize = 16;
@@ -35,7 +33,6 @@ pub struct NrWanted {
 /// `NR_HOLDING` where the reader holds a set.
 #[unsafe(no_mangle)]
 pub extern "C" fn nr_find_each(reader: &mut NrReader, wanted: &mut [NrWanted]) -> u32
-    requires rests { MayRead reader.old.live }
     ensures { WhenLive result (wanted.new ≡ wanted.old) (WithKeys wanted.old result (wanted.new ≡ wanted.old) (WhenIdle result (wanted.new ≡ wanted.old) (FindsSome wanted.old wanted.new result))) reader.old.live reader.new.live }
 {
     if !reader.is_live() {
@@ -48,7 +45,8 @@ pub extern "C" fn nr_find_each(reader: &mut NrReader, wanted: &mut [NrWanted]) -
     if side.holds() {
         return NR_HOLDING;
     }
-    find_each_idle(&side.map, &mut side.hand, wanted);
+    let map: &ReaderMap = &side.map;
+    replace_with(&mut side.hand, (map, wanted), found_each);
     NR_DONE
 }
 
@@ -68,17 +66,25 @@ impl ReaderSide {
     }
 }
 
-// Finds by a reader that stays where it is.
-fn find_each_idle(map: &ReaderMap, hand: &mut Hand, wanted: &mut [NrWanted])
-    requires idle { (idle : Caller) × (hand.old ≡ hands.Idle idle) }
-    requires own { table_of hand.old map.now ≡ map.now }
-    requires keys { All (λ one. one.key < map.now.shape.keys) wanted.old }
-    ensures own { table_of hand.new map.now ≡ map.now }
-    ensures finds { (old new : Caller) × (hand.old ≡ hands.Idle old) × (hand.new ≡ hands.Idle new) × FindsEachByCode wanted.old wanted.new old new }
+// Finds by the reader of a hand that holds nothing.
+fn found_each(hand: Hand, asked: (&ReaderMap, &mut [NrWanted])) -> (Hand, ())
+    requires idle { HoldsNone hand }
+    requires own { hand.reader.table ≡ asked.0.now }
+    requires keys { All (λ one. one.key < asked.0.now.shape.keys) asked.1.old }
+    ensures own { result.0.reader.table ≡ asked.0.now }
+    ensures idle { HoldsNone result.0 }
+    ensures finds { FindsEachByCode asked.1.old asked.1.new hand.reader result.0.reader }
 {
-    match hand {
-        Hand::Idle(reader) => find_all(map, reader, wanted),
-        Hand::Holds(_) | Hand::Taken => unreachable!(),
+    let (map, wanted) = asked;
+    match hand.into_pin() {
+        Err(mut reader) => {
+            find_all(map, &mut reader, wanted);
+            (Hand::of(reader), ())
+        }
+        Ok(pin) => {
+            drop(pin.release(map));
+            unreachable!()
+        }
     }
 }
 

@@ -1,8 +1,8 @@
 //! What opens a map and its handles, and what ends them.
 ghost use Rattle.std.specs.Prelude.{◌≡◌, ◌↔◌, [], Err, IfOk, IfErr};
+ghost use Rattle.nr_map.specs.Hands.{idle};
 ghost use Rattle.nr_map.specs.Opened.{IsOpened, words_of_large};
-ghost use Rattle.nr_c.specs.declared.hand.Hand.TheVariants as hand;
-ghost use Rattle.nr_c.specs.Live.{MayRead, OneMap, WhenBothLive, WhenEmpty, WhenLive, WhenOther};
+ghost use Rattle.nr_c.specs.Live.{OneMap, WhenBothLive, WhenEmpty, WhenLive, WhenOther};
 ghost use Rattle.nr_c.specs.Openings.{IsNewWriter, IsRefused, Opens, ReturnsReader, TakesReader};
 ghost use Rattle.nr_c.specs.Sizes.{TellsSizes, shape_of_sizes};
 
@@ -103,7 +103,7 @@ fn seated(
     reader: Reader,
 ) -> Result<Box<ReaderSide, Global>, Reader>
     requires own { reader.table ≡ map.now.value }
-    ensures ok { IfOk result (λ side. (side.value.map.value ≡ map.now.value) × (side.value.hand ≡ hand.Idle reader)) }
+    ensures ok { IfOk result (λ side. (side.value.map.value ≡ map.now.value) × (side.value.hand ≡ idle reader)) }
     ensures back { IfErr result (λ back. back ≡ reader) }
 {
     let Ok(map) = Arc::try_clone(map) else {
@@ -111,10 +111,7 @@ fn seated(
     };
     match Box::new(alloc, ReaderSide::of(map, reader)) {
         Ok(side) => Ok(side),
-        Err(failed) => {
-            let mut side = failed.value;
-            Err(side.take_reader())
-        }
+        Err(failed) => Err(failed.value.end()),
     }
 }
 
@@ -127,7 +124,6 @@ pub extern "C" fn nr_return_reader(
     writer: &mut NrWriter,
     reader: &mut NrReader,
 ) -> u32
-    requires rests { MayRead reader.old.live }
     requires one_map { OneMap reader.old.live writer.old.live }
     ensures { WhenBothLive result (ReturnsReader result) writer.old.live reader.old.live writer.new.live reader.new.live }
 {
@@ -138,10 +134,7 @@ pub extern "C" fn nr_return_reader(
     if side.spare.try_reserve(1).is_err() {
         return NR_NO_MEMORY;
     }
-    match reader.close(alloc) {
-        Some(idle) => side.spare.push_reserved(idle),
-        None => unreachable!(),
-    }
+    side.spare.push_reserved(reader.close(alloc));
     NR_DONE
 }
 

@@ -1,13 +1,12 @@
 //! A reader that holds a set.
 ghost use Rattle.std.specs.Prelude.{◌≡◌, ⊤};
-ghost use Rattle.nr_c.specs.Live.{ByIdleReader, MayRead, WhenHolding, WhenLive, WithKey, reader_keys};
+ghost use Rattle.nr_c.specs.Live.{ByIdleReader, WhenHolding, WhenLive, WithKey, reader_keys};
 ghost use Rattle.nr_c.specs.Pins.{CopiesSet, FindsByHold, PinsCells, Releases, ReadsRow};
 
 use crate::codes::{
     NR_CLOSED, NR_DONE, NR_HOLDING, NR_HOLE, NR_NO_KEY, NR_NO_ROW, NR_NOT_HOLDING, NR_OTHER,
     NR_ROWS,
 };
-use crate::hand::Hand;
 use crate::reader_handle::NrReader;
 use crate::rows::NrRows;
 use nr_model::Row;
@@ -18,7 +17,6 @@ use nr_model::Row;
 /// or `NR_HOLDING` where it holds a set, with no step.
 #[unsafe(no_mangle)]
 pub extern "C" fn nr_pin(reader: &mut NrReader, key: u32, count: &mut u32) -> u32
-    requires rests { MayRead reader.old.live }
     ensures { ByIdleReader key result (count.new ≡ count.old) (PinsCells key count.old count.new result) reader.old.live reader.new.live }
 {
     if !reader.is_live() {
@@ -31,25 +29,17 @@ pub extern "C" fn nr_pin(reader: &mut NrReader, key: u32, count: &mut u32) -> u3
     if side.holds() {
         return NR_HOLDING;
     }
-    let idle = side.take_reader();
-    match side.map.pin(idle, key) {
-        Ok(pin) => {
-            *count = pin.len();
-            side.put(Hand::Holds(pin));
-            NR_ROWS
-        }
-        Err(idle) => {
-            side.put(Hand::Idle(idle));
-            NR_HOLE
-        }
+    if !side.hand.pin(&side.map, key) {
+        return NR_HOLE;
     }
+    *count = side.hand.len();
+    NR_ROWS
 }
 
 /// A row of the held set, from 0, in 2 steps: `NR_ROWS`. `NR_NO_ROW` where it has no such row, with
 /// no step, and `row` stays. `NR_NOT_HOLDING` where nothing is held, with no step.
 #[unsafe(no_mangle)]
 pub extern "C" fn nr_row_at(reader: &mut NrReader, place: u32, row: &mut Row) -> u32
-    requires rests { MayRead reader.old.live }
     ensures { WhenLive result (row.new ≡ row.old) (WhenHolding result (row.new ≡ row.old) (ReadsRow place row.old row.new result)) reader.old.live reader.new.live }
 {
     if !reader.is_live() {
@@ -59,13 +49,10 @@ pub extern "C" fn nr_row_at(reader: &mut NrReader, place: u32, row: &mut Row) ->
     if !side.holds() {
         return NR_NOT_HOLDING;
     }
-    let mut pin = side.take_pin();
-    if place >= pin.len() {
-        side.put(Hand::Holds(pin));
+    if place >= side.hand.len() {
         return NR_NO_ROW;
     }
-    *row = pin.row(&side.map, place);
-    side.put(Hand::Holds(pin));
+    *row = side.hand.row(&side.map, place);
     NR_ROWS
 }
 
@@ -73,7 +60,6 @@ pub extern "C" fn nr_row_at(reader: &mut NrReader, place: u32, row: &mut Row) ->
 /// or `NR_NOT_HOLDING`, and they stay.
 #[unsafe(no_mangle)]
 pub extern "C" fn nr_copy(reader: &mut NrReader, rows: &mut NrRows) -> u32
-    requires rests { MayRead reader.old.live }
     ensures { WhenLive result (rows.new ≡ rows.old) (WhenHolding result (rows.new ≡ rows.old) (CopiesSet rows.new result)) reader.old.live reader.new.live }
 {
     if !reader.is_live() {
@@ -83,10 +69,7 @@ pub extern "C" fn nr_copy(reader: &mut NrReader, rows: &mut NrRows) -> u32
     if !side.holds() {
         return NR_NOT_HOLDING;
     }
-    // No key is asked for, so it is all the same which one the set is taken for.
-    let mut hand = side.take_hand(0);
-    hand.copy_to(&side.map, rows);
-    side.put_hand(hand);
+    side.hand.copy_to(&side.map, rows);
     NR_ROWS
 }
 
@@ -96,7 +79,6 @@ pub extern "C" fn nr_copy(reader: &mut NrReader, rows: &mut NrRows) -> u32
 /// `NR_NO_KEY`, or `NR_NOT_HOLDING` where nothing is held, with no step.
 #[unsafe(no_mangle)]
 pub extern "C" fn nr_again(reader: &mut NrReader, key: u32) -> u32
-    requires rests { MayRead reader.old.live }
     ensures { WhenLive result ⊤ (WithKey reader_keys key result ⊤ (WhenHolding result ⊤ (FindsByHold key result))) reader.old.live reader.new.live }
 {
     if !reader.is_live() {
@@ -109,14 +91,14 @@ pub extern "C" fn nr_again(reader: &mut NrReader, key: u32) -> u32
     if !side.holds() {
         return NR_NOT_HOLDING;
     }
-    let found = side.again(key);
+    side.hand.hold_for(key);
+    let found = side.hand.again(&side.map, key);
     if found { NR_ROWS } else { NR_OTHER }
 }
 
 /// Ends the hold, in 1 step: `NR_DONE`; or `NR_NOT_HOLDING` with no step.
 #[unsafe(no_mangle)]
 pub extern "C" fn nr_release(reader: &mut NrReader) -> u32
-    requires rests { MayRead reader.old.live }
     ensures { WhenLive result ⊤ (WhenHolding result ⊤ (Releases result)) reader.old.live reader.new.live }
 {
     if !reader.is_live() {
@@ -126,8 +108,6 @@ pub extern "C" fn nr_release(reader: &mut NrReader) -> u32
     if !side.holds() {
         return NR_NOT_HOLDING;
     }
-    let pin = side.take_pin();
-    let idle = pin.release(&side.map);
-    side.put(Hand::Idle(idle));
+    side.hand.release(&side.map);
     NR_DONE
 }

@@ -1,6 +1,6 @@
 //! A reader's handle: a box of a reader's side, or none, whose type names no other type, so that C
 //! may hold it.
-ghost use Rattle.std.specs.Prelude.{◌≡◌, List, [], ◌∷◌, IfSome};
+ghost use Rattle.std.specs.Prelude.{◌≡◌, List, [], ◌∷◌};
 ghost use Rattle.std.specs.Bool.{OnFalse, OnTrue};
 ghost use base.Stored.{coded_list};
 ghost use Rattle.nr_c.specs.declared.reader_side.ReaderSide.{ReaderSide};
@@ -53,10 +53,10 @@ impl NrReader {
 
     /// Ends the reader: what it holds is released, and its share of the map ends. The handle leads nowhere
     /// then.
-    pub fn close(&mut self, alloc: Global) -> Option<Reader>
+    pub fn close(&mut self, alloc: Global) -> Reader
         requires { (side : ReaderSide) × (self.old.live ≡ side ∷ []) }
         ensures ends { (side : ReaderSide) → self.old.live ≡ side ∷ [] → EndsHand side.hand result }
-        ensures own { (side : ReaderSide) → self.old.live ≡ side ∷ [] → IfSome result (λ reader. reader.table ≡ side.map.value) }
+        ensures own { (side : ReaderSide) → self.old.live ≡ side ∷ [] → result.table ≡ side.map.value }
         ensures empty { self.new.live ≡ [] }
     {
         let handle = mem::replace(self, NrReader::empty(alloc));

@@ -1,4 +1,6 @@
-use Rattle.std.proofs.Common.{refl, ◌∙◌, inl, inr, ap, sym}
+use Rattle.std.proofs.Common.{refl, ◌∙◌, inl, inr, ap, subst, sym}
+use Rattle.nr_map.specs.Hands.{FindsKept, Handed}
+use Rattle.nr_c.specs.RowCells.{ShowsSet}
 use Rattle.nr_c.proofs.kept.nr_find_kept.Goals as goal
 
 pub returns-then-not-has_key : goal.returns-then-not-has_key
@@ -16,25 +18,11 @@ pub returns : goal.returns
 returns c = inr (inr (
   record { held = c.side-side.result.now; was = ap (λ handle. handle.live) (sym c.is_live.ensures.same) ∙ c.side-side.ensures.value; below = c.if-not-has_key.ensures.has },
   (
-    c.find_kept-found.result,
+    c.find_kept.result,
     c.of_found.ensures,
     c.side-side.result.now.hand,
-    c.put_hand.new.self.hand,
-    record {
-      old = c.side-side.result.now;
-      new = c.put_hand.new.self;
-      led = ap (λ handle. handle.live) (sym c.is_live.ensures.same)
-          ∙ c.side-side.ensures.value;
-      leads = refl;
-      map = c.put_hand.ensures.map ∙ c.take_hand-hand.ensures.map;
-      old_hand = refl;
-      new_hand = refl;
-    },
-    c.take_hand-hand.result,
-    c.find_kept-found.new.self,
-    c.take_hand-hand.ensures.hand,
-    c.put_hand.ensures.hand,
-    c.take_hand-hand.ensures.key,
-    c.find_kept-found.ensures.finds,
+    c.find_kept.new.self,
+    record { old = c.side-side.result.now; new = _; led = ap (λ handle. handle.live) (sym c.is_live.ensures.same) ∙ c.side-side.ensures.value; leads = refl; map = refl; old_hand = refl; new_hand = refl },
+    subst (λ (h : Handed). FindsKept ShowsSet c.args.key h c.args.rows.now c.find_kept.new.self c.find_kept.new.rows c.find_kept.result) c.hold_for.ensures c.find_kept.ensures.finds,
   ),
 ))

@@ -11,10 +11,4 @@ returns-then-holds c =
     inr (inr (record { held = c.side-side.result.now; was = was; has = c.if-not-has_keys.ensures.all }, inl (record { code_is = refl; stay = refl; held = c.side-side.result.now; was = was; is = refl; hand = c.if-holds.ensures.some })))
 
 pub returns : goal.returns
-returns c =
-    let was = ap (λ handle. handle.live) (sym c.is_live.ensures.same) ∙ c.side-side.ensures.value in
-    let (old, new, had, is, finds) = c.find_each_idle.ensures.finds in
-    inr (inr (
-      record { held = c.side-side.result.now; was = was; has = c.if-not-has_keys.ensures.all },
-      inr (refl, (old, new, record { old = c.side-side.result.now; new = _; led = was; leads = refl; map = refl; old_hand = had; new_hand = is }, finds)),
-    ))
+returns c = ?

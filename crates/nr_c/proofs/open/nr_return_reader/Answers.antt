@@ -1,7 +1,4 @@
 use Rattle.std.proofs.Common.{◌≡◌, [], ◌∷◌, ◌++◌, ap, inl, inr, refl, subst, sym, ◌∙◌}
-use Rattle.nr_c.proofs.Ending.{some-is-left}
-use Rattle.nr_c.specs.Hands.{EndsHand}
-use Rattle.nr_c.specs.Live.{MayRead}
 use Rattle.nr_c.proofs.open.nr_return_reader.Goals as goal
 
 pub returns-then-is_err : goal.returns-then-is_err
@@ -28,12 +25,6 @@ returns-then-is_err c =
       ),
     )
 
-pub unreachable-requires : goal.unreachable-requires
-unreachable-requires c =
-    let (held, led) = c.if-not-is_live-2.ensures.live in
-    let (hand, rests) = subst MayRead (ap (λ handle. handle.live) (sym c.is_live-else-not-is_live.ensures.same) ∙ led) c.requires.rests in
-    some-is-left held.hand hand rests (subst (λ left. EndsHand held.hand left) c.in-None.is (c.close.ensures.ends held led))
-
 pub returns : goal.returns
 returns c =
     let side = c.side-side.result.now in let (held, led) = c.if-not-is_live-2.ensures.live in
@@ -44,11 +35,11 @@ returns c =
       inl (
         refl,
         side.spare.items,
-        c.in-Some.idle,
+        c.close.result,
         held,
         ap (λ handle. handle.live) (sym c.is_live-else-not-is_live.ensures.same) ∙ led,
-        subst (λ left. EndsHand held.hand left) c.in-Some.is (c.close.ensures.ends held led),
-        record { old = side; new = _; was = was; is = refl; map = refl; writer = refl; had_spare = refl; has_spare = c.push_reserved.ensures.items ∙ ap (λ items. items ++ c.in-Some.idle ∷ []) c.try_reserve.ensures.items },
+        c.close.ensures.ends held led,
+        record { old = side; new = _; was = was; is = refl; map = refl; writer = refl; had_spare = refl; has_spare = c.push_reserved.ensures.items ∙ ap (λ items. items ++ c.close.result ∷ []) c.try_reserve.ensures.items },
         c.close.ensures.empty,
       ),
     )

@@ -1,4 +1,5 @@
-use Rattle.std.proofs.Common.{Bool, ap, cond, refl, sym, ℕ, ◌∙◌, inl, inr}
+use Rattle.std.proofs.Common.{Bool, ap, cond, refl, subst, sym, ℕ, ◌∙◌, inl, inr}
+use Rattle.nr_map.specs.Hands.{AgainByHand, Handed}
 use Rattle.nr_c.specs.Numbers.{answer_other, answer_rows}
 use Rattle.nr_c.proofs.pins.nr_again.Goals as goal
 
@@ -36,43 +37,27 @@ returns-then-not-holds c = inr (inr (
 pub returns-then-found : goal.returns-then-found
 returns-then-found c = inr (inr (
   record { held = c.side-side.result.now; was = ap (λ handle. handle.live) (sym c.is_live.ensures.same) ∙ c.side-side.ensures.value; below = c.if-not-has_key.ensures.has },
-  inr ((
+  inr (
     c.again-found.result,
     ap (λ (b : Bool). cond {A = ℕ} b answer_rows answer_other) (sym c.if-found.true),
-    c.again-found.ensures.hand.0,
-    c.again-found.ensures.hand.1,
-    record {
-      old = c.side-side.result.now;
-      new = _;
-      led = ap (λ handle. handle.live) (sym c.is_live.ensures.same)
-          ∙ c.side-side.ensures.value;
-      leads = refl;
-      map = c.again-found.ensures.map;
-      old_hand = c.again-found.ensures.hand.2;
-      new_hand = c.again-found.ensures.hand.3;
-    },
-    c.again-found.ensures.hand.4,
-  )),
+    c.side-side.result.now.hand,
+    c.again-found.new.self,
+    record { old = c.side-side.result.now; new = _; led = ap (λ handle. handle.live) (sym c.is_live.ensures.same) ∙ c.side-side.ensures.value; leads = refl; map = refl; old_hand = refl; new_hand = refl },
+    c.if-not-holds.ensures.some,
+    subst (λ (h : Handed). AgainByHand c.args.key h c.again-found.new.self c.again-found.result) c.hold_for.ensures c.again-found.ensures.again,
+  ),
 ))
 
 pub returns-else-found : goal.returns-else-found
 returns-else-found c = inr (inr (
   record { held = c.side-side.result.now; was = ap (λ handle. handle.live) (sym c.is_live.ensures.same) ∙ c.side-side.ensures.value; below = c.if-not-has_key.ensures.has },
-  inr ((
+  inr (
     c.again-found.result,
     ap (λ (b : Bool). cond {A = ℕ} b answer_rows answer_other) (sym c.if-found.false),
-    c.again-found.ensures.hand.0,
-    c.again-found.ensures.hand.1,
-    record {
-      old = c.side-side.result.now;
-      new = _;
-      led = ap (λ handle. handle.live) (sym c.is_live.ensures.same)
-          ∙ c.side-side.ensures.value;
-      leads = refl;
-      map = c.again-found.ensures.map;
-      old_hand = c.again-found.ensures.hand.2;
-      new_hand = c.again-found.ensures.hand.3;
-    },
-    c.again-found.ensures.hand.4,
-  )),
+    c.side-side.result.now.hand,
+    c.again-found.new.self,
+    record { old = c.side-side.result.now; new = _; led = ap (λ handle. handle.live) (sym c.is_live.ensures.same) ∙ c.side-side.ensures.value; leads = refl; map = refl; old_hand = refl; new_hand = refl },
+    c.if-not-holds.ensures.some,
+    subst (λ (h : Handed). AgainByHand c.args.key h c.again-found.new.self c.again-found.result) c.hold_for.ensures c.again-found.ensures.again,
+  ),
 ))

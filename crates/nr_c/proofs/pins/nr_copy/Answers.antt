@@ -13,24 +13,4 @@ returns-then-not-holds c = inr (inl (record {
 }))
 
 pub returns : goal.returns
-returns c = inr (inr ((
-  refl,
-  c.side-side.result.now.hand,
-  c.put_hand.new.self.hand,
-  record {
-    old = c.side-side.result.now;
-    new = c.put_hand.new.self;
-    led = ap (λ handle. handle.live) (sym c.is_live.ensures.same)
-        ∙ c.side-side.ensures.value;
-    leads = refl;
-    map = c.put_hand.ensures.map ∙ c.take_hand-hand.ensures.map;
-    old_hand = refl;
-    new_hand = refl;
-  },
-  c.take_hand-hand.result,
-  c.copy_to.new.self,
-  c.take_hand-hand.ensures.hand,
-  c.put_hand.ensures.hand,
-  c.copy_to.ensures.copied,
-  c.copy_to.ensures.reads,
-)))
+returns c = inr (inr (refl, c.side-side.result.now.hand, c.copy_to.new.self, record { old = c.side-side.result.now; new = _; led = ap (λ handle. handle.live) (sym c.is_live.ensures.same) ∙ c.side-side.ensures.value; leads = refl; map = refl; old_hand = refl; new_hand = refl }, c.copy_to.ensures.copied, c.copy_to.ensures.reads))

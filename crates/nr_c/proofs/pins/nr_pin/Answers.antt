@@ -32,46 +32,14 @@ returns-then-holds c = inr (inr (
       }),
 ))
 
-pub returns-in-Ok : goal.returns-in-Ok
-returns-in-Ok c = inr (inr (
+pub returns-then-not-pin : goal.returns-then-not-pin
+returns-then-not-pin c = inr (inr (
   record { held = c.side-side.result.now; was = ap (λ handle. handle.live) (sym c.is_live.ensures.same) ∙ c.side-side.ensures.value; below = c.if-not-has_key.ensures.has },
-  inr (inl (
-    refl,
-    c.take_reader-idle.result,
-    c.in-Ok.pin,
-    record {
-      old = c.side-side.result.now;
-      new = _;
-      led = ap (λ handle. handle.live) (sym c.is_live.ensures.same)
-          ∙ c.side-side.ensures.value;
-      leads = refl;
-      map = c.put.ensures.map
-          ∙ c.take_reader-idle.ensures.map;
-      old_hand = c.take_reader-idle.ensures.reader;
-      new_hand = c.put.ensures.hand;
-    },
-    c.in-Ok.ensures,
-    c.len.ensures.len,
-  )),
+  inr (inr (refl, c.side-side.result.now.hand, c.pin.new.self, record { old = c.side-side.result.now; new = _; led = ap (λ handle. handle.live) (sym c.is_live.ensures.same) ∙ c.side-side.ensures.value; leads = refl; map = refl; old_hand = refl; new_hand = refl }, c.if-holds.ensures.none, c.if-not-pin.ensures.pins, refl)),
 ))
 
-pub returns-in-Err : goal.returns-in-Err
-returns-in-Err c = inr (inr (
+pub returns : goal.returns
+returns c = inr (inr (
   record { held = c.side-side.result.now; was = ap (λ handle. handle.live) (sym c.is_live.ensures.same) ∙ c.side-side.ensures.value; below = c.if-not-has_key.ensures.has },
-  inr (inr (
-    refl,
-    c.take_reader-idle.result,
-    c.in-Err.idle,
-    record {
-      old = c.side-side.result.now;
-      new = _;
-      led = ap (λ handle. handle.live) (sym c.is_live.ensures.same) ∙ c.side-side.ensures.value;
-      leads = refl;
-      map = c.put-in-Err.ensures.map ∙ c.take_reader-idle.ensures.map;
-      old_hand = c.take_reader-idle.ensures.reader;
-      new_hand = c.put-in-Err.ensures.hand;
-    },
-    c.in-Err.ensures,
-    refl,
-  )),
+  inr (inl (refl, c.side-side.result.now.hand, c.pin.new.self, record { old = c.side-side.result.now; new = _; led = ap (λ handle. handle.live) (sym c.is_live.ensures.same) ∙ c.side-side.ensures.value; leads = refl; map = refl; old_hand = refl; new_hand = refl }, c.if-holds.ensures.none, c.if-not-pin.ensures.pins, c.len.ensures)),
 ))

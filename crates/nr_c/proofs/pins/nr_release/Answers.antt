@@ -13,19 +13,4 @@ returns-then-not-holds c = inr (inl (record {
 }))
 
 pub returns : goal.returns
-returns c = inr (inr ((
-  refl,
-  c.take_pin-pin.result,
-  c.release-idle.result,
-  record {
-    old = c.side-side.result.now;
-    new = _;
-    led = ap (λ handle. handle.live) (sym c.is_live.ensures.same)
-        ∙ c.side-side.ensures.value;
-    leads = refl;
-    map = c.put.ensures.map ∙ c.take_pin-pin.ensures.map;
-    old_hand = c.take_pin-pin.ensures.pin;
-    new_hand = c.put.ensures.hand;
-  },
-  record { rests = c.release-idle.ensures.rests; holds = c.release-idle.ensures.idle; marks = c.release-idle.ensures.marks },
-)))
+returns c = inr (inr (refl, c.side-side.result.now.hand, c.release.new.self, record { old = c.side-side.result.now; new = _; led = ap (λ handle. handle.live) (sym c.is_live.ensures.same) ∙ c.side-side.ensures.value; leads = refl; map = refl; old_hand = refl; new_hand = refl }, c.if-not-holds.ensures.some, c.release.ensures.lets_go))
