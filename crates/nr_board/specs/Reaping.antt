@@ -105,7 +105,7 @@ abbrev pub SweepsHeard : Spare → MapSeat → MapSeat → Sweep → Type 0
 SweepsHeard spare old new found =
     (SweepsFor spare old new found × (found ≡ sweep.Held → old.me.0.announcers ≡ 0))
     ⊎ ((0 < old.me.0.announcers) × (mid last : MapSeat) × SweepsFor spare old mid sweep.Held
-      × (loads : List WordLoad) × WordsTell old.me.0.announcers spare.retired old.me.0.shape.slots loads last.me.0.heard × (last.me.0 ≡ scanned_to loads last.me.0.heard mid.me.0) × SweepsFor spare last new found)
+    × (loads : List WordLoad) × WordsTell old.me.0.announcers spare.retired old.me.0.shape.slots loads last.me.0.heard × (last.me.0 ≡ scanned_to loads last.me.0.heard mid.me.0) × SweepsFor spare last new found)
 
 -- THE CALL
 

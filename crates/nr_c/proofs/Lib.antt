@@ -6,4 +6,5 @@ pub mod AsRemainsBox
 pub mod AsIdReaderBox
 pub mod AsIdWriterBox
 pub mod FindsMade
+pub mod IdleFinds
 pub mod LedgerLemmas

@@ -1,7 +1,7 @@
 //! Finds of many keys by one call.
-ghost use Rattle.std.specs.Prelude.{◌≡◌, ◌<◌, ◌≤◌, ℕ, All, length, take};
+ghost use Rattle.std.specs.Prelude.{◌≡◌, ◌<◌, ◌≤◌, ◌*◌, ℕ, All, length, take};
 ghost use Rattle.std.specs.Bool.{OnFalse, OnTrue};
-ghost use Rattle.nr_map.specs.FindsEach.{loads_at, with_loads};
+ghost use Rattle.nr_map.specs.FindsEach.{loads_at, loads_of_key, with_loads};
 ghost use Rattle.nr_c.specs.Hands.{HoldsNone};
 ghost use Rattle.nr_c.specs.Live.{WhenIdle, WhenLive};
 ghost use Rattle.nr_c.specs.Many.{AreKeysOf, FindsEachByCode, FindsOneByCode, FindsSome, WithKeys};
@@ -11,7 +11,7 @@ use crate::reader_handle::NrReader;
 use crate::reader_side::ReaderSide;
 use crate::rows::NrRows;
 use core::mem::replace_with;
-use nr_map::{Hand, Reader, ReaderMap};
+use nr_map::{Hand, ReaderMap};
 
 // How many keys' words are loaded ahead at a time.
 const GROUP: usize = 16;
@@ -45,8 +45,7 @@ pub extern "C" fn nr_find_each(reader: &mut NrReader, wanted: &mut [NrWanted]) -
     if side.holds() {
         return NR_HOLDING;
     }
-    let map: &ReaderMap = &side.map;
-    replace_with(&mut side.hand, (map, wanted), found_each);
+    find_all(&side.map, &mut side.hand, wanted);
     NR_DONE
 }
 
@@ -66,50 +65,54 @@ impl ReaderSide {
     }
 }
 
-// Finds by the reader of a hand that holds nothing.
-fn found_each(hand: Hand, asked: (&ReaderMap, &mut [NrWanted])) -> (Hand, ())
-    requires idle { HoldsNone hand }
-    requires own { hand.reader.table ≡ asked.0.now }
-    requires keys { All (λ one. one.key < asked.0.now.shape.keys) asked.1.old }
-    ensures own { result.0.reader.table ≡ asked.0.now }
-    ensures idle { HoldsNone result.0 }
-    ensures finds { FindsEachByCode asked.1.old asked.1.new hand.reader result.0.reader }
+fn find_all(map: &ReaderMap, hand: &mut Hand, wanted: &mut [NrWanted])
+    requires own { hand.old.reader.table ≡ map.now }
+    requires idle { HoldsNone hand.old }
+    requires keys { All (λ one. one.key < map.now.shape.keys) wanted.old }
+    ensures own { hand.new.reader.table ≡ map.now }
+    ensures idle { HoldsNone hand.new }
+    ensures finds { FindsEachByCode wanted.old wanted.new hand.old.reader hand.new.reader }
 {
-    let (map, wanted) = asked;
+    for place in 0..wanted.len() {
+        load_from(map, hand, place, &wanted[place..]);
+        find_one(map, hand, &mut wanted[place]);
+    }
+}
+
+// Before the first of sixteen keys, the loads for all of them. These are the keys from that place on.
+fn load_from(map: &ReaderMap, hand: &mut Hand, place: usize, left: &[NrWanted])
+    requires own { hand.old.reader.table ≡ map.now }
+    requires idle { HoldsNone hand.old }
+    requires keys { All (λ one. one.key < map.now.shape.keys) left.now }
+    ensures reader { hand.new.reader ≡ with_loads (loads_at map.now.shape.rows place (length left.now)) hand.old.reader }
+    ensures idle { HoldsNone hand.new }
+{
+    if place % GROUP == 0 {
+        let group = &left[..left.len().min(GROUP)];
+        let keys = keys_of(group);
+        replace_with(hand, (map, &keys[..group.len()]), loaded_ahead);
+    }
+}
+
+// A hand that holds nothing loads what its finds of the keys will need.
+fn loaded_ahead(hand: Hand, near: (&ReaderMap, &[u32])) -> (Hand, ())
+    requires own { hand.reader.table ≡ near.0.now }
+    requires idle { HoldsNone hand }
+    requires keys { All (λ key. key < near.0.now.shape.keys) near.1.now }
+    requires few { length near.1.now ≤ 16 }
+    ensures reader { result.0.reader ≡ with_loads (loads_of_key near.0.now.shape.rows * length near.1.now) hand.reader }
+    ensures idle { HoldsNone result.0 }
+{
+    let (map, keys) = near;
     match hand.into_pin() {
         Err(mut reader) => {
-            find_all(map, &mut reader, wanted);
+            map.load_ahead(&mut reader, keys);
             (Hand::of(reader), ())
         }
         Ok(pin) => {
             drop(pin.release(map));
             unreachable!()
         }
-    }
-}
-
-fn find_all(map: &ReaderMap, reader: &mut Reader, wanted: &mut [NrWanted])
-    requires own { reader.old.table ≡ map.now }
-    requires keys { All (λ one. one.key < map.now.shape.keys) wanted.old }
-    ensures own { reader.new.table ≡ map.now }
-    ensures finds { FindsEachByCode wanted.old wanted.new reader.old reader.new }
-{
-    for place in 0..wanted.len() {
-        load_from(map, reader, place, &wanted[place..]);
-        find_one(map, reader, &mut wanted[place]);
-    }
-}
-
-// Before the first of sixteen keys, the loads for all of them. These are the keys from that place on.
-fn load_from(map: &ReaderMap, reader: &mut Reader, place: usize, left: &[NrWanted])
-    requires own { reader.old.table ≡ map.now }
-    requires keys { All (λ one. one.key < map.now.shape.keys) left.now }
-    ensures { reader.new ≡ with_loads (loads_at map.now.shape.rows place (length left.now)) reader.old }
-{
-    if place % GROUP == 0 {
-        let group = &left[..left.len().min(GROUP)];
-        let keys = keys_of(group);
-        map.load_ahead(reader, &keys[..group.len()]);
     }
 }
 
@@ -125,11 +128,13 @@ fn keys_of(group: &[NrWanted]) -> [u32; GROUP]
     keys
 }
 
-fn find_one(map: &ReaderMap, reader: &mut Reader, one: &mut NrWanted)
-    requires own { reader.old.table ≡ map.now }
+fn find_one(map: &ReaderMap, hand: &mut Hand, one: &mut NrWanted)
+    requires own { hand.old.reader.table ≡ map.now }
+    requires idle { HoldsNone hand.old }
     requires key { one.old.key < map.now.shape.keys }
-    ensures own { reader.new.table ≡ map.now }
-    ensures finds { FindsOneByCode one.old one.new reader.old reader.new }
+    ensures own { hand.new.reader.table ≡ map.now }
+    ensures idle { HoldsNone hand.new }
+    ensures finds { FindsOneByCode one.old one.new hand.old.reader hand.new.reader }
 {
-    one.answer = of_found(map.find_into(reader, one.key, &mut one.rows));
+    one.answer = of_found(hand.find(map, one.key, &mut one.rows));
 }

@@ -61,6 +61,7 @@ impl ReaderSide {
     pub fn end(self) -> Reader
         ensures ends { EndsHand self.hand result }
         ensures own { result.table ≡ self.map.value }
+        ensures back { HoldsNone self.hand → result ≡ self.hand.reader }
     {
         let ReaderSide {
             map,

@@ -57,6 +57,7 @@ impl Hand {
         requires own { self.reader.table ≡ map.now }
         ensures own { result.table ≡ map.now }
         ensures lets_go { LetsGo self (idle result) }
+        ensures idle { self.key ≡ None → result ≡ self.reader }
     {
         let mut hand = self;
         hand.release(map);
@@ -223,7 +224,9 @@ impl Hand {
             return self.pin(map, key);
         };
         if kept.key == key {
-            let word = map.board.look_again(&mut self.caller.seat, kept.set.slot, key);
+            let word = map
+                .board
+                .look_again(&mut self.caller.seat, kept.set.slot, key);
             if names(word, kept.set.slot) {
                 return true;
             }

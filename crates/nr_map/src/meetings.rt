@@ -37,7 +37,8 @@ impl ReaderMap {
         ensures reader { Meets 1 reader.old other.old reader.new }
         ensures other { other.new ≡ with_step other.old }
     {
-        self.board.hear(&mut reader.caller.seat, &mut other.caller.seat);
+        self.board
+            .hear(&mut reader.caller.seat, &mut other.caller.seat);
     }
 
     /// The writer learns all that the reader has seen, and then the reader all that the writer has:

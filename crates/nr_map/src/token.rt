@@ -155,8 +155,7 @@ impl Token {
         ensures hold { (token self.new.seat).holds ≡ (token self.old.seat).holds }
         ensures marks { self.new.seat.me.0.marks ≡ self.old.seat.me.0.marks }
     {
-        map.board
-            .read_row(&mut self.seat, held.begin, u64::from(i))
+        map.board.read_row(&mut self.seat, held.begin, u64::from(i))
     }
 
     /// A note of what the reader has seen, in 1 step. Else it stays as it is.

@@ -2,9 +2,9 @@
 #![tactic(auto)]
 
 #[cfg(test)]
-mod kept;
-#[cfg(test)]
 mod calls;
+#[cfg(test)]
+mod kept;
 #[cfg(test)]
 mod large;
 #[cfg(test)]

@@ -99,7 +99,10 @@ fn pin_anew(map: &ReaderMap, mut hand: Hand, page: &mut Page)
     let once = hand.find(map, 0, &mut after);
     page.line("a find that keeps nothing: ", &once);
     page.more(", ", &hand.key());
-    page.line("a request finds the key filled: ", &is_filled(map, &mut hand));
+    page.line(
+        "a request finds the key filled: ",
+        &is_filled(map, &mut hand),
+    );
     page.line("its reader: ", &hand.number());
     hand.into_reader(map);
 }

@@ -11,4 +11,17 @@ returns-then-holds c =
     inr (inr (record { held = c.side-side.result.now; was = was; has = c.if-not-has_keys.ensures.all }, inl (record { code_is = refl; stay = refl; held = c.side-side.result.now; was = was; is = refl; hand = c.if-holds.ensures.some })))
 
 pub returns : goal.returns
-returns c = ?
+returns c =
+    let was = ap (λ handle. handle.live) (sym c.is_live.ensures.same) ∙ c.side-side.ensures.value in let none = c.if-holds.ensures.none in
+    inr (inr (
+      record { held = c.side-side.result.now; was = was; has = c.if-not-has_keys.ensures.all },
+      inr (
+        refl,
+        c.side-side.result.now.hand,
+        c.find_all.new.hand,
+        record { old = c.side-side.result.now; new = _; led = was; leads = refl; map = refl; old_hand = refl; new_hand = refl },
+        none,
+        c.find_all.ensures.idle,
+        c.find_all.ensures.finds,
+      ),
+    ))

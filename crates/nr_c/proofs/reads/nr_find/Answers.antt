@@ -1,18 +1,6 @@
-use Rattle.std.proofs.Common.{◌≡◌, ℕ, ◌+◌, arith, refl, inl, inr, ap, subst, sym, ◌∙◌}
-use Rattle.nr_marks.specs.Marks.{Marks}
-use Rattle.nr_marks.specs.Puts.{put_number}
-use Rattle.nr_board.specs.Callers.{Caller}
-use Rattle.nr_board.specs.declared.answers.Found.{Found}
-use Rattle.nr_board.specs.declared.answers.Found.TheVariants as found
-use Rattle.nr_map.specs.Answers.{FindsIn, acts_of, marks_found}
-use Rattle.nr_map.specs.Hands.{Handed}
-use Rattle.nr_c.specs.RowCells.{ShowsSet}
+use Rattle.std.proofs.Common.{refl, inl, inr, ap, sym, ◌∙◌}
+use Rattle.nr_c.proofs.IdleFinds.{finds_by_code, still_idle}
 use Rattle.nr_c.proofs.reads.nr_find.Goals as goal
-
--- a find's acts are those that its answer tells
-acts_found : (answer : Found) (marks : Marks) (put : ℕ) → (marks_found answer marks put).acts ≡ marks.acts + acts_of answer
-acts_found found.Rows marks put = omega arith
-acts_found found.Hole marks put = omega arith
 
 pub returns-then-not-has_key : goal.returns-then-not-has_key
 returns-then-not-has_key c = inr (inl (record {
@@ -46,20 +34,17 @@ returns-then-holds c = inr (inr (
 ))
 
 pub returns : goal.returns
-returns c = let finds = c.find.ensures.finds in let none = c.if-holds.ensures.none in let reader = finds.was_idle none in inr (inr (
-  record { held = c.side-side.result.now; was = ap (λ handle. handle.live) (sym c.is_live.ensures.same) ∙ c.side-side.ensures.value; below = c.if-not-has_key.ensures.has },
-  inr (
-    c.side-side.result.now.hand,
-    c.find.new.self,
-    record { old = c.side-side.result.now; new = _; led = ap (λ handle. handle.live) (sym c.is_live.ensures.same) ∙ c.side-side.ensures.value; leads = refl; map = refl; old_hand = refl; new_hand = refl },
-    none,
-    ap (λ (h : Handed). h.key) finds.rests,
-    (
-      c.find.result,
-      c.of_found.ensures,
-      subst (λ (r : Caller). FindsIn ShowsSet c.args.key r c.args.rows.now c.find.new.self.reader c.find.new.rows c.find.result) reader finds.finds,
-      finds.holds,
-      ap (λ (m : Marks). m.acts) finds.marks ∙ acts_found c.find.result finds.reader.marks (put_number c.find.new.self.reader.seen c.args.key) ∙ ap (λ (r : Caller). r.marks.acts + acts_of c.find.result) reader,
-    ),
-  ),
-))
+returns c =
+    let hand = c.side-side.result.now.hand in let finds = c.find.ensures.finds in let none = c.if-holds.ensures.none in
+    let was = ap (λ handle. handle.live) (sym c.is_live.ensures.same) ∙ c.side-side.ensures.value in
+    inr (inr (
+      record { held = c.side-side.result.now; was = was; below = c.if-not-has_key.ensures.has },
+      inr (
+        hand,
+        c.find.new.self,
+        record { old = c.side-side.result.now; new = _; led = was; leads = refl; map = refl; old_hand = refl; new_hand = refl },
+        none,
+        still_idle c.args.key hand c.find.new.self c.args.rows.now c.find.new.rows c.find.result finds,
+        finds_by_code c.args.key hand c.find.new.self c.args.rows.now c.find.new.rows c.find.result finds _ c.of_found.ensures none,
+      ),
+    ))

@@ -14,8 +14,8 @@ at_once seat = λ j. record seat { me = (record seat.me.0 { steps = same j }, se
 
 pub returns-in-Some-clause-takes : goal.returns-in-Some-clause-takes
 returns-in-Some-clause-takes g c = let map = c.args.self.now in let spare = c.args.spare.now in let seat = c.args.seat.now in let fresh = c.in-Some.ensures in (
-      0,
-      subst (λ (p : Shape × MapSeat). TakesSlot map g.G.BegunCall.call c.args.rows.now c.in-Some.slot p.0.first_count spare c.take_fresh.new.self p.1 seat) (λ j. (sym c.shape.ensures j, at_once seat j))
-          (takes_fresh map g.G.BegunCall.call c.args.rows.now spare c.take_fresh.new.self seat c.in-Some.slot c.requires.settles fresh.0 fresh.1 fresh.2),
-      (inl fresh.0, refl, refl),
-    )
+  0,
+  subst (λ (p : Shape × MapSeat). TakesSlot map g.G.BegunCall.call c.args.rows.now c.in-Some.slot p.0.first_count spare c.take_fresh.new.self p.1 seat) (λ j. (sym c.shape.ensures j, at_once seat j))
+      (takes_fresh map g.G.BegunCall.call c.args.rows.now spare c.take_fresh.new.self seat c.in-Some.slot c.requires.settles fresh.0 fresh.1 fresh.2),
+  (inl fresh.0, refl, refl),
+)
