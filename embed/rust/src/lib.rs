@@ -138,7 +138,8 @@ mod values;
 mod writer;
 
 pub use answers::{Asked, Cancel, Fault, KeyKind, Updated};
-pub use cache::{Cache, CacheBuilder, CacheReader, CacheRef, CacheStats, LoadError, Request, Sought};
+pub use cache::{Cache, CacheBuilder, CacheReader, CacheRef, CacheStats, Change, LoadError};
+pub use cache::{Request, Sought, View, WaitError};
 pub use emptied::Emptied;
 pub use inbox::{Arrival, EventSender, Inbox, InboxPoster, InboxTaker};
 pub use loaders::Loaders;

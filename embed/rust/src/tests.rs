@@ -10,6 +10,7 @@ mod net;
 mod progress;
 mod reclaiming;
 mod values;
+mod view;
 
 const ONE: Row = Row { a: 1, b: 1 };
 

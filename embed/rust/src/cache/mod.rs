@@ -9,11 +9,13 @@ mod seats;
 mod shared;
 mod stats;
 mod store;
+mod view;
 
 pub use builder::CacheBuilder;
-pub use reader::{CacheReader, CacheRef, LoadError};
+pub use reader::{CacheReader, CacheRef, LoadError, WaitError};
 pub use request::{Request, Sought};
 pub use stats::CacheStats;
+pub use view::{Change, View};
 
 use entry::Entry;
 use shared::Shared;
@@ -31,15 +33,23 @@ use std::sync::{Arc, PoisonError};
 ///
 /// ```
 /// use nr::Cache;
+/// use std::time::Duration;
 ///
-/// let cache: Cache<String, usize> = Cache::builder().capacity(100).open()?;
-/// let mut reader = cache.reader().expect("there are readers left");
-/// assert!(reader.get("four").is_none());
-/// assert_eq!(*reader.get_with("four", || "four".len()), 4);
-/// assert_eq!(reader.get("four").as_deref(), Some(&4));
-/// cache.invalidate("four");
-/// assert_eq!(reader.try_get_with("four", || Err("no answer")).map(|found| *found), Err("no answer"));
-/// # Ok::<(), nr::Fault>(())
+/// # fn query(user: &str) -> Result<String, String> {
+/// #     Ok(format!("what the base has of {user}"))
+/// # }
+/// let cache: Cache<String, String> =
+///     Cache::builder().capacity(10_000).threads(8).time_to_live(Duration::from_secs(60)).open()?;
+/// let mut reader = cache.reader().expect("there is one for each of the threads");
+/// // Who misses a user while another queries it waits for that.
+/// let found = reader.try_get_with("alice", || query("alice"))?;
+/// assert_eq!(*found, "what the base has of alice");
+/// drop(found);
+/// // After a write to the base: what was queried before is not held.
+/// cache.invalidate("alice");
+/// assert!(reader.get("alice").is_none());
+/// assert_eq!(cache.stats().loads, 1);
+/// # Ok::<(), Box<dyn std::error::Error>>(())
 /// ```
 pub struct Cache<K: Hash + Eq, V, S: BuildHasher = RandomState> {
     shared: Arc<Shared<K, V, S>>,
@@ -60,7 +70,7 @@ impl<K: Hash + Eq, V, S: BuildHasher> Cache<K, V, S> {
     }
 
     /// Puts a value, whatever its key has. A load that is under way for the key will not be held. Whether the cache holds
-    /// the value: it doesn't where another key has its hash, or where all of its group is being loaded.
+    /// the value: it doesn't where another key has its hash, where all of its group is being loaded, or during a [`Change`].
     pub fn insert(&self, key: K, value: V) -> bool {
         let id = self.shared.id_of(&key);
         self.shared.put(Box::new(Entry::new(id, key, value, self.shared.now())))

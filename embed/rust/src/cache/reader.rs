@@ -1,5 +1,6 @@
 //! What a thread finds and loads values with.
 use super::entry::{entry_of, Entry};
+use super::flights::End;
 use super::request::{Request, Sought};
 use super::seats::Seat;
 use super::shared::{Begun, Landed, Shared};
@@ -15,7 +16,7 @@ use std::fmt;
 use std::hash::{BuildHasher, Hash};
 use std::mem::ManuallyDrop;
 use std::ops::Deref;
-use std::sync::PoisonError;
+use std::sync::{Arc, PoisonError};
 use std::time::{Duration, Instant};
 
 /// A reader of a cache, for one thread at a time. Dropped, it goes back to its cache by itself.
@@ -46,11 +47,8 @@ impl<K: Hash + Eq, V, S: BuildHasher> CacheReader<K, V, S> {
         K: Borrow<Q>,
     {
         let id = self.shared().id_of(key);
-        let found = self.find(id, key);
-        if found.is_none() {
-            count(&self.shared().counts.misses);
-        }
-        found.map(|place| self.borrowed(place))
+        let place = self.look(id, key)?;
+        Some(self.borrowed(place))
     }
 
     /// The value of a key. Where the cache doesn't hold it, one caller loads it, by its own thread and without a lock,
@@ -115,13 +113,13 @@ impl<K: Hash + Eq, V, S: BuildHasher> CacheReader<K, V, S> {
         Q: Hash + Eq + ToOwned<Owned = K> + ?Sized,
     {
         let id = self.shared().id_of(key);
+        let mut found = self.look(id, key);
         loop {
-            if let Some(place) = self.find(id, key) {
+            if let Some(place) = found {
                 return Sought::Held(self.borrowed(place));
             }
-            count(&self.shared().counts.misses);
             match self.shared().begin(id, key, key.to_owned()) {
-                Begun::Held => {}
+                Begun::Held => found = self.find(id, key),
                 Begun::Wait(_) => return Sought::UnderWay,
                 Begun::Load(flight) => return Sought::Missing(Request::of(self.cache.clone(), id, flight)),
             }
@@ -129,23 +127,25 @@ impl<K: Hash + Eq, V, S: BuildHasher> CacheReader<K, V, S> {
     }
 
     /// The value of a key, for whose load, where one is under way, it waits so long.
-    pub fn get_waiting<Q>(&mut self, key: &Q, timeout: Duration) -> Option<CacheRef<'_, K, V>>
+    pub fn get_waiting<Q>(&mut self, key: &Q, timeout: Duration) -> Result<CacheRef<'_, K, V>, WaitError>
     where
         K: Borrow<Q>,
         Q: Hash + Eq + ?Sized,
     {
         let id = self.shared().id_of(key);
-        if let Some(place) = self.find(id, key) {
-            return Some(self.borrowed(place));
+        if let Some(place) = self.look(id, key) {
+            return Ok(self.borrowed(place));
         }
-        count(&self.shared().counts.misses);
-        let flight = self.shared().flight_of(id, key);
-        if let Some(flight) = flight {
+        if let Some(flight) = self.shared().flight_of(id, key) {
             count(&self.shared().counts.waits);
-            flight.wait(Instant::now().checked_add(timeout));
+            match flight.wait(Instant::now().checked_add(timeout)) {
+                None => return Err(WaitError::TimedOut),
+                Some(End::Failed(why)) => return Err(WaitError::Failed(why)),
+                Some(End::Loaded) => {}
+            }
         }
-        let place = self.find(id, key)?;
-        Some(self.borrowed(place))
+        let place = self.find(id, key).ok_or(WaitError::Missing)?;
+        Ok(self.borrowed(place))
     }
 
     /// Puts a new value in place of a key's, made of the one that it has; `change` runs again where that was replaced
@@ -181,10 +181,9 @@ impl<K: Hash + Eq, V, S: BuildHasher> CacheReader<K, V, S> {
         Q: Hash + Eq + ToOwned<Owned = K> + ?Sized,
     {
         let id = self.shared().id_of(key);
-        if let Some(place) = self.find(id, key) {
+        if let Some(place) = self.look(id, key) {
             return Ok(self.borrowed(place));
         }
-        count(&self.shared().counts.misses);
         // A limit beyond the end of time is none.
         let until = timeout.and_then(|timeout| Instant::now().checked_add(timeout));
         let flight = loop {
@@ -192,7 +191,7 @@ impl<K: Hash + Eq, V, S: BuildHasher> CacheReader<K, V, S> {
                 Begun::Load(flight) => break flight,
                 Begun::Wait(flight) => {
                     count(&self.shared().counts.waits);
-                    if !flight.wait(until) {
+                    if flight.wait(until).is_none() {
                         return Err(LoadError::TimedOut);
                     }
                 }
@@ -228,9 +227,21 @@ impl<K: Hash + Eq, V, S: BuildHasher> CacheReader<K, V, S> {
         }
         entry.mark();
         shared.expiry.touch(entry, now);
-        seat.0.count_hit();
         std::mem::forget(seat);
         Some(place)
+    }
+
+    /// The same for a get's first look, which is a hit or a miss.
+    fn look<Q: Eq + ?Sized>(&mut self, id: u64, key: &Q) -> Option<Place<K, V>>
+    where
+        K: Borrow<Q>,
+    {
+        let found = self.find(id, key);
+        match found {
+            Some(_) => self.shared().seats.seat(self.seat).count_hit(),
+            None => count(&self.shared().counts.misses),
+        }
+        found
     }
 
     fn borrowed(&self, place: Place<K, V>) -> CacheRef<'_, K, V> {
@@ -338,6 +349,37 @@ impl<E: Error + 'static> Error for LoadError<E> {
         match self {
             LoadError::TimedOut => None,
             LoadError::Failed(why) => Some(why),
+        }
+    }
+}
+
+/// Why a get that waits for another's load has no value.
+#[derive(Clone, Debug)]
+pub enum WaitError {
+    /// Nobody loads the key, or what was loaded is not held: it may be asked for anew.
+    Missing,
+    /// The load took too long.
+    TimedOut,
+    /// The load failed; where its [`Request`] was failed for a cause, for this one.
+    Failed(Option<Arc<dyn Error + Send + Sync>>),
+}
+
+impl fmt::Display for WaitError {
+    fn fmt(&self, f: &mut fmt::Formatter<'_>) -> fmt::Result {
+        match self {
+            WaitError::Missing => f.write_str("the cache doesn't hold the key"),
+            WaitError::TimedOut => f.write_str("another's load took too long"),
+            WaitError::Failed(None) => f.write_str("another's load failed"),
+            WaitError::Failed(Some(why)) => why.fmt(f),
+        }
+    }
+}
+
+impl Error for WaitError {
+    fn source(&self) -> Option<&(dyn Error + 'static)> {
+        match self {
+            WaitError::Failed(Some(why)) => Some(&**why),
+            _ => None,
         }
     }
 }

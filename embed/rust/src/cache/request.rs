@@ -4,6 +4,7 @@ use super::flights::Flight;
 use super::shared::Landed;
 use super::{Cache, CacheRef};
 use std::collections::hash_map::RandomState;
+use std::error::Error;
 use std::fmt;
 use std::hash::{BuildHasher, Hash};
 use std::sync::Arc;
@@ -38,8 +39,11 @@ impl<K: Hash + Eq, V, S: BuildHasher> Request<K, V, S> {
         matches!(self.land(key, value, None), Landed::Held(_))
     }
 
-    /// Ends it without a value: one of those who wait loads the key.
-    pub fn fail(self) {}
+    /// Ends it without a value. Those who wait without a load of their own are told why; of the others one loads the key.
+    pub fn fail(mut self, why: impl Into<Box<dyn Error + Send + Sync>>) {
+        self.has_ended = true;
+        self.cache.shared.crash(self.id, &self.flight, Some(why.into().into()));
+    }
 
     /// Ends it with a value, for the reader of that seat.
     pub(super) fn land(mut self, key: K, value: V, seat: Option<usize>) -> Landed<K, V> {
@@ -53,7 +57,7 @@ impl<K: Hash + Eq, V, S: BuildHasher> Request<K, V, S> {
 impl<K: Hash + Eq, V, S: BuildHasher> Drop for Request<K, V, S> {
     fn drop(&mut self) {
         if !self.has_ended {
-            self.cache.shared.crash(self.id, &self.flight);
+            self.cache.shared.crash(self.id, &self.flight, None);
         }
     }
 }

@@ -1,7 +1,7 @@
 //! What the handles of a cache have in common.
 use super::entry::{drop_each, Entry};
 use super::expiry::{Expiry, Moment};
-use super::flights::Flight;
+use super::flights::{Cause, End, Flight, Prospect};
 use super::seats::Seats;
 use super::stats::{count, Counts};
 use super::store::{Place, Store};
@@ -80,16 +80,21 @@ impl<K: Hash + Eq, V, S: BuildHasher> Shared<K, V, S> {
             match store.find(id).map(|entry| (entry.key.borrow() == key, self.expiry.is_over(entry, now))) {
                 Some((true, false)) => return Begun::Held,
                 // Another key has the id.
-                Some((false, false)) => return Begun::Load(store.flights.begin(id, take_key(), None)),
+                Some((false, false)) => return Begun::Load(store.flights.begin(id, take_key(), Prospect::NoPlace)),
                 Some((_, true)) => {
                     store.evict(id, &self.seats);
                     count(&self.counts.evictions);
                 }
                 None => {}
             }
-            let is_taken = store.flights.has_upquery(id);
-            let upquery = if is_taken { None } else { store.admit(id, &self.seats, &self.expiry, now) };
-            Begun::Load(store.flights.begin(id, take_key(), upquery))
+            let prospect = if store.flights.is_changing(id) {
+                Prospect::Outdated
+            } else if store.flights.has_upquery(id) {
+                Prospect::NoPlace
+            } else {
+                store.admit(id, &self.seats, &self.expiry, now).map_or(Prospect::NoPlace, Prospect::Held)
+            };
+            Begun::Load(store.flights.begin(id, take_key(), prospect))
         })
     }
 
@@ -104,30 +109,30 @@ impl<K: Hash + Eq, V, S: BuildHasher> Shared<K, V, S> {
     /// Ends a flight by its value, for the reader of that seat.
     pub fn land(&self, id: u64, flight: &Arc<Flight<K>>, entry: Box<Entry<K, V>>, seat: Option<usize>) -> Landed<K, V> {
         count(&self.counts.loads);
-        self.change_then(
-            |store| match store.flights.end(id, flight) {
-                Some(upquery) => {
+        let land = |store: &mut Store<K, V>| {
+            let why = match store.flights.end(id, flight) {
+                Prospect::Held(upquery) => {
                     seat.into_iter().for_each(|seat| self.seats.sit(seat));
-                    Landed::Held(store.fill(upquery, entry, &self.seats, &self.expiry))
+                    return Landed::Held(store.fill(upquery, entry, &self.seats, &self.expiry));
                 }
-                None => {
-                    count(&self.counts.refused);
-                    Landed::Own(entry)
-                }
-            },
-            || flight.end(),
-        )
+                Prospect::NoPlace => &self.counts.refused,
+                Prospect::Outdated => &self.counts.outdated,
+            };
+            count(why);
+            Landed::Own(entry)
+        };
+        self.change_then(land, || flight.end(End::Loaded))
     }
 
-    /// Ends a flight without a value.
-    pub fn crash(&self, id: u64, flight: &Arc<Flight<K>>) {
+    /// Ends a flight without a value, for that cause.
+    pub fn crash(&self, id: u64, flight: &Arc<Flight<K>>, why: Option<Cause>) {
         count(&self.counts.failures);
         let withdraw = |store: &mut Store<K, V>| {
-            if let Some(upquery) = store.flights.end(id, flight) {
+            if let Prospect::Held(upquery) = store.flights.end(id, flight) {
                 store.withdraw(upquery, id);
             }
         };
-        self.change_then(withdraw, || flight.end());
+        self.change_then(withdraw, || flight.end(End::Failed(why)));
     }
 
     /// Puts an entry, whatever its key has, and whatever is under way for it: whether it is held.
@@ -136,18 +141,23 @@ impl<K: Hash + Eq, V, S: BuildHasher> Shared<K, V, S> {
         let refused = self.change(|store| {
             self.revoke(store, id);
             let is_same = store.find(id).map(|old| old.key == entry.key);
+            // Whether the value is from before a change or from after it nobody can tell.
+            if store.flights.is_changing(id) && is_same != Some(false) {
+                store.evict(id, &self.seats);
+                return Some((entry, &self.counts.outdated));
+            }
             match is_same {
                 Some(true) => store.replace(entry, &self.seats),
-                Some(false) => return Some(entry),
+                Some(false) => return Some((entry, &self.counts.refused)),
                 None => match store.admit(id, &self.seats, &self.expiry, entry.born) {
                     Some(upquery) => drop(store.fill(upquery, entry, &self.seats, &self.expiry)),
-                    None => return Some(entry),
+                    None => return Some((entry, &self.counts.refused)),
                 },
             }
             None
         });
-        if refused.is_some() {
-            count(&self.counts.refused);
+        if let Some((_, counter)) = &refused {
+            count(counter);
         }
         refused.is_none()
     }
@@ -184,6 +194,33 @@ impl<K: Hash + Eq, V, S: BuildHasher> Shared<K, V, S> {
             }
             store.evict_all(&self.seats);
         });
+    }
+
+    /// Begins a change of a key in the base: no load that began before its end will be held.
+    pub fn begin_change(&self, id: u64) {
+        self.change(|store| {
+            self.revoke(store, id);
+            store.flights.begin_change(id);
+        });
+    }
+
+    /// Ends it. Where the key has an entry, that is replaced by what `change` makes of it, or goes where that makes none:
+    /// whether there was one.
+    pub fn end_change(&self, id: u64, key: K, change: impl FnOnce(&V) -> Option<V>) -> Option<bool> {
+        let now = self.now();
+        // Where the key isn't needed it is dropped without the lock.
+        let mut key = Some(key);
+        self.change(|store| {
+            store.flights.end_change(id);
+            let Some(old) = store.find(id).filter(|old| Some(&old.key) == key.as_ref()) else { return Some(false) };
+            let Some(value) = change(&old.value) else {
+                store.evict(id, &self.seats);
+                return None;
+            };
+            let key = key.take().expect("the key is here");
+            store.replace(Box::new(Entry::new(id, key, value, now)), &self.seats);
+            Some(true)
+        })
     }
 
     pub fn held(&self) -> usize {

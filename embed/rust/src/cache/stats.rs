@@ -4,9 +4,9 @@ use std::sync::atomic::{AtomicU64, Ordering::Relaxed};
 /// What a cache has counted since it was opened.
 #[derive(Clone, Copy, Debug, Default, PartialEq, Eq)]
 pub struct CacheStats {
-    /// Gets that found their key.
+    /// Gets that found their key at once.
     pub hits: u64,
-    /// Gets that did not.
+    /// All others.
     pub misses: u64,
     /// Loads that gave a value.
     pub loads: u64,
@@ -16,8 +16,10 @@ pub struct CacheStats {
     pub waits: u64,
     /// Entries that made room for others or had expired.
     pub evictions: u64,
-    /// Values that were not held: their group was full of loads, another key has their id, or they were out of date.
+    /// Values that were not held for want of a place: their group was full of loads, or another key has their id.
     pub refused: u64,
+    /// Values that were not held since their load began before their key's invalidation, insertion or change was over.
+    pub outdated: u64,
 }
 
 #[derive(Default)]
@@ -28,6 +30,7 @@ pub(super) struct Counts {
     pub waits: AtomicU64,
     pub evictions: AtomicU64,
     pub refused: AtomicU64,
+    pub outdated: AtomicU64,
 }
 
 impl Counts {
@@ -40,6 +43,7 @@ impl Counts {
             waits: self.waits.load(Relaxed),
             evictions: self.evictions.load(Relaxed),
             refused: self.refused.load(Relaxed),
+            outdated: self.outdated.load(Relaxed),
         }
     }
 }

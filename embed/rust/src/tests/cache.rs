@@ -72,6 +72,8 @@ fn those_who_miss_together_wait_for_one_load() {
         }
     });
     assert_eq!(loads.into_inner(), 1);
+    let CacheStats { hits, misses, waits, .. } = cache.stats();
+    assert_eq!((hits + misses, waits <= 7), (8, true));
 }
 
 #[test]
@@ -150,18 +152,29 @@ fn a_request_is_one_callers_until_it_is_filled_or_fails() {
     let mut other = cache.reader().unwrap();
     let Sought::Missing(request) = reader.get_or_request(&1) else { panic!() };
     assert!(*request.key() == 1 && matches!(other.get_or_request(&1), Sought::UnderWay));
-    request.fail();
+    thread::scope(|scope| {
+        scope.spawn(|| assert_eq!(reader.get_waiting(&1, LONG).unwrap_err().to_string(), "the base is away"));
+        thread::sleep(Duration::from_millis(20));
+        request.fail("the base is away");
+    });
     let Sought::Missing(request) = other.get_or_request(&1) else { panic!() };
     thread::scope(|scope| {
-        scope.spawn(|| assert_eq!(reader.get_waiting(&1, LONG).as_deref(), Some(&7)));
+        scope.spawn(|| assert_eq!(reader.get_waiting(&1, LONG).as_deref().unwrap(), &7));
         thread::sleep(Duration::from_millis(10));
         assert!(request.fill(7));
     });
     assert!(matches!(reader.get_or_request(&1), Sought::Held(found) if *found == 7));
     let Sought::Missing(request) = other.get_or_request(&2) else { panic!() };
-    assert!(reader.get_waiting(&2, Duration::from_millis(1)).is_none());
+    assert!(matches!(reader.get_waiting(&2, Duration::from_millis(1)), Err(WaitError::TimedOut)));
     cache.invalidate(&2);
-    assert!(!request.fill(8) && reader.get_waiting(&2, LONG).is_none());
+    assert!(!request.fill(8) && matches!(reader.get_waiting(&2, LONG), Err(WaitError::Missing)));
+    let Sought::Missing(request) = other.get_or_request(&3) else { panic!() };
+    thread::scope(|scope| {
+        scope.spawn(|| assert!(matches!(reader.get_waiting(&3, LONG), Err(WaitError::Failed(None)))));
+        thread::sleep(Duration::from_millis(20));
+        drop(request);
+    });
+    assert_eq!((cache.stats().failures, cache.stats().outdated, cache.stats().refused), (2, 1, 0));
 }
 
 #[test]
@@ -204,6 +217,7 @@ fn of_keys_of_one_hash_one_is_held() {
     assert!(!reader.get_with(&2, || 20).is_held());
     assert!(!cache.insert(2, 20) && !cache.invalidate(&2));
     assert_eq!(reader.get(&1).as_deref(), Some(&10));
+    assert_eq!((cache.stats().refused, cache.stats().outdated), (2, 0));
     let mut other = cache.reader().unwrap();
     cache.invalidate(&1);
     let loaded = reader.get_with(&1, || {

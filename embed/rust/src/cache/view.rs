@@ -1,0 +1,97 @@
+//! Caches of rows that are kept up to date by changes.
+use super::Cache;
+use crate::{Delta, Fault, Row};
+use std::borrow::Borrow;
+use std::collections::hash_map::RandomState;
+use std::fmt;
+use std::hash::{BuildHasher, Hash};
+
+/// A cache of rows, in ascending order, of which a key may have any number. Where the base changes, the rows that the view
+/// holds change with it, and need no load.
+///
+/// ```
+/// use nr::{Delta, Row, View};
+///
+/// let votes: View<String> = View::builder().capacity(100).open()?;
+/// let mut reader = votes.reader().expect("there are readers left");
+/// let row = |user, weight| Row { a: user, b: weight };
+/// drop(reader.get_with("article", || Box::new([row(7, 2)])));
+/// let change = votes.change("article");
+/// // Here a vote is written to the base, while others read and load.
+/// assert_eq!(change.commit(&[Delta::plus(row(3, 1))]), Ok(true));
+/// assert_eq!(reader.get("article").as_deref(), Some(&[row(3, 1), row(7, 2)].into()));
+/// # Ok::<(), nr::Fault>(())
+/// ```
+pub type View<K, S = RandomState> = Cache<K, Box<[Row]>, S>;
+
+impl<K: Hash + Eq, S: BuildHasher> Cache<K, Box<[Row]>, S> {
+    /// Begins a change of a key's rows in the base. No load that begins before the change has ended will be held, since it
+    /// may have read the base before or after, so loads and changes may be at work together. Meanwhile gets find the rows
+    /// that were there.
+    pub fn change<Q>(&self, key: &Q) -> Change<'_, K, S>
+    where
+        K: Borrow<Q>,
+        Q: Hash + Eq + ToOwned<Owned = K> + ?Sized,
+    {
+        let id = self.shared.id_of(key);
+        let change = Change { view: self, id, key: Some(key.to_owned()) };
+        self.shared.begin_change(id);
+        change
+    }
+
+    /// Begins a change and ends it, as [`Change::commit`] does: for a base that has changed by now, where loads are made
+    /// by the same thread.
+    pub fn update<Q>(&self, key: &Q, deltas: &[Delta]) -> Result<bool, Fault>
+    where
+        K: Borrow<Q>,
+        Q: Hash + Eq + ToOwned<Owned = K> + ?Sized,
+    {
+        self.change(key).commit(deltas)
+    }
+}
+
+/// A change of a key's rows that is under way in the base. Dropped before its end, it takes what the view holds of the key.
+#[must_use = "dropped, it takes the key's rows from the view"]
+pub struct Change<'a, K: Hash + Eq, S: BuildHasher = RandomState> {
+    view: &'a View<K, S>,
+    id: u64,
+    key: Option<K>,
+}
+
+impl<K: Hash + Eq, S: BuildHasher> Change<'_, K, S> {
+    /// Ends it with the rows that the base has got and lost, none where it stayed as it was: whether the view holds the
+    /// key. No get that begins after this has returned sees older rows. Where a row that was lost isn't there, the view's
+    /// rows were not the base's: they go, and the call is refused with [`Fault::NoRow`].
+    pub fn commit(mut self, deltas: &[Delta]) -> Result<bool, Fault> {
+        self.end(|rows| changed(rows, deltas)).ok_or(Fault::NoRow)
+    }
+
+    fn end(&mut self, change: impl FnOnce(&[Row]) -> Option<Box<[Row]>>) -> Option<bool> {
+        let key = self.key.take()?;
+        self.view.shared.end_change(self.id, key, |rows| change(rows))
+    }
+}
+
+impl<K: Hash + Eq, S: BuildHasher> Drop for Change<'_, K, S> {
+    fn drop(&mut self) {
+        self.end(|_| None);
+    }
+}
+
+impl<K: Hash + Eq + fmt::Debug, S: BuildHasher> fmt::Debug for Change<'_, K, S> {
+    fn fmt(&self, f: &mut fmt::Formatter<'_>) -> fmt::Result {
+        f.debug_struct("Change").field("key", &self.key).finish_non_exhaustive()
+    }
+}
+
+/// Rows after a change, unless one that is lost isn't there, nor among those that come.
+fn changed(rows: &[Row], deltas: &[Delta]) -> Option<Box<[Row]>> {
+    let of_sign = |is_plus| deltas.iter().filter(move |delta| delta.is_plus() == is_plus).map(Delta::row);
+    let mut rows: Vec<Row> = rows.iter().copied().chain(of_sign(true)).collect();
+    let mut lost: Vec<Row> = of_sign(false).collect();
+    rows.sort();
+    lost.sort();
+    let mut lost = lost.into_iter().peekable();
+    rows.retain(|row| lost.next_if_eq(row).is_none());
+    lost.next().is_none().then(|| rows.into())
+}

@@ -1,0 +1,159 @@
+//! A view's rows change with the base, whatever loads are at work meanwhile.
+use crate::*;
+use std::sync::{Barrier, Mutex};
+use std::thread;
+use std::time::Duration;
+
+const KEYS: u64 = 20;
+const ROUNDS: u64 = 3000;
+
+fn view() -> View<u64> {
+    View::builder().capacity(100).threads(8).open().unwrap()
+}
+
+fn row(a: u64) -> Row {
+    Row { a, b: a * 10 }
+}
+
+fn rows(numbers: &[u64]) -> Box<[Row]> {
+    numbers.iter().map(|number| row(*number)).collect()
+}
+
+#[test]
+fn rows_that_are_held_change_whole_and_stay_in_order() {
+    let view = view();
+    let mut reader = view.reader().unwrap();
+    assert_eq!(view.update(&1, &[Delta::plus(row(5))]), Ok(false));
+    assert!(reader.get(&1).is_none());
+    view.insert(1, rows(&[5, 5, 8]));
+    for (deltas, after) in [
+        (vec![Delta::plus(row(7)), Delta::plus(row(1))], &[1, 5, 5, 7, 8][..]),
+        (vec![Delta::minus(row(5))], &[1, 5, 7, 8]),
+        (vec![Delta::minus(row(9)), Delta::plus(row(9)), Delta::minus(row(1))], &[5, 7, 8]),
+        (vec![], &[5, 7, 8]),
+        (vec![Delta::minus(row(5)), Delta::minus(row(8)), Delta::minus(row(7))], &[]),
+        ((0..300).map(|number| Delta::plus(row(number))).collect(), &(0..300).collect::<Vec<_>>()),
+    ] {
+        assert_eq!(view.update(&1, &deltas), Ok(true));
+        assert_eq!(reader.get(&1).as_deref(), Some(&rows(after)));
+    }
+}
+
+#[test]
+fn rows_that_are_not_the_bases_go() {
+    let view = view();
+    let mut reader = view.reader().unwrap();
+    for lost in [vec![3], vec![5, 5], vec![9]] {
+        view.insert(1, rows(&[5, 8]));
+        let deltas: Vec<Delta> = lost.into_iter().map(|number| Delta::minus(row(number))).collect();
+        assert_eq!(view.update(&1, &deltas), Err(Fault::NoRow));
+        assert!(reader.get(&1).is_none());
+    }
+    view.insert(1, rows(&[5]));
+    drop(view.change(&1));
+    assert!(reader.get(&1).is_none());
+    view.insert(1, rows(&[5]));
+    assert_eq!(view.change(&1).commit(&[]), Ok(true));
+    assert_eq!(reader.get(&1).as_deref(), Some(&rows(&[5])));
+}
+
+#[test]
+fn a_load_that_began_before_a_change_was_over_is_not_held() {
+    let view = view();
+    let (mut reader, mut other) = (view.reader().unwrap(), view.reader().unwrap());
+    // Begun before, and landed after.
+    let loaded = reader.get_with(&1, || {
+        assert_eq!(view.update(&1, &[Delta::plus(row(2))]), Ok(false));
+        rows(&[1])
+    });
+    assert!(!loaded.is_held());
+    drop(loaded);
+    let change = view.change(&1);
+    assert!(!reader.get_with(&1, || rows(&[1])).is_held());
+    assert!(!view.insert(1, rows(&[1])));
+    let Sought::Missing(request) = other.get_or_request(&1) else { panic!() };
+    // Another change of the key begins and ends.
+    assert_eq!(view.update(&1, &[]), Ok(false));
+    assert!(reader.get_with(&2, || rows(&[4])).is_held());
+    assert_eq!(change.commit(&[Delta::plus(row(3))]), Ok(false));
+    assert!(!request.fill(rows(&[1])) && reader.get(&1).is_none());
+    assert!(reader.get_with(&1, || rows(&[1])).is_held());
+    // What is put during a change may be from before it.
+    let change = view.change(&1);
+    assert!(!view.insert(1, rows(&[6])) && reader.get(&1).is_none());
+    assert_eq!(change.commit(&[]), Ok(false));
+    assert_eq!((view.stats().outdated, view.stats().refused), (5, 0));
+}
+
+/// Each thread adds rows of its own to the base and takes them away, and loads what is missing.
+fn play(number: u64, base: &[Mutex<Vec<Row>>], view: &View<u64>) {
+    let mut reader = view.reader().unwrap();
+    let mut dice = 0x9e37_79b9_7f4a_7c15u64 ^ (number << 40);
+    let mut roll = || {
+        dice ^= dice << 13;
+        dice ^= dice >> 7;
+        dice ^= dice << 17;
+        dice >> 8
+    };
+    let mut own: Vec<Option<Row>> = vec![None; base.len()];
+    for round in 0..ROUNDS {
+        let key = roll() % KEYS;
+        let (stored, mine) = (&base[key as usize], &mut own[key as usize]);
+        if roll() % 4 == 0 {
+            let change = view.change(&key);
+            let delta = match mine.take() {
+                Some(old) => Delta::minus(old),
+                None => Delta::plus(*mine.insert(Row { a: number, b: round })),
+            };
+            let mut rows = stored.lock().unwrap();
+            if delta.is_plus() {
+                rows.push(delta.row());
+            } else {
+                rows.retain(|row| *row != delta.row());
+            }
+            drop(rows);
+            thread::yield_now();
+            assert!(change.commit(&[delta]).is_ok(), "a change of the view's rows fails");
+        } else {
+            let found = reader.get_with(&key, || {
+                let mut rows = stored.lock().unwrap().clone();
+                if round % 16 == 0 {
+                    thread::sleep(Duration::from_micros(50));
+                }
+                thread::yield_now();
+                rows.sort();
+                rows.into()
+            });
+            let is_mine = |row: &&Row| row.a == number;
+            assert_eq!(found.iter().find(is_mine), mine.as_ref(), "key {key} of thread {number}");
+        }
+        if roll() % 64 == 0 {
+            view.invalidate(&key);
+        }
+    }
+}
+
+#[test]
+fn after_loads_and_changes_together_the_view_has_the_bases_rows() {
+    let base: Vec<Mutex<Vec<Row>>> = (0..KEYS).map(|_| Mutex::default()).collect();
+    let (view, gate) = (view(), Barrier::new(6));
+    thread::scope(|scope| {
+        for number in 1..=6 {
+            let (base, view, gate) = (&base, &view, &gate);
+            scope.spawn(move || {
+                gate.wait();
+                play(number, base, view);
+            });
+        }
+    });
+    let mut reader = view.reader().unwrap();
+    let mut held = 0;
+    for (key, rows) in (0..).zip(base) {
+        let Some(found) = reader.get(&key) else { continue };
+        let mut rows = rows.into_inner().unwrap();
+        rows.sort();
+        assert_eq!(found[..], rows[..]);
+        held += 1;
+    }
+    assert!(held > 0 && view.stats().outdated > 0, "{held} held, {:?}", view.stats());
+}
