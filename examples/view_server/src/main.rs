@@ -1,71 +1,106 @@
 //! Serves the view `votes by article` of a SQLite database, which it holds in part, over the Redis protocol.
 mod base;
-mod dataflow;
+mod client;
+mod desk;
 mod door;
-mod names;
+mod errands;
+mod log;
+mod poll;
 mod session;
 mod stats;
 mod wire;
 
-use nr::{Lobby, Queue, ReaderMap, Row, Rows, Shape};
-use std::sync::{atomic::AtomicBool, mpsc, Arc};
-use std::{collections::VecDeque, env, error::Error, net::TcpListener, thread};
+use nr::View;
+use std::sync::{atomic::AtomicBool, atomic::Ordering::Relaxed, mpsc, Arc, LazyLock, Mutex};
+use std::thread::{self, Builder, Scope};
+use std::{env, error::Error, net::TcpListener, time::Instant};
 
-/// What the threads share beside the map.
-struct Shared {
-    path: String,
-    names: names::Names,
-    lobby: Lobby<mpsc::Sender<Result<Arc<[Row]>, String>>>,
-    /// Those of the sessions, and those of the dataflow.
+/// What the threads share. Times are in milliseconds.
+pub struct Shared {
+    view: View<String>,
+    /// Writes each vote.
+    writes: Mutex<base::Base>,
+    clients: Mutex<desk::Clients>,
+    most_clients: usize,
+    /// How long a client may say nothing; owe the rest of a command or the reading of replies; wait for another's load.
+    idle: u64,
+    half: u64,
+    busy: u64,
+    /// The door's, and then those of each session.
     counts: Vec<stats::Counts>,
-    work: stats::Counts,
-    /// Of each key whether it was read since the clock's hand passed it.
-    was_read: Vec<AtomicBool>,
 }
 
-/// Each is followed by a number, or has that of DEFAULTS; with 0 slots there are as many as are needed.
-const OPTIONS: [&str; 8] = ["--port", "--readers", "--keys", "--rows", "--limit", "--sqlite", "--slots", "--number"];
-const DEFAULTS: [u32; 8] = [0, 64, 65536, 63, 6554, 0, 0, 0];
+/// Milliseconds since the first call.
+fn now() -> u64 {
+    static START: LazyLock<Instant> = LazyLock::new(Instant::now);
+    START.elapsed().as_millis() as u64
+}
 
-fn options(mut words: impl Iterator<Item = String>) -> Option<(String, [u32; 8])> {
-    let (path, mut numbers) = (words.next()?, DEFAULTS);
+static IS_OVER: AtomicBool = AtomicBool::new(false);
+
+/// Each is followed by a number, or has that of DEFAULTS.
+const OPTIONS: &str = "--port --limit --errands --clients --idle --half --busy --delay";
+const DEFAULTS: [u64; 8] = [0, 10_000, 16, 10_000, 300_000, 10_000, 5_000, 0];
+
+/// The database, the address, and the numbers.
+fn options(mut words: impl Iterator<Item = String>) -> Option<(String, String, [u64; 8])> {
+    let (path, mut address, mut numbers) = (words.next()?, String::from("127.0.0.1"), DEFAULTS);
     while let Some(name) = words.next() {
-        numbers[OPTIONS.iter().position(|option| *option == name)?] = words.next()?.parse().ok()?;
+        match OPTIONS.split(' ').position(|option| option == name) {
+            Some(place) => numbers[place] = words.next()?.parse().ok()?,
+            None if name == "--address" => address = words.next()?,
+            None => return None,
+        }
     }
-    Some((path, numbers))
+    Some((path, address, numbers))
+}
+
+type Made<R> = Result<R, String>;
+
+/// Starts so many threads, or fewer where one can't be made: how many.
+fn start<'s, R: FnOnce() + Send + 's>(of: &'s Scope<'s, '_>, count: usize, make: impl Fn(usize) -> Made<R>) -> usize {
+    let spawn = |run: R| Builder::new().spawn_scoped(of, run).map_err(|why| why.to_string());
+    let fault = |number: usize| make(number).and_then(spawn).err().map(|why| (number, why));
+    let Some((number, why)) = (0..count).find_map(fault) else { return count };
+    log::say("thread", &format!("only {number} of {count} are made: {why}"));
+    number
 }
 
 fn main() -> Result<(), Box<dyn Error>> {
-    let told = options(env::args().skip(1)).ok_or_else(|| format!("DATABASE and {OPTIONS:?}, each with a number"))?;
-    let (path, [port, clients, keys, rows, limit, sqlite, slots, number]) = told;
-    // One key more than the limit is filled before one is evicted, and each reader may hold a slot.
-    let slots = if slots == 0 { limit.saturating_add(clients).saturating_add(2) } else { slots };
-    let shape = Shape { rows, first_number: number.into(), ..Shape::new(keys, slots, clients) };
-    let ReaderMap { writer, readers } = ReaderMap::open(&shape)?;
-    // A key has one ticket at a time, so there is always room for it.
-    let Queue { taker, posters } = Queue::open(&writer, keys, clients)?;
-    let shared = &Shared {
-        path,
-        names: names::Names::new(if sqlite == 0 { keys } else { 0 }),
-        lobby: Lobby::of(&writer),
-        counts: (0..clients).map(|_| stats::Counts::default()).collect(),
-        work: stats::Counts::default(),
-        was_read: (0..keys).map(|_| AtomicBool::new(false)).collect(),
+    let told = options(env::args().skip(1)).ok_or_else(|| format!("DATABASE --address TEXT {OPTIONS}"))?;
+    let (path, address, [port, limit, errands, most_clients, idle, half, busy, delay]) = told;
+    let open_base = || base::Base::open(&path, busy, delay);
+    let (at_desks, errands) = (thread::available_parallelism().map_or(4, usize::from), errands as usize);
+    let view = View::builder().capacity(limit as usize).threads((at_desks + errands) as u32).open()?;
+    let (writes, clients, most_clients) = (Mutex::new(open_base()?), Mutex::default(), most_clients as usize);
+    let counts = (0..=at_desks + errands).map(|_| stats::Counts::default()).collect();
+    let shared = &Shared { view, writes, most_clients, clients, idle, half, busy, counts };
+    let session = |number: usize, base| {
+        let reader = shared.view.reader().expect("there is a reader for each session");
+        session::Session { reader, base, counts: &shared.counts[number + 1], shared }
     };
-    let (send, votes) = mpsc::channel();
-    let session = move |(number, (reader, poster))| {
-        let (votes, dataflow) = (send.clone(), thread::current());
-        session::Session { number, reader, rows: Rows::new(), poster, votes, dataflow, shared, base: None }
-    };
-    let sessions = readers.into_iter().zip(posters).enumerate().map(session).collect();
-    let (base, clock, limit) = (base::Base::open(&shared.path)?, VecDeque::new(), limit as usize);
-    let dataflow = dataflow::Dataflow { base, writer, taker, votes, shared, clock, limit, worn: Vec::new() };
-    let listener = TcpListener::bind(("127.0.0.1", u16::try_from(port)?))?;
-    let this = thread::current();
+    let listener = TcpListener::bind((&address[..], u16::try_from(port)?))?;
+    let desks: Vec<_> = (0..at_desks).map(|_| poll::Poll::new()).collect::<Result<_, _>>()?;
+    let ((bring, errand), (request, requests)) = (mpsc::channel(), mpsc::channel());
+    let (errand, requests) = (&Mutex::new(errand), Arc::new(Mutex::new(requests)));
     thread::scope(|scope| {
-        // When it ends, all who might vote have gone with their sessions.
-        scope.spawn(move || (door::serve(listener, sessions), this.unpark()));
-        dataflow.run();
-    });
-    Ok(())
+        let at_desks = start(scope, at_desks, |number| {
+            let (desk, session, bring) = (&desks[number], session(number, None), bring.clone());
+            Ok(move || desk::serve(desk, session, &bring))
+        });
+        let on_errands = start(scope, errands, |number| {
+            let (session, request) = (session(desks.len() + number, Some(open_base()?)), request.clone());
+            Ok(move || errands::run(errand, session, &request))
+        });
+        start(scope, errands, |_| {
+            let (base, requests) = (open_base()?, Arc::clone(&requests));
+            Ok(move || errands::load(&requests, base))
+        });
+        // Where there are no loaders who requests learns that.
+        drop(requests);
+        let served = (at_desks.min(on_errands) > 0).then(|| door::serve(listener, &desks[..at_desks], shared));
+        IS_OVER.store(true, Relaxed);
+        drop((bring, request));
+        served.ok_or("there are no threads for clients".into())
+    })
 }

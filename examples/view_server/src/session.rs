@@ -1,105 +1,125 @@
-//! A session: a thread that answers one client's commands in their order.
-use crate::{base::Base, base::Query, dataflow::Vote, stats, stats::Count, wire, wire::bulk, Shared};
-use nr::{Asked, Poster, Reader, Row, Rows};
-use std::sync::{atomic::Ordering::Relaxed, mpsc, Arc};
-use std::{fmt::Write, io, net::TcpStream, thread};
+//! A session: what a thread answers commands with.
+use crate::stats::{self, Count, Counts};
+use crate::wire::{array, bulk, Command};
+use crate::{base::Base, base::Query, log, Shared};
+use nr::{CacheReader, Delta, Request, Row, Sought};
+use std::{fmt::Write, hash::RandomState, time::Duration, time::Instant};
 
-/// When its client has gone, the next one has it.
 pub struct Session<'a> {
-    pub number: usize,
-    pub reader: Reader,
-    pub rows: Rows,
-    pub poster: Poster,
-    pub votes: mpsc::Sender<Vote>,
-    pub dataflow: thread::Thread,
-    pub shared: &'a Shared,
-    /// A handle of its own, once a GET needed it.
+    pub reader: CacheReader<String, Box<[Row]>, RandomState>,
+    /// A desk has none.
     pub base: Option<Base>,
+    pub counts: &'a Counts,
+    pub shared: &'a Shared,
 }
+
+const KNOWN: [&str; 8] = ["GET", "VOTE", "UNVOTE", "STATS", "PING", "SELECT", "HELLO", "CONFIG"];
+pub type Load = Request<String, Box<[Row]>>;
+type Reply = Result<String, String>;
 
 impl Session<'_> {
-    /// A command without meaning is answered by an error, which is the last reply where its end can't be told.
-    pub fn serve(&mut self, client: Arc<TcpStream>) -> io::Result<()> {
-        let mut wire = wire::Wire::new(client)?;
-        loop {
-            match wire.command() {
-                Ok(words) => wire.reply(words.and_then(|words| self.answer(&words))),
-                Err(fault) if fault.kind() == io::ErrorKind::InvalidData => return wire.end(fault),
-                Err(fault) => return Err(fault),
-            }
-        }
+    /// The reply to a command, or none where that needs the base and there is none here.
+    pub fn answer(&mut self, command: &Command) -> Option<String> {
+        let reply = match command {
+            Ok(words) => self.reply(words)?,
+            Err(why) => Err(why.to_string()),
+        };
+        Some(reply.unwrap_or_else(|why| {
+            self.counts.up(Count::Errors);
+            format!("-{}{why}\r\n", if why.starts_with("NOPROTO") { "" } else { "ERR " })
+        }))
     }
 
-    fn answer(&mut self, words: &[Vec<u8>]) -> Result<String, String> {
-        let words: Result<Vec<_>, _> = words.iter().map(|word| std::str::from_utf8(word)).collect();
-        let words = words.map_err(|_| "a word is not UTF-8")?;
-        let Some((command, arguments)) = words.split_first() else { return Ok(String::new()) };
+    fn reply(&mut self, words: &[&str]) -> Option<Reply> {
+        let Some((command, arguments)) = words.split_first() else { return Some(Ok(String::new())) };
         match (command.to_ascii_uppercase().as_str(), arguments) {
-            ("GET", [article]) => self.get(name(article)?),
+            ("GET", [article]) => self.get(article),
             ("VOTE", [article, user, weight]) => self.vote(article, user, weight, true),
             ("UNVOTE", [article, user, weight]) => self.vote(article, user, weight, false),
-            ("STATS", []) => Ok(bulk(&stats::sums(&self.shared.counts, &self.shared.work))),
-            ("PING", []) => Ok("+PONG\r\n".into()),
-            ("PING", [text]) => Ok(bulk(text)),
-            ("COMMAND", _) => Ok("*0\r\n".into()),
-            ("GET" | "VOTE" | "UNVOTE" | "STATS" | "PING", _) => Err("wrong number of arguments".into()),
-            _ => Err("unknown command: there are GET, VOTE, UNVOTE, STATS, PING and COMMAND".into()),
+            (other, _) => Some(self.reply_of_server(other, arguments)),
         }
     }
 
-    fn get(&mut self, article: &str) -> Result<String, String> {
-        let Some(key) = self.shared.names.key(article, true) else { return self.ask_base(article) };
-        loop {
-            if let Some(answer) = self.hit(key).map(Ok).or_else(|| self.miss(key)) {
-                return answer;
+    /// What is told of the server, and what clients of Redis send before they begin.
+    fn reply_of_server(&self, command: &str, arguments: &[&str]) -> Reply {
+        Ok(match (command, arguments) {
+            ("STATS", []) | ("INFO", _) => bulk(&stats::text(self.shared)),
+            ("PING", []) => "+PONG\r\n".into(),
+            ("PING", [text]) => bulk(text),
+            ("QUIT" | "CLIENT", _) | ("SELECT", ["0"]) => "+OK\r\n".into(),
+            ("SELECT", [_]) => return Err("DB index is out of range".into()),
+            ("HELLO", [] | ["2", ..]) => {
+                array(&["server", "view_server", "proto", "2", "mode", "standalone"]).replace("$1\r\n2", ":2")
             }
+            ("HELLO", _) => return Err("NOPROTO unsupported protocol version".into()),
+            ("CONFIG", [get, name]) if get.eq_ignore_ascii_case("GET") => array(&[name, ""]),
+            ("COMMAND", _) => array(&[]),
+            _ if KNOWN.contains(&command) => return Err("wrong number of arguments".into()),
+            _ => return Err(format!("unknown command: there are {}", KNOWN.join(", "))),
+        })
+    }
+
+    /// By the view, without a lock; or else by one load, however many miss the article together.
+    fn get(&mut self, article: &str) -> Option<Reply> {
+        if let Err(why) = name(article) {
+            return Some(Err(why));
+        }
+        let begun = Instant::now();
+        let mut what = Count::Hits;
+        let mut text = self.reader.get(article).map(|rows| Ok(text_of(&rows)));
+        if text.is_none() {
+            let (base, wait) = (self.base.as_mut()?, Duration::from_millis(self.shared.busy));
+            let found =
+                self.reader.try_get_with_timeout(article, wait, || base.run(Query::Rows, article, &[]).map(Box::from));
+            text = Some(found.map(|rows| text_of(&rows)).map_err(|why| told(why.to_string())));
+            what = Count::Misses;
+        }
+        self.counts.took(what, begun.elapsed());
+        text
+    }
+
+    /// The request of an article that the view lacks and nobody loads.
+    pub fn request(&mut self, article: &str) -> Option<Load> {
+        name(article).ok()?;
+        match self.reader.get_or_request(article) {
+            Sought::Missing(request) => Some(request),
+            Sought::Held(_) | Sought::UnderWay => None,
         }
     }
 
-    /// The rows of a key that is filled, found by atomic operations alone.
-    fn hit(&mut self, key: u32) -> Option<String> {
-        let rows = self.reader.find(key, &mut self.rows)?;
-        self.shared.counts[self.number].up(Count::Hits);
-        if !self.shared.was_read[key as usize].load(Relaxed) {
-            self.shared.was_read[key as usize].store(true, Relaxed);
-        }
-        Some(text_of(rows))
-    }
-
-    /// What the dataflow answers for a key that was not filled, or none where it is filled by now.
-    fn miss(&mut self, key: u32) -> Option<Result<String, String>> {
-        let (tell, told) = mpsc::channel();
-        match self.shared.lobby.ask(&mut self.reader, key, tell) {
-            Asked::Send(ticket) => self.poster.post_waiting(ticket),
-            Asked::Waiting => self.shared.counts[self.number].up(Count::Waits),
-            Asked::Filled => return None,
-        }
-        self.shared.counts[self.number].up(Count::Misses);
-        self.dataflow.unpark();
-        Some(told.recv().unwrap().map(|rows| text_of(&rows)))
-    }
-
-    fn ask_base(&mut self, article: &str) -> Result<String, String> {
-        [Count::Misses, Count::Upqueries].into_iter().for_each(|what| self.shared.counts[self.number].up(what));
-        let base = match &mut self.base {
-            Some(base) => base,
-            none => none.insert(Base::open(&self.shared.path)?),
+    /// Writes to the base, and then to the view, which holds no load that began before the end of both.
+    fn vote(&mut self, article: &str, user: &str, weight: &str, is_new: bool) -> Option<Reply> {
+        let row = match name(article).and_then(|()| Ok(Row { a: number(user)?, b: number(weight)? })) {
+            Ok(row) => row,
+            Err(why) => return Some(Err(why)),
         };
-        base.run(Query::Rows, article, &[]).map(|rows| text_of(&rows))
+        self.base.as_ref()?;
+        let begun = Instant::now();
+        Some(self.write(article, row, is_new)).inspect(|_| self.counts.took(Count::Votes, begun.elapsed()))
     }
 
-    fn vote(&mut self, article: &str, user: &str, weight: &str, is_new: bool) -> Result<String, String> {
-        let row = Row { a: number(user)?, b: number(weight)? };
-        let (tell, told) = mpsc::channel();
-        self.votes.send(Vote { article: name(article)?.into(), row, is_new, tell }).unwrap();
-        self.dataflow.unpark();
-        told.recv().unwrap().map(|()| "+OK\r\n".into())
+    fn write(&self, article: &str, row: Row, is_new: bool) -> Reply {
+        let (query, delta) = if is_new { (Query::Add, Delta::plus(row)) } else { (Query::Remove, Delta::minus(row)) };
+        // After a fault nobody knows what was written: the article leaves the view with this.
+        let change = self.shared.view.change(article);
+        let rows = self.shared.writes.lock().unwrap().run(query, article, &[row.a, row.b]).map_err(told)?;
+        let deltas = if rows.is_empty() { &[][..] } else { &[delta] };
+        if change.commit(deltas).is_err() {
+            log::say("view", &format!("another program has written votes of {article}"));
+        }
+        rows.first().map(|_| "+OK\r\n".into()).ok_or("there is no such vote".into())
     }
 }
 
-fn name(word: &str) -> Result<&str, String> {
+/// A fault of the base, of which the log has a line.
+pub fn told(why: String) -> String {
+    log::say("base", &why);
+    why
+}
+
+fn name(word: &str) -> Result<(), String> {
     let is_name = (1..=64).contains(&word.len()) && !word.contains(char::is_control);
-    is_name.then_some(word).ok_or("an article is 1 to 64 bytes without control characters".into())
+    is_name.then_some(()).ok_or("an article is 1 to 64 bytes without control characters".into())
 }
 
 fn number(word: &str) -> Result<u64, String> {

@@ -1,7 +1,7 @@
 //! Eight clients vote and read, and each answer is compared with what the base may have held between the question and
 //! the answer: each vote that was acknowledged before the one, and none that was taken away by then or never given.
 //! Then clients break off in the middle of a line, and STATS must balance.
-//!   check PORT SECONDS READERS LIMIT
+//!   check PORT SECONDS LIMIT
 mod client;
 use client::{Client, Dice};
 use std::collections::HashMap;
@@ -105,49 +105,35 @@ fn play(port: &str, votes: &Votes, number: u64, until: Instant) {
     }
 }
 
-/// Clients break off in the middle of a line; then each reader serves again, and one client more is refused.
-fn break_off(port: &str, readers: usize) {
-    for number in 0..3 * readers {
+fn stats(port: &str) -> (HashMap<String, u64>, String) {
+    let text = Client::connect(port).ask("STATS");
+    let number = |line: &str| line.split_once(':').map(|(name, number)| (name.to_owned(), number.parse().unwrap()));
+    (text.lines().filter_map(number).collect(), text.replace('\n', " "))
+}
+
+/// Clients break off in the middle of a line, and are forgotten.
+fn break_off(port: &str) {
+    for number in 0..40 {
         let mut client = Client::connect(port);
         assert_eq!(client.ask("PING"), "+PONG");
         client.send(
             ["GET check:1", "*3\r\n$4\r\nVO", "VOTE check:1 1 1\r\nUNV", "*2\r\n$3\r\nGET\r\n$7\r\nche"][number % 4],
         );
-        drop(client);
-        // A client that comes too early is refused, until the server has seen that the last one went.
-        let is_free = |_: &u32| Client::connect(port).ask("PING") == "+PONG";
-        assert!(
-            (0..1000).inspect(|_| thread::sleep(Duration::from_millis(1))).any(|try_| is_free(&try_)),
-            "no reader comes back"
-        );
     }
-    let mut clients: Vec<_> = Vec::new();
     let until = Instant::now() + Duration::from_secs(10);
-    while clients.len() < readers {
-        let mut client = Client::connect(port);
-        if client.ask("PING") == "+PONG" {
-            clients.push(client);
-        }
-        assert!(Instant::now() < until, "only {} of {readers} readers come back", clients.len());
+    while stats(port).0["clients"] > 1 {
+        assert!(Instant::now() < until, "who broke off is still there: {}", stats(port).1);
+        thread::sleep(Duration::from_millis(10));
     }
-    assert!(Client::connect(port).reply().starts_with("-ERR "), "one client more than readers is not refused");
 }
 
 fn balance(port: &str, limit: u64) {
-    let text = Client::connect(port).ask("STATS");
-    let number = |line: &str| line.split_once(':').map(|(name, number)| (name.to_owned(), number.parse().unwrap()));
-    let stats: HashMap<String, u64> = text.lines().filter_map(number).collect();
-    assert_eq!(stats["hits"] + stats["misses"], GETS.load(SeqCst), "each GET is a hit or a miss");
-    assert_eq!(stats["misses"], stats["upqueries"] + stats["waits"], "each miss sends or waits");
-    assert_eq!(stats["fills"], stats["upqueries"], "each upquery fills");
-    assert_eq!(stats["filled"], stats["fills"] - stats["evictions"], "what was filled and not evicted is filled");
-    assert!(stats["filled"] <= limit && stats["evictions"] > 0 && stats["waits"] > 0, "{text}");
-    println!(
-        "check: {} moments, {} gets as they may be, {}",
-        NOW.load(SeqCst),
-        GETS.load(SeqCst),
-        text.replace('\n', " ")
-    );
+    let (stats, text) = stats(port);
+    assert_eq!(stats["hits"] + stats["misses"], GETS.load(SeqCst), "each GET is a hit or a miss: {text}");
+    assert!(stats["held"] <= limit && stats["evictions"] > 0 && stats["waits"] > 0, "{text}");
+    assert!(stats["loads"] >= stats["held"] + stats["evictions"] && stats["failures"] == 0, "{text}");
+    assert!(stats["outdated"] > 0, "no vote comes within a load: {text}");
+    println!("check: {} moments, {} gets as they may be, {text}", NOW.load(SeqCst), GETS.load(SeqCst));
 }
 
 fn main() {
@@ -161,7 +147,6 @@ fn main() {
             scope.spawn(move || play(port, votes, client, until));
         }
     });
-    break_off(port, number(3) as usize);
-    thread::sleep(Duration::from_millis(100));
-    balance(port, number(4));
+    balance(port, number(3));
+    break_off(port);
 }

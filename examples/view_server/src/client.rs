@@ -1,0 +1,106 @@
+//! A client, and what has come from it and goes to it.
+use crate::poll::{Poll, CHANGE, NOTHING, READ, WRITE};
+use crate::{now, session::Session, wire};
+use std::sync::{atomic::AtomicU64, atomic::Ordering::SeqCst, Mutex};
+use std::{io, io::ErrorKind, io::Read, io::Write, net::Shutdown, net::TcpStream};
+
+pub struct Client {
+    pub token: u64,
+    pub stream: TcpStream,
+    pub talk: Mutex<Talk>,
+    /// When it is sent away, where nothing comes from it.
+    pub due: AtomicU64,
+}
+
+#[derive(Default)]
+pub struct Talk {
+    pub came: Vec<u8>,
+    replies: Vec<u8>,
+    /// Whether the last reply was made. Then it may send what it likes, until it has seen that.
+    has_ended: bool,
+    /// Whether it owes the rest of a command or the reading of replies.
+    owes: bool,
+    /// Whether it is on an errand, and its desk leaves it alone.
+    pub is_away: bool,
+    /// What its desk waits for.
+    wanted: u32,
+}
+
+impl Client {
+    /// Reads once what has come. Refused where its other side has gone.
+    pub fn read(&self, talk: &mut Talk) -> io::Result<()> {
+        let mut room = [0; 16_384];
+        // Who doesn't read replies isn't read.
+        match (&self.stream).read(if talk.replies.is_empty() { &mut room } else { return Ok(()) }) {
+            Ok(0) => return Err(ErrorKind::UnexpectedEof.into()),
+            Ok(size) => talk.came.extend(&room[..size]),
+            Err(why) if why.kind() == ErrorKind::WouldBlock => {}
+            Err(why) => return Err(why),
+        }
+        Ok(())
+    }
+
+    /// Answers what has come and sends that, and has the desk wait for more: whether the base is needed first.
+    pub fn serve(&self, talk: &mut Talk, session: &mut Session, poll: &Poll) -> io::Result<bool> {
+        let (had, shared) = (talk.came.len(), session.shared);
+        let is_sent = loop {
+            talk.is_away = talk.answer(session);
+            let (is_full, is_sent) = (talk.replies.len() >= wire::MOST, talk.send(&self.stream)?);
+            if !is_full || !is_sent || talk.is_away {
+                break is_sent;
+            }
+        };
+        if is_sent && talk.has_ended {
+            _ = self.stream.shutdown(Shutdown::Write);
+        }
+        let owed = std::mem::replace(&mut talk.owes, !is_sent || talk.has_ended || !talk.came.is_empty());
+        // Who brings the rest bit by bit gains no time.
+        if !owed || !talk.owes || talk.came.len() < had || talk.is_away {
+            let time = if talk.owes { shared.half } else { shared.idle };
+            self.due.store(if talk.is_away { u64::MAX } else { now() + time }, SeqCst);
+        }
+        let wanted = [[WRITE, READ][usize::from(is_sent)], NOTHING][usize::from(talk.is_away)];
+        if std::mem::replace(&mut talk.wanted, wanted) != wanted {
+            poll.set(CHANGE, &self.stream, self.token, wanted)?;
+        }
+        Ok(talk.is_away)
+    }
+}
+
+impl Talk {
+    /// Whether the base is needed for the next command, and isn't here.
+    fn answer(&mut self, session: &mut Session) -> bool {
+        let (mut done, mut needs_base) = (0, false);
+        while !needs_base && !self.has_ended && self.replies.len() < wire::MOST {
+            match wire::command(&self.came[done..]) {
+                Ok(None) => break,
+                Ok(Some((words, size))) => match session.answer(&words) {
+                    None => needs_base = true,
+                    Some(reply) => {
+                        self.replies.extend(reply.bytes());
+                        self.has_ended = words.is_ok_and(|it| it.len() == 1 && it[0].eq_ignore_ascii_case("QUIT"));
+                        done += size;
+                    }
+                },
+                Err(why) => {
+                    self.replies.extend(format!("-ERR Protocol error: {why}\r\n").bytes());
+                    self.has_ended = true;
+                }
+            }
+        }
+        self.came.drain(..if self.has_ended { self.came.len() } else { done });
+        needs_base
+    }
+
+    /// Sends as much as can be sent: whether that was all.
+    fn send(&mut self, mut stream: &TcpStream) -> io::Result<bool> {
+        while !self.replies.is_empty() {
+            match stream.write(&self.replies) {
+                Ok(size) => drop(self.replies.drain(..size)),
+                Err(why) if why.kind() == ErrorKind::WouldBlock => return Ok(false),
+                Err(why) => return Err(why),
+            }
+        }
+        Ok(true)
+    }
+}
