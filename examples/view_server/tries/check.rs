@@ -130,7 +130,7 @@ fn break_off(port: &str) {
 fn balance(port: &str, limit: u64) {
     let (stats, text) = stats(port);
     assert_eq!(stats["hits"] + stats["misses"], GETS.load(SeqCst), "each GET is a hit or a miss: {text}");
-    assert!(stats["held"] <= limit && stats["evictions"] > 0 && stats["waits"] > 0, "{text}");
+    assert!(stats["held"] <= limit && stats["evictions"] > 0, "{text}");
     assert!(stats["loads"] >= stats["held"] + stats["evictions"] && stats["failures"] == 0, "{text}");
     assert!(stats["outdated"] > 0, "no vote comes within a load: {text}");
     println!("check: {} moments, {} gets as they may be, {text}", NOW.load(SeqCst), GETS.load(SeqCst));

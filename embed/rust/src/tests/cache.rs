@@ -82,13 +82,14 @@ fn where_a_load_fails_or_panics_one_of_those_who_wait_tries() {
     for panics in [false, true] {
         let key = u64::from(panics);
         let (begun, has_begun) = mpsc::channel();
+        let (end, may_end) = mpsc::channel();
         thread::scope(|scope| {
             let cache = &cache;
             scope.spawn(move || {
                 let mut reader = cache.reader().unwrap();
                 let load = || {
                     begun.send(()).unwrap();
-                    thread::sleep(Duration::from_millis(20));
+                    may_end.recv().unwrap();
                     if panics {
                         panicking()
                     } else {
@@ -104,6 +105,7 @@ fn where_a_load_fails_or_panics_one_of_those_who_wait_tries() {
             let timed_out = reader.try_get_with_timeout(&key, waits, || -> Result<u8, ()> { unreachable!() });
             assert_eq!(timed_out.err(), Some(LoadError::TimedOut));
             assert!(reader.get_with_timeout(&key, waits, || unreachable!()).is_none());
+            end.send(()).unwrap();
             assert_eq!(*reader.get_with(&key, || 9), 9);
         });
         assert_eq!(cache.reader().unwrap().get(&key).as_deref(), Some(&9));
@@ -145,6 +147,13 @@ fn what_was_inserted_within_a_load_stays() {
     assert_eq!(reader.get(&1).as_deref(), Some(&5));
 }
 
+/// Until so many gets have begun to wait.
+fn until_so_many_wait(cache: &Cache<u64, u64>, waits: u64) {
+    while cache.stats().waits < waits {
+        thread::yield_now();
+    }
+}
+
 #[test]
 fn a_request_is_one_callers_until_it_is_filled_or_fails() {
     let cache = cache(10);
@@ -154,7 +163,7 @@ fn a_request_is_one_callers_until_it_is_filled_or_fails() {
     assert!(*request.key() == 1 && matches!(other.get_or_request(&1), Sought::UnderWay));
     thread::scope(|scope| {
         scope.spawn(|| assert_eq!(reader.get_waiting(&1, LONG).unwrap_err().to_string(), "the base is away"));
-        thread::sleep(Duration::from_millis(20));
+        until_so_many_wait(&cache, 1);
         request.fail("the base is away");
     });
     let Sought::Missing(request) = other.get_or_request(&1) else { panic!() };
@@ -169,9 +178,10 @@ fn a_request_is_one_callers_until_it_is_filled_or_fails() {
     cache.invalidate(&2);
     assert!(!request.fill(8) && matches!(reader.get_waiting(&2, LONG), Err(WaitError::Missing)));
     let Sought::Missing(request) = other.get_or_request(&3) else { panic!() };
+    let waits = cache.stats().waits;
     thread::scope(|scope| {
         scope.spawn(|| assert!(matches!(reader.get_waiting(&3, LONG), Err(WaitError::Failed(None)))));
-        thread::sleep(Duration::from_millis(20));
+        until_so_many_wait(&cache, waits + 1);
         drop(request);
     });
     assert_eq!((cache.stats().failures, cache.stats().outdated, cache.stats().refused), (2, 1, 0));
