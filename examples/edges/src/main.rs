@@ -1,13 +1,10 @@
 //! An edge: one of many processes that each hold a part of a PostgreSQL table, and follow its changes.
 //!   edge ADDRESS SLOT [OPTION NUMBER]..    the address is a libpq connection string, the slot this edge's own name
 mod dataflow;
-// These three are as in the server over SQLite.
-#[path = "../../view_server/src/door.rs"]
 mod door;
 mod fresh;
 mod log;
 mod lsn;
-#[path = "../../view_server/src/names.rs"]
 mod names;
 mod parts;
 mod pgoutput;
@@ -18,7 +15,6 @@ mod snapshot;
 mod stats;
 mod stream;
 mod upquery;
-#[path = "../../view_server/src/wire.rs"]
 mod wire;
 
 use dataflow::{Dataflow, Event, Order};
