@@ -3,6 +3,9 @@
 //! it. What each call does is proved in the library; that this wrapper keeps what the library's header asks rests
 //! on Rust's borrow rules and on reading it.
 //!
+//! A [`Cache`] of any keys and values in front of slow queries stands on it, and so does a [`View`], a cache of rows that
+//! change with their base. They are tested, and not proved. The map itself:
+//!
 //! ```
 //! use nr::{Asked, Queue, ReaderMap, Row, Rows, Shape};
 //!
