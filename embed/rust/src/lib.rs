@@ -118,6 +118,7 @@
 
 mod answers;
 mod cache;
+mod drops;
 mod emptied;
 mod ends;
 mod ffi;

@@ -1,7 +1,6 @@
 //! What a set of the cache's map refers to.
 use super::expiry::Moment;
 use crate::Row;
-use std::panic::{catch_unwind, resume_unwind, AssertUnwindSafe};
 use std::ptr::NonNull;
 use std::sync::atomic::{AtomicBool, AtomicU64, Ordering::Relaxed};
 
@@ -38,19 +37,4 @@ pub(super) fn row_of<K, V>(entry: NonNull<Entry<K, V>>) -> Row {
 /// The entry that the rows of a set refer to.
 pub(super) fn entry_of<K, V>(rows: &[Row]) -> Option<NonNull<Entry<K, V>>> {
     NonNull::new(rows.first()?.b as *mut Entry<K, V>)
-}
-
-/// Drops each of them, also where the drop of one panics.
-pub(super) fn drop_each<T>(doomed: Vec<T>) {
-    let mut panicked = None;
-    for one in doomed {
-        if let Err(why) = catch_unwind(AssertUnwindSafe(|| drop(one))) {
-            panicked.get_or_insert(why);
-        }
-    }
-    if let Some(why) = panicked {
-        if !std::thread::panicking() {
-            resume_unwind(why);
-        }
-    }
 }

@@ -1,10 +1,11 @@
 //! What the handles of a cache have in common.
-use super::entry::{drop_each, Entry};
+use super::entry::Entry;
 use super::expiry::{Expiry, Moment};
 use super::flights::{Cause, End, Flight, Prospect};
 use super::seats::Seats;
 use super::stats::{count, Counts};
 use super::store::{Place, Store};
+use crate::drops::drop_each;
 use crate::ids::IdReader;
 use std::borrow::Borrow;
 use std::hash::{BuildHasher, Hash};

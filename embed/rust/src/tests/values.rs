@@ -2,6 +2,7 @@
 use crate::*;
 use std::hint::black_box;
 use std::mem;
+use std::panic::{catch_unwind, resume_unwind, AssertUnwindSafe};
 use std::sync::atomic::{AtomicBool, AtomicU64, Ordering::Relaxed};
 use std::sync::Arc;
 use std::thread;
@@ -121,6 +122,32 @@ fn a_kept_find_after_a_forgotten_borrow_is_of_what_that_held() {
     writer.evict(0);
     assert_eq!((counts.dropped(), readers[0].find_kept(0).is_none()), (1, true));
     assert_eq!(writer.reap().map(|text| text.read()), Some(2));
+}
+
+/// Counts its drop, and panics then where it is to.
+struct Fragile<'a>(bool, &'a AtomicU64);
+
+impl Drop for Fragile<'_> {
+    fn drop(&mut self) {
+        self.1.fetch_add(1, Relaxed);
+        if self.0 {
+            // Without the hook's message.
+            resume_unwind(Box::new("a drop"));
+        }
+    }
+}
+
+#[test]
+fn a_drop_that_panics_at_the_maps_end_leaves_nothing_undropped() {
+    let drops = AtomicU64::new(0);
+    let ValueMap { mut writer, mut readers } = ValueMap::open(10, 12, 1).unwrap();
+    for key in 0..10 {
+        let Asked::Send(ticket) = readers[0].ask(key) else { panic!() };
+        writer.fill(ticket, Fragile(key % 3 == 1, &drops)).expect("there is a slot");
+    }
+    let panicked = catch_unwind(AssertUnwindSafe(|| drop((writer, readers))));
+    assert_eq!(panicked.unwrap_err().downcast_ref(), Some(&"a drop"));
+    assert_eq!(drops.into_inner(), 10);
 }
 
 #[test]

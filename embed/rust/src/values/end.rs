@@ -1,6 +1,8 @@
 //! How a map of values ends.
 use super::boxed::Boxed;
+use crate::drops::drop_each;
 use crate::{Reader, Rows, Writer};
+use std::iter;
 use std::marker::PhantomData;
 use std::sync::{Mutex, MutexGuard, PoisonError, RwLock};
 
@@ -53,9 +55,8 @@ impl<V> Drop for End<V> {
         }
         let Ok(mut remains) = writer.take_apart() else { return };
         let mut room = Rows::new();
-        while let Some(rows) = remains.next_into(&mut room) {
-            // SAFETY: the set is of a map of such values, and came back.
-            drop(unsafe { Boxed::<V>::came_back(rows) });
-        }
+        // SAFETY: the set is of a map of such values, and came back.
+        let next = || remains.next_into(&mut room).map(|rows| unsafe { Boxed::<V>::came_back(rows) });
+        drop_each(iter::from_fn(next));
     }
 }
