@@ -1,6 +1,5 @@
--- Each turn of a load's dataflow is one round of its base, or none.
-use Rattle.std.proofs.Common.{◌≡◌, ◌≢◌, ◌==◌, ◌%◌, ◌<◌, ℕ, suc, ◌+◌, Bool, true, false, MatchBool, List, [], ◌∷◌, ◌++◌, length, replicate, refl, sym, ap, ◌∙◌, subst, arith, append-nil, Option, None, Some, Result, Ok, Err}
-use Rattle.std.specs.Prelude.{MatchOption}
+-- Each turn of a load's dataflow is one round of its base, or none, and its trigger is the one that was filled.
+use Rattle.std.proofs.Common.{◌≡◌, ◌≢◌, ◌==◌, ◌%◌, ◌<◌, ℕ, ◌+◌, Bool, true, false, MatchBool, List, [], ◌∷◌, ◌++◌, length, refl, sym, ap, ◌∙◌, subst, arith, append-nil, Option, None, Some, Result, Ok, Err}
 use Rattle.nr_model.specs.declared.rows.Row.{Row}
 use Rattle.nr_model.specs.declared.batches.Delta.{Delta}
 use Rattle.nr_model.specs.declared.calls.Call.TheVariants as call
@@ -17,19 +16,19 @@ use Rattle.nr_board.specs.declared.answers.UpdateFault.{UpdateFault}
 use Rattle.nr_board.specs.declared.answers.UpdateFault.TheVariants as update
 use Rattle.nr_board.specs.Callers.{Caller, Table}
 use Rattle.nr_board.specs.WriterAnswers.{EvictsKey, UpdatesKey}
+use Rattle.nr_trigger.specs.declared.post.Post.{Post}
+use Rattle.nr_trigger.specs.declared.post.Upquery.{Upquery}
+use Rattle.nr_trigger.specs.Tokens.{TakerSeen}
 use Rattle.nr_serve.specs.declared.turns.Turn.TheVariants as turn
-use Rattle.nr_serve.specs.Counts.{GuestSeen}
 use Rattle.nr_serve.specs.Flows.{FlowSeen}
 use Rattle.nr_serve.specs.Hands.{capped}
 use Rattle.nr_serve.specs.Ends.{IsPast}
-use Rattle.nr_serve.specs.Turns.{SpendsOne, Turns}
-use Rattle.nr_load.specs.declared.flow.Turned.{Turned}
+use Rattle.nr_serve.specs.Turns.{FindsNone, Spends, SpendsOne, Turns, kept_posts}
 use Rattle.nr_load.specs.declared.flow.Turned.TheVariants as turned
-use Rattle.nr_load.specs.declared.fault.LoadFault.{LoadFault}
-use Rattle.nr_load.specs.declared.fault.LoadFault.TheVariants as faults
-use Rattle.nr_load.specs.Base.{Changes, FailsNever, FollowsBase, GivesRow, IsRound, Rounds, StepsBase}
-use Rattle.nr_load.specs.Flowed.{Changed, Flows, RefusesUpdate, IsTurn, TurnsOnce}
+use Rattle.nr_load.specs.Base.{Changes, FailsNever, FollowsBase, GivesRow, IsRound, StepsBase, applies}
+use Rattle.nr_load.specs.Flowed.{Changed, RefusesUpdate, TurnsOnce}
 use Rattle.nr_load.specs.Gained.{Gained}
+use Rattle.nr_load.specs.UnderWay.{upqueries_in, upqueries_of}
 use Rattle.nr_load.proofs.Gaining.{evicts_gain, gained_none, gained_of, gained_then, turns_gain, updates_gain}
 
 -- a change whose writer gained just these entries
@@ -78,13 +77,41 @@ passed_round old new key fills fill.Already long past spends = passed_by old new
 passed_round old new key fills fill.Stale long past spends = passed_by old new key fills (Err fill.Stale) reply.Stale long refl spends
 passed_round old new key fills (fill.NoSlot counts) long past spends = absurd past
 
+passed_fits : (old new : FlowSeen (List ℕ)) (key : ℕ) (fault : FillFault) (past : IsPast fault) (spends : SpendsOne GivesRow old key (Err fault) new)
+    → upqueries_of (spends.post ∷ []) ≡ upqueries_in (turns_gain GivesRow old new (turn.Passed key) (fault, past, spends)).entries
+passed_fits old new key fill.NotAsked past spends = refl
+passed_fits old new key fill.Already past spends = refl
+passed_fits old new key fill.Stale past spends = refl
+passed_fits old new key (fill.NoSlot counts) past spends = absurd past
+
 pub turn_passes : (old new : FlowSeen (List ℕ)) (key fills : ℕ) → length old.source ≡ old.map.shape.keys → fills ≡ capped fills → Turns GivesRow FailsNever old (turn.Passed key) new → TurnsOnce old new turned.Went fills fills
 turn_passes old new key fills long small turns = record {
   count = 0;
   gained = turns_gain GivesRow old new (turn.Passed key) (turns.0, turns.1, turns.2);
   fills_are = omega (arith, small);
   turn = passed_round old new key fills turns.0 long turns.1 turns.2;
+  spent = turns.2.post ∷ [];
+  one = omega arith;
+  spends = turns.2.spends;
+  fits = passed_fits old new key turns.0 turns.1 turns.2;
+  none = turns.2.none;
 }
+
+-- nothing was taken
+spends_none : (old new : FlowSeen (List ℕ)) → FindsNone old new → Spends old.kept old.taker [] None new.taker
+spends_none old new finds =
+    let taker = ap (λ (flow : FlowSeen (List ℕ)). flow.taker) finds.2 in
+    record {
+      same = record {
+        queue = ap (λ (t : TakerSeen). t.queue) taker;
+        keys = ap (λ (t : TakerSeen). t.keys) taker;
+        map = ap (λ (t : TakerSeen). t.map) taker;
+        made = ap (λ (t : TakerSeen). t.made) taker;
+      };
+      gain = [];
+      taken = ap (λ (t : TakerSeen). t.taken) taker ∙ sym (append-nil old.taker.taken);
+      all = ap (λ (kept : Option Post). kept_posts kept ++ []) finds.0;
+    }
 
 pub turn_idles : (old new : FlowSeen (List ℕ)) (fills : ℕ) → fills ≡ capped fills → Turns GivesRow FailsNever old turn.Idle new → TurnsOnce old new turned.Idle fills fills
 turn_idles old new fills small turns = record {
@@ -92,10 +119,26 @@ turn_idles old new fills small turns = record {
   gained = turns_gain GivesRow old new turn.Idle turns;
   fills_are = omega (arith, small);
   turn = (refl, refl, ap (λ (flow : FlowSeen (List ℕ)). flow.source) turns.2);
+  spent = [];
+  one = omega arith;
+  spends = spends_none old new turns;
+  fits = refl;
+  none = ap (λ (flow : FlowSeen (List ℕ)). flow.kept) turns.2 ∙ turns.0;
 }
 
+-- what becomes of a key after its fill answers no upquery
+stays_unanswered : (fourth : Bool) (by key : ℕ) (base base' : List ℕ) (later : List Entry)
+    → MatchBool fourth (((answer : Reply) × (later ≡ entry by (call.Evict key) answer ∷ [])) × (base' ≡ base)) ((batch : Option (List Delta)) × StepsBase base key batch base' × (later ≡ applies by key batch)) → upqueries_in later ≡ []
+stays_unanswered true by key base base' later is = ap upqueries_in is.0.1
+stays_unanswered false by key base base' later (None, steps, is) = ap upqueries_in is
+stays_unanswered false by key base base' later (Some batch, steps, is) = ap upqueries_in is
+
+change_unanswered : (answer : Result (Unit {0}) UpdateFault) (by fills key : ℕ) (base base' : List ℕ) (later : List Entry) → Changed answer by fills key base later base' → upqueries_in later ≡ []
+change_unanswered (Ok done) by fills key base base' later changed = stays_unanswered (fills % 4 == 0) by key base base' later changed
+change_unanswered (Err fault) by fills key base base' later changed = ap upqueries_in changed.3
+
 -- a turn that filled a key, and then something became of the key
-module _ (old mid new : FlowSeen (List ℕ)) (key fills fills' : ℕ) (long : length old.source ≡ old.map.shape.keys) (spends : SpendsOne GivesRow old key (Ok tt) mid) (counted : fills' ≡ capped (fills + 1)) (map : mid.map ≡ old.map) where
+module _ (old mid new : FlowSeen (List ℕ)) (key fills fills' : ℕ) (long : length old.source ≡ old.map.shape.keys) (spends : SpendsOne GivesRow old key (Ok tt) mid) (counted : fills' ≡ capped (fills + 1)) (map : mid.map ≡ old.map) (kept : (new.taker ≡ mid.taker) × (new.kept ≡ mid.kept)) where
   abbrev filled : Gained old.map.shape.keys old.writer mid.writer 0 1
   filled = turns_gain GivesRow old mid (turn.Filled key) spends
 
@@ -122,8 +165,24 @@ module _ (old mid new : FlowSeen (List ℕ)) (key fills fills' : ℕ) (long : le
         );
       }
 
+  spent_one : Spends old.kept old.taker (spends.post ∷ []) None new.taker
+  spent_one = subst (λ (t : TakerSeen). Spends old.kept old.taker (spends.post ∷ []) None t) (sym kept.0) spends.spends
+
+  one_fits : (answer : Result (Unit {0}) UpdateFault) (change : GainsChange mid.map.shape.keys mid.writer new.writer answer fills' key mid.source new.source) → upqueries_of (spends.post ∷ []) ≡ upqueries_in (with_change answer change).entries
+  one_fits answer change = ap (λ (l : List Upquery). spends.post.upquery ∷ l) (sym (change_unanswered answer mid.writer.number fills' key mid.source new.source change.0.entries change.1))
+
   pub turn_fills : (done : Unit {0}) → GainsChange mid.map.shape.keys mid.writer new.writer (Ok done) fills' key mid.source new.source → TurnsOnce old new turned.Went fills fills'
-  turn_fills done change = record { count = 1; gained = with_change (Ok done) change; fills_are = counted; turn = filled_round change.0.entries change.1 }
+  turn_fills done change = record {
+    count = 1;
+    gained = with_change (Ok done) change;
+    fills_are = counted;
+    turn = filled_round change.0.entries change.1;
+    spent = spends.post ∷ [];
+    one = omega arith;
+    spends = spent_one;
+    fits = one_fits (Ok done) change;
+    none = kept.1 ∙ spends.none;
+  }
 
   pub turn_is_refused : (fault : UpdateFault) → GainsChange mid.map.shape.keys mid.writer new.writer (Err fault) fills' key mid.source new.source → TurnsOnce old new turned.Wrong fills fills'
   turn_is_refused fault change = record {
@@ -131,70 +190,9 @@ module _ (old mid new : FlowSeen (List ℕ)) (key fills fills' : ℕ) (long : le
     gained = with_change (Err fault) change;
     fills_are = counted;
     turn = (_, change.0.entries, refl, subst (λ (by : ℕ). RefusesUpdate by change.0.entries) filled.number change.1);
+    spent = spends.post ∷ [];
+    one = omega arith;
+    spends = spent_one;
+    fits = one_fits (Err fault) change;
+    none = kept.1 ∙ spends.none;
   }
-
--- what the turns so far came to
-pub record SoFar (a w : Caller) (fills : ℕ) (base : List ℕ) : Type 0 where
-  pub count : ℕ
-  pub gained : Gained a.table.shape.keys a w 0 count
-  pub fills_are : fills ≡ capped count
-  pub turns : ℕ
-  pub rounds : Rounds a.number a.table.shape.keys turns gained.entries fills base
-
-pub so_far_none : (a w : Caller) (base : List ℕ) → w ≡ a → base ≡ replicate a.table.shape.keys 0 → SoFar a w 0 base
-so_far_none a w base same is = record { count = 0; gained = gained_none a.table.shape.keys a w same; fills_are = refl; turns = 0; rounds = (refl, refl, is) }
-
--- one turn more gains
-abbrev with_turn : (a : Caller) (old new : FlowSeen (List ℕ)) (what : Turned) (fills fills' : ℕ) → old.map ≡ a.table
-    → (far : SoFar a old.writer fills old.source) → (turn : TurnsOnce old new what fills fills') → Gained a.table.shape.keys a new.writer 0
-    (far.count + turn.count)
-with_turn a old new what fills fills' own far turn =
-    gained_then a.table.shape.keys a old.writer new.writer 0 far.count 0 turn.count far.gained
-    (gained_of old.map.shape.keys a.table.shape.keys old.writer new.writer new.writer 0 turn.count (ap (λ (t : Table). t.shape.keys) own) refl
-    turn.gained)
-
-more_rounds : (by keys turns : ℕ) (before entries : List Entry) (what : Turned) (fills fills' : ℕ) (base base' : List ℕ) → what ≢ turned.Wrong → Rounds by keys turns before fills base → IsTurn what by fills base entries fills' base'
-    → (more : ℕ) × Rounds by keys more (before ++ entries) fills' base'
-more_rounds by keys turns before entries turned.Idle fills fills' base base' right rounds turn = (
-  turns,
-  subst (λ (l : List Entry). Rounds by keys turns l fills' base') (sym (append-nil before) ∙ ap (λ (l : List Entry). before ++ l) (sym turn.0))
-      (subst (λ (n : ℕ). Rounds by keys turns before n base') (sym turn.1) (subst (λ (b : List ℕ). Rounds by keys turns before fills b) (sym turn.2) rounds)),
-)
-more_rounds by keys turns before entries turned.Went fills fills' base base' right rounds turn = (suc turns, (before, fills, base, entries, rounds, turn, refl))
-more_rounds by keys turns before entries turned.Wrong fills fills' base base' right rounds turn = absurd (right refl)
-
-module _ (a : Caller) (old new : FlowSeen (List ℕ)) (what : Turned) (fills fills' : ℕ) (own : old.map ≡ a.table) (far : SoFar a old.writer fills old.source) (turn : TurnsOnce old new what fills fills') where
-  fills_on : fills' ≡ capped (far.count + turn.count)
-  fills_on = omega (arith, far.fills_are, turn.fills_are)
-
-  rounds_on : what ≢ turned.Wrong → (more : ℕ) × Rounds a.number a.table.shape.keys more (far.gained.entries ++ turn.gained.entries) fills' new.source
-  rounds_on right = more_rounds a.number a.table.shape.keys far.turns far.gained.entries turn.gained.entries what fills fills' old.source new.source right far.rounds
-      (subst (λ (by : ℕ). IsTurn what by fills old.source turn.gained.entries fills' new.source) far.gained.number turn.turn)
-
-  pub so_far_more : what ≢ turned.Wrong → SoFar a new.writer fills' new.source
-  so_far_more right = record { count = far.count + turn.count; gained = with_turn a old new what fills fills' own far turn; fills_are = fills_on; turns = (rounds_on right).0; rounds = (rounds_on right).1 }
-
-  pub flows_last : (w : Caller) (told : ℕ) (fault : Option LoadFault) (guest : GuestSeen) → (fault ≡ None → what ≢ turned.Wrong) → told ≡ fills' → w ≡ new.writer → Flows a (record { writer = w; fills = told; fault = fault; guest = guest })
-  flows_last w told fault guest right is same = record {
-    count = far.count + turn.count;
-    gained = gained_of a.table.shape.keys a.table.shape.keys a new.writer w 0 (far.count + turn.count) refl same (with_turn a old new what fills fills' own far turn);
-    fills = is ∙ fills_on;
-    rounds = λ none. ((rounds_on (right none)).0, new.source, subst (λ (n : ℕ). Rounds a.number a.table.shape.keys (rounds_on (right none)).0 (far.gained.entries ++ turn.gained.entries) n new.source) (sym is) (rounds_on (right none)).1);
-  }
-
-pub flows_so_far : (a w v : Caller) (fills told : ℕ) (base : List ℕ) (fault : Option LoadFault) (guest : GuestSeen) → SoFar a v fills base → told ≡ fills → w ≡ v → Flows a (record { writer = w; fills = told; fault = fault; guest = guest })
-flows_so_far a w v fills told base fault guest far is same = record {
-  count = far.count;
-  gained = gained_of a.table.shape.keys a.table.shape.keys a v w 0 far.count refl same far.gained;
-  fills = is ∙ far.fills_are;
-  rounds = λ none. (far.turns, base, subst (λ (n : ℕ). Rounds a.number a.table.shape.keys far.turns far.gained.entries n base) (sym is) far.rounds);
-}
-
-pub not_both : (b : Bool) → b ≡ true → b ≡ false → ⊥
-not_both true is not = absurd (cc)
-not_both false is not = absurd (cc)
-
--- the fault is that which was told of the last turn
-pub tells_right : (fault told : Option LoadFault) (what : Turned) → fault ≡ told → MatchOption told (what ≢ turned.Wrong) (λ it. (it ≡ faults.WrongRows) × (what ≡ turned.Wrong)) → fault ≡ None → what ≢ turned.Wrong
-tells_right fault None what same tells none = tells
-tells_right fault (Some it) what same tells none = absurd (cc)

@@ -47,6 +47,16 @@ gained_of keys keys' a b b' s f same is gained = record {
   tells = subst (λ (n : ℕ). Tells n gained.entries s f) same gained.tells;
 }
 
+-- and from an equal caller
+abbrev pub gained_from : (keys keys' : ℕ) (a a' b : Caller) (s f : ℕ) → keys ≡ keys' → a ≡ a' → Gained keys a b s f → Gained keys' a' b s f
+gained_from keys keys' a a' b s f same is gained = record {
+  table = gained.table ∙ ap (λ (c : Caller). c.table) is;
+  number = gained.number ∙ ap (λ (c : Caller). c.number) is;
+  entries = gained.entries;
+  mine = gained.mine ∙ ap (λ (c : Caller). c.mine ++ gained.entries) is;
+  tells = subst (λ (n : ℕ). Tells n gained.entries s f) same gained.tells;
+}
+
 abbrev grown : (steps keys : ℕ) (a b : Caller) (entries : List Entry) (s f : ℕ) → Grows steps a entries b → Tells keys entries s f → Gained keys a b s f
 grown steps keys a b entries s f grows tells = record { table = grows.table; number = grows.number; entries = entries; mine = grows.mine; tells = tells }
 

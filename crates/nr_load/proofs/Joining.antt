@@ -1,10 +1,13 @@
--- What the promises that were kept say of the readers.
+-- What the promises that were kept say of the tokens.
 use Rattle.std.proofs.Common.{◌≡◌, ℕ, Bool, true, not, List, [], ◌∷◌, ◌++◌, length, refl, subst, arith, Option, None, Some, is_some}
 use Rattle.std.proofs.lemmas.List.{append-nil}
 use Rattle.std.specs.declared.thread.PromisedHandle.{PromisedHandle}
 use Rattle.nr_board.specs.Callers.{Caller}
+use Rattle.nr_trigger.specs.Tokens.{TakerSeen}
+use Rattle.nr_load.specs.declared.flow.Flowed.{Flowed}
 use Rattle.nr_load.specs.declared.workers.Outcome.{Outcome}
 use Rattle.nr_load.specs.declared.workers.Serving.{Serving}
+use Rattle.nr_load.specs.Flowed.{Flows}
 use Rattle.nr_load.specs.Outcomes.{CarriesFirst, KeptBy, Serves, ServesFirst}
 
 -- nothing was left to join
@@ -39,3 +42,6 @@ served seed gets (r ∷ rs) (h ∷ hs) (o ∷ os) carries kept = (
       (subst (λ (n : ℕ). Serves n h.promise.gets h.promise.reader.value o) carries.0.0 kept.0)),
   served seed gets rs hs os carries.1 kept.1,
 )
+
+pub flows_of : (a b : Caller) (t u : TakerSeen) (flowed : Flowed) → (a ≡ b) × (t ≡ u) → Flows a t flowed → Flows b u flowed
+flows_of a b t u flowed same flows = subst (λ (c : Caller). Flows c u flowed) same.0 (subst (λ (taker : TakerSeen). Flows a taker flowed) same.1 flows)

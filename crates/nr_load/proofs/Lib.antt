@@ -13,4 +13,6 @@ pub mod Balancing
 pub mod Accounting
 pub mod Finding
 pub mod Flowing
+pub mod Taking
+pub mod Turning
 pub mod Reporting

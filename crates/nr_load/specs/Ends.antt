@@ -2,6 +2,7 @@
 use Rattle.std.specs.Prelude.{◌≡◌, ◌==◌, ℕ, Bool, List, length, true, if◌then◌else◌, Option, None, Some}
 use Rattle.nr_board.specs.Callers.{Caller, Table}
 use Rattle.nr_map.specs.Opened.{IsOpened}
+use Rattle.nr_trigger.specs.Tokens.{TakerSeen}
 use Rattle.nr_load.specs.declared.fault.LoadFault.{LoadFault}
 use Rattle.nr_load.specs.declared.fault.LoadFault.TheVariants as faults
 use Rattle.nr_load.specs.declared.threads.Joined.{Joined}
@@ -14,16 +15,17 @@ use Rattle.nr_load.specs.Outcomes.{ServesFirst, earliest, made_in}
 pub record Joins (seed gets : ℕ) (tokens : Tokens) (joined : Joined) : Type 0 where
   pub served : ServesFirst seed gets tokens.readers.items joined.outcomes.items
   pub whole : joined.is_whole ≡ true → length joined.outcomes.items ≡ length tokens.readers.items
-  pub flowed : Flows tokens.writer joined.flowed
+  pub flowed : Flows tokens.writer tokens.taker joined.flowed
 
 -- the threads had the tokens of a new map, each its own
 pub record Ended (map : Table) (seed gets : ℕ) (joined : Joined) : Type 0 where
   pub writer : Caller
+  pub taker : TakerSeen
   pub readers : List Caller
   pub opened : IsOpened map.shape 0 map writer readers
   pub served : ServesFirst seed gets readers joined.outcomes.items
   pub whole : joined.is_whole ≡ true → length joined.outcomes.items ≡ length readers
-  pub flowed : Flows writer joined.flowed
+  pub flowed : Flows writer taker joined.flowed
 
 -- of these faults, of a refused thread and of gets that were not all made the first named
 abbrev pub first_of : Option LoadFault → Option LoadFault → (is_whole is_all : Bool) → Option LoadFault

@@ -5,6 +5,7 @@ pub mod Drawn
 pub mod Works
 pub mod Base
 pub mod Gained
+pub mod UnderWay
 pub mod Flowed
 pub mod Closes
 pub mod Outcomes

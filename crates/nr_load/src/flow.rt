@@ -1,13 +1,15 @@
 //! The thread of the dataflow.
-ghost use Rattle.std.specs.Prelude.{◌≡◌, ◌≢◌, ◌<◌, ◌≤◌, true, MatchOption, length, replicate};
+ghost use Rattle.std.specs.Prelude.{◌≡◌, ◌≢◌, ◌<◌, [], true, None, MatchOption, length, replicate};
 ghost use Rattle.nr_map.specs.SlotBounds.{HasRoomForAll};
-ghost use Rattle.nr_load.specs.Flowed.{Changed, Flows, TurnsOnce};
+ghost use Rattle.nr_load.specs.Flowed.{Changed, Flows, TurnsAll, TurnsOnce};
 ghost use Rattle.nr_load.specs.Gained.{Gained};
 ghost use Rattle.nr_load.specs.Handed.{IsTakerOf};
+ghost use Rattle.nr_load.specs.UnderWay.{ahead_of};
 
 use crate::base::Base;
 use crate::fault::LoadFault;
 use crate::shared::Shared;
+use crate::under_way::UnderWay;
 use nr_map::{UpdateFault, Writer};
 use nr_serve::{Dataflow, Guest, Turn};
 use nr_trigger::Taker;
@@ -17,6 +19,7 @@ use std::sync::Wait;
 #[derive(Drop)]
 pub struct Flowed {
     pub writer: Writer,
+    pub taker: Taker,
     /// How many fills were done, up to 2^64 - 1.
     pub fills: u64,
     pub fault: Option<LoadFault>,
@@ -41,6 +44,7 @@ fn change(flow: &mut Dataflow<'_, Base>, key: u32, fills: u64) -> Result<(), Upd
     requires room { HasRoomForAll flow.old.map }
     ensures gained { (gained : Gained flow.old.map.shape.keys flow.old.writer flow.new.writer 0 0) × Changed result flow.old.writer.number fills key flow.old.source gained.entries flow.new.source }
     ensures places { (flow.new.map ≡ flow.old.map) × (flow.new.queue ≡ flow.old.queue) }
+    ensures triggers { (flow.new.taker ≡ flow.old.taker) × (flow.new.kept ≡ flow.old.kept) }
 {
     if fills % 4 == 0 {
         flow.evict(key);
@@ -74,7 +78,8 @@ fn turn_once<R: Wait>(rt: &R, flow: &mut Dataflow<'_, Base>, fills: &mut u64) ->
 }
 
 fn is_last(turned: Turned, is_closed: bool) -> bool
-    ensures { turned ≡ Turned.Wrong → result ≡ true }
+    ensures wrong { turned ≡ Turned.Wrong → result ≡ true }
+    ensures idle { result ≡ true → turned ≢ Turned.Went }
 {
     match turned {
         Turned::Idle => is_closed,
@@ -92,8 +97,54 @@ fn fault_of(turned: Turned) -> Option<LoadFault>
     }
 }
 
-/// Turns until the lobby is closed and nothing is left to fill, or until a change of rows is
-/// refused. Then it ends the load.
+// Turns until the lobby is closed and nothing is left to fill, or until a change of rows is refused.
+// Before each turn as many triggers are taken as may be under way. Gives how many fills were done.
+fn turn_on<R: Wait>(
+    rt: &R,
+    shared: &Shared,
+    flow: &mut Dataflow<'_, Base>,
+    under_way: &mut UnderWay,
+) -> (u64, Option<LoadFault>)
+    requires base { flow.old.source ≡ replicate flow.old.map.shape.keys 0 }
+    requires room { HasRoomForAll flow.old.map }
+    requires none { (flow.old.kept ≡ None) × (under_way.old.posts ≡ []) }
+    requires most { under_way.old.most ≡ ahead_of shared.now.plan.upqueries }
+    ensures { TurnsAll flow.old flow.new result.0 result.1 }
+{
+    let lobby = shared.service.lobby();
+    let mut guest = lobby.guest();
+    let mut fills = 0;
+    for _ in rt.forever() {
+        let is_closed = lobby.is_closed(&mut guest);
+        under_way.ready(rt, flow);
+        let turned = turn_once(rt, flow, &mut fills);
+        if is_last(turned, is_closed) {
+            return (fills, fault_of(turned));
+        }
+    }
+    unreachable!()
+}
+
+// All turns, with room for the triggers that are under way.
+fn turn_all<R: Wait>(
+    rt: &R,
+    shared: &Shared,
+    flow: &mut Dataflow<'_, Base>,
+) -> (u64, Option<LoadFault>)
+    requires base { flow.old.source ≡ replicate flow.old.map.shape.keys 0 }
+    requires room { HasRoomForAll flow.old.map }
+    requires none { flow.old.kept ≡ None }
+    ensures { TurnsAll flow.old flow.new result.0 result.1 }
+{
+    let Ok(mut under_way) = UnderWay::open(shared.alloc, shared.plan.upqueries) else {
+        return (0, Some(LoadFault::Memory));
+    };
+    let turned = turn_on(rt, shared, flow, &mut under_way);
+    under_way.end();
+    turned
+}
+
+/// Makes all turns of the dataflow, and then ends the load.
 pub(crate) fn flow_on<R: Wait>(
     rt: &R,
     shared: &Shared,
@@ -104,29 +155,19 @@ pub(crate) fn flow_on<R: Wait>(
     requires own { writer.table ≡ shared.now.service.map }
     requires queue { IsTakerOf shared.now.service.map shared.now.service.queue taker }
     requires base { base ≡ replicate shared.now.service.map.shape.keys 0 }
-    ensures flows { Flows writer result }
+    ensures flows { Flows writer taker result }
     ensures closes { (result.guest.lobby ≡ shared.now.service.lobby) × (0 < result.guest.closes) }
 {
-    let lobby = shared.service.lobby();
     let mut flow = Dataflow::open(&shared.service, writer, taker, base);
-    let mut guest = lobby.guest();
-    let mut fills = 0;
-    let mut fault = None;
-    for _ in rt.forever() {
-        let is_closed = lobby.is_closed(&mut guest);
-        let turned = turn_once(rt, &mut flow, &mut fills);
-        fault = fault_of(turned);
-        if is_last(turned, is_closed) {
-            break;
-        }
-    }
-    let (writer, _, kept, _) = flow.end();
+    let (fills, fault) = turn_all(rt, shared, &mut flow);
+    let (writer, taker, kept, _) = flow.end();
     if let Some(trigger) = kept {
         trigger.into_key();
     }
     let guest = shared.end();
     Flowed {
         writer,
+        taker,
         fills,
         fault,
         guest,

@@ -11,6 +11,7 @@ mod load;
 mod shared;
 mod tally;
 mod threads;
+mod under_way;
 mod workers;
 
 pub use draws::Draws;

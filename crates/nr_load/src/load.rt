@@ -34,6 +34,8 @@ pub struct Plan {
     pub keys: u32,
     /// The gets of each reader.
     pub gets: u32,
+    /// How many upqueries may be under way at once: at least one always may.
+    pub upqueries: u32,
 }
 
 /// What a run of load did.
@@ -208,6 +210,7 @@ fn settle(
     let (sums, readers) = collect(outcomes, room);
     let Flowed {
         writer,
+        taker: _,
         fills,
         fault,
         guest: _,
@@ -228,8 +231,9 @@ fn settle(
 
 /// Runs a load: opens a map with a slot for each key, each reader and one more, a queue with room for
 /// a ticket of each key, and starts a thread for each reader and one for the dataflow. Each reader
-/// makes `gets` gets, of keys that it draws. All memory but a worker's own is asked for before the
-/// first thread starts. A fault of one ends all, and each thread that was started is joined before
+/// makes `gets` gets, of keys that it draws. The dataflow takes as many triggers as may be under way,
+/// and answers the oldest in each turn. All memory but a thread's own is asked for before the first
+/// one starts. A fault of one ends all, and each thread that was started is joined before
 /// the answer, of several faults the first named; `WrongRows` also where gets are missing and nothing
 /// tells why. Then all readers are gathered; the report is of one history that has all their calls,
 /// and in which each find found the row that the base had then.

@@ -46,19 +46,21 @@ pub(crate) struct Joined {
 #[derive(Drop)]
 pub(crate) struct Flowing {
     writer: Snapshot<Writer>,
+    taker: Snapshot<Taker>,
 }
 
 impl Promise<Flowed> for Flowing {
     ghost use Rattle.nr_load.specs.Flowed.{Flows};
 
-    ghost kept_by = { λ promise flowed. Flows promise.writer.value flowed };
+    ghost kept_by = { λ promise flowed. Flows promise.writer.value promise.taker.value flowed };
 }
 
-fn promise_to_flow(writer: &Writer) -> Flowing
-    ensures { result.writer.value ≡ writer.now }
+fn promise_to_flow(writer: &Writer, taker: &Taker) -> Flowing
+    ensures { (result.writer.value ≡ writer.now) × (result.taker.value ≡ taker.now) }
 {
     Flowing {
         writer: Snapshot::of(writer),
+        taker: Snapshot::of(taker),
     }
 }
 
@@ -74,16 +76,16 @@ fn start_flow<'s, E, R: Wait + Sync>(
     requires own { writer.table ≡ shared.now.service.map }
     requires queue { IsTakerOf shared.now.service.map shared.now.service.queue taker }
     requires base { base ≡ replicate shared.now.service.map.shape.keys 0 }
-    ensures { IfOk result (λ handle. handle.promise.writer.value ≡ writer) }
+    ensures { IfOk result (λ handle. (handle.promise.writer.value ≡ writer) × (handle.promise.taker.value ≡ taker)) }
 {
-    let promise = promise_to_flow(&writer);
+    let promise = promise_to_flow(&writer, &taker);
     match scope.spawn_with(
         promise,
         move || -> Flowed
             requires own { writer.table ≡ shared.now.service.map }
             requires queue { IsTakerOf shared.now.service.map shared.now.service.queue taker }
             requires base { base ≡ replicate shared.now.service.map.shape.keys 0 }
-            ensures { Flows writer result }
+            ensures { Flows writer taker result }
         { flow_on(rt, shared, writer, taker, base) },
     ) {
         Ok(flow) => Ok(flow),

@@ -1,6 +1,6 @@
 //! What the words after the program's name ask for.
 ghost use Rattle.std.specs.Prelude.{◌≡◌, ◌<◌, ◌≤◌, ◌∷◌, [], map, string_bytes, IfSome};
-ghost use Rattle.nr_prog.specs.Tasks.{IsRunnable, load_of, number_within, task};
+ghost use Rattle.nr_prog.specs.Tasks.{IsRunnable, load_asked, load_of, number_within, task};
 
 use nr_load::Plan;
 use nr_machine::MAX_READERS;
@@ -9,6 +9,9 @@ use nr_text::number;
 
 /// The most gets of a reader.
 const MAX_GETS: u32 = 1_000_000;
+
+/// No more upqueries can be under way than a map has keys.
+const MAX_UPQUERIES: u32 = MAX_KEYS;
 
 /// What the program is to do.
 #[derive(Clone, Copy, Debug, PartialEq, Eq)]
@@ -29,6 +32,7 @@ pub(crate) enum Misuse {
     Readers,
     Keys,
     Gets,
+    Upqueries,
 }
 
 /// What the words ask for.
@@ -39,7 +43,11 @@ pub(crate) fn task_of(args: &[String]) -> Task
     match args {
         [] => Task::Script,
         [only] => task_of_one(only),
-        [word, seed, readers, keys, gets] => task_of_five(word, seed, readers, keys, gets),
+        [word, seed, readers, keys, gets] => load_asked(word, seed, readers, keys, gets, Some(1)),
+        [word, seed, readers, keys, gets, upqueries] => {
+            let upqueries = number_within(1, MAX_UPQUERIES, upqueries.as_bytes());
+            load_asked(word, seed, readers, keys, gets, upqueries)
+        }
         _ => Task::Explain(Misuse::Words),
     }
 }
@@ -55,14 +63,16 @@ fn task_of_one(word: &String) -> Task
     }
 }
 
-fn task_of_five(
+// A load of these words, and of how many upqueries may be under way.
+fn load_asked(
     word: &String,
     seed: &String,
     readers: &String,
     keys: &String,
     gets: &String,
+    upqueries: Option<u32>,
 ) -> Task
-    ensures task { result ≡ task (string_bytes word.now ∷ string_bytes seed.now ∷ string_bytes readers.now ∷ string_bytes keys.now ∷ string_bytes gets.now ∷ []) }
+    ensures task { result ≡ load_asked (string_bytes word.now) (string_bytes seed.now) (string_bytes readers.now) (string_bytes keys.now) (string_bytes gets.now) upqueries }
     ensures runnable { IsRunnable result }
 {
     if word.as_str() == "load" {
@@ -71,6 +81,7 @@ fn task_of_five(
             number_within(1, MAX_READERS, readers.as_bytes()),
             number_within(1, MAX_KEYS, keys.as_bytes()),
             number_within(0, MAX_GETS, gets.as_bytes()),
+            upqueries,
         )
     } else {
         Task::Explain(Misuse::Words)
@@ -93,10 +104,16 @@ fn number_within(least: u32, most: u32, word: &[u8]) -> Option<u32>
 }
 
 /// The load of these numbers, or which of them is missing first.
-fn load_of(seed: Option<u64>, readers: Option<u32>, keys: Option<u32>, gets: Option<u32>) -> Task
+fn load_of(
+    seed: Option<u64>,
+    readers: Option<u32>,
+    keys: Option<u32>,
+    gets: Option<u32>,
+    upqueries: Option<u32>,
+) -> Task
     requires readers { IfSome readers (λ n. (0 < n) × (n ≤ 1024)) }
     requires keys { IfSome keys (λ n. (0 < n) × (n ≤ 65536)) }
-    ensures task { result ≡ load_of seed readers keys gets }
+    ensures task { result ≡ load_of seed readers keys gets upqueries }
     ensures runnable { IsRunnable result }
 {
     let Some(seed) = seed else {
@@ -111,10 +128,14 @@ fn load_of(seed: Option<u64>, readers: Option<u32>, keys: Option<u32>, gets: Opt
     let Some(gets) = gets else {
         return Task::Explain(Misuse::Gets);
     };
+    let Some(upqueries) = upqueries else {
+        return Task::Explain(Misuse::Upqueries);
+    };
     Task::Load(Plan {
         seed,
         readers,
         keys,
         gets,
+        upqueries,
     })
 }

@@ -84,6 +84,26 @@ fn a_line_that_can_not_be_written_is_left_out(rt: HostRuntime) {
 }
 
 #[test]
+fn upqueries_under_way_leave_the_report_as_it_is(rt: HostRuntime) {
+    let told = (0, "gets 400\nanswered 400\nbalance ok\n");
+    let words = &["load", "7", "4", "8", "100"];
+    assert_ends(&rt, words, (b"", 0), NEVER, told);
+    for upqueries in ["1", "8", "64", "65536"] {
+        let words = &["load", "7", "4", "8", "100", upqueries];
+        assert_ends(&rt, words, (b"", 0), NEVER, told);
+    }
+}
+
+#[test]
+fn upqueries_are_refused_as_the_other_numbers_are(rt: HostRuntime) {
+    let told = (2, "nr: upqueries must be 1 to 65536\n");
+    for upqueries in ["0", "65537", "18446744073709551616", "x", ""] {
+        let words = &["load", "1", "1", "1", "1", upqueries];
+        assert_ends(&rt, words, (b"", 0), NEVER, told);
+    }
+}
+
+#[test]
 fn a_report_may_be_cut_anywhere(rt: HostRuntime) -> Result<(), Fail> {
     let text: &[u8] = b"gets 1\nanswered 1\nbalance ok\n";
     let args = arguments(rt.alloc(), &["load", "1", "1", "1", "1"])?;

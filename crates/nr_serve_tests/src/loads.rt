@@ -1,7 +1,7 @@
 //! Whole loads. What is asserted does not depend on how the threads' steps fall.
 ghost use Rattle.std.specs.Prelude.{◌<◌, ◌≤◌};
 
-use nr_load::{LoadFault, LoadReport, Plan, run_load};
+use nr_load::{Draws, LoadFault, LoadReport, Plan, run_load};
 use nr_serve::{Gate, OpenGate};
 use std::process::Abort;
 use std::sync::Wait;
@@ -117,6 +117,7 @@ fn two_readers_meet_in_one_get(rt: HostRuntime) {
         readers: 2,
         keys: 1,
         gets: 1,
+        upqueries: 1,
     };
     let report = reported(&rt, &plan, &meeting);
     let wanted = LoadReport {
@@ -137,6 +138,7 @@ fn two_readers_meet_in_each_of_fifty_gets(rt: HostRuntime) {
         readers: 2,
         keys: 8,
         gets: 50,
+        upqueries: 1,
     };
     let report = reported(&rt, &plan, &meeting);
     assert_eq!(rt;
@@ -156,6 +158,55 @@ impl Gate for Yielding {
     }
 
     fn answered(&self, _reader: u32, _get: u64) {}
+}
+
+/// Of three keys, so few that none is evicted, each that a reader draws is filled once.
+fn of_three_keys(seed: u64) -> LoadReport {
+    let mut draws = Draws::open(seed, 1, 3);
+    let mut drawn = [false; 3];
+    for _ in 0..4 {
+        drawn[draws.next() as usize] = true;
+    }
+    let keys = drawn.iter().filter(|drawn| **drawn).count() as u64;
+    LoadReport {
+        gets: 4,
+        answered: 4,
+        sends: keys,
+        fills: keys,
+        asked: 0,
+    }
+}
+
+#[test]
+fn the_draws_are_the_same_however_many_upqueries_are_under_way(rt: HostRuntime) {
+    for seed in 0..20 {
+        for upqueries in [0, 1, 8, 64, 65536] {
+            let plan = Plan {
+                seed,
+                readers: 1,
+                keys: 3,
+                gets: 4,
+                upqueries,
+            };
+            assert_eq!(rt; reported(&rt, &plan, &OpenGate), of_three_keys(seed));
+        }
+    }
+}
+
+#[test]
+fn many_upqueries_under_way_are_in_balance(rt: HostRuntime) {
+    for upqueries in [2, 8, 64] {
+        let plan = Plan {
+            seed: 9,
+            readers: 24,
+            keys: 512,
+            gets: 100,
+            upqueries,
+        };
+        let report = reported(&rt, &plan, &OpenGate);
+        assert_eq!(rt; told(&report), (2400, 2400, true));
+        assert_eq!(rt; report.asked, 0);
+    }
 }
 
 /// Each fourth of the fills is evicted again, so there are at most ten of eight keys: two evictions
@@ -178,6 +229,7 @@ fn fills_of<R: Threads + Wait + Sync + Abort + AllocGlobal>(rt: &R, seed: u64) -
         readers: 1,
         keys: 8,
         gets: 400,
+        upqueries: 1,
     };
     let report = reported(rt, &plan, &Yielding);
     assert!(rt; report.fills <= 10 && report.asked == 0);
@@ -192,6 +244,7 @@ fn a_thousand_readers_on_one_key(rt: HostRuntime) {
         readers: 1024,
         keys: 1,
         gets: 2,
+        upqueries: 1,
     };
     match run_load(&rt, rt.alloc(), &plan, &OpenGate) {
         Ok(report) => assert_eq!(rt; told(&report), (2048, 2048, true)),
@@ -218,6 +271,7 @@ fn a_gate_that_never_opens_ends_the_load(rt: HostRuntime) {
         readers: 2,
         keys: 1,
         gets: 1,
+        upqueries: 1,
     };
     let ended = run_load(&rt, rt.alloc(), &plan, &ShutGate);
     assert_eq!(rt; ended, Err(LoadFault::Barred));
@@ -231,6 +285,7 @@ fn refused_memory_ends_a_load(rt: HostRuntime) {
         readers: 2,
         keys: 2,
         gets: 3,
+        upqueries: 8,
     };
     match run_load(&rt, rt.alloc(), &plan, &OpenGate) {
         Ok(report) => assert_eq!(rt; told(&report), (6, 6, true)),

@@ -11,11 +11,11 @@ returns-in-Passed-clause-turns g c = turn_passes c.args.flow.now c.turn_or_sleep
 pub returns-in-Ok-clause-turns : goal.returns-in-Ok-clause-turns
 returns-in-Ok-clause-turns g c =
     turn_fills c.args.flow.now c.turn_or_sleep.new.self c.change.new.flow c.in-Filled.key c.args.fills.now c.saturating_add.result c.requires.base
-    c.in-Filled.ensures.turns (omega (arith, c.saturating_add.ensures)) c.turn_or_sleep.ensures.places.0 _
+    c.in-Filled.ensures.turns (omega (arith, c.saturating_add.ensures)) c.turn_or_sleep.ensures.places.0 c.change.ensures.triggers _
     c.in-Ok.ensures.gained
 
 pub returns-in-Err-clause-turns : goal.returns-in-Err-clause-turns
 returns-in-Err-clause-turns g c =
     turn_is_refused c.args.flow.now c.turn_or_sleep.new.self c.change.new.flow c.in-Filled.key c.args.fills.now c.saturating_add.result
-    c.requires.base c.in-Filled.ensures.turns (omega (arith, c.saturating_add.ensures)) c.turn_or_sleep.ensures.places.0 c.in-Err.field-0
+    c.requires.base c.in-Filled.ensures.turns (omega (arith, c.saturating_add.ensures)) c.turn_or_sleep.ensures.places.0 c.change.ensures.triggers c.in-Err.field-0
     c.in-Err.ensures.gained

@@ -1,7 +1,5 @@
-use Rattle.std.proofs.Common.{◌∙◌, subst}
-use Rattle.nr_board.specs.Callers.{Caller}
-use Rattle.nr_load.specs.Flowed.{Flows}
-use Rattle.nr_load.proofs.Joining.{joined_count, none_refused, served}
+use Rattle.std.proofs.Common.{◌∙◌}
+use Rattle.nr_load.proofs.Joining.{flows_of, joined_count, none_refused, served}
 use Rattle.nr_load.proofs.threads.serve_within.Goals as goal
 
 pub returns : goal.returns
@@ -11,5 +9,5 @@ returns g c =
     record {
       served = served c.args.shared.now.plan.seed c.args.shared.now.plan.gets _ _ _ begun.readers kept;
       whole = λ whole. joined_count _ _ kept ∙ begun.whole (none_refused _ _ c.is_none.ensures whole);
-      flowed = subst (λ (writer : Caller). Flows writer c.join-flowed.result) c.in_ok-flow.ensures c.join-flowed.ensures;
+      flowed = flows_of _ _ _ _ c.join-flowed.result c.in_ok-flow.ensures c.join-flowed.ensures;
     }

@@ -1,6 +1,6 @@
 use Rattle.std.proofs.Common.{map, string_bytes, sym, ap, ◌∙◌, arith}
 use Rattle.nr_prog.specs.Tasks.{task}
-use Rattle.nr_prog.proofs.TaskLemmas.{none_asks, only_five, only_one, others_explain}
+use Rattle.nr_prog.proofs.TaskLemmas.{none_asks, only_five, only_one, only_six, others_explain}
 use Rattle.nr_prog.proofs.task.task_of.Goals as goal
 
 pub returns-in-empty-clause-task : goal.returns-in-empty-clause-task
@@ -12,9 +12,15 @@ returns-in-len1-clause-task c =
 
 pub returns-in-len5-clause-task : goal.returns-in-len5-clause-task
 returns-in-len5-clause-task c =
-    c.task_of_five.ensures.task
+    c.load_asked.ensures.task
     ∙ ap (λ words. task (map string_bytes words))
     (sym (only_five c.args.args.now c.word-item.result c.seed-item.result c.readers-item.result c.keys-item.result c.gets-item.result (omega arith) c.word-item.is c.seed-item.is c.readers-item.is c.keys-item.is c.gets-item.is))
 
+pub returns-in-len6-clause-task : goal.returns-in-len6-clause-task
+returns-in-len6-clause-task c =
+    c.load_asked-2.ensures.task
+    ∙ ap (λ words. task (map string_bytes words))
+    (sym (only_six c.args.args.now c.word-item-2.result c.seed-item-2.result c.readers-item-2.result c.keys-item-2.result c.gets-item-2.result c.upqueries-item.result (omega arith) c.word-item-2.is c.seed-item-2.is c.readers-item-2.is c.keys-item-2.is c.gets-item-2.is c.upqueries-item.is))
+
 pub returns-in_default-clause-task : goal.returns-in_default-clause-task
-returns-in_default-clause-task c = others_explain string_bytes c.args.args.now (omega arith) (omega arith) (omega arith)
+returns-in_default-clause-task c = others_explain string_bytes c.args.args.now (omega arith) (omega arith) (omega arith) (omega arith)
