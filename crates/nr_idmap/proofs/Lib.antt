@@ -8,7 +8,9 @@ mod LedgerLaws
 mod WayCalls
 mod Answering
 mod Asking
+mod Hearing
 mod Finding
+mod Holding
 mod Opening
 mod Giving
 mod Looking

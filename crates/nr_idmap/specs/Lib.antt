@@ -4,6 +4,7 @@ pub mod Tidy
 pub mod Keepers
 pub mod IdLaws
 pub mod IdFinds
+pub mod IdHands
 pub mod IdLooks
 pub mod Asking
 pub mod IdWrites

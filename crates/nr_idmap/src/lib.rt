@@ -10,6 +10,7 @@
 
 mod evictions;
 mod finds;
+mod hands;
 mod id_map;
 pub mod laws;
 mod looks;
@@ -22,6 +23,7 @@ mod upqueries;
 mod writes;
 
 pub use finds::FoundId;
+pub use hands::IdHand;
 pub use id_map::{IdMap, IdShape};
 pub use looks::Looked;
 pub use notes::IdNote;
