@@ -10,7 +10,9 @@ mod Answering
 mod Asking
 mod Hearing
 mod Finding
+mod Choosing
 mod Holding
 mod Opening
 mod Giving
 mod Looking
+mod Heard

@@ -6,6 +6,7 @@ use Rattle.nr_board.specs.declared.answers.Found.{Found}
 use Rattle.nr_board.specs.declared.answers.Found.TheVariants as answer
 use Rattle.nr_map.specs.Hands.{AsksInVain, FindsHeld, FindsKept, Handed, LetsGo, idle}
 use Rattle.nr_ids.specs.Answers.{LooksUp}
+use Rattle.nr_ids.specs.Marks.{Marks}
 use Rattle.nr_ids.specs.Tokens.{Token}
 use Rattle.nr_idmap.specs.declared.finds.FoundId.{FoundId}
 use Rattle.nr_idmap.specs.declared.finds.FoundId.TheVariants as found
@@ -108,6 +109,21 @@ HoldsAnew id old new found.Absent = LooksUp id old.ids new.ids None × LetsGo ol
 abbrev pub HoldsById : ℕ → IdHanded → IdHanded → FoundId → Type 0
 HoldsById id old new told = ((told ≡ found.Rows) × FindsIdHeld id old new) ⊎ ((asked : IdHanded) × AgainById id old asked false × HoldsAnew id asked new told)
 
+-- the way whose set is held is marked as found
+pub record MarksHeld (old new : IdHanded) : Type 0 where
+  pub marks : Marks old.ids new.ids
+  pub hand : new.hand ≡ old.hand
+  pub id_is : new.id ≡ old.id
+
+abbrev pub MarksFound : FoundId → IdHanded → IdHanded → Type 0
+MarksFound found.Rows held new = MarksHeld held new
+MarksFound found.Pending held new = new ≡ held
+MarksFound found.Moved held new = new ≡ held
+MarksFound found.Absent held new = new ≡ held
+
+abbrev pub PinsById : ℕ → IdHanded → IdHanded → FoundId → Type 0
+PinsById id old new told = (held : IdHanded) × HoldsById id old held told × MarksFound told held new
+
 -- such a find into a room, which has the id's rows then; else it stays
 abbrev pub FindsIdKept : {Room : Type 0} → (Room → List Row → Type 0) → ℕ → IdHanded → Room → IdHanded → Room → FoundId → Type 0
-FindsIdKept shows id old before new room told = HoldsById id old new told × (told ≡ found.Rows → shows room (rows_in_hand new)) × (told ≢ found.Rows → room ≡ before)
+FindsIdKept shows id old before new room told = PinsById id old new told × (told ≡ found.Rows → shows room (rows_in_hand new)) × (told ≢ found.Rows → room ≡ before)

@@ -10,3 +10,5 @@ pub mod Asking
 pub mod IdWrites
 pub mod IdOpenings
 pub mod IdNotes
+pub mod IdChoices
+pub mod IdHeard

@@ -29,7 +29,8 @@ impl IdMap {
     /// Looks an id up, and writes its rows into the caller's room, which stays as it is unless the
     /// answer is `Rows`. Takes a step for each look at a way's name, up to the one that has the id's,
     /// of eight ways in all; then the steps of the map's find, of one row more: by the counts 1 where the
-    /// way is a hole, and else 2n + 5 for n rows.
+    /// way is a hole, and else 2n + 5 for n rows; and 1 at the mark of a way whose rows were found, or 2
+    /// where it isn't marked yet.
     pub fn find<R: RowRoom>(&self, reader: &mut IdReader, id: u64, rows: &mut R) -> FoundId
         requires own { id_table_of reader.old ≡ self.now }
         requires id { 0 < id }
@@ -46,6 +47,7 @@ impl IdMap {
             Found::Hole => FoundId::Pending,
             Found::Rows => {
                 if copy_behind(reader.pile.as_slice(), id, rows) {
+                    self.directory.mark(&mut reader.ids, way);
                     FoundId::Rows
                 } else {
                     FoundId::Moved

@@ -1,9 +1,9 @@
 //! A reader by id that holds the set of an id from call to call.
-ghost use Rattle.std.specs.Prelude.{◌≡◌, ◌≢◌, ◌<◌};
+ghost use Rattle.std.specs.Prelude.{◌≡◌, ◌≢◌, ◌<◌, IsSome};
 ghost use Rattle.nr_model.specs.Rows.{IsRowSet};
 ghost use Rattle.nr_model.specs.declared.rows.TheConstants.{MAX_ROWS};
 ghost use Rattle.nr_ids.specs.Answers.{Requests};
-ghost use Rattle.nr_idmap.specs.IdHands.{AgainById, FindsIdKept, HoldsAnew, HoldsById, LetsGoById, hand_table_of, idle_by_id, rows_in_hand};
+ghost use Rattle.nr_idmap.specs.IdHands.{AgainById, FindsIdKept, HoldsAnew, HoldsById, LetsGoById, MarksHeld, PinsById, hand_table_of, idle_by_id, rows_in_hand};
 ghost use Rattle.nr_idmap.specs.Keepers.{id_table_of};
 
 use crate::finds::FoundId;
@@ -125,17 +125,18 @@ impl IdHand {
     /// Finds an id and holds its set, whose rows `rows` shows; nothing is held where the answer isn't
     /// `Rows`. Where it holds the id's set already it finds it again, by `again`. Else it takes the looks
     /// of `find` at ways' names, and the steps of the map's `find_kept` with a row more; 1 more where the
-    /// set that was found is let go, since it is another id's.
+    /// set that was found is let go, since it is another id's. At `Rows` it marks the way, as `find` does.
     pub fn pin(&mut self, map: &IdMap, id: u64) -> FoundId
         requires own { hand_table_of self.old ≡ map.now }
         requires id { 0 < id }
         ensures own { hand_table_of self.new ≡ map.now }
-        ensures holds { HoldsById id self.old self.new result }
+        ensures pins { PinsById id self.old self.new result }
     {
-        if self.again(map, id) {
-            return FoundId::Rows;
+        let found = self.hold(map, id);
+        if let FoundId::Rows = found {
+            self.mark(map);
         }
-        self.pin_anew(map, id)
+        found
     }
 
     /// As `pin`, and writes the rows into the caller's room, which stays as it is unless the answer is
@@ -164,8 +165,33 @@ impl IdHand {
         map.directory.request(&mut self.ids, id)
     }
 
+    // Marks the way whose set is held.
+    fn mark(&mut self, map: &IdMap)
+        requires own { hand_table_of self.old ≡ map.now }
+        requires holds { IsSome self.old.id }
+        ensures own { hand_table_of self.new ≡ map.now }
+        ensures marks { MarksHeld self.old self.new }
+    {
+        if let Some(held) = self.held {
+            map.directory.mark(&mut self.ids, held.way);
+        }
+    }
+
+    // Holds an id's set: the one that is held, where the way has it still, or what a find finds.
+    fn hold(&mut self, map: &IdMap, id: u64) -> FoundId
+        requires own { hand_table_of self.old ≡ map.now }
+        requires id { 0 < id }
+        ensures own { hand_table_of self.new ≡ map.now }
+        ensures holds { HoldsById id self.old self.new result }
+    {
+        if self.again(map, id) {
+            return FoundId::Rows;
+        }
+        self.hold_anew(map, id)
+    }
+
     // Finds an id by its name and holds its set.
-    fn pin_anew(&mut self, map: &IdMap, id: u64) -> FoundId
+    fn hold_anew(&mut self, map: &IdMap, id: u64) -> FoundId
         requires own { hand_table_of self.old ≡ map.now }
         requires id { 0 < id }
         ensures own { hand_table_of self.new ≡ map.now }

@@ -8,6 +8,7 @@
 //! never fills another absence.
 #![tactic(auto)]
 
+mod choices;
 mod evictions;
 mod finds;
 mod hands;

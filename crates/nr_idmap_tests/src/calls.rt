@@ -110,6 +110,28 @@ fn who_heard_of_a_fill_finds_it(rt: HostRuntime) {
 }
 
 #[test]
+fn the_writer_learns_which_ids_are_found(rt: HostRuntime) {
+    let mut view = View::open(&rt, &SMALL);
+    view.uses(&rt, 8, false);
+    for id in 1..9 {
+        view.takes_in(&rt, id, &[row(id, id)]);
+    }
+    view.uses(&rt, 8, false);
+    view.finds(&rt, 8, &[row(8, 8)]);
+    view.finds(&rt, 7, &[row(7, 7)]);
+    // A look of the writer's doesn't count.
+    view.sees(&rt, 6, &[row(6, 6)]);
+    view.uses(&rt, 8, true);
+    view.uses(&rt, 8, false);
+    view.finds(&rt, 8, &[row(8, 8)]);
+    view.chooses(&rt, 9, Some(6));
+    view.evicts(&rt, 6, Evict::Evicted);
+    view.takes_in(&rt, 9, &[row(9, 9)]);
+    view.chooses(&rt, 6, Some(5));
+    view.close();
+}
+
+#[test]
 fn a_larger_map_has_its_sizes(rt: HostRuntime) {
     let shape = IdShape {
         groups: 1_000,

@@ -134,10 +134,13 @@ fn what_stays_is_found_again(rt: HostRuntime) {
     holder.view.takes_in(&rt, TWO, &[]);
     holder.again(&rt, ONE, false);
     holder.keeps(&rt, ONE, &[row(5, 5)]);
+    holder.view.uses(&rt, ONE, true);
     holder.view.updates(&rt, TWO, &[plus(7, 7)], Ok(()));
     holder.again(&rt, ONE, true);
     holder.again(&rt, TWO, false);
+    holder.view.uses(&rt, ONE, false);
     holder.pins(&rt, ONE, &[row(5, 5)]);
+    holder.view.uses(&rt, ONE, true);
     holder.keeps(&rt, TWO, &[row(7, 7)]);
     holder.releases();
     holder.again(&rt, TWO, false);

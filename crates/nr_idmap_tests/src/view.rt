@@ -367,6 +367,21 @@ impl View {
         is_same(rt, &self.map.evict(&mut self.writer, id), &wanted);
     }
 
+    /// Whether the writer is told that the id was found.
+    pub(crate) fn uses<R: Abort>(&mut self, rt: &R, id: u64, wanted: bool)
+        requires { 0 < id }
+        ensures { self.new ≡ self.old }
+    {
+        is_same(rt, &self.map.uses(&mut self.writer, id), &wanted);
+    }
+
+    /// Whom the writer chooses for the id.
+    pub(crate) fn chooses<R: Abort>(&mut self, rt: &R, id: u64, wanted: Option<u64>)
+        ensures { self.new ≡ self.old }
+    {
+        is_same(rt, &self.map.choose(&mut self.writer, id), &wanted);
+    }
+
     pub(crate) fn updates<R: Abort>(
         &mut self,
         rt: &R,

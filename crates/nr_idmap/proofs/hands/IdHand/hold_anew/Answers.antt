@@ -1,7 +1,7 @@
 use Rattle.std.proofs.Common.{◌≡◌, true, false}
 use Rattle.nr_idmap.specs.IdHands.{IdHanded, id_held}
 use Rattle.nr_idmap.proofs.Holding.{holds_moved, holds_pending, holds_rows}
-use Rattle.nr_idmap.proofs.hands.IdHand.pin_anew.Goals as goal
+use Rattle.nr_idmap.proofs.hands.IdHand.hold_anew.Goals as goal
 
 pub returns-in-Hole-clause-holds : goal.returns-in-Hole-clause-holds
 returns-in-Hole-clause-holds c =
