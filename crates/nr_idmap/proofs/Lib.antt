@@ -9,6 +9,7 @@ mod WayCalls
 mod Answering
 mod Asking
 mod Hearing
+mod InTurn
 mod Finding
 mod Choosing
 mod Holding

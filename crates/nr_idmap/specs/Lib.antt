@@ -12,3 +12,5 @@ pub mod IdOpenings
 pub mod IdNotes
 pub mod IdChoices
 pub mod IdHeard
+pub mod InTurn
+pub mod IdFindsEach

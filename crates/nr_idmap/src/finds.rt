@@ -25,6 +25,7 @@ pub enum FoundId {
 
 impl IdMap {
     ghost use Rattle.nr_idmap.specs.IdFinds.{FindsById};
+    ghost use Rattle.nr_idmap.specs.IdFindsEach.{FindsInside};
 
     /// Looks an id up, and writes its rows into the caller's room, which stays as it is unless the
     /// answer is `Rows`. Takes a step for each look at a way's name, up to the one that has the id's,
@@ -40,6 +41,22 @@ impl IdMap {
         let Some(way) = self.directory.look_up(&mut reader.ids, id) else {
             return FoundId::Absent;
         };
+        self.find_in(reader, way, id, rows)
+    }
+
+    // Finds the rows of an id in its way.
+    pub(crate) fn find_in<R: RowRoom>(
+        &self,
+        reader: &mut IdReader,
+        way: u32,
+        id: u64,
+        rows: &mut R,
+    ) -> FoundId
+        requires own { id_table_of reader.old ≡ self.now }
+        requires way { way < self.now.map.shape.keys }
+        ensures own { id_table_of reader.new ≡ self.now }
+        ensures finds { FindsInside R.shows id way reader.old rows.old reader.new rows.new result }
+    {
         match self
             .map
             .find_into(&mut reader.reader, way, &mut reader.pile)

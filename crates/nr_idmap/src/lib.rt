@@ -21,6 +21,7 @@ mod reclaiming;
 mod rows;
 mod tokens;
 mod upqueries;
+mod wanted;
 mod writes;
 
 pub use finds::FoundId;
@@ -34,4 +35,5 @@ pub use nr_model::OpenFault;
 pub use rows::{are_id_deltas, are_id_rows};
 pub use tokens::{IdReader, IdWriter};
 pub use upqueries::{ClosedMap, Unfilled, Upquery, Withdrawn};
+pub use wanted::WantedId;
 pub use writes::IdFault;

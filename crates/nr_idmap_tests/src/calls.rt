@@ -1,6 +1,7 @@
 //! Each call on its happy path, by one thread.
-use crate::view::{SMALL, View, plus, row};
-use nr_idmap::{Evict, FoundId, IdShape, Looked};
+use crate::view::{SMALL, View, is_same, is_set, plus, row};
+use nr_idmap::{Evict, FoundId, IdShape, Looked, WantedId};
+use nr_model::RowSet;
 
 const ONE: u64 = 1 << 40;
 
@@ -55,6 +56,34 @@ fn the_writer_sees_what_it_put(rt: HostRuntime) {
     view.sees(&rt, TWO, &[row(1, 1), row(3, 3), row(4, 4)]);
     view.evicts(&rt, TWO, Evict::Evicted);
     view.overlooks(&rt, TWO, Looked::Absent);
+    view.close();
+}
+
+#[test]
+fn many_ids_are_found_by_one_call(rt: HostRuntime) {
+    let mut view = View::open(&rt, &SMALL);
+    view.takes_in(&rt, ONE, &[row(5, 5)]);
+    view.takes_in(&rt, TWO, &[row(6, 6), row(7, 7)]);
+    view.claims(&rt, 3);
+    let mut wanted = [
+        WantedId::of(TWO, RowSet::new()),
+        WantedId::of(4, RowSet::new()),
+        WantedId::of(ONE, RowSet::new()),
+        WantedId::of(TWO, RowSet::new()),
+    ];
+    view.finds_each(&rt, &mut wanted);
+    is_set(&rt, wanted[0].rows.as_slice(), &[row(6, 6), row(7, 7)]);
+    is_set(&rt, wanted[2].rows.as_slice(), &[row(5, 5)]);
+    is_set(&rt, wanted[3].rows.as_slice(), &[row(6, 6), row(7, 7)]);
+    is_same(&rt, &wanted[0].found, &FoundId::Rows);
+    is_same(&rt, &wanted[1].found, &FoundId::Absent);
+    is_set(&rt, wanted[1].rows.as_slice(), &[]);
+    let upquery = view.admit(&rt, 3);
+    let mut more = [WantedId::of(3, RowSet::new())];
+    view.finds_each(&rt, &mut more);
+    is_same(&rt, &more[0].found, &FoundId::Pending);
+    view.fills(&rt, upquery, &[]);
+    view.uses(&rt, ONE, true);
     view.close();
 }
 

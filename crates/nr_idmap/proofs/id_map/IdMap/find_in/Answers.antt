@@ -6,7 +6,7 @@ use Rattle.nr_idmap.specs.declared.finds.FoundId.TheVariants as found
 use Rattle.nr_idmap.specs.Keepers.{IdCaller, IdTable}
 use Rattle.nr_idmap.specs.Tags.{CopiesBehind}
 use Rattle.nr_idmap.proofs.Finding.{finds_moved, finds_pending, finds_rows}
-use Rattle.nr_idmap.proofs.id_map.IdMap.find.Goals as goal
+use Rattle.nr_idmap.proofs.id_map.IdMap.find_in.Goals as goal
 
 pub copy_behind-requires : goal.copy_behind-requires
 copy_behind-requires g c =
@@ -18,25 +18,22 @@ copy_behind-requires g c =
     record { row_set = subst (IsRowSet 255) (sym is) (set.3.0, omega (arith, set.3.1, size, c.self.invariant.2)) }
 
 pub returns-in-Hole-clause-finds : goal.returns-in-Hole-clause-finds
-returns-in-Hole-clause-finds g c = finds_pending g.R.RowRoom.shows c.args.id c.in-Some.way
-    (record { caller = c.reader.inside.reader; ids = c.reader.inside.ids }) c.args.reader.now
-    (record { caller = c.find_into.new.reader; ids = c.look_up.new.reader }) c.args.rows.now c.args.rows.now
-    found.Pending c.reader.view_is c.in-Some.ensures.answer c.in-Hole.ensures.finds.0 refl refl
+returns-in-Hole-clause-finds g c = finds_pending g.R.RowRoom.shows c.args.id c.args.way
+    (record { caller = c.reader.inside.reader; ids = c.reader.inside.ids }) c.args.reader.now c.reader.view_is c.find_into.new.reader
+    c.args.rows.now c.args.rows.now c.in-Hole.ensures.finds.0 refl
 
 pub returns-else-copy_behind-clause-finds : goal.returns-else-copy_behind-clause-finds
-returns-else-copy_behind-clause-finds g c = let set = c.in-Rows.ensures.finds in finds_moved g.R.RowRoom.shows c.args.id c.in-Some.way
-    (record { caller = c.reader.inside.reader; ids = c.reader.inside.ids }) c.args.reader.now
-    (record { caller = c.find_into.new.reader; ids = c.look_up.new.reader }) c.args.rows.now c.copy_behind.new.rows
-    found.Moved c.reader.view_is c.in-Some.ensures.answer set.0 set.1
+returns-else-copy_behind-clause-finds g c = let set = c.in-Rows.ensures.finds in finds_moved g.R.RowRoom.shows c.args.id c.args.way
+    (record { caller = c.reader.inside.reader; ids = c.reader.inside.ids }) c.args.reader.now c.reader.view_is c.find_into.new.reader
+    c.args.rows.now c.copy_behind.new.rows set.0 set.1
     (subst (CopiesBehind g.R.RowRoom.shows c.args.id set.0 c.args.rows.now c.copy_behind.new.rows) c.if-copy_behind.false
     (subst (λ (l : List Row). CopiesBehind g.R.RowRoom.shows c.args.id l c.args.rows.now c.copy_behind.new.rows c.copy_behind.result)
-    (c.as_slice.ensures.value ∙ set.2) c.copy_behind.ensures.copies)) refl
+    (c.as_slice.ensures.value ∙ set.2) c.copy_behind.ensures.copies))
 
 pub returns-then-copy_behind-clause-finds : goal.returns-then-copy_behind-clause-finds
-returns-then-copy_behind-clause-finds g c = let set = c.in-Rows.ensures.finds in finds_rows g.R.RowRoom.shows c.args.id c.in-Some.way
-    (record { caller = c.reader.inside.reader; ids = c.reader.inside.ids }) c.args.reader.now
-    (record { caller = c.find_into.new.reader; ids = c.look_up.new.reader }) c.args.rows.now c.copy_behind.new.rows
-    found.Rows c.reader.view_is c.in-Some.ensures.answer set.0 set.1 c.mark.new.reader c.mark.ensures.marks
+returns-then-copy_behind-clause-finds g c = let set = c.in-Rows.ensures.finds in finds_rows g.R.RowRoom.shows c.args.id c.args.way
+    (record { caller = c.reader.inside.reader; ids = c.reader.inside.ids }) c.args.reader.now c.reader.view_is c.find_into.new.reader
+    c.args.rows.now c.copy_behind.new.rows set.0 set.1 c.mark.new.reader c.mark.ensures.marks
     (subst (CopiesBehind g.R.RowRoom.shows c.args.id set.0 c.args.rows.now c.copy_behind.new.rows) c.if-copy_behind.true
     (subst (λ (l : List Row). CopiesBehind g.R.RowRoom.shows c.args.id l c.args.rows.now c.copy_behind.new.rows c.copy_behind.result)
-    (c.as_slice.ensures.value ∙ set.2) c.copy_behind.ensures.copies)) refl
+    (c.as_slice.ensures.value ∙ set.2) c.copy_behind.ensures.copies))
