@@ -2,7 +2,7 @@
 use Rattle.std.proofs.Common.{◌≡◌, ℕ, Option, Some, None, true, false, Bool, refl, sym, ap, subst, ◌∙◌}
 use Rattle.nr_board.specs.Callers.{Caller, map_seen}
 use Rattle.nr_model.specs.Maps.{state_of}
-use Rattle.nr_ids.specs.Events.{looks, name_of}
+use Rattle.nr_ids.specs.Events.{looks}
 use Rattle.nr_ids.specs.Answers.{FindsId}
 use Rattle.nr_ids.specs.Marks.{TakesMark}
 use Rattle.nr_ids.specs.Tokens.{Grows, Token}

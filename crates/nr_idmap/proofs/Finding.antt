@@ -11,7 +11,7 @@ use Rattle.nr_idmap.specs.declared.finds.FoundId.TheVariants as found
 use Rattle.nr_idmap.specs.IdFinds.{FindsById}
 use Rattle.nr_idmap.specs.IdFindsEach.{FindsInside}
 use Rattle.nr_idmap.specs.Keepers.{IdCaller}
-use Rattle.nr_idmap.specs.Tags.{CopiesBehind, tag_of}
+use Rattle.nr_idmap.specs.Tags.{CopiesBehind}
 
 -- with the look-up before it
 pub finds_by_way : {Room : Type 0} (shows : Room → List Row → Type 0) (id way : ℕ) (old new : IdCaller) (looked : Token) (before after : Room)

@@ -1,13 +1,13 @@
 -- A find by id of a reader that heard of the id's fill, by the laws of the map and of the directory.
-use Rattle.std.proofs.Common.{◌≡◌, ℕ, ◌+◌, ◌*◌, ◌<◌, ◌⊎◌, ⊎_elim, inl, inr, true, List, [], ◌∷◌, ◌++◌, length, refl, sym, ap, ◌∙◌, subst, append_assoc, Option, Some, None}
+use Rattle.std.proofs.Common.{◌≡◌, ℕ, ◌+◌, ◌*◌, ◌<◌, ◌⊎◌, ⊎_elim, inl, inr, true, List, [], ◌∷◌, ◌++◌, length, refl, sym, ap, ◌∙◌, subst, append_assoc, Some, None}
 use Rattle.nr_model.specs.declared.rows.Row.{Row}
 use Rattle.nr_model.specs.declared.calls.Call.TheVariants as model
 use Rattle.nr_model.specs.declared.calls.Reply.{Reply}
 use Rattle.nr_model.specs.declared.calls.Reply.TheVariants as reply
 use Rattle.nr_model.specs.Histories.{Entry}
 use Rattle.nr_marks.specs.Puts.{puts_at}
-use Rattle.nr_board.specs.Callers.{Gains, map_at_opening}
-use Rattle.nr_map.specs.Written.{FindsPut, FindsWhatItHeard}
+use Rattle.nr_board.specs.Callers.{Gains}
+use Rattle.nr_map.specs.Written.{FindsWhatItHeard}
 use Rattle.nr_ids.specs.Answers.{LooksUp}
 use Rattle.nr_ids.specs.Events.{Event, name_of, unnamed}
 use Rattle.nr_ids.specs.Laws as ids

@@ -1,8 +1,8 @@
 -- A note that the writer hears leaves the tie and the ledger: its clerk made looks, which change no name.
-use Rattle.std.proofs.Common.{◌≡◌, ℕ, refl}
+use Rattle.std.proofs.Common.{ℕ, refl}
 use Rattle.nr_board.specs.Callers.{Caller}
 use Rattle.nr_board.specs.Meetings.{Learns}
-use Rattle.nr_ids.specs.Events.{looks, name_of}
+use Rattle.nr_ids.specs.Events.{looks}
 use Rattle.nr_ids.specs.Tokens.{Known, Token}
 use Rattle.nr_ids.specs.Tokens as ids
 use Rattle.nr_ids.proofs.Calls.{clerk_looks}

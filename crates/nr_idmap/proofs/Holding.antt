@@ -1,5 +1,5 @@
 -- What a find that holds says, by what the map's hand found in the id's way.
-use Rattle.std.proofs.Common.{◌≡◌, ◌≢◌, ℕ, ⊎_elim, List, ◌∷◌, refl, sym, ◌∙◌, subst, Some, None}
+use Rattle.std.proofs.Common.{◌≡◌, ℕ, ⊎_elim, List, refl, sym, ◌∙◌, subst, Some, None}
 use Rattle.nr_model.specs.declared.rows.Row.{Row}
 use Rattle.nr_board.specs.declared.answers.Found.{Found}
 use Rattle.nr_board.specs.declared.answers.Found.TheVariants as answer
@@ -8,7 +8,7 @@ use Rattle.nr_ids.specs.Answers.{LooksUp}
 use Rattle.nr_ids.specs.Tokens.{Token}
 use Rattle.nr_idmap.specs.declared.finds.FoundId.TheVariants as found
 use Rattle.nr_idmap.specs.IdHands.{HoldsAnew, IdHanded}
-use Rattle.nr_idmap.specs.Tags.{HasTag, tag_of}
+use Rattle.nr_idmap.specs.Tags.{HasTag}
 
 -- a find that keeps what it found, into a pile
 abbrev pub KeepsIn : ℕ → Handed → List Row → Handed → List Row → Found → Type 0
