@@ -495,9 +495,10 @@ void nr_close_id_reader(nr_id_reader *reader);
 void nr_close_id_writer(nr_id_writer *writer);
 
 /* Looks an id up. It takes W steps, one for each way's name that it looks at, up to the id's own; W is 8 if no way has
-   it. NR_ROWS after 2n + 5 more for n rows, and `rows` has them; NR_ASKED after 1 more, if its upquery is open; NR_OTHER
-   if its way became another id's within the call; NR_HOLE, if it had no way at a moment within the call. Any answer
-   but NR_ROWS leaves `rows` as it was. */
+   it. NR_ROWS after 2n + 7 more for n rows, and 1 for the mark of a found way, or 2 if that isn't set yet, and `rows`
+   has them; NR_ASKED after 1 more, if its upquery is open; NR_OTHER if its way became another id's within the call;
+   NR_HOLE, if it had no way at a moment within the call. If the way was written meanwhile, NR_ROWS and NR_ASKED take
+   more steps as nr_find does. Any answer but NR_ROWS leaves `rows` as it was. */
 uint32_t nr_find_id(nr_id_reader *reader, uint64_t id, nr_rows *rows);
 
 /* Requests an id. NR_SEND after 10 steps: the claim of its group is the caller's, who passes the id to the thread that

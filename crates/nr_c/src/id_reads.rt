@@ -13,7 +13,8 @@ use crate::rows::NrRows;
 /// answer: `NR_ROWS`; `NR_ASKED` where its upquery is under way; `NR_HOLE` where within the call it had
 /// no way; `NR_OTHER` where its way became another id's; or `NR_NO_KEY` for the id 0, with no step. Takes
 /// a step for each look at a way's name, up to the one that has the id's, of eight ways in all; then 1
-/// where that is a hole, and else 2n + 5 for n rows.
+/// where that is a hole, and else 2n + 7 for n rows, more where the way is written meanwhile, and 1 or
+/// 2 at the mark of a found way.
 #[unsafe(no_mangle)]
 pub extern "C" fn nr_find_id(reader: &mut NrIdReader, id: u64, rows: &mut NrRows) -> u32
     ensures { WhenLive result (rows.new ≡ rows.old) (WithId id result (rows.new ≡ rows.old) (IdReaderCalls (FindsIdByCode id rows.old rows.new result))) reader.old.live reader.new.live }

@@ -1,35 +1,49 @@
 -- What a find by id says, by what the map's find found in the id's way.
-use Rattle.std.proofs.Common.{◌≡◌, ℕ, ◌+◌, ◌*◌, true, false, List, length, sym, subst, Some}
+use Rattle.std.proofs.Common.{◌≡◌, ℕ, ◌+◌, ◌*◌, true, false, List, length, refl, sym, subst, Some}
 use Rattle.nr_model.specs.declared.rows.Row.{Row}
+use Rattle.nr_board.specs.Callers.{Caller}
 use Rattle.nr_board.specs.Holds.{FindsHole, FindsRows}
 use Rattle.nr_ids.specs.Answers.{LooksUp}
+use Rattle.nr_ids.specs.Marks.{Marks}
+use Rattle.nr_ids.specs.Tokens.{Token}
 use Rattle.nr_idmap.specs.declared.finds.FoundId.{FoundId}
 use Rattle.nr_idmap.specs.declared.finds.FoundId.TheVariants as found
 use Rattle.nr_idmap.specs.IdFinds.{FindsById}
+use Rattle.nr_idmap.specs.IdFindsEach.{FindsInside}
 use Rattle.nr_idmap.specs.Keepers.{IdCaller}
 use Rattle.nr_idmap.specs.Tags.{CopiesBehind}
 
-module _ {Room : Type 0} (shows : Room → List Row → Type 0) (id way : ℕ) (old now new : IdCaller) (before after : Room) (result : FoundId)
-    (is : old ≡ now) (looks : LooksUp id old.ids new.ids (Some way)) where
-  pub finds_pending : FindsHole 0 way old.caller new.caller → after ≡ before → result ≡ found.Pending →
-      FindsById shows id now before new after result
-  finds_pending gains same answer = subst (FindsById shows id now before new after) (sym answer)
-      (subst (λ (o : IdCaller). FindsById shows id o before new after found.Pending) is (way, looks, gains, same))
+-- with the look-up before it
+pub finds_by_way : {Room : Type 0} (shows : Room → List Row → Type 0) (id way : ℕ) (old new : IdCaller) (looked : Token) (before after : Room)
+    (result : FoundId) → LooksUp id old.ids looked (Some way) →
+    FindsInside shows id way (record { caller = old.caller; ids = looked }) before new after result → FindsById shows id old before new after result
+finds_by_way shows id way old new looked before after found.Rows looks finds =
+    (way, finds.0, looked, (looks, finds.1), finds.2, finds.3)
+finds_by_way shows id way old new looked before after found.Pending looks finds =
+    (way, subst (λ (t : Token). LooksUp id old.ids t (Some way)) (sym finds.1) looks, finds.0, finds.2)
+finds_by_way shows id way old new looked before after found.Moved looks finds =
+    (way, finds.0, (subst (λ (t : Token). LooksUp id old.ids t (Some way)) (sym finds.2) looks, finds.1), finds.3, finds.4)
+finds_by_way shows id way old new looked before after found.Absent looks finds = absurd finds
 
-  module _ (set : List Row) (gains : FindsRows (2 * length set + 1) way set old.caller new.caller) where
-    pub finds_moved : CopiesBehind shows id set before after false → result ≡ found.Moved → FindsById shows id now before new after result
-    finds_moved copies answer = subst (FindsById shows id now before new after) (sym answer)
-        (subst (λ (o : IdCaller). FindsById shows id o before new after found.Moved) is (way, set, (looks, gains), copies.0, copies.1))
+module _ {Room : Type 0} (shows : Room → List Row → Type 0) (id way : ℕ) (old now : IdCaller) (is : old ≡ now) (caller : Caller)
+    (before after : Room) where
+  pub finds_pending : FindsHole 0 way old.caller caller → after ≡ before →
+      FindsInside shows id way now before (record { caller = caller; ids = old.ids }) after found.Pending
+  finds_pending gains same = subst (λ (o : IdCaller). FindsInside shows id way o before (record { caller = caller; ids = old.ids }) after found.Pending) is
+      (gains, refl, same)
 
-    pub finds_rows : CopiesBehind shows id set before after true → result ≡ found.Rows → FindsById shows id now before new after result
-    finds_rows copies answer = subst (FindsById shows id now before new after) (sym answer)
-        (subst (λ (o : IdCaller). FindsById shows id o before new after found.Rows) is (
-          way,
-          copies.0,
-          (
-            looks,
-            subst (λ (s : List Row). FindsRows (2 * length s + 1) way s old.caller new.caller)
-                copies.1 gains,
-          ),
-          copies.2,
-        ))
+  module _ (set : List Row) (gains : FindsRows (2 * length set + 1) way set old.caller caller) where
+    pub finds_moved : CopiesBehind shows id set before after false →
+        FindsInside shows id way now before (record { caller = caller; ids = old.ids }) after found.Moved
+    finds_moved copies = subst (λ (o : IdCaller). FindsInside shows id way o before (record { caller = caller; ids = old.ids }) after found.Moved) is
+        (set, gains, refl, copies.0, copies.1)
+
+    pub finds_rows : (marked : Token) → Marks old.ids marked → CopiesBehind shows id set before after true →
+        FindsInside shows id way now before (record { caller = caller; ids = marked }) after found.Rows
+    finds_rows marked marks copies = subst (λ (o : IdCaller). FindsInside shows id way o before (record { caller = caller; ids = marked }) after found.Rows) is (
+      copies.0,
+      subst (λ (s : List Row). FindsRows (2 * length s + 1) way s old.caller caller)
+          copies.1 gains,
+      marks,
+      copies.2,
+    )

@@ -8,7 +8,12 @@ mod LedgerLaws
 mod WayCalls
 mod Answering
 mod Asking
+mod Hearing
+mod InTurn
 mod Finding
+mod Choosing
+mod Holding
 mod Opening
 mod Giving
 mod Looking
+mod Heard

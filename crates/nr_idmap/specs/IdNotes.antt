@@ -25,6 +25,12 @@ pub record HearsIdNote (old : IdCaller) (note : IdKnown) (new : IdCaller) : Type
   pub map : HearsNote 1 old.caller note.map new.caller
   pub ids : ids.Hears old.ids note.ids new.ids
 
+-- the same of the writer, whose asker stays
+pub record WriterHears (old : Keeper) (note : IdKnown) (new : Keeper) : Type 0 where
+  pub map : HearsNote 1 old.writer note.map new.writer
+  pub ids : ids.Hears old.clerk note.ids new.clerk
+  pub asker : new.asker ≡ old.asker
+
 -- the writer learnt of the reader's map calls, and the reader of the writer's, and nothing else changed
 pub record GathersById (keeper : Keeper) (reader : IdCaller) (keeper' : Keeper) (reader' : IdCaller) : Type 0 where
   pub gathers : Gathers keeper.writer reader.caller keeper'.writer reader'.caller

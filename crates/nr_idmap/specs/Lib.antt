@@ -4,8 +4,13 @@ pub mod Tidy
 pub mod Keepers
 pub mod IdLaws
 pub mod IdFinds
+pub mod IdHands
 pub mod IdLooks
 pub mod Asking
 pub mod IdWrites
 pub mod IdOpenings
 pub mod IdNotes
+pub mod IdChoices
+pub mod IdHeard
+pub mod InTurn
+pub mod IdFindsEach

@@ -37,6 +37,11 @@ IsResident map id rows = (key : ℕ) × (number : ℕ) × (state_of map key ≡ 
 abbrev pub HasTag : ℕ → List Row → Type 0
 HasTag id set = (rows : List Row) × (set ≡ tag_of id ∷ rows)
 
+-- the rows behind a set's tag
+abbrev pub rows_behind : List Row → List Row
+rows_behind [] = []
+rows_behind (tag ∷ rows) = rows
+
 -- the room shows the rows behind the id's tag; without the tag it stays
 abbrev pub CopiesBehind : {Room : Type 0} → (Room → List Row → Type 0) → ℕ → List Row → Room → Room → Bool → Type 0
 CopiesBehind shows id set before after true = (rows : List Row) × (set ≡ tag_of id ∷ rows) × shows after rows

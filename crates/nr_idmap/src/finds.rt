@@ -25,11 +25,13 @@ pub enum FoundId {
 
 impl IdMap {
     ghost use Rattle.nr_idmap.specs.IdFinds.{FindsById};
+    ghost use Rattle.nr_idmap.specs.IdFindsEach.{FindsInside};
 
     /// Looks an id up, and writes its rows into the caller's room, which stays as it is unless the
     /// answer is `Rows`. Takes a step for each look at a way's name, up to the one that has the id's,
     /// of eight ways in all; then the steps of the map's find, of one row more: by the counts 1 where the
-    /// way is a hole, and else 2n + 5 for n rows.
+    /// way is a hole, and else 2n + 5 for n rows; and 1 at the mark of a way whose rows were found, or 2
+    /// where it isn't marked yet.
     pub fn find<R: RowRoom>(&self, reader: &mut IdReader, id: u64, rows: &mut R) -> FoundId
         requires own { id_table_of reader.old ≡ self.now }
         requires id { 0 < id }
@@ -39,6 +41,22 @@ impl IdMap {
         let Some(way) = self.directory.look_up(&mut reader.ids, id) else {
             return FoundId::Absent;
         };
+        self.find_in(reader, way, id, rows)
+    }
+
+    // Finds the rows of an id in its way.
+    pub(crate) fn find_in<R: RowRoom>(
+        &self,
+        reader: &mut IdReader,
+        way: u32,
+        id: u64,
+        rows: &mut R,
+    ) -> FoundId
+        requires own { id_table_of reader.old ≡ self.now }
+        requires way { way < self.now.map.shape.keys }
+        ensures own { id_table_of reader.new ≡ self.now }
+        ensures finds { FindsInside R.shows id way reader.old rows.old reader.new rows.new result }
+    {
         match self
             .map
             .find_into(&mut reader.reader, way, &mut reader.pile)
@@ -46,6 +64,7 @@ impl IdMap {
             Found::Hole => FoundId::Pending,
             Found::Rows => {
                 if copy_behind(reader.pile.as_slice(), id, rows) {
+                    self.directory.mark(&mut reader.ids, way);
                     FoundId::Rows
                 } else {
                     FoundId::Moved

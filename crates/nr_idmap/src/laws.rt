@@ -1,5 +1,8 @@
 //! Laws over the definitions alone. Nothing runs here: each function's contract is the law.
+ghost use Rattle.nr_idmap.specs.IdHeard.{FindsIdHeard};
 ghost use Rattle.nr_idmap.specs.IdLaws.{HeardFinds, NamedIsOwedOrResident, OneSet, OneUpquery, OwedIsNamed, ReadsAsIds, TidyBegins, TiedReadsAsIds, UnnamedIsAbsent};
+
+use nr_model::RowRoom;
 
 /// A legal history of keys whose writer puts tags, as its writer by id does, is one of the partial map
 /// over ids, read by the tags, and both end with the same rows.
@@ -27,6 +30,16 @@ pub fn tied_reads_as_ids()
 pub fn heard_finds()
     ensures { HeardFinds }
 {}
+
+/// A reader that hears a note whose maker had seen the name of an id's way, and a put of its rows, as one
+/// that goes with the acknowledgement of a fill, finds the id by the rows of that put or of a later one,
+/// unless the way was evicted or lost its name since. It may make other calls between.
+pub fn finds_what_it_heard<R: RowRoom>()
+    ensures { FindsIdHeard R.shows }
+{
+    nr_ids::laws::finds_what_it_heard();
+    nr_map::laws::finds_what_it_heard();
+}
 
 /// An open upquery is for the id that is its way's name.
 pub fn owed_is_named()

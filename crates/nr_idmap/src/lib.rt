@@ -8,8 +8,10 @@
 //! never fills another absence.
 #![tactic(auto)]
 
+mod choices;
 mod evictions;
 mod finds;
+mod hands;
 mod id_map;
 pub mod laws;
 mod looks;
@@ -19,9 +21,11 @@ mod reclaiming;
 mod rows;
 mod tokens;
 mod upqueries;
+mod wanted;
 mod writes;
 
 pub use finds::FoundId;
+pub use hands::IdHand;
 pub use id_map::{IdMap, IdShape};
 pub use looks::Looked;
 pub use notes::IdNote;
@@ -31,4 +35,5 @@ pub use nr_model::OpenFault;
 pub use rows::{are_id_deltas, are_id_rows};
 pub use tokens::{IdReader, IdWriter};
 pub use upqueries::{ClosedMap, Unfilled, Upquery, Withdrawn};
+pub use wanted::WantedId;
 pub use writes::IdFault;

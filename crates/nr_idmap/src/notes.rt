@@ -2,9 +2,11 @@
 ghost use Rattle.std.specs.Prelude.{◌≡◌};
 ghost use Rattle.nr_board.specs.Meetings.{known_to, with_step};
 ghost use Rattle.nr_ids.specs.Tokens as ids;
-ghost use Rattle.nr_idmap.specs.IdNotes.{HearsIdNote, GathersById, known_to_reader, note_table_of, with_steps_of_note};
+ghost use Rattle.nr_idmap.specs.IdNotes.{HearsIdNote, GathersById, WriterHears, known_to_reader, note_table_of, with_steps_of_note};
+ghost use Rattle.nr_idmap.specs.IdHands.{HoldsSame, hand_table_of, reader_of};
 ghost use Rattle.nr_idmap.specs.Keepers.{OwesSame, id_table_of};
 
+use crate::hands::IdHand;
 use crate::id_map::IdMap;
 use crate::tokens::{IdReader, IdWriter};
 use nr_map::Note;
@@ -73,6 +75,20 @@ impl IdMap {
         self.directory.hear(&mut reader.ids, ids);
     }
 
+    /// The writer learns the same, in as many steps. Laws then tell of the finds that the note's maker
+    /// had seen.
+    pub fn hear_writer(&self, writer: &mut IdWriter, note: IdNote)
+        requires own { writer.old.table ≡ self.now }
+        requires note { note_table_of note ≡ self.now }
+        ensures own { writer.new.table ≡ self.now }
+        ensures hears { WriterHears writer.old note writer.new }
+        ensures owes { OwesSame writer.old writer.new }
+    {
+        let IdNote { map, ids } = note;
+        self.map.hear_writer(&mut writer.writer, map);
+        self.directory.hear_clerk(&mut writer.clerk, ids);
+    }
+
     /// The writer learns of all finds that the reader has made, and then the reader of all that the
     /// writer has seen: 2 steps of the map for each. Laws then tell of these finds.
     pub fn gather(&self, writer: &mut IdWriter, reader: &mut IdReader)
@@ -82,5 +98,37 @@ impl IdMap {
         ensures owes { OwesSame writer.old writer.new }
     {
         self.map.gather(&mut writer.writer, &mut reader.reader);
+    }
+}
+
+impl IdHand {
+    /// A note of what its reader has seen, in 1 step of the map and 1 of the directory. Else the hand
+    /// stays as it is.
+    pub fn note(&mut self, map: &IdMap) -> IdNote
+        requires own { hand_table_of self.old ≡ map.now }
+        ensures map { self.new.hand.reader ≡ with_step self.old.hand.reader }
+        ensures ids { self.new.ids ≡ ids.with_step self.old.ids }
+        ensures held { HoldsSame self.old self.new }
+        ensures note { result ≡ known_to_reader (reader_of self.old) }
+        ensures of { note_table_of result ≡ map.now }
+    {
+        IdNote {
+            map: self.hand.note(&map.map),
+            ids: map.directory.note(&mut self.ids),
+        }
+    }
+
+    /// Its reader learns, in 1 step of the map and 2 of the directory, all that the note's maker had
+    /// seen. What is held stays held.
+    pub fn hear(&mut self, map: &IdMap, note: IdNote)
+        requires own { hand_table_of self.old ≡ map.now }
+        requires note { note_table_of note ≡ map.now }
+        ensures own { hand_table_of self.new ≡ map.now }
+        ensures hears { HearsIdNote (reader_of self.old) note (reader_of self.new) }
+        ensures held { HoldsSame self.old self.new }
+    {
+        let IdNote { map: told, ids } = note;
+        self.hand.hear(&map.map, told);
+        map.directory.hear(&mut self.ids, ids);
     }
 }

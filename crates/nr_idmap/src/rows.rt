@@ -1,8 +1,8 @@
 //! The rows of ids, and sets that begin with a tag.
-ghost use Rattle.std.specs.Prelude.{◌≡◌, ◌<◌, ◌↔◌, ◌∷◌, ◌+◌, IsTrue};
+ghost use Rattle.std.specs.Prelude.{◌≡◌, ◌<◌, ◌↔◌, ◌∷◌, ◌+◌, length, IsTrue};
 ghost use Rattle.nr_model.specs.Rows.{IsRowSet};
 ghost use Rattle.nr_model.specs.declared.rows.TheConstants.{MAX_ROWS};
-ghost use Rattle.nr_idmap.specs.Tags.{AreIdDeltas, AreIdRows, CopiesBehind, HasTag, IsIdSet, tag_of};
+ghost use Rattle.nr_idmap.specs.Tags.{AreIdDeltas, AreIdRows, CopiesBehind, HasTag, IsIdSet, rows_behind, tag_of};
 
 use nr_model::{Delta, Pile, Row, RowRoom, RowSource};
 
@@ -100,12 +100,30 @@ pub(crate) fn copy_behind<R: RowRoom>(set: &[Row], id: u64, rows: &mut R) -> boo
     true
 }
 
-// Whether the set has the id's tag.
-fn has_tag(set: &[Row], id: u64) -> bool
+/// Whether the set has the id's tag.
+pub(crate) fn has_tag(set: &[Row], id: u64) -> bool
     ensures { IsTrue result ↔ HasTag id set.now }
 {
     match set.first() {
         Some(tag) => tag.a == 0 && tag.b == id,
         None => false,
     }
+}
+
+/// The rows behind a set's tag.
+pub(crate) fn behind(set: &[Row]) -> &[Row]
+    requires some { 0 < length set.now }
+    requires row_set { IsRowSet MAX_ROWS set.now }
+    ensures rows { result.now ≡ rows_behind set.now }
+    ensures row_set { IsRowSet MAX_ROWS result.now }
+{
+    &set[1..]
+}
+
+/// Writes the rows into the room.
+pub(crate) fn copy_all<R: RowRoom>(set: &[Row], rows: &mut R)
+    requires row_set { IsRowSet MAX_ROWS set.now }
+    ensures shows { R.shows rows.new set.now }
+{
+    rows.refill(set.len(), &mut PlainRows { rows: set });
 }

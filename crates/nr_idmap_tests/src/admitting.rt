@@ -56,6 +56,59 @@ fn a_note_tells_of_a_name(rt: HostRuntime) {
 }
 
 #[test]
+fn what_was_found_is_passed_once(rt: HostRuntime) {
+    let mut office = Office::open(&rt, 1);
+    for id in 1..9 {
+        assert!(rt; office.takes_in(id).is_some());
+    }
+    // The last id has the first way.
+    assert_eq!(rt; office.chooses(9), Some(8));
+    office.marks(7);
+    office.marks(7);
+    office.marks(5);
+    assert_eq!(rt; office.chooses(9), Some(6));
+    assert_eq!(rt; office.chooses(9), Some(4));
+    assert!(rt; !office.takes_mark(7));
+    assert!(rt; office.clerk_finds(3, true).is_some());
+    assert_eq!(rt; office.chooses(9), None);
+}
+
+#[test]
+fn a_mark_is_taken_once(rt: HostRuntime) {
+    let mut office = Office::open(&rt, 1);
+    for id in 1..9 {
+        assert!(rt; office.takes_in(id).is_some());
+        assert!(rt; !office.takes_mark(id));
+        office.marks(id);
+    }
+    assert!(rt; office.takes_mark(3));
+    assert!(rt; !office.takes_mark(3));
+    assert_eq!(rt; office.chooses(9), Some(3));
+}
+
+// All are passed, and then the first one is chosen.
+#[test]
+fn where_all_were_found_one_is_chosen_yet(rt: HostRuntime) {
+    let mut office = Office::open(&rt, 1);
+    for id in 1..9 {
+        assert!(rt; office.takes_in(id).is_some());
+        office.marks(id);
+    }
+    assert_eq!(rt; office.chooses(9), Some(8));
+    for id in 1..9 {
+        assert!(rt; !office.takes_mark(id));
+    }
+}
+
+#[test]
+fn loads_ahead_leave_all_as_it_is(rt: HostRuntime) {
+    let mut office = Office::open(&rt, 3);
+    let way = office.takes_in(3);
+    office.loads_ahead(&[3, 4, 5, 3]);
+    assert_eq!(rt; office.finds(3), way);
+}
+
+#[test]
 fn bad_sizes_are_refused(rt: HostRuntime) {
     for groups in [0, 536_870_912] {
         let opened = Directory::open(rt.alloc(), Plan { groups, key: 1 });

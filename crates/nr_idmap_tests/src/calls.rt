@@ -1,6 +1,7 @@
 //! Each call on its happy path, by one thread.
-use crate::view::{SMALL, View, plus, row};
-use nr_idmap::{Evict, FoundId, IdShape, Looked};
+use crate::view::{SMALL, View, is_same, is_set, plus, row};
+use nr_idmap::{Evict, FoundId, IdShape, Looked, WantedId};
+use nr_model::RowSet;
 
 const ONE: u64 = 1 << 40;
 
@@ -59,6 +60,34 @@ fn the_writer_sees_what_it_put(rt: HostRuntime) {
 }
 
 #[test]
+fn many_ids_are_found_by_one_call(rt: HostRuntime) {
+    let mut view = View::open(&rt, &SMALL);
+    view.takes_in(&rt, ONE, &[row(5, 5)]);
+    view.takes_in(&rt, TWO, &[row(6, 6), row(7, 7)]);
+    view.claims(&rt, 3);
+    let mut wanted = [
+        WantedId::of(TWO, RowSet::new()),
+        WantedId::of(4, RowSet::new()),
+        WantedId::of(ONE, RowSet::new()),
+        WantedId::of(TWO, RowSet::new()),
+    ];
+    view.finds_each(&rt, &mut wanted);
+    is_set(&rt, wanted[0].rows.as_slice(), &[row(6, 6), row(7, 7)]);
+    is_set(&rt, wanted[2].rows.as_slice(), &[row(5, 5)]);
+    is_set(&rt, wanted[3].rows.as_slice(), &[row(6, 6), row(7, 7)]);
+    is_same(&rt, &wanted[0].found, &FoundId::Rows);
+    is_same(&rt, &wanted[1].found, &FoundId::Absent);
+    is_set(&rt, wanted[1].rows.as_slice(), &[]);
+    let upquery = view.admit(&rt, 3);
+    let mut more = [WantedId::of(3, RowSet::new())];
+    view.finds_each(&rt, &mut more);
+    is_same(&rt, &more[0].found, &FoundId::Pending);
+    view.fills(&rt, upquery, &[]);
+    view.uses(&rt, ONE, true);
+    view.close();
+}
+
+#[test]
 fn a_way_is_used_again(rt: HostRuntime) {
     let mut view = View::open(&rt, &SMALL);
     for id in 1..9 {
@@ -106,6 +135,28 @@ fn who_heard_of_a_fill_finds_it(rt: HostRuntime) {
     view.takes_in(&rt, ONE, &[row(5, 5)]);
     view.tells();
     view.finds(&rt, ONE, &[row(5, 5)]);
+    view.close();
+}
+
+#[test]
+fn the_writer_learns_which_ids_are_found(rt: HostRuntime) {
+    let mut view = View::open(&rt, &SMALL);
+    view.uses(&rt, 8, false);
+    for id in 1..9 {
+        view.takes_in(&rt, id, &[row(id, id)]);
+    }
+    view.uses(&rt, 8, false);
+    view.finds(&rt, 8, &[row(8, 8)]);
+    view.finds(&rt, 7, &[row(7, 7)]);
+    // A look of the writer's doesn't count.
+    view.sees(&rt, 6, &[row(6, 6)]);
+    view.uses(&rt, 8, true);
+    view.uses(&rt, 8, false);
+    view.finds(&rt, 8, &[row(8, 8)]);
+    view.chooses(&rt, 9, Some(6));
+    view.evicts(&rt, 6, Evict::Evicted);
+    view.takes_in(&rt, 9, &[row(9, 9)]);
+    view.chooses(&rt, 6, Some(5));
     view.close();
 }
 

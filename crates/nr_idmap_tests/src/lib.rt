@@ -10,6 +10,8 @@ mod directory_threads;
 #[cfg(test)]
 mod groups;
 #[cfg(test)]
+mod hands;
+#[cfg(test)]
 mod office;
 #[cfg(test)]
 mod reclaiming;

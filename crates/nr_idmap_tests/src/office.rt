@@ -87,6 +87,36 @@ impl Office {
         Some(way)
     }
 
+    /// The reader marks the id's way as found.
+    pub(crate) fn marks(&mut self, id: u64)
+        requires { 0 < id }
+    {
+        if let Some(way) = self.directory.look_up(&mut self.reader, id) {
+            self.directory.mark(&mut self.reader, way);
+        }
+    }
+
+    /// Whether the id's way was marked.
+    pub(crate) fn takes_mark(&mut self, id: u64) -> bool
+        requires { 0 < id }
+    {
+        match self.directory.way_of(&mut self.clerk, id) {
+            Some(way) => self.directory.take_mark(&mut self.clerk, way),
+            None => false,
+        }
+    }
+
+    /// The id whose way is chosen for another.
+    pub(crate) fn chooses(&mut self, id: u64) -> Option<u64> {
+        let way = self.directory.choose(&mut self.clerk, id);
+        self.directory.id_of(&mut self.clerk, way)
+    }
+
+    /// The reader loads names ahead.
+    pub(crate) fn loads_ahead(&mut self, ids: &[u64]) {
+        self.directory.load_ahead(&mut self.reader, ids);
+    }
+
     /// The reader hears of what the clerk has seen.
     pub(crate) fn tells_reader(&mut self) {
         let note = self.directory.note_clerk(&mut self.clerk);

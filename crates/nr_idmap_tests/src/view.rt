@@ -1,14 +1,15 @@
 //! A map over ids with its writer and a reader. Each method makes a call or a few and asserts the
 //! answers, so that a test is a list of calls.
-ghost use Rattle.std.specs.Prelude.{◌≡◌, ◌<◌};
+ghost use Rattle.std.specs.Prelude.{◌≡◌, ◌<◌, ◌≤◌, All, length};
 ghost use Rattle.nr_model.specs.Batches.{IsBatch};
-ghost use Rattle.nr_idmap.specs.Keepers.{id_rows};
+ghost use Rattle.nr_idmap.specs.IdNotes.{note_table_of};
+ghost use Rattle.nr_idmap.specs.Keepers.{id_rows, id_table_of};
 ghost use Rattle.nr_idmap.specs.Tags.{AreIdDeltas, IsIdSet};
 
 use nr_idmap::{
-    Evict, FoundId, IdFault, IdMap, IdReader, IdShape, IdWriter, Looked, OpenFault, Reaped,
-    Reclaimed, Refused, ReplaceFault, Requested, Unfilled, UpdateFault, Upquery, Withdrawn,
-    are_id_deltas, are_id_rows,
+    Evict, FoundId, IdFault, IdMap, IdNote, IdReader, IdShape, IdWriter, Looked, OpenFault, Reaped,
+    Reclaimed, Refused, ReplaceFault, Requested, Unfilled, UpdateFault, Upquery, WantedId,
+    Withdrawn, are_id_deltas, are_id_rows,
 };
 use nr_model::{Batch, Delta, Row, RowSet};
 use std::fmt::Debug;
@@ -67,13 +68,13 @@ pub(crate) fn minus(a: u64, b: u64) -> Delta {
 }
 
 /// The two are the same. Each `assert_eq!` of a test would be proved anew.
-fn is_same<T: Debug + PartialEq, R: Abort>(rt: &R, got: &T, wanted: &T) {
+pub(crate) fn is_same<T: Debug + PartialEq, R: Abort>(rt: &R, got: &T, wanted: &T) {
     assert_eq!(rt; got, wanted);
 }
 
 /// The set has just these rows.
-pub(crate) fn is_set<R: Abort>(rt: &R, set: &RowSet, wanted: &[Row]) {
-    assert_eq!(rt; set.as_slice(), wanted);
+pub(crate) fn is_set<R: Abort>(rt: &R, set: &[Row], wanted: &[Row]) {
+    assert_eq!(rt; set, wanted);
 }
 
 /// The rows in order, as a set that ids may have.
@@ -121,6 +122,29 @@ impl View {
         View::try_open(rt, shape).expect(rt, "memory")
     }
 
+    /// With another reader.
+    pub(crate) fn open_pair<R: AllocGlobal + Abort>(rt: &R, shape: &IdShape) -> (View, IdReader)
+        ensures { id_table_of result.1 ≡ result.0 }
+    {
+        let (map, writer, mut readers) = IdMap::open(rt.alloc(), shape).expect(rt, "memory");
+        let count = readers.len();
+        let other = readers.pop().expect(rt, "a reader");
+        let reader = readers.pop().expect(rt, "a reader");
+        let view = View {
+            map,
+            writer,
+            reader,
+            readers: count,
+        };
+        (view, other)
+    }
+
+    pub(crate) fn map(&self) -> &IdMap
+        ensures { result.now ≡ self.now }
+    {
+        &self.map
+    }
+
     fn try_open<R: AllocGlobal + Abort>(rt: &R, shape: &IdShape) -> Result<View, OpenFault> {
         let (map, writer, mut readers) = IdMap::open(rt.alloc(), shape)?;
         let count = readers.len();
@@ -165,6 +189,7 @@ impl View {
     /// The reader is granted a claim.
     pub(crate) fn claims<R: Abort>(&mut self, rt: &R, id: u64)
         requires { 0 < id }
+        ensures { self.new ≡ self.old }
     {
         assert!(rt; is_granted(self.map.request(&mut self.reader, id)));
     }
@@ -180,11 +205,12 @@ impl View {
     /// A find has just these rows.
     pub(crate) fn finds<R: Abort>(&mut self, rt: &R, id: u64, wanted: &[Row])
         requires { 0 < id }
+        ensures { self.new ≡ self.old }
     {
         let mut rows = RowSet::new();
         let found = self.map.find(&mut self.reader, id, &mut rows);
         is_same(rt, &found, &FoundId::Rows);
-        is_set(rt, &rows, wanted);
+        is_set(rt, rows.as_slice(), wanted);
     }
 
     /// A find has none, and leaves the caller's room as it was.
@@ -195,7 +221,16 @@ impl View {
         let mut rows = RowSet::of(&[row(1, 1)]).expect(rt, "a row");
         let found = self.map.find(&mut self.reader, id, &mut rows);
         is_same(rt, &found, &why);
-        is_set(rt, &rows, &[row(1, 1)]);
+        is_set(rt, rows.as_slice(), &[row(1, 1)]);
+    }
+
+    /// Finds of many ids by one call have what finds of each have.
+    pub(crate) fn finds_each<R: Abort>(&mut self, rt: &R, wanted: &mut [WantedId<RowSet>])
+        requires ids { All (λ one. 0 < one.id) wanted.old }
+        requires few { length wanted.old ≤ 16 }
+        ensures { self.new ≡ self.old }
+    {
+        self.map.find_each(&mut self.reader, wanted);
     }
 
     /// The writer's own look has just these rows.
@@ -205,7 +240,7 @@ impl View {
         let mut rows = RowSet::new();
         let seen = self.map.look(&mut self.writer, id, &mut rows);
         is_same(rt, &seen, &Looked::Rows);
-        is_set(rt, &rows, wanted);
+        is_set(rt, rows.as_slice(), wanted);
     }
 
     /// The writer's own look has none, and leaves the caller's room as it was.
@@ -216,19 +251,20 @@ impl View {
         let mut rows = RowSet::of(&[row(1, 1)]).expect(rt, "a row");
         let seen = self.map.look(&mut self.writer, id, &mut rows);
         is_same(rt, &seen, &why);
-        is_set(rt, &rows, &[row(1, 1)]);
+        is_set(rt, rows.as_slice(), &[row(1, 1)]);
     }
 
     /// An id is claimed, admitted and filled.
     pub(crate) fn takes_in<R: Abort>(&mut self, rt: &R, id: u64, rows: &[Row])
         requires { 0 < id }
+        ensures { self.new ≡ self.old }
     {
         self.claims(rt, id);
         self.admits(rt, id, rows);
     }
 
     /// An id is admitted: its upquery.
-    fn admit<R: Abort>(&mut self, rt: &R, id: u64) -> Upquery
+    pub(crate) fn admit<R: Abort>(&mut self, rt: &R, id: u64) -> Upquery
         requires { 0 < id }
         ensures upquery { result.table ≡ self.new }
         ensures stays { self.new ≡ self.old }
@@ -239,13 +275,15 @@ impl View {
     /// An id is admitted and filled.
     pub(crate) fn admits<R: Abort>(&mut self, rt: &R, id: u64, rows: &[Row])
         requires { 0 < id }
+        ensures { self.new ≡ self.old }
     {
         let upquery = self.admit(rt, id);
         self.fills(rt, upquery, rows);
     }
 
-    fn fills<R: Abort>(&mut self, rt: &R, upquery: Upquery, rows: &[Row])
+    pub(crate) fn fills<R: Abort>(&mut self, rt: &R, upquery: Upquery, rows: &[Row])
         requires { upquery.table ≡ self.old }
+        ensures { self.new ≡ self.old }
     {
         let set = set_of(rt, &self.map, rows);
         assert!(rt; is_done(rt, self.map.fill(&mut self.writer, upquery, set.as_slice())));
@@ -338,6 +376,21 @@ impl View {
         is_same(rt, &self.map.evict(&mut self.writer, id), &wanted);
     }
 
+    /// Whether the writer is told that the id was found.
+    pub(crate) fn uses<R: Abort>(&mut self, rt: &R, id: u64, wanted: bool)
+        requires { 0 < id }
+        ensures { self.new ≡ self.old }
+    {
+        is_same(rt, &self.map.uses(&mut self.writer, id), &wanted);
+    }
+
+    /// Whom the writer chooses for the id.
+    pub(crate) fn chooses<R: Abort>(&mut self, rt: &R, id: u64, wanted: Option<u64>)
+        ensures { self.new ≡ self.old }
+    {
+        is_same(rt, &self.map.choose(&mut self.writer, id), &wanted);
+    }
+
     pub(crate) fn updates<R: Abort>(
         &mut self,
         rt: &R,
@@ -346,6 +399,7 @@ impl View {
         wanted: Result<(), IdFault<UpdateFault>>,
     )
         requires { 0 < id }
+        ensures { self.new ≡ self.old }
     {
         let batch = batch_of(rt, deltas);
         let updated = self.map.update(&mut self.writer, id, batch.as_slice());
@@ -360,6 +414,7 @@ impl View {
         wanted: Result<(), IdFault<ReplaceFault>>,
     )
         requires { 0 < id }
+        ensures { self.new ≡ self.old }
     {
         let set = set_of(rt, &self.map, rows);
         let replaced = self.map.replace(&mut self.writer, id, set.as_slice());
@@ -373,6 +428,21 @@ impl View {
         let own = self.map.note(&mut self.reader);
         self.map.hear(&mut self.reader, own);
         self.map.gather(&mut self.writer, &mut self.reader);
+    }
+
+    pub(crate) fn note_of_writer(&mut self) -> IdNote
+        ensures note { note_table_of result ≡ self.new }
+        ensures stays { self.new ≡ self.old }
+    {
+        self.map.note_writer(&mut self.writer)
+    }
+
+    /// The writer hears a note.
+    pub(crate) fn hears(&mut self, note: IdNote)
+        requires { note_table_of note ≡ self.old }
+        ensures { self.new ≡ self.old }
+    {
+        self.map.hear_writer(&mut self.writer, note);
     }
 
     /// The id is admitted and filled by a call that gives that out.
@@ -407,6 +477,7 @@ impl View {
         wanted: Reclaimed,
     )
         requires { 0 < id }
+        ensures { self.new ≡ self.old }
     {
         let batch = batch_of(rt, deltas);
         let given = self
@@ -432,7 +503,9 @@ impl View {
         is_same(rt, &given, &Ok(wanted));
     }
 
-    pub(crate) fn reaps<R: Abort>(&mut self, rt: &R, had: &mut RowSet, wanted: Reaped) {
+    pub(crate) fn reaps<R: Abort>(&mut self, rt: &R, had: &mut RowSet, wanted: Reaped)
+        ensures { self.new ≡ self.old }
+    {
         is_same(rt, &self.map.reap(&mut self.writer, had), &wanted);
     }
 }

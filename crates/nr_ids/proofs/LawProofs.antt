@@ -1,12 +1,14 @@
 -- The laws.
-use Rattle.std.proofs.Common.{◌≡◌, ℕ, ◌+◌, ◌%◌, ◌<◌, ◌⊎◌, ⊎_elim, inl, inr, List, [], ◌∷◌, ◌++◌, refl, sym, ap, ◌∙◌, subst, arith, append_assoc, Some, None}
+use Rattle.std.proofs.Common.{◌≡◌, ℕ, ◌+◌, ◌%◌, ◌<◌, ◌⊎◌, ⊎_elim, inl, inr, List, [], ◌∷◌, ◌++◌, refl, sym, ap, ◌∙◌, subst, arith, append_assoc, Option, Some, None}
 use mathlib.Core.Logic.{dite}
 use native.Mathlib.Decide.{ℕ_discrete}
 use Rattle.nr_ids.specs.declared.plan.Plan.{Plan}
 use Rattle.nr_ids.specs.Groups.{group_of}
 use Rattle.nr_ids.specs.Events.{Event, named, unnamed, cleared, claimed, looked, name_of, turn_of, May, IsLegal, IsOpen}
-use Rattle.nr_ids.specs.Laws.{OneClaim, OneNaming, TurnCounts, FindsWhatItKnew, Has, claims, closings}
-use Rattle.nr_ids.proofs.Logs.{cond_same, cond_else, legal_end, one_way, turn_on}
+use Rattle.nr_ids.specs.Laws.{OneClaim, OneNaming, TurnCounts, FindsWhatItHeard, FindsWhatItKnew, Has, claims, closings}
+use Rattle.nr_ids.specs.Answers.{LooksUp}
+use Rattle.nr_ids.specs.Tokens.{Token}
+use Rattle.nr_ids.proofs.Logs.{cond_same, cond_else, legal_end, named_inside, one_way, turn_on}
 
 has_on : (event first : Event) (rest : List Event) → Has event rest → Has event (first ∷ rest)
 has_on event first rest was = (first ∷ was.0, was.1, ap (λ (l : List Event). first ∷ l) was.2)
@@ -74,6 +76,9 @@ has_before : (event : Event) (later since : List Event) → Has event since → 
 has_before event [] since has = has
 has_before event (first ∷ later) since has = has_on event first (later ++ since) (has_before event later since has)
 
+has_after : (event : Event) (since before : List Event) → Has event since → Has event (since ++ before)
+has_after event since before has = (has.0, has.1 ++ before, ap (λ (l : List Event). l ++ before) has.2 ∙ append_assoc has.0 (event ∷ has.1) before)
+
 pub finds_what_it_knew : FindsWhatItKnew
 finds_what_it_knew id way old new (Some found) real knows looks = let grows = looks.0 in let plan = old.directory.plan in ⊎_elim
     (λ still. inl (ap Some (one_way plan new.seen found way id grows.legal real looks.1.has (ap (λ (l : List Event). name_of l way) grows.seen ∙ still))))
@@ -85,3 +90,19 @@ finds_what_it_knew id way old new None real knows looks = let grows = looks.0 in
     (λ still. absurd (absent.absent way (ap (λ (l : List Event). name_of l way) within.from ∙ still)))
     (λ gone. inr (within.later ++ within.since, whole, has_before (unnamed way) within.later within.since gone))
     (stays plan within.since old.seen way id legal real knows.has)
+
+-- what a look-up adds
+grown : (id : ℕ) (old new : Token) (found : Option ℕ) → LooksUp id old new found → (rest : List Event) × (new.seen ≡ rest ++ old.seen) × IsLegal old.directory.plan old.seen
+grown id old new (Some way) looks = (looks.0.rest, looks.0.seen, legal_end old.directory.plan looks.0.rest old.seen (subst (IsLegal old.directory.plan) looks.0.seen looks.0.legal))
+grown id old new None looks = (looks.0.rest, looks.0.seen, legal_end old.directory.plan looks.0.rest old.seen (subst (IsLegal old.directory.plan) looks.0.seen looks.0.legal))
+
+pub finds_what_it_heard : FindsWhatItHeard
+finds_what_it_heard note id way old new found real has begins looks =
+    let plan = old.directory.plan in let on = grown id old new found looks in let since : List Event = begins.0 in ⊎_elim
+    (λ still. let here : name_of old.seen way ≡ id = ap (λ (l : List Event). name_of l way) begins.1 ∙ still in ⊎_elim
+    (λ there. inl there)
+    (λ (gone : (rest : List Event) × (new.seen ≡ rest ++ old.seen) × Has (unnamed way) rest).
+    inr (gone.0 ++ since, gone.1 ∙ ap (λ (l : List Event). gone.0 ++ l) begins.1 ∙ sym (append_assoc gone.0 since note.seen), has_after (unnamed way) gone.0 since gone.2))
+    (finds_what_it_knew id way old new found real (record { inside = (named_inside plan old.seen way id on.2 real here).0; has = here }) looks))
+    (λ gone. inr (on.0 ++ since, on.1 ∙ ap (λ (l : List Event). on.0 ++ l) begins.1 ∙ sym (append_assoc on.0 since note.seen), has_before (unnamed way) on.0 since gone))
+    (stays plan since note.seen way id (subst (IsLegal plan) begins.1 on.2) real has)

@@ -13,13 +13,13 @@ use Rattle.atomic_table.proofs.Lists.{exchanged}
 use Rattle.nr_ids.specs.declared.plan.Plan.{Plan}
 use Rattle.nr_ids.specs.Groups.{IsPlan, ways, group_of}
 use Rattle.nr_ids.specs.Events.{Event, named, unnamed, cleared, claimed, looked, maker, own, name_of, turn_of, last_turn, May, MayName, MayClaim, IsLegal, IsOpen}
-use Rattle.nr_ids.specs.Rule.{View, Shows, Fits, Kept, opener, counted, turn_place, total}
-use Rattle.nr_ids.specs.Plays.{Goes, has_looked_at_name, has_looked_at_turn, has_claimed, has_named, has_unnamed, has_cleared}
+use Rattle.nr_ids.specs.Rule.{View, Shows, Fits, Kept, opener, counted, marks_place, turn_place, total}
+use Rattle.nr_ids.specs.Plays.{Goes, has_looked_at_name, has_looked_at_turn, has_claimed, has_marked, has_named, has_unnamed, has_cleared}
 use Rattle.nr_ids.specs.Scans.{Scanned}
 use Rattle.nr_ids.specs.Tokens.{Opened, Sits, Grows, WinsClaim, token}
 use Rattle.nr_ids.proofs.Logs.{ClearsNothing, own_this, quiet_names, quiet_turn}
 use Rattle.nr_ids.proofs.Scanning.{scan_shows}
-use Rattle.nr_ids.proofs.Steps.{moves, shows_same, shows_name, shows_turn}
+use Rattle.nr_ids.proofs.Steps.{moves, shows_beyond, shows_same, shows_name, shows_turn}
 
 abbrev pub Caller : Type 0
 Caller = Seat ℕ View
@@ -98,6 +98,22 @@ module _ (table : TableId) (key : Plan) (now : Opened) (about : Stands table key
             λ other at_place. let there : place ≡ turn_place key other = omega arith in
                 ap (λ (p : ℕ). get_or state.words p 0) there ∙ kept.shows.turns other (omega arith) ∙ ap (λ (plan : Plan). turn_of plan kept.log other) (sym plan_is),
           ),
+        ),
+      )
+
+  -- whatever it makes of a group's marks
+  pub steps_on_marks : (f : ℕ → ℕ) (k : ℕ) (group place : ℕ) → group < now.plan.groups → place ≡ marks_place now.plan group → (seat.table_id ≡ table) × (place < table.words)
+      × Allows (Kept key) table.slots seat.id seat.me place f (has_marked (step table.slots place k 0 none) seat.me)
+  steps_on_marks f k group place low is = let wide = about.wide in
+      let groups : key.groups ≡ now.plan.groups = ap (λ (plan : Plan). plan.groups) about.key_is in (
+        own_table,
+        omega arith,
+        λ state kept len at small. let event = looked seat.me.0.number in let n : ℕ = f (get_or state.words place 0) in (
+          after kept.log event,
+          keeps,
+          tt,
+          does event state kept at refl (set state.words place n) (shows_beyond key state.words kept.log kept.shows event place n (omega arith) (λ _. refl) (λ _. refl)) tt,
+          goes event state kept at tt,
         ),
       )
 

@@ -1,5 +1,5 @@
 -- A step that adds one event keeps the rule, and so does one that adds none.
-use Rattle.std.proofs.Common.{◌≡◌, ◌≢◌, ℕ, zero, suc, ◌+◌, ◌<◌, ◌⊎◌, ⊎_elim, inl, inr, true, ◌==◌, cond, List, [], ◌∷◌, ◌++◌, length, get_or, set, refl, sym, ap, ◌∙◌, subst, arith, get_or-set_other, get_or-set_same}
+use Rattle.std.proofs.Common.{◌≡◌, ◌≢◌, ℕ, zero, suc, ◌+◌, ◌<◌, ◌≤◌, ◌⊎◌, ⊎_elim, inl, inr, true, ◌==◌, cond, List, [], ◌∷◌, ◌++◌, length, get_or, set, refl, sym, ap, ◌∙◌, subst, arith, get_or-set_other, get_or-set_same}
 use mathlib.Core.Option.{some, some-injective, some-ne-none}
 use mathlib.Core.Logic.{dite}
 use native.Mathlib.Decide.{ℕ_discrete}
@@ -29,6 +29,16 @@ module _ (plan : Plan) (words : List ℕ) (log : List Event) (shows : Shows plan
         (λ ne. get_or-set_other words way other n 0 (λ e. ne (sym e)) ∙ shows.names other near ∙ sym (cond_else n (name_of log other) way other ne) ∙ sym (names other));
     turns = λ group near. let apart : turn_place plan group ≢ way = λ e. absurd (omega arith) in
         get_or-set_other words way (turn_place plan group) n 0 apart ∙ shows.turns group near ∙ sym (turns group);
+  }
+
+  -- what stands behind all turns shows nothing
+  pub shows_beyond : (place n : ℕ) → turn_place plan plan.groups ≤ place → ((way : ℕ) → name_of (event ∷ log) way ≡ name_of log way)
+      → ((group : ℕ) → turn_of plan (event ∷ log) group ≡ turn_of plan log group) → Shows plan (set words place n) (event ∷ log)
+  shows_beyond place n behind names turns = record {
+    size = length-set words place n ∙ shows.size;
+    names = λ way low. let apart : way ≢ place = λ e. absurd (omega arith) in get_or-set_other words place way n 0 apart ∙ shows.names way low ∙ sym (names way);
+    turns = λ group low. let apart : turn_place plan group ≢ place = λ e. absurd (omega arith) in
+        get_or-set_other words place (turn_place plan group) n 0 apart ∙ shows.turns group low ∙ sym (turns group);
   }
 
   pub shows_turn : (group n : ℕ) → group < plan.groups → n ≡ turn_of plan log group + 1 → ((way : ℕ) → name_of (event ∷ log) way ≡ name_of log way)

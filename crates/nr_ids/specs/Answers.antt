@@ -1,5 +1,5 @@
 -- What each call says of its token, by its answer.
-use Rattle.std.specs.Prelude.{◌≡◌, ℕ, ◌+◌, ◌%◌, ◌≤◌, Bool, true, false, List, [], ◌∷◌, Option, Some, None, Result, Ok, Err}
+use Rattle.std.specs.Prelude.{◌≡◌, ℕ, ◌+◌, ◌%◌, ◌<◌, ◌≤◌, Bool, true, false, List, [], ◌∷◌, Option, Some, None, Result, Ok, Err}
 use Rattle.nr_ids.specs.declared.admissions.Refused.{Refused}
 use Rattle.nr_ids.specs.declared.admissions.Refused.TheVariants as refused
 use Rattle.nr_ids.specs.declared.requests.Requested.{Requested}
@@ -47,3 +47,8 @@ Unnames way old new = Grows old (unnamed way ∷ []) new
 abbrev pub FindsWay : ℕ → Token → Token → Option ℕ → Type 0
 FindsWay id old new (Some way) = Grows old (looks (way % 8 + 1) old.number) new × HasName new way id
 FindsWay id old new None = Grows old (looks 8 old.number) new × IsAbsent new.seen id
+
+-- the way has that name, or none
+abbrev pub FindsId : ℕ → Token → Token → Option ℕ → Type 0
+FindsId way old new (Some id) = Grows old (looks 1 old.number) new × HasName new way id × (0 < id)
+FindsId way old new None = Grows old (looks 1 old.number) new × (name_of new.seen way ≡ 0)

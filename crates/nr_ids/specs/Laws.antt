@@ -4,7 +4,8 @@ use Rattle.nr_ids.specs.declared.plan.Plan.{Plan}
 use Rattle.nr_ids.specs.Groups.{group_of, group_of_way, ways}
 use Rattle.nr_ids.specs.Events.{Event, named, unnamed, cleared, claimed, looked, name_of, turn_of, IsLegal}
 use Rattle.nr_ids.specs.Answers.{LooksUp}
-use Rattle.nr_ids.specs.Tokens.{Token, Grows, HasName}
+use Rattle.nr_ids.specs.Rule.{BeginsWith}
+use Rattle.nr_ids.specs.Tokens.{Known, Token, Grows, HasName}
 
 -- an id has at most one way, which is one of its group
 abbrev pub OneWay : Type 0
@@ -55,3 +56,8 @@ ClerkKnows = (old : Token) (acts : List Event) (new : Token) (way : ℕ) → old
 abbrev pub FindsWhatItKnew : Type 0
 FindsWhatItKnew = (id way : ℕ) (old new : Token) (found : Option ℕ) → 0 < id → HasName old way id → LooksUp id old new found
     → (found ≡ Some way) ⊎ ((rest : List Event) × (new.seen ≡ rest ++ old.seen) × Has (unnamed way) rest)
+
+-- a token that heard of a way's name, and knows whatever more, looks it up there, unless the name was taken since the note
+abbrev pub FindsWhatItHeard : Type 0
+FindsWhatItHeard = (note : Known) (id way : ℕ) (old new : Token) (found : Option ℕ) → 0 < id → name_of note.seen way ≡ id → BeginsWith old.seen note.seen → LooksUp id old new found
+    → (found ≡ Some way) ⊎ ((rest : List Event) × (new.seen ≡ rest ++ note.seen) × Has (unnamed way) rest)

@@ -6,4 +6,5 @@ pub mod Tokens
 pub mod Scans
 pub mod Looking
 pub mod Answers
+pub mod Marks
 pub mod Laws

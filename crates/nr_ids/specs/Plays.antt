@@ -42,3 +42,7 @@ has_unnamed step before found after = Goes (unnamed step.word) before.0 after.0
 
 abbrev pub has_cleared : Then
 has_cleared step before found after = (group : ℕ) → step.word ≡ turn_place before.0.plan group → Goes (cleared group) before.0 after.0
+
+-- a step on a group's marks, which tells nothing
+abbrev pub has_marked : Then
+has_marked step before found after = Goes (looked before.0.number) before.0 after.0

@@ -1,5 +1,5 @@
 -- The rule of the table: its words show the names and the turns after one legal list of events, and each token knows an end of that list.
-use Rattle.std.specs.Prelude.{◌≡◌, ℕ, ◌+◌, ◌<◌, ◌≤◌, Bool, true, false, List, [], ◌++◌, length, slice_index}
+use Rattle.std.specs.Prelude.{◌≡◌, ℕ, ◌+◌, ◌*◌, ◌<◌, ◌≤◌, Bool, true, false, List, [], ◌++◌, length, slice_index}
 use mathlib.Core.Option.{some}
 use lib.ListN.{get_elem?}
 use Rattle.atomic_table.specs.Table.{State}
@@ -61,8 +61,12 @@ pub record Later (log : List Event) (view : View) : Type 0 where
 abbrev pub turn_place : Plan → ℕ → ℕ
 turn_place plan group = ways plan + group
 
+-- its marks stand behind all turns, and may be any
+abbrev pub marks_place : Plan → ℕ → ℕ
+marks_place plan group = ways plan + plan.groups + group
+
 abbrev pub total : Plan → ℕ
-total plan = ways plan + plan.groups
+total plan = ways plan + 2 * plan.groups
 
 pub record Shows (plan : Plan) (words : List ℕ) (log : List Event) : Type 0 where
   pub size : length words ≡ total plan

@@ -1,6 +1,6 @@
 //! What the clerk does: it answers claims, and takes names back.
 ghost use Rattle.std.specs.Prelude.{◌≡◌, ◌<◌, ◌*◌};
-ghost use Rattle.nr_ids.specs.Answers.{Admits, Clears, FindsWay, Unnames};
+ghost use Rattle.nr_ids.specs.Answers.{Admits, Clears, FindsId, FindsWay, Unnames};
 ghost use Rattle.nr_ids.specs.Groups.{ways};
 ghost use Rattle.nr_ids.specs.Looking.{Rooms};
 ghost use Rattle.nr_ids.specs.Tokens.{Sits, token};
@@ -76,6 +76,19 @@ impl Directory {
         ensures answer { FindsWay id clerk.old clerk.new result }
     {
         self.scan(&mut clerk.seat, id)
+    }
+
+    /// The id that has a way, in 1 step, or none has it. The clerk knows this exactly.
+    pub fn id_of(&self, clerk: &mut Clerk, way: u32) -> Option<u64>
+        requires own { clerk.old.directory ≡ self.now }
+        requires way { way < ways self.now.plan }
+        ensures own { clerk.new.directory ≡ self.now }
+        ensures answer { FindsId way clerk.old clerk.new result }
+    {
+        match self.look(&mut clerk.seat, way) {
+            0 => None,
+            id => Some(id),
+        }
     }
 
     /// A way of the id's group that has no name, where no way has the id's.

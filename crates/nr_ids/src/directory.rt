@@ -2,12 +2,14 @@
 ghost use Rattle.std.specs.Prelude.{◌≡◌, ◌≢◌, ◌<◌, ◌%◌, true, false, IfOk, [], ◌∷◌};
 ghost use Rattle.nr_ids.specs.Events.{MayName, cleared, last_turn, looked, name_of, named, turn_of, unnamed};
 ghost use Rattle.nr_ids.specs.Groups.{IsPlan, group_of, ways};
-ghost use Rattle.nr_ids.specs.Rule.{BeginsWith, counted, next_reader, note_of, opener, total, turn_place, with_note, with_reader};
+ghost use Rattle.nr_ids.specs.Rule.{BeginsWith, counted, marks_place, next_reader, note_of, opener, total, turn_place, with_note, with_reader};
 ghost use Rattle.nr_ids.specs.Scans.{Scanned};
 ghost use Rattle.nr_ids.specs.Tokens.{Grows, Sits, WinsClaim, token};
 
 use crate::plan::Plan;
-use crate::rule::{Claims, Clears, LooksAtName, LooksAtTurn, Names, Notes, Rule, Seats, Unnames};
+use crate::rule::{
+    Claims, Clears, LooksAtName, LooksAtTurn, Marks, Names, Notes, Rule, Seats, Unnames,
+};
 use crate::view::View;
 use atomic_table::Table;
 use std::alloc::{AllocError, Global};
@@ -44,7 +46,7 @@ impl Directory {
         ensures directory { IfOk result (λ opened. opened.0.plan ≡ plan) }
         ensures seat { IfOk result (λ opened. (opened.1.table_id ≡ opened.0.id) × (opened.1.me ≡ (opener plan, []))) }
     {
-        let words = vec![in alloc; 0; 9 * plan.groups as usize]?;
+        let words = vec![in alloc; 0; 10 * plan.groups as usize]?;
         let (table, seat) = Table::of_words(alloc, &words, &plan)?;
         Ok((Directory { table, plan }, seat))
     }
@@ -153,6 +155,42 @@ impl Directory {
         words.store::<Clears>(seat, place, was + 1);
     }
 
+    /// The word of a group's marks, which may be any.
+    pub(crate) fn marks(&self, seat: &mut Seat, group: u32) -> u64
+        requires caller { Sits self.now seat.old }
+        requires group { group < self.now.plan.groups }
+        ensures caller { Sits self.now seat.new }
+        ensures grows { Grows (token seat.old) (looked seat.old.me.0.number ∷ []) (token seat.new) }
+    {
+        let words = &self.table.shared;
+        let place = self.marks_place(group);
+        words.load::<Marks>(seat, place)
+    }
+
+    /// Sets marks of a group.
+    pub(crate) fn add_marks(&self, seat: &mut Seat, group: u32, bits: u64)
+        requires caller { Sits self.now seat.old }
+        requires group { group < self.now.plan.groups }
+        ensures caller { Sits self.now seat.new }
+        ensures grows { Grows (token seat.old) (looked seat.old.me.0.number ∷ []) (token seat.new) }
+    {
+        let words = &self.table.shared;
+        let place = self.marks_place(group);
+        words.fetch_or::<Marks>(seat, place, bits);
+    }
+
+    /// Turns bits of a group's marks over, which loses none that a reader sets meanwhile.
+    pub(crate) fn turn_marks(&self, seat: &mut Seat, group: u32, bits: u64)
+        requires caller { Sits self.now seat.old }
+        requires group { group < self.now.plan.groups }
+        ensures caller { Sits self.now seat.new }
+        ensures grows { Grows (token seat.old) (looked seat.old.me.0.number ∷ []) (token seat.new) }
+    {
+        let words = &self.table.shared;
+        let place = self.marks_place(group);
+        words.fetch_xor::<Marks>(seat, place, bits);
+    }
+
     /// A look at word 0, by which the token knows all that a note told it which it took in last.
     pub(crate) fn learn(&self, seat: &mut Seat)
         requires caller { Sits self.now seat.old }
@@ -191,5 +229,13 @@ impl Directory {
         ensures inside { result < total self.now.plan }
     {
         8 * self.plan.groups as usize + group as usize
+    }
+
+    fn marks_place(&self, group: u32) -> usize
+        requires { group < self.now.plan.groups }
+        ensures value { result ≡ marks_place self.now.plan group }
+        ensures inside { result < total self.now.plan }
+    {
+        9 * self.plan.groups as usize + group as usize
     }
 }

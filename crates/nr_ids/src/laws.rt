@@ -1,5 +1,5 @@
 //! Laws over the definitions alone. Nothing runs here: each function's contract is the law.
-ghost use Rattle.nr_ids.specs.Laws.{ClerkKnows, FindsWhatItKnew, InGroup, OneClaim, OneNaming, OneWay, TurnCounts};
+ghost use Rattle.nr_ids.specs.Laws.{ClerkKnows, FindsWhatItHeard, FindsWhatItKnew, InGroup, OneClaim, OneNaming, OneWay, TurnCounts};
 
 /// An id has at most one way.
 pub fn one_way()
@@ -35,4 +35,9 @@ pub fn clerk_knows()
 /// taken since.
 pub fn finds_what_it_knew()
     ensures { FindsWhatItKnew }
+{}
+
+/// So does one that heard a note whose maker knew that, unless the name was taken since the note.
+pub fn finds_what_it_heard()
+    ensures { FindsWhatItHeard }
 {}

@@ -4,6 +4,7 @@
 mod admissions;
 mod directory;
 pub mod laws;
+mod marks;
 mod plan;
 mod requests;
 mod rule;

@@ -91,3 +91,12 @@ impl Play<u64, View> for Clears {
 
     ghost then = { has_cleared };
 }
+
+/// A step on a group's marks, which tells nothing.
+pub struct Marks;
+
+impl Play<u64, View> for Marks {
+    ghost use Rattle.nr_ids.specs.Plays.{has_marked};
+
+    ghost then = { has_marked };
+}

@@ -71,7 +71,7 @@ impl Model for Note {
 
 impl Directory {
     /// A directory without names, and its clerk. Refused unless there are 1 to 536,870,911 groups, and
-    /// then where there is no memory: a group takes 72 bytes, twice while it opens.
+    /// then where there is no memory: a group takes 80 bytes, twice while it opens.
     pub fn open(alloc: Global, plan: Plan) -> Result<(Directory, Clerk), OpenFault>
         ensures bad_size { (result ≡ Err OpenFault.BadSize) ↔ IsBadPlan plan }
         ensures ok { IfOk result (λ opened. (opened.0.plan ≡ plan) × (opened.1 ≡ fresh_token opened.0 0)) }

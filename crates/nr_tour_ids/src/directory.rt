@@ -2,6 +2,7 @@
 ghost use Rattle.std.specs.Prelude.{◌≡◌};
 
 use crate::admitting::show_misses;
+use crate::marks::show_marks;
 use crate::notes::show_notes;
 use nr_ids::{Clerk, Directory, Plan};
 use std::io::Print;
@@ -25,5 +26,6 @@ fn show_ways<R: AllocGlobal + Print>(
     let mut reader = directory.reader(clerk);
     println!(rt; "{} groups, too many: {}", plan.groups, plan.is_bad())?;
     show_misses(rt, directory, clerk, &mut reader)?;
-    show_notes(rt, directory, clerk, &mut reader)
+    show_notes(rt, directory, clerk, &mut reader)?;
+    show_marks(rt, directory, clerk, &mut reader)
 }

@@ -4,6 +4,7 @@
 mod admitting;
 mod answering;
 mod directory;
+mod marks;
 mod notes;
 mod resident;
 mod wanting;

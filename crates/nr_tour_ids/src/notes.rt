@@ -12,6 +12,7 @@ pub fn show_notes<R: AllocGlobal + Print>(
     reader: &mut Reader,
 ) -> anyhow::Result<()>
     requires own { (clerk.old.directory ≡ directory.now) × (reader.old.directory ≡ directory.now) }
+    ensures own { (clerk.new.directory ≡ directory.now) × (reader.new.directory ≡ directory.now) }
 {
     let id = match directory.request(reader, 7) {
         Requested::Granted(claim) => {

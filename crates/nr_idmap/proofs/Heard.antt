@@ -1,0 +1,81 @@
+-- A find by id of a reader that heard of the id's fill, by the laws of the map and of the directory.
+use Rattle.std.proofs.Common.{◌≡◌, ℕ, ◌+◌, ◌*◌, ◌<◌, ◌⊎◌, ⊎_elim, inl, inr, true, List, [], ◌∷◌, ◌++◌, length, refl, sym, ap, ◌∙◌, subst, append_assoc, Some, None}
+use Rattle.nr_model.specs.declared.rows.Row.{Row}
+use Rattle.nr_model.specs.declared.calls.Call.TheVariants as model
+use Rattle.nr_model.specs.declared.calls.Reply.{Reply}
+use Rattle.nr_model.specs.declared.calls.Reply.TheVariants as reply
+use Rattle.nr_model.specs.Histories.{Entry}
+use Rattle.nr_marks.specs.Puts.{puts_at}
+use Rattle.nr_board.specs.Callers.{Gains}
+use Rattle.nr_map.specs.Written.{FindsWhatItHeard}
+use Rattle.nr_ids.specs.Answers.{LooksUp}
+use Rattle.nr_ids.specs.Events.{Event, name_of, unnamed}
+use Rattle.nr_ids.specs.Laws as ids
+use Rattle.nr_ids.specs.Marks.{Marks}
+use Rattle.nr_ids.specs.Tokens.{Token}
+use Rattle.nr_idmap.specs.declared.finds.FoundId.{FoundId}
+use Rattle.nr_idmap.specs.declared.finds.FoundId.TheVariants as found
+use Rattle.nr_idmap.specs.IdFinds.{FindsById}
+use Rattle.nr_idmap.specs.IdHeard.{FindsIdHeard, FindsIdPut, HeardIdBefore, IsUnnamedSince, TellsOfWay}
+use Rattle.nr_idmap.specs.IdNotes.{IdKnown}
+use Rattle.nr_idmap.specs.Keepers.{IdCaller}
+use Rattle.nr_idmap.specs.Tags.{tag_of}
+
+-- and later events
+unnamed_on : (told : List Event) (way : ℕ) (seen more : List Event) → IsUnnamedSince told way seen → IsUnnamedSince told way (more ++ seen)
+unnamed_on told way seen more gone = (
+  more ++ gone.0,
+  ap (λ (l : List Event). more ++ l) gone.1 ∙ sym (append_assoc more gone.0 told),
+  (
+    more ++ gone.2.0,
+    gone.2.1,
+    ap (λ (l : List Event). more ++ l) gone.2.2 ∙ sym (append_assoc more gone.2.0 (unnamed way ∷ gone.2.1)),
+  ),
+)
+
+marks_on : (told : List Event) (way : ℕ) (old new : Token) → Marks old new → IsUnnamedSince told way old.seen → IsUnnamedSince told way new.seen
+marks_on told way old new marks gone = subst (IsUnnamedSince told way) (sym marks.2.seen) (unnamed_on told way old.seen marks.2.rest gone)
+
+some_way : (a b : ℕ) → Some a ≡ Some b → a ≡ b
+some_way a b e = cc (e)
+
+module _ {Room : Type 0} (shows : Room → List Row → Type 0) (of_map : FindsWhatItHeard) (of_ids : ids.FindsWhatItHeard) where
+  module _ (old asking : IdCaller) (note : IdKnown) (id way : ℕ) (before since : List Entry) (put : Entry)
+      (near : way < old.caller.table.shape.keys) (real : 0 < id) (named : name_of note.ids.seen way ≡ id)
+      (told : note.map.seen ≡ (before ++ put ∷ []) ++ since) (puts : puts_at way put ≡ true) (heard : HeardIdBefore old note asking) where
+    abbrev written : List Entry
+    written = before ++ put ∷ []
+
+    -- the way that was looked up is that one, and then the map's law tells of it
+    in_way : (at : ℕ) (looked : Token) (new : IdCaller) (room : Room) (answer : FoundId) (steps : ℕ) (told_there : Reply) →
+        LooksUp id asking.ids looked (Some at) → Gains steps asking.caller (model.Find at) told_there new.caller →
+        TellsOfWay shows id room answer told_there →
+        IsUnnamedSince note.ids.seen way looked.seen ⊎ FindsIdPut shows id way old written since room answer
+    in_way at looked new room answer steps told_there looks gains tells = ⊎_elim
+        (λ (same : Some at ≡ Some way).
+        let gains_here : Gains steps asking.caller (model.Find way) told_there new.caller = subst
+        (λ (k : ℕ). Gains steps asking.caller (model.Find k) told_there new.caller) (some_way at way same) gains in
+        let law = of_map old.caller asking.caller new.caller note.map before since put way steps told_there near told puts heard.map gains_here in
+        inr (record { told = told_there; tells = tells; more = law.0; finds = law.2 }))
+        (λ gone. inl gone)
+        (of_ids note.ids id way asking.ids looked (Some at) real named heard.ids looks)
+
+    by_answer : (new : IdCaller) (room after : Room) (answer : FoundId) → FindsById shows id asking room new after answer →
+        IsUnnamedSince note.ids.seen way new.ids.seen ⊎ FindsIdPut shows id way old written since after answer
+    by_answer new room after found.Rows finds =
+        let looked : Token = finds.2 in ⊎_elim
+        (λ gone. inl (marks_on note.ids.seen way looked new.ids finds.4 gone))
+        (λ put. inr put)
+        (in_way finds.0 looked new after found.Rows (finds.3.1.steps + (2 * length (tag_of id ∷ finds.1) + 1)) (reply.Rows (tag_of id ∷ finds.1))
+        finds.3.0 finds.3.1.gains (finds.1, refl, finds.5))
+    by_answer new room after found.Pending finds = in_way finds.0 new.ids new after found.Pending (finds.2.steps + 0) reply.Hole finds.1 finds.2.gains refl
+    by_answer new room after found.Moved finds = in_way finds.0 new.ids new after found.Moved (finds.2.1.steps + (2 * length finds.1 + 1)) (reply.Rows finds.1)
+        finds.2.0 finds.2.1.gains (finds.1, refl, finds.3)
+    by_answer new room after found.Absent finds = ⊎_elim
+        (λ (there : None ≡ Some way). absurd (cc (there)))
+        (λ gone. inl gone)
+        (of_ids note.ids id way asking.ids new.ids None real named heard.ids finds.0)
+
+  pub finds_id_heard : FindsIdHeard shows
+  finds_id_heard old asking new note id way before since put room after answer near real named told puts heard finds =
+      by_answer old asking note id way before since put near real named told puts heard new room after answer finds

@@ -1,0 +1,43 @@
+-- What a find that holds says, by what the map's hand found in the id's way.
+use Rattle.std.proofs.Common.{◌≡◌, ℕ, ⊎_elim, List, refl, sym, ◌∙◌, subst, Some, None}
+use Rattle.nr_model.specs.declared.rows.Row.{Row}
+use Rattle.nr_board.specs.declared.answers.Found.{Found}
+use Rattle.nr_board.specs.declared.answers.Found.TheVariants as answer
+use Rattle.nr_map.specs.Hands.{FindsKept, Handed, LetsGo}
+use Rattle.nr_ids.specs.Answers.{LooksUp}
+use Rattle.nr_ids.specs.Tokens.{Token}
+use Rattle.nr_idmap.specs.declared.finds.FoundId.TheVariants as found
+use Rattle.nr_idmap.specs.IdHands.{HoldsAnew, IdHanded}
+use Rattle.nr_idmap.specs.Tags.{HasTag}
+
+-- a find that keeps what it found, into a pile
+abbrev pub KeepsIn : ℕ → Handed → List Row → Handed → List Row → Found → Type 0
+KeepsIn way old before new set told = FindsKept (λ (pile : List Row) (rows : List Row). pile ≡ rows) way old before new set told
+
+-- the pile has what the hand holds
+pub kept_set : (way : ℕ) (old new : Handed) (before set : List Row) → KeepsIn way old before new set answer.Rows → set ≡ new.rows
+kept_set way old new before set keeps = ⊎_elim (λ again. again.1 ∙ sym again.0.rows) (λ anew. anew.3.2) keeps
+
+module _ (id way : ℕ) (old now : IdHanded) (is : old ≡ now) (ids : Token) (looks : LooksUp id old.ids ids (Some way)) (hand : Handed)
+    (before set : List Row) where
+  pub holds_pending : KeepsIn way old.hand before hand set answer.Hole →
+      HoldsAnew id now (record { hand = hand; ids = ids; id = None }) found.Pending
+  holds_pending keeps = subst (λ (o : IdHanded). HoldsAnew id o (record { hand = hand; ids = ids; id = None }) found.Pending) is
+      (way, looks, (before, set, keeps), refl)
+
+  module _ (keeps : KeepsIn way old.hand before hand set answer.Rows) (slice : List Row) (same : slice ≡ set) where
+    pub holds_rows : HasTag id slice → HoldsAnew id now (record { hand = hand; ids = ids; id = Some id }) found.Rows
+    holds_rows tag = subst (λ (o : IdHanded). HoldsAnew id o (record { hand = hand; ids = ids; id = Some id }) found.Rows) is
+        (way, tag.0, looks, (before, set, keeps), sym (same ∙ kept_set way old.hand hand before set keeps) ∙ tag.1, refl)
+
+    pub holds_moved : (HasTag id slice → ⊥) → (left : Handed) → LetsGo hand left →
+        HoldsAnew id now (record { hand = left; ids = ids; id = None }) found.Moved
+    holds_moved other left lets = subst (λ (o : IdHanded). HoldsAnew id o (record { hand = left; ids = ids; id = None }) found.Moved) is (
+      way,
+      hand,
+      looks,
+      (before, set, keeps),
+      λ rows e. other (rows, same ∙ kept_set way old.hand hand before set keeps ∙ e),
+      lets,
+      refl,
+    )

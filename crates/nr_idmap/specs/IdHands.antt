@@ -1,0 +1,129 @@
+-- A reader by id that holds nothing, or the set of an id.
+use Rattle.std.specs.Prelude.{◌≡◌, ◌≢◌, ℕ, ◌<◌, ◌⊎◌, Bool, true, false, List, [], ◌∷◌, Option, Some, None}
+use Rattle.nr_model.specs.declared.rows.Row.{Row}
+use Rattle.nr_model.specs.Rows.{IsRowSet}
+use Rattle.nr_board.specs.declared.answers.Found.{Found}
+use Rattle.nr_board.specs.declared.answers.Found.TheVariants as answer
+use Rattle.nr_map.specs.Hands.{AsksInVain, FindsHeld, FindsKept, Handed, LetsGo, idle}
+use Rattle.nr_ids.specs.Answers.{LooksUp}
+use Rattle.nr_ids.specs.Marks.{Marks}
+use Rattle.nr_ids.specs.Tokens.{Token}
+use Rattle.nr_idmap.specs.declared.finds.FoundId.{FoundId}
+use Rattle.nr_idmap.specs.declared.finds.FoundId.TheVariants as found
+use Rattle.nr_idmap.specs.declared.hands.Holding.{Holding}
+use Rattle.nr_idmap.specs.Keepers.{IdCaller, IdTable}
+use Rattle.nr_idmap.specs.Tags.{rows_behind, tag_of}
+
+-- the map's hand, which holds the set of a way; the directory's reader; and whose set it is
+pub record IdHanded : Type 0 where
+  pub hand : Handed
+  pub ids : Token
+  pub id : Option ℕ
+
+-- of which map over ids it is
+abbrev pub hand_table_of : IdHanded → IdTable
+hand_table_of hand = record { map = hand.hand.reader.table; directory = hand.ids.directory }
+
+-- of a reader that holds nothing
+abbrev pub idle_by_id : IdCaller → IdHanded
+idle_by_id reader = record { hand = idle reader.caller; ids = reader.ids; id = None }
+
+abbrev pub id_held : Option Holding → Option ℕ
+id_held None = None
+id_held (Some held) = Some held.id
+
+-- the rows of the id whose set is held; none where nothing is
+abbrev pub rows_of_id : Option ℕ → List Row → List Row
+rows_of_id None set = []
+rows_of_id (Some id) set = rows_behind set
+
+abbrev pub rows_in_hand : IdHanded → List Row
+rows_in_hand hand = rows_of_id hand.id hand.hand.rows
+
+-- a set of that way with the id's tag is held, and the pile has it
+pub record HoldsTagged (held : Holding) (hand : Handed) (pile : List Row) : Type 0 where
+  pub rows : List Row
+  pub key_is : hand.key ≡ Some held.way
+  pub near : held.way < hand.reader.table.shape.keys
+  pub tagged : hand.rows ≡ tag_of held.id ∷ rows
+  pub pile_is : pile ≡ hand.rows
+  pub row_set : IsRowSet 255 hand.rows
+
+abbrev pub IsIdHand : Handed → List Row → Option Holding → Type 0
+IsIdHand hand pile None = hand.key ≡ None
+IsIdHand hand pile (Some held) = HoldsTagged held hand pile
+
+-- its tokens, as a reader has them
+abbrev pub reader_of : IdHanded → IdCaller
+reader_of hand = record { caller = hand.hand.reader; ids = hand.ids }
+
+-- what is held stays held
+pub record HoldsSame (old new : IdHanded) : Type 0 where
+  pub key_is : new.hand.key ≡ old.hand.key
+  pub rows : new.hand.rows ≡ old.hand.rows
+  pub id_is : new.id ≡ old.id
+
+-- a hand that holds a set lets it go by one step; one that holds nothing makes none
+pub record LetsGoById (old new : IdHanded) : Type 0 where
+  pub hand : LetsGo old.hand new.hand
+  pub ids : new.ids ≡ old.ids
+  pub id : new.id ≡ None
+
+-- THE SAME SET AGAIN
+-- the way has the id's set still that the hand holds: a find of it in one step, which looks at no name
+pub record FindsIdHeld (id : ℕ) (old new : IdHanded) : Type 0 where
+  pub way : ℕ
+  pub rows : List Row
+  pub held : old.id ≡ Some id
+  pub tagged : old.hand.rows ≡ tag_of id ∷ rows
+  pub finds : FindsHeld 1 way old.hand new.hand
+  pub ids : new.ids ≡ old.ids
+  pub id_is : new.id ≡ old.id
+
+-- the way had another set or none: one step that is no entry
+pub record AsksIdInVain (old new : IdHanded) : Type 0 where
+  pub way : ℕ
+  pub held : old.hand.key ≡ Some way
+  pub asks : AsksInVain way old.hand new.hand
+  pub ids : new.ids ≡ old.ids
+  pub id_is : new.id ≡ old.id
+
+-- or the hand holds no set of the id, and makes no step
+abbrev pub AgainById : ℕ → IdHanded → IdHanded → Bool → Type 0
+AgainById id old new true = FindsIdHeld id old new
+AgainById id old new false = (old.id ≡ Some id → AsksIdInVain old new) × (old.id ≢ Some id → new ≡ old)
+
+-- A FIND THAT HOLDS
+-- the map's hand found the way and holds its set, or a hole, as a find that keeps what it found
+abbrev pub KeepsWay : ℕ → Handed → Handed → Found → Type 0
+KeepsWay way old new told = (before set : List Row) × FindsKept (λ (pile : List Row) (rows : List Row). pile ≡ rows) way old before new set told
+
+-- by the id's name: the set is held that has the id's tag; else nothing is, since the way was a hole or had another's set, or there was a moment at which the id had no way
+abbrev pub HoldsAnew : ℕ → IdHanded → IdHanded → FoundId → Type 0
+HoldsAnew id old new found.Rows = (way : ℕ) × (rows : List Row) × LooksUp id old.ids new.ids (Some way) × KeepsWay way old.hand new.hand answer.Rows × (new.hand.rows ≡ tag_of id ∷ rows) × (new.id ≡ Some id)
+HoldsAnew id old new found.Pending = (way : ℕ) × LooksUp id old.ids new.ids (Some way) × KeepsWay way old.hand new.hand answer.Hole × (new.id ≡ None)
+HoldsAnew id old new found.Moved = (way : ℕ) × (kept : Handed) × LooksUp id old.ids new.ids (Some way) × KeepsWay way old.hand kept answer.Rows × ((rows : List Row) → kept.rows ≢ tag_of id ∷ rows) × LetsGo kept new.hand × (new.id ≡ None)
+HoldsAnew id old new found.Absent = LooksUp id old.ids new.ids None × LetsGo old.hand new.hand × (new.id ≡ None)
+
+-- by the set that is held already, where the way has it still; else by the name
+abbrev pub HoldsById : ℕ → IdHanded → IdHanded → FoundId → Type 0
+HoldsById id old new told = ((told ≡ found.Rows) × FindsIdHeld id old new) ⊎ ((asked : IdHanded) × AgainById id old asked false × HoldsAnew id asked new told)
+
+-- the way whose set is held is marked as found
+pub record MarksHeld (old new : IdHanded) : Type 0 where
+  pub marks : Marks old.ids new.ids
+  pub hand : new.hand ≡ old.hand
+  pub id_is : new.id ≡ old.id
+
+abbrev pub MarksFound : FoundId → IdHanded → IdHanded → Type 0
+MarksFound found.Rows held new = MarksHeld held new
+MarksFound found.Pending held new = new ≡ held
+MarksFound found.Moved held new = new ≡ held
+MarksFound found.Absent held new = new ≡ held
+
+abbrev pub PinsById : ℕ → IdHanded → IdHanded → FoundId → Type 0
+PinsById id old new told = (held : IdHanded) × HoldsById id old held told × MarksFound told held new
+
+-- such a find into a room, which has the id's rows then; else it stays
+abbrev pub FindsIdKept : {Room : Type 0} → (Room → List Row → Type 0) → ℕ → IdHanded → Room → IdHanded → Room → FoundId → Type 0
+FindsIdKept shows id old before new room told = PinsById id old new told × (told ≡ found.Rows → shows room (rows_in_hand new)) × (told ≢ found.Rows → room ≡ before)

@@ -1,0 +1,54 @@
+-- What a find by id answers that comes after a note of the id's fill.
+use Rattle.std.specs.Prelude.{◌≡◌, ◌≢◌, ◌<◌, ◌⊎◌, ℕ, true, List, [], ◌∷◌, ◌++◌}
+use Rattle.nr_model.specs.declared.rows.Row.{Row}
+use Rattle.nr_model.specs.declared.calls.Reply.{Reply}
+use Rattle.nr_model.specs.declared.calls.Reply.TheVariants as reply
+use Rattle.nr_model.specs.Histories.{Entry}
+use Rattle.nr_marks.specs.Puts.{puts_at}
+use Rattle.nr_board.specs.Callers.{map_at_opening}
+use Rattle.nr_map.specs.Written.{FindsPut, HeardBefore}
+use Rattle.nr_ids.specs.Events.{Event, name_of, unnamed}
+use Rattle.nr_ids.specs.Laws.{Has}
+use Rattle.nr_ids.specs.Rule.{BeginsWith}
+use Rattle.nr_idmap.specs.declared.finds.FoundId.{FoundId}
+use Rattle.nr_idmap.specs.declared.finds.FoundId.TheVariants as found
+use Rattle.nr_idmap.specs.IdFinds.{FindsById}
+use Rattle.nr_idmap.specs.IdNotes.{IdKnown}
+use Rattle.nr_idmap.specs.Keepers.{IdCaller}
+use Rattle.nr_idmap.specs.Tags.{tag_of}
+
+-- the reader heard the note, and made whatever calls then
+pub record HeardIdBefore (old : IdCaller) (note : IdKnown) (asking : IdCaller) : Type 0 where
+  pub map : HeardBefore old.caller note.map asking.caller
+  pub ids : BeginsWith asking.ids.seen note.ids.seen
+
+-- the way's name was taken since the note
+abbrev pub IsUnnamedSince : List Event → ℕ → List Event → Type 0
+IsUnnamedSince told way seen = (rest : List Event) × (seen ≡ rest ++ told) × Has (unnamed way) rest
+
+-- what a find by id that looked in the way was answered there
+abbrev pub TellsOfWay : {Room : Type 0} → (Room → List Row → Type 0) → ℕ → Room → FoundId → Reply → Type 0
+TellsOfWay shows id room found.Rows told = (rows : List Row) × (told ≡ reply.Rows (tag_of id ∷ rows)) × shows room rows
+TellsOfWay shows id room found.Pending told = told ≡ reply.Hole
+TellsOfWay shows id room found.Moved told = (set : List Row) × (told ≡ reply.Rows set) × ((rows : List Row) → set ≢ tag_of id ∷ rows)
+TellsOfWay shows id room found.Absent told = ⊥
+
+-- that is the put of which the note told, or what came after it
+pub record FindsIdPut {Room : Type 0} (shows : Room → List Row → Type 0) (id way : ℕ) (old : IdCaller) (written since : List Entry) (room : Room) (answer : FoundId) : Type 0 where
+  pub told : Reply
+  pub tells : TellsOfWay shows id room answer told
+  pub more : List Entry
+  pub finds : FindsPut (map_at_opening old.caller.table) way written (since ++ more) told
+
+-- the note's maker had seen the way's name, and a put of its rows; who heard the note finds that put or what came after it, unless the name was taken since
+abbrev pub FindsIdHeard : {Room : Type 0} → (Room → List Row → Type 0) → Type 0
+FindsIdHeard {Room = Room} shows =
+    (old asking new : IdCaller) (note : IdKnown) (id way : ℕ) (before since : List Entry) (put : Entry) (room after : Room) (answer : FoundId) →
+    way < old.caller.table.shape.keys →
+    0 < id →
+    name_of note.ids.seen way ≡ id →
+    note.map.seen ≡ (before ++ put ∷ []) ++ since →
+    puts_at way put ≡ true →
+    HeardIdBefore old note asking →
+    FindsById shows id asking room new after answer →
+    IsUnnamedSince note.ids.seen way new.ids.seen ⊎ FindsIdPut shows id way old (before ++ put ∷ []) since after answer

@@ -1,0 +1,164 @@
+//! Finds of many ids by one call.
+ghost use Rattle.std.specs.Prelude.{◌≡◌, ◌<◌, ◌≤◌, ◌*◌, ℕ, All, IfSome, length, take};
+ghost use Rattle.nr_board.specs.Callers.{Caller};
+ghost use Rattle.nr_ids.specs.Events.{looks};
+ghost use Rattle.nr_ids.specs.Tokens.{Grows};
+ghost use Rattle.nr_map.specs.FindsEach.{loads_of_key, with_loads};
+ghost use Rattle.nr_idmap.specs.declared.finds.FoundId.TheVariants.{Absent};
+ghost use Rattle.nr_idmap.specs.IdFindsEach.{FindsEachId, FindsWantedId, IsInside, LooksUpWanted};
+ghost use Rattle.nr_idmap.specs.InTurn.{InTurn};
+ghost use Rattle.nr_idmap.specs.Keepers.{id_table_of};
+
+use crate::finds::FoundId;
+use crate::id_map::IdMap;
+use crate::tokens::IdReader;
+use nr_map::Reader;
+use nr_model::RowRoom;
+
+// How many ids are found by one call at most.
+const GROUP: usize = 16;
+
+/// An id to be found, the room for its rows, and what its last find was answered.
+#[derive(Drop)]
+pub struct WantedId<R> {
+    pub id: u64,
+    pub rows: R,
+    pub found: FoundId,
+    // Where the call's look-up found its name.
+    way: Option<u32>,
+}
+
+impl<R> WantedId<R> {
+    /// An id that is yet to be found, `Absent` until then.
+    pub fn of(id: u64, rows: R) -> WantedId<R>
+        ensures id { result.id ≡ id }
+        ensures rows { result.rows ≡ rows }
+        ensures found { result.found ≡ Absent }
+    {
+        WantedId {
+            id,
+            rows,
+            found: FoundId::Absent,
+            way: None,
+        }
+    }
+}
+
+impl IdMap {
+    /// Finds each of at most sixteen ids, in their order, as `find` does one: a find of each is an entry
+    /// of its own, also of an id that is wanted twice. Takes the steps of all the finds, and before them
+    /// for each id 1 load of a name, and the map's `load_ahead` for a key. So the caches fetch at once
+    /// what all need.
+    pub fn find_each<R: RowRoom>(&self, reader: &mut IdReader, wanted: &mut [WantedId<R>])
+        requires own { id_table_of reader.old ≡ self.now }
+        requires ids { All (λ one. 0 < one.id) wanted.old }
+        requires few { length wanted.old ≤ 16 }
+        ensures own { id_table_of reader.new ≡ self.now }
+        ensures finds { FindsEachId R.shows reader.old wanted.old reader.new wanted.new }
+    {
+        self.load_names(&mut reader.ids, wanted);
+        self.look_up_each(&mut reader.ids, wanted);
+        self.load_ways(&mut reader.reader, wanted);
+        self.find_each_way(reader, wanted);
+    }
+
+    fn load_names<R>(&self, ids: &mut nr_ids::Reader, wanted: &[WantedId<R>])
+        requires own { ids.old.directory ≡ self.now.directory }
+        requires few { length wanted.now ≤ 16 }
+        ensures own { ids.new.directory ≡ self.now.directory }
+        ensures loads { Grows ids.old (looks (length wanted.now) ids.old.number) ids.new }
+    {
+        let all = ids_of(wanted);
+        self.directory.load_ahead(ids, &all[..wanted.len()]);
+    }
+
+    fn look_up_each<R>(&self, ids: &mut nr_ids::Reader, wanted: &mut [WantedId<R>])
+        requires own { ids.old.directory ≡ self.now.directory }
+        requires ids { All (λ one. 0 < one.id) wanted.old }
+        ensures own { ids.new.directory ≡ self.now.directory }
+        ensures looks { InTurn LooksUpWanted ids.old wanted.old ids.new wanted.new }
+        ensures inside { All (IsInside self.now.map.shape.keys) wanted.new }
+        ensures long { length wanted.new ≡ length wanted.old }
+    {
+        for one in wanted.iter_mut() {
+            self.look_up_wanted(ids, one);
+        }
+    }
+
+    fn look_up_wanted<R>(&self, ids: &mut nr_ids::Reader, one: &mut WantedId<R>)
+        requires own { ids.old.directory ≡ self.now.directory }
+        requires id { 0 < one.old.id }
+        ensures own { ids.new.directory ≡ self.now.directory }
+        ensures looks { LooksUpWanted ids.old one.old ids.new one.new }
+        ensures inside { IsInside self.now.map.shape.keys one.new }
+    {
+        one.way = self.directory.look_up(ids, one.id);
+    }
+
+    fn load_ways<R>(&self, reader: &mut Reader, wanted: &[WantedId<R>])
+        requires own { reader.old.table ≡ self.now.map }
+        requires inside { All (IsInside self.now.map.shape.keys) wanted.now }
+        requires few { length wanted.now ≤ 16 }
+        ensures { reader.new ≡ with_loads (loads_of_key self.now.map.shape.rows * length wanted.now) reader.old }
+    {
+        // A directory has ways, so the map has keys.
+        self.directory.plan();
+        let keys = keys_of(wanted);
+        self.map.load_ahead(reader, &keys[..wanted.len()]);
+    }
+
+    fn find_each_way<R: RowRoom>(&self, reader: &mut IdReader, wanted: &mut [WantedId<R>])
+        requires own { id_table_of reader.old ≡ self.now }
+        requires inside { All (IsInside self.now.map.shape.keys) wanted.old }
+        ensures own { id_table_of reader.new ≡ self.now }
+        ensures finds { InTurn (FindsWantedId R.shows) reader.old wanted.old reader.new wanted.new }
+    {
+        for one in wanted.iter_mut() {
+            self.find_wanted(reader, one);
+        }
+    }
+
+    fn find_wanted<R: RowRoom>(&self, reader: &mut IdReader, one: &mut WantedId<R>)
+        requires own { id_table_of reader.old ≡ self.now }
+        requires inside { IsInside self.now.map.shape.keys one.old }
+        ensures own { id_table_of reader.new ≡ self.now }
+        ensures finds { FindsWantedId R.shows reader.old one.old reader.new one.new }
+    {
+        one.found = match one.way {
+            Some(way) => self.find_in(reader, way, one.id, &mut one.rows),
+            None => FoundId::Absent,
+        };
+    }
+}
+
+// The ids, and zeros after them.
+fn ids_of<R>(wanted: &[WantedId<R>]) -> [u64; GROUP]
+    requires few { length wanted.now ≤ 16 }
+{
+    let mut ids = [0; GROUP];
+    for place in 0..wanted.len() {
+        ids[place] = wanted[place].id;
+    }
+    ids
+}
+
+// The ids' ways, a key in place of none, and zeros after them.
+fn keys_of<R>(wanted: &[WantedId<R>]) -> [u32; GROUP]
+    requires few { length wanted.now ≤ 16 }
+    ensures { (bound : ℕ) → 0 < bound → All (IsInside bound) wanted.now → All (λ key. key < bound) (take (length wanted.now) result) }
+{
+    let mut keys = [0; GROUP];
+    for place in 0..wanted.len() {
+        keys[place] = key_of(wanted[place].way);
+    }
+    keys
+}
+
+fn key_of(way: Option<u32>) -> u32
+    ensures { (bound : ℕ) → 0 < bound → IfSome way (λ key. key < bound) → result < bound }
+{
+    match way {
+        Some(key) => key,
+        None => 0,
+    }
+}

@@ -1,0 +1,28 @@
+//! Which ids were found, and whose way another may have.
+ghost use Rattle.std.specs.Prelude.{◌≡◌};
+
+use nr_ids::{Clerk, Directory, Reader};
+use std::io::Print;
+
+/// A reader marks the way of an id that it found, the clerk takes the mark, and chooses a way.
+pub fn show_marks<R: AllocGlobal + Print>(
+    rt: &R,
+    directory: &Directory,
+    clerk: &mut Clerk,
+    reader: &mut Reader,
+) -> anyhow::Result<()>
+    requires own { (clerk.old.directory ≡ directory.now) × (reader.old.directory ≡ directory.now) }
+{
+    directory.load_ahead(reader, &[7]);
+    if let Some(way) = directory.look_up(reader, 7) {
+        directory.mark(reader, way);
+    }
+    let marked = match directory.way_of(clerk, 7) {
+        Some(way) => directory.take_mark(clerk, way),
+        None => false,
+    };
+    let way = directory.choose(clerk, 7);
+    let id = directory.id_of(clerk, way);
+    println!(rt; "marked: {marked}; chosen is way {way}, which has {id:?}")?;
+    Ok(())
+}
