@@ -100,7 +100,7 @@ fn loaded_ahead(hand: Hand, near: (&ReaderMap, &[u32])) -> (Hand, ())
     requires idle { HoldsNone hand }
     requires keys { All (λ key. key < near.0.now.shape.keys) near.1.now }
     requires few { length near.1.now ≤ 16 }
-    ensures reader { result.0.reader ≡ with_loads (loads_of_key near.0.now.shape.rows * length near.1.now) hand.reader }
+    ensures reader { result.0.reader ≡ with_loads (loads_of_key near.entry.0.now.shape.rows * length near.entry.1.now) hand.reader }
     ensures idle { HoldsNone result.0 }
 {
     let (map, keys) = near;

@@ -17,11 +17,13 @@ returns c =
       record { held = c.side-side.result.now; was = was; has = c.if-not-has_keys.ensures.all },
       inr (
         refl,
-        c.side-side.result.now.hand,
-        c.find_all.new.hand,
-        record { old = c.side-side.result.now; new = _; led = was; leads = refl; map = refl; old_hand = refl; new_hand = refl },
-        none,
-        c.find_all.ensures.idle,
-        c.find_all.ensures.finds,
+        (
+          c.side-side.result.now.hand,
+          c.find_all.new.hand,
+          record { old = c.side-side.result.now; new = _; led = was; leads = refl; map = refl; old_hand = refl; new_hand = refl },
+          none,
+          c.find_all.ensures.idle,
+          c.find_all.ensures.finds,
+        ),
       ),
     ))
