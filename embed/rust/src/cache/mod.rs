@@ -41,11 +41,11 @@ use std::sync::{Arc, PoisonError};
 /// let cache: Cache<String, String> =
 ///     Cache::builder().capacity(10_000).threads(8).time_to_live(Duration::from_secs(60)).open()?;
 /// let mut reader = cache.reader().expect("there is one for each of the threads");
-/// // Who misses a user while another queries it waits for that.
+/// // Another thread that misses her meanwhile waits for this query.
 /// let found = reader.try_get_with("alice", || query("alice"))?;
 /// assert_eq!(*found, "what the base has of alice");
 /// drop(found);
-/// // After a write to the base: what was queried before is not held.
+/// // After a write to the database: what was queried before is not kept.
 /// cache.invalidate("alice");
 /// assert!(reader.get("alice").is_none());
 /// assert_eq!(cache.stats().loads, 1);
