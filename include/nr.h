@@ -208,7 +208,7 @@ typedef struct nr_poster {
 /* What a map over ids is opened with: 1 to 536,870,911 groups of eight ways, 1 to 4,194,303 slots and 1 to 65,534
    readers. An id may have `rows` rows, 1 to 254. `key` decides which group an id has: draw it at random where strangers
    choose ids. Ticket numbers begin at `first_number`: set it to 0. With 8 * groups + readers + 2 slots no fill or
-   replacement answers NR_NO_SLOT or NR_ALL_FILLED. A group takes 456 bytes, a slot 16 * rows + 50, and a
+   replacement answers NR_NO_SLOT or NR_ALL_FILLED. A group takes 464 bytes, a slot 16 * rows + 50, and a
    reader 5,184. */
 typedef struct nr_id_shape {
   uint32_t groups;
