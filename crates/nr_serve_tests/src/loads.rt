@@ -165,7 +165,9 @@ fn of_three_keys(seed: u64) -> LoadReport {
     let mut draws = Draws::open(seed, 1, 3);
     let mut drawn = [false; 3];
     for _ in 0..4 {
-        drawn[draws.next() as usize] = true;
+        if let Some(is_drawn) = drawn.get_mut(draws.next() as usize) {
+            *is_drawn = true;
+        }
     }
     let keys = drawn.iter().filter(|drawn| **drawn).count() as u64;
     LoadReport {
