@@ -159,7 +159,7 @@ typedef struct nr_delta {
    keys' ticket numbers at `first_number`, at most 4,194,303: set both to 0, except in tests of the end of a count.
    With keys + readers + 1 slots no fill, update or replacement answers NR_NO_SLOT or NR_ALL_FILLED. The map's words
    take 8 bytes a key, 16 * rows + 16 a slot and 64 a reader, and as much again during the opening. The writer's lists
-   take another 8 bytes a key and 18 a slot. */
+   take another 8 bytes a key, 18 a slot and 16 a reader. */
 typedef struct nr_shape {
   uint32_t keys;
   uint32_t slots;
@@ -209,7 +209,7 @@ typedef struct nr_poster {
    readers. An id may have `rows` rows, 1 to 254. `key` decides which group an id has: draw it at random where strangers
    choose ids. Ticket numbers begin at `first_number`: set it to 0. With 8 * groups + readers + 2 slots no fill or
    replacement answers NR_NO_SLOT or NR_ALL_FILLED. A group takes 464 bytes, a slot 16 * rows + 50, and a
-   reader 5,184. */
+   reader 5,192. */
 typedef struct nr_id_shape {
   uint32_t groups;
   uint32_t slots;
@@ -472,7 +472,8 @@ uint32_t nr_take(nr_taker *taker, uint32_t *key, uint64_t *number);
 /* A MAP OVER IDS, numbers from 1 on, of which as many have rows as there are slots. A group of ids has eight ways; an id
    has one of them as long as it has rows or an upquery is open for it. Each call with an id answers NR_NO_KEY for 0.
    A get. Find the id. At NR_HOLE or NR_OTHER request it; who is answered NR_SEND passes the id to the thread that
-   writes, which admits it, gets the rows, and fills. At NR_ASKED, NR_WAITING or NR_NAMED wait and find again.
+   writes, which admits it, gets the rows, and fills. At NR_ASKED, NR_WAITING or NR_NAMED wait and find again. Wake
+   those who wait after a fill, a withdrawal and an eviction.
    A full group. At NR_FULL evict an id whose nr_id_group is the same, and admit again: the claim stays open.
    Dropping an id's rows, because the base changed. Withdraw its upquery, if one is open, and evict it: a late fill is
    NR_STALE. embed/c/ids.c is a whole program. */
@@ -496,9 +497,9 @@ void nr_close_id_writer(nr_id_writer *writer);
 
 /* Looks an id up. It takes W steps, one for each way's name that it looks at, up to the id's own; W is 8 if no way has
    it. NR_ROWS after 2n + 7 more for n rows, and 1 for the mark of a found way, or 2 if that isn't set yet, and `rows`
-   has them; NR_ASKED after 1 more, if its upquery is open; NR_OTHER if its way became another id's within the call;
-   NR_HOLE, if it had no way at a moment within the call. If the way was written meanwhile, NR_ROWS and NR_ASKED take
-   more steps as nr_find does. Any answer but NR_ROWS leaves `rows` as it was. */
+   has them; NR_ASKED after 1 more, if its upquery is open or it was evicted within the call; NR_OTHER if its way became
+   another id's within the call; NR_HOLE, if it had no way at a moment within the call. If the way was written
+   meanwhile, NR_ROWS and NR_ASKED take more steps as nr_find does. Any answer but NR_ROWS leaves `rows` as it was. */
 uint32_t nr_find_id(nr_id_reader *reader, uint64_t id, nr_rows *rows);
 
 /* Requests an id. NR_SEND after 10 steps: the claim of its group is the caller's, who passes the id to the thread that

@@ -10,8 +10,8 @@ use crate::id_reader_handle::NrIdReader;
 use crate::rows::NrRows;
 
 /// Looks an id up, and puts its rows into the caller's cells, which stay as they are with each other
-/// answer: `NR_ROWS`; `NR_ASKED` where its upquery is under way; `NR_HOLE` where within the call it had
-/// no way; `NR_OTHER` where its way became another id's; or `NR_NO_KEY` for the id 0, with no step. Takes
+/// answer: `NR_ROWS`; `NR_ASKED` where its way was a hole, since its upquery is under way or it was
+/// evicted within the call; `NR_HOLE` where within the call it had no way; `NR_OTHER` where its way became another id's; or `NR_NO_KEY` for the id 0, with no step. Takes
 /// a step for each look at a way's name, up to the one that has the id's, of eight ways in all; then 1
 /// where that is a hole, and else 2n + 7 for n rows, more where the way is written meanwhile, and 1 or
 /// 2 at the mark of a found way.

@@ -8,8 +8,8 @@ use crate::rows::NrRows;
 use nr_map::Asked;
 
 /// Looks a key up, and puts its rows into the caller's cells, which stay as they are where the key
-/// is a hole. 1 step for a hole, and 2n + 3 for n rows. Answers `NR_ROWS` or
-/// `NR_HOLE`; or `NR_NO_KEY`, or `NR_HOLDING` where the reader holds a set, with no step.
+/// is a hole. Takes the steps of the map's `find`. Answers `NR_ROWS` or `NR_HOLE`; or `NR_NO_KEY`, or
+/// `NR_HOLDING` where the reader holds a set, with no step.
 #[unsafe(no_mangle)]
 pub extern "C" fn nr_find(reader: &mut NrReader, key: u32, rows: &mut NrRows) -> u32
     ensures { ByIdleReader key result (rows.new ≡ rows.old) (ReaderCalls (FindsByCode key rows.old rows.new result)) reader.old.live reader.new.live }

@@ -15,7 +15,7 @@ use nr_model::RowRoom;
 pub enum FoundId {
     /// The caller's room has the id's rows.
     Rows,
-    /// The id has a way, whose upquery is under way.
+    /// The id's way was a hole: its upquery is under way, or it was evicted within the call.
     Pending,
     /// The id's way became another id's within the call.
     Moved,
