@@ -1,5 +1,5 @@
 -- The writer's flags go along with what it hears: with a scan, with a set that it puts, and with a slot that it retires.
-use Rattle.std.proofs.Common.{◌≡◌, ◌≢◌, ℕ, suc, zero, ◌<◌, ⊎_elim, List, [], ◌∷◌, ◌++◌, Bool, true, false, cond, set, get_or, take, get_or-set_other, length-set, refl, sym, ap, ◌∙◌, subst, arith}
+use Rattle.std.proofs.Common.{◌≡◌, ◌≢◌, ℕ, suc, zero, ◌<◌, ⊎_elim, List, [], ◌∷◌, ◌++◌, Bool, true, false, set, get_or, take, get_or-set_other, length-set, refl, sym, ap, ◌∙◌, subst, arith}
 use Rattle.std.proofs.lemmas.Bool.{le-ltb, lt-ltb}
 use Rattle.std.specs.Prelude.{nat_lt}
 use mathlib.Core.Logic.{dite}
@@ -8,27 +8,26 @@ use Rattle.nr_core.proofs.Choices.{by_cases}
 use Rattle.nr_core.proofs.Sums.{only-other, total-append, total-remove}
 use Rattle.nr_core.specs.Roles.{retirements}
 use Rattle.nr_machine.specs.Spares.{Spare}
-use Rattle.nr_machine.specs.Sums.{only, total}
+use Rattle.nr_machine.specs.Sums.{only}
 use Rattle.nr_machine.specs.declared.places.Retired.{Retired}
 use Rattle.nr_board.proofs.Heard.{zero_at}
 use Rattle.nr_board.proofs.WholeScans.{flag_elsewhere}
-use Rattle.nr_marks.specs.Marks.{WordLoad}
+use Rattle.nr_marks.specs.Marks.{LoggedLoad}
 use Rattle.nr_board.specs.Callers.{Table}
 use Rattle.nr_board.specs.Flags.{Flagged, IsFlagged}
-use Rattle.nr_board.specs.Passes.{AreHeard, hits, polls_before}
-use Rattle.nr_board.specs.Spares.{TookBySearch, heard_hits, polls_heard}
+use Rattle.nr_board.specs.Passes.{AreHeard, unflagged}
+use Rattle.nr_board.specs.Spares.{TookBySearch, heard_all, not_passed}
 use Rattle.nr_board.specs.WholeScans.{is_unheard}
 
 module _ (table : Table) (retired : List Retired) (heard : List ℕ) (flags : List Bool) (flagged : Flagged table retired heard flags) where
-  hits_are : (entry : Retired) → hits flags entry ≡ heard_hits table.announcers heard entry
-  hits_are entry = let count : ℕ = get_or heard entry.slot 0 in
-      by_cases (λ (b : Bool). is_unheard flags entry.slot ≡ b → cond {A = ℕ} b 0 1 ≡ heard_hits table.announcers heard entry) (is_unheard flags entry.slot)
-      (λ _ set_there. sym (ap (λ (b : Bool). cond {A = ℕ} b 0 1) (lt-ltb count table.announcers (flagged.stuck entry.slot set_there))))
-      (λ _ unset. sym (ap (λ (b : Bool). cond {A = ℕ} b 0 1) (le-ltb count table.announcers (flagged.whole entry.slot unset)))) refl
+  flag_is : (slot : ℕ) → is_unheard flags slot ≡ nat_lt (get_or heard slot 0) table.announcers
+  flag_is slot = by_cases (λ (b : Bool). is_unheard flags slot ≡ b → is_unheard flags slot ≡ nat_lt (get_or heard slot 0) table.announcers) (is_unheard flags slot)
+      (λ _ is. is ∙ sym (lt-ltb (get_or heard slot 0) table.announcers (flagged.stuck slot is)))
+      (λ _ is. is ∙ sym (le-ltb (get_or heard slot 0) table.announcers (flagged.whole slot is))) refl
 
   -- a pass polls just the slots that all readers were heard of
-  pub polls_are : (place : ℕ) → polls_before retired flags place ≡ polls_heard table.announcers heard retired place
-  polls_are place = λ j. total (λ (entry : Retired). hits_are entry j) (take place retired)
+  pub polls_are : (place : ℕ) → unflagged retired flags place ≡ heard_all table.announcers heard (take place retired)
+  polls_are place = λ j. not_passed (λ slot. flag_is slot j) (take place retired)
 
   pub all_heard : AreHeard retired flags table.announcers heard
   all_heard slot waits unset = flagged.whole slot unset
@@ -64,7 +63,7 @@ flags_put table retired last scanned heard flags mine flagged is fewer some_word
     get_or_at l slot = get_or l slot 0
 
 -- what was retired when a slot was taken is retired still, but for that slot
-pub fewer_retired : (table : Table) (heard scanned : List ℕ) (loads : List WordLoad) (mine steps : ℕ) (spare mid : Spare) (more : List Retired) → TookBySearch table heard scanned loads mine steps spare mid
+pub fewer_retired : (table : Table) (heard scanned : List ℕ) (loads : List LoggedLoad) (mine steps : ℕ) (spare mid : Spare) (more : List Retired) → TookBySearch table heard scanned loads mine steps spare mid
     → (slot : ℕ) → slot ≢ mine → retirements slot (mid.retired ++ more) ≡ 0 → retirements slot spare.retired ≡ 0
 fewer_retired table heard scanned loads mine steps spare mid more took slot ne none = let both = total-append (λ (entry : Retired). only slot entry.slot) mid.retired more in ⊎_elim
     (λ (fresh : _). let same = ap (retirements slot) fresh.4 in omega arith)
@@ -82,7 +81,4 @@ pub unheard_is : (table : Table) (retired : List Retired) (heard : List ℕ) (fl
     → (0 < table.announcers → told ≡ is_unheard flags slot) → told ≡ nat_lt (get_or heard slot 0) table.announcers
 unheard_is table retired heard flags flagged slot told none some_words = dite (ℕ_discrete table.announcers 0)
     (λ e. none e ∙ sym (le-ltb (get_or heard slot 0) table.announcers (omega arith)))
-    (λ ne. let before = flagged (omega arith) in some_words (omega arith)
-    ∙ by_cases (λ (b : Bool). is_unheard flags slot ≡ b → is_unheard flags slot ≡ nat_lt (get_or heard slot 0) table.announcers) (is_unheard flags slot)
-    (λ _ is. is ∙ sym (lt-ltb (get_or heard slot 0) table.announcers (before.stuck slot is)))
-    (λ _ is. is ∙ sym (le-ltb (get_or heard slot 0) table.announcers (before.whole slot is))) refl)
+    (λ ne. some_words (omega arith) ∙ flag_is table retired heard flags (flagged (omega arith)) slot)

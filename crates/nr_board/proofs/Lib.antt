@@ -1,6 +1,7 @@
 pub mod Counting
 pub mod Saying
 pub mod Heard
+pub mod HeldPolls
 pub mod Lift
 pub mod Entries
 pub mod Moves

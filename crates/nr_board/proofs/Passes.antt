@@ -1,5 +1,5 @@
 -- A pass of a search, slot by slot.
-use Rattle.std.proofs.Common.{◌≡◌, ◌≢◌, ℕ, suc, zero, ◌+◌, ◌<◌, ◌≤◌, ◌⊎◌, ⊎_elim, inl, inr, List, [], ◌∷◌, ◌++◌, Bool, true, false, cond, length, take, get_or, refl, sym, ap, ◌∙◌, subst, arith, append-nil, length-append}
+use Rattle.std.proofs.Common.{◌≡◌, ◌≢◌, ℕ, suc, ◌+◌, ◌<◌, ◌≤◌, ◌⊎◌, ⊎_elim, inl, inr, List, [], ◌∷◌, ◌++◌, Bool, true, false, cond, length, take, get_or, refl, sym, ap, ◌∙◌, subst, arith, append-nil, append_assoc, length-append, take-suc}
 use Rattle.std.specs.Prelude.{Some, None, Option, remove}
 use mathlib.Core.Logic.{dite}
 use mathlib.Core.Option.{some, some-injective, some-ne-none}
@@ -13,7 +13,7 @@ use Rattle.nr_machine.specs.declared.places.Retired.{Retired}
 use Rattle.nr_machine.specs.declared.shape.Shape.{Shape}
 use Rattle.nr_marks.proofs.Different.{few_of}
 use Rattle.nr_marks.specs.MarkSteps.{NotedNowhereElse, TryTells}
-use Rattle.nr_marks.specs.Marks.{Marks, Past, with_polls}
+use Rattle.nr_marks.specs.Marks.{Marks, OfSlot, Past, LoggedLoad, with_poll, with_polls, with_scan}
 use Rattle.nr_board.proofs.PollNotes.{at_get}
 use Rattle.nr_board.proofs.SearchSeats.{there_is}
 use Rattle.nr_board.proofs.Searching.{grows_none}
@@ -22,7 +22,7 @@ use Rattle.nr_board.proofs.WholeScans.{is_retired}
 use Rattle.nr_board.proofs.WriterSteps.{same_desk}
 use Rattle.nr_board.specs.declared.publish.Taken.{Taken}
 use Rattle.nr_board.specs.Callers.{Grows, IsSound, Table, map_seen, token}
-use Rattle.nr_board.specs.Passes.{AreHeard, NotesOne, NotesTo, PassTakes, PassedTo, hits, polls_before}
+use Rattle.nr_board.specs.Passes.{AreHeard, NotesOne, NotesTo, PassTakes, PassedTo, polls_before, unflagged}
 use Rattle.nr_board.specs.Plays.{Room}
 use Rattle.nr_board.specs.SearchPlays.{Tried, tried}
 use Rattle.nr_board.specs.SearchSeats.{IsSearching, SearchesIn, TriesAt, TriesTo}
@@ -38,16 +38,30 @@ use Rattle.nr_machine.specs.declared.roles.Role.TheVariants.{Writer}
 use Rattle.nr_model.specs.declared.rows.Row.{Row}
 use Rattle.nr_words.specs.KeyWords.{same_count}
 use Rattle.nr_board.specs.WholeScans.{is_unheard}
+use Rattle.nr_board.proofs.HeldPolls.{held_next, passed_both}
+use Rattle.nr_board.proofs.WordLoads.{no_loads}
+use Rattle.nr_board.specs.Spares.{held_polls, not_passed}
 
--- one place more of a sum
-total_take : {A : Type 0} (f : A → ℕ) (l : List A) (place : ℕ) (none : A) → place < length l → total f (take (suc place) l) ≡ total f (take place l) + f (get_or l place none)
-total_take f [] place none low = absurd (omega arith)
-total_take f (x ∷ l) zero none low = omega arith
-total_take f (x ∷ l) (suc place) none low = let rest = total_take f l place none (omega arith) in omega arith
+-- one place more of the list
+module _ (retired : List Retired) (flags : List Bool) (place : ℕ) (low : place < length retired) where
+  abbrev next_one : Retired
+  next_one = get_or retired place no_retired
 
-pub polls_next : (retired : List Retired) (flags : List Bool) (place : ℕ) → place < length retired → polls_before retired flags (place + 1) ≡ polls_before retired flags place + hits flags (get_or retired place no_retired)
-polls_next retired flags place low = let more : suc place ≡ place + 1 = omega arith in
-    subst (λ (n : ℕ). polls_before retired flags n ≡ polls_before retired flags place + hits flags (get_or retired place no_retired)) more (total_take (hits flags) retired place no_retired low)
+  unflagged_next : unflagged retired flags (place + 1) ≡ unflagged retired flags place ++ not_passed (is_unheard flags) (next_one ∷ [])
+  unflagged_next = let more : place + 1 ≡ suc place = omega arith in ap (unflagged retired flags) more ∙ ap (not_passed (is_unheard flags)) (take-suc retired place no_retired low)
+      ∙ passed_both (is_unheard flags) (take place retired) (next_one ∷ [])
+
+  unflagged_past : is_unheard flags next_one.slot ≡ true → unflagged retired flags (place + 1) ≡ unflagged retired flags place
+  unflagged_past flagged = unflagged_next ∙ ap (λ (b : Bool). unflagged retired flags place ++ cond {A = List Retired} b [] (next_one ∷ [])) flagged ∙ append-nil (unflagged retired flags place)
+
+  unflagged_more : is_unheard flags next_one.slot ≡ false → unflagged retired flags (place + 1) ≡ unflagged retired flags place ++ next_one ∷ []
+  unflagged_more free = unflagged_next ∙ ap (λ (b : Bool). unflagged retired flags place ++ cond {A = List Retired} b [] (next_one ∷ [])) free
+
+  polls_past : is_unheard flags next_one.slot ≡ true → polls_before retired flags (place + 1) ≡ polls_before retired flags place
+  polls_past flagged = ap length (unflagged_past flagged)
+
+  polls_more : is_unheard flags next_one.slot ≡ false → polls_before retired flags (place + 1) ≡ polls_before retired flags place + 1
+  polls_more free = ap length (unflagged_more free) ∙ length-append (unflagged retired flags place) (next_one ∷ [])
 
 -- the notes as the pass goes on
 notes_on : (retired : List Retired) (flags : List Bool) (readers place : ℕ) (note : Past) → NotesOne retired flags readers place note → NotesOne retired flags readers (place + 1) note
@@ -62,12 +76,12 @@ notes_on retired flags readers place note one = record {
 pub notes_past : (retired : List Retired) (flags : List Bool) (readers place first : ℕ) (notes : List Past) → place < length retired → is_unheard flags (get_or retired place no_retired).slot ≡ true → NotesTo retired flags readers place first notes
     → NotesTo retired flags readers (place + 1) first notes
 notes_past retired flags readers place first notes low flagged so_far = record {
-  many = let more = polls_next retired flags place low in let none : hits flags (get_or retired place no_retired) ≡ 0 = ap (λ (b : Bool). cond {A = ℕ} b 0 1) flagged in let many = so_far.many in omega arith;
+  many = let same = polls_past retired flags place low flagged in let many = so_far.many in omega arith;
   each = λ at note there. notes_on retired flags readers place note (so_far.each at note there);
   apart = so_far.apart;
 }
 
-module _ (retired : List Retired) (flags : List Bool) (readers place first : ℕ) (notes : List Past) (low : place < length retired) (unflagged : is_unheard flags (get_or retired place no_retired).slot ≡ false)
+module _ (retired : List Retired) (flags : List Bool) (readers place first : ℕ) (notes : List Past) (low : place < length retired) (free : is_unheard flags (get_or retired place no_retired).slot ≡ false)
     (differ : (one other : ℕ) (a b : Retired) → get_elem? retired one ≡ some a → get_elem? retired other ≡ some b → a.slot ≡ b.slot → one ≡ other) (here : get_elem? retired place ≡ some (get_or retired place no_retired))
     (so_far : NotesTo retired flags readers place first notes) (note : Past) (holds : note.slot ≡ Some (get_or retired place no_retired).slot) (made : 0 < note.reader) (few : note.reader ≤ readers) (nowhere_else : NotedNowhereElse notes note) where
   clash : true ≡ false → ⊥
@@ -86,7 +100,7 @@ module _ (retired : List Retired) (flags : List Bool) (readers place first : ℕ
       ⊎_elim (λ (none : old.slot ≡ None). not_none (get_or retired place no_retired).slot old.slot slot_is none)
       (λ (h : (slot : ℕ) × (old.slot ≡ Some slot) × ((is_unheard flags slot ≡ true) ⊎ ((at : ℕ) × (entry : Retired) × (at < place) × (get_elem? retired at ≡ some entry) × (slot ≡ entry.slot)))).
       let is : h.0 ≡ (get_or retired place no_retired).slot = ap value (sym h.1 ∙ slot_is) in
-      ⊎_elim (λ (flagged : is_unheard flags h.0 ≡ true). clash (sym flagged ∙ ap (is_unheard flags) is ∙ unflagged))
+      ⊎_elim (λ (flagged : is_unheard flags h.0 ≡ true). clash (sym flagged ∙ ap (is_unheard flags) is ∙ free))
       (λ (p : (at : ℕ) × (entry : Retired) × (at < place) × (get_elem? retired at ≡ some entry) × (h.0 ≡ entry.slot)).
       absurd (let one = differ p.0 place p.1 (get_or retired place no_retired) p.3 here (sym p.4 ∙ is) in omega (arith, p.2))) h.2)
       (so_far.each at old there).holds
@@ -94,7 +108,7 @@ module _ (retired : List Retired) (flags : List Bool) (readers place first : ℕ
   -- a slot that was held is noted
   pub notes_more : NotesTo retired flags readers (place + 1) first (notes ++ note ∷ [])
   notes_more = record {
-    many = let more = polls_next retired flags place low in let one : hits flags (get_or retired place no_retired) ≡ 1 = ap (λ (b : Bool). cond {A = ℕ} b 0 1) unflagged in
+    many = let more = polls_more retired flags place low free in
         let long = length-append notes (note ∷ []) in let many = so_far.many in omega arith;
     each = λ at other there. ⊎_elim (λ (old : get_elem? notes at ≡ some other). notes_on retired flags readers place other (so_far.each at other old))
         (λ (new : note ≡ other). subst (NotesOne retired flags readers (place + 1)) new (record {
@@ -121,7 +135,7 @@ there_too desk spare place entry listed here = ap (λ (l : List Retired). get_el
 
 pub passed_none : (table : Table) (spare : Spare) (flags : List Bool) (seat : MapSeat) → SearchesIn table spare seat → IsSound (token seat) → NotesTo spare.retired flags table.shape.readers 0 (length seat.me.0.marks.polls) seat.me.0.marks.polls
     → PassedTo table spare flags seat seat 0
-passed_none table spare flags seat search knows notes = record { own = refl; role = refl; search = search; grows = grows_none (token seat) knows; notes = notes; heard = refl; marks = refl }
+passed_none table spare flags seat search knows notes = record { own = refl; role = refl; search = search; grows = grows_none (token seat) knows; notes = notes; heard = refl; marks = no_loads seat.me.0.marks seat.me.0.marks.polls }
 
 -- the entry at a place of the list, which the pass leaves as it was
 pub entry_at : (entry : Retired) (spare before : Spare) (place : ℕ) → entry ≡ get_or spare.retired place no_retired → spare ≡ before → entry ≡ get_or before.retired place no_retired
@@ -141,27 +155,26 @@ module _ (table : Table) (spare : Spare) (flags : List Bool) (before now : MapSe
   entry_inside = so_far.search.search.room.inside place entry here_now
 
   pub passed_by : is_unheard flags entry.slot ≡ true → PassedTo table spare flags before now (place + 1)
-  passed_by flagged = let more = polls_next spare.retired flags place low in let none : hits flags entry ≡ 0 = ap (λ (b : Bool). cond {A = ℕ} b 0 1) flagged in
-      let same : polls_before spare.retired flags place ≡ polls_before spare.retired flags (place + 1) = omega arith in record {
-        own = so_far.own;
-        role = so_far.role;
-        search = so_far.search;
-        grows = subst (λ (n : ℕ). Grows n (token before) [] (token now)) same so_far.grows;
-        notes = notes_past spare.retired flags table.shape.readers place (length before.me.0.marks.polls) now.me.0.marks.polls low flagged so_far.notes;
-        heard = so_far.heard;
-        marks = so_far.marks;
-      }
+  passed_by flagged = let lists = sym (unflagged_past spare.retired flags place low flagged) in record {
+    own = so_far.own;
+    role = so_far.role;
+    search = so_far.search;
+    grows = subst (λ (l : List Retired). Grows (length l) (token before) [] (token now)) lists so_far.grows;
+    notes = notes_past spare.retired flags table.shape.readers place (length before.me.0.marks.polls) now.me.0.marks.polls low flagged so_far.notes;
+    heard = so_far.heard;
+    marks = so_far.marks ∙ ap (λ (l : List Retired). with_scan before.me.0.marks now.me.0.marks.polls (before.me.0.marks.loads ++ held_polls l)) lists;
+  }
 
   -- the slot may be polled
   pub tries_at : AreHeard spare.retired flags table.announcers before.me.0.heard → is_unheard flags entry.slot ≡ false → TriesAt table entry now
-  tries_at heard unflagged = record {
+  tries_at heard free = record {
     search = so_far.search.search;
     poll = place;
     here = here_now;
-    heard = subst (λ (l : List ℕ). table.announcers ≤ get_or l entry.slot 0) (sym so_far.heard) (heard entry.slot (is_retired spare.retired place entry here) unflagged);
+    heard = subst (λ (l : List ℕ). table.announcers ≤ get_or l entry.slot 0) (sym so_far.heard) (heard entry.slot (is_retired spare.retired place entry here) free);
   }
 
-  module _ (unflagged : is_unheard flags entry.slot ≡ false) (found : ℕ) (next : MapSeat) (same : next.table_id ≡ now.table_id) (tells : TriesTo entry found now.me.0 next.me.0) where
+  module _ (free : is_unheard flags entry.slot ≡ false) (found : ℕ) (next : MapSeat) (same : next.table_id ≡ now.table_id) (tells : TriesTo entry found now.me.0 next.me.0) where
     abbrev search_now : IsSearching table now
     search_now = so_far.search.search
 
@@ -174,8 +187,11 @@ module _ (table : Table) (spare : Spare) (flags : List Bool) (before now : MapSe
     grown : Grows (polls_before spare.retired flags place + 1) (token before) [] (token next)
     grown = grows_both (polls_before spare.retired flags place) 1 (polls_before spare.retired flags place + 1) (token before) (token now) [] (token next) refl so_far.grows (seat_grows now next [] same told.leads.advances)
 
-    marks_are : (marks : Marks) → marks ≡ with_polls now.me.0.marks marks.polls → marks ≡ with_polls before.me.0.marks marks.polls
-    marks_are marks is = is ∙ ap (λ (m : Marks). with_polls m marks.polls) so_far.marks
+    -- the loads with this poll
+    marks_are : (marks : Marks) (held : Bool) → marks ≡ with_polls (with_poll now.me.0.marks entry.slot held) marks.polls
+        → marks ≡ with_scan before.me.0.marks marks.polls (before.me.0.marks.loads ++ (held_polls (unflagged spare.retired flags place) ++ OfSlot entry.slot held ∷ []))
+    marks_are marks held is = is ∙ ap (λ (m : Marks). with_polls (with_poll m entry.slot held) marks.polls) so_far.marks
+        ∙ ap (with_scan before.me.0.marks marks.polls) (append_assoc before.me.0.marks.loads (held_polls (unflagged spare.retired flags place)) (OfSlot entry.slot held ∷ []))
 
     pub passed_more : same_count found entry.arrivals ≡ false → PassedTo table spare flags before next (place + 1)
     passed_more apart = let differs : same_count found (retired_at search_now.desk place).arrivals ≡ false = ap (λ (e : Retired). same_count found e.arrivals) (sym entry_is) ∙ apart in
@@ -183,8 +199,7 @@ module _ (table : Table) (spare : Spare) (flags : List Bool) (before now : MapSe
         let role : next.me.0.role ≡ Writer search_now.desk = told.leads.role ∙ ap Writer stays in
         let noted = subst (λ (p : Bool × Retired). TryTells p.0 now.me.0.shape now.me.0.marks p.1.slot next.me.0.marks) (λ j. (differs j, sym entry_is j)) told.marks in
         let polls = ap (λ (m : Marks). m.polls) noted.1 in
-        let more = polls_next spare.retired flags place low in let one : hits flags entry ≡ 1 = ap (λ (b : Bool). cond {A = ℕ} b 0 1) unflagged in
-        let count : polls_before spare.retired flags place + 1 ≡ polls_before spare.retired flags (place + 1) = omega arith in
+        let count : polls_before spare.retired flags place + 1 ≡ polls_before spare.retired flags (place + 1) = sym (polls_more spare.retired flags place low free) in
         let size = ap (λ (t : Table). t.shape.readers) search_now.own in record {
           own = same ∙ so_far.own;
           role = role ∙ sym search_now.role ∙ so_far.role;
@@ -203,28 +218,30 @@ module _ (table : Table) (spare : Spare) (flags : List Bool) (before now : MapSe
           };
           grows = subst (λ (n : ℕ). Grows n (token before) [] (token next)) count grown;
           notes = subst (NotesTo spare.retired flags table.shape.readers (place + 1) (length before.me.0.marks.polls)) (sym polls)
-              (notes_more spare.retired flags table.shape.readers place (length before.me.0.marks.polls) now.me.0.marks.polls low unflagged
+              (notes_more spare.retired flags table.shape.readers place (length before.me.0.marks.polls) now.me.0.marks.polls low free
               (λ one other a b at_a at_b. search_now.room.apart one other a b (there_too search_now.desk spare one a so_far.search.retired at_a) (there_too search_now.desk spare other b so_far.search.retired at_b)) here so_far.notes
               noted.0 noted.2 noted.3 (let few = noted.4 in omega arith) noted.5);
           heard = told.heard ∙ so_far.heard;
-          marks = marks_are next.me.0.marks (noted.1 ∙ ap (λ (l : List Past). with_polls now.me.0.marks l) (sym polls));
+          marks = marks_are next.me.0.marks false (noted.1 ∙ ap (with_polls (with_poll now.me.0.marks entry.slot false)) (sym polls))
+              ∙ ap (λ (l : List LoggedLoad). with_scan before.me.0.marks next.me.0.marks.polls (before.me.0.marks.loads ++ l)) (sym (ap held_polls (unflagged_more spare.retired flags place low free) ∙ held_next (unflagged spare.retired flags place) entry));
         }
 
     pub pass_takes : same_count found entry.arrivals ≡ true → (taken : Taken) → taken.slot ≡ entry.slot → taken.departures ≡ found → (after : Spare) → after ≡ record spare { retired = remove spare.retired place }
         → PassTakes table spare after flags before next taken
     pass_takes agree taken slot_is departed after is = let agrees : same_count found (retired_at search_now.desk place).arrivals ≡ true = ap (λ (e : Retired). same_count found e.arrivals) (sym entry_is) ∙ agree in
-        let unmarked = subst (λ (b : Bool). TryTells b now.me.0.shape now.me.0.marks (retired_at search_now.desk place).slot next.me.0.marks) agrees told.marks in record {
+        let marked = subst (λ (p : Bool × Retired). TryTells p.0 now.me.0.shape now.me.0.marks p.1.slot next.me.0.marks) (λ j. (agrees j, sym entry_is j)) told.marks in record {
           place = place;
           entry = entry;
           here = here;
           slot = slot_is;
+          no_flag = free;
           after_is = is;
           own = same ∙ so_far.own;
           writes = λ desk call rows is_desk is_at. writes_so desk call rows (so_far.role ∙ is_desk) is_at;
           grows = grown;
           few = notes_few spare.retired flags table.shape.readers place (length before.me.0.marks.polls) now.me.0.marks.polls so_far.notes;
           heard = told.heard ∙ so_far.heard;
-          marks = marks_are next.me.0.marks (unmarked ∙ ap (λ (m : Marks). with_polls now.me.0.marks m.polls) (sym unmarked));
+          marks = marks_are next.me.0.marks true (marked ∙ ap (λ (m : Marks). with_polls (with_poll now.me.0.marks entry.slot true) m.polls) (sym marked));
         }
       where
         writes_so : (desk : Desk) (call : WriterCall) (rows : List Row) → now.me.0.role ≡ Writer desk → desk.place ≡ Searching call rows 0 → WritesAt table (taking_retired desk call rows place taken.departures) next

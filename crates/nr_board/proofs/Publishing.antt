@@ -19,7 +19,7 @@ use Rattle.nr_board.specs.Callers.{Caller, Grows, Table, map_at_opening, token, 
 use Rattle.nr_board.specs.Entries.{AreCallers}
 use Rattle.nr_machine.specs.Spares.{Spare}
 use Rattle.nr_board.specs.Spares.{AreFewSteps, TookBySearch, desk_with}
-use Rattle.nr_marks.specs.Marks.{Marks, WordLoad, with_name, with_scan}
+use Rattle.nr_marks.specs.Marks.{Marks, LoggedLoad, with_name, with_scan}
 use Rattle.nr_marks.specs.MarkSteps.{PutsMarks}
 use Rattle.nr_board.specs.Plays.{SwapsOrPuts}
 use Rattle.nr_machine.specs.States.{key_of}
@@ -73,7 +73,7 @@ module _ (table board : Table) (own : board ≡ table) (desk : Desk) (call : Wri
 
 -- the swap that publishes the set
 pub published : (table : Table) (call : WriterCall) (rows : List Row) (spare mid_spare after_spare : Spare) (slot departed polls : ℕ)
-    (before mid after : MapSeat) (scanned : List ℕ) (loads : List WordLoad) (found : ℕ) → TookBySearch table before.me.0.heard scanned loads slot polls spare mid_spare → AreFewSteps table polls
+    (before mid after : MapSeat) (scanned : List ℕ) (loads : List LoggedLoad) (found : ℕ) → TookBySearch table before.me.0.heard scanned loads slot polls spare mid_spare → AreFewSteps table polls
     → mid_spare.slots ≡ spare.slots → mid_spare.numbers ≡ spare.numbers → mid_spare.reaped ≡ spare.reaped
     → mid.me.0.marks ≡ with_scan before.me.0.marks mid.me.0.marks.polls (before.me.0.marks.loads ++ loads) → set mid.me.0.heard slot 0 ≡ set scanned slot 0
     → WritesAt table (desk_with mid_spare (Putting call rows slot departed (2 * length rows + 1))) mid → Grows (polls + (2 * length rows + 1)) (token before) [] (token mid) → GoesOn table found mid after

@@ -1,12 +1,12 @@
 -- The two passes of a search and the scan between them, put together.
-use Rattle.std.proofs.Common.{◌≡◌, ℕ, ◌+◌, ◌<◌, ◌≤◌, ⊎_elim, inl, inr, List, [], ◌∷◌, ◌++◌, Bool, true, cond, ne_eqb, length, take, take_all, refl, sym, ap, ◌∙◌, subst, arith}
+use Rattle.std.proofs.Common.{◌≡◌, ℕ, suc, ◌+◌, ◌<◌, ◌≤◌, ⊎_elim, inl, inr, List, [], ◌∷◌, ◌++◌, Bool, true, cond, ne_eqb, get_or, append_assoc, length, length-append, take, take_all, refl, sym, ap, ◌∙◌, subst, arith}
 use mathlib.Core.Option.{some-ne-none}
 use lib.ListN.{get_elem?}
 use Rattle.nr_core.proofs.Choices.{by_cases}
 use Rattle.nr_machine.specs.Spares.{Spare, none_spare}
 use Rattle.nr_machine.specs.Sums.{only, total}
 use Rattle.nr_machine.specs.declared.places.Retired.{Retired}
-use Rattle.nr_marks.specs.Marks.{Marks, Past, WordLoad, with_polls, with_scan}
+use Rattle.nr_marks.specs.Marks.{Marks, OfSlot, Past, LoggedLoad, with_scan}
 use Rattle.std.specs.Prelude.{Some}
 use Rattle.nr_model.specs.Histories.{IsLegal}
 use Rattle.nr_board.specs.Entries.{AreCallers}
@@ -14,9 +14,10 @@ use Rattle.nr_board.proofs.Passes.{notes_few}
 use Rattle.nr_board.proofs.Tokens.{grows_both, grows_rests, seat_grows}
 use Rattle.nr_board.specs.Callers.{Grows, IsSound, Rests, Table, map_at_opening, token}
 use Rattle.nr_board.specs.Flags.{Flagged}
-use Rattle.nr_board.specs.Passes.{NotesTo, PassTakes, PassedTo, hits, polls_before}
-use Rattle.nr_board.specs.Spares.{polls_heard}
+use Rattle.nr_board.specs.Passes.{NotesTo, PassTakes, PassedTo, polls_before, unflagged}
+use Rattle.nr_board.specs.Spares.{heard_all, held_polls, not_passed}
 use Rattle.nr_board.proofs.Flagging.{polls_are}
+use Rattle.nr_board.proofs.HeldPolls.{held_many}
 use Rattle.nr_board.proofs.WriterSeats.{numbers_seat}
 use Rattle.nr_board.specs.RetiredSearch.{SearchLacks, SearchTakes}
 use Rattle.nr_board.specs.declared.publish.Taken.{Taken}
@@ -32,7 +33,7 @@ use Rattle.nr_model.specs.Maps.{filled_count, reply_to}
 use Rattle.nr_model.specs.declared.calls.Reply.TheVariants as reply
 use Rattle.nr_board.specs.SearchPlays.{scan_base}
 use Rattle.nr_board.specs.SearchSeats.{Ends}
-use Rattle.nr_board.proofs.WordLoads.{no_loads, words_told}
+use Rattle.nr_board.proofs.WordLoads.{words_many, words_told}
 use Rattle.nr_board.specs.WordLoads.{WordsTell}
 use Rattle.nr_board.specs.Views.{View}
 use Rattle.nr_board.specs.WholeScans.{KeepBack, ScannedTo, is_unheard, misses}
@@ -89,17 +90,23 @@ module _ (table : Table) (spare : Spare) (flags : List Bool) (before now : MapSe
 
 -- each retired slot has a flag or is polled
 pub all_of : (retired : List Retired) (flags : List Bool) → total (misses flags) retired + polls_before retired flags (length retired) ≡ length retired
-all_of retired flags = sum retired ∙ refl
+all_of retired flags = sum retired
   where
-    one : (entry : Retired) → misses flags entry + hits flags entry ≡ 1
-    one entry = by_cases (λ (b : Bool). cond {A = ℕ} b 1 0 + cond {A = ℕ} b 0 1 ≡ 1) (is_unheard flags entry.slot) (λ _. refl) (λ _. refl)
-
-    sums : (l : List Retired) → total (misses flags) l + total (hits flags) l ≡ length l
+    sums : (l : List Retired) → total (misses flags) l + length (not_passed (is_unheard flags) l) ≡ length l
     sums [] = refl
-    sums (entry ∷ l) = let first = one entry in let rest = sums l in omega arith
+    sums (entry ∷ l) = let rest = sums l in
+        by_cases (λ (b : Bool). cond {A = ℕ} b 1 0 + total (misses flags) l + length (cond {A = List Retired} b (not_passed (is_unheard flags) l) (entry ∷ not_passed (is_unheard flags) l)) ≡ suc (length l)) (is_unheard flags entry.slot)
+        (λ _. omega arith) (λ _. omega arith)
 
-    sum : (l : List Retired) → total (misses flags) l + total (hits flags) (take (length l) l) ≡ length l
-    sum l = ap (λ (m : List Retired). total (misses flags) l + total (hits flags) m) (take_all (length l) l (omega arith)) ∙ sums l
+    sum : (l : List Retired) → total (misses flags) l + length (not_passed (is_unheard flags) (take (length l) l)) ≡ length l
+    sum l = ap (λ (m : List Retired). total (misses flags) l + length (not_passed (is_unheard flags) m)) (take_all (length l) l (omega arith)) ∙ sums l
+
+-- the polls of a pass that takes a slot
+abbrev taking_polls : List Retired → List Bool → ℕ → ℕ → List LoggedLoad
+taking_polls retired flags place slot = held_polls (unflagged retired flags place) ++ OfSlot slot true ∷ []
+
+taking_many : (retired : List Retired) (flags : List Bool) (place slot : ℕ) → length (taking_polls retired flags place slot) ≡ polls_before retired flags place + 1
+taking_many retired flags place slot = length-append (held_polls (unflagged retired flags place)) (OfSlot slot true ∷ []) ∙ ap (λ (n : ℕ). n + 1) (held_many (unflagged retired flags place))
 
 -- a pass takes a slot that was heard before
 pub takes_first : (table : Table) (spare after : Spare) (flags : List Bool) (before now : MapSeat) (taken : Taken) → Flagged table spare.retired before.me.0.heard flags → before.me.0.marks.polls ≡ []
@@ -111,12 +118,14 @@ takes_first table spare after flags before now taken flagged begins takes = reco
   slot = takes.slot;
   after_is = takes.after_is;
   writes = takes.writes;
-  steps = polls_before spare.retired flags takes.place + 1;
-  loads = [];
-  takes = inl (takes.heard, refl, ap (λ (n : ℕ). n + 1) (polls_are table spare.retired before.me.0.heard flags flagged takes.place));
-  grows = takes.grows;
-  few = let few = takes.few in omega arith;
-  marks = takes.marks ∙ no_loads before.me.0.marks now.me.0.marks.polls;
+  loads = taking_polls spare.retired flags takes.place takes.entry.slot;
+  takes = (
+    let heard = flagged.whole takes.entry.slot takes.no_flag in subst (λ (p : List ℕ × ℕ). table.announcers ≤ get_or p.0 p.1 0) (λ j. (sym takes.heard j, sym takes.slot j)) heard,
+    inl (takes.heard, λ j. held_polls (polls_are table spare.retired before.me.0.heard flags flagged takes.place j) ++ OfSlot (sym takes.slot j) true ∷ []),
+  );
+  grows = subst (λ (n : ℕ). Grows n (token before) [] (token now)) (sym (taking_many spare.retired flags takes.place takes.entry.slot)) takes.grows;
+  few = let few = takes.few in let count = taking_many spare.retired flags takes.place takes.entry.slot in omega arith;
+  marks = takes.marks;
 }
 
 module _ (table : Table) (spare : Spare) (flags scanned : List Bool) (before mid swept : MapSeat) (flagged : Flagged table spare.retired before.me.0.heard flags) (first : PassedTo table spare flags before mid (length spare.retired)) (begins : before.me.0.marks.polls ≡ [])
@@ -134,40 +143,54 @@ module _ (table : Table) (spare : Spare) (flags scanned : List Bool) (before mid
   polls_few : polls ≤ table.shape.readers
   polls_few = let most = notes_few spare.retired flags table.shape.readers (length spare.retired) (length before.me.0.marks.polls) mid.me.0.marks.polls first.notes in omega arith
 
-  first_polls : polls ≡ polls_heard table.announcers before.me.0.heard spare.retired (length spare.retired)
-  first_polls = polls_are table spare.retired before.me.0.heard flags flagged (length spare.retired)
+  abbrev first_polls : List LoggedLoad
+  first_polls = held_polls (unflagged spare.retired flags (length spare.retired))
 
-  second_polls : (now : MapSeat) (place : ℕ) → now.me.0.heard ≡ swept.me.0.heard → polls_before spare.retired scanned place ≡ polls_heard table.announcers now.me.0.heard spare.retired place
-  second_polls now place heard = polls_are table spare.retired swept.me.0.heard scanned flagged_now place ∙ ap (λ (l : List ℕ). polls_heard table.announcers l spare.retired place) (sym heard)
+  first_are : first_polls ≡ held_polls (heard_all table.announcers before.me.0.heard spare.retired)
+  first_are = ap held_polls (polls_are table spare.retired before.me.0.heard flags flagged (length spare.retired) ∙ ap (heard_all table.announcers before.me.0.heard) (take_all (length spare.retired) spare.retired (omega arith)))
+
+  second_are : (now : MapSeat) (place : ℕ) → now.me.0.heard ≡ swept.me.0.heard → held_polls (unflagged spare.retired scanned place) ≡ held_polls (heard_all table.announcers now.me.0.heard (take place spare.retired))
+  second_are now place heard = ap held_polls (polls_are table spare.retired swept.me.0.heard scanned flagged_now place ∙ ap (λ (l : List ℕ). heard_all table.announcers l (take place spare.retired)) (sym heard))
 
   -- what the scan heard is what the words tell
-  words_are : (loads : List WordLoad) × WordsTell table.announcers spare.retired mid.me.0.shape.slots loads swept.me.0.heard × (swept.me.0.marks.loads ≡ mid.me.0.marks.loads ++ loads)
+  words_are : (scan : List LoggedLoad) × WordsTell table.announcers spare.retired mid.me.0.shape.slots scan swept.me.0.heard × (swept.me.0.marks.loads ≡ mid.me.0.marks.loads ++ scan)
   words_are = words_told table.announcers spare.retired mid.me.0.shape.slots mid.me.0.marks.loads swept.me.0.marks.loads swept.me.0.heard some_words scan.words
 
-  abbrev loads : List WordLoad
-  loads = words_are.0
+  abbrev scan_loads : List LoggedLoad
+  scan_loads = words_are.0
 
-  tells : (now : MapSeat) → now.me.0.heard ≡ swept.me.0.heard → WordsTell table.announcers spare.retired table.shape.slots loads now.me.0.heard
-  tells now heard = subst (λ (p : ℕ × List ℕ). WordsTell table.announcers spare.retired p.0 loads p.1) (λ j. ((sized j).shape.slots, sym heard j)) words_are.1
+  -- the loads of the first pass, of the scan and of the second pass
+  abbrev all_loads : List LoggedLoad → List LoggedLoad
+  all_loads more = first_polls ++ (scan_loads ++ more)
 
-  marks_on : (marks : Marks) → marks ≡ with_polls swept.me.0.marks marks.polls → marks ≡ with_scan before.me.0.marks marks.polls (before.me.0.marks.loads ++ loads)
-  marks_on marks is = is ∙ ap (λ (m : Marks). with_polls m marks.polls) (ap (λ (v : View). v.marks) scan.rest)
-      ∙ (λ j. with_scan mid.me.0.marks marks.polls (words_are.2 j)) ∙ ap (λ (m : Marks). with_scan m marks.polls (m.loads ++ loads)) first.marks
+  all_many : (more : List LoggedLoad) → length (all_loads more) ≡ polls + table.announcers + length more
+  all_many more = length-append first_polls (scan_loads ++ more) ∙ (λ j. held_many (unflagged spare.retired flags (length spare.retired)) j + length-append scan_loads more j)
+      ∙ ap (λ (n : ℕ). polls + (n + length more)) (words_many words_are.1) ∙ (let sum : polls + (table.announcers + length more) ≡ polls + table.announcers + length more = omega arith in sum)
+
+  tells : (now : MapSeat) → now.me.0.heard ≡ swept.me.0.heard → WordsTell table.announcers spare.retired table.shape.slots scan_loads now.me.0.heard
+  tells now heard = subst (λ (p : ℕ × List ℕ). WordsTell table.announcers spare.retired p.0 scan_loads p.1) (λ j. ((sized j).shape.slots, sym heard j)) words_are.1
+
+  marks_on : (marks : Marks) (more : List LoggedLoad) → marks ≡ with_scan swept.me.0.marks marks.polls (swept.me.0.marks.loads ++ more) → marks ≡ with_scan before.me.0.marks marks.polls (before.me.0.marks.loads ++ all_loads more)
+  marks_on marks more is = is ∙ ap (λ (v : View). with_scan v.marks marks.polls (v.marks.loads ++ more)) scan.rest
+      ∙ (λ j. with_scan mid.me.0.marks marks.polls (words_are.2 j ++ more)) ∙ ap (λ (m : Marks). with_scan m marks.polls ((m.loads ++ scan_loads) ++ more)) first.marks
+      ∙ ap (with_scan before.me.0.marks marks.polls) (append_assoc (before.me.0.marks.loads ++ first_polls) scan_loads more ∙ append_assoc before.me.0.marks.loads first_polls (scan_loads ++ more))
 
   pub takes_second : (after : Spare) (now : MapSeat) (taken : Taken) → PassTakes table spare after scanned swept now taken → SearchTakes table spare after before now taken
-  takes_second after now taken takes = let a = first_polls in let b = second_polls now takes.place takes.heard in record {
+  takes_second after now taken takes = let more = taking_polls spare.retired scanned takes.place takes.entry.slot in let count = taking_many spare.retired scanned takes.place takes.entry.slot in record {
     place = takes.place;
     entry = takes.entry;
     here = takes.here;
     slot = takes.slot;
     after_is = takes.after_is;
     writes = λ desk call rows is is_at. takes.writes desk call rows (role_is ∙ is) is_at;
-    steps = polls + table.announcers + (polls_before spare.retired scanned takes.place + 1);
-    loads = loads;
-    takes = inr (tells now takes.heard, omega arith);
-    grows = grows_both (polls + table.announcers) (polls_before spare.retired scanned takes.place + 1) (polls + table.announcers + (polls_before spare.retired scanned takes.place + 1)) (token before) (token swept) [] (token now) refl up_to takes.grows;
-    few = let one = polls_few in let other = takes.few in omega arith;
-    marks = marks_on now.me.0.marks takes.marks;
+    loads = all_loads more;
+    takes = (
+      subst (λ (p : List ℕ × ℕ). table.announcers ≤ get_or p.0 p.1 0) (λ j. (sym takes.heard j, sym takes.slot j)) (flagged_now.whole takes.entry.slot takes.no_flag),
+      inr (some_words, scan_loads, tells now takes.heard, λ j. first_are j ++ (scan_loads ++ (second_are now takes.place takes.heard j ++ OfSlot (sym takes.slot j) true ∷ []))),
+    );
+    grows = grows_both (polls + table.announcers) (polls_before spare.retired scanned takes.place + 1) (length (all_loads more)) (token before) (token swept) [] (token now) (omega (arith, count, all_many more)) up_to takes.grows;
+    few = let one = polls_few in let other = takes.few in omega (arith, count, all_many more);
+    marks = marks_on now.me.0.marks more takes.marks;
   }
 
   pub lacks_so : (after : Spare) (last now : MapSeat) (counts : NoSlot) → PassedTo table spare scanned swept last (length spare.retired) → now.table_id ≡ last.table_id → Ends last.me.0 now.me.0 → after ≡ spare → counts ≡ none_spare spare
@@ -180,8 +203,9 @@ module _ (table : Table) (spare : Spare) (flags scanned : List Bool) (before mid
       let many : length now.me.0.marks.polls ≡ length spare.retired = ap length polls_now ∙ omega (arith, length_is, missed, all) in
       let second_count : ℕ = polls_before spare.retired scanned (length spare.retired) in
       let last_grows = grows_both (polls + table.announcers) second_count (polls + table.announcers + second_count) (token before) (token swept) [] (token last) refl up_to second.grows in
-      let a = first_polls in let b = second_polls now (length spare.retired) (gave.heard ∙ second.heard) in
-      let steps : polls + table.announcers + (second_count + 1) ≡ polls_heard table.announcers before.me.0.heard spare.retired (length spare.retired) + table.announcers + (polls_heard table.announcers now.me.0.heard spare.retired (length spare.retired) + 1) = omega arith in record {
+      let heard_now = gave.heard ∙ second.heard in
+      let more : List LoggedLoad = held_polls (unflagged spare.retired scanned (length spare.retired)) in
+      let steps : polls + table.announcers + second_count + 1 ≡ length (all_loads more) + 1 = omega (arith, all_many more, held_many (unflagged spare.retired scanned (length spare.retired))) in record {
         same = is;
         counts_are = counted;
         writes = λ desk call rows is_desk is_at. let gave_so = ends desk call rows (second.role ∙ role_is ∙ is_desk) is_at in
@@ -198,11 +222,13 @@ module _ (table : Table) (spare : Spare) (flags scanned : List Bool) (before mid
                   ∙ gave_so.slots ∙ ap (λ (s : Shape). s.slots) shape_is,
             );
         grows = subst (λ (n : ℕ). Grows n (token before) [] (token now)) steps
-            (grows_both (polls + table.announcers + second_count) 1 (polls + table.announcers + (second_count + 1)) (token before) (token last) [] (token now) (omega arith) last_grows one);
+            (grows_both (polls + table.announcers + second_count) 1 (polls + table.announcers + second_count + 1) (token before) (token last) [] (token now) refl last_grows one);
         many = many;
         apart = λ reader. subst (λ (l : List Past). total (λ (note : Past). only reader note.reader) l ≤ 1) (sym polls_now) (second.notes.apart reader);
         few = let most = notes_few spare.retired scanned table.shape.readers (length spare.retired) (length swept.me.0.marks.polls) last.me.0.marks.polls second.notes in omega (arith, missed, all);
-        loads = loads;
-        words = tells now (gave.heard ∙ second.heard);
-        marks = marks_on now.me.0.marks (gave.marks ∙ second.marks ∙ ap (λ (l : List Past). with_polls swept.me.0.marks l) (sym polls_now));
+        scan = scan_loads;
+        words = tells now heard_now;
+        loads = all_loads more;
+        loads_are = λ j. first_are j ++ (scan_loads ++ (second_are now (length spare.retired) heard_now ∙ ap (λ (l : List Retired). held_polls (heard_all table.announcers now.me.0.heard l)) (take_all (length spare.retired) spare.retired (omega arith))) j);
+        marks = marks_on now.me.0.marks more (gave.marks ∙ second.marks ∙ ap (λ (l : List Past). with_scan swept.me.0.marks l (swept.me.0.marks.loads ++ more)) (sym polls_now));
       }

@@ -39,7 +39,7 @@ use Rattle.nr_machine.specs.declared.shape.Shape.{Shape}
 use Rattle.nr_marks.proofs.SearchMarks.{Begins, gives_up_marked, notes_marked, scans_marked, tries_marked}
 use Rattle.nr_marks.specs.Marked.{MarkTelling, Remarked}
 use Rattle.nr_marks.specs.MarkSteps.{KeepsMarks, TriesMarks, TryTells}
-use Rattle.nr_marks.specs.Marks.{Marks, Past, WordLoad, gripped, past, with_scan}
+use Rattle.nr_marks.specs.Marks.{Marks, Past, LoggedLoad, gripped, past, with_scan}
 use Rattle.nr_board.proofs.Counting.{announces_on, counted_same, lent_same}
 use Rattle.nr_board.proofs.Lift.{Follows, keeps_core, key_inside, key_no_count, knows_pasts, lends_on, lifts, sees_alone, sees_plain}
 use Rattle.nr_board.proofs.Moves.{names_go}
@@ -146,7 +146,7 @@ module _ (shape : Shape) (id own : ℕ) (view : View) (desk : Desk) (call : Writ
   abbrev Result : Type 0
   Result = (next : View) × Kept shape (record { words = state.words; homes = state.homes; views = set state.views id next }) × Scanned desk own found view next
 
-  abbrev loads : List WordLoad
+  abbrev loads : List LoggedLoad
   loads = view.marks.loads ++ word_load own found ∷ []
 
   -- the core sees a load, and the notes are these

@@ -1,5 +1,5 @@
 -- The search for a slot: each retired one is polled in order, until one is not held.
-use Rattle.std.proofs.Common.{◌≡◌, ℕ, ◌+◌, ◌-◌, ◌<◌, ◌≤◌, List, [], ◌∷◌, ◌++◌, length-append, Bool, true, false, cond, length, nat_eq, refl, sym, ap, ◌∙◌, subst, arith, append-nil, append_assoc, ⊎_elim, inl}
+use Rattle.std.proofs.Common.{◌≡◌, ℕ, ◌+◌, ◌-◌, ◌<◌, ◌≤◌, List, [], ◌∷◌, ◌++◌, length-append, Bool, true, false, cond, length, nat_eq, refl, sym, ap, ◌∙◌, subst, arith, append-nil, append_assoc, ⊎_elim, ◌⊎◌, inl, suc, take, take_all, take-suc}
 use Rattle.std.proofs.lemmas.Bool.{eq-eqb, lt-ltb, le-ltb, ne_eqb}
 use Rattle.std.specs.Prelude.{Some, nat_lt}
 use mathlib.Core.Option.{some, some-ne-none}
@@ -8,7 +8,7 @@ use mathlib.Core.Logic.{dite}
 use native.Mathlib.Decide.{ℕ_discrete}
 use Rattle.nr_words.specs.KeyWords.{same_count}
 use Rattle.nr_core.proofs.Choices.{by_cases}
-use Rattle.nr_machine.specs.States.{retired_at}
+use Rattle.nr_machine.specs.States.{no_retired, retired_at}
 use Rattle.nr_model.specs.Histories.{Entry, entries_of}
 use Rattle.nr_model.specs.declared.calls.Call.{Call}
 use Rattle.nr_model.specs.declared.rows.Row.{Row}
@@ -19,8 +19,10 @@ use Rattle.nr_machine.specs.declared.calls.Step.TheVariants.{Ended, Going}
 use Rattle.nr_machine.specs.declared.calls.WReply.TheVariants as writer
 use Rattle.nr_machine.specs.declared.calls.WriterCall.{WriterCall}
 use Rattle.nr_machine.specs.declared.places.Place.TheVariants.{Idle, Putting, Searching}
+use Rattle.nr_machine.specs.declared.places.Retired.{Retired}
 use Rattle.nr_machine.specs.declared.roles.Desk.{Desk}
 use Rattle.nr_machine.specs.declared.shape.Shape.{Shape}
+use Rattle.nr_board.proofs.HeldPolls.{held_many, held_next}
 use Rattle.nr_board.proofs.WordLoads.{no_loads}
 use Rattle.nr_board.proofs.Tokens.{grows_both}
 use Rattle.nr_board.specs.Callers.{Caller, Grows, Table, token, IsSound}
@@ -28,11 +30,11 @@ use Rattle.nr_board.specs.Entries.{acts_told, to_depart}
 use Rattle.nr_board.specs.Polls.{AllHeldThen, HeldThen}
 use Rattle.nr_board.specs.Rule.{StartsWith}
 use Rattle.nr_machine.specs.Spares.{Spare, none_spare}
-use Rattle.nr_board.specs.Spares.{SearchedAll, desk_with}
+use Rattle.nr_board.specs.Spares.{desk_with, held_polls}
 use Rattle.nr_marks.proofs.ExactPlace.{noted_more, noted_none}
 use Rattle.nr_marks.specs.MarkSteps.{PollTells}
 use Rattle.nr_marks.proofs.ListPlaces.{at_last, inside}
-use Rattle.nr_marks.specs.Marks.{Marks, Past, with_polls}
+use Rattle.nr_marks.specs.Marks.{Marks, OfSlot, Past, LoggedLoad, with_poll, with_polls, with_scan}
 use Rattle.nr_marks.specs.PollNotes.{Missed, Noted}
 use Rattle.nr_board.specs.WriterSeats.{GoesOn, GoesTo, LacksSlot, LeadsIn, MapSeat, Settles, swept, TakesSlot, WritesAt}
 
@@ -59,7 +61,7 @@ pub record Searched (table : Table) (call : WriterCall) (rows : List Row) (spare
   pub many : length after.me.0.marks.polls ≡ polls
   pub few : polls ≤ table.shape.readers
   pub held : AllHeldThen before.me.0.seen after.me.0.seen after.me.0.marks.polls
-  pub marks : after.me.0.marks ≡ with_polls before.me.0.marks after.me.0.marks.polls
+  pub marks : after.me.0.marks ≡ with_scan before.me.0.marks after.me.0.marks.polls (before.me.0.marks.loads ++ held_polls (take polls spare.retired))
   pub heard : after.me.0.heard ≡ before.me.0.heard
 
 module _ (shape : Shape) (desk : Desk) (call : WriterCall) (rows : List Row) where
@@ -100,7 +102,7 @@ searched_none table call rows spare seat settles full =
       many = ap length settles.polls;
       few = omega arith;
       held = λ at note there. absurd (some-ne-none note (sym there ∙ ap (λ (l : List Past). get_elem? l at) settles.polls));
-      marks = refl;
+      marks = no_loads seat.me.0.marks seat.me.0.marks.polls;
       heard = refl;
     }
 
@@ -131,16 +133,25 @@ module _ (table : Table) (call : WriterCall) (rows : List Row) (spare : Spare) (
     told : GoesTo table desk_now found mid after
     told = goes desk_now searching_at.role
 
+    -- the loads with this poll
+    polled_marks : (free : Bool) (marks : Marks) → marks ≡ with_polls (with_poll mid.me.0.marks (retired_at desk_now polls).slot free) marks.polls
+        → marks ≡ with_scan before.me.0.marks marks.polls (before.me.0.marks.loads ++ (held_polls (take polls spare.retired) ++ OfSlot (retired_at desk_now polls).slot free ∷ []))
+    polled_marks free marks is = is ∙ ap (λ (m : Marks). with_polls (with_poll m (retired_at desk_now polls).slot free) marks.polls) so_far.marks
+        ∙ ap (with_scan before.me.0.marks marks.polls) (append_assoc before.me.0.marks.loads (held_polls (take polls spare.retired)) (OfSlot (retired_at desk_now polls).slot free ∷ []))
+
+    one_more : held_polls (take (polls + 1) spare.retired) ≡ held_polls (take polls spare.retired) ++ OfSlot (retired_at desk_now polls).slot false ∷ []
+    one_more = let next : polls + 1 ≡ suc polls = omega arith in ap (λ (n : ℕ). held_polls (take n spare.retired)) next ∙ ap held_polls (take-suc spare.retired polls no_retired low) ∙ held_next (take polls spare.retired) (retired_at desk_now polls)
+
     -- the slot is not held: it is taken
     pub takes_it : same_count found (retired_at desk_now polls).arrivals ≡ true → WritesAt table (taking_retired desk_now call rows polls found) after
-        × Grows (polls + 1) (token before) [] (token after) × (after.me.0.marks ≡ with_polls before.me.0.marks after.me.0.marks.polls) × (after.me.0.heard ≡ before.me.0.heard)
+        × Grows (polls + 1) (token before) [] (token after) × (after.me.0.marks ≡ with_scan before.me.0.marks after.me.0.marks.polls (before.me.0.marks.loads ++ (held_polls (take polls spare.retired) ++ OfSlot (retired_at desk_now polls).slot true ∷ []))) × (after.me.0.heard ≡ before.me.0.heard)
     takes_it agree =
         let outcome : polled table.shape desk_now call rows polls found ≡ (taking_retired desk_now call rows polls found, Going) = ap (λ
         (b : Bool). cond {A = Desk × Step} b (taking_retired desk_now call rows polls found, Going)
         (polls_on table.shape desk_now call rows polls)) agree in
         let leads = subst (λ (o : Desk × Step). LeadsIn 1 table (call_of call) o mid after) outcome told.leads in
         let same = subst (λ (b : Bool). PollTells b table.shape mid.me.0.marks mid.me.0.pasts desk_now call polls after.me.0.seen after.me.0.marks) agree told.marks.1 in
-        (leads.writes, grows_both polls 1 (polls + 1) (token before) (token mid) [] (token after) refl so_far_quiet leads.grows, same ∙ so_far.marks ∙ ap (λ (m : Marks). with_polls before.me.0.marks m.polls) (sym same), told.heard ∙ so_far.heard)
+        (leads.writes, grows_both polls 1 (polls + 1) (token before) (token mid) [] (token after) refl so_far_quiet leads.grows, polled_marks true after.me.0.marks (same ∙ ap (λ (m : Marks). with_polls (with_poll mid.me.0.marks (retired_at desk_now polls).slot true) m.polls) (sym same)), told.heard ∙ so_far.heard)
 
     -- the slot is held: the search goes on, or there is none
     pub searched_more : same_count found (retired_at desk_now polls).arrivals ≡ false → Searched table call rows spare before after (polls + 1)
@@ -168,7 +179,7 @@ module _ (table : Table) (call : WriterCall) (rows : List Row) (spare : Spare) (
               (ap (λ (n : Past). n.slot) (sym new.1) ∙ polled_so.1.holds) seen_is
               (grows_from (polls + 1) (token before) _ (token after) now_grown))
               (at_last mid.me.0.marks.polls polled_so.1.note note at (ap (λ (l : List Past). get_elem? l at) (sym polled_so.1.more) ∙ there));
-          marks = polled_so.0 ∙ ap (λ (m : Marks). with_polls m after.me.0.marks.polls) so_far.marks;
+          marks = polled_marks false after.me.0.marks polled_so.0 ∙ ap (λ (l : List LoggedLoad). with_scan before.me.0.marks after.me.0.marks.polls (before.me.0.marks.loads ++ l)) (sym one_more);
           heard = told.heard ∙ so_far.heard;
         }
       where
@@ -186,20 +197,20 @@ module _ (table : Table) (call : WriterCall) (rows : List Row) (spare : Spare) (
 
 -- every retired slot was found held
 pub lacks_slot : (table : Table) (call : WriterCall) (rows : List Row) (spare : Spare) (before after : MapSeat) (polls : ℕ)
-    → Searched table call rows spare before after polls → SearchedAll table before.me.0.heard after.me.0.heard [] spare.retired polls → polls ≡ length spare.retired → LacksSlot table call (none_spare spare) spare spare before
+    → Searched table call rows spare before after polls → (table.announcers ≡ 0) ⊎ (spare.retired ≡ []) → polls ≡ length spare.retired → LacksSlot table call (none_spare spare) spare spare before
     after
-lacks_slot table call rows spare before after polls so_far searched all =
+lacks_slot table call rows spare before after polls so_far counted all =
     let desk = desk_with spare Idle in let is = swept_all table.shape desk call rows polls (omega arith) in let leads = so_far.leads in record {
       same = refl;
       writes = subst (λ (o : Desk × Step). WritesAt table o.0 after) is leads.writes;
       steps = polls;
-      loads = [];
-      searched = searched;
+      loads = held_polls spare.retired;
+      searched = inl (counted, so_far.heard, refl, all ∙ sym (held_many spare.retired));
       grows = subst (λ (es : List Entry). Grows polls (token before) es (token after)) (swept_quiet table.shape desk call rows (call_of call) polls) leads.grows;
       lacks = leads.short (none_spare spare) (ap (λ (o : Desk × Step). o.1) is ∙ ap (λ (n : ℕ). Ended (writer.NoSlot (record { live = n - length spare.retired; held = length spare.retired }))) (sym so_far.slots));
       noted = λ _. so_far.noted;
       held = λ _. so_far.held;
-      marks = so_far.marks ∙ no_loads before.me.0.marks after.me.0.marks.polls;
+      marks = so_far.marks ∙ ap (λ (l : List Retired). with_scan before.me.0.marks after.me.0.marks.polls (before.me.0.marks.loads ++ held_polls l)) (take_all polls spare.retired (omega arith));
     }
 
 -- a slot is taken that was never taken, without a step

@@ -29,8 +29,9 @@ use Rattle.nr_machine.specs.declared.roles.Role.TheVariants.{Writer}
 use Rattle.nr_machine.specs.declared.shape.Shape.{Shape}
 use Rattle.nr_marks.proofs.ListPlaces.{at_last, at_left, before as before_at, inside, some_is}
 use Rattle.nr_marks.proofs.ReapMarks.{probes_marked}
-use Rattle.nr_marks.specs.Marks.{Marks, Past, with_polls, with_reaped}
+use Rattle.nr_marks.specs.Marks.{Marks, OfSlot, Past, LoggedLoad, with_poll, with_polls, with_reaped, with_scan}
 use Rattle.nr_marks.specs.MarkSteps.{ProbeTells, ProbesMarks}
+use Rattle.nr_board.proofs.HeldPolls.{held_next}
 use Rattle.nr_board.proofs.Lift.{knows_pasts, lends_on, lifts, sees_alone}
 use Rattle.nr_board.proofs.Moves.{ActsGo, waited, waiting as learns_nothing}
 use Rattle.nr_board.proofs.PollNotes.{at_get}
@@ -38,9 +39,9 @@ use Rattle.nr_board.specs.Callers.{Caller, Table, caller_of, map_seen, token}
 use Rattle.nr_board.specs.Entries.{AreCallers}
 use Rattle.nr_board.specs.Plays.{Room}
 use Rattle.nr_board.specs.Recalls.{RecallsAt}
-use Rattle.nr_board.specs.Reaping.{HeldEach, ProbesAt, ProbesTo, SweepsFor, SweptTo, probed, ready, ready_in, waiting, waits_by}
+use Rattle.nr_board.specs.Reaping.{HeldEach, ProbesAt, ProbesTo, SweepsFor, SweptTo, probed, ready, ready_in, waiting}
 use Rattle.nr_board.specs.Rule.{Kept, marks_of, role_of}
-use Rattle.nr_board.specs.Spares.{desk_with}
+use Rattle.nr_board.specs.Spares.{desk_with, held_polls, not_passed}
 use Rattle.nr_board.specs.Views.{View, caller_number, desk_of}
 use Rattle.nr_board.specs.WriterSeats.{MapSeat, RestsAt}
 use Rattle.nr_board.specs.declared.reaping.Sweep.TheVariants as sweep
@@ -107,18 +108,18 @@ module _ (passes : ℕ → Bool) (l : List Retired) (place : ℕ) (low : place <
   drop_next : drop place l ≡ entry_there ∷ drop (place + 1) l
   drop_next = let e : suc place ≡ place + 1 = omega arith in drop_at l place low ∙ ap (λ (n : ℕ). entry_there ∷ drop n l) e
 
-  waits_not : passes entry_there.slot ≡ true → waits_by passes (drop place l) ≡ waits_by passes (drop (place + 1) l)
-  waits_not gone = ap (waits_by passes) drop_next ∙ ap (λ (b : Bool). cond {A = List Retired} b (waits_by passes (drop (place + 1) l)) (entry_there ∷ waits_by passes (drop (place + 1) l))) gone
+  waits_not : passes entry_there.slot ≡ true → not_passed passes (drop place l) ≡ not_passed passes (drop (place + 1) l)
+  waits_not gone = ap (not_passed passes) drop_next ∙ ap (λ (b : Bool). cond {A = List Retired} b (not_passed passes (drop (place + 1) l)) (entry_there ∷ not_passed passes (drop (place + 1) l))) gone
 
-  waits_there : passes entry_there.slot ≡ false → waits_by passes (drop place l) ≡ entry_there ∷ waits_by passes (drop (place + 1) l)
-  waits_there stays = ap (waits_by passes) drop_next ∙ ap (λ (b : Bool). cond {A = List Retired} b (waits_by passes (drop (place + 1) l)) (entry_there ∷ waits_by passes (drop (place + 1) l))) stays
+  waits_there : passes entry_there.slot ≡ false → not_passed passes (drop place l) ≡ entry_there ∷ not_passed passes (drop (place + 1) l)
+  waits_there stays = ap (not_passed passes) drop_next ∙ ap (λ (b : Bool). cond {A = List Retired} b (not_passed passes (drop (place + 1) l)) (entry_there ∷ not_passed passes (drop (place + 1) l))) stays
 
 -- one waits, if one at a place of the list does
-some_waits : (passes : ℕ → Bool) (l : List Retired) (place : ℕ) → place < length l → passes (get_or l place no_retired).slot ≡ false → 0 < length (waits_by passes l)
+some_waits : (passes : ℕ → Bool) (l : List Retired) (place : ℕ) → place < length l → passes (get_or l place no_retired).slot ≡ false → 0 < length (not_passed passes l)
 some_waits passes [] place low stays = absurd (omega arith)
-some_waits passes (x ∷ l) zero low stays = let is = ap (λ (b : Bool). length (cond {A = List Retired} b (waits_by passes l) (x ∷ waits_by passes l))) stays in omega arith
+some_waits passes (x ∷ l) zero low stays = let is = ap (λ (b : Bool). length (cond {A = List Retired} b (not_passed passes l) (x ∷ not_passed passes l))) stays in omega arith
 some_waits passes (x ∷ l) (suc place) low stays = let rest = some_waits passes l place (omega arith) stays in
-    by_cases (λ (b : Bool). 0 < length (cond {A = List Retired} b (waits_by passes l) (x ∷ waits_by passes l))) (passes x.slot) (λ _. rest) (λ _. omega arith)
+    by_cases (λ (b : Bool). 0 < length (cond {A = List Retired} b (not_passed passes l) (x ∷ not_passed passes l))) (passes x.slot) (λ _. rest) (λ _. omega arith)
 
 -- the element at the end of a list
 at_end : {A : Type 0} (l : List A) (x : A) (at : ℕ) → at ≡ length l → get_elem? (l ++ x ∷ []) at ≡ some x
@@ -163,10 +164,10 @@ module _ (readers : ℕ) (slots : List Retired) (notes : List Past) (entry : Ret
 
 -- THE SWEEP
 
-probed_none : (view : View) → probed [] 0 view ≡ view
-probed_none view = λ j. record view { steps = same j; marks = with_polls view.marks (append-nil view.marks.polls j) }
+probed_none : (view : View) → probed [] [] view ≡ view
+probed_none view = λ j. record view { steps = same j; marks = with_scan view.marks (append-nil view.marks.polls j) (append-nil view.marks.loads j) }
   where
-    same : view.steps + (0 + 0) ≡ view.steps
+    same : view.steps + 0 ≡ view.steps
     same = omega arith
 
 pub swept_none : (spare : Spare) (seat : MapSeat) → SweptTo spare seat seat 0 false
@@ -179,7 +180,7 @@ swept_none spare seat = record {
   own = refl;
   view = sym (probed_none seat.me.0);
   some_wait = λ clash. absurd (cc);
-  none_wait = λ _. (refl, refl);
+  none_wait = λ _. (refl, refl, refl);
 }
 
 module _ (spare : Spare) (before mid : MapSeat) (place : ℕ) (waits : Bool) (so_far : SweptTo spare before mid place waits) (low : place < length spare.retired) where
@@ -193,7 +194,7 @@ module _ (spare : Spare) (before mid : MapSeat) (place : ℕ) (waits : Bool) (so
   abbrev passes : ℕ → Bool
   passes slot = flag spare.reaped slot || unheard slot
 
-  from_here : passes this.slot ≡ true → ready_in spare before.me.0 ≡ so_far.held ++ waits_by passes (drop (place + 1) spare.retired)
+  from_here : passes this.slot ≡ true → ready_in spare before.me.0 ≡ so_far.held ++ not_passed passes (drop (place + 1) spare.retired)
   from_here gone = so_far.split ∙ ap (λ (l : List Retired). so_far.held ++ l) (waits_not passes spare.retired place low gone)
 
   earlier_on : (at : ℕ) (entry : Retired) → get_elem? so_far.held at ≡ some entry → (other : ℕ) × (other < place + 1) × (get_elem? spare.retired other ≡ some entry)
@@ -209,7 +210,7 @@ module _ (spare : Spare) (before mid : MapSeat) (place : ℕ) (waits : Bool) (so
     own = so_far.own;
     view = so_far.view;
     some_wait = so_far.some_wait;
-    none_wait = λ none. let was = so_far.none_wait none in (was.0, was.1 ∙ waits_not (flag spare.reaped) spare.retired place low gone);
+    none_wait = λ none. let was = so_far.none_wait none in (was.0, was.1, was.2 ∙ waits_not (flag spare.reaped) spare.retired place low gone);
   }
 
   waits_now : flag spare.reaped this.slot ≡ false → 0 < length (waiting spare.reaped spare.retired)
@@ -229,7 +230,7 @@ module _ (spare : Spare) (before mid : MapSeat) (place : ℕ) (waits : Bool) (so
   }
 
   module _ (shape : Shape) (found : ℕ) (after : MapSeat) (own : after.table_id ≡ mid.table_id) (tells : ProbesTo shape this found mid.me.0 after.me.0) (stays : flag spare.reaped this.slot ≡ false) (near : unheard this.slot ≡ false) where
-    split_here : ready_in spare before.me.0 ≡ so_far.held ++ this ∷ waits_by passes (drop (place + 1) spare.retired)
+    split_here : ready_in spare before.me.0 ≡ so_far.held ++ this ∷ not_passed passes (drop (place + 1) spare.retired)
     split_here = so_far.split ∙ ap (λ (l : List Retired). so_far.held ++ l) (waits_there passes spare.retired place low ((λ j. stays j || near j)))
 
     pub swept_more : (table : Table) → shape ≡ table.shape → RestsAt table spare before → same_count found this.arrivals ≡ false → SweptTo spare before after (place + 1) true
@@ -244,27 +245,29 @@ module _ (spare : Spare) (before mid : MapSeat) (place : ℕ) (waits : Bool) (so
         ∙ at_behind before.me.0.marks.polls so_far.notes at ∙ there) same in
         let one_slot : entry.0.slot ≡ this.slot = some_is entry.0.slot this.slot (sym its_slot ∙ as_here ∙ told.2) in let at_before = so_far.earlier at entry.0 entry.1 in
         let one_place = rests.writes.room.apart at_before.0 place entry.0 this at_before.2 here one_slot in let early = at_before.1 in absurd (omega arith) in
-        let longer = length-append so_far.notes (note ∷ []) in
-        let steps : before.me.0.steps + (length so_far.notes + 0) + 1 ≡ before.me.0.steps + (length notes + 0) = omega (arith, longer) in record {
+        let loads : (before.me.0.marks.loads ++ held_polls so_far.held) ++ OfSlot this.slot false ∷ [] ≡ before.me.0.marks.loads ++ held_polls (so_far.held ++ this ∷ [])
+        = append_assoc before.me.0.marks.loads (held_polls so_far.held) (OfSlot this.slot false ∷ []) ∙ ap (λ (l : List LoggedLoad). before.me.0.marks.loads ++ l) (sym (held_next so_far.held this)) in
+        let steps : before.me.0.steps + length (held_polls so_far.held) + 1 ≡ before.me.0.steps + length (held_polls (so_far.held ++ this ∷ [])) = let longer = ap length (held_next so_far.held this) ∙ length-append (held_polls so_far.held) (OfSlot this.slot false ∷ []) in omega (arith, longer) in record {
           held = so_far.held ++ this ∷ [];
           notes = notes;
-          split = split_here ∙ sym (append_assoc so_far.held (this ∷ []) (waits_by passes (drop (place + 1) spare.retired)));
+          split = split_here ∙ sym (append_assoc so_far.held (this ∷ []) (not_passed passes (drop (place + 1) spare.retired)));
           each = held_more before.me.0.shape.readers so_far.held so_far.notes this note so_far.each told.2 told.3 (let high = told.4 in omega arith) another;
           earlier = λ at entry there. ⊎_elim (λ (old : get_elem? so_far.held at ≡ some entry). let e = so_far.earlier at entry old in (e.0, (let early = e.1 in omega arith), e.2))
               (λ (new : (at ≡ length so_far.held) × (this ≡ entry)). (place, omega arith, here ∙ ap some new.1)) (at_last so_far.held this entry at there);
           own = own ∙ so_far.own;
           view = tells.0 ∙ (λ j. record mid.me.0 { steps = mid.me.0.steps + 1; marks = told.1 j })
-              ∙ ap (λ (v : View). record v { steps = v.steps + 1; marks = with_polls v.marks (v.marks.polls ++ note ∷ []) }) so_far.view
-              ∙ (λ j. record before.me.0 { steps = steps j; marks = with_polls before.me.0.marks (append_assoc before.me.0.marks.polls so_far.notes (note ∷ []) j) });
+              ∙ ap (λ (v : View). record v { steps = v.steps + 1; marks = with_polls (with_poll v.marks this.slot false) (v.marks.polls ++ note ∷ []) }) so_far.view
+              ∙ (λ j. record before.me.0 { steps = steps j; marks = with_scan before.me.0.marks (append_assoc before.me.0.marks.polls so_far.notes (note ∷ []) j) (loads j) });
           some_wait = λ _. waits_now stays;
           none_wait = λ clash. absurd (cc);
         }
 
     pub sweeps_free : same_count found this.arrivals ≡ true → this.slot < spare.slots → SweepsFor spare before after (sweep.Free this.slot)
     sweeps_free agree near = let told = subst (λ (b : Bool). ProbeTells b shape mid.me.0.marks this.slot after.me.0.marks) agree tells.1 in
-        let steps : before.me.0.steps + (length so_far.notes + 0) + 1 ≡ before.me.0.steps + (length so_far.notes + 1) = omega arith in (
+        let free : List LoggedLoad = OfSlot this.slot true ∷ [] in
+        let steps : before.me.0.steps + length (held_polls so_far.held) + 1 ≡ before.me.0.steps + length (held_polls so_far.held ++ free) = let longer = length-append (held_polls so_far.held) free in omega (arith, longer) in (
           so_far.held,
-          waits_by passes (drop (place + 1) spare.retired),
+          not_passed passes (drop (place + 1) spare.retired),
           this,
           so_far.notes,
           split_here,
@@ -272,8 +275,8 @@ module _ (spare : Spare) (before mid : MapSeat) (place : ℕ) (waits : Bool) (so
           refl,
           near,
           tells.0 ∙ (λ j. record mid.me.0 { steps = mid.me.0.steps + 1; marks = told j })
-              ∙ ap (λ (v : View). record v { steps = v.steps + 1; marks = with_reaped v.marks this.slot }) so_far.view
-              ∙ (λ j. record before.me.0 { steps = steps j; marks = with_reaped (with_polls before.me.0.marks (before.me.0.marks.polls ++ so_far.notes)) this.slot }),
+              ∙ ap (λ (v : View). record v { steps = v.steps + 1; marks = with_reaped (with_poll v.marks this.slot true) this.slot }) so_far.view
+              ∙ (λ j. record before.me.0 { steps = steps j; marks = with_reaped (with_scan before.me.0.marks (before.me.0.marks.polls ++ so_far.notes) (append_assoc before.me.0.marks.loads (held_polls so_far.held) free j)) this.slot }),
         )
 
 -- all were looked at
@@ -282,11 +285,11 @@ module _ (spare : Spare) (before after : MapSeat) (place : ℕ) (all : length sp
   all_held waits so_far = so_far.split ∙ ap (λ (l : List Retired). so_far.held ++ ready before.me.0.announcers before.me.0.heard spare.reaped l) (drop_all spare.retired place all) ∙ append-nil so_far.held
 
   pub sweeps_held : SweptTo spare before after place true → SweepsFor spare before after sweep.Held
-  sweeps_held so_far = (so_far.notes, so_far.some_wait refl, subst (λ (l : List Retired). HeldEach before.me.0.shape.readers l so_far.notes) (sym (all_held true so_far)) so_far.each, so_far.view)
+  sweeps_held so_far = (so_far.notes, so_far.some_wait refl, subst (λ (l : List Retired). HeldEach before.me.0.shape.readers l so_far.notes) (sym (all_held true so_far)) so_far.each, so_far.view ∙ ap (λ (l : List Retired). probed so_far.notes (held_polls l) before.me.0) (sym (all_held true so_far)))
 
   pub sweeps_nothing : SweptTo spare before after place false → SweepsFor spare before after sweep.Nothing
   sweeps_nothing so_far = let none = so_far.none_wait refl in
-      (none.1 ∙ ap (waiting spare.reaped) (drop_all spare.retired place all), so_far.view ∙ ap (λ (l : List Past). probed l 0 before.me.0) none.0 ∙ probed_none before.me.0)
+      (none.2 ∙ ap (waiting spare.reaped) (drop_all spare.retired place all), so_far.view ∙ (λ j. probed (none.0 j) (held_polls (none.1 j)) before.me.0) ∙ probed_none before.me.0)
 
 -- THE SEAT
 

@@ -7,7 +7,7 @@ use Rattle.nr_core.proofs.Choices.{by_cases}
 use Rattle.nr_core.specs.Roles.{retirements}
 use Rattle.nr_machine.specs.declared.places.Retired.{Retired}
 use Rattle.nr_machine.specs.declared.roles.Desk.{Desk}
-use Rattle.nr_marks.specs.Marks.{Marks, Past, WordLoad, with_polls, with_scan}
+use Rattle.nr_marks.specs.Marks.{Marks, Past, LoggedLoad, with_polls, with_scan}
 use Rattle.nr_board.specs.Scans.{heard_before, heard_from, heard_now}
 use Rattle.nr_board.specs.WordLoads.{WordsSoFar, WordsTell, heard_by, heard_of, loads_of, unsaid, word_load}
 
@@ -20,7 +20,7 @@ loads_length own (word ∷ words) = let rest = loads_length (suc own) words in o
 loads_more : (own found : ℕ) (words : List ℕ) → loads_of own (words ++ found ∷ []) ≡ loads_of own words ++ word_load (own + length words) found ∷ []
 loads_more own found [] = let same : own ≡ own + 0 = omega arith in ap (λ (n : ℕ). word_load n found ∷ []) same
 loads_more own found (word ∷ words) = let same : suc own + length words ≡ own + length (word ∷ words) = omega arith in
-    ap (λ (l : List WordLoad). word_load own word ∷ l) (loads_more (suc own) found words ∙ ap (λ (n : ℕ). loads_of (suc own) words ++ word_load n found ∷ []) same)
+    ap (λ (l : List LoggedLoad). word_load own word ∷ l) (loads_more (suc own) found words ∙ ap (λ (n : ℕ). loads_of (suc own) words ++ word_load n found ∷ []) same)
 
 -- a search that loads no word
 pub no_loads : (marks : Marks) (polls : List Past) → with_polls marks polls ≡ with_scan marks polls (marks.loads ++ [])
@@ -87,16 +87,16 @@ at_heard_by retired words slot (suc more) (suc at) low = let same : suc slot + a
 
 -- THE SCAN
 
-pub words_begin : (retired : List Retired) (slots : ℕ) (loads : List WordLoad) (heard : List ℕ) → WordsSoFar 0 retired slots loads loads heard
+pub words_begin : (retired : List Retired) (slots : ℕ) (loads : List LoggedLoad) (heard : List ℕ) → WordsSoFar 0 retired slots loads loads heard
 words_begin retired slots loads heard = record { words = []; each = refl; loads_are = sym (append-nil loads); tell = λ later. absurd (omega arith) }
 
-pub words_more : (desk : Desk) (own found slots : ℕ) (before now next : List WordLoad) (heard after : List ℕ) → WordsSoFar own desk.retired slots before now heard
+pub words_more : (desk : Desk) (own found slots : ℕ) (before now next : List LoggedLoad) (heard after : List ℕ) → WordsSoFar own desk.retired slots before now heard
     → next ≡ now ++ word_load own found ∷ [] → after ≡ heard_from desk own found heard 0 slots → WordsSoFar (suc own) desk.retired slots before next after
 words_more desk own found slots before now next heard after so_far loads told = record {
   words = so_far.words ++ found ∷ [];
   each = let both = length-append so_far.words (found ∷ []) in let each = so_far.each in omega arith;
-  loads_are = loads ∙ ap (λ (l : List WordLoad). l ++ word_load own found ∷ []) so_far.loads_are ∙ append_assoc before (loads_of 0 so_far.words) (word_load own found ∷ [])
-      ∙ ap (λ (l : List WordLoad). before ++ l) (ap (λ (n : ℕ). loads_of 0 so_far.words ++ word_load n found ∷ []) place ∙ sym (loads_more 0 found so_far.words));
+  loads_are = loads ∙ ap (λ (l : List LoggedLoad). l ++ word_load own found ∷ []) so_far.loads_are ∙ append_assoc before (loads_of 0 so_far.words) (word_load own found ∷ [])
+      ∙ ap (λ (l : List LoggedLoad). before ++ l) (ap (λ (n : ℕ). loads_of 0 so_far.words ++ word_load n found ∷ []) place ∙ sym (loads_more 0 found so_far.words));
   tell = λ _. told ∙ dite (ℕ_discrete own 0) begins goes_on;
 }
   where
@@ -116,11 +116,11 @@ words_more desk own found slots before now next heard after so_far loads told = 
         (λ at low high. ap (λ (l : List ℕ). get_or l at 0) (so_far.tell (omega arith)) ∙ at_heard_by desk.retired so_far.words 0 slots at (omega arith) ∙ (let same : 0 + at ≡ at = omega arith in ap (heard_of desk.retired so_far.words) same))
 
 -- all words were loaded
-pub words_told : (readers : ℕ) (retired : List Retired) (slots : ℕ) (before now : List WordLoad) (heard : List ℕ) → 0 < readers → WordsSoFar readers retired slots before now heard
-    → (loads : List WordLoad) × WordsTell readers retired slots loads heard × (now ≡ before ++ loads)
+pub words_told : (readers : ℕ) (retired : List Retired) (slots : ℕ) (before now : List LoggedLoad) (heard : List ℕ) → 0 < readers → WordsSoFar readers retired slots before now heard
+    → (loads : List LoggedLoad) × WordsTell readers retired slots loads heard × (now ≡ before ++ loads)
 words_told readers retired slots before now heard some_words so_far =
     (loads_of 0 so_far.words, record { words = so_far.words; each = so_far.each; loads_are = refl; tell = so_far.tell some_words }, so_far.loads_are)
 
 -- that many loads
-pub words_many : {readers slots : ℕ} {retired : List Retired} {loads : List WordLoad} {heard : List ℕ} → WordsTell readers retired slots loads heard → length loads ≡ readers
+pub words_many : {readers slots : ℕ} {retired : List Retired} {loads : List LoggedLoad} {heard : List ℕ} → WordsTell readers retired slots loads heard → length loads ≡ readers
 words_many told = ap length told.loads_are ∙ loads_length 0 told.words ∙ told.each

@@ -1,5 +1,5 @@
 -- What a search gives where readers have words, as every search tells it.
-use Rattle.std.proofs.Common.{◌≡◌, ℕ, ◌<◌, ◌≤◌, inl, inr, List, [], length, refl, sym, ap, ◌∙◌, subst, arith}
+use Rattle.std.proofs.Common.{◌≡◌, ℕ, ◌<◌, ◌≤◌, inr, List, [], length, refl, sym, ap, ◌∙◌, subst, arith}
 use Rattle.nr_model.specs.declared.rows.Row.{Row}
 use Rattle.nr_machine.specs.Spares.{Spare, none_spare}
 use Rattle.nr_machine.specs.States.{retired_at}
@@ -24,7 +24,7 @@ use Rattle.nr_board.specs.WriterSeats.{LacksSlot, MapSeat, Settles, TakesSlot, W
 module _ (table : Table) (call : WriterCall) (rows : List Row) (spare : Spare) (before : MapSeat) (settles : Settles table call rows spare before) (full : spare.slots ≤ spare.fresh) (some_words : 0 < table.announcers) where
   -- where no slot is retired the look was the call's last step
   pub lacks_none : spare.retired ≡ [] → LacksSlot table call (none_spare spare) spare spare before before
-  lacks_none none = lacks_slot table call rows spare before before 0 (searched_none table call rows spare before settles full) (inr (inl (some_words, none, refl, refl, refl))) (sym (ap length none))
+  lacks_none none = lacks_slot table call rows spare before before 0 (searched_none table call rows spare before settles full) (inr none) (sym (ap length none))
 
   module _ (waits : 0 < length spare.retired) where
     abbrev desk : Desk
@@ -39,9 +39,9 @@ module _ (table : Table) (call : WriterCall) (rows : List Row) (spare : Spare) (
     pub takes_words : (after : Spare) (now : MapSeat) (taken : Taken) → SearchTakes table spare after before now taken → TakesSlot table call rows taken.slot taken.departures spare after before now
     takes_words after now taken takes = let is = takes.after_is in
         let slot_is : (retired_at desk takes.place).slot ≡ taken.slot = ap (λ (e : Retired). e.slot) (sym (there_is spare.retired takes.place takes.entry takes.here)) ∙ sym takes.slot in record {
-          steps = takes.steps;
+          steps = length takes.loads;
           loads = takes.loads;
-          took = inr (full, takes.place, takes.entry, takes.here, sym takes.slot, inr (some_words, takes.takes), ap (λ (s : Spare). s.fresh) is, ap (λ (s : Spare). s.retired) is);
+          took = inr (full, takes.place, takes.entry, takes.here, sym takes.slot, takes.takes, ap (λ (s : Spare). s.fresh) is, ap (λ (s : Spare). s.retired) is, refl);
           few = (takes.few, λ none. absurd (omega arith));
           slots = ap (λ (s : Spare). s.slots) is;
           numbers = ap (λ (s : Spare). s.numbers) is;
@@ -62,7 +62,7 @@ module _ (table : Table) (call : WriterCall) (rows : List Row) (spare : Spare) (
           writes = writes;
           steps = _;
           loads = lacks.loads;
-          searched = inr (inr (some_words, lacks.words, refl));
+          searched = inr (some_words, waits, lacks.scan, lacks.words, lacks.loads_are, refl);
           grows = lacks.grows;
           lacks = record {
             would_be_done = done;

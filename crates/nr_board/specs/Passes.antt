@@ -1,5 +1,5 @@
 -- A pass of a search: it polls the retired slots that have no flag, oldest first, up to the first that nobody holds.
-use Rattle.std.specs.Prelude.{◌≡◌, ℕ, ◌+◌, ◌<◌, ◌≤◌, ◌⊎◌, if◌then◌else◌, Bool, true, false, List, [], length, remove, slice_index, take, Option, Some, None}
+use Rattle.std.specs.Prelude.{◌≡◌, ℕ, ◌+◌, ◌<◌, ◌≤◌, ◌⊎◌, Bool, true, false, List, [], ◌∷◌, ◌++◌, length, remove, slice_index, take, Option, Some, None}
 use mathlib.Core.Option.{some}
 use lib.ListN.{get_elem?}
 use Rattle.nr_model.specs.declared.rows.Row.{Row}
@@ -12,19 +12,20 @@ use Rattle.nr_machine.specs.declared.places.Place.TheVariants.{Searching}
 use Rattle.nr_machine.specs.declared.places.Retired.{Retired}
 use Rattle.nr_machine.specs.declared.roles.Desk.{Desk}
 use Rattle.nr_machine.specs.declared.roles.Role.TheVariants.{Writer}
-use Rattle.nr_marks.specs.Marks.{Past, with_polls}
+use Rattle.nr_marks.specs.Marks.{OfSlot, Past, with_scan}
 use Rattle.nr_board.specs.declared.publish.Taken.{Taken}
 use Rattle.nr_board.specs.Callers.{Grows, Table, token}
 use Rattle.nr_board.specs.SearchSeats.{SearchesIn}
+use Rattle.nr_board.specs.Spares.{held_polls, not_passed}
 use Rattle.nr_board.specs.WholeScans.{is_unheard}
 use Rattle.nr_board.specs.WriterSeats.{MapSeat, WritesAt}
 
-abbrev pub hits : List Bool → Retired → ℕ
-hits flags entry = (if is_unheard flags entry.slot then 0 else 1)
+-- the slots before that place of the list that have no flag, which are polled
+abbrev pub unflagged : List Retired → List Bool → ℕ → List Retired
+unflagged retired flags place = not_passed (is_unheard flags) (take place retired)
 
--- how many slots before that place of the list are polled
 abbrev pub polls_before : List Retired → List Bool → ℕ → ℕ
-polls_before retired flags place = total (hits flags) (take place retired)
+polls_before retired flags place = length (unflagged retired flags place)
 
 -- all readers that have a word were heard not to say a retired slot without a flag
 abbrev pub AreHeard : List Retired → List Bool → ℕ → List ℕ → Type 0
@@ -50,7 +51,7 @@ pub record PassedTo (table : Table) (spare : Spare) (flags : List Bool) (before 
   pub grows : Grows (polls_before spare.retired flags place) (token before) [] (token now)
   pub notes : NotesTo spare.retired flags table.shape.readers place (length before.me.0.marks.polls) now.me.0.marks.polls
   pub heard : now.me.0.heard ≡ before.me.0.heard
-  pub marks : now.me.0.marks ≡ with_polls before.me.0.marks now.me.0.marks.polls
+  pub marks : now.me.0.marks ≡ with_scan before.me.0.marks now.me.0.marks.polls (before.me.0.marks.loads ++ held_polls (unflagged spare.retired flags place))
 
 -- the pass took the slot at a place, which nobody held
 pub record PassTakes (table : Table) (spare after : Spare) (flags : List Bool) (before now : MapSeat) (taken : Taken) : Type 0 where
@@ -58,13 +59,14 @@ pub record PassTakes (table : Table) (spare after : Spare) (flags : List Bool) (
   pub entry : Retired
   pub here : get_elem? spare.retired place ≡ some entry
   pub slot : taken.slot ≡ entry.slot
+  pub no_flag : is_unheard flags entry.slot ≡ false
   pub after_is : after ≡ record spare { retired = remove spare.retired place }
   pub own : now.table_id ≡ before.table_id
   pub writes : (desk : Desk) (call : WriterCall) (rows : List Row) → before.me.0.role ≡ Writer desk → desk.place ≡ Searching call rows 0 → WritesAt table (taking_retired desk call rows place taken.departures) now
   pub grows : Grows (polls_before spare.retired flags place + 1) (token before) [] (token now)
   pub few : length before.me.0.marks.polls + polls_before spare.retired flags place ≤ table.shape.readers
   pub heard : now.me.0.heard ≡ before.me.0.heard
-  pub marks : now.me.0.marks ≡ with_polls before.me.0.marks now.me.0.marks.polls
+  pub marks : now.me.0.marks ≡ with_scan before.me.0.marks now.me.0.marks.polls (before.me.0.marks.loads ++ (held_polls (unflagged spare.retired flags place) ++ OfSlot entry.slot true ∷ []))
 
 abbrev pub PassesFor : Table → Spare → Spare → List Bool → MapSeat → MapSeat → Option Taken → Type 0
 PassesFor table spare after flags before now (Some taken) = PassTakes table spare after flags before now taken

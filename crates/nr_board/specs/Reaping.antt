@@ -1,5 +1,5 @@
 -- A reap: the writer polls the retired slots whose sets wait, oldest first, and gives out the set of the first that no reader holds. The slot stays retired, and its set is reaped.
-use Rattle.std.specs.Prelude.{◌≡◌, ℕ, ◌+◌, ◌*◌, ◌<◌, ◌≤◌, ◌⊎◌, ◌||◌, if◌then◌else◌, Bool, true, false, List, [], ◌∷◌, ◌++◌, drop, length, nat_lt, slice_index, slice_index_or}
+use Rattle.std.specs.Prelude.{◌≡◌, ℕ, ◌+◌, ◌*◌, ◌<◌, ◌≤◌, ◌⊎◌, ◌||◌, Bool, true, false, List, [], ◌∷◌, ◌++◌, drop, length, nat_lt, slice_index, slice_index_or}
 use mathlib.Core.Option.{some}
 use lib.ListN.{get_elem?}
 use Rattle.nr_model.specs.Rows.{IsRowSet}
@@ -12,7 +12,7 @@ use Rattle.nr_machine.specs.declared.places.Retired.{Retired}
 use Rattle.nr_machine.specs.declared.roles.Desk.{Desk}
 use Rattle.nr_machine.specs.declared.roles.Role.TheVariants.{Writer}
 use Rattle.nr_machine.specs.declared.shape.Shape.{Shape}
-use Rattle.nr_marks.specs.Marks.{Past, WordLoad, set_in, with_loads, with_polls, with_reaped}
+use Rattle.nr_marks.specs.Marks.{OfSlot, Past, LoggedLoad, set_in, with_reaped, with_scan}
 use Rattle.nr_marks.specs.MarkSteps.{ProbeTells}
 use Rattle.nr_marks.specs.PollNotes.{AllHeld}
 use Rattle.nr_board.specs.declared.answers.Reaped.{Reaped}
@@ -21,6 +21,7 @@ use Rattle.nr_board.specs.declared.reaping.Sweep.{Sweep}
 use Rattle.nr_board.specs.declared.reaping.Sweep.TheVariants as sweep
 use Rattle.nr_board.specs.Callers.{Caller, Table, token}
 use Rattle.nr_board.specs.Plays.{Room, Then}
+use Rattle.nr_board.specs.Spares.{held_polls, not_passed}
 use Rattle.nr_board.specs.Views.{View}
 use Rattle.nr_board.specs.WholeScans.{scanned_to}
 use Rattle.nr_board.specs.WordLoads.{WordsTell}
@@ -52,27 +53,22 @@ pub record ProbesAt (table : Table) (entry : Retired) (seat : MapSeat) : Type 0 
 
 -- THE SWEEP
 
--- the retired slots that are not passed by
-abbrev pub waits_by : (ℕ → Bool) → List Retired → List Retired
-waits_by passes [] = []
-waits_by passes (entry ∷ retired) = (if passes entry.slot then waits_by passes retired else entry ∷ waits_by passes retired)
-
--- those whose sets wait: they were not reaped
+-- the retired slots whose sets wait: they were not reaped
 abbrev pub waiting : List Bool → List Retired → List Retired
-waiting flags retired = waits_by (λ slot. slice_index_or flags slot false) retired
+waiting flags retired = not_passed (λ slot. slice_index_or flags slot false) retired
 
 -- those of them of which all readers that have a word were heard
 abbrev pub ready : ℕ → List ℕ → List Bool → List Retired → List Retired
-ready announcers heard flags retired = waits_by (λ slot. slice_index_or flags slot false || nat_lt (slice_index heard slot) announcers) retired
+ready announcers heard flags retired = not_passed (λ slot. slice_index_or flags slot false || nat_lt (slice_index heard slot) announcers) retired
 
 -- each of these slots was polled, in their order, and held by one of that many readers, each by another one
 pub record HeldEach (readers : ℕ) (slots : List Retired) (notes : List Past) : Type 0 where
   pub held : AllHeld slots notes
   pub range : (at : ℕ) (note : Past) → get_elem? notes at ≡ some note → (0 < note.reader) × (note.reader ≤ readers)
 
--- after those polls, and that many steps more
-abbrev pub probed : List Past → ℕ → View → View
-probed notes more view = record view { steps = view.steps + (length notes + more); marks = with_polls view.marks (view.marks.polls ++ notes) }
+-- after those polls, with what they noted
+abbrev pub probed : List Past → List LoggedLoad → View → View
+probed notes polls view = record view { steps = view.steps + length polls; marks = with_scan view.marks (view.marks.polls ++ notes) (view.marks.loads ++ polls) }
 
 abbrev pub reaping : ℕ → View → View
 reaping slot view = record view { marks = with_reaped view.marks slot }
@@ -82,8 +78,8 @@ ready_in spare view = ready view.announcers view.heard spare.reaped spare.retire
 
 abbrev pub SweepsFor : Spare → MapSeat → MapSeat → Sweep → Type 0
 SweepsFor spare old new (sweep.Free slot) = (held later : List Retired) × (entry : Retired) × (notes : List Past) × (ready_in spare old.me.0 ≡ held ++ entry ∷ later) × HeldEach old.me.0.shape.readers held notes
-    × (slot ≡ entry.slot) × (slot < spare.slots) × (new.me.0 ≡ reaping slot (probed notes 1 old.me.0))
-SweepsFor spare old new sweep.Held = (notes : List Past) × (0 < length (waiting spare.reaped spare.retired)) × HeldEach old.me.0.shape.readers (ready_in spare old.me.0) notes × (new.me.0 ≡ probed notes 0 old.me.0)
+    × (slot ≡ entry.slot) × (slot < spare.slots) × (new.me.0 ≡ reaping slot (probed notes (held_polls held ++ OfSlot slot true ∷ []) old.me.0))
+SweepsFor spare old new sweep.Held = (notes : List Past) × (0 < length (waiting spare.reaped spare.retired)) × HeldEach old.me.0.shape.readers (ready_in spare old.me.0) notes × (new.me.0 ≡ probed notes (held_polls (ready_in spare old.me.0)) old.me.0)
 SweepsFor spare old new sweep.Nothing = (waiting spare.reaped spare.retired ≡ []) × (new.me.0 ≡ old.me.0)
 
 -- the sweep so far
@@ -95,23 +91,23 @@ pub record SweptTo (spare : Spare) (before now : MapSeat) (place : ℕ) (waits :
   -- each of them stands before the place in the list
   pub earlier : (at : ℕ) (entry : Retired) → get_elem? held at ≡ some entry → (other : ℕ) × (other < place) × (get_elem? spare.retired other ≡ some entry)
   pub own : now.table_id ≡ before.table_id
-  pub view : now.me.0 ≡ probed notes 0 before.me.0
+  pub view : now.me.0 ≡ probed notes (held_polls held) before.me.0
   -- whether a set waits
   pub some_wait : waits ≡ true → 0 < length (waiting spare.reaped spare.retired)
-  pub none_wait : waits ≡ false → (notes ≡ []) × (waiting spare.reaped spare.retired ≡ waiting spare.reaped (drop place spare.retired))
+  pub none_wait : waits ≡ false → (notes ≡ []) × (held ≡ []) × (waiting spare.reaped spare.retired ≡ waiting spare.reaped (drop place spare.retired))
 
 -- a sweep; or, where readers have words, one that was in vain, a scan, and another sweep
 abbrev pub SweepsHeard : Spare → MapSeat → MapSeat → Sweep → Type 0
 SweepsHeard spare old new found =
     (SweepsFor spare old new found × (found ≡ sweep.Held → old.me.0.announcers ≡ 0))
     ⊎ ((0 < old.me.0.announcers) × (mid last : MapSeat) × SweepsFor spare old mid sweep.Held
-    × (loads : List WordLoad) × WordsTell old.me.0.announcers spare.retired old.me.0.shape.slots loads last.me.0.heard × (last.me.0 ≡ scanned_to loads last.me.0.heard mid.me.0) × SweepsFor spare last new found)
+    × (loads : List LoggedLoad) × WordsTell old.me.0.announcers spare.retired old.me.0.shape.slots loads last.me.0.heard × (last.me.0 ≡ scanned_to loads last.me.0.heard mid.me.0) × SweepsFor spare last new found)
 
 -- THE CALL
 
--- the caller after those polls, and that many steps more
-abbrev pub after_polls : List Past → ℕ → Caller → Caller
-after_polls notes more caller = record caller { steps = caller.steps + (length notes + more); marks = with_polls caller.marks (caller.marks.polls ++ notes) }
+-- the caller after those polls and loads of words, with what they noted and heard, and that many steps more
+abbrev pub after_polls : List Past → List LoggedLoad → List ℕ → ℕ → Caller → Caller
+after_polls notes loads heard more caller = record caller { steps = caller.steps + (length loads + more); marks = with_scan caller.marks (caller.marks.polls ++ notes) (caller.marks.loads ++ loads); heard = heard }
 
 abbrev pub with_reap : ℕ → Caller → Caller
 with_reap slot caller = record caller { marks = with_reaped caller.marks slot }
@@ -119,21 +115,19 @@ with_reap slot caller = record caller { marks = with_reaped caller.marks slot }
 abbrev pub ready_to : Caller → List ℕ → List Retired
 ready_to caller heard = ready caller.table.announcers heard caller.marks.reaped caller.retired
 
--- before its last sweep a reap polls nothing, or, where readers have words, each set that is ready, in vain; then it scans the words
-abbrev pub ScansFirst : Caller → List ℕ → List WordLoad → List Past → Type 0
+-- before its last sweep a reap loads nothing, or, where readers have words, it polls each set that is ready, in vain, and then scans the words
+abbrev pub ScansFirst : Caller → List ℕ → List LoggedLoad → List Past → Type 0
 ScansFirst old scanned loads earlier =
     ((scanned ≡ old.heard) × (loads ≡ []) × (earlier ≡ []))
-    ⊎ ((0 < old.table.announcers) × HeldEach old.table.shape.readers (ready_to old old.heard) earlier × WordsTell old.table.announcers old.retired old.table.shape.slots loads scanned)
-
-abbrev pub hearing : List ℕ → List WordLoad → Caller → Caller
-hearing heard loads caller = record caller { marks = with_loads caller.marks (caller.marks.loads ++ loads); heard = heard }
+    ⊎ ((0 < old.table.announcers) × HeldEach old.table.shape.readers (ready_to old old.heard) earlier
+    × (scan : List LoggedLoad) × WordsTell old.table.announcers old.retired old.table.shape.slots scan scanned × (loads ≡ held_polls (ready_to old old.heard) ++ scan))
 
 -- A reap gives out the oldest set that waits, that no reader's word announced and that nobody holds, by a poll of each up to it and a load of each word. Or each that waits is kept back: it was announced when the words were scanned, or held at its poll, each by another reader. Or none waits. Else the token is as it was.
 abbrev pub ReapsIn : {Room : Type 0} → (Room → List Row → Type 0) → Caller → Room → Caller → Room → Reaped → Type 0
-ReapsIn shows old before new after reaped.Set = (held later : List Retired) × (entry : Retired) × (notes earlier : List Past) × (scanned : List ℕ) × (loads : List WordLoad) × ScansFirst old scanned loads earlier
+ReapsIn shows old before new after reaped.Set = (held later : List Retired) × (entry : Retired) × (notes earlier : List Past) × (scanned : List ℕ) × (loads : List LoggedLoad) × ScansFirst old scanned loads earlier
     × (ready_to old scanned ≡ held ++ entry ∷ later) × HeldEach old.table.shape.readers held notes
     × shows after (set_in old.marks entry.slot) × IsRowSet old.table.shape.rows (set_in old.marks entry.slot)
-    × (new ≡ hearing scanned loads (with_reap entry.slot (after_polls (earlier ++ notes) (length loads + (1 + (2 * length (set_in old.marks entry.slot) + 1))) old)))
-ReapsIn shows old before new after reaped.Held = (notes earlier : List Past) × (scanned : List ℕ) × (loads : List WordLoad) × ScansFirst old scanned loads earlier × (0 < old.table.announcers → length loads ≡ old.table.announcers)
-    × (0 < length (waiting old.marks.reaped old.retired)) × HeldEach old.table.shape.readers (ready_to old scanned) notes × (new ≡ hearing scanned loads (after_polls (earlier ++ notes) (length loads) old)) × (after ≡ before)
+    × (new ≡ with_reap entry.slot (after_polls (earlier ++ notes) (loads ++ (held_polls held ++ OfSlot entry.slot true ∷ [])) scanned (2 * length (set_in old.marks entry.slot) + 1) old))
+ReapsIn shows old before new after reaped.Held = (notes earlier : List Past) × (scanned : List ℕ) × (loads : List LoggedLoad) × ScansFirst old scanned loads earlier × (0 < old.table.announcers → 0 < length loads)
+    × (0 < length (waiting old.marks.reaped old.retired)) × HeldEach old.table.shape.readers (ready_to old scanned) notes × (new ≡ after_polls (earlier ++ notes) (loads ++ held_polls (ready_to old scanned)) scanned 0 old) × (after ≡ before)
 ReapsIn shows old before new after reaped.Nothing = (waiting old.marks.reaped old.retired ≡ []) × (new ≡ old) × (after ≡ before)

@@ -15,10 +15,10 @@ use Rattle.nr_machine.specs.declared.places.Place.TheVariants.{Idle, Searching}
 use Rattle.nr_machine.specs.declared.places.Retired.{Retired}
 use Rattle.nr_machine.specs.declared.roles.Desk.{Desk}
 use Rattle.nr_machine.specs.declared.roles.Role.TheVariants.{Writer}
-use Rattle.nr_marks.specs.Marks.{Past, WordLoad, with_scan}
+use Rattle.nr_marks.specs.Marks.{Past, LoggedLoad, with_scan}
 use Rattle.nr_board.specs.declared.publish.Taken.{Taken}
 use Rattle.nr_board.specs.Callers.{Grows, Table, map_seen, token}
-use Rattle.nr_board.specs.Spares.{PollsOrScans, polls_heard}
+use Rattle.nr_board.specs.Spares.{SearchedTo, heard_all, held_polls}
 use Rattle.nr_board.specs.WordLoads.{WordsTell}
 use Rattle.nr_board.specs.WriterSeats.{MapSeat, WritesAt}
 
@@ -29,12 +29,11 @@ pub record SearchTakes (table : Table) (spare after : Spare) (before now : MapSe
   pub slot : taken.slot ≡ entry.slot
   pub after_is : after ≡ record spare { retired = remove spare.retired place }
   pub writes : (desk : Desk) (call : WriterCall) (rows : List Row) → before.me.0.role ≡ Writer desk → desk.place ≡ Searching call rows 0 → WritesAt table (taking_retired desk call rows place taken.departures) now
-  pub steps : ℕ
-  pub loads : List WordLoad
-  pub takes : PollsOrScans table before.me.0.heard now.me.0.heard loads spare.retired place steps
-  pub grows : Grows steps (token before) [] (token now)
+  pub loads : List LoggedLoad
+  pub takes : SearchedTo table before.me.0.heard now.me.0.heard loads spare.retired place taken.slot
+  pub grows : Grows (length loads) (token before) [] (token now)
   -- no pass polled more slots that were held than there are readers
-  pub few : steps ≤ table.shape.readers + table.announcers + (table.shape.readers + 1)
+  pub few : length loads ≤ table.shape.readers + table.announcers + (table.shape.readers + 1)
   pub marks : now.me.0.marks ≡ with_scan before.me.0.marks now.me.0.marks.polls (before.me.0.marks.loads ++ loads)
 
 -- there is no slot: each is a filled key's, or is retired and kept back by a reader, each by another one
@@ -44,12 +43,14 @@ pub record SearchLacks (table : Table) (spare after : Spare) (before now : MapSe
   pub writes : (desk : Desk) (call : WriterCall) (rows : List Row) → before.me.0.role ≡ Writer desk → desk.place ≡ Searching call rows 0
       → WritesAt table (moved_to desk Idle) now × (reply_to (map_seen (token now)) (call_of call) ≡ reply.Done)
       × (filled_count (map_seen (token now)) + length spare.retired ≡ table.shape.slots)
-  pub grows : Grows (polls_heard table.announcers before.me.0.heard spare.retired (length spare.retired) + table.announcers + (polls_heard table.announcers now.me.0.heard spare.retired (length spare.retired) + 1)) (token before) [] (token now)
   pub many : length now.me.0.marks.polls ≡ length spare.retired
   pub apart : (reader : ℕ) → total (λ (note : Past). only reader note.reader) now.me.0.marks.polls ≤ 1
   pub few : length spare.retired ≤ table.shape.readers
-  pub loads : List WordLoad
-  pub words : WordsTell table.announcers spare.retired table.shape.slots loads now.me.0.heard
+  pub scan : List LoggedLoad
+  pub words : WordsTell table.announcers spare.retired table.shape.slots scan now.me.0.heard
+  pub loads : List LoggedLoad
+  pub loads_are : loads ≡ held_polls (heard_all table.announcers before.me.0.heard spare.retired) ++ (scan ++ held_polls (heard_all table.announcers now.me.0.heard spare.retired))
+  pub grows : Grows (length loads + 1) (token before) [] (token now)
   pub marks : now.me.0.marks ≡ with_scan before.me.0.marks now.me.0.marks.polls (before.me.0.marks.loads ++ loads)
 
 abbrev pub SearchesFor : Table → Spare → Spare → MapSeat → MapSeat → Result Taken NoSlot → Type 0

@@ -4,7 +4,7 @@ use mathlib.Core.Option.{some}
 use lib.ListN.{get_elem?}
 use Rattle.nr_machine.specs.Sums.{only, total}
 use Rattle.nr_machine.specs.declared.places.Retired.{Retired}
-use Rattle.nr_marks.specs.Marks.{Past, WordLoad, with_loads, with_scan}
+use Rattle.nr_marks.specs.Marks.{Past, LoggedLoad, with_loads, with_scan}
 use Rattle.nr_core.specs.Roles.{retirements}
 use Rattle.nr_board.specs.SearchPlays.{scan_base}
 use Rattle.nr_board.specs.Views.{View}
@@ -55,9 +55,9 @@ pub record ScannedTo (retired : List Retired) (before now : View) (flags : List 
   pub keep : KeepBack retired flags own (scan_base own now.marks.polls)
 
 -- the view after those loads between two calls
-abbrev pub scanned_to : List WordLoad → List ℕ → View → View
+abbrev pub scanned_to : List LoggedLoad → List ℕ → View → View
 scanned_to loads heard view = record view { steps = view.steps + length loads; marks = with_loads view.marks (view.marks.loads ++ loads); heard = heard }
 
 -- a scan by a writer between two calls tells it nothing but what it hears
 abbrev pub RestsHearing : ℕ → List Retired → View → View → Type 0
-RestsHearing readers retired old new = (loads : List WordLoad) × WordsTell readers retired old.shape.slots loads new.heard × (new ≡ scanned_to loads new.heard old)
+RestsHearing readers retired old new = (loads : List LoggedLoad) × WordsTell readers retired old.shape.slots loads new.heard × (new ≡ scanned_to loads new.heard old)

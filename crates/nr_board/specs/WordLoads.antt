@@ -2,14 +2,14 @@
 use Rattle.std.specs.Prelude.{◌≡◌, ℕ, zero, suc, ◌<◌, ◌==◌, if◌then◌else◌, nat_lt, List, [], ◌∷◌, ◌++◌, length}
 use Rattle.nr_core.specs.Roles.{retirements}
 use Rattle.nr_machine.specs.declared.places.Retired.{Retired}
-use Rattle.nr_marks.specs.Marks.{WordLoad}
+use Rattle.nr_marks.specs.Marks.{OfWord, LoggedLoad}
 
 -- readers count from 1, their words from 0
-abbrev pub word_load : ℕ → ℕ → WordLoad
-word_load own word = record { reader = suc own; word = word }
+abbrev pub word_load : ℕ → ℕ → LoggedLoad
+word_load own word = OfWord (suc own) word
 
 -- loads of the words of readers, one after the other from that one on
-abbrev pub loads_of : ℕ → List ℕ → List WordLoad
+abbrev pub loads_of : ℕ → List ℕ → List LoggedLoad
 loads_of own [] = []
 loads_of own (word ∷ words) = word_load own word ∷ loads_of (suc own) words
 
@@ -28,14 +28,14 @@ heard_by retired words slot zero = []
 heard_by retired words slot (suc more) = heard_of retired words slot ∷ heard_by retired words (suc slot) more
 
 -- so many words were loaded, which are all loads that were made, and tell what was heard
-pub record WordsTell (readers : ℕ) (retired : List Retired) (slots : ℕ) (loads : List WordLoad) (heard : List ℕ) : Type 0 where
+pub record WordsTell (readers : ℕ) (retired : List Retired) (slots : ℕ) (loads : List LoggedLoad) (heard : List ℕ) : Type 0 where
   pub words : List ℕ
   pub each : length words ≡ readers
   pub loads_are : loads ≡ loads_of 0 words
   pub tell : heard ≡ heard_by retired words 0 slots
 
 -- so far: before the first load nothing is told
-pub record WordsSoFar (readers : ℕ) (retired : List Retired) (slots : ℕ) (before now : List WordLoad) (heard : List ℕ) : Type 0 where
+pub record WordsSoFar (readers : ℕ) (retired : List Retired) (slots : ℕ) (before now : List LoggedLoad) (heard : List ℕ) : Type 0 where
   pub words : List ℕ
   pub each : length words ≡ readers
   pub loads_are : now ≡ before ++ loads_of 0 words

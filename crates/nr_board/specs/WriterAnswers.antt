@@ -30,7 +30,7 @@ use Rattle.nr_board.specs.Callers.{Caller, Gains, Grows, map_at_opening}
 use Rattle.nr_board.specs.Plays.{Lacks}
 use Rattle.nr_machine.specs.Spares.{Spare}
 use Rattle.nr_board.specs.Spares.{AreFewSteps, SearchedAll, TookBySearch, spare_of}
-use Rattle.nr_marks.specs.Marks.{Marks, WordLoad, with_loads, with_name, with_polls, with_scan, without_name}
+use Rattle.nr_marks.specs.Marks.{Marks, LoggedLoad, with_loads, with_name, with_polls, with_scan, without_name}
 use Rattle.nr_marks.specs.Puts.{put_count}
 use Rattle.nr_marks.specs.PollNotes.{Noted}
 use Rattle.nr_board.specs.Polls.{AllHeldThen}
@@ -76,9 +76,9 @@ pub record Publishes (steps : ℕ) (old : Caller) (call : Call) (rows : List Row
   pub slot : ℕ
   pub inside : slot < old.table.shape.slots
   pub mid : Spare
-  -- what was heard when the search ended, of the slot's new set nothing is; and its loads of readers' words
+  -- what was heard when the search ended, of the slot's new set nothing is; and its polls and loads of readers' words
   pub scanned : List ℕ
-  pub loads : List WordLoad
+  pub loads : List LoggedLoad
   pub took : TookBySearch old.table old.heard scanned loads slot searched (spare_of old) mid
   pub heard : new.heard ≡ slice_set scanned slot 0
   pub few : AreFewSteps old.table searched
@@ -94,7 +94,7 @@ pub record Publishes (steps : ℕ) (old : Caller) (call : Call) (rows : List Row
 -- A call that found no slot, after that many other steps and a search of all retired slots. It is no entry: the writer has learnt readers' entries alone.
 pub record HasNoSlot (steps : ℕ) (old : Caller) (call : Call) (counts : NoSlot) (new : Caller) : Type 0 where
   pub searched : ℕ
-  pub loads : List WordLoad
+  pub loads : List LoggedLoad
   pub all : SearchedAll old.table old.heard new.heard loads old.retired searched
   pub grows : Grows (steps + searched) old [] new
   pub readers : entries_of grows.between old.number ≡ []

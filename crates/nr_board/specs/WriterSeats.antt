@@ -29,7 +29,7 @@ use Rattle.nr_board.specs.Spares.{AreFewSteps, SearchedAll, TookBySearch, desk_w
 use Rattle.nr_board.specs.Plays.{Finds, Lacks, NotesTell, Room, SwapsAt, call_at, next_put}
 use Rattle.nr_board.specs.Polls.{AllHeldThen}
 use Rattle.nr_marks.specs.MarkSteps.{GoesMarks}
-use Rattle.nr_marks.specs.Marks.{WordLoad, with_loads, with_name, with_scan}
+use Rattle.nr_marks.specs.Marks.{LoggedLoad, with_loads, with_name, with_scan}
 use Rattle.nr_marks.specs.PollNotes.{Noted}
 use Rattle.nr_marks.specs.Puts.{put_count}
 use Rattle.nr_board.specs.Views.{View}
@@ -162,7 +162,7 @@ swept shape desk call rows polls = (if nat_lt polls (length desk.retired) then (
 -- the slot that a call took, with its departures, or there was none
 pub record TakesSlot (table : Table) (call : WriterCall) (rows : List Row) (slot departed : ℕ) (spare after : Spare) (old new : MapSeat) : Type 0 where
   pub steps : ℕ
-  pub loads : List WordLoad
+  pub loads : List LoggedLoad
   pub took : TookBySearch table old.me.0.heard new.me.0.heard loads slot steps spare after
   pub few : AreFewSteps table steps
   pub slots : after.slots ≡ spare.slots
@@ -176,7 +176,7 @@ pub record LacksSlot (table : Table) (call : WriterCall) (counts : NoSlot) (spar
   pub same : after ≡ spare
   pub writes : WritesAt table (desk_with spare Idle) new
   pub steps : ℕ
-  pub loads : List WordLoad
+  pub loads : List LoggedLoad
   pub searched : SearchedAll table old.me.0.heard new.me.0.heard loads spare.retired steps
   pub grows : Grows steps (token old) [] (token new)
   pub lacks : Lacks (call_of call) counts (token new)
@@ -190,9 +190,9 @@ pub record PublishesSet (table : Table) (call : WriterCall) (rows : List Row) (s
   pub slot : ℕ
   pub inside : slot < table.shape.slots
   pub mid : Spare
-  -- what was heard when the search ended, and its loads of readers' words
+  -- what was heard when the search ended, and its polls and loads of readers' words
   pub scanned : List ℕ
-  pub loads : List WordLoad
+  pub loads : List LoggedLoad
   pub took : TookBySearch table old.me.0.heard scanned loads slot steps spare mid
   pub heard : new.me.0.heard ≡ slice_set scanned slot 0
   -- the word that the key had

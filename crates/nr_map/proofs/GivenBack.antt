@@ -20,7 +20,7 @@ use Rattle.nr_model.specs.declared.calls.Call.TheVariants as model
 use Rattle.nr_model.specs.declared.calls.Reply.{Reply}
 use Rattle.nr_model.specs.declared.calls.Reply.TheVariants as reply
 use Rattle.nr_model.specs.declared.rows.Row.{Row}
-use Rattle.nr_marks.specs.Marks.{Marks, Past, WordLoad, is_reaped, set_in, with_scan}
+use Rattle.nr_marks.specs.Marks.{Marks, Past, LoggedLoad, is_reaped, set_in, with_scan}
 use Rattle.nr_marks.specs.Pasts.{Living}
 use Rattle.nr_marks.specs.Puts.{put_count}
 use Rattle.nr_board.specs.declared.answers.Cancel.{Cancel}
@@ -173,7 +173,7 @@ module _ {Room : Type 0} (shows : Room → List Row → Type 0) (old new : Calle
   reap_goes_on (held, later, entry, notes, earlier, scanned, loads, first, waits, each, shown, row_set, is) =
       let slot : ℕ = entry.slot in let one = given_at old slot in let there = ready_there old scanned held later entry waits in
       let low = books.ledger.taken slot (inr (there.0, entry, there.1, refl)) in let has = stands_so old put given slot books low there.2 in
-      let ledger = reaped_once_lem held later entry (earlier ++ notes) _ scanned loads old new (numbers given) waits is books.ledger in
+      let ledger = reaped_once_lem held later entry (earlier ++ notes) _ scanned _ old new (numbers given) waits is books.ledger in
       subst (λ (l : List (List Row)). Books new l (given ++ one ∷ [])) (sym (append-nil put)) (subst (λ (c : Caller). Ledger c (numbers given ++ one.number ∷ []) → Books c put (given ++ one ∷ [])) (sym is)
       (λ goes. record {
         writes = books.writes;
@@ -253,7 +253,7 @@ module _ (old new : Caller) (put : List (List Row)) (given : List Given) (books 
   cancel_goes_on key cancel.Worn says = quiet_goes_on 1 (model.Cancel key) reply.Worn refl says.0 says.1
 
   -- only its steps, polls and loads and what it heard are others
-  same_goes_on : (steps : ℕ) (polls : List Past) (loads : List WordLoad) (heard : List ℕ) → new ≡ record old { steps = steps; marks = with_scan old.marks polls loads; heard = heard } → Books new (put ++ []) (given ++ [])
+  same_goes_on : (steps : ℕ) (polls : List Past) (loads : List LoggedLoad) (heard : List ℕ) → new ≡ record old { steps = steps; marks = with_scan old.marks polls loads; heard = heard } → Books new (put ++ []) (given ++ [])
   same_goes_on steps polls loads heard is =
       let table = ap (λ (c : Caller). c.table) is in let fresh = ap (λ (c : Caller). c.fresh) is in let many = ap (λ (c : Caller). put_count c.mine) is in
       let puts = ap (λ (c : Caller). c.marks.puts) is in let flags = ap (λ (c : Caller). c.marks.reaped) is in

@@ -23,7 +23,7 @@ use Rattle.nr_model.specs.declared.rows.Row.{Row}
 use Rattle.nr_model.specs.declared.states.KeyState.{KeyState}
 use Rattle.nr_model.specs.declared.states.KeyState.TheVariants.{Asked, Hole, Rows}
 use Rattle.nr_machine.specs.Story.{entry}
-use Rattle.nr_marks.specs.Marks.{Marks, Past, WordLoad, with_scan}
+use Rattle.nr_marks.specs.Marks.{Marks, Past, LoggedLoad, with_scan}
 use Rattle.nr_marks.specs.Pasts.{Living}
 use Rattle.nr_marks.specs.Puts.{put_count, puts_set}
 use Rattle.nr_board.specs.declared.answers.Cancel.TheVariants as cancel
@@ -31,7 +31,8 @@ use Rattle.nr_board.specs.declared.answers.Evict.TheVariants as evict
 use Rattle.nr_board.specs.Callers.{Caller, Gains, Table, map_at_opening}
 use Rattle.nr_board.specs.Entries.{AreCallers, is_reading}
 use Rattle.nr_machine.specs.Spares.{Spare}
-use Rattle.nr_board.specs.Reaping.{ready_to, waits_by}
+use Rattle.nr_board.specs.Reaping.{ready_to}
+use Rattle.nr_board.specs.Spares.{not_passed}
 use Rattle.nr_board.specs.WriterAnswers.{Publishes, Retires, RetiresOne}
 use Rattle.nr_map.specs.Reclaims.{CancelLeaves, EvictionLeaves, GatheredStands, HandedOutOnce, Ledger, LedgerStays, NobodyHoldsIt, NoSlotLeaves, OpeningBegins, QuietLeaves, ReapedOnce, StandsAfterReap, StandsYet, had_number, standing, unreaped}
 
@@ -325,17 +326,17 @@ handed_out_once_lem = ledger_goes_on
 -- A REAP
 
 -- a slot that waits is retired, and not passed by
-waits_there : (passes : ℕ → Bool) (retired held later : List Retired) (entry : Retired) → waits_by passes retired ≡ held ++ entry ∷ later → (at : ℕ) × (get_elem? retired at ≡ some entry) × (passes entry.slot ≡ false)
+waits_there : (passes : ℕ → Bool) (retired held later : List Retired) (entry : Retired) → not_passed passes retired ≡ held ++ entry ∷ later → (at : ℕ) × (get_elem? retired at ≡ some entry) × (passes entry.slot ≡ false)
 waits_there passes [] held later entry is = absurd (let size = ap length is in let longer = length-append held (entry ∷ later) in omega arith)
 waits_there passes (e ∷ retired) held later entry is =
     let Goal : Type 0 = (at : ℕ) × (get_elem? (e ∷ retired) at ≡ some entry) × (passes entry.slot ≡ false) in
-    let deeper : (held' : List Retired) → waits_by passes retired ≡ held' ++ entry ∷ later → Goal = λ held' rest. let t = waits_there passes retired held' later entry rest in (suc t.0, t.1, t.2) in
-    by_cases (λ (b : Bool). passes e.slot ≡ b → cond {A = List Retired} b (waits_by passes retired) (e ∷ waits_by passes retired) ≡ held ++ entry ∷ later → Goal) (passes e.slot)
+    let deeper : (held' : List Retired) → not_passed passes retired ≡ held' ++ entry ∷ later → Goal = λ held' rest. let t = waits_there passes retired held' later entry rest in (suc t.0, t.1, t.2) in
+    by_cases (λ (b : Bool). passes e.slot ≡ b → cond {A = List Retired} b (not_passed passes retired) (e ∷ not_passed passes retired) ≡ held ++ entry ∷ later → Goal) (passes e.slot)
     (λ _ _ rest. deeper held rest)
     (λ _ kept rest. here held rest kept deeper) refl is
   where
-    here : (held : List Retired) → e ∷ waits_by passes retired ≡ held ++ entry ∷ later → passes e.slot ≡ false
-        → ((held' : List Retired) → waits_by passes retired ≡ held' ++ entry ∷ later → (at : ℕ) × (get_elem? (e ∷ retired) at ≡ some entry)
+    here : (held : List Retired) → e ∷ not_passed passes retired ≡ held ++ entry ∷ later → passes e.slot ≡ false
+        → ((held' : List Retired) → not_passed passes retired ≡ held' ++ entry ∷ later → (at : ℕ) × (get_elem? (e ∷ retired) at ≡ some entry)
         × (passes entry.slot ≡ false))
         → (at : ℕ) × (get_elem? (e ∷ retired) at ≡ some entry) × (passes entry.slot ≡ false)
     here [] rest kept deeper = let same : e ≡ entry = some-injective e entry (ap (λ (l : List Retired). get_elem? l 0) rest) in (0, ap some same, ap (λ (x : Retired). passes x.slot) (sym same) ∙ kept)
@@ -396,7 +397,7 @@ quiet_puts steps call answer old new quiet gains = let none : puts_set (entry ol
     omega (arith, ap put_count gains.mine, total-append puts_set old.mine (entry old.number call answer ∷ []), none)
 
 -- the slots stay, and of the marks all but the polls and the loads
-same_slots : (old new : Caller) (gone : List ℕ) (polls : List Past) (loads : List WordLoad) → new.table ≡ old.table → new.fresh ≡ old.fresh → new.retired ≡ old.retired
+same_slots : (old new : Caller) (gone : List ℕ) (polls : List Past) (loads : List LoggedLoad) → new.table ≡ old.table → new.fresh ≡ old.fresh → new.retired ≡ old.retired
     → new.marks ≡ with_scan old.marks polls loads → put_count new.mine ≡ put_count old.mine → Ledger old gone → Ledger new gone
 same_slots old new gone polls loads table fresh retired marks many = ledger_stays_lem old new gone table fresh (ap (λ (m : Marks). m.puts) marks) (ap (λ (m : Marks). m.reaped) marks)
     (λ slot lives. subst (λ (p : List Retired × Marks). Living p.0 p.1 slot) (λ j. (retired j, marks j)) lives) many

@@ -8,14 +8,14 @@ use Rattle.nr_model.specs.declared.calls.Reply.{Reply}
 use Rattle.nr_model.specs.Histories.{is_done}
 use Rattle.nr_model.specs.declared.rows.Row.{Row}
 use Rattle.nr_model.specs.Strays.{count_of_put}
-use Rattle.nr_marks.specs.Marks.{Past, WordLoad, is_reaped}
+use Rattle.nr_marks.specs.Marks.{Past, LoggedLoad, is_reaped}
 use Rattle.nr_marks.specs.Pasts.{Current, Living}
 use Rattle.nr_marks.specs.Puts.{put_count}
 use Rattle.nr_board.specs.declared.answers.Cancel.{Cancel}
 use Rattle.nr_board.specs.declared.answers.Evict.{Evict}
 use Rattle.nr_board.specs.Callers.{Caller, Gains, Table}
 use Rattle.nr_board.specs.declared.answers.Reaped.TheVariants as reaped
-use Rattle.nr_board.specs.Reaping.{ReapsIn, after_polls, hearing, ready_to, with_reap}
+use Rattle.nr_board.specs.Reaping.{ReapsIn, after_polls, ready_to, with_reap}
 use Rattle.nr_board.specs.WriterAnswers.{CancelsKey, EvictsKey, HasNoSlot, Publishes, SlotsStay}
 use Rattle.nr_map.specs.Opened.{IsOpened}
 
@@ -53,9 +53,9 @@ HandedOutOnce =
 -- a reap lets go of the set that it gives out
 abbrev pub ReapedOnce : Type 0
 ReapedOnce =
-    (held later : List Retired) (entry : Retired) (notes : List Past) (steps : ℕ) (scanned : List ℕ) (loads : List WordLoad) (old new : Caller) (gone : List ℕ) →
+    (held later : List Retired) (entry : Retired) (notes : List Past) (steps : ℕ) (scanned : List ℕ) (loads : List LoggedLoad) (old new : Caller) (gone : List ℕ) →
     ready_to old scanned ≡ held ++ entry ∷ later →
-    new ≡ hearing scanned loads (with_reap entry.slot (after_polls notes steps old)) →
+    new ≡ with_reap entry.slot (after_polls notes loads scanned steps old) →
     Ledger old gone →
     Ledger new (gone ++ slice_index old.marks.puts entry.slot ∷ [])
 

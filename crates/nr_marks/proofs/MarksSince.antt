@@ -21,7 +21,7 @@ use Rattle.nr_machine.specs.declared.roles.Role.{Role}
 use Rattle.nr_machine.specs.declared.roles.Role.TheVariants.{Note, Reader, Writer}
 use Rattle.nr_machine.specs.declared.shape.Shape.{Shape}
 use Rattle.nr_marks.specs.Puts.{put_count, put_number}
-use Rattle.nr_marks.specs.Marks.{Marks, Past, WordLoad, gripped, set_in, with_loads}
+use Rattle.nr_marks.specs.Marks.{Marks, Past, LoggedLoad, gripped, set_in, with_loads}
 use Rattle.nr_marks.specs.Marked.{Keeps, Desked, Evolves, HasWriter, HoldNoOthers, KnowsMarks, Marked, Since, Sweeping, lives}
 use Rattle.nr_marks.proofs.ListPlaces.{at_left, at_maps, set_other}
 
@@ -113,7 +113,7 @@ module _ {A : Type 0} (role : A → Role) (marks : A → Marks) where
       lives_same slot = let b = below-same (λ key. only (suc slot) (name_number (get_or words' key 0))) (λ key. only (suc slot) (name_number (get_or words key 0))) shape.keys (λ key l. ap (only (suc slot)) (names key l)) in omega arith
 
   -- a desk knows nothing of the loads of readers' words
-  pub desk_loads : (shape : Shape) (words : List ℕ) (callers : List A) (log : List Entry) (desk : Desk) (mine : Marks) (loads : List WordLoad)
+  pub desk_loads : (shape : Shape) (words : List ℕ) (callers : List A) (log : List Entry) (desk : Desk) (mine : Marks) (loads : List LoggedLoad)
       → Desked role marks shape words callers log desk mine → Desked role marks shape words callers log desk (with_loads mine loads)
   desk_loads shape words callers log desk mine loads t = record {
     wide = t.wide;
@@ -128,7 +128,7 @@ module _ {A : Type 0} (role : A → Role) (marks : A → Marks) where
     sweep = t.sweep;
   }
 
-  pub knows_loads : (shape : Shape) (words : List ℕ) (callers : List A) (log : List Entry) (r : Role) (mine : Marks) (loads : List WordLoad)
+  pub knows_loads : (shape : Shape) (words : List ℕ) (callers : List A) (log : List Entry) (r : Role) (mine : Marks) (loads : List LoggedLoad)
       → KnowsMarks role marks shape words callers log r mine → KnowsMarks role marks shape words callers log r (with_loads mine loads)
   knows_loads shape words callers log (Writer desk) mine loads t = desk_loads shape words callers log desk mine loads t
   knows_loads shape words callers log (Reader c x) mine loads t = t

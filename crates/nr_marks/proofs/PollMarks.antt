@@ -1,5 +1,5 @@
 -- A poll: where it finds its slot held it notes a reader that holds it, which no poll of this call has noted. So at most as many polls as there are readers find their slots held.
-use Rattle.std.proofs.Common.{inl, inr, List, [], ap, append-nil, arith, cond, false, get_or, length, length-append, map, refl, set, subst, sym, ℕ, ⊎_elim, ◌%◌, ◌++◌, ◌+◌, ◌<◌, ◌^◌, ◌∙◌, ◌∷◌, ◌≡◌, ◌≢◌, ◌≤◌}
+use Rattle.std.proofs.Common.{inl, inr, List, [], ap, append-nil, arith, cond, false, get_or, length, length-append, map, refl, set, subst, sym, ℕ, ⊎_elim, ◌%◌, ◌++◌, ◌+◌, ◌<◌, ◌^◌, ◌∙◌, ◌∷◌, ◌≡◌, ◌≢◌, ◌≤◌, true}
 use Rattle.std.proofs.lemmas.Bool.{eqb-false}
 use Rattle.std.specs.Prelude.{Some, nat_lt}
 use lib.ListN.{get_elem?}
@@ -31,13 +31,13 @@ use Rattle.nr_machine.specs.declared.roles.Grip.TheVariants.{Nothing, On}
 use Rattle.nr_machine.specs.declared.roles.Role.{Role}
 use Rattle.nr_machine.specs.declared.roles.Role.TheVariants.{Note, Reader, Writer}
 use Rattle.nr_machine.specs.declared.shape.Shape.{Shape}
-use Rattle.nr_marks.specs.Marks.{Marks, Past, gripped, past, with_polls}
+use Rattle.nr_marks.specs.Marks.{Marks, Past, LoggedLoad, gripped, past, with_poll, with_polls, with_scan}
 use Rattle.nr_marks.specs.PollNotes.{Missed, NoRoom}
 use Rattle.nr_marks.specs.Marked.{AllSince, CanMark, IsPresent, KnowsMarks, NotesPresent, Once, Remarked, Since, Sweeping, Sweeps, is_caller, Untouched}
 use Rattle.nr_marks.specs.MarkSteps.{PollTells, PollsMarks}
 use Rattle.nr_marks.proofs.Different.{few_of}
 use Rattle.nr_marks.proofs.ListPlaces.{at_last, at_maps, at_unmap, before, inside, no_places, some_is}
-use Rattle.nr_marks.proofs.MarksSince.{rests}
+use Rattle.nr_marks.proofs.MarksSince.{desk_loads, rests}
 use Rattle.nr_marks.proofs.DeskMarks.{QuietEnd, Went, desk_of, desk_stay, no_room_left, nothing_ends, writer_step}
 use Rattle.nr_marks.proofs.ReaderMarks.{contents_loaded}
 
@@ -105,15 +105,15 @@ module _ {A : Type 0} (role : A → Role) (marks : A → Marks) where
         let tells = PollsMarks shape (marks me) known desk call poll in
         let Goal : Type 0 = Remarked role marks shape words callers log id me (Load i) after entries tells in
         let stays : (j : ℕ) → j < shape.keys → get_or words' j 0 ≡ get_or words j 0 = λ j _. ap (λ l. get_or l j 0) (set-get_or words i 0) in
-        let finish : (desk' : Desk) (polls : List Past) → after ≡ Writer desk' → entries ≡ []
+        let finish : (desk' : Desk) (polls : List Past) (loads : List LoggedLoad) → after ≡ Writer desk' → entries ≡ []
         → ((s : ℕ) → retirements s desk'.retired ≤ retirements s desk.retired) → AllSince role marks callers polls
         → NotesPresent role marks callers (marks me).polls polls → Sweeping role marks callers desk' polls desk'.place
-        → tells word after (log ++ entries) (with_polls (marks me) polls) [] → Goal
-        = λ desk' polls is none fewer since noted sweep told. writer_step role marks shape id me (Load i) tells words callers log core m at desk desk'
-        was after entries is (with_polls (marks me) polls) [] (no_places (Since role marks callers)) noted
-        (desk_stay role marks shape words words' callers log entries desk desk' (marks me) polls own stays
+        → tells word after (log ++ entries) (with_scan (marks me) polls loads) [] → Goal
+        = λ desk' polls loads is none fewer since noted sweep told. writer_step role marks shape id me (Load i) tells words callers log core m at desk desk'
+        was after entries is (with_scan (marks me) polls loads) [] (no_places (Since role marks callers)) noted
+        (desk_loads role marks shape words' callers (log ++ entries) desk' (with_polls (marks me) polls) loads (desk_stay role marks shape words words' callers log entries desk desk' (marks me) polls own stays
         (subst (QuietEnd log) (sym none) (nothing_ends log)) fewer since sweep
-        (λ s _ _. (subst (Untouched s) (sym is_at) tt, contents_loaded shape words i s))) told in
+        (λ s _ _. (subst (Untouched s) (sym is_at) tt, contents_loaded shape words i s)))) told in
         let misses : same_count word entry.arrivals ≡ false → (desk' : Desk) → desk'.retired ≡ desk.retired
         → ((polls : List Past) → Sweeps role marks callers desk' polls (poll + 1) → Sweeping role marks callers desk' polls desk'.place)
         → after ≡ Writer desk' → entries ≡ [] → Goal
@@ -143,9 +143,9 @@ module _ {A : Type 0} (role : A → Role) (marks : A → Marks) where
           different = sweep.different;
           few = few;
         } in
-        finish desk' polls is none (λ s. let e = ap (retirements s) same in omega arith) since present (sweeping polls sweep) (
+        finish desk' polls (with_poll (marks me) slot false).loads is none (λ s. let e = ap (retirements s) same in omega arith) since present (sweeping polls sweep) (
           refl,
-          subst (λ b. PollTells b shape (marks me) known desk call poll (log ++ entries) (with_polls (marks me) polls)) (sym miss) (
+          subst (λ b. PollTells b shape (marks me) known desk call poll (log ++ entries) (with_polls (with_poll (marks me) slot false) polls)) (sym miss) (
             refl,
             missed,
             λ last.
@@ -163,10 +163,10 @@ module _ {A : Type 0} (role : A → Role) (marks : A → Marks) where
         → entries ≡ ending (call_of call) (cond {A = Desk × Step} b (taking_retired desk call rows poll word, Going)
         (polls_on shape desk call rows poll)).1 → Goal)
         (same_count word entry.arrivals)
-        (λ _ hit is none. finish (taking_retired desk call rows poll word) (marks me).polls is none
+        (λ _ hit is none. finish (taking_retired desk call rows poll word) (marks me).polls (with_poll (marks me) slot true).loads is none
         (λ s. let gone = total-remove (λ (y : Retired). only s y.slot) desk.retired poll entry here in
         omega arith) own.noted (λ n e there'. inl there') tt
-        (refl, subst (λ b. PollTells b shape (marks me) known desk call poll (log ++ entries) (marks me)) (sym hit) refl))
+        (refl, subst (λ b. PollTells b shape (marks me) known desk call poll (log ++ entries) (with_poll (marks me) slot true)) (sym hit) refl))
         (λ _ miss. by_cases (λ b. after ≡ Writer (cond {A = Desk × Step} b (moved_to desk (Searching call rows (poll + 1)), Going)
         (moved_to desk Idle, no_slot shape desk)).0 → entries ≡ ending (call_of call)
         (cond {A = Desk × Step} b (moved_to desk (Searching call rows (poll + 1)), Going) (moved_to desk Idle, no_slot shape desk)).1 → Goal)

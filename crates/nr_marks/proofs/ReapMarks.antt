@@ -24,11 +24,11 @@ use Rattle.nr_machine.specs.declared.roles.Grip.TheVariants.{Nothing, On}
 use Rattle.nr_machine.specs.declared.roles.Role.{Role}
 use Rattle.nr_machine.specs.declared.roles.Role.TheVariants.{Note, Reader, Writer}
 use Rattle.nr_machine.specs.declared.shape.Shape.{Shape}
-use Rattle.nr_marks.specs.Marks.{Marks, Past, gripped, past, with_polls, with_reaped}
+use Rattle.nr_marks.specs.Marks.{Marks, Past, LoggedLoad, gripped, past, with_poll, with_polls, with_reaped, with_scan}
 use Rattle.nr_marks.specs.Marked.{AllSince, CanMark, Desked, HoldNoOthers, IsPresent, KnowsMarks, NotesPresent, Remarked, Since, Sweeping}
 use Rattle.nr_marks.specs.MarkSteps.{NotedNowhereElse, ProbeTells, ProbesMarks}
 use Rattle.nr_marks.proofs.ListPlaces.{at_last, at_maps, at_unmap, no_places}
-use Rattle.nr_marks.proofs.MarksSince.{rests}
+use Rattle.nr_marks.proofs.MarksSince.{desk_loads, rests}
 use Rattle.nr_marks.proofs.DeskMarks.{QuietEnd, desk_of, desk_stay, nothing_ends, writer_step}
 use Rattle.nr_marks.proofs.PollMarks.{grip_in, reader_of, same_caller}
 use Rattle.nr_marks.proofs.ReaderMarks.{contents_loaded}
@@ -72,23 +72,23 @@ module _ {A : Type 0} (role : A → Role) (marks : A → Marks) where
         let tells = ProbesMarks shape (marks me) entry in
         let Goal : Type 0 = Remarked role marks shape words callers log id me (Load i) after entries tells in
         let others : HoldNoOthers role marks callers desk (marks me).polls = subst (Sweeping role marks callers desk (marks me).polls) idle own.sweep in
-        let stays : (polls : List Past) → AllSince role marks callers polls → HoldNoOthers role marks callers desk polls → Desked role marks shape words' callers (log ++ entries) desk (with_polls (marks me) polls)
-        = λ polls since others. desk_stay role marks shape words words' callers log entries desk desk (marks me) polls own
+        let stays : (polls : List Past) (loads : List LoggedLoad) → AllSince role marks callers polls → HoldNoOthers role marks callers desk polls → Desked role marks shape words' callers (log ++ entries) desk (with_scan (marks me) polls loads)
+        = λ polls loads since others. desk_loads role marks shape words' callers (log ++ entries) desk (with_polls (marks me) polls) loads (desk_stay role marks shape words words' callers log entries desk desk (marks me) polls own
         (λ j _. ap (λ l. get_or l j 0) (set-get_or words i 0)) (subst (QuietEnd log) (sym ans.1) (nothing_ends log)) (λ s. omega arith) since
-        (subst (Sweeping role marks callers desk polls) (sym idle) others) (λ s _ untouched. (untouched, contents_loaded shape words i s)) in
+        (subst (Sweeping role marks callers desk polls) (sym idle) others) (λ s _ untouched. (untouched, contents_loaded shape words i s))) in
         let finish : (now : Marks) → NotesPresent role marks callers (marks me).polls now.polls → Desked role marks shape words' callers (log ++ entries) desk now → tells word after (log ++ entries) now [] → Goal
         = λ now noted desked told. writer_step role marks shape id me (Load i) tells words callers log core m at desk desk was after entries (ans.0 ∙ was) now [] (no_places (Since role marks callers)) noted desked told in
         by_cases (λ b. same_count word entry.arrivals ≡ b → Goal) (same_count word entry.arrivals)
         (λ _ hit. let few = core.few in let fits = core.fits.readers in let at_most = total-le (holds slot) is_reader (holds_few slot) roles in
         let same : word % 2 ^ 40 ≡ entry.arrivals % 2 ^ 40 = eqb-true (word % 2 ^ 40) (entry.arrivals % 2 ^ 40) hit in
         let nobody : held roles slot ≡ 0 = omega arith in
-        finish (with_reaped (marks me) slot) (λ n e there'. inl there')
-        (desk_reaped shape words' callers (log ++ entries) desk (marks me) slot (stays (marks me).polls own.noted others)
+        finish (with_reaped (with_poll (marks me) slot true) slot) (λ n e there'. inl there')
+        (desk_reaped shape words' callers (log ++ entries) desk (with_poll (marks me) slot true) slot (stays (marks me).polls (with_poll (marks me) slot true).loads own.noted others)
         (λ key l e. let part = below-term (λ k. only (suc slot) (name_number (get_or words k 0))) shape.keys key l in
         let e' : name_number (get_or words key 0) ≡ suc slot = sym (ap (λ l. name_number (get_or l key 0)) (set-get_or words i 0)) ∙ e in
         let once_more : only (suc slot) (name_number (get_or words key 0)) ≡ 1 = ap (only (suc slot)) e' ∙ only-same (suc slot) in let none = alone.1 in omega arith)
         (λ place reader who grip is_there is on. let l = term_le (holds slot) roles place (Reader reader grip) (at_maps role callers place who is_there ∙ ap some is) in let g = grips_it grip slot on in omega arith))
-        (refl, subst (λ b. ProbeTells b shape (marks me) slot (with_reaped (marks me) slot)) (sym hit) refl))
+        (refl, subst (λ b. ProbeTells b shape (marks me) slot (with_reaped (with_poll (marks me) slot true) slot)) (sym hit) refl))
         (λ _ miss. let differs : word % 2 ^ 40 ≢ entry.arrivals % 2 ^ 40 = eqb-false (word % 2 ^ 40) (entry.arrivals % 2 ^ 40) miss in
         let someone : 0 < held roles slot = dite (ℕ_discrete (held roles slot) 0) (λ z. absurd (differs (omega arith))) (λ nz. omega arith) in
         let f = some_term (holds slot) roles someone in let g = at_unmap role callers f.0 f.1 f.2 in let o = reader_of slot f.1 f.3 in
@@ -107,8 +107,8 @@ module _ {A : Type 0} (role : A → Role) (marks : A → Marks) where
         (λ (z : (n ≡ length (marks me).polls) × (note ≡ e)). let is' : role who ≡ Reader c grip = is ∙ ap (λ (b : Past). Reader b.reader grip) (sym z.1) in
         let uw = same_caller role marks callers once f.0 place c u who y grip g.1 is_there reads is' in
         ap (λ (b : Past). b.slot) (sym z.1) ∙ ap gripped (ap grip_in (sym reads ∙ ap role uw ∙ is')) ∙ on) (at_last (marks me).polls note e n there') in
-        finish (with_polls (marks me) polls) present (stays polls since no_others) (
+        finish (with_polls (with_poll (marks me) slot false) polls) present (stays polls (with_poll (marks me) slot false).loads since no_others) (
           refl,
-          subst (λ b. ProbeTells b shape (marks me) slot (with_polls (marks me) polls)) (sym miss) (note, refl, o.3, range.0, range.1, elsewhere),
+          subst (λ b. ProbeTells b shape (marks me) slot (with_polls (with_poll (marks me) slot false) polls)) (sym miss) (note, refl, o.3, range.0, range.1, elsewhere),
         ))
         refl

@@ -20,7 +20,7 @@ use Rattle.nr_machine.specs.States.{retired_at, key_of}
 use Rattle.nr_machine.specs.Writer.{looked, read_on}
 use Rattle.nr_machine.specs.declared.calls.WReply.TheVariants as writer
 use Rattle.nr_marks.specs.Puts.{put_count, put_number}
-use Rattle.nr_marks.specs.Marks.{Past, Marks, acted, with_polls, with_name, with_reaped, without_name}
+use Rattle.nr_marks.specs.Marks.{Past, Marks, acted, with_poll, with_polls, with_name, with_reaped, without_name}
 use Rattle.nr_marks.specs.PollNotes.{NoRoom, Missed}
 use Rattle.nr_marks.specs.Pasts.{Refreshed, Compared}
 use Rattle.nr_marks.specs.Marked.{MarkTelling}
@@ -67,11 +67,11 @@ abbrev pub ReadsOnMarks : Shape → Marks → Desk → WriterCall → ℕ → Li
 ReadsOnMarks shape marks desk call slot got word after log now news =
     (now ≡ marks) × (news ≡ []) × (IsNoSlot (read_on shape desk call slot (got ++ word ∷ [])).1 → NoRoom shape call desk.retired [] log)
 
--- a poll that finds its slot free of readers leaves the marks; one that finds it held notes a reader that holds it, and the last such one leaves no room
+-- a poll that finds its slot held notes a reader that holds it, and the last such one leaves no room
 abbrev pub PollTells : Bool → Shape → Marks → List Past → Desk → WriterCall → ℕ → List Entry → Marks → Type 0
-PollTells true shape marks known desk call poll log now = now ≡ marks
+PollTells true shape marks known desk call poll log now = now ≡ with_poll marks (retired_at desk poll).slot true
 PollTells false shape marks known desk call poll log now =
-    (now ≡ with_polls marks now.polls) × Missed shape known marks.polls (retired_at desk poll).slot now.polls × (length desk.retired ≤ poll + 1 → NoRoom shape call desk.retired now.polls log)
+    (now ≡ with_polls (with_poll marks (retired_at desk poll).slot false) now.polls) × Missed shape known marks.polls (retired_at desk poll).slot now.polls × (length desk.retired ≤ poll + 1 → NoRoom shape call desk.retired now.polls log)
 
 abbrev pub PollsMarks : Shape → Marks → List Past → Desk → WriterCall → ℕ → MarkTelling
 PollsMarks shape marks known desk call poll word after log now news = (news ≡ []) × PollTells (same_count word (retired_at desk poll).arrivals) shape marks known desk call poll log now
@@ -115,15 +115,15 @@ NotedNowhereElse polls note = (at : ℕ) (poll : Past) → get_elem? polls at �
 
 -- a poll by a reap: where no reader holds the slot its set is reaped; else a reader that holds it is noted
 abbrev pub ProbeTells : Bool → Shape → Marks → ℕ → Marks → Type 0
-ProbeTells true shape marks slot now = now ≡ with_reaped marks slot
-ProbeTells false shape marks slot now = (note : Past) × (now ≡ with_polls marks (marks.polls ++ note ∷ [])) × (note.slot ≡ Some slot) × (0 < note.reader) × (note.reader ≤ shape.readers) × NotedNowhereElse marks.polls note
+ProbeTells true shape marks slot now = now ≡ with_reaped (with_poll marks slot true) slot
+ProbeTells false shape marks slot now = (note : Past) × (now ≡ with_polls (with_poll marks slot false) (marks.polls ++ note ∷ [])) × (note.slot ≡ Some slot) × (0 < note.reader) × (note.reader ≤ shape.readers) × NotedNowhereElse marks.polls note
 
 abbrev pub ProbesMarks : Shape → Marks → Retired → MarkTelling
 ProbesMarks shape marks entry word after log now news = (news ≡ []) × ProbeTells (same_count word entry.arrivals) shape marks entry.slot now
 
--- a poll of any retired slot by a search: a slot that no reader holds is taken, and leaves the marks; else a reader that holds it is noted
+-- a poll of any retired slot by a search: a slot that no reader holds is taken; else a reader that holds it is noted
 abbrev pub TryTells : Bool → Shape → Marks → ℕ → Marks → Type 0
-TryTells true shape marks slot now = now ≡ marks
+TryTells true shape marks slot now = now ≡ with_poll marks slot true
 TryTells false shape marks slot now = ProbeTells false shape marks slot now
 
 abbrev pub TriesMarks : Shape → Marks → Desk → ℕ → MarkTelling

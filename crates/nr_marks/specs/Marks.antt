@@ -1,5 +1,5 @@
 -- Marks, which contracts alone see beside a caller's role: a reader's count of acts and the put number of its hold; the writer's names, put numbers, sets, reaped slots, polls and loads of readers' words.
-use Rattle.std.specs.Prelude.{ℕ, suc, Bool, true, false, List, [], ◌∷◌, slice_index_or, slice_set, Option, Some, None, replicate}
+use Rattle.std.specs.Prelude.{ℕ, suc, Bool, true, false, List, [], ◌∷◌, ◌++◌, slice_index_or, slice_set, Option, Some, None, replicate}
 use Rattle.nr_model.specs.declared.rows.Row.{Row}
 use Rattle.nr_machine.specs.declared.shape.Shape.{Shape}
 use Rattle.nr_machine.specs.declared.roles.Role.{Role}
@@ -14,10 +14,10 @@ pub record Past : Type 0 where
   pub slot : Option ℕ
   pub put : ℕ
 
--- a load of that reader's own word, and what it found
-pub record WordLoad : Type 0 where
-  pub reader : ℕ
-  pub word : ℕ
+-- a load that is told apart: of that reader's own word, and what it found; or a poll of that retired slot, and whether nobody held it
+pub data LoggedLoad : Type 0 where
+  OfWord : (reader word : ℕ) → LoggedLoad
+  OfSlot : (slot : ℕ) (free : Bool) → LoggedLoad
 
 -- a reader has the first two, the writer the others
 pub record Marks : Type 0 where
@@ -34,8 +34,8 @@ pub record Marks : Type 0 where
   pub reaped : List Bool
   -- the polls that found their slots held, of the last call, unless that put a set, and of the reaps since
   pub polls : List Past
-  -- its loads of readers' own words, in their order
-  pub loads : List WordLoad
+  -- its polls of retired slots and its loads of readers' own words, in their order
+  pub loads : List LoggedLoad
 
 -- the slot that a reader holds
 abbrev pub gripped : Grip → Option ℕ
@@ -66,12 +66,16 @@ acted marks put = record marks { acts = suc marks.acts; put = put }
 abbrev pub with_polls : Marks → List Past → Marks
 with_polls marks polls = record marks { polls = polls }
 
-abbrev pub with_loads : Marks → List WordLoad → Marks
+abbrev pub with_loads : Marks → List LoggedLoad → Marks
 with_loads marks loads = record marks { loads = loads }
 
--- after a scan by a search, which notes readers too
-abbrev pub with_scan : Marks → List Past → List WordLoad → Marks
+-- after a search, which notes readers too
+abbrev pub with_scan : Marks → List Past → List LoggedLoad → Marks
 with_scan marks polls loads = record marks { polls = polls; loads = loads }
+
+-- after a poll of that slot
+abbrev pub with_poll : Marks → ℕ → Bool → Marks
+with_poll marks slot free = with_loads marks (marks.loads ++ OfSlot slot free ∷ [])
 
 -- the set that was put into the slot last
 abbrev pub set_in : Marks → ℕ → List Row

@@ -1,5 +1,6 @@
-use Rattle.std.proofs.Common.{List, [], ap, arith, get_or, inl, inr, length, refl, subst, sym, true, ℕ, ◌+◌, ◌<◌, ◌≤◌, ◌∙◌, ◌≡◌, ◌∷◌}
-use Rattle.std.specs.Prelude.{remove}
+use Rattle.std.proofs.Common.{List, [], ap, arith, get_or, inl, inr, length, length-append, length-take-le, refl, subst, sym, take, true, ℕ, ◌+◌, ◌<◌, ◌≤◌, ◌∙◌, ◌≡◌, ◌∷◌, ◌++◌}
+use Rattle.std.proofs.lemmas.Bool.{le-ltb}
+use Rattle.std.specs.Prelude.{nat_lt, remove}
 use Rattle.nr_model.specs.declared.rows.Row.{Row}
 use Rattle.nr_words.specs.KeyWords.{same_count}
 use Rattle.nr_machine.specs.States.{no_retired}
@@ -7,7 +8,9 @@ use Rattle.nr_machine.specs.declared.calls.NoSlot.{NoSlot}
 use Rattle.nr_machine.specs.declared.calls.WriterCall.{WriterCall}
 use Rattle.nr_machine.specs.declared.places.Retired.{Retired}
 use Rattle.nr_board.proofs.PollNotes.{at_get}
-use Rattle.nr_board.proofs.WordLoads.{no_loads}
+use Rattle.nr_board.proofs.HeldPolls.{held_many, none_passed}
+use Rattle.nr_board.specs.Spares.{heard_all, held_polls, polls_to}
+use Rattle.nr_marks.specs.Marks.{OfSlot, with_scan}
 use Rattle.nr_board.proofs.Searching.{Searched, lacks_slot, searched_more, searched_none, takes_it}
 use Rattle.nr_board.specs.Callers.{Table}
 use Rattle.nr_machine.specs.Spares.{Spare, none_spare}
@@ -20,16 +23,24 @@ takes_at : (map : Table) (call : WriterCall) (rows : List Row) (spare : Spare) (
     → TakesSlot map call rows (get_or spare.retired place no_retired).slot found spare (record spare { retired = remove spare.retired place }) before after
 takes_at map call rows spare before mid place counted so_far low full found after goes agree = let took = takes_it map call rows spare before mid place so_far low found after goes agree in record {
   steps = place + 1;
-  loads = [];
-  took = inr (full, place, get_or spare.retired place no_retired, at_get spare.retired place low, refl, inl (counted, took.3, refl, refl), refl, refl);
+  loads = polls_to map.announcers before.me.0.heard spare.retired place (get_or spare.retired place no_retired).slot;
+  took = inr (full, place, get_or spare.retired place no_retired, at_get spare.retired place low, refl, (omega arith, inl (took.3, refl)), refl, refl, sym many);
   few = let few = so_far.few in (omega arith, λ _. omega arith);
   slots = refl;
   numbers = refl;
   reaped = refl;
   writes = took.0;
   grows = took.1;
-  marks = took.2 ∙ no_loads before.me.0.marks after.me.0.marks.polls;
+  marks = took.2 ∙ ap (λ (l : List Retired). with_scan before.me.0.marks after.me.0.marks.polls (before.me.0.marks.loads ++ (held_polls l ++ OfSlot (get_or spare.retired place no_retired).slot true ∷ []))) (sym all);
 }
+  where
+    -- where no reader has a word all were heard
+    all : heard_all map.announcers before.me.0.heard (take place spare.retired) ≡ take place spare.retired
+    all = none_passed (λ slot. nat_lt (get_or before.me.0.heard slot 0) map.announcers) (take place spare.retired) (λ slot. le-ltb (get_or before.me.0.heard slot 0) map.announcers (omega arith))
+
+    many : length (polls_to map.announcers before.me.0.heard spare.retired place (get_or spare.retired place no_retired).slot) ≡ place + 1
+    many = length-append (held_polls (heard_all map.announcers before.me.0.heard (take place spare.retired))) (OfSlot (get_or spare.retired place no_retired).slot true ∷ [])
+        ∙ ap (λ (n : ℕ). n + 1) (held_many (heard_all map.announcers before.me.0.heard (take place spare.retired)) ∙ ap length all ∙ length-take-le place spare.retired (omega arith))
 
 -- a list with its oldest one has it at place 0
 module _ (spare rest : Spare) (oldest : Retired) (is : spare ≡ record rest { retired = oldest ∷ rest.retired }) where
@@ -88,10 +99,10 @@ pub returns-in_default : goal.returns-in_default
 returns-in_default g c = let map = c.args.self.now in let call = g.G.BegunCall.call in let rows = c.args.rows.now in let spare = c.args.spare.now in let seat = c.args.seat.now in
     let none : 0 ≡ length spare.retired = sym (ap length c.in_default.ensures.0) in
     subst (λ (p : NoSlot × Spare). LacksSlot map call p.0 spare p.1 seat seat) (λ j. (sym (c.counts.ensures ∙ ap none_spare c.in_default.ensures.1) j, sym c.in_default.ensures.1 j))
-    (lacks_slot map call rows spare seat seat 0 (searched_none map call rows spare seat c.requires.settles c.requires.none_fresh) (inl (c.requires.counted, refl, refl, none)) none)
+    (lacks_slot map call rows spare seat seat 0 (searched_none map call rows spare seat c.requires.settles c.requires.none_fresh) (inl c.requires.counted) none)
 
 pub returns : goal.returns
 returns g c = let map = c.args.self.now in let call = g.G.BegunCall.call in let spare = c.args.spare.now in let place : ℕ = c.loop-place.place in let so_far = c.loop-place.invariant in
     let all : place ≡ length spare.retired = omega (arith, some_there spare c.take_oldest.new.self c.in-Some.oldest c.in-Some.ensures, c.loop-place-test.false, c.loop-place.auto.place-end, c.retired_len-place-end.ensures, ap (λ (s : Spare). length s.retired) (c.put_back.ensures ∙ sym c.in-Some.ensures)) in
     subst (λ (p : NoSlot × Spare). LacksSlot map call p.0 spare p.1 c.args.seat.now c.loop-place.seat) (λ j. (sym (c.counts-2.ensures ∙ ap none_spare so_far.0) j, sym so_far.0 j))
-    (lacks_slot map call c.args.rows.now spare c.args.seat.now c.loop-place.seat place so_far.1 (inl (c.requires.counted, so_far.1.heard, refl, all)) all)
+    (lacks_slot map call c.args.rows.now spare c.args.seat.now c.loop-place.seat place so_far.1 (inl c.requires.counted) all)

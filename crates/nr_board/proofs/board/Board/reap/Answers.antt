@@ -1,8 +1,9 @@
-use Rattle.std.proofs.Common.{List, ap, length, refl, subst, sym, ℕ, ◌*◌, ◌+◌, ◌++◌, ◌≡◌}
+use Rattle.std.proofs.Common.{List, ap, length, refl, subst, sym, true, [], ◌∷◌, ℕ, ◌*◌, ◌+◌, ◌++◌, ◌≡◌}
 use Rattle.nr_model.specs.Rows.{IsRowSet}
 use Rattle.nr_model.specs.declared.rows.Row.{Row}
-use Rattle.nr_marks.specs.Marks.{set_in}
-use Rattle.nr_board.specs.Reaping.{after_polls, hearing, with_reap}
+use Rattle.nr_marks.specs.Marks.{OfSlot, set_in}
+use Rattle.nr_board.specs.Reaping.{after_polls, with_reap}
+use Rattle.nr_board.specs.Spares.{held_polls}
 use Rattle.nr_board.specs.Views.{View}
 use Rattle.nr_board.proofs.Looks.{rests_here}
 use Rattle.nr_board.proofs.Reaps.{found_set, keeps_all, kept_token, reaped_token, recalls_found}
@@ -22,10 +23,10 @@ returns-in-Free-clause-reaps g c = let map = c.args.self.now in let spare = c.ar
     let token_is = reaped_token map spare before rests mid c.recall_set.new.seat slot (length (set_in mid.me.0.marks slot)) c.in-Free.ensures.own found c.recall_set.ensures.own c.recall_set.ensures.waits in
     let gives = subst (λ (s : ℕ).
     g.R.RowRoom.shows c.recall_set.new.rows (set_in before.me.0.marks s) × IsRowSet (token before).table.shape.rows (set_in before.me.0.marks s)
-    × (token c.recall_set.new.seat ≡ hearing found.scanned found.loads (with_reap s (after_polls (found.earlier ++ found.notes) (length found.loads + (1 + (2 * length (set_in before.me.0.marks s) + 1))) (token before)))))
+    × (token c.recall_set.new.seat ≡ with_reap s (after_polls (found.earlier ++ found.notes) (found.loads ++ (held_polls found.held ++ OfSlot s true ∷ [])) found.scanned (2 * length (set_in before.me.0.marks s) + 1) (token before))))
     found.slot_is
     (subst (λ (rows : List Row). g.R.RowRoom.shows c.recall_set.new.rows rows × IsRowSet (token before).table.shape.rows rows
-    × (token c.recall_set.new.seat ≡ hearing found.scanned found.loads (with_reap slot (after_polls (found.earlier ++ found.notes) (length found.loads + (1 + (2 * length rows + 1))) (token before)))))
+    × (token c.recall_set.new.seat ≡ with_reap slot (after_polls (found.earlier ++ found.notes) (found.loads ++ (held_polls found.held ++ OfSlot slot true ∷ [])) found.scanned (2 * length rows + 1) (token before))))
     set_is (c.recall_set.ensures.rows, subst (λ (t : Table). IsRowSet t.shape.rows (set_in mid.me.0.marks slot)) (sym c.requires.own) c.recall_set.ensures.row_set, token_is)) in (
       found.held,
       found.later,
