@@ -1,5 +1,5 @@
 -- A reader finds a key and holds its set: by its own word where it has one, and else by the counts.
-use Rattle.std.specs.Prelude.{◌≡◌, ℕ, suc, ◌+◌, ◌-◌, ◌≤◌, ◌⊎◌, nat_lt, if◌then◌else◌, Bool, true, false, List, [], length, Option, Some, None, Result, Ok, Err}
+use Rattle.std.specs.Prelude.{◌≡◌, ℕ, ◌+◌, ◌-◌, ◌<◌, ◌≤◌, ◌⊎◌, nat_lt, Bool, true, false, List, [], length, Option, Some, None, Result, Ok, Err}
 use Rattle.nr_model.specs.declared.calls.Call.TheVariants as model
 use Rattle.nr_model.specs.declared.calls.Reply.TheVariants as reply
 use Rattle.nr_model.specs.declared.rows.Row.{Row}
@@ -42,13 +42,13 @@ pub record FindsHole (more key : ℕ) (old new : Caller) : Type 0 where
 
 -- WHAT A SEAT HOLDS
 
--- a reader's seat that holds this: by its own word, which names the slot, or by a count, and then the word says nothing
+-- a reader's seat that holds this: by its own word, if that says anything, or by a count
 pub record HeldAs (table : Table) (held : Held) (seat : MapSeat) : Type 0 where
   pub holds : HoldsAt table held.begin seat
   pub begin_is : held.begin ≡ content table.shape held.slot 0
   pub count_is : held.count ≡ length (rows_held seat.me.0.role)
-  pub says : seat.me.0.says ≡ (if held.by_word then suc held.slot else 0)
-  pub worded : held.by_word ≡ true → caller_number seat.me.0.role ≤ table.announcers
+  pub says : seat.me.0.says ≡ held.says
+  pub worded : 0 < held.says → caller_number seat.me.0.role ≤ table.announcers
 
 -- the find of a reader whose marks were these is an entry after that many steps: the set is held, or the key was a hole and nothing is held
 pub record HeldSo (table : Table) (key steps : ℕ) (marks : Marks) (held : Held) (old new : MapSeat) : Type 0 where

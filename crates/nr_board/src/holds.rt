@@ -1,6 +1,6 @@
 //! How a reader finds a key and holds its set: by its own word where it has one, and else by the
 //! counts.
-ghost use Rattle.std.specs.Prelude.{◌≡◌, ◌<◌, ◌≤◌, ◌⊎◌, suc, true, false, if◌then◌else◌};
+ghost use Rattle.std.specs.Prelude.{◌≡◌, ◌<◌, ◌≤◌, ◌⊎◌, suc, false};
 ghost use Rattle.nr_words.specs.KeyWords.{is_filled};
 ghost use Rattle.nr_machine.specs.Slots.{content};
 ghost use Rattle.nr_marks.specs.Marks.{acted};
@@ -15,14 +15,15 @@ use crate::board::{Board, Own, Seat};
 use crate::only_proved::only_proved;
 use nr_words::{names, parts};
 
-/// A set that a reader holds: its slot, where the slot's first content word stands, how many rows it
-/// has, and whether the reader's own word says the slot, or a count holds it.
+/// A set that a reader holds: its slot, how many rows it has, where the slot's first content word stands,
+/// and what the reader's own word says, which is 0 where a count holds the set. It has no padding, since
+/// that would be copied, too.
 #[derive(Clone, Copy)]
 pub struct Held {
     pub slot: u32,
-    pub begin: u64,
     pub count: u32,
-    pub by_word: bool,
+    pub begin: u64,
+    pub says: u64,
 }
 
 impl Board {
@@ -73,7 +74,7 @@ impl Board {
         ensures rests { Rests 1 (token seat.old) (token seat.new) }
         ensures marks { seat.new.me.0.marks ≡ acted seat.old.me.0.marks seat.old.me.0.marks.put }
     {
-        if held.by_word {
+        if held.says > 0 {
             self.clear(seat, own);
         } else {
             self.depart(seat, held.begin);
@@ -96,8 +97,9 @@ impl Board {
         }
     }
 
-    // The same by the newer word that a first try found, and then by the count.
-    #[inline(never)]
+    // The same by the newer word that a first try found, and then by the count. A call would have each find
+    // clear the room for its answer before the swap, which waits for stores.
+    #[inline(always)]
     fn hold_newer(&self, seat: &mut Seat, own: Own, key: u32, word: u64) -> Option<Held>
         requires own { (token seat.old).table ≡ self.now }
         requires place { IsOwn self.now own }
@@ -129,7 +131,7 @@ impl Board {
         self.announce(seat, own, slot);
         let newer = self.confirm(seat, own, slot, key);
         if names(newer, slot) {
-            return Ok(Some(self.held_at(seat, slot, begin, true)));
+            return Ok(Some(self.held_at(seat, slot, begin, u64::from(slot) + 1)));
         }
         if parts(newer).filled {
             return Err(newer);
@@ -150,16 +152,16 @@ impl Board {
             return None;
         }
         let begin = self.content(found.slot);
-        Some(self.held_at(seat, found.slot, begin, false))
+        Some(self.held_at(seat, found.slot, begin, 0))
     }
 
-    // What a reader holds, by the slot: it reads how many rows there are.
+    // What a reader holds, by the slot and by what its word says: it reads how many rows there are.
     #[inline(always)]
-    fn held_at(&self, seat: &mut Seat, slot: u32, begin: u64, by_word: bool) -> Held
+    fn held_at(&self, seat: &mut Seat, slot: u32, begin: u64, says: u64) -> Held
         requires reader { HoldsAt self.now begin seat.old }
         requires begin { begin ≡ content self.now.shape slot 0 }
-        requires says { seat.old.me.0.says ≡ (if by_word then suc slot else 0) }
-        requires worded { by_word ≡ true → caller_number seat.old.me.0.role ≤ self.now.announcers }
+        requires says { seat.old.me.0.says ≡ says }
+        requires worded { 0 < says → caller_number seat.old.me.0.role ≤ self.now.announcers }
         ensures held { HeldAs self.now result seat.new }
         ensures rows { rows_held seat.new.me.0.role ≡ rows_held seat.old.me.0.role }
         ensures rests { Rests 1 (token seat.old) (token seat.new) }
@@ -169,9 +171,9 @@ impl Board {
         let count = self.read(seat, begin, 0) as u32;
         Held {
             slot,
-            begin,
             count,
-            by_word,
+            begin,
+            says,
         }
     }
 }

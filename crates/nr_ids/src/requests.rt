@@ -107,6 +107,7 @@ impl Directory {
     }
 
     /// A look at each way of the id's group, up to the one that has its name.
+    #[inline(always)]
     pub(crate) fn scan(&self, seat: &mut Seat, id: u64) -> Option<u32>
         requires caller { Sits self.now seat.old }
         requires id { 0 < id }

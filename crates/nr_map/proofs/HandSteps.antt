@@ -203,5 +203,5 @@ step_rests before after is = record {
 }
 
 -- who holds by its word has one
-pub finds_so : (own : Own) (held : Held) (seat : MapSeat) → Pins seat own held → held.by_word ≡ true → finds_by_word (token seat) ≡ true
-finds_so own held seat pins by_word = lt-ltb (caller_number seat.me.0.role - 1) (token seat).table.announcers (omega (arith, pins.reader.number, pins.holds.worded by_word))
+pub finds_so : (own : Own) (held : Held) (seat : MapSeat) → Pins seat own held → 0 < held.says → finds_by_word (token seat) ≡ true
+finds_so own held seat pins says = lt-ltb (caller_number seat.me.0.role - 1) (token seat).table.announcers (omega (arith, pins.reader.number, pins.holds.worded says))

@@ -232,7 +232,7 @@ impl Hand {
             }
             return self.move_to(map, key, word);
         }
-        if !kept.set.by_word {
+        if kept.set.says == 0 {
             return self.pin(map, key);
         }
         let word = map.board.load_key(&mut self.caller.seat, key);
@@ -249,7 +249,7 @@ impl Hand {
         ensures moves { MovesByHand key self.old self.new result }
     {
         match self.held {
-            Some(kept) if kept.set.by_word => {
+            Some(kept) if kept.set.says > 0 => {
                 let own = self.caller.own;
                 match map.board.move_to(&mut self.caller.seat, own, key, word) {
                     Some(set) => {

@@ -9,6 +9,7 @@ use nr_model::RowRoom;
 
 impl Hand {
     /// Lets go what is held, and looks a key up as `find_into` of the map does: nothing is held then.
+    #[inline(always)]
     pub fn find<R: RowRoom>(&mut self, map: &ReaderMap, key: u32, rows: &mut R) -> Found
         requires own { self.old.reader.table ≡ map.now }
         requires key { key < map.now.shape.keys }
@@ -25,6 +26,7 @@ impl Hand {
     /// something was held, and yet 1 where that was another set of the key. A reader that has a word
     /// takes 2n + 4, 2n + 6 or 2n + 8 steps, 1, 4, 6 or 7 for a hole, and at most 2 more where
     /// something was held: what it held by the word the next announcement lets go.
+    #[inline(always)]
     pub fn find_kept<R: RowRoom>(&mut self, map: &ReaderMap, key: u32, rows: &mut R) -> Found
         requires own { self.old.reader.table ≡ map.now }
         requires key { key < map.now.shape.keys }

@@ -1,5 +1,4 @@
 use Rattle.nr_board.specs.Callers.{Caller, token}
-use Rattle.std.proofs.lemmas.Bool.{not-false}
 use Rattle.std.proofs.Common.{ap, arith, refl, subst, sym, ◌∙◌, ◌≡◌, ◌≢◌, Some, Option}
 use Rattle.nr_board.proofs.ReaderSeats.{names_held}
 use Rattle.nr_map.proofs.HandSteps.{anew_keeps, asked_anew, finds_so, loaded_anew, looked_in_vain, step_rests}
@@ -21,7 +20,7 @@ pub returns-clause-keeps : goal.returns-clause-keeps
 returns-clause-keeps c = let before = c.self.inside.caller.seat in let after = c.load_key-word.new.seat in let held = c.self.inside.held in let told = c.load_key-word.ensures in let kept = c.in-Some.kept in
     let key_is : key_held held ≡ Some kept.key = ap key_held c.in-Some.is in
     let pins = subst (λ (o : Option Kept). IsHand before c.self.inside.caller.own o) c.in-Some.is c.self.invariant in
-    let by_word = finds_so c.self.inside.caller.own kept.set before pins (not-false kept.set.by_word c.if-not-kept.false) in
+    let by_word = finds_so c.self.inside.caller.own kept.set before pins (omega (arith, c.if-kept-eq0.false)) in
     let apart : kept.key ≢ c.args.key = λ e. absurd (c.if-kept-key.false e) in
     anew_keeps c.args.key c.args.self.now c.move_to-2.new.self c.move_to-2.result
     (subst (λ (h : Handed). KeepsAnew c.args.key h c.move_to-2.new.self c.move_to-2.result) c.self.view_is
