@@ -3,9 +3,9 @@
    fills, updates and evicts them. Each function calls the proved map of this repository; its contract in
    crates/nr_c says what it does to the history that all callers share.
 
-   A handle starts as zeros. It is live from the opening that answered NR_DONE until it is closed, which leaves
+   A handle starts as zeros. It is live from the opening that answered NR_DONE until you close it, which leaves
    zeros in it. A call answers NR_CLOSED if a handle that it takes isn't live or is NULL, and NR_NO_KEY if the map, or
-   the queue, was opened with fewer keys. Then it made no step and changed nothing, the caller's own values included.
+   the queue, has no such key. Then it made no step and changed nothing, the caller's own values included.
 
    What the caller owes to each function, and nothing tests:
    - You may move a live handle: copy it once, and then use the copy alone. Nobody else copies it or writes to it.
@@ -13,10 +13,10 @@
      another thread by that thread's start or join, by a lock, or by a sequentially consistent atomic.
    - Any other pointer leads to one value of its type that nobody else uses during the call. `rows` and `deltas`
      lead to as many values as the number after them says, and nobody writes them during the call.
-   - No signal handler makes a call, nor does the forked child of a process with threads.
+   - Neither a signal handler nor the forked child of a process with threads makes a call.
 
    A step is one atomic operation on one 64-bit word. No call takes a lock or waits. Only openings, nr_return_reader
-   and nr_return_poster take memory. Link libnr.a (or libnr.so), and nothing else but the C library.
+   and nr_return_poster take memory. Link libnr.a (or libnr.so) and the C library, nothing else.
    For Linux on x86-64-v2, which has SSE4.2 and POPCNT; nothing tests the processor. C11 or C++11. */
 #ifndef NR_H
 #define NR_H
@@ -31,7 +31,7 @@ extern "C" {
 
 /* ANSWERS. No two share a number; some answer several calls. */
 
-#define NR_ROWS 0u       /* the key is filled, and its rows stand where they were asked for */
+#define NR_ROWS 0u       /* the key is filled, and its rows are in the caller's buffer, if the call takes one */
 #define NR_HOLE 1u       /* the key is not filled */
 #define NR_SEND 2u       /* this is the first request: the caller sends it to the dataflow */
 #define NR_WAITING 3u    /* a request is under way */
@@ -41,7 +41,7 @@ extern "C" {
 #define NR_ALREADY 7u    /* the key is filled */
 #define NR_STALE 8u      /* the fill names another ticket number than the request's, such as a cancelled one's */
 #define NR_DROPPED 9u    /* the key is not filled, so the update or the replacement is dropped */
-#define NR_NO_ROW 10u    /* a row to take away is not there */
+#define NR_NO_ROW 10u    /* the set lacks a row that was to be taken away, or has none at this index */
 #define NR_TOO_MANY 11u  /* more rows than a key may have */
 #define NR_NO_SLOT 12u   /* each slot is a filled key's or held by a reader, and readers hold some */
 #define NR_EVICTED 13u   /* the key was filled and is a hole now */
@@ -71,7 +71,7 @@ extern "C" {
 #define NR_NAMED 37u     /* the id has a way: rows, or an upquery under way */
 #define NR_BAD_ROW 38u   /* a row of an id has an `a` of 0 */
 
-/* An answer in words. */
+/* An answer as text. */
 static inline const char *nr_strerror(uint32_t answer) {
   switch (answer) {
   case NR_ROWS: return "the key has rows";
@@ -117,14 +117,14 @@ static inline const char *nr_strerror(uint32_t answer) {
   }
 }
 
-/* The version of this header, 0.2.0, with 8 bits for each number, and that of the library. The first two numbers of
-   both have to agree. */
+/* The version of this header, 0.2.0, with 8 bits for each number, and the library's. Their first two numbers have to
+   agree. */
 #define NR_VERSION 0x000200
 uint32_t nr_version(void);
 
-/* The bytes that a struct takes in the library, which have to be those that it takes by this header: for programs that
-   link another library or are written in another language. The structs below count from nr_row, 0, to nr_id_reader, 15;
-   beyond these the answer is 0. */
+/* How many bytes a struct takes in the library, for programs in another language, or linked to another library, that
+   compare it with what they have. The structs below count from nr_row, 0, to nr_id_reader, 15; beyond these the answer
+   is 0. */
 uint32_t nr_struct_size(uint32_t place);
 
 /* VALUES */
@@ -148,15 +148,15 @@ typedef struct nr_wanted {
   nr_rows rows;
 } nr_wanted;
 
-/* A signed row: to add where `plus` is true, and else to take away. */
+/* A signed row: one to add if `plus` is true, else one to take away. */
 typedef struct nr_delta {
   nr_row row;
   bool plus;
 } nr_delta;
 
-/* What a map is opened with: 1 to 4,294,967,295 keys, which may be more than slots, 1 to 4,194,303 slots and 1 to
+/* The sizes of a map to open: 1 to 4,294,967,295 keys, which may be more than slots, 1 to 4,194,303 slots and 1 to
    65,535 readers. A key may have `rows` rows, 1 to 255. The slots' counts of departures begin at `first_count`, and the
-   keys' ticket numbers at `first_number`, at most 4,194,303: set both to 0, except in tests of the end of a count.
+   keys' ticket numbers at `first_number`, at most 4,194,303: set both to 0, except to test the end of a count.
    With keys + readers + 1 slots no fill, update or replacement answers NR_NO_SLOT or NR_ALL_FILLED. The map's words
    take 8 bytes a key, 16 * rows + 16 a slot and 64 a reader, and as much again during the opening. The writer's lists
    take another 8 bytes a key, 18 a slot and 16 a reader. */
@@ -176,8 +176,8 @@ typedef struct nr_size {
   uint32_t rows;
 } nr_size;
 
-/* How a map's slots are in use: how many filled keys have; how many are retired, which no key has any more and no
-   write took again, whether readers hold them or not; and how many no write ever took. */
+/* How many of a map's slots have a filled key's set; how many are retired, with a set that its key no longer has,
+   whether a reader holds it or not; and how many no write ever took. */
 typedef struct nr_slots {
   uint32_t filled;
   uint32_t retired;
@@ -205,7 +205,7 @@ typedef struct nr_poster {
   void *at;
 } nr_poster;
 
-/* What a map over ids is opened with: 1 to 536,870,911 groups of eight ways, 1 to 4,194,303 slots and 1 to 65,534
+/* The sizes of a map over ids: 1 to 536,870,911 groups of eight ways, 1 to 4,194,303 slots and 1 to 65,534
    readers. An id may have `rows` rows, 1 to 254. `key` decides which group an id has: draw it at random where strangers
    choose ids. Ticket numbers begin at `first_number`: set it to 0. With 8 * groups + readers + 2 slots no fill or
    replacement answers NR_NO_SLOT or NR_ALL_FILLED. A group takes 464 bytes, a slot 16 * rows + 50, and a
@@ -219,7 +219,7 @@ typedef struct nr_id_shape {
   uint64_t first_number;
 } nr_id_shape;
 
-/* An upquery that nr_admit opened, by its numbers: whose rows are wanted, and which answer fits. */
+/* An upquery that nr_admit opened, by its numbers: whose rows it asks for, and which answer fits. */
 typedef struct nr_upquery {
   uint64_t id;
   uint64_t number;
@@ -236,9 +236,9 @@ typedef struct nr_id_reader {
 
 /* WORKING WITH IT
 
-   A get. Find the key. At a hole request it by nr_ask. The caller that is answered NR_SEND passes the key and its
-   ticket number to the thread that writes, for instance by nr_post. That thread gets the key's rows and fills the
-   key by that ticket number.
+   A get. Find the key. At a hole request it by nr_ask. The caller that gets NR_SEND passes the key and its ticket
+   number to the thread that writes, for instance by nr_post. That thread gets the key's rows and fills the key by that
+   ticket number.
    Waiting for a key. Read how often you were woken, find, request, sleep, in this order. The thread that writes wakes
    you after each fill, and after each nr_cancel: the key stays a hole until somebody who waits requests it again.
    By a condition variable, with a count of wake-ups under its lock:
@@ -262,38 +262,38 @@ typedef struct nr_id_reader {
    Both are from embed/c/wait.c, a whole program whose dataflow also sleeps while nothing is posted.
    No slot. Nothing has changed. After NR_NO_SLOT have readers release what they hold, or evict a key; after
    NR_ALL_FILLED evict a key. Then repeat the call. nr_stats counts the slots of either kind.
-   Hot keys. A find writes a word of its reader's own, and nothing that readers share. A reader of its own for one hot
-   key finds it by nr_find_kept, which writes nothing while the key keeps its set.
-   Slots. With keys + readers + 1 slots no write lacks one. Where many readers hold sets for long, each write then
+   Hot keys. A find writes its reader's own word, and nothing that readers share. A reader that serves one hot key
+   alone finds it by nr_find_kept, which writes nothing while the key keeps its set.
+   Slots. With keys + readers + 1 slots every write finds one. Where many readers hold sets for long, each write then
    loads every reader's word to find a slot: open keys + 2 readers.
-   Preloading. To fill keys before anybody reads, request each by a reader (nr_ask), and fill it by the ticket
-   number that nr_ask tells.
+   Before anybody reads. To fill a key, request it by a reader (nr_ask), and fill it by the ticket number that nr_ask
+   tells.
    Large maps. With GLIBC_TUNABLES=glibc.malloc.hugetlb=1 in the environment glibc from 2.35 on asks for huge pages,
    which save a third of a find's time in a map of a million keys.
    Your own data. A thread that finds a set sees all that the writer's thread had written to memory before it put
-   the set. The thread to which a set comes back (NR_GIVEN) sees all that readers had done before they released it.
+   the set. The thread that gets a set back (NR_GIVEN) sees all that readers had done before they released it.
    The thread that takes a request sees all that the posting thread had written before it posted that request.
    Rows that refer to data, for instance by an index in a store. A reader may use the data while it holds the set
    (nr_pin, nr_find_kept). Free the data once the set comes back. Each set comes back once: from a call that takes its
-   slot (nr_fill_reclaiming, nr_update_reclaiming, nr_replace_reclaiming), from nr_reap, or from nr_next when the
-   map is at its end. Rows that an update kept are in its new set too. A plain nr_fill, nr_update or nr_replace
-   returns nothing, and the set that its slot had never comes back. embed/c/texts.c is a whole program.
-   To keep few sets waiting, open few slots beyond keys + readers, since a write first takes the slots that none took
-   before, and call nr_reap after each write until it doesn't answer NR_GIVEN. Then only sets that readers hold wait.
+   slot (nr_fill_reclaiming, nr_update_reclaiming, nr_replace_reclaiming), from nr_reap, or from nr_next once you took
+   the map apart. Rows that an update kept are in its new set too. A plain nr_fill, nr_update or nr_replace
+   loses the set that its slot had. embed/c/texts.c is a whole program.
+   To keep few sets waiting, open few slots beyond keys + readers, since a write first takes slots that no write took
+   before, and call nr_reap after each write while it answers NR_GIVEN. Then only sets that readers hold wait.
    At most as many sets wait as there are slots.
-   Dropping a key's rows, because the base changed and you don't update them. Call nr_cancel and then nr_evict. If the
-   key is only asked for, an eviction does nothing, and the fill under way brings rows read before the change. After
-   NR_CANCELLED wake those who wait.
-   Several maps behind one queue. Open it for the sum of their keys, and post each key with the number of keys
-   of the maps before its own added. */
+   Dropping a key's rows, because the base changed and you don't update them. Call nr_cancel and then nr_evict. An
+   eviction alone leaves an asked key, and the fill under way brings rows read before the change. After NR_CANCELLED
+   wake those who wait.
+   Several maps behind one queue. Open it for the sum of their keys. To each key that you post add the number of keys
+   of the maps before its own. */
 
-/* OPENING AND CLOSING. Tests show that NR_NO_MEMORY comes only where memory was refused; no proof does. */
+/* OPENING AND CLOSING. Tests, and no proof, show that NR_NO_MEMORY comes only where there was no memory. */
 
 /* Opens a map, and makes the writer's handle live: NR_DONE. NR_LIVE if it is live already, NR_BAD_SIZE or
    NR_NO_MEMORY leave it as it was. */
 uint32_t nr_open(const nr_shape *shape, nr_writer *writer);
 
-/* Makes a reader's handle live: NR_DONE. It is the reader that was returned last, or else a new one. NR_LIVE if
+/* Makes a reader's handle live: NR_DONE. It takes the reader returned last, or else a new one. NR_LIVE if
    `reader` is live already, NR_NO_READER or NR_NO_MEMORY leave it as it was. */
 uint32_t nr_open_reader(nr_writer *writer, nr_reader *reader);
 
@@ -302,47 +302,46 @@ uint32_t nr_open_reader(nr_writer *writer, nr_reader *reader);
    Owed: both handles are of one map. */
 uint32_t nr_return_reader(nr_writer *writer, nr_reader *reader);
 
-/* End a handle, which is then zeros; if it isn't live, they do nothing. The map's memory goes with its last handle.
-   nr_close_reader releases what the reader holds, and nr_open_reader doesn't open that reader again. */
+/* End a handle, which is then zeros; if it isn't live, they do nothing. The last handle frees the map's memory.
+   nr_close_reader releases what the reader holds; no handle gets that reader again. */
 void nr_close_reader(nr_reader *reader);
 void nr_close_writer(nr_writer *writer);
 
-/* Takes a map apart, once each of its readers was returned or was never opened; a closed reader never comes back.
+/* Takes a map apart, once each reader that you opened was returned; a closed reader never comes back.
    NR_DONE: the writer's handle is zeros, and `remains` is live and has the sets that no call gave out. NR_LIVE if
    `remains` is live already, and NR_READERS_OUT, leave both as they were. No step. */
 uint32_t nr_take_apart(nr_writer *writer, nr_remains *remains);
 
-/* Gives out the next set, also one that a key still had, in 2m + 1 steps for m rows: NR_GIVEN. NR_NOTHING once all have
+/* Gives out the next set, even one that a key still had, in 2m + 1 steps for m rows: NR_GIVEN. NR_NOTHING once all have
    come out, and `had` stays as it was. */
 uint32_t nr_next(nr_remains *remains, nr_rows *had);
 
-/* Ends the handle, which is then zeros, and frees the map's memory; if it isn't live, this does nothing. Sets that have
-   not come out are lost. */
+/* Ends the handle, which is then zeros, and frees the map's memory, with the sets that have not come out; if it isn't
+   live, this does nothing. */
 void nr_close_remains(nr_remains *remains);
 
 /* WHAT A READER CALLS. nr_find, nr_find_each, nr_ask and nr_pin answer NR_HOLDING if the reader holds a set, and
-   nr_row_at, nr_copy, nr_again and nr_release NR_NOT_HOLDING if it holds none. Then there was no step, and nothing has
-   changed. */
+   nr_row_at, nr_copy, nr_again and nr_release NR_NOT_HOLDING if it holds none. Then the call made no step and changed
+   nothing. */
 
 /* Looks a key up. NR_ROWS after 2n + 5 steps for n rows, and `rows` has them; NR_HOLE after 1 step, and `rows` stays as
-   it was. If the writer put the key's set anew meanwhile, NR_ROWS comes after 2 or 4 steps more, and NR_HOLE after 4, 6
-   or 7. */
+   it was. If the writer wrote the key meanwhile, NR_ROWS comes after 2 or 4 steps more, and NR_HOLE after 4, 6 or 7. */
 uint32_t nr_find(nr_reader *reader, uint32_t key, nr_rows *rows);
 
-/* Looks n keys up in their order, as nr_find does one, even if a key is wanted twice. NR_DONE, and each has its answer
-   beside it: NR_ROWS, and its own `rows` has its rows; or NR_HOLE, and that stays as it was. NR_NO_KEY if the map
-   lacks one of the keys, and then none is looked up. Besides the finds' steps it makes 3 loads a key, and 1 more for
-   each 4 rows, or part of 4, that a key may have above 4 and up to 16. It makes these for 16 keys before it finds
-   them, so that the caches fetch what 16 finds need at once. In large maps this is faster than single finds. */
+/* Looks n keys up in their order, as nr_find does one; a key may occur twice. NR_DONE, and each key has its answer
+   beside it: NR_ROWS, and its own `rows` has its rows; or NR_HOLE, and that stays as it was. NR_NO_KEY, and no look-up,
+   if the map lacks one of the keys. Besides the finds' steps it makes 3 loads a key, and 1 more for each 4 rows, or
+   part of 4, that a key may have above 4 and up to 16. It makes these for 16 keys before it finds them, so that the
+   caches fetch what 16 finds need at once. In large maps this is faster than single finds. */
 uint32_t nr_find_each(nr_reader *reader, nr_wanted *wanted, size_t n);
 
-/* Requests a key, in 1 step. The first request since the key became a hole is answered NR_SEND, and `number` is its
-   ticket number, which the fill has to name. NR_WAITING and NR_FILLED leave `number` as it was. */
+/* Requests a key, in 1 step. The first request since the key became a hole gets NR_SEND, and `number` is its ticket
+   number, which the fill has to name. NR_WAITING and NR_FILLED leave `number` as it was. */
 uint32_t nr_ask(nr_reader *reader, uint32_t key, uint64_t *number);
 
-/* Finds a key and holds its set. The set stays as it is, and its slot isn't used again, until the reader releases it,
-   whatever the writer does meanwhile. NR_ROWS after 4 steps, and `count` is the number of rows; NR_HOLE after 1, and
-   the reader holds nothing and `count` stays as it was; or more, as of nr_find. */
+/* Finds a key and holds its set, which stays as it is until the reader releases it, whatever the writer does meanwhile.
+   NR_ROWS after 4 steps, and `count` is the number of rows; NR_HOLE after 1, and the reader holds nothing and `count`
+   stays as it was; or after more, as in nr_find. */
 uint32_t nr_pin(nr_reader *reader, uint32_t key, uint32_t *count);
 
 /* The row at index `place` of the held set, from 0, in 2 steps: NR_ROWS. NR_NO_ROW without a step if the set has no
@@ -359,8 +358,8 @@ uint32_t nr_again(nr_reader *reader, uint32_t key);
 
 /* As nr_find, but the reader holds the set for the next call. If the key still has the set that the reader holds,
    NR_ROWS after 2n + 1 steps, which write no word. Otherwise it finds the key: NR_ROWS after 2n + 4 steps, or more, as
-   of nr_find; NR_HOLE after 1, or 3 if it held a set, and it holds nothing and `rows` stays as it was. No write uses
-   the slot of a held set again, so release a reader that finds nothing for a while. */
+   in nr_find; NR_HOLE after 1, or 3 if it held a set, and it holds nothing and `rows` stays as it was. A held set keeps
+   its slot from the writer, so release a reader that finds nothing for a while. */
 uint32_t nr_find_kept(nr_reader *reader, uint32_t key, nr_rows *rows);
 
 /* Ends the hold, in 1 step: NR_DONE. */
@@ -374,12 +373,12 @@ uint32_t nr_sizes(nr_reader *reader, nr_size *sizes);
 /* The writer's own find. NR_ROWS after 2n + 2 steps for n rows; NR_HOLE after 1, and `rows` stays as it was. */
 uint32_t nr_look(nr_writer *writer, uint32_t key, nr_rows *rows);
 
-/* Fills a key that was asked for, by its request's ticket number, with n rows in ascending order; duplicates stay.
+/* Fills an asked key, by its request's ticket number, with n rows in ascending order; duplicates stay.
    NR_TOO_MANY and NR_NOT_SORTED without a step; NR_NOT_ASKED, NR_ALREADY or NR_STALE after 1; NR_DONE after 2n + 3
    and its search for a slot; NR_NO_SLOT or NR_ALL_FILLED after 1 and the search. A search polls slots, in 1 step each,
-   and if all are held it loads each reader's word once, and polls once more: at most 3 readers + 1 steps. Owed: use
-   each answer to a request once. An eviction keeps the key's ticket number,
-   so an answer used twice would fill a later request with old rows, and nothing notices. */
+   and if readers hold all it loads each reader's word once, and polls once more: at most 3 readers + 1 steps. Owed: use
+   each answer to a request once. An eviction keeps the key's ticket number, so an answer used twice would fill a later
+   request with old rows, and nothing would notice. */
 uint32_t nr_fill(nr_writer *writer, uint32_t key, uint64_t number, const nr_row *rows, size_t n);
 
 /* Applies 1 to 64 signed rows to the rows of a filled key, whole or not at all. It adds rows before it takes any away,
@@ -395,58 +394,58 @@ uint32_t nr_replace(nr_writer *writer, uint32_t key, const nr_row *rows, size_t 
 
 /* As nr_fill, nr_update and nr_replace, but each also gives out the set that its slot had, which no key has and no
    reader holds: NR_GIVEN instead of NR_DONE, after 2m + 1 more steps for a set of m rows, and `had` has them. NR_DONE
-   if no write ever took the slot, or nr_reap gave its set out. Any answer but NR_GIVEN leaves `had` as it was. */
+   if no write ever took the slot, or nr_reap gave out its set. Any answer but NR_GIVEN leaves `had` as it was. */
 uint32_t nr_fill_reclaiming(nr_writer *writer, uint32_t key, uint64_t number, const nr_row *rows, size_t n,
   nr_rows *had);
 uint32_t nr_update_reclaiming(nr_writer *writer, uint32_t key, const nr_delta *deltas, size_t n, nr_rows *had);
 uint32_t nr_replace_reclaiming(nr_writer *writer, uint32_t key, const nr_row *rows, size_t n, nr_rows *had);
 
-/* Gives out a set that no key has any more and that no reader holds, before a write takes its slot again: the oldest of
-   those that the last look at the readers' words found free, else of all, after a look anew. NR_GIVEN after a search of those that wait, oldest first, up to that one, and 2m + 1 steps for its m
-   rows; NR_HELD after the search; NR_NOTHING without a step, if no set waits. Any answer but NR_GIVEN leaves `had` as it
-   was. */
+/* Gives out a set that no key has any more and no reader holds, before a write takes its slot again: the oldest that
+   the last look at the readers' words found free, else the oldest after another look. NR_GIVEN after a search of the
+   waiting sets, oldest first, up to that one, and 2m + 1 steps for its m rows; NR_HELD after the search; NR_NOTHING
+   without a step, if no set waits. Any answer but NR_GIVEN leaves `had` as it was. */
 uint32_t nr_reap(nr_writer *writer, nr_rows *had);
 
-/* Makes a filled key a hole. NR_EVICTED after 2 steps. NR_NOTHING after 1: a key that is asked for stays so, and a fill
-   under way puts its rows; if these may be out of date, call nr_cancel first. */
+/* Makes a filled key a hole. NR_EVICTED after 2 steps. NR_NOTHING after 1: an asked key stays asked, and a fill under
+   way puts its rows; if these may be out of date, call nr_cancel first. */
 uint32_t nr_evict(nr_writer *writer, uint32_t key);
 
-/* Cancels the request of a key: the next request is answered NR_SEND, and a late fill for the old one NR_STALE.
-   NR_CANCELLED after 2 steps: wake those who wait for the key. NR_NOTHING or NR_WORN after 1. */
+/* Cancels a key's request: the next request gets NR_SEND, and a late fill for the old one NR_STALE. NR_CANCELLED after
+   2 steps: wake those who wait for the key. NR_NOTHING or NR_WORN after 1. */
 uint32_t nr_cancel(nr_writer *writer, uint32_t key);
 
 /* What a key is, in 1 step: NR_HOLE, NR_ASKED or NR_ROWS. */
 uint32_t nr_state(nr_writer *writer, uint32_t key);
 
-/* NR_DONE, and `number` is the ticket number of the key's request, or of the next one if there is none. No step. */
+/* NR_DONE, and `number` is the ticket number of the key's request, or else of its next one. No step. */
 uint32_t nr_number(nr_writer *writer, uint32_t key, uint64_t *number);
 
 /* Counts the map's slots, in 1 step: NR_DONE. The three counts add up to all slots. After NR_NO_SLOT or NR_ALL_FILLED
    none is free, and the retired ones are those that the call found held. A slot counts as retired until a write takes
-   it again, even after nr_reap gave its set out. */
+   it again, even after nr_reap gave out its set. */
 uint32_t nr_stats(nr_writer *writer, nr_slots *slots);
 
 /* WHICH READS SEE WHICH WRITES. A find sees a call of the writer if it begins after a message about that call's return:
    by a thread's start or join, a lock, or an atomic that is sequentially consistent, or released and acquired. It
-   gives the rows of that write or of a later one, and a hole only if the key was evicted since. A thread that read a
-   set reads nothing older of that key later, by any handle. Without such a message nothing is said of order in time.
-   In the map's contracts such a message carries a note, whose steps only load. These functions have no notes, so no
-   clause of theirs says it. */
+   gives the rows of that write or of a later one, and a hole only if the writer evicted the key since. A thread that
+   read a set reads nothing older of that key later, by any handle. Without such a message this library promises no
+   order in time. In the map's contracts such a message carries a note, whose steps only load. These functions have no
+   notes, so no clause of theirs says it. */
 
 /* REQUESTS ON THEIR WAY TO THE WRITER: a queue without a lock, first in first out, for many threads that post and one
    that takes. Of a map it knows only the number of keys. What was taken, followed by what the queue holds, is what was
    posted: each request once, and each poster's in their order. A post or a take makes one attempt and waits for
    nobody. After NR_FULL, NR_EMPTY or NR_IN_THE_WAY nothing has changed, and you may call again, after NR_IN_THE_WAY at
-   once. No contract bounds NR_IN_THE_WAY, nor NR_NO_MEMORY of an opening; tests show that the former comes only beside
+   once. No contract bounds NR_IN_THE_WAY, nor an opening's NR_NO_MEMORY; tests show that the former comes only beside
    another thread's call. */
 
 /* Opens a queue of 1 to 4,194,303 requests of keys below `keys`, with 1 to 65,535 posters, and makes the
    taker's handle live: NR_DONE. NR_LIVE if it is live already, NR_BAD_SIZE or NR_NO_MEMORY leave it as it was. A queue
-   with as many places as the map has keys holds all requests, if none is cancelled or filled before it is taken. A
+   with as many places as the map has keys holds all requests, if you take each before you cancel it or fill its key. A
    place takes 48 bytes, and as much again during the opening. */
 uint32_t nr_open_queue(uint32_t keys, uint32_t capacity, uint32_t posters, nr_taker *taker);
 
-/* Makes a poster's handle live: NR_DONE. It is the poster that was returned last, or else a new one. NR_LIVE if
+/* Makes a poster's handle live: NR_DONE. It takes the poster returned last, or else a new one. NR_LIVE if
    `poster` is live already, NR_NO_POSTER or NR_NO_MEMORY leave it as it was. */
 uint32_t nr_open_poster(nr_taker *taker, nr_poster *poster);
 
@@ -455,8 +454,8 @@ uint32_t nr_open_poster(nr_taker *taker, nr_poster *poster);
    queue. */
 uint32_t nr_return_poster(nr_taker *taker, nr_poster *poster);
 
-/* End a handle, which is then zeros; if it isn't live, they do nothing. The queue's memory goes with its last handle,
-   and so do the requests that it holds. nr_open_poster doesn't open a closed poster again. */
+/* End a handle, which is then zeros; if it isn't live, they do nothing. The last handle frees the queue's memory, with
+   the requests that it holds. No handle gets a closed poster again. */
 void nr_close_poster(nr_poster *poster);
 void nr_close_taker(nr_taker *taker);
 
@@ -469,11 +468,11 @@ uint32_t nr_post(nr_poster *poster, uint32_t key, uint64_t number);
    was empty at one moment of the call, and NR_IN_THE_WAY leave them as they were. */
 uint32_t nr_take(nr_taker *taker, uint32_t *key, uint64_t *number);
 
-/* A MAP OVER IDS, numbers from 1 on, of which as many have rows as there are slots. A group of ids has eight ways; an id
-   has one of them as long as it has rows or an upquery is open for it. Each call with an id answers NR_NO_KEY for 0.
-   A get. Find the id. At NR_HOLE or NR_OTHER request it; who is answered NR_SEND passes the id to the thread that
-   writes, which admits it, gets the rows, and fills. At NR_ASKED, NR_WAITING or NR_NAMED wait and find again. Wake
-   those who wait after a fill, a withdrawal and an eviction.
+/* A MAP OVER IDS, numbers from 1 on, of which at most as many have rows as there are slots. A group of ids has eight
+   ways; an id has one of them while it has rows or an open upquery. Each call with an id answers NR_NO_KEY for 0.
+   A get. Find the id. At NR_HOLE or NR_OTHER request it; who gets NR_SEND passes the id to the thread that writes,
+   which admits it, gets the rows, and fills. At NR_ASKED, NR_WAITING or NR_NAMED wait and find again. After a fill, a
+   withdrawal and an eviction wake those who wait.
    A full group. At NR_FULL evict an id whose nr_id_group is the same, and admit again: the claim stays open.
    Dropping an id's rows, because the base changed. Withdraw its upquery, if one is open, and evict it: a late fill is
    NR_STALE. embed/c/ids.c is a whole program. */
@@ -489,22 +488,23 @@ uint32_t nr_open_ids(const nr_id_shape *shape, nr_id_writer *writer);
    it was. */
 uint32_t nr_open_id_reader(nr_id_writer *writer, nr_id_reader *reader);
 
-/* End a handle, which is then zeros; if it isn't live, they do nothing. No handle gets a closed reader again; a thread
-   that ends can hand its reader on. The upqueries that are open end with the writer, and the memory with the last
-   handle. */
+/* End a handle, which is then zeros; if it isn't live, they do nothing. No handle gets a closed reader again, so a
+   thread that ends passes its reader on. Closing the writer ends all open upqueries; the last handle frees the
+   memory. */
 void nr_close_id_reader(nr_id_reader *reader);
 void nr_close_id_writer(nr_id_writer *writer);
 
 /* Looks an id up. It takes W steps, one for each way's name that it looks at, up to the id's own; W is 8 if no way has
-   it. NR_ROWS after 2n + 7 more for n rows, and 1 for the mark of a found way, or 2 if that isn't set yet, and `rows`
-   has them; NR_ASKED after 1 more, if its upquery is open or it was evicted within the call; NR_OTHER if its way became
-   another id's within the call; NR_HOLE, if it had no way at a moment within the call. If the way was written
-   meanwhile, NR_ROWS and NR_ASKED take more steps as nr_find does. Any answer but NR_ROWS leaves `rows` as it was. */
+   the id. NR_ROWS after 2n + 7 more for n rows, and 1 for the found way's use bit, or 2 if that isn't set yet, and
+   `rows` has them; NR_ASKED after 1 more, if its upquery is open or it was evicted within the call; NR_OTHER if its way
+   became another id's within the call; NR_HOLE if it had no way at a moment within the call. If the writer wrote the
+   way meanwhile, NR_ROWS and NR_ASKED take more steps as nr_find does. Any answer but NR_ROWS leaves `rows` as it
+   was. */
 uint32_t nr_find_id(nr_id_reader *reader, uint64_t id, nr_rows *rows);
 
-/* Requests an id. NR_SEND after 10 steps: the claim of its group is the caller's, who passes the id to the thread that
-   writes. Until that admits an id of the group others get NR_WAITING, after 1 or 10. NR_NAMED after 2 to 9. NR_WORN
-   after 1, once its group has had 2^62 claims. */
+/* Requests an id. NR_SEND after 10 steps: the caller has the claim of its group, and passes the id to the thread that
+   writes. Until that thread admits an id of the group others get NR_WAITING, after 1 or 10. NR_NAMED after 2 to 9.
+   NR_WORN after 1, once its group has had 2^61 claims. */
 uint32_t nr_request_id(nr_id_reader *reader, uint64_t id);
 
 /* The writer's own find: as nr_find_id, but never NR_OTHER, and NR_ROWS after W + 2n + 4 steps. */
@@ -512,28 +512,28 @@ uint32_t nr_look_id(nr_id_writer *writer, uint64_t id, nr_rows *rows);
 
 /* Gives an id of a claimed group a way, and opens an upquery for it: NR_SEND after 16 steps, and `upquery` has its
    numbers. NR_NOT_ASKED after 1, if no claim of the group is open; NR_NAMED after 2 to 9; NR_FULL after 9, if each way
-   of the group is another id's. They leave `upquery` as it was. */
+   of the group is another id's. These three leave `upquery` as it was. */
 uint32_t nr_admit(nr_id_writer *writer, uint64_t id, nr_upquery *upquery);
 
-/* Fills the id of an open upquery with n rows in ascending order, of which each `a` is above 0. NR_TOO_MANY,
-   NR_NOT_SORTED, NR_BAD_ROW and NR_STALE, if no upquery with these numbers is open, without a step; NR_DONE,
-   NR_NO_SLOT or NR_ALL_FILLED after W steps and those of nr_fill for n + 1 rows. After the last two it is open still. */
+/* Fills an open upquery's id with n rows in ascending order, each `a` above 0. NR_TOO_MANY, NR_NOT_SORTED, NR_BAD_ROW,
+   and NR_STALE if no upquery with these numbers is open, without a step; NR_DONE, NR_NO_SLOT or NR_ALL_FILLED after W
+   steps and those of nr_fill for n + 1 rows. After the last two the upquery stays open. */
 uint32_t nr_fill_id(nr_id_writer *writer, const nr_upquery *upquery, const nr_row *rows, size_t n);
 
-/* Takes an open upquery back: its id has no way then. NR_CANCELLED after W + 3 steps: wake those who wait for the id.
-   NR_STALE without a step, if no upquery with these numbers is open. NR_WORN after W + 1: its ticket number is the last
-   one, and only its own fill ends it. */
+/* Takes an open upquery and its id's way back. NR_CANCELLED after W + 3 steps: wake those who wait for the id.
+   NR_STALE without a step, if no upquery with these numbers is open. NR_WORN after W + 1: it has the last ticket
+   number, and only its own fill ends it. */
 uint32_t nr_withdraw_id(nr_id_writer *writer, const nr_upquery *upquery);
 
-/* As nr_update and nr_replace, of an id's rows, of which each `a` is above 0: NR_BAD_ROW without a step. NR_NOTHING
-   after 8, if the id has no way; NR_DROPPED, if its upquery is open. */
+/* As nr_update and nr_replace, of an id's rows, each `a` above 0: else NR_BAD_ROW without a step. NR_NOTHING after 8 if
+   the id has no way; NR_DROPPED if its upquery is open. */
 uint32_t nr_update_id(nr_id_writer *writer, uint64_t id, const nr_delta *deltas, size_t n);
 uint32_t nr_replace_id(nr_id_writer *writer, uint64_t id, const nr_row *rows, size_t n);
 
 /* As nr_fill_id, nr_update_id and nr_replace_id, but each also gives out the set that its slot had, as
-   nr_fill_reclaiming: NR_GIVEN instead of NR_DONE, after 2m + 1 more steps for a set of m rows. The first of these is
-   (0, id), whose the set was. A set that came back is in no later find, but a thread may still read what an earlier find
-   wrote: no reader by id holds a set. */
+   nr_fill_reclaiming: NR_GIVEN instead of NR_DONE, after 2m + 1 more steps for a set of m rows. The first row, (0, id),
+   says whose the set was. No later find gives that set, but a thread may still read what an earlier find wrote: no
+   reader by id holds a set. */
 uint32_t nr_fill_id_reclaiming(nr_id_writer *writer, const nr_upquery *upquery, const nr_row *rows, size_t n,
   nr_rows *had);
 uint32_t nr_update_id_reclaiming(nr_id_writer *writer, uint64_t id, const nr_delta *deltas, size_t n, nr_rows *had);
@@ -542,8 +542,8 @@ uint32_t nr_replace_id_reclaiming(nr_id_writer *writer, uint64_t id, const nr_ro
 /* Gives out a set that no id has any more, as nr_reap. */
 uint32_t nr_reap_id(nr_id_writer *writer, nr_rows *had);
 
-/* Takes an id's rows and its way: NR_EVICTED after W + 3 steps. NR_NOTHING after W or W + 1, if the id has no way or its
-   upquery is open. */
+/* Takes an id's rows and its way: NR_EVICTED after W + 3 steps. NR_NOTHING after W or W + 1, if the id has no way or an
+   open upquery. */
 uint32_t nr_evict_id(nr_id_writer *writer, uint64_t id);
 
 #ifdef __cplusplus

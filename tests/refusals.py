@@ -6,6 +6,7 @@ that the others call the right one. A function of a trait is edited in its place
 refused where a goal of its own function is open. Where it stands in no function, or another one's goal shows it, a line
 `refused in: NAME` of the edit, which rt passes over, names that one, and the wrong body has a check for itself. What isn't
 refused so is tried as rt must-fail does. All checks of a crate keep what they proved in one folder, for the next.
+The kit has no check of several wrong bodies at once, so all of this stands here.
 """
 import collections
 import os
