@@ -1,4 +1,4 @@
--- The writer's list has each key's number after the history of the calls, as readers' calls change none.
+-- The writer's list has each key's ticket number after the history of the calls, as readers' calls change none.
 use Rattle.std.proofs.Common.{◌≡◌, ◌<◌, ◌≤◌, ℕ, ◌+◌, List, [], ◌∷◌, ◌++◌, Bool, true, false, cond, ◌==◌, refl, sym, ap, ◌∙◌, subst, arith, ⊎_elim}
 use Rattle.std.specs.Prelude.{◌&&◌}
 use Rattle.std.proofs.lemmas.List.{append-nil, append_cancel_left}

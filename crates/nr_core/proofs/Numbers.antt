@@ -1,4 +1,4 @@
--- The writer's list has each key's number after one entry more, and no number is past the last one.
+-- The writer's list has each key's ticket number after one entry more, and no number is past the last one.
 use Rattle.std.proofs.Common.{List, [], ap, arith, get_or, get_or-set_other, get_or-set_same, length-set, set, subst, sym, ℕ, ◌++◌, ◌+◌, ◌<◌, ◌∙◌, ◌∷◌, ◌≡◌, ◌≤◌}
 use mathlib.Core.Logic.{dite}
 use native.Mathlib.Decide.{ℕ_discrete}
@@ -13,7 +13,7 @@ use Rattle.nr_machine.specs.Slots.{bound_of}
 use Rattle.nr_machine.specs.Story.{map_after, opening_map}
 use Rattle.nr_machine.specs.declared.shape.Shape.{Shape}
 
--- an entry that keeps its key's number
+-- an entry that keeps its key's ticket number
 pub numbers_kept : (shape : Shape) (log : List Entry) (e : Entry) (numbers : List ℕ) → call_key e.call < shape.keys
     → number_of (state_after (bound_of shape) e.call (state_of (map_after shape log) (call_key e.call))) ≡ number_of (state_of (map_after shape log) (call_key e.call))
     → AreNumbers shape (map_after shape log) numbers → AreNumbers shape (map_after shape (log ++ e ∷ [])) numbers

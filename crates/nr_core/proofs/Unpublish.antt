@@ -1,4 +1,4 @@
--- An eviction swaps the word of a hole, with the key's number, in for its key's word.
+-- An eviction swaps the word of a hole, with the key's ticket number, in for its key's word.
 use Rattle.std.proofs.Common.{List, [], ap, arith, false, get_or, refl, set, subst, suc, sym, ℕ, ◌++◌, ◌∙◌, ◌∷◌, ◌≡◌}
 use lib.ListN.{get_elem?}
 use mathlib.Core.Option.{some}

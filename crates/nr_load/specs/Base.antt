@@ -25,7 +25,7 @@ GivesRow base key bound rows base' = (base' ≡ base) × (key < length base → 
 abbrev pub FailsNever : List ℕ → (key bound : ℕ) → List ℕ → Type 0
 FailsNever base key bound base' = ⊥
 
--- a step adds one to the key's number, unless that is the last one
+-- a step adds one to the number in the key's row, unless that is the last one
 abbrev pub StepsBase : List ℕ → ℕ → Option (List Delta) → List ℕ → Type 0
 StepsBase base key None base' = (slice_index base key ≡ last_count) × (base' ≡ base)
 StepsBase base key (Some batch) base' = (slice_index base key < last_count) × (batch ≡ base_deltas key (slice_index base key)) × (base' ≡ slice_set base key (slice_index base key + 1))

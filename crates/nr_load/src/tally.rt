@@ -43,7 +43,7 @@ fn count_asked(map: &ReaderMap, writer: &mut Writer) -> u64
 /// How many keys are asked after all calls of the writer and the readers of a map, who are all here
 /// and make no call meanwhile. All readers are gathered, the keys are counted, and all are gathered
 /// once more: the second round shows that nobody called in between. With r readers and k keys it
-/// takes 12r + k steps. No token makes a call.
+/// takes 8r + k steps. No token makes a call.
 pub(crate) fn tally(map: &ReaderMap, writer: &mut Writer, readers: &mut [Reader]) -> u64
     requires own { writer.old.table ≡ map.now }
     requires writer { writer.old.number ≡ 0 }

@@ -33,7 +33,7 @@ opening_map shape = opening shape.keys (bound_of shape) shape.first_number
 abbrev pub map_after : Shape → List Entry → PartialMap
 map_after shape history = after (opening_map shape) history
 
--- the key's state that its word shows, with the slot that it names; none where the slot's content words spell no set. A filled key's number stands in the writer's list alone
+-- the key's state that its word shows, with the slot that it names; none where the slot's content words spell no set. A filled key's ticket number stands in the writer's list alone
 abbrev pub shown : State → ℕ → Option KeyState
 shown state at =
     (if is_filled (word state at)

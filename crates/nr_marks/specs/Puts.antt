@@ -16,7 +16,7 @@ put_count log = total puts_set log
 abbrev pub puts_at : ℕ → Entry → Bool
 puts_at key entry = is_done entry.reply && (call_key entry.call == key)
 
--- the number of what the entries put last for the key, where `next` is the first number that they give and `last` the key's number before them
+-- the number of what the entries put last for the key, where `next` is the first number that they give and `last` that of the key before them
 abbrev pub put_from : ℕ → ℕ → ℕ → List Entry → ℕ
 put_from key next last [] = last
 put_from key next last (entry ∷ log) = put_from key (next + puts_set entry) (if puts_at key entry then next else last) log

@@ -18,7 +18,7 @@ pub enum Got {
 pub enum Requested {
     /// None was made, since a ticket is kept.
     NotMade,
-    /// It was to be sent, under the key's number.
+    /// It was to be sent, under the key's ticket number.
     Sent(u64),
     /// An upquery is under way.
     Waiting,

@@ -242,7 +242,7 @@ impl Machine {
         Outcome::Done
     }
 
-    /// Swaps in the word of a hole with the key's number. The slot that the old word named is
+    /// Swaps in the word of a hole with the key's ticket number. The slot that the old word named is
     /// retired.
     fn unpublish(&mut self, key: u32) -> Outcome
         requires stage { self.old.stage ≡ Leaving key }
