@@ -15,7 +15,8 @@ use nr_model::RowRoom;
 pub enum FoundId {
     /// The caller's room has the id's rows.
     Rows,
-    /// The id's way was a hole: its upquery is under way, or it was evicted within the call.
+    /// The id's way was a hole: its upquery is under way; or within the call that was withdrawn, or the
+    /// id evicted, and nobody may be filling it.
     Pending,
     /// The id's way became another id's within the call.
     Moved,

@@ -72,6 +72,7 @@ impl IdShape {
 }
 
 impl IdMap {
+    ghost use Rattle.nr_ids.specs.Groups.{group_of};
     ghost use Rattle.nr_idmap.specs.Keepers.{id_rows};
 
     /// How many rows an id may have.
@@ -79,6 +80,13 @@ impl IdMap {
         ensures { result ≡ id_rows self.now }
     {
         self.map.rows() - 1
+    }
+
+    /// The group of an id. What becomes of an id changes no other group.
+    pub fn group_of(&self, id: u64) -> u32
+        ensures { result ≡ group_of self.now.directory.plan id }
+    {
+        self.directory.plan().group_of(id)
     }
 
     /// How many ways there are: that many ids can have one.

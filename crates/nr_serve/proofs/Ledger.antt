@@ -1,22 +1,13 @@
 -- A dataflow's calls one by one, and then in a row: each trigger that was taken ended, or is kept, or is under way, and the writer's fills that were done are those of triggers.
 use Rattle.std.proofs.Common.{◌≡◌, ℕ, ◌+◌, List, [], ◌∷◌, ◌++◌, Option, None, Some, Result, Ok, Err, refl, sym, ap, ◌∙◌, arith, append_assoc, append-nil, inl, inr}
 use Rattle.nr_core.proofs.Sums.{total-append}
-use Rattle.nr_model.specs.declared.batches.Delta.{Delta}
 use Rattle.nr_model.specs.declared.rows.Row.{Row}
 use Rattle.nr_model.specs.Histories.{Entry}
 use Rattle.nr_machine.specs.Sums.{total}
 use Rattle.nr_board.specs.declared.answers.Cancel.{Cancel}
 use Rattle.nr_board.specs.declared.answers.Cancel.TheVariants as cancel
-use Rattle.nr_board.specs.declared.answers.Evict.{Evict}
-use Rattle.nr_board.specs.declared.answers.Evict.TheVariants as evict
-use Rattle.nr_board.specs.declared.answers.FillFault.{FillFault}
 use Rattle.nr_board.specs.declared.answers.FillFault.TheVariants as fill
-use Rattle.nr_board.specs.declared.answers.ReplaceFault.{ReplaceFault}
-use Rattle.nr_board.specs.declared.answers.ReplaceFault.TheVariants as replace
-use Rattle.nr_board.specs.declared.answers.UpdateFault.{UpdateFault}
-use Rattle.nr_board.specs.declared.answers.UpdateFault.TheVariants as update
-use Rattle.nr_board.specs.Callers.{Caller, Grows}
-use Rattle.nr_board.specs.WriterAnswers.{CancelsKey, EvictsKey, FillsKey, ReplacesKey, UpdatesKey}
+use Rattle.nr_board.specs.Callers.{Caller}
 use Rattle.nr_trigger.specs.declared.post.Post.{Post}
 use Rattle.nr_trigger.specs.declared.post.Upquery.{Upquery}
 use Rattle.nr_trigger.specs.Tokens.{TakerSeen}
@@ -27,11 +18,8 @@ use Rattle.nr_serve.specs.declared.turns.Turn.TheVariants as turn
 use Rattle.nr_serve.specs.Ends.{FailsOne, FillsOne, TakesBack}
 use Rattle.nr_serve.specs.Flows.{FlowSeen}
 use Rattle.nr_serve.specs.Turns.{Spends, Takes, Turns, kept_posts}
-use Rattle.nr_serve.specs.Ledger.{Cancels, Does, EachTriggerEndsOnce, Ending, Evicts, FailWorn, Fails, FillLacks, Filling, Fills, Goes, Hears, IsEachOnce, Keeps, Lends, Looks, Opens, Replaces, Run, TakesNone, TakesOne, Tells, TurnsOnce, Updates, done_by, ended, ended_by, fate_by, fate_of, filled_by, fills_done, fills_of, posts_of}
-
-fills_done-append : (l m : List Entry) → fills_done (l ++ m) ≡ fills_done l ++ fills_done m
-fills_done-append [] m = refl
-fills_done-append (e ∷ l) m = ap (λ (fills : List Filling). done_by e.call e.reply ++ fills) (fills_done-append l m) ∙ sym (append_assoc (done_by e.call e.reply) (fills_done l) (fills_done m))
+use Rattle.nr_serve.specs.Ledger.{Cancels, Does, EachTriggerEndsOnce, Ending, Evicts, FailWorn, Fails, FillLacks, Filling, Fills, Goes, Hears, IsEachOnce, Keeps, Lends, Looks, Opens, Replaces, Run, TakesNone, TakesOne, Tells, TurnsOnce, Updates, ended, ended_by, fate_by, fate_of, filled_by, fills_done, fills_of, posts_of}
+use Rattle.nr_serve.proofs.Filled.{Made, cancel_made, evict_made, fill_made, fills_done-append, made_none, pass_made, replace_made, update_made}
 
 fills_of-append : (l m : List Ending) → fills_of (l ++ m) ≡ fills_of l ++ fills_of m
 fills_of-append [] m = refl
@@ -41,57 +29,11 @@ posts_of-append : (l m : List Ending) → posts_of (l ++ m) ≡ posts_of l ++ po
 posts_of-append [] m = refl
 posts_of-append (e ∷ l) m = ap (λ (posts : List Post). e.post ∷ posts) (posts_of-append l m)
 
--- the writer made calls, among which these fills were done
-record Made (a b : Caller) (fills : List Filling) : Type 0 where
-  pub calls : List Entry
-  pub mine : b.mine ≡ a.mine ++ calls
-  pub done : fills_done calls ≡ fills
-
-made_none : (a b : Caller) → b.mine ≡ a.mine → Made a b []
-made_none a b same = record { calls = []; mine = same ∙ sym (append-nil a.mine); done = refl }
-
-made : (steps : ℕ) (a b : Caller) (calls : List Entry) (fills : List Filling) → Grows steps a calls b → fills_done calls ≡ fills → Made a b fills
-made steps a b calls fills grows done = record { calls = calls; mine = grows.mine; done = done }
-
-update_made : (bound key : ℕ) (batch : List Delta) (a b : Caller) (answer : Result (Unit {0}) UpdateFault) → UpdatesKey bound key batch a b answer → Made a b []
-update_made bound key batch a b (Ok done) is = made _ a b _ [] is.3.gains refl
-update_made bound key batch a b (Err update.Dropped) is = made _ a b _ [] is.0 refl
-update_made bound key batch a b (Err update.NoRow) is = made _ a b _ [] is.2 refl
-update_made bound key batch a b (Err update.TooMany) is = made _ a b _ [] is.2 refl
-update_made bound key batch a b (Err (update.NoSlot counts)) is = made _ a b [] [] is.3.grows refl
-
-replace_made : (key : ℕ) (rows : List Row) (a b : Caller) (answer : Result (Unit {0}) ReplaceFault) → ReplacesKey key rows a b answer → Made a b []
-replace_made key rows a b (Ok done) is = made _ a b _ [] is.gains refl
-replace_made key rows a b (Err replace.Dropped) is = made _ a b _ [] is.0 refl
-replace_made key rows a b (Err (replace.NoSlot counts)) is = made _ a b [] [] is.grows refl
-
-evict_made : (key : ℕ) (a b : Caller) (answer : Evict) → EvictsKey key a b answer → Made a b []
-evict_made key a b evict.Evicted is = made _ a b _ [] is.0 refl
-evict_made key a b evict.Nothing is = made _ a b _ [] is.0 refl
-
-cancel_made : (key : ℕ) (a b : Caller) (answer : Cancel) → CancelsKey key a b answer → Made a b []
-cancel_made key a b cancel.Cancelled is = made _ a b _ [] is.0 refl
-cancel_made key a b cancel.Nothing is = made _ a b _ [] is.0 refl
-cancel_made key a b cancel.Worn is = made _ a b _ [] is.0 refl
-
 back_made : (upquery : Upquery) (a b : Caller) (answer : Cancel) → TakesBack upquery a answer b → Made a b []
 back_made upquery a b cancel.Cancelled is = cancel_made upquery.key a b cancel.Cancelled is.1
 back_made upquery a b cancel.Nothing (inl none) = made_none a b (ap (λ (c : Caller). c.mine) none.1)
 back_made upquery a b cancel.Nothing (inr is) = cancel_made upquery.key a b cancel.Nothing is
 back_made upquery a b cancel.Worn is = cancel_made upquery.key a b cancel.Worn is.1
-
--- a fill that was done, one that its key refused, and one that found no slot
-abbrev filling : ℕ → ℕ → List Row → List Filling
-filling key number rows = record { key = key; number = number; rows = rows } ∷ []
-
-fill_made : (key number : ℕ) (rows : List Row) (a b : Caller) → FillsKey key number rows a b (Ok tt) → Made a b (filling key number rows)
-fill_made key number rows a b is = made _ a b _ _ is.gains refl
-
-pass_made : (key number : ℕ) (rows : List Row) (a b : Caller) (fault : FillFault) → FillsKey key number rows a b (Err fault) → Made a b []
-pass_made key number rows a b fill.NotAsked is = made _ a b _ [] is.0 refl
-pass_made key number rows a b fill.Already is = made _ a b _ [] is.0 refl
-pass_made key number rows a b fill.Stale is = made _ a b _ [] is.0 refl
-pass_made key number rows a b (fill.NoSlot counts) is = made _ a b [] [] is.grows refl
 
 -- what one call took, and what became of triggers
 record Books {S : Type 0} (old new : FlowSeen S) (out back : List Post) (more : List Ending) : Type 0 where

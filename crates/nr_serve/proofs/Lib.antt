@@ -9,5 +9,6 @@ pub mod Getting
 pub mod Serving
 pub mod Heard
 pub mod Telling
+pub mod Filled
 pub mod Ledger
 pub mod Live

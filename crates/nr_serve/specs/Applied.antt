@@ -18,15 +18,19 @@ pub record Telling : Type 0 where
   pub amount : ℕ
   pub note : Option Known
 
+-- a put of the key stands in the history that the note's maker had seen
+abbrev pub HasPut : ℕ → Known → Type 0
+HasPut key note = (before since : List Entry) × (put : Entry) × (note.seen ≡ (before ++ put ∷ []) ++ since) × (puts_at key put ≡ true)
+
 module _ (reached : ℕ → Known → Type 0) where
   -- of so much at least the caller heard in 4 steps: a note whose maker had seen it; or the lobby is closed, and the caller is as it was
   abbrev pub HearsApplied : ℕ → Caller → Option ℕ → GuestSeen → Caller → Type 0
   HearsApplied least old (Some amount) guest new = (least ≤ amount) × (note : Known) × reached amount note × HearsNote 4 old note new
   HearsApplied least old None guest new = (new ≡ old) × (0 < slice_index guest.seen closed_at)
 
-  -- a put of the key stands in the history of each note that so much was applied
+  -- the note of so much always has it
   abbrev pub HasPutOf : ℕ → ℕ → Type 0
-  HasPutOf key amount = (note : Known) → reached amount note → (before since : List Entry) × (put : Entry) × (note.seen ≡ (before ++ put ∷ []) ++ since) × (puts_at key put ≡ true)
+  HasPutOf key amount = (note : Known) → reached amount note → HasPut key note
 
   -- a client that heard of so much, in which the key had been put, finds in each find of a get that it makes then the rows of that put or of a later one, or a hole where the key was evicted since
   abbrev pub GetsWhatWasApplied : Type 0

@@ -25,9 +25,10 @@ impl Model for Rung {
     ghost view = { λ rung. record { rings = rung.rings; taker = rung.taker.value } };
 }
 
-/// A lobby with the dataflow's own guest, through which alone it is raised here.
+/// A lobby with the dataflow's own guest, through which alone it is raised here. For crates whose
+/// dataflows raise a lobby.
 #[derive(Drop)]
-pub(crate) struct Raiser<'a> {
+pub struct Raiser<'a> {
     lobby: &'a Lobby,
     guest: Guest,
 }
@@ -44,7 +45,8 @@ impl<'a> Model for Raiser<'a> {
 }
 
 impl<'a> Raiser<'a> {
-    pub(crate) fn of(lobby: &'a Lobby) -> Raiser<'a>
+    /// With a new guest.
+    pub fn of(lobby: &'a Lobby) -> Raiser<'a>
         ensures lobby { result.lobby ≡ lobby.now }
         ensures new { IsNew result }
     {
@@ -53,14 +55,14 @@ impl<'a> Raiser<'a> {
     }
 
     /// Raises the count of this key's group and that of the whole lobby.
-    pub(crate) fn raise_for<R: Wait>(&mut self, rt: &R, key: u32)
+    pub fn raise_for<R: Wait>(&mut self, rt: &R, key: u32)
         ensures { Raises self.old (raises_for key) self.new }
     {
         self.lobby.raise_for(rt, &mut self.guest, key);
     }
 
     /// As `raise_for`, and counts for the key's group that a source failed.
-    pub(crate) fn fail_for<R: Wait>(&mut self, rt: &R, key: u32)
+    pub fn fail_for<R: Wait>(&mut self, rt: &R, key: u32)
         ensures { Raises self.old (fails_for key) self.new }
     {
         self.lobby.fail_for(rt, &mut self.guest, key);
@@ -74,7 +76,7 @@ impl<'a> Raiser<'a> {
     }
 
     /// How often the bell was rung, for a dataflow that looks then what was posted.
-    pub(crate) fn rings(&mut self, taker: &Taker) -> Rung
+    pub fn rings(&mut self, taker: &Taker) -> Rung
         ensures looks { OnlyLooks self.old self.new }
         ensures rung { result ≡ record { rings = slice_index self.new.seen rung_at; taker = taker.now } }
     {
@@ -86,7 +88,7 @@ impl<'a> Raiser<'a> {
 
     /// Sleeps after one look since the bell was read, which found nothing posted: until it was rung
     /// since, or the lobby is closed.
-    pub(crate) fn wait_for_ring<R: Wait>(&mut self, rt: &R, rung: &Rung, taker: &Taker)
+    pub fn wait_for_ring<R: Wait>(&mut self, rt: &R, rung: &Rung, taker: &Taker)
         requires { AwaitsPost rung.now.taker taker.now }
         ensures { OnlyLooks self.old self.new }
     {

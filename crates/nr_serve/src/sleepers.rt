@@ -27,7 +27,7 @@ pub(crate) struct Sleepers {
 }
 
 /// A sleep that is announced. Dropped, it is over.
-pub(crate) struct Announced<'a> {
+pub struct Announced<'a> {
     sleepers: &'a Sleepers,
     wakes: u64,
 }
@@ -72,8 +72,8 @@ impl Drop for Announced<'_> {
     }
 }
 
-/// How long a sleep may last.
-pub(crate) trait Limit<R> {
+/// How long a sleep may last: `NoLimit`, or until an `Instant`.
+pub trait Limit<R> {
     ghost use Rattle.nr_serve.specs.declared.sleepers.TooLate.{TooLate};
 
     /// Whether it may time out so.
@@ -86,7 +86,7 @@ pub(crate) trait Limit<R> {
 }
 
 /// As long as it takes.
-pub(crate) struct NoLimit;
+pub struct NoLimit;
 
 impl<R: Wait> Limit<R> for NoLimit {
     ghost lapses = { λ _ _. ⊥ };

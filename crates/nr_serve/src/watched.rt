@@ -1,5 +1,5 @@
 //! The lobby as a client has it.
-ghost use Rattle.std.specs.Prelude.{◌≡◌, ◌<◌, ◌⊎◌, ◌↔◌, ◌∷◌, [], IfErr, IsTrue, slice_index};
+ghost use Rattle.std.specs.Prelude.{◌≡◌, ◌<◌, ◌⊎◌, ◌↔◌, ◌∷◌, [], IfErr, IfOk, IsTrue, slice_index};
 ghost use Rattle.nr_serve.specs.Counts.{IsNew, OnlyLooks, Raises, closed_at, failed_at, group_at, rung_at, told_at};
 ghost use Rattle.nr_serve.specs.Gets.{AwaitsFill};
 
@@ -21,9 +21,9 @@ pub(crate) struct Counted {
 }
 
 /// A lobby with a client's own guest, by which alone one looks, sleeps and rings the bell there.
-/// Nothing else of it is raised through this.
+/// Nothing else of it is raised through this. For crates whose clients sleep in a lobby.
 #[derive(Drop)]
-pub(crate) struct Watched<'a> {
+pub struct Watched<'a> {
     lobby: &'a Lobby,
     guest: Guest,
 }
@@ -40,12 +40,38 @@ impl<'a> Model for Watched<'a> {
 }
 
 impl<'a> Watched<'a> {
-    pub(crate) fn of(lobby: &'a Lobby) -> Watched<'a>
+    /// With a new guest.
+    pub fn of(lobby: &'a Lobby) -> Watched<'a>
         ensures lobby { result.lobby ≡ lobby.now }
         ensures new { IsNew result }
     {
         let guest = lobby.guest();
         Watched { lobby, guest }
+    }
+
+    /// How often the lobby was raised for the keys of this one's group.
+    #[inline(always)]
+    pub fn group_count(&mut self, key: u32) -> u64
+        ensures looks { OnlyLooks self.old self.new }
+        ensures found { slice_index self.new.seen (group_at key) ≡ result }
+    {
+        self.lobby.count_for(&mut self.guest, key)
+    }
+
+    /// Sleeps while the count of this key's group is at most `n` and the lobby isn't closed, within the
+    /// limit. Who sleeps for what another is to bring reads the count before it looks for that.
+    pub fn wait_within<L: Limit<R>, R: Wait>(
+        &mut self,
+        rt: &R,
+        key: u32,
+        n: u64,
+        limit: &L,
+    ) -> Result<(), TooLate>
+        ensures looks { OnlyLooks self.old self.new }
+        ensures past { IfOk result (λ _. (n < slice_index self.new.seen (group_at key)) ⊎ (0 < slice_index self.new.seen closed_at)) }
+        ensures late { IfErr result (λ late. L.lapses limit.now late) }
+    {
+        self.lobby.wait_within(rt, &mut self.guest, key, n, limit)
     }
 
     /// The count of this key's group, for a client that makes a try then.
@@ -58,13 +84,13 @@ impl<'a> Watched<'a> {
     {
         Counted {
             key,
-            count: self.lobby.count_for(&mut self.guest, key),
+            count: self.group_count(key),
             hands: Snapshot::of(hands),
         }
     }
 
     /// How often the rows of a key of this one's group couldn't be had.
-    pub(crate) fn failures_for(&mut self, key: u32) -> u64
+    pub fn failures_for(&mut self, key: u32) -> u64
         ensures looks { OnlyLooks self.old self.new }
         ensures found { slice_index self.new.seen (failed_at key) ≡ result }
     {
@@ -83,12 +109,12 @@ impl<'a> Watched<'a> {
     ) -> Result<(), TooLate>
         requires { AwaitsFill counted.now.key counted.now.hands.value requested.now hands.now }
         ensures looks { OnlyLooks self.old self.new }
+        ensures past { IfOk result (λ _. (counted.now.count < slice_index self.new.seen (group_at counted.now.key)) ⊎ (0 < slice_index self.new.seen closed_at)) }
         ensures late { IfErr result (λ late. L.lapses limit.now late) }
     {
         let _ = requested;
         let _ = hands;
-        self.lobby
-            .wait_within(rt, &mut self.guest, counted.key, counted.count, limit)
+        self.wait_within(rt, counted.key, counted.count, limit)
     }
 
     /// How often the dataflow told how much it has applied.
@@ -116,7 +142,7 @@ impl<'a> Watched<'a> {
     }
 
     /// Rings the bell, once a ticket was posted.
-    pub(crate) fn ring<R: Wait>(&mut self, rt: &R)
+    pub fn ring<R: Wait>(&mut self, rt: &R)
         ensures { Raises self.old (rung_at ∷ []) self.new }
     {
         self.lobby.ring(rt, &mut self.guest);

@@ -1,7 +1,8 @@
 //! Lobbies without clients.
 ghost use Rattle.std.specs.Prelude.{◌≡◌};
 
-use nr_serve::{Guest, Lobby};
+use crate::opened::Opened;
+use nr_serve::{Guest, Lobby, NoLimit, Raiser, Watched};
 use std::process::Abort;
 use std::sync::Wait;
 
@@ -53,4 +54,32 @@ fn raises_for_a_key<R: Abort + Wait>(rt: &R, lobby: &Lobby) {
 fn a_raise_for_a_key_counts_for_its_group_and_the_whole(rt: HostRuntime) {
     let lobby = Lobby::open(rt.alloc()).expect(&rt, "a lobby");
     raises_for_a_key(&rt, &lobby);
+}
+
+// A client and a dataflow of another crate have a guest each. The bell was rung before the dataflow would sleep.
+fn serves_another_crate<R: Abort + Wait>(rt: &R, opened: Opened) {
+    let Opened {
+        service,
+        writer: _writer,
+        mut taker,
+        reader: _reader,
+        poster: _poster,
+    } = opened;
+    let mut watched = Watched::of(service.lobby());
+    let mut raiser = Raiser::of(service.lobby());
+    raiser.raise_for(rt, 3);
+    raiser.fail_for(rt, 67);
+    assert_eq!(rt; (watched.group_count(3), watched.failures_for(3)), (2, 1));
+    assert!(rt; watched.wait_within(rt, 3, 1, &NoLimit).is_ok());
+    let rung = raiser.rings(&taker);
+    watched.ring(rt);
+    match service.triggers().take(rt, &mut taker) {
+        None => raiser.wait_for_ring(rt, &rung, &taker),
+        Some(_trigger) => panic!(rt; "no ticket"),
+    }
+}
+
+#[test]
+fn a_lobby_serves_another_crate(rt: HostRuntime) {
+    serves_another_crate(&rt, Opened::open(&rt, 4));
 }

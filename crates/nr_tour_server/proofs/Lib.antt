@@ -1,1 +1,2 @@
 mod HeardNotes
+mod Told

@@ -143,6 +143,27 @@ impl Triggers {
         }
     }
 
+    /// As `post`, of a request that has no ticket.
+    pub fn post_upquery<R: Wait>(
+        &self,
+        rt: &R,
+        poster: &mut Poster,
+        upquery: Upquery,
+    ) -> Result<(), Upquery>
+        requires own { poster.old.queue ≡ self.now.id }
+        requires key { upquery.key < poster.old.keys }
+        ensures own { IsSamePoster poster.old poster.new }
+        ensures tries { poster.new.tries ≡ poster.old.tries + 1 }
+        ensures posted { MatchResult result (λ _. poster.new.posted ≡ poster.old.posted ++ upquery ∷ []) (λ back. (back ≡ upquery) × (poster.new ≡ poster_tried poster.old)) }
+        ensures notes { IfOk result (λ _. poster.new.notes ≡ poster.old.notes ++ None ∷ []) }
+        ensures full { IfErr result (λ _. WasFull self.now.capacity poster.old) }
+    {
+        match self.push(rt, poster, upquery, None) {
+            Ok(()) => Ok(()),
+            Err(_) => Err(upquery),
+        }
+    }
+
     /// Takes what is at the front. None where the queue was empty at one moment of the call. May
     /// wait for a thread that is within a call of its own, and waits for ever once the queue has
     /// carried 2^62 tickets.

@@ -1,0 +1,36 @@
+-- A client's rings are as many as its posts, over several steps.
+use Rattle.std.proofs.Common.{◌≡◌, ◌∷◌, [], ◌++◌, ◌+◌, ℕ, List, length, replicate, length-append, refl, ap, subst, arith}
+use Rattle.std.proofs.lemmas.List.{replicate-append-replicate}
+use Rattle.nr_trigger.specs.declared.post.Upquery.{Upquery}
+use Rattle.nr_trigger.specs.Tokens.{PosterSeen}
+use Rattle.nr_serve.specs.Counts.{GuestSeen, OnlyLooks, Raises, rung_at}
+use Rattle.nr_serve.proofs.Later.{looks_raise, raises_both, raises_none}
+use Rattle.nr_idserve.specs.IdRings.{RingsFor}
+
+-- nothing was posted, and the guest only looked
+pub rings_none : (a b : PosterSeen) (g h : GuestSeen) → b.posted ≡ a.posted → OnlyLooks g h → RingsFor a g b h
+rings_none a b g h same looks = record { count = 0; posted = omega (arith, ap (λ (l : List Upquery). length l) same); raises = looks_raise g h looks }
+
+-- one claim was posted, and the bell rung
+pub rings_once : (a b : PosterSeen) (g h : GuestSeen) (upquery : Upquery) → b.posted ≡ a.posted ++ upquery ∷ [] → Raises g (rung_at ∷ []) h → RingsFor a g b h
+rings_once a b g h upquery more raises = record {
+  count = 1;
+  posted = omega (arith, ap (λ (l : List Upquery). length l) more, length-append a.posted (upquery ∷ []));
+  raises = raises;
+}
+
+pub rings_both : (a b c : PosterSeen) (g h i : GuestSeen) → RingsFor a g b h → RingsFor b h c i → RingsFor a g c i
+rings_both a b c g h i one two = record {
+  count = one.count + two.count;
+  posted = omega (arith, one.posted, two.posted);
+  raises = subst (λ (l : List ℕ). Raises g l i) (replicate-append-replicate one.count two.count rung_at)
+      (raises_both g h i (replicate one.count rung_at) (replicate two.count rung_at) one.raises two.raises);
+}
+
+-- the poster posted nothing
+pub rings_same : (a b : PosterSeen) (g : GuestSeen) → b.posted ≡ a.posted → RingsFor a g b g
+rings_same a b g same = record { count = 0; posted = omega (arith, ap (λ (l : List Upquery). length l) same); raises = raises_none g }
+
+-- the guest looked
+pub rings_looks : (a : PosterSeen) (g h : GuestSeen) → OnlyLooks g h → RingsFor a g a h
+rings_looks a g h looks = rings_none a a g h refl looks

@@ -1,0 +1,7 @@
+pub mod IdRinging
+pub mod IdTrying
+pub mod IdGetting
+pub mod IdOpen
+pub mod IdMade
+pub mod IdLedger
+pub mod IdClaims

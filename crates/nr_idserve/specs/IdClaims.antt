@@ -1,0 +1,42 @@
+-- No claim is lost that a client was granted.
+use Rattle.std.specs.Prelude.{◌≡◌, ℕ, List, [], ◌∷◌, ◌++◌, Option, None, Some, Result}
+use Rattle.nr_model.specs.declared.rows.Row.{Row}
+use Rattle.nr_ids.specs.Events.{Event, claimed, cleared, looked, named, own, unnamed}
+use Rattle.nr_ids.specs.Tokens.{Granted}
+use Rattle.nr_serve.specs.declared.sleepers.TooLate.{TooLate}
+use Rattle.nr_trigger.specs.declared.post.Upquery.{Upquery}
+use Rattle.nr_idserve.specs.declared.answers.GotId.{GotId}
+use Rattle.nr_idserve.specs.declared.hands.IdHands.{IdHands}
+use Rattle.nr_idserve.specs.IdGets.{GetsIdInTime}
+
+-- for which ids claims were granted by these events, oldest first
+abbrev pub claimed_ids : List Event → List ℕ
+claimed_ids [] = []
+claimed_ids (named way id ∷ log) = claimed_ids log
+claimed_ids (unnamed way ∷ log) = claimed_ids log
+claimed_ids (cleared group ∷ log) = claimed_ids log
+claimed_ids (claimed by id ∷ log) = claimed_ids log ++ id ∷ []
+claimed_ids (looked by ∷ log) = claimed_ids log
+
+-- what was posted names, and the claim that is kept
+abbrev pub ids_posted : List Upquery → List ℕ
+ids_posted [] = []
+ids_posted (upquery ∷ posted) = upquery.number ∷ ids_posted posted
+
+abbrev pub ids_kept : Option Granted → List ℕ
+ids_kept None = []
+ids_kept (Some claim) = claim.id ∷ []
+
+-- the claim that was kept before, and then those that the client's own steps were granted, are what it posted, in order, and then the one that it keeps after
+pub record PostsEach (old new : IdHands) : Type 0 where
+  pub number : new.reader.ids.number ≡ old.reader.ids.number
+  pub events : List Event
+  pub seen : new.reader.ids.seen ≡ events ++ old.reader.ids.seen
+  pub gain : List Upquery
+  pub posted : new.poster.posted ≡ old.poster.posted ++ gain
+  pub all : ids_kept old.kept ++ claimed_ids (own old.reader.ids.number events) ≡ ids_posted gain ++ ids_kept new.kept
+
+-- so it is after each get
+abbrev pub EachClaimIsPosted : {Room : Type 0} → (Room → List Row → Type 0) → Type 0
+EachClaimIsPosted {Room} shows =
+    (capacity id tries : ℕ) (old new : IdHands) (before after : Room) (answer : Result GotId TooLate) → GetsIdInTime shows capacity id tries old before answer new after → PostsEach old new

@@ -1,0 +1,9 @@
+pub mod IdServices
+pub mod IdHands
+pub mod IdRings
+pub mod IdGets
+pub mod IdClaims
+pub mod IdFlows
+pub mod IdTakes
+pub mod IdEnds
+pub mod IdLedger

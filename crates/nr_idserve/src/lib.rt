@@ -1,0 +1,22 @@
+//! The two sides of a server over the map over ids: clients, which claim ids that are absent and sleep
+//! until they are filled, and the dataflow, which admits and fills them.
+#![tactic(auto)]
+
+mod answers;
+mod client;
+mod ends;
+mod flow;
+mod hands;
+pub mod laws;
+mod service;
+mod taking;
+mod tries;
+mod victims;
+mod watched;
+
+pub use answers::GotId;
+pub use client::IdClient;
+pub use flow::IdDataflow;
+pub use service::IdService;
+pub use taking::Taken;
+pub use victims::{NoVictims, Victims};

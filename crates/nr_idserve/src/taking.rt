@@ -1,0 +1,156 @@
+//! How a dataflow by id comes by upqueries: from the claims that were posted.
+ghost use Rattle.std.specs.Prelude.{◌≡◌, ◌<◌, IfOk, None, slice_index};
+ghost use Rattle.nr_serve.specs.Counts.{OnlyLooks, rung_at};
+ghost use Rattle.nr_serve.specs.Turns.{AwaitsPost};
+ghost use Rattle.nr_idserve.specs.IdTakes.{AdmitsMakingRoom, AdmitsNext, AdmitsOne, IsAskedOf, MakesRoom, NextsId, TakesById};
+
+use crate::flow::IdDataflow;
+use crate::victims::Victims;
+use nr_idmap::{Evict, Refused, Upquery};
+use nr_serve::Rung;
+use std::sync::Wait;
+
+/// What a take found.
+pub enum Taken {
+    /// An upquery, which is to be answered.
+    Asked(Upquery),
+    /// A claim of this id needs no upquery: it isn't open, or the id has a way.
+    Passed(u64),
+    /// Each way of this id's group has a name, and none was evicted. The claim is kept, and tried first in
+    /// the next take.
+    Full(u64),
+    /// No claim was kept, and none had been posted.
+    Idle,
+}
+
+impl<'a> IdDataflow<'a> {
+    /// Takes the upquery that is kept; or else admits the claim that is kept, or the next one of the queue,
+    /// which opens an upquery, and raises the lobby for the id's group, which can be claimed again. Where
+    /// each way of the group has a name, one id that `victims` chooses is evicted before. The upquery can't
+    /// be dropped: `fill`, `fail`, `invalidate` or `keep` has it back, and any other may come and go before.
+    /// May wait for a thread that is within a call of its own.
+    pub fn take<V: Victims, R: Wait>(&mut self, rt: &R, victims: &mut V) -> Taken
+        ensures takes { TakesById self.old result self.new }
+        ensures own { IsAskedOf self.old.map result }
+        ensures places { (self.new.map ≡ self.old.map) × (self.new.queue ≡ self.old.queue) }
+    {
+        if let Some(upquery) = self.kept.take() {
+            return Taken::Asked(upquery);
+        }
+        let Some(id) = self.next_id(rt) else {
+            return Taken::Idle;
+        };
+        if id == 0 {
+            return Taken::Passed(id);
+        }
+        self.admit_next(rt, victims, id)
+    }
+
+    // The id of the claim that is kept, or else of the next one of the queue.
+    fn next_id<R: Wait>(&mut self, rt: &R) -> Option<u64>
+        ensures nexts { NextsId self.old result self.new }
+        ensures places { (self.new.map ≡ self.old.map) × (self.new.queue ≡ self.old.queue) }
+    {
+        if let Some(id) = self.refused.take() {
+            return Some(id);
+        }
+        let trigger = self.service.claims().take(rt, &mut self.taker)?;
+        let id = trigger.number();
+        trigger.into_key();
+        Some(id)
+    }
+
+    fn admit_next<V: Victims, R: Wait>(&mut self, rt: &R, victims: &mut V, id: u64) -> Taken
+        requires { 0 < id }
+        ensures admits { AdmitsNext self.old id result self.new }
+        ensures own { IsAskedOf self.old.map result }
+        ensures places { (self.new.map ≡ self.old.map) × (self.new.queue ≡ self.old.queue) }
+    {
+        match self.admit_making_room(rt, victims, id) {
+            Ok(upquery) => Taken::Asked(upquery),
+            Err(Refused::Full) => {
+                self.refused = Some(id);
+                Taken::Full(id)
+            }
+            Err(Refused::NoClaim) => Taken::Passed(id),
+            Err(Refused::Named(_)) => Taken::Passed(id),
+        }
+    }
+
+    // Admits an id, after an eviction where its group is full.
+    fn admit_making_room<V: Victims, R: Wait>(
+        &mut self,
+        rt: &R,
+        victims: &mut V,
+        id: u64,
+    ) -> Result<Upquery, Refused>
+        requires { 0 < id }
+        ensures admits { AdmitsMakingRoom self.old id result self.new }
+        ensures own { IfOk result (λ upquery. upquery.table ≡ self.old.map) }
+        ensures places { (self.new.map ≡ self.old.map) × (self.new.queue ≡ self.old.queue) }
+    {
+        match self.admit(rt, id) {
+            Ok(upquery) => return Ok(upquery),
+            Err(Refused::NoClaim) => return Err(Refused::NoClaim),
+            Err(Refused::Named(way)) => return Err(Refused::Named(way)),
+            Err(Refused::Full) => {}
+        }
+        if !self.make_room(rt, victims, id) {
+            return Err(Refused::Full);
+        }
+        self.admit(rt, id)
+    }
+
+    // Admits an id, and raises the lobby for its group if it did.
+    fn admit<R: Wait>(&mut self, rt: &R, id: u64) -> Result<Upquery, Refused>
+        requires { 0 < id }
+        ensures admits { AdmitsOne self.old id result self.new }
+        ensures own { IfOk result (λ upquery. upquery.table ≡ self.old.map) }
+        ensures places { (self.new.map ≡ self.old.map) × (self.new.queue ≡ self.old.queue) }
+    {
+        let map = self.service.map();
+        let upquery = map.admit(&mut self.writer, id)?;
+        self.raiser.raise_for(rt, map.group_of(id));
+        Ok(upquery)
+    }
+
+    // Evicts an id of that one's group: whether it had rows.
+    fn make_room<V: Victims, R: Wait>(&mut self, rt: &R, victims: &mut V, id: u64) -> bool
+        ensures makes { MakesRoom self.old id result self.new }
+        ensures places { (self.new.map ≡ self.old.map) × (self.new.queue ≡ self.old.queue) }
+    {
+        let map = self.service.map();
+        let group = map.group_of(id);
+        let Some(victim) = victims.choose(map, group) else {
+            return false;
+        };
+        match map.evict(&mut self.writer, victim) {
+            Evict::Evicted => {
+                self.raiser.raise_for(rt, group);
+                true
+            }
+            Evict::Nothing => false,
+        }
+    }
+
+    /// How often the bell was rung. Whoever is to sleep reads this first, looks then for whatever may have
+    /// come, and sleeps if nothing has.
+    pub fn rings(&mut self) -> Rung
+        ensures looks { OnlyLooks self.old.guest self.new.guest }
+        ensures rest { self.new ≡ record self.old { guest = self.new.guest } }
+        ensures rung { result ≡ record { rings = slice_index self.new.guest.seen rung_at; taker = self.old.taker } }
+    {
+        self.raiser.rings(&self.taker)
+    }
+
+    /// Sleeps after one take since the bell was read, which was idle, with nothing kept: until a claim was
+    /// posted since, or the lobby is closed.
+    pub fn sleep<R: Wait>(&mut self, rt: &R, rung: &Rung)
+        requires none { (self.old.kept ≡ None) × (self.old.refused ≡ None) }
+        requires idle { AwaitsPost rung.now.taker self.old.taker }
+        ensures looks { OnlyLooks self.old.guest self.new.guest }
+        ensures rest { self.new ≡ record self.old { guest = self.new.guest } }
+    {
+        self.raiser.wait_for_ring(rt, rung, &self.taker);
+    }
+}
