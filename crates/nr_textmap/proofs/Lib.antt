@@ -1,0 +1,4 @@
+mod Spelling
+mod TextRows
+mod Meeting
+mod Moments

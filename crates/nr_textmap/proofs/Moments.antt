@@ -1,0 +1,117 @@
+-- A find that holds an id's set is an entry at which the id had it.
+use Rattle.std.proofs.Common.{◌≡◌, ◌≢◌, ◌⊎◌, ⊎_elim, inl, inr, ℕ, false, List, [], ◌∷◌, ◌++◌, refl, sym, ap, ◌∙◌, subst, append-nil, append_assoc, Option, Some, None}
+use Rattle.std.proofs.lemmas.Bool.{cases_eq}
+use Rattle.nr_model.specs.declared.rows.Row.{Row}
+use Rattle.nr_model.specs.declared.calls.Call.TheVariants.{Find}
+use Rattle.nr_model.specs.declared.calls.Reply.TheVariants as reply
+use Rattle.nr_model.specs.declared.states.KeyState.{KeyState}
+use Rattle.nr_model.specs.declared.states.KeyState.TheVariants.{Asked, Hole, Rows}
+use Rattle.nr_model.specs.Histories.{Entry, IsLegal, after}
+use Rattle.nr_model.specs.Maps.{PartialMap, find_reply, next, reply_to, state_of}
+use Rattle.nr_machine.specs.Story.{entry}
+use Rattle.nr_board.specs.declared.answers.Found.TheVariants as answer
+use Rattle.nr_board.specs.Callers.{Caller, Gains, Table, map_at_opening}
+use Rattle.nr_map.specs.Hands.{Handed}
+use Rattle.nr_idmap.specs.declared.finds.FoundId.TheVariants as of_id
+use Rattle.nr_idmap.specs.IdHands.{AgainById, HoldsAnew, HoldsById, IdHanded, PinsById, rows_in_hand, rows_of_id}
+use Rattle.nr_idmap.specs.Tags.{IsResident, rows_behind, tag_of}
+use Rattle.nr_textmap.specs.declared.finds.FoundText.TheVariants as found
+use Rattle.nr_textmap.specs.TextLaws.{FindsAtMoment, WasResident}
+use Rattle.nr_textmap.specs.Texts.{text_rows}
+
+legal_end : (log : List Entry) (map : PartialMap) (e : Entry) → IsLegal map (log ++ e ∷ []) → e.reply ≡ reply_to (after map log) e.call
+legal_end [] map e legal = legal.0
+legal_end (x ∷ log) map e legal = legal_end log (next map x.call) e legal.1
+
+set_found : (state : KeyState) (set : List Row) → reply.Rows set ≡ find_reply state → (number : ℕ) × (state ≡ Rows number set)
+set_found (Hole n) set is = absurd (cc (is))
+set_found (Asked n) set is = absurd (cc (is))
+set_found (Rows n rows) set is = let same : rows ≡ set = cc (is) in (n, ap (Rows n) same)
+
+-- the entry itself
+gained : (steps id way : ℕ) (set rows : List Row) (old new : Caller) → set ≡ tag_of id ∷ rows → Gains steps old (Find way) (reply.Rows set) new →
+    WasResident id rows old new
+gained steps id way set rows old new tagged gains =
+    let e : Entry = entry old.number (Find way) (reply.Rows set) in
+    let has = set_found (state_of (after (map_at_opening old.table) (old.seen ++ gains.between)) way) set
+    (legal_end (old.seen ++ gains.between) (map_at_opening old.table) (entry old.number (Find way) (reply.Rows set))
+    (subst (IsLegal (map_at_opening old.table)) gains.seen gains.legal)) in record {
+      since = gains.between;
+      later = e ∷ [];
+      known = gains.seen;
+      resident = (way, has.0, has.1 ∙ ap (λ (l : List Row). Rows has.0 l) tagged);
+    }
+
+-- what was known before, and what the call learnt besides
+begun : (id : ℕ) (set : List Row) (old mid new : Caller) (more : List Entry) → mid.table ≡ old.table → mid.seen ≡ old.seen ++ more →
+    WasResident id set mid new → WasResident id set old new
+begun id set old mid new more table seen was =
+    let e : mid.seen ++ was.since ≡ old.seen ++ (more ++ was.since) = ap (λ (l : List Entry). l ++ was.since) seen ∙ append_assoc old.seen more was.since in
+    record {
+      since = more ++ was.since;
+      later = was.later;
+      known = was.known ∙ ap (λ (l : List Entry). l ++ was.later) e;
+      resident = subst (λ (t : Table). IsResident (after (map_at_opening t) (old.seen ++ (more ++ was.since))) id set) table
+          (subst (λ (l : List Entry). IsResident (after (map_at_opening mid.table) l) id set) e was.resident);
+    }
+
+ended : (id : ℕ) (set : List Row) (old mid new : Caller) → new.seen ≡ mid.seen → WasResident id set old mid → WasResident id set old new
+ended id set old mid new seen was = record { since = was.since; later = was.later; known = seen ∙ was.known; resident = was.resident }
+
+held_or_not : (held : Option ℕ) (id : ℕ) → (held ≡ Some id) ⊎ (held ≢ Some id)
+held_or_not None id = inr (λ e. absurd (cc (e)))
+held_or_not (Some other) id = ⊎_elim (λ (same : other ≡ id). inl (ap Some same))
+    (λ (apart : other ≢ id). inr (λ e. let same : other ≡ id = cc (e) in apart same)) (cases_eq other id)
+
+-- the hand shows the rows behind the tag
+shown : (id : ℕ) (rows : List Row) (hand : IdHanded) → hand.id ≡ Some id → hand.hand.rows ≡ tag_of id ∷ rows → rows_in_hand hand ≡ rows
+shown id rows hand is tagged = ap (λ (o : Option ℕ). rows_of_id o hand.hand.rows) is ∙ ap rows_behind tagged
+
+anew : (id : ℕ) (old new : IdHanded) → HoldsAnew id old new of_id.Rows → WasResident id (rows_in_hand new) old.hand.reader new.hand.reader
+anew id old new holds =
+    subst (λ (l : List Row). WasResident id l old.hand.reader new.hand.reader) (sym (shown id holds.1 new holds.5 holds.4))
+    (⊎_elim
+    (λ again. gained _ id holds.0 old.hand.rows holds.1 old.hand.reader new.hand.reader (sym again.0.rows ∙ holds.4) again.0.gains)
+    (λ found. gained _ id holds.0 new.hand.rows holds.1 old.hand.reader new.hand.reader holds.4 found.3.0.gains)
+    holds.3.2)
+
+asked_first : (id : ℕ) (old asked new : IdHanded) (set : List Row) → AgainById id old asked false →
+    WasResident id set asked.hand.reader new.hand.reader → WasResident id set old.hand.reader new.hand.reader
+asked_first id old asked new set again was = ⊎_elim
+    (λ holds. let vain = again.0 holds in let grows = vain.asks.grows in
+    begun id set old.hand.reader asked.hand.reader new.hand.reader grows.between grows.table
+    (grows.seen ∙ append-nil (old.hand.reader.seen ++ grows.between)) was)
+    (λ other. subst (λ (h : IdHanded). WasResident id set h.hand.reader new.hand.reader) (again.1 other) was)
+    (held_or_not old.id id)
+
+holds_resident : (id : ℕ) (old new : IdHanded) → HoldsById id old new of_id.Rows → WasResident id (rows_in_hand new) old.hand.reader new.hand.reader
+holds_resident id old new holds = ⊎_elim
+    (λ again. let it = again.1 in
+    subst (λ (l : List Row). WasResident id l old.hand.reader new.hand.reader)
+    (sym (shown id it.rows new (it.id_is ∙ it.held) (it.finds.rows ∙ it.tagged)))
+    (gained 1 id it.way old.hand.rows it.rows old.hand.reader new.hand.reader it.tagged it.finds.gains))
+    (λ late. asked_first id old late.0 new (rows_in_hand new) late.1 (anew id late.0 new late.2))
+    holds
+
+pins_resident : (id : ℕ) (old new : IdHanded) → PinsById id old new of_id.Rows → WasResident id (rows_in_hand new) old.hand.reader new.hand.reader
+pins_resident id old new pins =
+    let held = pins.0 in let marks = pins.2 in
+    let same : rows_in_hand held ≡ rows_in_hand new =
+    ap (λ (o : Option ℕ). rows_of_id o held.hand.rows) (sym marks.id_is) ∙ ap (λ (h : Handed). rows_of_id new.id h.rows) (sym marks.hand) in
+    ended id (rows_in_hand new) old.hand.reader held.hand.reader new.hand.reader (ap (λ (h : Handed). h.reader.seen) marks.hand)
+    (subst (λ (l : List Row). WasResident id l old.hand.reader held.hand.reader) same (holds_resident id old held pins.1))
+
+pub finds_at_moment : FindsAtMoment
+finds_at_moment text old new found.Rows pins = (
+  pins.1.0,
+  pins.1.1,
+  subst (λ (l : List Row). WasResident text.id l old.hand.reader new.hand.reader) pins.1.1 (pins_resident text.id old new pins.0),
+)
+finds_at_moment text old new found.Other pins = (
+  rows_in_hand pins.0,
+  pins.2,
+  ended text.id (rows_in_hand pins.0) old.hand.reader pins.0.hand.reader new.hand.reader pins.3.hand.rests.seen (pins_resident text.id old pins.0 pins.1),
+)
+finds_at_moment text old new found.Pending pins = tt
+finds_at_moment text old new found.Moved pins = tt
+finds_at_moment text old new found.Absent pins = tt

@@ -1,0 +1,18 @@
+use Rattle.std.proofs.Common.{◌≡◌, ℕ, List, ◌++◌, true, false, sym, ◌∙◌, subst}
+use Rattle.nr_model.specs.declared.rows.Row.{Row}
+use Rattle.nr_idmap.specs.declared.finds.FoundId.TheVariants as of_id
+use Rattle.nr_idmap.specs.IdHands.{PinsById}
+use Rattle.nr_textmap.proofs.text_map.TextMap.pin.Goals as goal
+
+pub returns-else-begins-clause-pins : goal.returns-else-begins-clause-pins
+returns-else-begins-clause-pins c = (
+  c.pin.new.self,
+  subst (λ (n : ℕ). PinsById n c.args.hand.now c.pin.new.self of_id.Rows) c.id.ensures.value c.in-Rows.ensures.pins,
+  λ rows e. let yes : c.begins.result ≡ true = c.begins.ensures.1 (rows, c.rows.ensures.rows ∙ e) in
+      let no : c.begins.result ≡ false = c.if-begins.false in absurd (cc (yes, no)),
+  c.release.ensures.lets_go,
+)
+
+pub returns-in-Pending-clause-pins : goal.returns-in-Pending-clause-pins
+returns-in-Pending-clause-pins c =
+    subst (λ (n : ℕ). PinsById n c.args.hand.now c.pin.new.self of_id.Pending) c.id.ensures.value c.in-Pending.ensures.pins
