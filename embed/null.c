@@ -234,6 +234,41 @@ uint32_t nr_find_id(nr_id_reader *reader, uint64_t id, nr_rows *rows) {
   return reader ? proved_nr_find_id(reader, id, rows) : NR_CLOSED;
 }
 
+uint32_t proved_nr_find_each_id(nr_id_reader *reader, nr_wanted_id *wanted, size_t n);
+uint32_t nr_find_each_id(nr_id_reader *reader, nr_wanted_id *wanted, size_t n) {
+  return reader ? proved_nr_find_each_id(reader, wanted, n) : NR_CLOSED;
+}
+
+uint32_t proved_nr_pin_id(nr_id_reader *reader, uint64_t id, uint32_t *count);
+uint32_t nr_pin_id(nr_id_reader *reader, uint64_t id, uint32_t *count) {
+  return reader ? proved_nr_pin_id(reader, id, count) : NR_CLOSED;
+}
+
+uint32_t proved_nr_row_at_id(nr_id_reader *reader, uint32_t place, nr_row *row);
+uint32_t nr_row_at_id(nr_id_reader *reader, uint32_t place, nr_row *row) {
+  return reader ? proved_nr_row_at_id(reader, place, row) : NR_CLOSED;
+}
+
+uint32_t proved_nr_copy_id(nr_id_reader *reader, nr_rows *rows);
+uint32_t nr_copy_id(nr_id_reader *reader, nr_rows *rows) {
+  return reader ? proved_nr_copy_id(reader, rows) : NR_CLOSED;
+}
+
+uint32_t proved_nr_again_id(nr_id_reader *reader, uint64_t id);
+uint32_t nr_again_id(nr_id_reader *reader, uint64_t id) {
+  return reader ? proved_nr_again_id(reader, id) : NR_CLOSED;
+}
+
+uint32_t proved_nr_find_kept_id(nr_id_reader *reader, uint64_t id, nr_rows *rows);
+uint32_t nr_find_kept_id(nr_id_reader *reader, uint64_t id, nr_rows *rows) {
+  return reader ? proved_nr_find_kept_id(reader, id, rows) : NR_CLOSED;
+}
+
+uint32_t proved_nr_release_id(nr_id_reader *reader);
+uint32_t nr_release_id(nr_id_reader *reader) {
+  return reader ? proved_nr_release_id(reader) : NR_CLOSED;
+}
+
 uint32_t proved_nr_request_id(nr_id_reader *reader, uint64_t id);
 uint32_t nr_request_id(nr_id_reader *reader, uint64_t id) {
   return reader ? proved_nr_request_id(reader, id) : NR_CLOSED;
@@ -295,4 +330,14 @@ uint32_t nr_reap_id(nr_id_writer *writer, nr_rows *had) {
 uint32_t proved_nr_evict_id(nr_id_writer *writer, uint64_t id);
 uint32_t nr_evict_id(nr_id_writer *writer, uint64_t id) {
   return writer ? proved_nr_evict_id(writer, id) : NR_CLOSED;
+}
+
+uint32_t proved_nr_uses_id(nr_id_writer *writer, uint64_t id);
+uint32_t nr_uses_id(nr_id_writer *writer, uint64_t id) {
+  return writer ? proved_nr_uses_id(writer, id) : NR_CLOSED;
+}
+
+uint32_t proved_nr_choose_id(nr_id_writer *writer, uint64_t id, uint64_t *chosen);
+uint32_t nr_choose_id(nr_id_writer *writer, uint64_t id, uint64_t *chosen) {
+  return writer ? proved_nr_choose_id(writer, id, chosen) : NR_CLOSED;
 }

@@ -123,7 +123,7 @@ static inline const char *nr_strerror(uint32_t answer) {
 uint32_t nr_version(void);
 
 /* How many bytes a struct takes in the library, for programs in another language, or linked to another library, that
-   compare it with what they have. The structs below count from nr_row, 0, to nr_id_reader, 15; beyond these the answer
+   compare it with what they have. The structs below count from nr_row, 0, to nr_wanted_id, 16; beyond these the answer
    is 0. */
 uint32_t nr_struct_size(uint32_t place);
 
@@ -233,6 +233,13 @@ typedef struct nr_id_writer {
 typedef struct nr_id_reader {
   void *at;
 } nr_id_reader;
+
+/* An id that nr_find_each_id finds, the answer, and the buffer for its rows. */
+typedef struct nr_wanted_id {
+  uint64_t id;
+  uint32_t answer;
+  nr_rows rows;
+} nr_wanted_id;
 
 /* WORKING WITH IT
 
@@ -473,9 +480,13 @@ uint32_t nr_take(nr_taker *taker, uint32_t *key, uint64_t *number);
    A get. Find the id. At NR_HOLE or NR_OTHER request it; who gets NR_SEND passes the id to the thread that writes,
    which admits it, gets the rows, and fills. At NR_ASKED, NR_WAITING or NR_NAMED wait and find again. After a fill, a
    withdrawal and an eviction wake those who wait.
-   A full group. At NR_FULL evict an id whose nr_id_group is the same, and admit again: the claim stays open.
+   A full group. At NR_FULL evict an id whose nr_id_group is the same, as nr_choose_id tells one, and admit again: the
+   claim stays open.
    Dropping an id's rows, because the base changed. Withdraw its upquery, if one is open, and evict it: a late fill is
-   NR_STALE. embed/c/ids.c is a whole program. */
+   NR_STALE. embed/c/ids.c is a whole program.
+   Holding. nr_find_id, nr_find_each_id and nr_pin_id answer NR_HOLDING if the reader holds a set, and nr_row_at_id,
+   nr_copy_id, nr_again_id and nr_release_id NR_NOT_HOLDING if it holds none. Then there was no step, and nothing has
+   changed. Hot ids, and rows that refer to data, are as those of keys. */
 
 /* The group of an id in a map of that shape, from 0. 0 if the shape has no groups, or too many. No step. */
 uint32_t nr_id_group(const nr_id_shape *shape, uint64_t id);
@@ -488,9 +499,9 @@ uint32_t nr_open_ids(const nr_id_shape *shape, nr_id_writer *writer);
    it was. */
 uint32_t nr_open_id_reader(nr_id_writer *writer, nr_id_reader *reader);
 
-/* End a handle, which is then zeros; if it isn't live, they do nothing. No handle gets a closed reader again, so a
-   thread that ends passes its reader on. Closing the writer ends all open upqueries; the last handle frees the
-   memory. */
+/* End a handle, which is then zeros; if it isn't live, they do nothing. A reader lets go what it holds. No handle gets a
+   closed reader again, so a thread that ends passes its reader on. Closing the writer ends all open upqueries; the last
+   handle frees the memory. */
 void nr_close_id_reader(nr_id_reader *reader);
 void nr_close_id_writer(nr_id_writer *writer);
 
@@ -502,9 +513,39 @@ void nr_close_id_writer(nr_id_writer *writer);
    was. */
 uint32_t nr_find_id(nr_id_reader *reader, uint64_t id, nr_rows *rows);
 
+/* Finds n ids, as nr_find_id does, in the given order: NR_DONE, and each nr_wanted_id has its answer and its rows. An
+   id may be there twice. Takes the finds' steps, and for each id its W once more, 4 loads, and 1 more for each 4 rows
+   that an id may have up to 12; these are made before the finds, for 16 ids at a time. NR_NO_KEY without a step, if one
+   of the ids is 0. */
+uint32_t nr_find_each_id(nr_id_reader *reader, nr_wanted_id *wanted, size_t n);
+
+/* Finds an id and holds its set, as nr_pin: NR_ROWS after the steps of nr_find_id but 1, and `count` is the number of
+   rows. Else as nr_find_id, and the reader holds nothing and `count` stays as it was. */
+uint32_t nr_pin_id(nr_id_reader *reader, uint64_t id, uint32_t *count);
+
+/* The row at index `place` of the held set, from 0: NR_ROWS. NR_NO_ROW if the set has no such row, and `row` stays as it
+   was. No step. */
+uint32_t nr_row_at_id(nr_id_reader *reader, uint32_t place, nr_row *row);
+
+/* Copies the rows of the held set into `rows`: NR_ROWS. No step. */
+uint32_t nr_copy_id(nr_id_reader *reader, nr_rows *rows);
+
+/* Finds an id again, as nr_again, in 1 step, which loads one word and writes none: NR_ROWS or NR_OTHER. NR_OTHER without
+   a step, if the held set is another id's. */
+uint32_t nr_again_id(nr_id_reader *reader, uint64_t id);
+
+/* As nr_find_id, but the reader holds the set for the next call. If the reader holds the id's set, and its way still has
+   that, NR_ROWS after 1 step, and 1 or 2 at the way's mark. Otherwise it finds the id as nr_find_id does: NR_ROWS after
+   the steps of that but 1, and at most 3 more if it held a set. Any answer but NR_ROWS leaves `rows` as it was, and the
+   reader holds nothing. */
+uint32_t nr_find_kept_id(nr_id_reader *reader, uint64_t id, nr_rows *rows);
+
+/* Ends the hold, in 1 step: NR_DONE. */
+uint32_t nr_release_id(nr_id_reader *reader);
+
 /* Requests an id. NR_SEND after 10 steps: the caller has the claim of its group, and passes the id to the thread that
    writes. Until that thread admits an id of the group others get NR_WAITING, after 1 or 10. NR_NAMED after 2 to 9.
-   NR_WORN after 1, once its group has had 2^61 claims. */
+   NR_WORN after 1, once its group has had 2^61 claims. What the reader holds stays held. */
 uint32_t nr_request_id(nr_id_reader *reader, uint64_t id);
 
 /* The writer's own find: as nr_find_id, but never NR_OTHER, and NR_ROWS after W + 2n + 4 steps. */
@@ -532,8 +573,8 @@ uint32_t nr_replace_id(nr_id_writer *writer, uint64_t id, const nr_row *rows, si
 
 /* As nr_fill_id, nr_update_id and nr_replace_id, but each also gives out the set that its slot had, as
    nr_fill_reclaiming: NR_GIVEN instead of NR_DONE, after 2m + 1 more steps for a set of m rows. The first row, (0, id),
-   says whose the set was. No later find gives that set, but a thread may still read what an earlier find wrote: no
-   reader by id holds a set. */
+   says whose the set was. No reader holds a set that came back, but a thread may still read what a find wrote into its
+   buffer. */
 uint32_t nr_fill_id_reclaiming(nr_id_writer *writer, const nr_upquery *upquery, const nr_row *rows, size_t n,
   nr_rows *had);
 uint32_t nr_update_id_reclaiming(nr_id_writer *writer, uint64_t id, const nr_delta *deltas, size_t n, nr_rows *had);
@@ -545,6 +586,15 @@ uint32_t nr_reap_id(nr_id_writer *writer, nr_rows *had);
 /* Takes an id's rows and its way: NR_EVICTED after W + 3 steps. NR_NOTHING after W or W + 1, if the id has no way or an
    open upquery. */
 uint32_t nr_evict_id(nr_id_writer *writer, uint64_t id);
+
+/* Two hints for a choice of what to evict. Whether the id's rows were found since this was asked last, by anything but
+   nr_again_id: NR_DONE after W + 2 steps, and NR_NOTHING after W + 1, or 8 if the id has no way. */
+uint32_t nr_uses_id(nr_id_writer *writer, uint64_t id);
+
+/* An id of the same group, by second chance: NR_DONE after 3 steps, and `chosen` is the first from the last choice on that
+   wasn't found since. NR_NOTHING if the chosen way is nobody's, and `chosen` stays as it was. Where the chosen id's
+   upquery is open nr_evict_id answers NR_NOTHING; then choose again. */
+uint32_t nr_choose_id(nr_id_writer *writer, uint64_t id, uint64_t *chosen);
 
 #ifdef __cplusplus
 }

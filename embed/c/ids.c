@@ -119,9 +119,161 @@ static void test_reclaiming(nr_id_writer *writer, nr_id_reader *reader) {
   WANTS(NR_NOTHING, nr_reap_id(writer, &had));
 }
 
+static void has(const nr_rows *found, uint64_t count, uint64_t a) {
+  if (found->count != count || (count && found->row[count - 1].a != a)) WANTS(NR_ROWS, NR_OTHER);
+}
+
+/* What a reader holds stays as it is, and its slot with it, until the reader lets it go. */
+static void test_holding(nr_id_writer *writer, nr_id_reader *reader) {
+  const nr_delta batch = {{9, 9}, true};
+  nr_row row = {5, 5};
+  nr_rows had;
+  uint32_t count = 77;
+  WANTS(NR_NOT_HOLDING, nr_release_id(reader));
+  WANTS(NR_NOT_HOLDING, nr_again_id(reader, USER));
+  WANTS(NR_NOT_HOLDING, nr_row_at_id(reader, 0, &row));
+  WANTS(NR_NOT_HOLDING, nr_copy_id(reader, &rows));
+  WANTS(NR_HOLE, nr_pin_id(reader, USER, &count));
+  rows.count = 99;
+  WANTS(NR_HOLE, nr_find_kept_id(reader, USER, &rows));
+  nr_upquery upquery = admitted(writer, reader, USER);
+  WANTS(NR_ASKED, nr_pin_id(reader, USER, &count));
+  WANTS(NR_ASKED, nr_find_kept_id(reader, USER, &rows));
+  if (count != 77 || rows.count != 99 || row.a != 5) WANTS(NR_ASKED, NR_ROWS);
+  WANTS(NR_DONE, nr_fill_id(writer, &upquery, ORDERS, 2));
+  WANTS(NR_ROWS, nr_pin_id(reader, USER, &count));
+  if (count != 2) WANTS(NR_ROWS, NR_OTHER);
+  WANTS(NR_HOLDING, nr_pin_id(reader, USER, &count));
+  WANTS(NR_HOLDING, nr_find_id(reader, USER, &rows));
+  nr_wanted_id wanted = {.id = USER, .answer = 55};
+  WANTS(NR_HOLDING, nr_find_each_id(reader, &wanted, 1));
+  if (wanted.answer != 55) WANTS(NR_HOLDING, NR_ROWS);
+  WANTS(NR_ROWS, nr_again_id(reader, USER));
+  WANTS(NR_OTHER, nr_again_id(reader, USER + 1));
+  WANTS(NR_DONE, nr_update_id(writer, USER, &batch, 1));
+  WANTS(NR_OTHER, nr_again_id(reader, USER));
+  WANTS(NR_EVICTED, nr_evict_id(writer, USER));
+  /* A claim is granted to a reader that holds a set. */
+  WANTS(NR_SEND, nr_request_id(reader, USER));
+  WANTS(NR_SEND, nr_admit(writer, USER, &upquery));
+  WANTS(NR_ROWS, nr_row_at_id(reader, 1, &row));
+  if (row.a != 2 || row.b != 9) WANTS(NR_ROWS, NR_OTHER);
+  WANTS(NR_NO_ROW, nr_row_at_id(reader, 2, &row));
+  WANTS(NR_ROWS, nr_copy_id(reader, &rows));
+  has(&rows, 2, 2);
+  /* The set that is held doesn't come back before it is let go. */
+  WANTS(NR_GIVEN, nr_reap_id(writer, &had));
+  has(&had, 4, 9);
+  WANTS(NR_HELD, nr_reap_id(writer, &had));
+  WANTS(NR_DONE, nr_release_id(reader));
+  WANTS(NR_GIVEN, nr_reap_id(writer, &had));
+  has(&had, 3, 2);
+  WANTS(NR_DONE, nr_fill_id(writer, &upquery, ORDERS, 1));
+  /* Kept from find to find, of two ids in turn. */
+  upquery = admitted(writer, reader, 7);
+  WANTS(NR_DONE, nr_fill_id(writer, &upquery, ORDERS, 2));
+  for (int turn = 0; turn < 2; turn++) {
+    WANTS(NR_ROWS, nr_find_kept_id(reader, USER, &rows));
+    has(&rows, 1, 1);
+    WANTS(NR_ROWS, nr_find_kept_id(reader, USER, &rows));
+    WANTS(NR_ROWS, nr_find_kept_id(reader, 7, &rows));
+    has(&rows, 2, 2);
+  }
+  WANTS(NR_ROWS, nr_again_id(reader, 7));
+  WANTS(NR_NO_KEY, nr_again_id(reader, 0));
+  WANTS(NR_NO_KEY, nr_pin_id(reader, 0, &count));
+  WANTS(NR_NO_KEY, nr_find_kept_id(reader, 0, &rows));
+  /* A find that finds nothing lets go what was held. */
+  WANTS(NR_HOLE, nr_find_kept_id(reader, 12345, &rows));
+  has(&rows, 2, 2);
+  WANTS(NR_NOT_HOLDING, nr_release_id(reader));
+  WANTS(NR_EVICTED, nr_evict_id(writer, USER));
+  WANTS(NR_EVICTED, nr_evict_id(writer, 7));
+}
+
+/* More ids than are found at a time: every second one has a row, its own number. */
+static void test_each(void) {
+  enum { IDS = 40 };
+  const nr_id_shape shape = {.groups = 64, .slots = 64, .readers = 1, .rows = 20, .key = 5};
+  static nr_wanted_id wanted[IDS];
+  nr_id_writer writer = {0};
+  nr_id_reader reader = {0};
+  WANTS(NR_DONE, nr_open_ids(&shape, &writer));
+  WANTS(NR_DONE, nr_open_id_reader(&writer, &reader));
+  for (uint64_t id = 2; id <= IDS; id += 2) {
+    const nr_row own = {id, 1};
+    nr_upquery upquery = admitted(&writer, &reader, id);
+    WANTS(NR_DONE, nr_fill_id(&writer, &upquery, &own, 1));
+  }
+  admitted(&writer, &reader, 33);
+  for (int i = 0; i < IDS; i++) wanted[i] = (nr_wanted_id){.id = (uint64_t)(IDS - i), .answer = 55, .rows = {.count = 99}};
+  wanted[6].id = 40; /* Twice. */
+  WANTS(NR_DONE, nr_find_each_id(&reader, wanted, IDS));
+  for (int i = 0; i < IDS; i++) {
+    WANTS(wanted[i].id % 2 == 0 ? NR_ROWS : wanted[i].id == 33 ? NR_ASKED : NR_HOLE, wanted[i].answer);
+    if (wanted[i].answer == NR_ROWS) has(&wanted[i].rows, 1, wanted[i].id);
+    else if (wanted[i].rows.count != 99) WANTS(NR_HOLE, NR_ROWS);
+  }
+  wanted[39].id = 0;
+  wanted[0].answer = 55;
+  WANTS(NR_NO_KEY, nr_find_each_id(&reader, wanted, IDS));
+  if (wanted[0].answer != 55) WANTS(NR_NO_KEY, NR_DONE);
+  WANTS(NR_DONE, nr_find_each_id(&reader, wanted, 0));
+  nr_close_id_reader(&reader);
+  nr_close_id_writer(&writer);
+}
+
+/* Which ids were found, and whose way another may have. */
+static void test_choices(void) {
+  const nr_id_shape shape = {.groups = 1, .slots = 11, .readers = 1, .rows = 1};
+  nr_id_writer writer = {0};
+  nr_id_reader reader = {0};
+  nr_upquery upquery;
+  uint64_t chosen = 55;
+  WANTS(NR_DONE, nr_open_ids(&shape, &writer));
+  WANTS(NR_DONE, nr_open_id_reader(&writer, &reader));
+  WANTS(NR_NO_KEY, nr_uses_id(&writer, 0));
+  WANTS(NR_NO_KEY, nr_choose_id(&writer, 0, &chosen));
+  WANTS(NR_NOTHING, nr_uses_id(&writer, 1));
+  WANTS(NR_NOTHING, nr_choose_id(&writer, 9, &chosen));
+  if (chosen != 55) WANTS(NR_NOTHING, NR_DONE);
+  for (uint64_t id = 1; id < 9; id++) {
+    upquery = admitted(&writer, &reader, id);
+    WANTS(NR_DONE, nr_fill_id(&writer, &upquery, ORDERS, 1));
+  }
+  for (uint64_t id = 1; id < 9; id++) {
+    WANTS(NR_NOTHING, nr_uses_id(&writer, id));
+    if (id != 3) WANTS(NR_ROWS, nr_find_id(&reader, id, &rows));
+  }
+  WANTS(NR_DONE, nr_uses_id(&writer, 5));
+  WANTS(NR_NOTHING, nr_uses_id(&writer, 5));
+  WANTS(NR_ROWS, nr_find_id(&reader, 5, &rows));
+  /* The one that nobody found. */
+  WANTS(NR_DONE, nr_choose_id(&writer, 9, &chosen));
+  if (chosen != 3) WANTS(NR_DONE, NR_OTHER);
+  WANTS(NR_EVICTED, nr_evict_id(&writer, chosen));
+  upquery = admitted(&writer, &reader, 9);
+  WANTS(NR_DONE, nr_fill_id(&writer, &upquery, ORDERS, 1));
+  nr_close_id_reader(&reader);
+  nr_close_id_writer(&writer);
+}
+
 static void test_closed(nr_id_writer *writer, nr_id_reader *reader) {
   nr_upquery upquery = {0};
   nr_id_reader other = {0};
+  nr_wanted_id wanted = {.id = USER};
+  nr_row row;
+  uint32_t count;
+  uint64_t chosen;
+  WANTS(NR_CLOSED, nr_find_each_id(reader, &wanted, 1));
+  WANTS(NR_CLOSED, nr_pin_id(reader, USER, &count));
+  WANTS(NR_CLOSED, nr_find_kept_id(reader, USER, &rows));
+  WANTS(NR_CLOSED, nr_row_at_id(reader, 0, &row));
+  WANTS(NR_CLOSED, nr_copy_id(reader, &rows));
+  WANTS(NR_CLOSED, nr_again_id(reader, USER));
+  WANTS(NR_CLOSED, nr_release_id(reader));
+  WANTS(NR_CLOSED, nr_uses_id(writer, USER));
+  WANTS(NR_CLOSED, nr_choose_id(writer, USER, &chosen));
   WANTS(NR_CLOSED, nr_open_id_reader(writer, &other));
   WANTS(NR_CLOSED, nr_find_id(reader, USER, &rows));
   WANTS(NR_CLOSED, nr_request_id(reader, USER));
@@ -175,10 +327,18 @@ int main(void) {
   nr_close_id_writer(&writer);
   test_closed(&writer, &reader);
   test_slots();
+  test_each();
+  test_choices();
   const nr_id_shape two = {.groups = 1, .slots = 2, .readers = 1, .rows = 3};
   WANTS(NR_DONE, nr_open_ids(&two, &writer));
   WANTS(NR_DONE, nr_open_id_reader(&writer, &reader));
   test_reclaiming(&writer, &reader);
+  nr_close_id_reader(&reader);
+  nr_close_id_writer(&writer);
+  const nr_id_shape few = {.groups = 4, .slots = 3, .readers = 1, .rows = 3};
+  WANTS(NR_DONE, nr_open_ids(&few, &writer));
+  WANTS(NR_DONE, nr_open_id_reader(&writer, &reader));
+  test_holding(&writer, &reader);
   nr_close_id_reader(&reader);
   nr_close_id_writer(&writer);
   puts("an id was claimed once for each absence");

@@ -57,6 +57,10 @@ LIES(nr_upquery, number, 8);
 LIES(nr_upquery, way, 16);
 TAKES(nr_id_writer, 8);
 TAKES(nr_id_reader, 8);
+TAKES(nr_wanted_id, 8 + 8 + 8 + 255 * 16);
+LIES(nr_wanted_id, id, 0);
+LIES(nr_wanted_id, answer, 8);
+LIES(nr_wanted_id, rows, 16);
 
 static void wants(const char *what, uint64_t wanted, uint64_t got) {
   if (wanted == got) return;
@@ -68,7 +72,8 @@ static void wants(const char *what, uint64_t wanted, uint64_t got) {
 static void test_struct_sizes(void) {
   const size_t sizes[] = {sizeof(nr_row), sizeof(nr_rows), sizeof(nr_wanted), sizeof(nr_delta), sizeof(nr_shape),
     sizeof(nr_size), sizeof(nr_slots), sizeof(nr_writer), sizeof(nr_reader), sizeof(nr_remains), sizeof(nr_taker),
-    sizeof(nr_poster), sizeof(nr_id_shape), sizeof(nr_upquery), sizeof(nr_id_writer), sizeof(nr_id_reader)};
+    sizeof(nr_poster), sizeof(nr_id_shape), sizeof(nr_upquery), sizeof(nr_id_writer), sizeof(nr_id_reader),
+    sizeof(nr_wanted_id)};
   const uint32_t structs = sizeof sizes / sizeof sizes[0];
   for (uint32_t place = 0; place < structs; place++) wants("a struct's size", sizes[place], nr_struct_size(place));
   wants("no struct's size", 0, nr_struct_size(structs));

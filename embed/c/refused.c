@@ -95,6 +95,17 @@ static void call_ids(nr_id_writer *writer, nr_id_reader *reader) {
   want(nr_fill_id(writer, &upquery, rows, 2) == NR_DONE, "a fill by id");
   want(nr_update_id(writer, 1, &batch, 1) == NR_DONE && nr_replace_id(writer, 1, rows, 1) == NR_DONE, "writes by id");
   want(nr_look_id(writer, 1, &found) == NR_ROWS && nr_find_id(reader, 1, &found) == NR_ROWS, "finds by id");
+  static nr_wanted_id wanted;
+  wanted.id = 1;
+  want(nr_find_each_id(reader, &wanted, 1) == NR_DONE && wanted.answer == NR_ROWS, "finds by one call by id");
+  uint32_t count;
+  uint64_t chosen;
+  nr_row row;
+  want(nr_pin_id(reader, 1, &count) == NR_ROWS && nr_row_at_id(reader, 0, &row) == NR_ROWS, "a pin by id");
+  want(nr_copy_id(reader, &found) == NR_ROWS && nr_again_id(reader, 1) == NR_ROWS, "a held set by id");
+  want(nr_find_kept_id(reader, 1, &found) == NR_ROWS && nr_release_id(reader) == NR_DONE, "a find by id that is kept");
+  want(nr_uses_id(writer, 1) == NR_DONE, "a mark");
+  nr_choose_id(writer, 1, &chosen);
   want(nr_replace_id_reclaiming(writer, 1, rows, 2, &found) == NR_DONE, "a replacement by id in a new slot");
   want(nr_reap_id(writer, &found) == NR_GIVEN, "a reap by id");
   want(nr_evict_id(writer, 1) == NR_EVICTED, "an eviction by id");

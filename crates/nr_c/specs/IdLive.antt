@@ -1,10 +1,12 @@
 -- What a call by id from C keeps of a handle, and what its token gains.
 use Rattle.std.specs.Prelude.{ℕ, ◌≡◌, ◌<◌, ◌⊎◌, List, [], ◌∷◌, Option}
+use Rattle.nr_idmap.specs.IdHands.{IdHanded, reader_of}
 use Rattle.nr_idmap.specs.Keepers.{IdCaller, Keeper, OwesSame, Sent}
 use Rattle.nr_c.specs.declared.id_reader_side.IdReaderSide.{IdReaderSide}
 use Rattle.nr_c.specs.declared.id_writer_side.IdWriterSide.{IdWriterSide}
-use Rattle.nr_c.specs.Live.{IsLive}
-use Rattle.nr_c.specs.Numbers.{answer_no_key}
+use Rattle.nr_c.specs.Hands.{HoldsAnId, HoldsNoId}
+use Rattle.nr_c.specs.Live.{IsLive, RefusesHand, WhenLive}
+use Rattle.nr_c.specs.Numbers.{answer_holding, answer_no_key, answer_not_holding}
 
 -- 0 is no id, which the code says, and nothing has changed
 abbrev pub RefusesZero : {Side : Type 0} → ℕ → ℕ → Type 0 → List Side → List Side → Type 0
@@ -14,14 +16,34 @@ RefusesZero id code stays before after = (code ≡ answer_no_key) × (id ≡ 0) 
 abbrev pub WithId : {Side : Type 0} → ℕ → ℕ → Type 0 → (List Side → List Side → Type 0) → List Side → List Side → Type 0
 WithId id code stays does before after = RefusesZero id code stays before after ⊎ ((0 < id) × does before after)
 
+-- a call of a reader that holds nothing, or of one that holds a set: it is refused by the other
+abbrev pub WhenIdleById : ℕ → Type 0 → (List IdReaderSide → List IdReaderSide → Type 0) → List IdReaderSide → List IdReaderSide → Type 0
+WhenIdleById code stays does before after = RefusesHand (λ (side : IdReaderSide). HoldsAnId side.hand) answer_holding code stays before after ⊎ does before after
+
+abbrev pub WhenHoldingById : ℕ → Type 0 → (List IdReaderSide → List IdReaderSide → Type 0) → List IdReaderSide → List IdReaderSide → Type 0
+WhenHoldingById code stays does before after = RefusesHand (λ (side : IdReaderSide). HoldsNoId side.hand) answer_not_holding code stays before after ⊎ does before after
+
+-- a call with an id by a live reader that holds nothing; where it is refused, this stays
+abbrev pub ByIdleIdReader : ℕ → ℕ → Type 0 → (List IdReaderSide → List IdReaderSide → Type 0) → List IdReaderSide → List IdReaderSide → Type 0
+ByIdleIdReader id code stays does = WhenLive code stays (WithId id code stays (WhenIdleById code stays does))
+
 -- the handle leads to one side, of the same map before and after, whose reader became another
-pub record IdReaderCalls (became : IdCaller → IdCaller → Type 0) (before after : List IdReaderSide) : Type 0 where
+pub record IdHandTurns (became : IdHanded → IdHanded → Type 0) (before after : List IdReaderSide) : Type 0 where
   pub old : IdReaderSide
   pub new : IdReaderSide
   pub was : before ≡ old ∷ []
   pub is : after ≡ new ∷ []
   pub map : new.map ≡ old.map
-  pub made : became old.reader new.reader
+  pub made : became old.hand new.hand
+
+-- so one that holds nothing became another such one
+pub record StaysIdle (became : IdCaller → IdCaller → Type 0) (old new : IdHanded) : Type 0 where
+  pub was_idle : HoldsNoId old
+  pub is_idle : HoldsNoId new
+  pub became_so : became (reader_of old) (reader_of new)
+
+abbrev pub IdReaderCalls : (IdCaller → IdCaller → Type 0) → List IdReaderSide → List IdReaderSide → Type 0
+IdReaderCalls became before after = IdHandTurns (StaysIdle became) before after
 
 -- the writer's tokens and the upqueries that are kept
 abbrev pub Turn : Type 1

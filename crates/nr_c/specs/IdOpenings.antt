@@ -1,6 +1,7 @@
 -- What opens a map over ids and its handles.
 use Rattle.std.specs.Prelude.{ℕ, ◌≡◌, ◌↔◌, ◌⊎◌, List, [], ◌∷◌, ◌++◌, None, replicate}
 use Rattle.nr_idmap.specs.declared.id_map.IdShape.{IdShape}
+use Rattle.nr_idmap.specs.IdHands.{idle_by_id}
 use Rattle.nr_idmap.specs.IdOpenings.{IsBadIdShape, OpensIds}
 use Rattle.nr_idmap.specs.Keepers.{IdCaller}
 use Rattle.nr_c.specs.declared.id_reader_side.IdReaderSide.{IdReaderSide}
@@ -43,7 +44,7 @@ pub record LeadsToIdReader (before : List IdWriterSide) (reader : IdCaller) (han
   pub was : before ≡ held ∷ []
   pub is : handle ≡ side ∷ []
   pub map : side.map.value ≡ held.map.value
-  pub reader_is : side.reader ≡ reader
+  pub holds_none : side.hand ≡ idle_by_id reader
 
 -- no reader is without a handle; or the last one without gets one, or for want of memory stays without
 abbrev pub TakesIdReader : ℕ → List IdWriterSide → List IdReaderSide → List IdWriterSide → List IdReaderSide → Type 0

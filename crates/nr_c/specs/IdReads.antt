@@ -4,6 +4,7 @@ use Rattle.nr_ids.specs.declared.requests.Requested.{Requested}
 use Rattle.nr_ids.specs.Answers.{Requests}
 use Rattle.nr_idmap.specs.declared.finds.FoundId.{FoundId}
 use Rattle.nr_idmap.specs.IdFinds.{FindsById}
+use Rattle.nr_idmap.specs.IdHands.{IdHanded}
 use Rattle.nr_idmap.specs.Keepers.{IdCaller}
 use Rattle.nr_c.specs.declared.rows.NrRows.{NrRows}
 use Rattle.nr_c.specs.IdCodes.{found_id_code, request_code}
@@ -13,5 +14,6 @@ use Rattle.nr_c.specs.RowCells.{ShowsSet}
 abbrev pub FindsIdByCode : ℕ → NrRows → NrRows → ℕ → IdCaller → IdCaller → Type 0
 FindsIdByCode id before after code old new = (found : FoundId) × (code ≡ found_id_code found) × FindsById ShowsSet id old before new after found
 
-abbrev pub RequestsByCode : ℕ → ℕ → IdCaller → IdCaller → Type 0
-RequestsByCode id code old new = (answer : Requested) × (code ≡ request_code answer) × Requests id old.ids new.ids answer × (new.caller ≡ old.caller)
+-- a request, by a reader that holds what it held
+abbrev pub RequestsByCode : ℕ → ℕ → IdHanded → IdHanded → Type 0
+RequestsByCode id code old new = (answer : Requested) × (code ≡ request_code answer) × Requests id old.ids new.ids answer × (new.hand ≡ old.hand) × (new.id ≡ old.id)

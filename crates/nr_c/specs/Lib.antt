@@ -37,6 +37,9 @@ pub mod IdOpenings
 pub mod IdCodes
 pub mod IdRows
 pub mod IdReads
+pub mod IdPins
+pub mod IdMany
+pub mod IdChoices
 pub mod IdWrites
 pub mod IdUpqueries
 pub mod IdReclaims

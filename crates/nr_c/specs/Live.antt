@@ -75,21 +75,21 @@ abbrev pub WithKey : {Side : Type 0} → (Side → ℕ) → ℕ → ℕ → Type
 WithKey keys key code stays does before after = RefusesKey keys key code stays before after ⊎ (HasKey keys key before × does before after)
 
 -- the reader isn't as the call wants it, which the code says; nothing has changed
-pub record RefusesHand (kind : Handed → Type 0) (answer code : ℕ) (stays : Type 0) (before after : List ReaderSide) : Type 0 where
+pub record RefusesHand {Side : Type 0} (kind : Side → Type 0) (answer code : ℕ) (stays : Type 0) (before after : List Side) : Type 0 where
   pub code_is : code ≡ answer
   pub stay : stays
-  pub held : ReaderSide
+  pub held : Side
   pub was : before ≡ held ∷ []
   pub is : after ≡ held ∷ []
-  pub hand : kind held.hand
+  pub hand : kind held
 
 -- a call of a reader that holds nothing: it is refused where the reader holds a set
 abbrev pub WhenIdle : ℕ → Type 0 → (List ReaderSide → List ReaderSide → Type 0) → List ReaderSide → List ReaderSide → Type 0
-WhenIdle code stays does before after = RefusesHand HoldsSome answer_holding code stays before after ⊎ does before after
+WhenIdle code stays does before after = RefusesHand (λ (side : ReaderSide). HoldsSome side.hand) answer_holding code stays before after ⊎ does before after
 
 -- a call of a reader that holds a set: it is refused where the reader holds nothing
 abbrev pub WhenHolding : ℕ → Type 0 → (List ReaderSide → List ReaderSide → Type 0) → List ReaderSide → List ReaderSide → Type 0
-WhenHolding code stays does before after = RefusesHand HoldsNone answer_not_holding code stays before after ⊎ does before after
+WhenHolding code stays does before after = RefusesHand (λ (side : ReaderSide). HoldsNone side.hand) answer_not_holding code stays before after ⊎ does before after
 
 -- a call with a key by a live reader that holds nothing; where it is refused, this stays
 abbrev pub ByIdleReader : ℕ → ℕ → Type 0 → (List ReaderSide → List ReaderSide → Type 0) → List ReaderSide → List ReaderSide → Type 0

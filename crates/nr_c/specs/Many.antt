@@ -11,17 +11,20 @@ use Rattle.nr_c.specs.Numbers.{answer_done, answer_no_key}
 abbrev pub FindsOneByCode : NrWanted → NrWanted → Caller → Caller → Type 0
 FindsOneByCode wanted found old new = (found.key ≡ wanted.key) × FindsByCode wanted.key wanted.rows found.rows found.answer old new
 
--- the finds of the keys from that index of a list on: that of the first, before it the loads for each of sixteen where sixteen begin there, and then those of the others
-abbrev pub FindsOnByCode : ℕ → List NrWanted → List NrWanted → Caller → Caller → Type 0
-FindsOnByCode place [] [] old new = new ≡ old
-FindsOnByCode place (wanted ∷ others) (found ∷ rest) old new =
-    (next : Caller) × FindsOneByCode wanted found (with_loads (loads_at old.table.shape.rows place (length (wanted ∷ others))) old) next × FindsOnByCode (place + 1) others rest next new
-FindsOnByCode place [] (found ∷ rest) old new = ⊥
-FindsOnByCode place (wanted ∷ others) [] old new = ⊥
+-- calls for those of a list from that index on, one after another: each is told what is left of the list, and makes of its first one another
+abbrev pub InOrder : {State One : Type 0} → (ℕ → List One → One → One → State → State → Type 0) → ℕ → List One → List One → State → State → Type 0
+InOrder call place [] [] old new = new ≡ old
+InOrder {State = State} call place (one ∷ others) (done ∷ rest) old new = (next : State) × call place (one ∷ others) one done old next × InOrder call (place + 1) others rest next new
+InOrder call place [] (done ∷ rest) old new = ⊥
+InOrder call place (one ∷ others) [] old new = ⊥
+
+-- the find of the key at an index, before it the loads for each of sixteen where sixteen begin there
+abbrev pub FindsAtByCode : ℕ → List NrWanted → NrWanted → NrWanted → Caller → Caller → Type 0
+FindsAtByCode place left wanted found old new = FindsOneByCode wanted found (with_loads (loads_at old.table.shape.rows place (length left)) old) new
 
 -- from the first key on
 abbrev pub FindsEachByCode : List NrWanted → List NrWanted → Caller → Caller → Type 0
-FindsEachByCode wanted found old new = FindsOnByCode 0 wanted found old new
+FindsEachByCode wanted found old new = InOrder FindsAtByCode 0 wanted found old new
 
 -- by a reader's handle
 abbrev pub FindsSome : List NrWanted → List NrWanted → ℕ → List ReaderSide → List ReaderSide → Type 0

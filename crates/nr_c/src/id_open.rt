@@ -1,5 +1,6 @@
 //! What opens a map over ids and its handles, and what ends them.
 ghost use Rattle.std.specs.Prelude.{◌≡◌, ◌↔◌, [], Err, IfErr, IfOk};
+ghost use Rattle.nr_idmap.specs.IdHands.{idle_by_id};
 ghost use Rattle.nr_idmap.specs.IdOpenings.{IsBadIdShape};
 ghost use Rattle.nr_idmap.specs.Keepers.{id_table_of};
 ghost use Rattle.nr_c.specs.Live.{WhenEmpty, WhenOther};
@@ -99,32 +100,20 @@ fn seated_by_id(
     reader: IdReader,
 ) -> Result<Box<IdReaderSide, Global>, IdReader>
     requires own { id_table_of reader ≡ map.now.value }
-    ensures ok { IfOk result (λ side. (side.value.map.value ≡ map.now.value) × (side.value.reader ≡ reader)) }
+    ensures ok { IfOk result (λ side. (side.value.map.value ≡ map.now.value) × (side.value.hand ≡ idle_by_id reader)) }
     ensures back { IfErr result (λ back. back ≡ reader) }
 {
     let Ok(map) = Arc::try_clone(map) else {
         return Err(reader);
     };
-    let side = IdReaderSide {
-        map,
-        reader,
-        apart: [0; APART],
-    };
-    match Box::new(alloc, side) {
+    match Box::new(alloc, IdReaderSide::of(map, reader)) {
         Ok(side) => Ok(side),
-        Err(failed) => {
-            let IdReaderSide {
-                map,
-                reader,
-                apart: _,
-            } = failed.value;
-            drop(map);
-            Err(reader)
-        }
+        Err(failed) => Err(failed.value.end()),
     }
 }
 
-/// Ends a reader, which no handle gets again. Nothing happens where the handle isn't live.
+/// Ends a reader, which no handle gets again. What it holds is released. Nothing happens where the
+/// handle isn't live.
 #[unsafe(no_mangle)]
 pub extern "C" fn nr_close_id_reader(alloc: Global, reader: &mut NrIdReader)
     ensures { reader.new.live ≡ [] }

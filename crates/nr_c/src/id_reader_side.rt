@@ -1,18 +1,62 @@
 //! What an id reader's handle leads to.
 ghost use Rattle.std.specs.Prelude.{◌≡◌};
+ghost use Rattle.std.specs.Bool.{OnFalse, OnTrue};
+ghost use Rattle.nr_idmap.specs.IdHands.{hand_table_of, idle_by_id, reader_of};
 ghost use Rattle.nr_idmap.specs.Keepers.{id_table_of};
+ghost use Rattle.nr_c.specs.Hands.{HoldsAnId, HoldsNoId};
 
 use crate::reader_side::APART;
-use nr_idmap::{IdMap, IdReader};
+use nr_idmap::{IdHand, IdMap, IdReader};
 use std::alloc::Global;
 use std::sync::Arc;
 
-/// A reader by id, with its share of the map.
-#[derive(Drop)]
+/// A reader by id, whether or not it holds a set, with its share of the map.
 pub struct IdReaderSide {
     pub map: Arc<IdMap, Global>,
-    pub reader: IdReader,
+    pub hand: IdHand,
     /// Keeps what the calls of two threads write apart.
     pub apart: [u64; APART],
-    ghost own: { id_table_of reader ≡ map.value },
+    ghost own: { hand_table_of hand ≡ map.value },
+}
+
+// A reader that holds a set is released.
+impl Drop for IdReaderSide {
+    fn drop(self) {
+        drop(self.end());
+    }
+}
+
+impl IdReaderSide {
+    /// A side with a reader that holds nothing.
+    pub fn of(map: Arc<IdMap, Global>, reader: IdReader) -> IdReaderSide
+        requires own { id_table_of reader ≡ map.value }
+        ensures map { result.map ≡ map }
+        ensures hand { result.hand ≡ idle_by_id reader }
+    {
+        IdReaderSide {
+            map,
+            hand: IdHand::of(reader),
+            apart: [0; APART],
+        }
+    }
+
+    /// Whether its reader holds a set.
+    pub fn holds(&self) -> bool
+        ensures some { OnTrue result (HoldsAnId self.now.hand) }
+        ensures none { OnFalse result (HoldsNoId self.now.hand) }
+    {
+        self.hand.id().is_some()
+    }
+
+    /// The reader, which holds nothing any more. Its share of the map ends.
+    pub fn end(self) -> IdReader
+        ensures back { HoldsNoId self.hand → result ≡ reader_of self.hand }
+    {
+        let IdReaderSide {
+            map,
+            hand,
+            apart: _,
+        } = self;
+        hand.into_reader(&map)
+    }
 }

@@ -1,23 +1,24 @@
 //! What a reader by id calls.
 ghost use Rattle.std.specs.Prelude.{◌≡◌, ⊤};
-ghost use Rattle.nr_c.specs.IdLive.{IdReaderCalls, WithId};
+ghost use Rattle.nr_c.specs.IdLive.{ByIdleIdReader, IdHandTurns, IdReaderCalls, WithId};
 ghost use Rattle.nr_c.specs.IdReads.{FindsIdByCode, RequestsByCode};
 ghost use Rattle.nr_c.specs.Live.{WhenLive};
 
-use crate::codes::{NR_CLOSED, NR_NO_KEY};
+use crate::codes::{NR_CLOSED, NR_HOLDING, NR_NO_KEY};
 use crate::id_codes::{of_found_id, of_request};
 use crate::id_reader_handle::NrIdReader;
 use crate::rows::NrRows;
 
 /// Looks an id up, and puts its rows into the caller's cells, which stay as they are with each other
 /// answer: `NR_ROWS`; `NR_ASKED` where its way was a hole, since its upquery is under way or it was
-/// evicted within the call; `NR_HOLE` where within the call it had no way; `NR_OTHER` where its way became another id's; or `NR_NO_KEY` for the id 0, with no step. Takes
-/// a step for each look at a way's name, up to the one that has the id's, of eight ways in all; then 1
-/// where that is a hole, and else 2n + 7 for n rows, more where the way is written meanwhile, and 1 or
-/// 2 at the mark of a found way.
+/// evicted within the call; `NR_HOLE` where within the call it had no way; `NR_OTHER` where its way
+/// became another id's; or, with no step, `NR_NO_KEY` for the id 0, and `NR_HOLDING` where the reader
+/// holds a set. Takes a step for each look at a way's name, up to the one that has the id's, of eight
+/// ways in all; then 1 where that is a hole, and else 2n + 7 for n rows, more where the way is written
+/// meanwhile, and 1 or 2 at the mark of a found way.
 #[unsafe(no_mangle)]
 pub extern "C" fn nr_find_id(reader: &mut NrIdReader, id: u64, rows: &mut NrRows) -> u32
-    ensures { WhenLive result (rows.new ≡ rows.old) (WithId id result (rows.new ≡ rows.old) (IdReaderCalls (FindsIdByCode id rows.old rows.new result))) reader.old.live reader.new.live }
+    ensures { ByIdleIdReader id result (rows.new ≡ rows.old) (IdReaderCalls (FindsIdByCode id rows.old rows.new result)) reader.old.live reader.new.live }
 {
     if !reader.is_live() {
         return NR_CLOSED;
@@ -26,17 +27,20 @@ pub extern "C" fn nr_find_id(reader: &mut NrIdReader, id: u64, rows: &mut NrRows
         return NR_NO_KEY;
     }
     let side = reader.side();
-    of_found_id(side.map.find(&mut side.reader, id, rows))
+    if side.holds() {
+        return NR_HOLDING;
+    }
+    of_found_id(side.hand.find(&side.map, id, rows))
 }
 
 /// Requests an id that has no way. Answers `NR_SEND` where the claim of its group is this caller's, whose
 /// id goes to the writer; `NR_WAITING` where a claim of its group is open, or was within the call;
 /// `NR_NAMED` where the id has a way; `NR_WORN` where its group had the last of its claims; or
 /// `NR_NO_KEY` for the id 0, with no step. Takes 10 steps where the claim is granted or another was within
-/// the call, 2 to 9 where a way has the name, else 1.
+/// the call, 2 to 9 where a way has the name, else 1. A set that the reader holds stays held.
 #[unsafe(no_mangle)]
 pub extern "C" fn nr_request_id(reader: &mut NrIdReader, id: u64) -> u32
-    ensures { WhenLive result ⊤ (WithId id result ⊤ (IdReaderCalls (RequestsByCode id result))) reader.old.live reader.new.live }
+    ensures { WhenLive result ⊤ (WithId id result ⊤ (IdHandTurns (RequestsByCode id result))) reader.old.live reader.new.live }
 {
     if !reader.is_live() {
         return NR_CLOSED;
@@ -45,5 +49,5 @@ pub extern "C" fn nr_request_id(reader: &mut NrIdReader, id: u64) -> u32
         return NR_NO_KEY;
     }
     let side = reader.side();
-    of_request(side.map.request(&mut side.reader, id))
+    of_request(side.hand.request(&side.map, id))
 }

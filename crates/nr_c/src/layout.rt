@@ -3,6 +3,7 @@
 ghost use Rattle.std.specs.Prelude.{◌≡◌};
 ghost use Rattle.nr_c.specs.Layout.{struct_size};
 
+use crate::id_many::NrWantedId;
 use crate::id_reader_handle::NrIdReader;
 use crate::id_shape::NrIdShape;
 use crate::id_writer_handle::NrIdWriter;
@@ -51,6 +52,8 @@ const _: () = prove!(size_of::<NrIdWriter>() == 8);
 
 const _: () = prove!(size_of::<NrIdReader>() == 8);
 
+const _: () = prove!(size_of::<NrWantedId>() == 8 + 8 + 8 + 255 * 16);
+
 const _: () = prove!(align_of::<NrRows>() == 8);
 
 /// How many bytes the struct takes that has this place among the header's, from 0; 0 beyond the last. No step.
@@ -75,6 +78,7 @@ pub extern "C" fn nr_struct_size(place: u32) -> u32
         13 => size_of::<NrUpquery>(),
         14 => size_of::<NrIdWriter>(),
         15 => size_of::<NrIdReader>(),
+        16 => size_of::<NrWantedId>(),
         _ => 0,
     };
     size as u32

@@ -12,8 +12,11 @@
 #![tactic(auto)]
 
 mod codes;
+mod id_choices;
 mod id_codes;
+mod id_many;
 mod id_open;
+mod id_pins;
 mod id_reader_handle;
 mod id_reader_lend;
 mod id_reader_side;

@@ -19,7 +19,7 @@ pub after_both : (log later : List Entry) (map : PartialMap) → after map (log 
 after_both [] later map = refl
 after_both (e ∷ log) later map = after_both log later (next map e.call)
 
-bound_after : (log : List Entry) (map : PartialMap) → (after map log).bound ≡ map.bound
+pub bound_after : (log : List Entry) (map : PartialMap) → (after map log).bound ≡ map.bound
 bound_after [] map = refl
 bound_after (e ∷ log) map = bound_after log (next map e.call)
 

@@ -50,18 +50,18 @@ module _ {Room : Type 0} (shows : Room → List Row → Type 0) (of_map : FindsW
     in_way : (at : ℕ) (looked : Token) (new : IdCaller) (room : Room) (answer : FoundId) (steps : ℕ) (told_there : Reply) →
         LooksUp id asking.ids looked (Some at) → Gains steps asking.caller (model.Find at) told_there new.caller →
         TellsOfWay shows id room answer told_there →
-        IsUnnamedSince note.ids.seen way looked.seen ⊎ FindsIdPut shows id way old written since room answer
+        IsUnnamedSince note.ids.seen way looked.seen ⊎ FindsIdPut shows id way old asking new written since room answer
     in_way at looked new room answer steps told_there looks gains tells = ⊎_elim
         (λ (same : Some at ≡ Some way).
         let gains_here : Gains steps asking.caller (model.Find way) told_there new.caller = subst
         (λ (k : ℕ). Gains steps asking.caller (model.Find k) told_there new.caller) (some_way at way same) gains in
         let law = of_map old.caller asking.caller new.caller note.map before since put way steps told_there near told puts heard.map gains_here in
-        inr (record { told = told_there; tells = tells; more = law.0; finds = law.2 }))
+        inr (record { told = told_there; tells = tells; more = law.0; seen = law.1; finds = law.2 }))
         (λ gone. inl gone)
         (of_ids note.ids id way asking.ids looked (Some at) real named heard.ids looks)
 
     by_answer : (new : IdCaller) (room after : Room) (answer : FoundId) → FindsById shows id asking room new after answer →
-        IsUnnamedSince note.ids.seen way new.ids.seen ⊎ FindsIdPut shows id way old written since after answer
+        IsUnnamedSince note.ids.seen way new.ids.seen ⊎ FindsIdPut shows id way old asking new written since after answer
     by_answer new room after found.Rows finds =
         let looked : Token = finds.2 in ⊎_elim
         (λ gone. inl (marks_on note.ids.seen way looked new.ids finds.4 gone))

@@ -14,6 +14,12 @@ module _ {State One : Type 0} (call : State → One → State → One → Type 0
   in_turn_more first [] mid (y ∷ others) one last done turn calls = absurd turn
   in_turn_more first (x ∷ ones) mid [] one last done turn calls = absurd turn
 
+  pub in_turn_long : (old : State) (ones : List One) (new : State) (others : List One) → InTurn call old ones new others → length others ≡ length ones
+  in_turn_long old [] new [] turn = refl
+  in_turn_long old (x ∷ ones) new (y ∷ others) turn = ap suc (in_turn_long turn.0 ones new others turn.2)
+  in_turn_long old [] new (y ∷ others) turn = absurd turn
+  in_turn_long old (x ∷ ones) new [] turn = absurd turn
+
   -- that many calls were made; the other ones stand there as before
   pub record Made (first : State) (were : List One) (made : ℕ) (now : State) (are : List One) : Type 0 where
     pub long : length are ≡ length were

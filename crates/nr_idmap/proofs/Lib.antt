@@ -10,6 +10,8 @@ mod Answering
 mod Asking
 mod Hearing
 mod InTurn
+mod Batches
+mod LookUps
 mod Finding
 mod Choosing
 mod Holding
@@ -17,3 +19,4 @@ mod Opening
 mod Giving
 mod Looking
 mod Heard
+mod HeardRows

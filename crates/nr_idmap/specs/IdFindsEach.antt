@@ -1,5 +1,5 @@
--- Finds by id of many ids at once.
-use Rattle.std.specs.Prelude.{◌≡◌, ◌≢◌, ℕ, ◌+◌, ◌*◌, ◌<◌, List, ◌∷◌, length, Option, Some, None, IfSome}
+-- Finds by id of many ids.
+use Rattle.std.specs.Prelude.{◌≡◌, ◌≢◌, ℕ, zero, suc, ◌+◌, ◌*◌, ◌/◌, ◌<◌, List, [], ◌∷◌, length, take, drop, Option, Some, None, IfSome}
 use Rattle.nr_model.specs.declared.rows.Row.{Row}
 use Rattle.nr_board.specs.Holds.{FindsHole, FindsRows}
 use Rattle.nr_map.specs.FindsEach.{loads_of_key, with_loads}
@@ -39,11 +39,23 @@ pub record FindsWantedId {Room : Type 0} (shows : Room → List Row → Type 0) 
 abbrev pub IsInside : {Room : Type 0} → ℕ → WantedId Room → Type 0
 IsInside keys wanted = IfSome wanted.way (λ way. way < keys)
 
--- a name of each group was loaded ahead; all were looked up in turn; the words that finds in their ways need were loaded ahead; and all were found in turn
-pub record FindsEachId {Room : Type 0} (shows : Room → List Row → Type 0) (old : IdCaller) (wanted : List (WantedId Room)) (new : IdCaller) (told : List (WantedId Room)) : Type 0 where
+-- of at most sixteen: a name of each group was loaded ahead; all were looked up in turn; the words that finds in their ways need were loaded ahead; and all were found in turn
+pub record FindsBatch {Room : Type 0} (shows : Room → List Row → Type 0) (old : IdCaller) (wanted : List (WantedId Room)) (new : IdCaller) (told : List (WantedId Room)) : Type 0 where
   pub ahead : Token
   pub loads : Grows old.ids (looks (length wanted) old.ids.number) ahead
   pub looked : Token
   pub ways : List (WantedId Room)
   pub looks : InTurn LooksUpWanted ahead wanted looked ways
   pub finds : InTurn (FindsWantedId shows) (record { caller = with_loads (loads_of_key old.caller.table.shape.rows * length wanted) old.caller; ids = looked }) ways new told
+
+-- a list in so many batches of sixteen, of which the last has what is left
+abbrev pub batches : {One : Type 0} → ℕ → List One → List (List One)
+batches zero ones = []
+batches (suc more) ones = take 16 ones ∷ batches more (drop 16 ones)
+
+abbrev pub in_sixteens : {One : Type 0} → List One → List (List One)
+in_sixteens ones = batches ((length ones + 15) / 16) ones
+
+-- any number, batch by batch
+abbrev pub FindsEachId : {Room : Type 0} → (Room → List Row → Type 0) → IdCaller → List (WantedId Room) → IdCaller → List (WantedId Room) → Type 0
+FindsEachId shows old wanted new told = InTurn (FindsBatch shows) old (in_sixteens wanted) new (in_sixteens told)

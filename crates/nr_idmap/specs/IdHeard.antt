@@ -1,12 +1,18 @@
 -- What a find by id answers that comes after a note of the id's fill.
 use Rattle.std.specs.Prelude.{◌≡◌, ◌≢◌, ◌<◌, ◌⊎◌, ℕ, true, List, [], ◌∷◌, ◌++◌}
+use Rattle.std.specs.List.{count_by}
 use Rattle.nr_model.specs.declared.rows.Row.{Row}
 use Rattle.nr_model.specs.declared.calls.Reply.{Reply}
 use Rattle.nr_model.specs.declared.calls.Reply.TheVariants as reply
-use Rattle.nr_model.specs.Histories.{Entry}
+use Rattle.nr_model.specs.declared.calls.Call.TheVariants.{Find}
+use Rattle.nr_model.specs.declared.states.KeyState.TheVariants as state
+use Rattle.nr_model.specs.Histories.{Entry, after}
+use Rattle.nr_model.specs.Maps.{state_of}
+use Rattle.nr_machine.specs.Story.{entry}
 use Rattle.nr_marks.specs.Puts.{puts_at}
 use Rattle.nr_board.specs.Callers.{map_at_opening}
-use Rattle.nr_map.specs.Written.{FindsPut, HeardBefore}
+use Rattle.nr_board.specs.Rule.{StartsWith}
+use Rattle.nr_map.specs.Written.{FindsPut, HeardBefore, evicts_at}
 use Rattle.nr_ids.specs.Events.{Event, name_of, unnamed}
 use Rattle.nr_ids.specs.Laws.{Has}
 use Rattle.nr_ids.specs.Rule.{BeginsWith}
@@ -14,7 +20,7 @@ use Rattle.nr_idmap.specs.declared.finds.FoundId.{FoundId}
 use Rattle.nr_idmap.specs.declared.finds.FoundId.TheVariants as found
 use Rattle.nr_idmap.specs.IdFinds.{FindsById}
 use Rattle.nr_idmap.specs.IdNotes.{IdKnown}
-use Rattle.nr_idmap.specs.Keepers.{IdCaller}
+use Rattle.nr_idmap.specs.Keepers.{IdCaller, IsTied, Keeper}
 use Rattle.nr_idmap.specs.Tags.{tag_of}
 
 -- the reader heard the note, and made whatever calls then
@@ -34,21 +40,40 @@ TellsOfWay shows id room found.Moved told = (set : List Row) × (told ≡ reply.
 TellsOfWay shows id room found.Absent told = ⊥
 
 -- that is the put of which the note told, or what came after it
-pub record FindsIdPut {Room : Type 0} (shows : Room → List Row → Type 0) (id way : ℕ) (old : IdCaller) (written since : List Entry) (room : Room) (answer : FoundId) : Type 0 where
+pub record FindsIdPut {Room : Type 0} (shows : Room → List Row → Type 0) (id way : ℕ) (old asking new : IdCaller) (written since : List Entry) (room : Room) (answer : FoundId) : Type 0 where
   pub told : Reply
   pub tells : TellsOfWay shows id room answer told
   pub more : List Entry
+  pub seen : new.caller.seen ≡ (written ++ (since ++ more)) ++ entry asking.caller.number (Find way) told ∷ []
   pub finds : FindsPut (map_at_opening old.caller.table) way written (since ++ more) told
 
 -- the note's maker had seen the way's name, and a put of its rows; who heard the note finds that put or what came after it, unless the name was taken since
 abbrev pub FindsIdHeard : {Room : Type 0} → (Room → List Row → Type 0) → Type 0
 FindsIdHeard {Room = Room} shows =
-    (old asking new : IdCaller) (note : IdKnown) (id way : ℕ) (before since : List Entry) (put : Entry) (room after : Room) (answer : FoundId) →
+    (old asking new : IdCaller) (note : IdKnown) (id way : ℕ) (before since : List Entry) (put : Entry) (before_it room : Room) (answer : FoundId) →
     way < old.caller.table.shape.keys →
     0 < id →
     name_of note.ids.seen way ≡ id →
     note.map.seen ≡ (before ++ put ∷ []) ++ since →
     puts_at way put ≡ true →
     HeardIdBefore old note asking →
-    FindsById shows id asking room new after answer →
-    IsUnnamedSince note.ids.seen way new.ids.seen ⊎ FindsIdPut shows id way old (before ++ put ∷ []) since after answer
+    FindsById shows id asking before_it new room answer →
+    IsUnnamedSince note.ids.seen way new.ids.seen ⊎ FindsIdPut shows id way old asking new (before ++ put ∷ []) since room answer
+
+-- the put of which the note told left the way the id's rows; the writer has heard of the find since, and the find's history has no later eviction of the way: the find was answered with rows, unless the name was taken since
+abbrev pub FindsItsRows : {Room : Type 0} → (Room → List Row → Type 0) → Type 0
+FindsItsRows {Room = Room} shows =
+    (keeper : Keeper) (old asking new : IdCaller) (note : IdKnown) (id way number : ℕ) (rows : List Row) (before since : List Entry) (put : Entry) (before_it room : Room) (answer : FoundId) →
+    IsTied keeper →
+    old.caller.table ≡ keeper.table.map →
+    StartsWith keeper.writer.seen new.caller.seen →
+    way < old.caller.table.shape.keys →
+    0 < id →
+    name_of note.ids.seen way ≡ id →
+    note.map.seen ≡ (before ++ put ∷ []) ++ since →
+    puts_at way put ≡ true →
+    state_of (after (map_at_opening old.caller.table) (before ++ put ∷ [])) way ≡ state.Rows number (tag_of id ∷ rows) →
+    count_by (evicts_at way) new.caller.seen ≡ count_by (evicts_at way) (before ++ put ∷ []) →
+    HeardIdBefore old note asking →
+    FindsById shows id asking before_it new room answer →
+    IsUnnamedSince note.ids.seen way new.ids.seen ⊎ (answer ≡ found.Rows)

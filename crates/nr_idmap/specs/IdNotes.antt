@@ -1,6 +1,6 @@
 -- What the tokens of a map over ids learn of each other.
 use Rattle.std.specs.Prelude.{◌≡◌}
-use Rattle.nr_board.specs.Meetings.{Gathers, HearsNote, Known, known_to, with_step}
+use Rattle.nr_board.specs.Meetings.{Gathers, HearsNote, Known, known_to, with_step, with_steps}
 use Rattle.nr_ids.specs.Tokens as ids
 use Rattle.nr_idmap.specs.Keepers.{IdCaller, IdTable, Keeper}
 
@@ -19,6 +19,10 @@ known_to_reader reader = record { map = known_to reader.caller; ids = ids.known_
 -- who makes a note makes a step on each table
 abbrev pub with_steps_of_note : IdCaller → IdCaller
 with_steps_of_note reader = record { caller = with_step reader.caller; ids = ids.with_step reader.ids }
+
+-- who splits one makes three
+abbrev pub with_steps_of_split : IdCaller → IdCaller
+with_steps_of_split reader = record { caller = with_steps 3 reader.caller; ids = ids.with_steps 3 reader.ids }
 
 -- the token knows all that the note's maker had seen
 pub record HearsIdNote (old : IdCaller) (note : IdKnown) (new : IdCaller) : Type 0 where

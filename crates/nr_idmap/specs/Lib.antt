@@ -14,3 +14,4 @@ pub mod IdChoices
 pub mod IdHeard
 pub mod InTurn
 pub mod IdFindsEach
+pub mod IdLoads

@@ -1,9 +1,9 @@
 //! A reader by id that holds the set of an id from call to call.
-ghost use Rattle.std.specs.Prelude.{◌≡◌, ◌≢◌, ◌<◌, IsSome};
+ghost use Rattle.std.specs.Prelude.{◌≡◌, ◌≢◌, ◌<◌, IsSome, None};
 ghost use Rattle.nr_model.specs.Rows.{IsRowSet};
 ghost use Rattle.nr_model.specs.declared.rows.TheConstants.{MAX_ROWS};
 ghost use Rattle.nr_ids.specs.Answers.{Requests};
-ghost use Rattle.nr_idmap.specs.IdHands.{AgainById, FindsIdKept, HoldsAnew, HoldsById, LetsGoById, MarksHeld, PinsById, hand_table_of, idle_by_id, rows_in_hand};
+ghost use Rattle.nr_idmap.specs.IdHands.{AgainById, FindsIdKept, HoldsAnew, HoldsById, LetsGoById, MarksHeld, PinsById, hand_table_of, idle_by_id, reader_of, rows_in_hand};
 ghost use Rattle.nr_idmap.specs.Keepers.{id_table_of};
 
 use crate::finds::FoundId;
@@ -22,8 +22,8 @@ pub struct IdHand {
     pub(crate) hand: Hand,
     pub(crate) ids: nr_ids::Reader,
     // The set that is held, with its tag.
-    pile: Pile,
-    held: Option<Holding>,
+    pub(crate) pile: Pile,
+    pub(crate) held: Option<Holding>,
 }
 
 // The id whose set is held, and its way.
@@ -62,6 +62,7 @@ impl IdHand {
         requires own { hand_table_of self ≡ map.now }
         ensures own { id_table_of result ≡ map.now }
         ensures lets_go { LetsGoById self (idle_by_id result) }
+        ensures idle { self.id ≡ None → result ≡ reader_of self }
     {
         let IdHand {
             hand,
@@ -95,6 +96,13 @@ impl IdHand {
             Some(_) => behind(self.pile.as_slice()),
             None => &[],
         }
+    }
+
+    /// Writes those rows into the caller's room. Takes no step.
+    pub fn copy_to<R: RowRoom>(&self, rows: &mut R)
+        ensures shows { R.shows rows.new (rows_in_hand self.now) }
+    {
+        copy_all(self.rows(), rows);
     }
 
     /// Lets go what is held, in 1 step; no step where nothing is.
@@ -149,7 +157,7 @@ impl IdHand {
     {
         let found = self.pin(map, id);
         if let FoundId::Rows = found {
-            copy_all(self.rows(), rows);
+            self.copy_to(rows);
         }
         found
     }

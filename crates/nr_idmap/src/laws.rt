@@ -1,5 +1,5 @@
 //! Laws over the definitions alone. Nothing runs here: each function's contract is the law.
-ghost use Rattle.nr_idmap.specs.IdHeard.{FindsIdHeard};
+ghost use Rattle.nr_idmap.specs.IdHeard.{FindsIdHeard, FindsItsRows};
 ghost use Rattle.nr_idmap.specs.IdLaws.{HeardFinds, NamedIsOwedOrResident, OneSet, OneUpquery, OwedIsNamed, ReadsAsIds, TidyBegins, TiedReadsAsIds, UnnamedIsAbsent};
 
 use nr_model::RowRoom;
@@ -39,6 +39,15 @@ pub fn finds_what_it_heard<R: RowRoom>()
 {
     nr_ids::laws::finds_what_it_heard();
     nr_map::laws::finds_what_it_heard();
+}
+
+/// Where that put left the way the id's rows, and no entry of the find's history evicted the way since, the
+/// find was answered with rows, unless the way lost its name. So says the writer's history, once the writer
+/// has heard of the find.
+pub fn finds_its_rows<R: RowRoom>()
+    ensures { FindsItsRows R.shows }
+{
+    finds_what_it_heard::<R>();
 }
 
 /// An open upquery is for the id that is its way's name.

@@ -13,6 +13,7 @@ mod evictions;
 mod finds;
 mod hands;
 mod id_map;
+mod idle_hands;
 pub mod laws;
 mod looks;
 mod notes;

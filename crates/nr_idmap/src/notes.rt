@@ -2,7 +2,7 @@
 ghost use Rattle.std.specs.Prelude.{◌≡◌};
 ghost use Rattle.nr_board.specs.Meetings.{known_to, with_step};
 ghost use Rattle.nr_ids.specs.Tokens as ids;
-ghost use Rattle.nr_idmap.specs.IdNotes.{HearsIdNote, GathersById, WriterHears, known_to_reader, note_table_of, with_steps_of_note};
+ghost use Rattle.nr_idmap.specs.IdNotes.{HearsIdNote, GathersById, WriterHears, known_to_reader, note_table_of, with_steps_of_note, with_steps_of_split};
 ghost use Rattle.nr_idmap.specs.IdHands.{HoldsSame, hand_table_of, reader_of};
 ghost use Rattle.nr_idmap.specs.Keepers.{OwesSame, id_table_of};
 
@@ -73,6 +73,27 @@ impl IdMap {
         let IdNote { map, ids } = note;
         self.map.hear(&mut reader.reader, map);
         self.directory.hear(&mut reader.ids, ids);
+    }
+
+    /// Two notes of one, for two hearers: each says what it said. Takes 3 steps of the map and 3 of the
+    /// directory, of the reader's, which learns nothing by that and else stays as it is.
+    pub fn split_note(&self, reader: &mut IdReader, note: IdNote) -> (IdNote, IdNote)
+        requires own { (note_table_of note ≡ self.now) × (id_table_of reader.old ≡ self.now) }
+        ensures reader { reader.new ≡ with_steps_of_split reader.old }
+        ensures notes { (result.0 ≡ note) × (result.1 ≡ note) }
+    {
+        let IdNote { map, ids } = note;
+        let (one, other) = self.map.split_note(&mut reader.reader, map);
+        let (first, second) = self.directory.split_note(&mut reader.ids, ids);
+        let one = IdNote {
+            map: one,
+            ids: first,
+        };
+        let other = IdNote {
+            map: other,
+            ids: second,
+        };
+        (one, other)
     }
 
     /// The writer learns the same, in as many steps. Laws then tell of the finds that the note's maker

@@ -1,11 +1,11 @@
 //! Finds of many ids by one call.
-ghost use Rattle.std.specs.Prelude.{◌≡◌, ◌<◌, ◌≤◌, ◌*◌, ℕ, All, IfSome, length, take};
+ghost use Rattle.std.specs.Prelude.{◌≡◌, ◌+◌, ◌<◌, ◌≤◌, ◌*◌, ℕ, All, IfSome, length, min, take};
 ghost use Rattle.nr_board.specs.Callers.{Caller};
 ghost use Rattle.nr_ids.specs.Events.{looks};
 ghost use Rattle.nr_ids.specs.Tokens.{Grows};
 ghost use Rattle.nr_map.specs.FindsEach.{loads_of_key, with_loads};
 ghost use Rattle.nr_idmap.specs.declared.finds.FoundId.TheVariants.{Absent};
-ghost use Rattle.nr_idmap.specs.IdFindsEach.{FindsEachId, FindsWantedId, IsInside, LooksUpWanted};
+ghost use Rattle.nr_idmap.specs.IdFindsEach.{FindsBatch, FindsEachId, FindsWantedId, IsInside, LooksUpWanted};
 ghost use Rattle.nr_idmap.specs.InTurn.{InTurn};
 ghost use Rattle.nr_idmap.specs.Keepers.{id_table_of};
 
@@ -15,8 +15,8 @@ use crate::tokens::IdReader;
 use nr_map::Reader;
 use nr_model::RowRoom;
 
-// How many ids are found by one call at most.
-const GROUP: usize = 16;
+/// How many ids are found at a time.
+pub(crate) const BATCH: usize = 16;
 
 /// An id to be found, the room for its rows, and what its last find was answered.
 #[derive(Drop)]
@@ -45,16 +45,30 @@ impl<R> WantedId<R> {
 }
 
 impl IdMap {
-    /// Finds each of at most sixteen ids, in their order, as `find` does one: a find of each is an entry
-    /// of its own, also of an id that is wanted twice. Takes the steps of all the finds, and before them
-    /// for each id 1 load of a name, and the map's `load_ahead` for a key. So the caches fetch at once
-    /// what all need.
+    /// Finds each id, in their order, as `find` does one: a find of each is an entry of its own, also of
+    /// an id that is wanted twice. Takes the steps of all the finds, and for each id 1 load of a name,
+    /// and the map's `load_ahead` for a key. These and the look-ups are made for 16 ids at a time before
+    /// these are found: so the caches fetch what 16 finds need at once.
     pub fn find_each<R: RowRoom>(&self, reader: &mut IdReader, wanted: &mut [WantedId<R>])
+        requires own { id_table_of reader.old ≡ self.now }
+        requires ids { All (λ one. 0 < one.id) wanted.old }
+        ensures own { id_table_of reader.new ≡ self.now }
+        ensures finds { FindsEachId R.shows reader.old wanted.old reader.new wanted.new }
+    {
+        for batch in 0..wanted.len().div_ceil(BATCH) {
+            let begin = batch * BATCH;
+            let end = end_of_batch(begin, wanted.len());
+            self.find_batch(reader, &mut wanted[begin..end]);
+        }
+    }
+
+    // The finds of at most sixteen ids.
+    fn find_batch<R: RowRoom>(&self, reader: &mut IdReader, wanted: &mut [WantedId<R>])
         requires own { id_table_of reader.old ≡ self.now }
         requires ids { All (λ one. 0 < one.id) wanted.old }
         requires few { length wanted.old ≤ 16 }
         ensures own { id_table_of reader.new ≡ self.now }
-        ensures finds { FindsEachId R.shows reader.old wanted.old reader.new wanted.new }
+        ensures finds { FindsBatch R.shows reader.old wanted.old reader.new wanted.new }
     {
         self.load_names(&mut reader.ids, wanted);
         self.look_up_each(&mut reader.ids, wanted);
@@ -132,10 +146,10 @@ impl IdMap {
 }
 
 // The ids, and zeros after them.
-fn ids_of<R>(wanted: &[WantedId<R>]) -> [u64; GROUP]
+fn ids_of<R>(wanted: &[WantedId<R>]) -> [u64; BATCH]
     requires few { length wanted.now ≤ 16 }
 {
-    let mut ids = [0; GROUP];
+    let mut ids = [0; BATCH];
     for place in 0..wanted.len() {
         ids[place] = wanted[place].id;
     }
@@ -143,22 +157,35 @@ fn ids_of<R>(wanted: &[WantedId<R>]) -> [u64; GROUP]
 }
 
 // The ids' ways, a key in place of none, and zeros after them.
-fn keys_of<R>(wanted: &[WantedId<R>]) -> [u32; GROUP]
+fn keys_of<R>(wanted: &[WantedId<R>]) -> [u32; BATCH]
     requires few { length wanted.now ≤ 16 }
     ensures { (bound : ℕ) → 0 < bound → All (IsInside bound) wanted.now → All (λ key. key < bound) (take (length wanted.now) result) }
 {
-    let mut keys = [0; GROUP];
+    let mut keys = [0; BATCH];
     for place in 0..wanted.len() {
         keys[place] = key_of(wanted[place].way);
     }
     keys
 }
 
-fn key_of(way: Option<u32>) -> u32
+/// The key of a way, and 0 in place of none.
+pub(crate) fn key_of(way: Option<u32>) -> u32
     ensures { (bound : ℕ) → 0 < bound → IfSome way (λ key. key < bound) → result < bound }
 {
     match way {
         Some(key) => key,
         None => 0,
+    }
+}
+
+// Where the batch ends that begins there, of that many ids.
+fn end_of_batch(begin: usize, ids: usize) -> usize
+    requires { begin < ids }
+    ensures { result ≡ min (begin + 16) ids }
+{
+    if ids - begin < BATCH {
+        ids
+    } else {
+        begin + BATCH
     }
 }

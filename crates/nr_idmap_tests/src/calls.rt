@@ -87,6 +87,53 @@ fn many_ids_are_found_by_one_call(rt: HostRuntime) {
     view.close();
 }
 
+fn wanted(id: u64) -> WantedId<RowSet>
+    requires { 0 < id }
+    ensures { 0 < result.id }
+{
+    WantedId::of(id, RowSet::new())
+}
+
+// More than are found at a time.
+#[test]
+fn eighteen_ids_are_found_by_one_call(rt: HostRuntime) {
+    let mut view = View::open(&rt, &SMALL);
+    for id in 1..8 {
+        view.takes_in(&rt, id, &[row(id, id)]);
+    }
+    let mut first = [
+        wanted(1),
+        wanted(2),
+        wanted(3),
+        wanted(4),
+        wanted(5),
+        wanted(6),
+        wanted(7),
+        wanted(8),
+        wanted(9),
+        wanted(1),
+        wanted(2),
+        wanted(3),
+        wanted(4),
+        wanted(5),
+        wanted(6),
+        wanted(7),
+        wanted(8),
+        wanted(3),
+    ];
+    view.finds_each(&rt, &mut first);
+    for one in &first {
+        if one.id < 8 {
+            is_same(&rt, &one.found, &FoundId::Rows);
+            is_set(&rt, one.rows.as_slice(), &[row(one.id, one.id)]);
+        } else {
+            is_same(&rt, &one.found, &FoundId::Absent);
+            is_set(&rt, one.rows.as_slice(), &[]);
+        }
+    }
+    view.close();
+}
+
 #[test]
 fn a_way_is_used_again(rt: HostRuntime) {
     let mut view = View::open(&rt, &SMALL);

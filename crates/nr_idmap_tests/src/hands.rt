@@ -54,6 +54,22 @@ impl Holder {
     fn holds<R: Abort>(&self, rt: &R, id: u64, rows: &[Row]) {
         is_same(rt, &self.hand.id(), &Some(id));
         is_set(rt, self.hand.rows(), rows);
+        let mut room = RowSet::new();
+        self.hand.copy_to(&mut room);
+        is_set(rt, room.as_slice(), rows);
+    }
+
+    /// A hand that holds nothing finds as a reader does, after what it loads ahead.
+    fn finds<R: Abort>(&mut self, rt: &R, id: u64, why: FoundId, rows: &[Row])
+        requires { 0 < id }
+    {
+        let mut room = RowSet::new();
+        self.hand.release(self.view.map());
+        self.hand.load_ahead(self.view.map(), &[id, id]);
+        let found = self.hand.find(self.view.map(), id, &mut room);
+        is_same(rt, &found, &why);
+        is_set(rt, room.as_slice(), rows);
+        is_same(rt, &self.hand.id(), &None);
     }
 
     /// A find holds these rows.
@@ -160,6 +176,22 @@ fn an_open_upquery_leaves_nothing_to_hold(rt: HostRuntime) {
     holder.view.fills(&rt, upquery, &[row(6, 6)]);
     holder.tells();
     holder.keeps(&rt, TWO, &[row(6, 6)]);
+    holder.close();
+}
+
+#[test]
+fn a_hand_finds_and_holds_nothing(rt: HostRuntime) {
+    let mut holder = Holder::open(&rt, &PAIR);
+    holder.finds(&rt, ONE, FoundId::Absent, &[]);
+    holder.view.takes_in(&rt, ONE, &[row(5, 5), row(6, 6)]);
+    holder.pins(&rt, ONE, &[row(5, 5), row(6, 6)]);
+    holder.finds(&rt, ONE, FoundId::Rows, &[row(5, 5), row(6, 6)]);
+    holder.view.uses(&rt, ONE, true);
+    holder.view.claims(&rt, TWO);
+    let upquery = holder.view.admit(&rt, TWO);
+    holder.finds(&rt, TWO, FoundId::Pending, &[]);
+    holder.view.fills(&rt, upquery, &[]);
+    holder.finds(&rt, TWO, FoundId::Rows, &[]);
     holder.close();
 }
 

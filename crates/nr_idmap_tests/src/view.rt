@@ -1,6 +1,6 @@
 //! A map over ids with its writer and a reader. Each method makes a call or a few and asserts the
 //! answers, so that a test is a list of calls.
-ghost use Rattle.std.specs.Prelude.{◌≡◌, ◌<◌, ◌≤◌, All, length};
+ghost use Rattle.std.specs.Prelude.{◌≡◌, ◌<◌, All};
 ghost use Rattle.nr_model.specs.Batches.{IsBatch};
 ghost use Rattle.nr_idmap.specs.IdNotes.{note_table_of};
 ghost use Rattle.nr_idmap.specs.Keepers.{id_rows, id_table_of};
@@ -226,8 +226,7 @@ impl View {
 
     /// Finds of many ids by one call have what finds of each have.
     pub(crate) fn finds_each<R: Abort>(&mut self, rt: &R, wanted: &mut [WantedId<RowSet>])
-        requires ids { All (λ one. 0 < one.id) wanted.old }
-        requires few { length wanted.old ≤ 16 }
+        requires { All (λ one. 0 < one.id) wanted.old }
         ensures { self.new ≡ self.old }
     {
         self.map.find_each(&mut self.reader, wanted);
@@ -421,9 +420,11 @@ impl View {
         is_same(rt, &replaced, &wanted);
     }
 
-    /// The reader hears what the writer has seen, and the writer is gathered with it.
+    /// The reader hears what the writer has seen, by one note of two, and the writer is gathered with it.
     pub(crate) fn tells(&mut self) {
         let told = self.map.note_writer(&mut self.writer);
+        let (told, other) = self.map.split_note(&mut self.reader, told);
+        self.map.hear(&mut self.reader, other);
         self.map.hear(&mut self.reader, told);
         let own = self.map.note(&mut self.reader);
         self.map.hear(&mut self.reader, own);

@@ -11,7 +11,7 @@ use Rattle.atomic_table.proofs.Lists.{at_set, at_snoc, set_else}
 use Rattle.nr_ids.specs.declared.plan.Plan.{Plan}
 use Rattle.nr_ids.specs.Groups.{ways}
 use Rattle.nr_ids.specs.Events.{Event, maker, name_of, turn_of, May}
-use Rattle.nr_ids.specs.Rule.{View, Shows, Fits, Kept, BeginsWith, turn_place, counted, with_reader, next_reader, note_of, with_note, spent}
+use Rattle.nr_ids.specs.Rule.{View, Shows, Fits, Kept, BeginsWith, turn_place, counted, with_reader, next_reader, note_of, retold, with_note, spent}
 use Rattle.nr_ids.proofs.Logs.{cond_same, cond_else, own_other}
 
 -- the words after a name or a turn is written
@@ -209,16 +209,24 @@ seats_so plan id view calls clerk state kept at =
     (λ (s : (j ≢ id) × (get_elem? state.views j ≡ some u)). let low = (kept.fits j u s.1).few c in absurd (omega arith))
     (at_set state.views id j next u there))
 
--- a token makes a note, and takes one in
-pub notes_so : (plan : Plan) (id : ℕ) (view : View) → Splits (Kept plan) id view (counted view) (note_of view)
+-- a token makes a note of events with which those of the rule begin
+note_made : (plan : Plan) (id : ℕ) (view : View) (seen : List Event) (state : State ℕ View) (kept : Kept plan state) → get_elem? state.views id ≡ some view → BeginsWith kept.log seen
+    → Kept plan (record { words = state.words; homes = state.homes; views = set state.views id (counted view) ++ record (note_of view) { seen = seen } ∷ [] })
 unfolding replaced
-notes_so plan id view state kept at =
+note_made plan id view seen state kept at begins =
     let mine = kept.fits id view at in let next = counted view in
     let stays = replaced plan state kept id view next at
     (record { plan_is = mine.plan_is; later = record { rest = mine.later.rest; is = mine.later.is; quiet = mine.later.quiet }; told = mine.told; few = mine.few; maker = mine.maker }) (λ c. (c, refl)) in
-    adds plan (record { words = state.words; homes = state.homes; views = set state.views id next }) stays (note_of view)
-    (record { plan_is = λ c. absurd (cc (c)); later = record { rest = mine.later.rest; is = mine.later.is; quiet = λ c. absurd (cc (c)) }; told = begins_all kept.log; few = λ c. absurd (cc (c)); maker = λ c. absurd (cc (c)) })
+    adds plan (record { words = state.words; homes = state.homes; views = set state.views id next }) stays (record (note_of view) { seen = seen })
+    (record { plan_is = λ c. absurd (cc (c)); later = record { rest = begins.0; is = begins.1; quiet = λ c. absurd (cc (c)) }; told = begins_all kept.log; few = λ c. absurd (cc (c)); maker = λ c. absurd (cc (c)) })
     (λ j u there _ c. absurd (cc (c)))
+
+-- of what it has seen, or of what it was told, and takes one in
+pub notes_so : (plan : Plan) (id : ℕ) (view : View) → Splits (Kept plan) id view (counted view) (note_of view)
+notes_so plan id view state kept at = let later = (kept.fits id view at).later in note_made plan id view view.seen state kept at (later.rest, later.is)
+
+pub retells_so : (plan : Plan) (id : ℕ) (view : View) → Splits (Kept plan) id view (counted view) (retold view)
+retells_so plan id view state kept at = note_made plan id view view.told state kept at (kept.fits id view at).told
 
 pub joins_so : (plan : Plan) (id : ℕ) (view : View) (other : ℕ) (note : View) → Joins (Kept plan) id view other note (with_note view note) spent
 unfolding replaced

@@ -37,9 +37,12 @@ with_reader view = record (counted view) { made = view.made + 1 }
 abbrev pub next_reader : View → View
 next_reader view = newcomer view.plan (view.made + 1)
 
--- a note of what a token has seen, a token that took it in, and what is left of it
+-- a note of what a token has seen, or of what it was told last; a token that took one in, and what is left of that
 abbrev pub note_of : View → View
 note_of view = record { plan = view.plan; calls = false; number = 0; made = 0; seen = view.seen; told = []; steps = 0 }
+
+abbrev pub retold : View → View
+retold view = record (note_of view) { seen = view.told }
 
 abbrev pub with_note : View → View → View
 with_note view note = record (counted view) { told = note.seen }

@@ -36,9 +36,12 @@ pub record Sits (directory : Opened) (seat : Seat ℕ View) : Type 0 where
 abbrev pub fresh_token : Opened → ℕ → Token
 fresh_token directory number = record { directory = directory; number = number; made = 0; seen = []; steps = 0 }
 
--- the token counts a step, and is else as it was
+-- the token counts so many steps, or one, and is else as it was
+abbrev pub with_steps : ℕ → Token → Token
+with_steps steps token = record token { steps = token.steps + steps }
+
 abbrev pub with_step : Token → Token
-with_step token = record token { steps = token.steps + 1 }
+with_step token = with_steps 1 token
 
 -- the newest event that a token knows is its last step; without a step it knows what it knew
 abbrev pub Newest : List Event → List Event → List Event → Type 0

@@ -2,13 +2,13 @@
 ghost use Rattle.std.specs.Prelude.{◌≡◌, ◌≢◌, ◌<◌, ◌%◌, true, false, IfOk, [], ◌∷◌};
 ghost use Rattle.nr_ids.specs.Events.{MayName, cleared, last_turn, looked, name_of, named, turn_of, unnamed};
 ghost use Rattle.nr_ids.specs.Groups.{IsPlan, group_of, ways};
-ghost use Rattle.nr_ids.specs.Rule.{BeginsWith, counted, marks_place, next_reader, note_of, opener, total, turn_place, with_note, with_reader};
+ghost use Rattle.nr_ids.specs.Rule.{BeginsWith, counted, marks_place, next_reader, note_of, opener, retold, total, turn_place, with_note, with_reader};
 ghost use Rattle.nr_ids.specs.Scans.{Scanned};
 ghost use Rattle.nr_ids.specs.Tokens.{Grows, Sits, WinsClaim, token};
 
 use crate::plan::Plan;
 use crate::rule::{
-    Claims, Clears, LooksAtName, LooksAtTurn, Marks, Names, Notes, Rule, Seats, Unnames,
+    Claims, Clears, LooksAtName, LooksAtTurn, Marks, Names, Notes, Retells, Rule, Seats, Unnames,
 };
 use crate::view::View;
 use atomic_table::Table;
@@ -221,6 +221,17 @@ impl Directory {
     {
         let words = &self.table.shared;
         words.join_seat::<Notes>(seat, note);
+    }
+
+    /// A note that says what the note said which the token took in last. Else the token stays as it is,
+    /// but for the step.
+    pub(crate) fn retell(&self, seat: &mut Seat) -> Seat
+        requires { seat.old.table_id ≡ self.now.id }
+        ensures maker { (seat.new.table_id ≡ seat.old.table_id) × (seat.new.me ≡ (counted seat.old.me.0, seat.old.me.1)) }
+        ensures note { (result.table_id ≡ seat.old.table_id) × (result.me ≡ (retold seat.old.me.0, [])) }
+    {
+        let words = &self.table.shared;
+        words.split_seat::<Retells>(seat)
     }
 
     fn turn_place(&self, group: u32) -> usize

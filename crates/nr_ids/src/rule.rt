@@ -43,6 +43,17 @@ impl Join<View> for Notes {
     ghost spent = { spent };
 }
 
+/// A note is made of what the note told which a token took in last.
+pub struct Retells;
+
+impl Split<View> for Retells {
+    ghost use Rattle.nr_ids.specs.Rule.{counted, retold};
+
+    ghost left = { counted };
+
+    ghost right = { retold };
+}
+
 pub struct LooksAtName;
 
 impl Play<u64, View> for LooksAtName {

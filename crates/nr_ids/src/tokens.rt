@@ -1,7 +1,7 @@
 //! The tokens of a directory, and what one of them tells another.
 ghost use Rattle.std.specs.Prelude.{◌≡◌, ◌+◌, ◌↔◌, IfOk, Err};
 ghost use Rattle.nr_ids.specs.Groups.{IsBadPlan};
-ghost use Rattle.nr_ids.specs.Tokens.{Hears, fresh_token, known_to, with_reader_made, with_step};
+ghost use Rattle.nr_ids.specs.Tokens.{Hears, fresh_token, known_to, with_reader_made, with_step, with_steps};
 
 use crate::directory::{Directory, Seat};
 use crate::plan::Plan;
@@ -136,5 +136,19 @@ impl Directory {
     {
         self.take_note(&mut clerk.seat, note.seat);
         self.learn(&mut clerk.seat);
+    }
+
+    /// Two notes of one, for two hearers: each says what it said. Takes 3 steps of the reader's, which
+    /// learns nothing by that and else stays as it is.
+    pub fn split_note(&self, reader: &mut Reader, note: Note) -> (Note, Note)
+        requires own { (note.directory ≡ self.now) × (reader.old.directory ≡ self.now) }
+        ensures reader { reader.new ≡ with_steps 3 reader.old }
+        ensures notes { (result.0 ≡ note) × (result.1 ≡ note) }
+    {
+        let Note { seat: told } = note;
+        self.take_note(&mut reader.seat, told);
+        let one = self.retell(&mut reader.seat);
+        let other = self.retell(&mut reader.seat);
+        (Note { seat: one }, Note { seat: other })
     }
 }

@@ -26,6 +26,8 @@ pub fn show_notes<R: AllocGlobal + Print>(
     directory.hear_clerk(clerk, asked);
     let admitted = directory.admit(clerk, 7);
     let told = directory.note_clerk(clerk);
+    // One is for this reader, and one for another thread's.
+    let (told, _other) = directory.split_note(reader, told);
     directory.hear(reader, told);
     let found = directory.look_up(reader, 7);
     println!(rt; "claimed for {id:?}, admitted to {admitted:?}, and found in {found:?}")?;

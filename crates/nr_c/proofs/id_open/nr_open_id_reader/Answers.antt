@@ -52,7 +52,7 @@ returns-in-Ok c =
         c.pop.new.self.items,
         c.in-Some.next,
         record { old = side; new = _; was = was; is = refl; map = refl; writer = refl; ledger = refl; had_spare = c.in-Some.ensures.items; has_spare = refl },
-        record { held = side; side = c.in-Ok.made.value; was = was; is = c.lead_to.ensures; map = shared; reader_is = reader },
+        record { held = side; side = c.in-Ok.made.value; was = was; is = c.lead_to.ensures; map = shared; holds_none = reader },
       )),
     ))
 

@@ -10,15 +10,28 @@ returns-then-id-eq0 c = let (side, is) = c.if-not-is_live.ensures.live in inr (i
   ap (λ handle. handle.live) c.is_live.ensures.same,
 ))
 
+pub returns-then-holds : goal.returns-then-holds
+returns-then-holds c = inr (inr (
+  omega (arith, c.if-id-eq0.false),
+  inl (record {
+    code_is = refl;
+    stay = refl;
+    held = c.side-side.result.now;
+    was = ap (λ handle. handle.live) (sym c.is_live.ensures.same) ∙ c.side-side.ensures.value;
+    is = refl;
+    hand = c.if-holds.ensures.some;
+  }),
+))
+
 pub returns : goal.returns
 returns c = inr (inr (
   omega (arith, c.if-id-eq0.false),
-  record {
+  inr (record {
     old = c.side-side.result.now;
     new = _;
     was = ap (λ handle. handle.live) (sym c.is_live.ensures.same) ∙ c.side-side.ensures.value;
     is = refl;
     map = refl;
-    made = (c.find.result, c.of_found_id.ensures, c.find.ensures.finds);
-  },
+    made = record { was_idle = c.if-holds.ensures.none; is_idle = c.find.ensures.idle; became_so = (c.find.result, c.of_found_id.ensures, c.find.ensures.finds) };
+  }),
 ))

@@ -1,6 +1,7 @@
 use Rattle.std.proofs.Common.{◌<◌, [], arith, get_or, length, subst, sym}
 use Rattle.std.proofs.lemmas.List.{get_or_default}
 use Rattle.nr_c.specs.declared.many.NrWanted.{NrWanted}
+use Rattle.nr_c.specs.Many.{FindsAtByCode}
 use Rattle.nr_c.proofs.FindsMade.{all_made, as_wanted}
 use Rattle.nr_c.proofs.many.find_all.Goals as goal
 
@@ -10,9 +11,9 @@ blank = record { key = 0; answer = 0; rows = record { count = 0; row = [] } }
 pub find_one-requires-clause-key : goal.find_one-requires-clause-key
 find_one-requires-clause-key c = let place = c.loop-place.place in let keys = c.loop-place.wanted in let had = c.loop-place.invariant.made in let one = get_or keys place blank in
     let low : place < length keys = omega (arith, c.loop-place-test.true, had.long) in
-    let was = as_wanted c.args.hand.now.reader c.args.wanted.now place c.loop-place.hand.reader keys had one low (get_or_default keys place blank one low) in
+    let was = as_wanted FindsAtByCode c.args.hand.now.reader c.args.wanted.now place c.loop-place.hand.reader keys had one low (get_or_default keys place blank one low) in
     subst (λ (w : NrWanted). w.key < c.args.map.now.shape.keys) (sym was) (c.requires.keys place one (omega (arith, low, had.long)))
 
 pub returns-clause-finds : goal.returns-clause-finds
 returns-clause-finds c = let had = c.loop-place.invariant.made in
-    all_made c.args.hand.now.reader c.args.wanted.now c.loop-place.place c.loop-place.hand.reader c.loop-place.wanted had (omega (arith, had.long, c.loop-place-test.false))
+    all_made FindsAtByCode c.args.hand.now.reader c.args.wanted.now c.loop-place.place c.loop-place.hand.reader c.loop-place.wanted had (omega (arith, had.long, c.loop-place-test.false))

@@ -1,0 +1,40 @@
+use Rattle.std.proofs.Common.{ap, inl, inr, refl, sym, ◌∙◌}
+use Rattle.nr_c.proofs.id_many.nr_find_each_id.Goals as goal
+
+pub returns-then-not-are_ids : goal.returns-then-not-are_ids
+returns-then-not-are_ids c = let (side, is) = c.if-not-is_live.ensures.live in inr (inl (
+  refl,
+  λ are. absurd (cc (c.are_ids.ensures.1 are, c.if-not-are_ids.true)),
+  refl,
+  (side, ap (λ handle. handle.live) (sym c.is_live.ensures.same) ∙ is),
+  ap (λ handle. handle.live) c.is_live.ensures.same,
+))
+
+pub returns-then-holds : goal.returns-then-holds
+returns-then-holds c = inr (inr (
+  c.are_ids.ensures.0 c.if-not-are_ids.false,
+  inl (record {
+    code_is = refl;
+    stay = refl;
+    held = c.side-side.result.now;
+    was = ap (λ handle. handle.live) (sym c.is_live.ensures.same) ∙ c.side-side.ensures.value;
+    is = refl;
+    hand = c.if-holds.ensures.some;
+  }),
+))
+
+pub returns : goal.returns
+returns c = inr (inr (
+  c.are_ids.ensures.0 c.if-not-are_ids.false,
+  inr (
+    refl,
+    record {
+      old = c.side-side.result.now;
+      new = _;
+      was = ap (λ handle. handle.live) (sym c.is_live.ensures.same) ∙ c.side-side.ensures.value;
+      is = refl;
+      map = refl;
+      made = record { was_idle = c.if-holds.ensures.none; is_idle = c.find_all_ids.ensures.idle; became_so = c.find_all_ids.ensures.finds };
+    },
+  ),
+))

@@ -1,0 +1,22 @@
+use Rattle.std.proofs.Common.{ap, inl, inr, refl, sym, ◌∙◌}
+use Rattle.nr_c.proofs.id_pins.nr_copy_id.Goals as goal
+
+pub returns-then-not-holds : goal.returns-then-not-holds
+returns-then-not-holds c = inr (inl (record {
+  code_is = refl;
+  stay = refl;
+  held = c.side-side.result.now;
+  was = ap (λ handle. handle.live) (sym c.is_live.ensures.same) ∙ c.side-side.ensures.value;
+  is = refl;
+  hand = c.if-not-holds.ensures.none;
+}))
+
+pub returns : goal.returns
+returns c = inr (inr (record {
+  old = c.side-side.result.now;
+  new = _;
+  was = ap (λ handle. handle.live) (sym c.is_live.ensures.same) ∙ c.side-side.ensures.value;
+  is = refl;
+  map = refl;
+  made = (refl, refl, c.copy_to.ensures);
+}))

@@ -1,0 +1,44 @@
+-- A reader by id that holds a set, as C calls it.
+use Rattle.std.specs.Prelude.{ℕ, ◌≡◌, ◌≤◌, ◌⊎◌, Bool, if◌then◌else◌, List, length, slice_get, Some}
+use Rattle.nr_model.specs.declared.rows.Row.{Row}
+use Rattle.nr_idmap.specs.declared.finds.FoundId.{FoundId}
+use Rattle.nr_idmap.specs.declared.finds.FoundId.TheVariants as found
+use Rattle.nr_idmap.specs.IdHands.{AgainById, FindsIdKept, IdHanded, LetsGoById, PinsById, rows_in_hand}
+use Rattle.nr_c.specs.declared.rows.NrRows.{NrRows}
+use Rattle.nr_c.specs.Hands.{HoldsAnId, HoldsNoId}
+use Rattle.nr_c.specs.IdCodes.{found_id_code}
+use Rattle.nr_c.specs.Numbers.{answer_done, answer_no_row, answer_other, answer_rows}
+use Rattle.nr_c.specs.RowCells.{ShowsSet}
+
+-- how many rows a pin tells: those that are held then, and else what stood there
+abbrev pub count_told : ℕ → FoundId → List Row → ℕ
+count_told told found.Rows rows = length rows
+count_told told found.Pending rows = told
+count_told told found.Moved rows = told
+count_told told found.Absent rows = told
+
+-- a pin by its code, of a reader that holds nothing
+abbrev pub PinsIdByCode : ℕ → ℕ → ℕ → ℕ → IdHanded → IdHanded → Type 0
+PinsIdByCode id told tells code old new = (found : FoundId) × (code ≡ found_id_code found) × HoldsNoId old × PinsById id old new found × (tells ≡ count_told told found (rows_in_hand new))
+
+-- a find that keeps its hold, by its code
+abbrev pub KeepsIdByCode : ℕ → NrRows → NrRows → ℕ → IdHanded → IdHanded → Type 0
+KeepsIdByCode id before after code old new = (found : FoundId) × (code ≡ found_id_code found) × FindsIdKept ShowsSet id old before new after found
+
+-- a row of the held set by its code; nothing else is told, and the reader stays
+abbrev pub ReadsIdRow : ℕ → Row → Row → ℕ → IdHanded → IdHanded → Type 0
+ReadsIdRow place stood stands code old new =
+    (new ≡ old)
+    × (((code ≡ answer_rows) × (slice_get (rows_in_hand old) place ≡ Some stands)) ⊎ ((code ≡ answer_no_row) × (length (rows_in_hand old) ≤ place) × (stands ≡ stood)))
+
+-- all of them
+abbrev pub CopiesIdSet : NrRows → ℕ → IdHanded → IdHanded → Type 0
+CopiesIdSet rows code old new = (new ≡ old) × (code ≡ answer_rows) × ShowsSet rows (rows_in_hand old)
+
+-- a find again by its code; it holds the same set
+abbrev pub FindsIdByHold : ℕ → ℕ → IdHanded → IdHanded → Type 0
+FindsIdByHold id code old new = (found : Bool) × (code ≡ (if found then answer_rows else answer_other)) × HoldsAnId old × AgainById id old new found
+
+-- the hold ends
+abbrev pub ReleasesId : ℕ → IdHanded → IdHanded → Type 0
+ReleasesId code old new = (code ≡ answer_done) × HoldsAnId old × LetsGoById old new

@@ -1,0 +1,139 @@
+//! A reader by id that holds a set.
+ghost use Rattle.std.specs.Prelude.{◌≡◌, ⊤};
+ghost use Rattle.nr_c.specs.IdLive.{ByIdleIdReader, IdHandTurns, WhenHoldingById, WithId};
+ghost use Rattle.nr_c.specs.IdPins.{CopiesIdSet, FindsIdByHold, KeepsIdByCode, PinsIdByCode, ReadsIdRow, ReleasesId};
+ghost use Rattle.nr_c.specs.Live.{WhenLive};
+
+use crate::codes::{
+    NR_ASKED, NR_CLOSED, NR_DONE, NR_HOLDING, NR_HOLE, NR_NO_KEY, NR_NO_ROW, NR_NOT_HOLDING,
+    NR_OTHER, NR_ROWS,
+};
+use crate::id_codes::of_found_id;
+use crate::id_reader_handle::NrIdReader;
+use crate::rows::NrRows;
+use nr_idmap::FoundId;
+use nr_model::Row;
+
+/// Finds an id, and holds its set, which stays as it is until the reader is released, whatever is filled,
+/// updated or evicted meanwhile. Takes the steps of a hand's `pin`. Answers `NR_ROWS`, and then `count` is
+/// the number of its rows; or as `nr_find_id`, and then the reader holds nothing and `count` stays.
+/// `NR_NO_KEY` for the id 0, or `NR_HOLDING` where it holds a set, with no step.
+#[unsafe(no_mangle)]
+pub extern "C" fn nr_pin_id(reader: &mut NrIdReader, id: u64, count: &mut u32) -> u32
+    ensures { ByIdleIdReader id result (count.new ≡ count.old) (IdHandTurns (PinsIdByCode id count.old count.new result)) reader.old.live reader.new.live }
+{
+    if !reader.is_live() {
+        return NR_CLOSED;
+    }
+    if id == 0 {
+        return NR_NO_KEY;
+    }
+    let side = reader.side();
+    if side.holds() {
+        return NR_HOLDING;
+    }
+    match side.hand.pin(&side.map, id) {
+        FoundId::Rows => {
+            *count = side.hand.rows().len() as u32;
+            NR_ROWS
+        }
+        FoundId::Pending => NR_ASKED,
+        FoundId::Moved => NR_OTHER,
+        FoundId::Absent => NR_HOLE,
+    }
+}
+
+/// Looks an id up and holds its set for the next call. Where the id's way still has the set of it that
+/// the reader holds, it takes 1 step, which writes no word, and 1 or 2 at the way's mark. Else it finds
+/// and holds anew, in the steps of a hand's `find_kept`. Answers as `nr_find_id`; where that isn't
+/// `NR_ROWS`, nothing is held and the caller's cells stay.
+#[unsafe(no_mangle)]
+pub extern "C" fn nr_find_kept_id(reader: &mut NrIdReader, id: u64, rows: &mut NrRows) -> u32
+    ensures { WhenLive result (rows.new ≡ rows.old) (WithId id result (rows.new ≡ rows.old) (IdHandTurns (KeepsIdByCode id rows.old rows.new result))) reader.old.live reader.new.live }
+{
+    if !reader.is_live() {
+        return NR_CLOSED;
+    }
+    if id == 0 {
+        return NR_NO_KEY;
+    }
+    let side = reader.side();
+    of_found_id(side.hand.find_kept(&side.map, id, rows))
+}
+
+/// A row of the held set, from 0: `NR_ROWS`. `NR_NO_ROW` where it has no such row, and `row` stays.
+/// `NR_NOT_HOLDING` where nothing is held. No step.
+#[unsafe(no_mangle)]
+pub extern "C" fn nr_row_at_id(reader: &mut NrIdReader, place: u32, row: &mut Row) -> u32
+    ensures { WhenLive result (row.new ≡ row.old) (WhenHoldingById result (row.new ≡ row.old) (IdHandTurns (ReadsIdRow place row.old row.new result))) reader.old.live reader.new.live }
+{
+    if !reader.is_live() {
+        return NR_CLOSED;
+    }
+    let side = reader.side();
+    if !side.holds() {
+        return NR_NOT_HOLDING;
+    }
+    let held = side.hand.rows();
+    if place as usize >= held.len() {
+        return NR_NO_ROW;
+    }
+    *row = held[place as usize];
+    NR_ROWS
+}
+
+/// Writes the rows of the held set over those of the caller's: `NR_ROWS`; or `NR_NOT_HOLDING`, and they
+/// stay. No step.
+#[unsafe(no_mangle)]
+pub extern "C" fn nr_copy_id(reader: &mut NrIdReader, rows: &mut NrRows) -> u32
+    ensures { WhenLive result (rows.new ≡ rows.old) (WhenHoldingById result (rows.new ≡ rows.old) (IdHandTurns (CopiesIdSet rows.new result))) reader.old.live reader.new.live }
+{
+    if !reader.is_live() {
+        return NR_CLOSED;
+    }
+    let side = reader.side();
+    if !side.holds() {
+        return NR_NOT_HOLDING;
+    }
+    side.hand.copy_to(rows);
+    NR_ROWS
+}
+
+/// Finds an id again, in 1 step, which loads one word and writes none: `NR_ROWS` where its way still has
+/// the set that the reader holds, put by the same fill or update, and then this is a find of the id.
+/// `NR_OTHER` where it hasn't, or, with no step, where the held set is another id's; the reader holds the
+/// same set in each case. `NR_NO_KEY` for the id 0, or `NR_NOT_HOLDING` where nothing is held, with no
+/// step.
+#[unsafe(no_mangle)]
+pub extern "C" fn nr_again_id(reader: &mut NrIdReader, id: u64) -> u32
+    ensures { WhenLive result ⊤ (WithId id result ⊤ (WhenHoldingById result ⊤ (IdHandTurns (FindsIdByHold id result)))) reader.old.live reader.new.live }
+{
+    if !reader.is_live() {
+        return NR_CLOSED;
+    }
+    if id == 0 {
+        return NR_NO_KEY;
+    }
+    let side = reader.side();
+    if !side.holds() {
+        return NR_NOT_HOLDING;
+    }
+    let found = side.hand.again(&side.map, id);
+    if found { NR_ROWS } else { NR_OTHER }
+}
+
+/// Ends the hold, in 1 step: `NR_DONE`; or `NR_NOT_HOLDING` with no step.
+#[unsafe(no_mangle)]
+pub extern "C" fn nr_release_id(reader: &mut NrIdReader) -> u32
+    ensures { WhenLive result ⊤ (WhenHoldingById result ⊤ (IdHandTurns (ReleasesId result))) reader.old.live reader.new.live }
+{
+    if !reader.is_live() {
+        return NR_CLOSED;
+    }
+    let side = reader.side();
+    if !side.holds() {
+        return NR_NOT_HOLDING;
+    }
+    side.hand.release(&side.map);
+    NR_DONE
+}
