@@ -1,6 +1,11 @@
-/* The functions of nr.h, which answer NULL in place of a handle. What they call is proved, and takes no pointer that
-   is NULL. embed/compile gives it the names that begin with proved_, and compiles it into these functions. */
+/* The functions of nr.h, which answer NULL in place of a handle, and handles of two maps or queues. What they call is
+   proved; it takes no pointer that is NULL, and no such handles. embed/compile gives it the names that begin with
+   proved_, and compiles it into these functions. What a handle leads to begins with the place of its map or queue. */
 #include "../include/nr.h"
+
+static bool are_strangers(void *const *one, void *const *other) {
+  return one && other && *one != *other;
+}
 
 uint32_t proved_nr_version(void);
 uint32_t nr_version(void) {
@@ -24,7 +29,8 @@ uint32_t nr_open_reader(nr_writer *writer, nr_reader *reader) {
 
 uint32_t proved_nr_return_reader(nr_writer *writer, nr_reader *reader);
 uint32_t nr_return_reader(nr_writer *writer, nr_reader *reader) {
-  return writer && reader ? proved_nr_return_reader(writer, reader) : NR_CLOSED;
+  if (!(writer && reader)) return NR_CLOSED;
+  return are_strangers(writer->at, reader->at) ? NR_STRANGER : proved_nr_return_reader(writer, reader);
 }
 
 void proved_nr_close_reader(nr_reader *reader);
@@ -181,7 +187,8 @@ uint32_t nr_open_poster(nr_taker *taker, nr_poster *poster) {
 
 uint32_t proved_nr_return_poster(nr_taker *taker, nr_poster *poster);
 uint32_t nr_return_poster(nr_taker *taker, nr_poster *poster) {
-  return taker && poster ? proved_nr_return_poster(taker, poster) : NR_CLOSED;
+  if (!(taker && poster)) return NR_CLOSED;
+  return are_strangers(taker->at, poster->at) ? NR_STRANGER : proved_nr_return_poster(taker, poster);
 }
 
 void proved_nr_close_poster(nr_poster *poster);

@@ -70,6 +70,7 @@ extern "C" {
 #define NR_READERS_OUT 36u /* some reader was not returned */
 #define NR_NAMED 37u     /* the id has a way: rows, or an upquery under way */
 #define NR_BAD_ROW 38u   /* a row of an id has an `a` of 0 */
+#define NR_STRANGER 39u  /* the handles are of two maps, or of two queues */
 
 /* An answer as text. */
 static inline const char *nr_strerror(uint32_t answer) {
@@ -113,6 +114,7 @@ static inline const char *nr_strerror(uint32_t answer) {
   case NR_READERS_OUT: return "some reader was not returned";
   case NR_NAMED: return "the id has a way";
   case NR_BAD_ROW: return "a row's first number is 0";
+  case NR_STRANGER: return "the handles are of two maps or queues";
   default: return "no answer of this library";
   }
 }
@@ -305,8 +307,8 @@ uint32_t nr_open(const nr_shape *shape, nr_writer *writer);
 uint32_t nr_open_reader(nr_writer *writer, nr_reader *reader);
 
 /* Ends a reader's handle, releases what the reader holds, and returns the reader, so that nr_open_reader can open it
-   again: for threads that come and go. NR_DONE, and the handle is zeros; or NR_NO_MEMORY, and nothing has changed.
-   Owed: both handles are of one map. */
+   again: for threads that come and go. NR_DONE, and the handle is zeros; or NR_STRANGER for a reader of another map, or
+   NR_NO_MEMORY, and nothing has changed. */
 uint32_t nr_return_reader(nr_writer *writer, nr_reader *reader);
 
 /* End a handle, which is then zeros; if it isn't live, they do nothing. The last handle frees the map's memory.
@@ -457,8 +459,8 @@ uint32_t nr_open_queue(uint32_t keys, uint32_t capacity, uint32_t posters, nr_ta
 uint32_t nr_open_poster(nr_taker *taker, nr_poster *poster);
 
 /* Ends a poster's handle and returns the poster, so that nr_open_poster can open it again: for threads that come and
-   go. NR_DONE, and the handle is zeros; or NR_NO_MEMORY, and nothing has changed. Owed: both handles are of one
-   queue. */
+   go. NR_DONE, and the handle is zeros; or NR_STRANGER for a poster of another queue, or NR_NO_MEMORY, and nothing has
+   changed. */
 uint32_t nr_return_poster(nr_taker *taker, nr_poster *poster);
 
 /* End a handle, which is then zeros; if it isn't live, they do nothing. The last handle frees the queue's memory, with
@@ -499,9 +501,9 @@ uint32_t nr_open_ids(const nr_id_shape *shape, nr_id_writer *writer);
    it was. */
 uint32_t nr_open_id_reader(nr_id_writer *writer, nr_id_reader *reader);
 
-/* End a handle, which is then zeros; if it isn't live, they do nothing. A reader lets go what it holds. No handle gets a
-   closed reader again, so a thread that ends passes its reader on. Closing the writer ends all open upqueries; the last
-   handle frees the memory. */
+/* End a handle, which is then zeros; if it isn't live, they do nothing. A reader lets go what it holds. No handle
+   gets a closed reader again, so a thread that ends passes its reader on. Closing the writer ends all open
+   upqueries; the last handle frees the memory. */
 void nr_close_id_reader(nr_id_reader *reader);
 void nr_close_id_writer(nr_id_writer *writer);
 
@@ -523,21 +525,21 @@ uint32_t nr_find_each_id(nr_id_reader *reader, nr_wanted_id *wanted, size_t n);
    rows. Else as nr_find_id, and the reader holds nothing and `count` stays as it was. */
 uint32_t nr_pin_id(nr_id_reader *reader, uint64_t id, uint32_t *count);
 
-/* The row at index `place` of the held set, from 0: NR_ROWS. NR_NO_ROW if the set has no such row, and `row` stays as it
-   was. No step. */
+/* The row at index `place` of the held set, from 0: NR_ROWS. NR_NO_ROW if the set has no such row, and `row` stays
+   as it was. No step. */
 uint32_t nr_row_at_id(nr_id_reader *reader, uint32_t place, nr_row *row);
 
 /* Copies the rows of the held set into `rows`: NR_ROWS. No step. */
 uint32_t nr_copy_id(nr_id_reader *reader, nr_rows *rows);
 
-/* Finds an id again, as nr_again, in 1 step, which loads one word and writes none: NR_ROWS or NR_OTHER. NR_OTHER without
-   a step, if the held set is another id's. */
+/* Finds an id again, as nr_again, in 1 step, which loads one word and writes none: NR_ROWS or NR_OTHER. NR_OTHER
+   without a step, if the held set is another id's. */
 uint32_t nr_again_id(nr_id_reader *reader, uint64_t id);
 
-/* As nr_find_id, but the reader holds the set for the next call. If the reader holds the id's set, and its way still has
-   that, NR_ROWS after 1 step, and 1 or 2 at the way's mark. Otherwise it finds the id as nr_find_id does: NR_ROWS after
-   the steps of that but 1, and at most 3 more if it held a set. Any answer but NR_ROWS leaves `rows` as it was, and the
-   reader holds nothing. */
+/* As nr_find_id, but the reader holds the set for the next call. If the reader holds the id's set, and its way still
+   has that, NR_ROWS after 1 step, and 1 or 2 at the way's mark. Otherwise it finds the id as nr_find_id does:
+   NR_ROWS after the steps of that but 1, and at most 3 more if it held a set. Any answer but NR_ROWS leaves `rows`
+   as it was, and the reader holds nothing. */
 uint32_t nr_find_kept_id(nr_id_reader *reader, uint64_t id, nr_rows *rows);
 
 /* Ends the hold, in 1 step: NR_DONE. */
@@ -591,9 +593,9 @@ uint32_t nr_evict_id(nr_id_writer *writer, uint64_t id);
    nr_again_id: NR_DONE after W + 2 steps, and NR_NOTHING after W + 1, or 8 if the id has no way. */
 uint32_t nr_uses_id(nr_id_writer *writer, uint64_t id);
 
-/* An id of the same group, by second chance: NR_DONE after 3 steps, and `chosen` is the first from the last choice on that
-   wasn't found since. NR_NOTHING if the chosen way is nobody's, and `chosen` stays as it was. Where the chosen id's
-   upquery is open nr_evict_id answers NR_NOTHING; then choose again. */
+/* An id of the same group, by second chance: NR_DONE after 3 steps, and `chosen` is the first from the last choice
+   on that wasn't found since. NR_NOTHING if the chosen way is nobody's, and `chosen` stays as it was. Where the
+   chosen id's upquery is open nr_evict_id answers NR_NOTHING; then choose again. */
 uint32_t nr_choose_id(nr_id_writer *writer, uint64_t id, uint64_t *chosen);
 
 #ifdef __cplusplus

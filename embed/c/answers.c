@@ -362,6 +362,36 @@ static void test_other_closed(nr_writer *writer, nr_reader *reader) {
   WANTS(NR_NOT_HOLDING, nr_release(reader));
 }
 
+/* Handles of another map and of another queue, which stay as they were. */
+static void test_strangers(nr_writer *writer, nr_reader *reader, nr_taker *taker, nr_poster *poster) {
+  const nr_shape shape = {1, 1, 1, 1, 0, 0};
+  nr_writer another = {0};
+  nr_reader stranger = {0};
+  nr_taker no_taker = {0}, other = {0};
+  nr_poster no_poster = {0}, unknown = {0};
+  uint32_t key = 77;
+  uint64_t number = 88;
+  WANTS(NR_DONE, nr_open(&shape, &another));
+  WANTS(NR_DONE, nr_open_reader(&another, &stranger));
+  WANTS(NR_STRANGER, nr_return_reader(writer, &stranger));
+  WANTS(NR_STRANGER, nr_return_reader(&another, reader));
+  WANTS(NR_SEND, nr_ask(&stranger, 0, &number));
+  WANTS(NR_NOT_HOLDING, nr_release(reader));
+  WANTS(NR_DONE, nr_return_reader(&another, &stranger));
+  WANTS(NR_DONE, nr_open_queue(1, 1, 1, &other));
+  WANTS(NR_DONE, nr_open_poster(&other, &unknown));
+  WANTS(NR_STRANGER, nr_return_poster(taker, &unknown));
+  WANTS(NR_STRANGER, nr_return_poster(&other, poster));
+  WANTS(NR_CLOSED, nr_return_poster(&no_taker, poster));
+  WANTS(NR_CLOSED, nr_return_poster(taker, &no_poster));
+  WANTS(NR_DONE, nr_post(&unknown, 0, 5));
+  WANTS(NR_DONE, nr_take(&other, &key, &number));
+  wants("the number that was posted", 5, (uint32_t)number);
+  WANTS(NR_DONE, nr_return_poster(&other, &unknown));
+  nr_close_writer(&another);
+  nr_close_taker(&other);
+}
+
 /* A reader that is returned while it holds a set is opened again, and holds nothing. */
 static void test_return(nr_writer *writer, nr_reader *reader) {
   uint32_t count = 0;
@@ -406,6 +436,7 @@ int main(void) {
   test_return(&worn, &other);
   test_reclaiming(&giving, &holder, &remains);
   test_queue(&taker, &poster);
+  test_strangers(&writer, &reader, &taker, &poster);
   nr_close_reader(&reader);
   nr_close_reader(&other);
   nr_close_writer(&writer);

@@ -58,8 +58,8 @@ fn opened(alloc: Global, shape: &NrShape) -> Result<Box<WriterSide, Global>, Ope
     let map = Arc::new(alloc, map).map_err(|_| OpenFault::Memory)?;
     let room = Box::new(alloc, RemainsSide::empty()).map_err(|_| OpenFault::Memory)?;
     let side = WriterSide {
-        apart: [0; APART],
         map,
+        apart: [0; APART],
         writer,
         spare,
         room,

@@ -5,8 +5,10 @@ use nr_trigger::{Poster, Triggers};
 use std::alloc::Global;
 use std::sync::Arc;
 
-/// A poster with its share of the queue, whose keys are below that number.
+/// A poster with its share of the queue, with which it begins as the taker's side does, and whose keys
+/// are below that number.
 #[derive(Drop)]
+#[repr(C)]
 pub struct PosterSide {
     pub queue: Arc<Triggers, Global>,
     pub poster: Poster,

@@ -11,7 +11,9 @@ use std::sync::Arc;
 /// How many words keep two readers' sides on different lines of the processors' caches.
 pub const APART: usize = 28;
 
-/// A reader, whether or not it holds a set, with its share of the map.
+/// A reader, whether or not it holds a set, with its share of the map, with which it begins as the
+/// writer's side does.
+#[repr(C)]
 pub struct ReaderSide {
     pub map: Arc<ReaderMap, Global>,
     pub hand: Hand,

@@ -33,8 +33,8 @@ pub extern "C" fn nr_take_apart(
         return NR_READERS_OUT;
     }
     let WriterSide {
-        apart: _,
         map,
+        apart: _,
         writer,
         spare,
         mut room,

@@ -9,11 +9,13 @@ use std::alloc::Global;
 use std::sync::Arc;
 
 /// The writer with its share of the map, and the readers that no handle has yet.
+/// It begins with the map, by whose place null.c tells two maps apart.
 #[derive(Drop)]
+#[repr(C)]
 pub struct WriterSide {
+    pub map: Arc<ReaderMap, Global>,
     /// Keeps what the writer's calls write apart from the map, which lies before it and which readers load.
     pub apart: [u64; APART],
-    pub map: Arc<ReaderMap, Global>,
     pub writer: Writer,
     pub spare: Vec<Reader, Global>,
     /// Where what remains will lie, once the map is taken apart.
