@@ -1,14 +1,20 @@
-"""What bench/libraries printed, for the scripts that show it."""
+"""What the scripts of this folder print at first, and what bench/libraries printed, for those that show it."""
+import os
+import re
+from datetime import date
 
-# Beside what one could take: the limits, and the algorithm's steps without proof.
-OURS = {
-    "the limit",
-    "the limit, 16 at once",
-    "counted in C",
-    "counted in C, 16 at once",
-    "announcing in C",
-    "announcing in C, 16 at once",
-}
+
+def begun():
+    """A run's first line: its day and the machine."""
+    with open("/proc/cpuinfo") as file:
+        model = re.search(r"^model name\s*: (.*)$", file.read(), re.M)
+    processor = re.sub(r"\((R|TM)\)| Processor| CPU", "", model.group(1) if model else "unknown processor")
+    return f"Run of {date.today()}, {processor}, {os.cpu_count()} processors"
+
+
+def head(run):
+    """The day and the machine of a run."""
+    return re.search(r"^Run of (.*)$", run, re.M).group(1)
 
 
 def number(text):
@@ -25,10 +31,6 @@ def cells_of(run):
             key = (what, int(rows), kind, int(keys), drawn, int(threads), number(writer))
             cells.setdefault(key, {})[name] = tuple(float(it) for it in values)
     return cells
-
-
-def left_out(run):
-    return list(dict.fromkeys(line.split("\t", 1)[1] for line in run.splitlines() if line.startswith("left out\t")))
 
 
 def spread(cells):

@@ -7,7 +7,6 @@
 #include <math.h>
 #include <pthread.h>
 #include <sched.h>
-#include <stdatomic.h>
 #include <time.h>
 #include <unistd.h>
 #include <x86intrin.h>
@@ -17,8 +16,7 @@ enum { DRAWN = 1 << 20, MOST_ROUNDS = 99, MOST_CPUS = 64, SAMPLES = 1 << 18 };
 static int cpus[MOST_CPUS] = {0, 1, 2, 3}, cpu_count = 4;
 static uint64_t seed = 88172645463325252u;
 static double ticks_of_ns, until, burst_ns = 8e6;
-static atomic_int ready, last;
-static atomic_bool go;
+static pthread_barrier_t gate;
 /* Before all other threads, where the system lets it. */
 static bool first_come;
 
@@ -84,20 +82,20 @@ static inline uint64_t ticks(void) {
   return is;
 }
 
-static void expect(int threads) {
-  atomic_store(&ready, 0), atomic_store(&go, false), atomic_store(&last, threads - 1);
+/* A burst of so many threads. */
+static void expect(int threads) { pthread_barrier_init(&gate, NULL, (unsigned)threads); }
+
+/* Where that is asked for, this thread and those that it makes go before all other threads. */
+static void go_first(void) {
+  struct sched_param first = {.sched_priority = 1};
+  if (first_come && pthread_setschedparam(pthread_self(), SCHED_FIFO, &first)) stop_for("fifo isn't allowed");
 }
 
-/* On its own processor, and where that is asked for before all other threads; once all are ready the burst begins. */
+/* On its own processor. The burst begins once all are ready; who waits for that sleeps, so that none keeps another out. */
 static double begun(int place) {
-  struct sched_param first = {.sched_priority = 1};
   pin(place);
-  if (first_come && pthread_setschedparam(pthread_self(), SCHED_FIFO, &first)) stop_for("fifo isn't allowed");
-  if (atomic_fetch_add(&ready, 1) == atomic_load(&last)) {
-    until = now() + burst_ns;
-    atomic_store(&go, true);
-  }
-  while (!atomic_load(&go)) _mm_pause();
+  if (pthread_barrier_wait(&gate) == PTHREAD_BARRIER_SERIAL_THREAD) until = now() + burst_ns;
+  pthread_barrier_wait(&gate);
   return now();
 }
 

@@ -1,5 +1,5 @@
-/* What caches.c measures: a cache of some of the keys' values. A reader's get of a key that isn't there has it asked for
-   once, whoever asks, and waits; one thread loads what was asked for, and evicts what has been there longest. */
+/* What caches.c measures: a cache of some of the keys' values, of which a missing one is loaded once, whoever wants it.
+   Either one thread loads what readers asked for and they look again, or who misses a key loads it, and others wait. */
 #ifndef CACHE_H
 #define CACHE_H
 
@@ -17,12 +17,19 @@ typedef struct {
   void (*begin)(void *cache, void *reader);
   void (*end)(void *cache, void *reader);
   /* The words of a key's value in a room of the reader's. NULL where it isn't there: it was asked for, by this call or
-     before, and the reader looks again. */
+     before, and the reader looks again. Where no thread loads, it loads the value itself, by `load_value`. */
   const uint64_t *(*find)(void *cache, void *reader, uint64_t key);
-  /* What the loading thread does next: takes a key that was asked for; and puts the value that it has got for it. */
+  /* What the loading thread does next: takes a key that was asked for; and puts the value that it has got for it. Neither
+     where readers load. */
   bool (*take)(void *cache, uint64_t *key);
   void (*put)(void *cache, uint64_t key);
 } cache;
+
+/* The value that a reader loads. It takes as long as a load does here, and is counted. */
+#ifdef __cplusplus
+extern "C"
+#endif
+void load_value(uint64_t key, value *to);
 
 /* The keys that are there, in the order in which they came. */
 typedef struct {

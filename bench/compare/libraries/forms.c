@@ -245,9 +245,9 @@ static void update(void *of, uint64_t key, uint64_t version) {
 }
 
 #if ANNOUNCES
-const contestant announcing = {.name = "announcing in C", .open = opened, .reader = new_reader, .begin = no_thread,
+const contestant announcing = {.name = "the same steps in C", .open = opened, .reader = new_reader, .begin = no_thread,
   .end = no_thread, .find = find, .update = update};
-const contestant announcing_each = {.name = "announcing in C, 16 at once", .map_of = &announcing, .open = opened,
+const contestant announcing_each = {.name = "the same steps in C, 16 at once", .map_of = &announcing, .open = opened,
   .reader = new_reader, .begin = no_thread, .end = no_thread, .find = find, .find_each = find_each, .update = update};
 #else
 const contestant counted = {.name = "counted in C", .open = opened, .reader = new_reader, .begin = no_thread,

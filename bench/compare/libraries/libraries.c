@@ -187,7 +187,6 @@ static bool is_told(measure what, int threads) {
 }
 
 static void measure_all(draw how, int threads, int rounds) {
-  draw_keys(how);
   for (int r = 0; r < rounds; r++) {
     int place[MOST];
     in_chance_order(place, count);
@@ -293,6 +292,9 @@ int main(int words, char **word) {
   time_ticks();
   for (int t = 0; t < MOST_READERS; t++) sample[t] = malloc(SAMPLES * sizeof(uint32_t));
   open_all(name);
+  for (draw d = 0; d < DRAWS; d++)
+    if (is_drawn[d]) draw_keys(d);
+  go_first();
   for (draw how = 0; how < DRAWS; how++)
     for (int t = 0; t < threads && is_drawn[how]; t++) measure_all(how, thread[t], rounds);
   return 0;

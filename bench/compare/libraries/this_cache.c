@@ -23,10 +23,8 @@ typedef struct {
 
 static void *opened(const cache_plan *p) {
   map *m = zeros(sizeof *m);
-  uint32_t keys = (uint32_t)p->keys, readers = 4 * MOST_READERS, slots = (uint32_t)p->resident + readers + SPARE;
-  /* Larger maps have at least a slot a key. */
-  if (keys > 65536 && slots < keys) slots = keys;
-  nr_shape shape = {keys, slots, readers, ROWS, 0, 0};
+  uint32_t keys = (uint32_t)p->keys, readers = 4 * MOST_READERS;
+  nr_shape shape = {keys, (uint32_t)p->resident + readers + SPARE, readers, ROWS, 0, 0};
   if (nr_open(&shape, &m->writer) != NR_DONE) stop_for("no map");
   if (nr_open_queue(keys, keys, readers, &m->taker) != NR_DONE) stop_for("no queue");
   open_queue(&m->there, p->resident);

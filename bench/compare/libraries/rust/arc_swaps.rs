@@ -1,6 +1,7 @@
 //! For each key a pointer to a counted value, which the writer swaps.
 
-use crate::{Contestant, NUMBERS, Plan, Value, new_reader, no_thread};
+use crate::Value;
+use crate::contestant::{Contestant, NUMBERS, Plan, new_reader, no_thread};
 use arc_swap::ArcSwap;
 use std::ffi::c_void;
 use std::ptr;
@@ -9,7 +10,10 @@ use std::sync::Arc;
 type Map = Vec<ArcSwap<Value>>;
 
 unsafe extern "C" fn open(plan: &Plan) -> *mut c_void {
-    let map: Map = plan.all().map(|key| ArcSwap::from_pointee(Value::of(key, 0))).collect();
+    let map: Map = plan
+        .all()
+        .map(|key| ArcSwap::from_pointee(Value::of(key, 0)))
+        .collect();
     Box::into_raw(Box::new(map)).cast()
 }
 

@@ -1,31 +1,12 @@
 //! dashmap: a hash table in parts, each under a lock.
 
-use crate::{Contestant, IDS, Plan, Value, new_reader, no_thread};
+use crate::contestant::{Contestant, IDS, Plan, new_reader, no_thread};
+use crate::{Hash, Value};
 use dashmap::DashMap;
 use std::ffi::c_void;
-use std::hash::{BuildHasherDefault, Hasher};
 use std::ptr;
 
-/// The same cheap hash as of the other tables.
-#[derive(Default)]
-struct Mix(u64);
-
-impl Hasher for Mix {
-    fn finish(&self) -> u64 {
-        self.0
-    }
-
-    fn write(&mut self, _: &[u8]) {
-        unreachable!("keys are numbers")
-    }
-
-    fn write_u64(&mut self, id: u64) {
-        let mixed = id.wrapping_mul(0x9e37_79b9_7f4a_7c15);
-        self.0 = mixed ^ mixed >> 32;
-    }
-}
-
-type Map = DashMap<u64, Value, BuildHasherDefault<Mix>>;
+type Map = DashMap<u64, Value, Hash>;
 
 unsafe extern "C" fn open(plan: &Plan) -> *mut c_void {
     let map = Map::with_capacity_and_hasher(plan.keys as usize, Default::default());
@@ -37,7 +18,9 @@ unsafe extern "C" fn open(plan: &Plan) -> *mut c_void {
 
 unsafe extern "C" fn find(map: *mut c_void, to: &mut Value, key: u64) -> *const u64 {
     let map: &Map = &*map.cast();
-    let Some(found) = map.get(&key) else { return ptr::null() };
+    let Some(found) = map.get(&key) else {
+        return ptr::null();
+    };
     *to = *found;
     to.0.as_ptr()
 }

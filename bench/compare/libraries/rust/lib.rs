@@ -1,10 +1,15 @@
-//! The libraries of Rust among those that libraries.c measures, each as a feature: what contestant.h says, in Rust.
+//! The libraries of Rust among those that libraries.c and caches.c measure, each of them by a feature: what contestant.h and
+//! cache.h say, in Rust.
 
-use std::ffi::{c_char, c_int, c_void};
+use std::hash::{BuildHasherDefault, Hasher};
 
-#[cfg(feature = "arc-swap")]
+#[cfg(feature = "maps")]
 mod arc_swaps;
-#[cfg(feature = "dashmap")]
+#[cfg(feature = "caches")]
+mod caches;
+#[cfg(feature = "maps")]
+mod contestant;
+#[cfg(feature = "maps")]
 mod dashmaps;
 
 #[cfg(feature = "long")]
@@ -14,46 +19,7 @@ const ROWS: usize = 4;
 
 #[derive(Clone, Copy)]
 #[repr(C)]
-pub struct Value([u64; 2 * ROWS]);
-
-#[repr(C)]
-pub struct Plan {
-    keys: u64,
-    ids: bool,
-}
-
-#[repr(C)]
-pub struct Contestant {
-    name: *const c_char,
-    keys: c_int,
-    reads_only: bool,
-    map_of: *const Contestant,
-    open: unsafe extern "C" fn(&Plan) -> *mut c_void,
-    reader: unsafe extern "C" fn(*mut c_void) -> *mut Value,
-    begin: unsafe extern "C" fn(*mut c_void, *mut Value),
-    end: unsafe extern "C" fn(*mut c_void, *mut Value),
-    find: unsafe extern "C" fn(*mut c_void, &mut Value, u64) -> *const u64,
-    find_each: Option<unsafe extern "C" fn()>,
-    update: unsafe extern "C" fn(*mut c_void, u64, u64),
-}
-
-// It has constants alone.
-unsafe impl Sync for Contestant {}
-
-pub const NUMBERS: c_int = 1;
-pub const IDS: c_int = 2;
-
-impl Plan {
-    fn all(&self) -> impl Iterator<Item = u64> + '_ {
-        (0..self.keys).map(|i| if self.ids { mixed(i + 1) } else { i })
-    }
-}
-
-fn mixed(k: u64) -> u64 {
-    let k = (k ^ k >> 33).wrapping_mul(0xff51_afd7_ed55_8ccd);
-    let k = (k ^ k >> 33).wrapping_mul(0xc4ce_b9fe_1a85_ec53);
-    k ^ k >> 33
-}
+struct Value([u64; 2 * ROWS]);
 
 impl Value {
     fn of(key: u64, version: u64) -> Value {
@@ -65,13 +31,23 @@ impl Value {
     }
 }
 
-/// A reader's room, apart from the others' lines.
-#[repr(align(256))]
-struct Room(Value);
+/// The same cheap hash as of the other tables.
+#[derive(Default)]
+struct Mix(u64);
 
-pub unsafe extern "C" fn new_reader(_: *mut c_void) -> *mut Value {
-    let room = Box::leak(Box::new(Room(Value([0; 2 * ROWS]))));
-    &mut room.0
+type Hash = BuildHasherDefault<Mix>;
+
+impl Hasher for Mix {
+    fn finish(&self) -> u64 {
+        self.0
+    }
+
+    fn write(&mut self, _: &[u8]) {
+        unreachable!("keys are numbers")
+    }
+
+    fn write_u64(&mut self, id: u64) {
+        let mixed = id.wrapping_mul(0x9e37_79b9_7f4a_7c15);
+        self.0 = mixed ^ mixed >> 32;
+    }
 }
-
-pub unsafe extern "C" fn no_thread(_: *mut c_void, _: *mut Value) {}
