@@ -1,5 +1,5 @@
 -- Each claim that a client is granted is posted, or kept: try by try.
-use Rattle.std.proofs.Common.{◌≡◌, ◌+◌, ℕ, zero, suc, List, [], ◌∷◌, ◌++◌, Option, None, Some, Result, Ok, Err, refl, sym, ap, ◌∙◌, subst, arith, append_assoc, append-nil}
+use Rattle.std.proofs.Common.{◌≡◌, ◌+◌, ◌%◌, ℕ, zero, suc, List, [], ◌∷◌, ◌++◌, Option, None, Some, Result, Ok, Err, refl, sym, ap, ◌∙◌, subst, arith, append_assoc, append-nil}
 use Rattle.nr_model.specs.declared.rows.Row.{Row}
 use Rattle.nr_ids.specs.declared.requests.Requested.{Requested}
 use Rattle.nr_ids.specs.declared.requests.Requested.TheVariants as requested
@@ -111,8 +111,8 @@ reader_each : (old : IdHands) (reader : IdCaller) → Claims old.reader.ids [] r
 reader_each old reader claims = posts_each old (with_id_reader old reader) [] [] claims (sym (append-nil old.poster.posted)) (append-nil (ids_kept old.kept))
 
 look_none : (id : ℕ) (old new : Token) (way : Option ℕ) → LooksUp id old new way → Claims old [] new
-look_none id old new (Some way) looks_up = claims_none old new _ looks_up.0
-look_none id old new None looks_up = claims_none old new _ looks_up.0
+look_none id old new (Some way) looks_up = claims_none old new (way % 8 + 1) looks_up.0
+look_none id old new None looks_up = claims_none old new 8 looks_up.0
 
 find_none : {Room : Type 0} (shows : Room → List Row → Type 0) (id : ℕ) (old : IdCaller) (before : Room) (new : IdCaller) (after : Room) (answer : FoundId) → FindsById shows id old before new after answer
     → Claims old.ids [] new.ids
@@ -122,7 +122,7 @@ find_none shows id old before new after found.Pending finds = look_none id old.i
 find_none shows id old before new after found.Moved finds = look_none id old.ids new.ids (Some finds.0) finds.2.0
 find_none shows id old before new after found.Absent finds = look_none id old.ids new.ids None finds.0
 
-requested_ids : Requested → List ℕ
+abbrev requested_ids : Requested → List ℕ
 requested_ids (requested.Granted claim) = claim.id ∷ []
 requested_ids (requested.Named way) = []
 requested_ids requested.Busy = []
@@ -130,11 +130,11 @@ requested_ids requested.Outrun = []
 requested_ids requested.Worn = []
 
 refused_none : (id : ℕ) (old new : Token) (answer : Requested) → requested_ids answer ≡ [] → Requests id old new answer → Claims old [] new
-refused_none id old new (requested.Granted claim) none requests = absurd (cc (none))
-refused_none id old new (requested.Named way) none requests = claims_none old new _ requests.0
-refused_none id old new requested.Busy none requests = claims_none old new _ requests.0
-refused_none id old new requested.Outrun none requests = claims_none old new _ requests.0
-refused_none id old new requested.Worn none requests = claims_none old new _ requests.0
+refused_none id old new (requested.Granted claim) none requests = let no : claim.id ∷ [] ≡ [] = none in absurd (cc (no))
+refused_none id old new (requested.Named way) none requests = claims_none old new (way % 8 + 2) requests.0
+refused_none id old new requested.Busy none requests = claims_none old new 1 requests.0
+refused_none id old new requested.Outrun none requests = claims_none old new 10 requests.0
+refused_none id old new requested.Worn none requests = claims_none old new 1 requests.0
 
 -- no claim was kept and none is, and nothing was posted
 quiet_each : (old new : IdHands) → old.kept ≡ None → new.kept ≡ None → new.poster ≡ old.poster → Claims old.reader.ids [] new.reader.ids → PostsEach old new

@@ -195,7 +195,7 @@ LeavesOpen keeper left ends = AreTheOpen keeper left × AreAnswers ends
 
 fill_open : (old new : IdFlowSeen) (sent : Sent) (rows : List Row) (said : Spent) (before after : List Owed) → FillsOneId old sent rows (Ok said) new → AreTheOpen old.writer (before ++ sent.owed ∷ after)
     → LeavesOpen new.writer (before ++ after) (ended sent.owed (fate_of said rows))
-fill_open old new sent rows spent.Filled before after fills was = (closes_one old.writer new.writer sent.owed before after fills.0.fills.closes was, tt, tt)
+fill_open old new sent rows spent.Filled before after fills was = (closes_one old.writer new.writer sent.owed before after fills.0.fills.closes was, (tt, tt))
 fill_open old new sent rows spent.Passed before after fills was = absurd (fills.0.fills.closed (all_at old.writer before after sent.owed was.all))
 fill_open old new sent rows spent.Failed before after fills was = absurd fills
 
@@ -203,7 +203,7 @@ withdraw_open : (raises : IdFlowSeen → Sent → IdFlowSeen → Type 0) (old ne
     → AreTheOpen old.writer (before ++ sent.owed ∷ after) → LeavesOpen new.writer (before ++ after) (ended sent.owed (fate_of said []))
 withdraw_open raises old new sent spent.Filled before after ends was = absurd ends
 withdraw_open raises old new sent spent.Passed before after ends was = absurd (ends.0.withdraws.closed (all_at old.writer before after sent.owed was.all))
-withdraw_open raises old new sent spent.Failed before after ends was = (closes_one old.writer new.writer sent.owed before after ends.0.withdraws.closes was, tt, tt)
+withdraw_open raises old new sent spent.Failed before after ends was = (closes_one old.writer new.writer sent.owed before after ends.0.withdraws.closes was, (tt, tt))
 
 pub does_open : {old new : IdFlowSeen} {held left : List Owed} {answers : List Answered} {ends : List IdEnding} → DoesById old held answers ends new left → AreTheOpen old.writer held
     → LeavesOpen new.writer left ends

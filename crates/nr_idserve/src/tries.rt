@@ -46,6 +46,7 @@ fn post_claim<R: Wait>(
 
 // Posts the claim that is kept, which stays where the queue is full.
 #[inline(always)]
+#[tactic(auto, using(crate::proofs::IdRinging::rings_same))]
 fn post_kept<R: Wait>(
     rt: &R,
     service: &IdService,

@@ -2,7 +2,7 @@
 use crate::session::Session;
 use std::net::{Shutdown, TcpListener};
 use std::sync::{atomic::AtomicI32, atomic::Ordering::SeqCst, Arc, Mutex};
-use std::{collections::HashMap, ffi::c_int, io, io::ErrorKind, io::Write, os::fd::AsRawFd, thread};
+use std::{collections::HashMap, ffi::c_int, io, io::ErrorKind, io::Write, os::fd::AsRawFd, thread, thread::Builder};
 
 extern "C" {
     fn signal(number: c_int, handler: extern "C" fn(c_int)) -> usize;
@@ -27,18 +27,26 @@ pub fn serve(listener: TcpListener, sessions: Vec<Session>) {
     thread::scope(|scope| {
         let is_open = |client: &io::Result<_>| !matches!(client, Err(fault) if fault.kind() == ErrorKind::InvalidInput);
         for mut client in listener.incoming().take_while(is_open).flatten() {
-            let Some(mut session) = free.lock().unwrap().pop() else {
+            let Some(session) = free.lock().unwrap().pop() else {
                 _ = client.write_all(b"-ERR each reader of the map has a client\r\n");
                 continue;
             };
-            let client = Arc::new(client);
-            clients.lock().unwrap().insert(session.number, Arc::clone(&client));
-            scope.spawn(move || {
+            let (number, client) = (session.number, Arc::new(client));
+            clients.lock().unwrap().insert(number, Arc::clone(&client));
+            let (place, its_client) = (Arc::new(Mutex::new(Some(session))), Arc::clone(&client));
+            let its_place = Arc::clone(&place);
+            let run = move || {
+                let Some(mut session) = its_place.lock().unwrap().take() else { return };
                 // That a client breaks off is no fault.
-                _ = session.serve(client);
-                clients.lock().unwrap().remove(&session.number);
+                _ = session.serve(its_client);
+                clients.lock().unwrap().remove(&number);
                 free.lock().unwrap().push(session);
-            });
+            };
+            if Builder::new().spawn_scoped(scope, run).is_err() {
+                _ = (&*client).write_all(b"-ERR there is no thread for a client\r\n");
+                clients.lock().unwrap().remove(&number);
+                free.lock().unwrap().extend(place.lock().unwrap().take());
+            }
         }
         clients.lock().unwrap().values().for_each(|client| _ = client.shutdown(Shutdown::Both));
     });

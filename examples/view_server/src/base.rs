@@ -72,7 +72,9 @@ impl Base {
         let (query, mut rows) = (self.queries[query as usize], Vec::new());
         // SAFETY: the query was prepared and is at its beginning, texts are copied, and what gives rows gives two columns.
         let end = unsafe {
-            sqlite3_bind_text(query, 1, article.as_ptr(), article.len() as c_int, COPY_TEXT);
+            // Where there is no memory for the copy, the query would look for NULL.
+            let bound = sqlite3_bind_text(query, 1, article.as_ptr(), article.len() as c_int, COPY_TEXT);
+            self.done(bound)?;
             for (place, number) in (2..).zip(numbers) {
                 sqlite3_bind_int64(query, place, *number as i64);
             }

@@ -1,38 +1,19 @@
 //! How many gets of a trace hit, by the cache, by one that evicts what was used longest ago, and by a perfect one, which
 //! evicts what is used latest from now on.
+#[path = "../../../../tests/soak.d/cache/src/zipf.rs"]
+mod zipf;
 use nr::Cache;
 use std::collections::{BTreeSet, HashMap};
+use zipf::{Dice, Zipf};
 
 const CAPACITY: usize = 10_000;
 const KEYS: usize = 100_000;
 const GETS: usize = 1_000_000;
 
-struct Dice(u64);
-
-impl Dice {
-    /// A number from 0 to 1.
-    fn roll(&mut self) -> f64 {
-        self.0 ^= self.0 << 13;
-        self.0 ^= self.0 >> 7;
-        self.0 ^= self.0 << 17;
-        (self.0.wrapping_mul(0x2545_f491_4f6c_dd1d) >> 11) as f64 / (1u64 << 53) as f64
-    }
-}
-
 /// Keys of which the nth is drawn as often as n to the power of minus the skew.
 fn zipf(skew: f64) -> Vec<u64> {
-    let mut sums = Vec::with_capacity(KEYS);
-    let mut sum = 0.0;
-    for key in 1..=KEYS {
-        sum += (key as f64).powf(-skew);
-        sums.push(sum);
-    }
-    let mut dice = Dice(0x9e37_79b9_7f4a_7c15);
-    let draw = |_| {
-        let at = dice.roll() * sum;
-        sums.partition_point(|&upto| upto < at) as u64
-    };
-    (0..GETS).map(draw).collect()
+    let (zipf, mut dice) = (Zipf::new(KEYS, skew), Dice(0x9e37_79b9_7f4a_7c15));
+    (0..GETS).map(|_| zipf.draw(&mut dice)).collect()
 }
 
 /// A scan through a million other keys in the middle.

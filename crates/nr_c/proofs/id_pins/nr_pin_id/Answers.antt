@@ -1,4 +1,4 @@
-use Rattle.std.proofs.Common.{ap, arith, inl, inr, refl, sym, ◌∙◌}
+use Rattle.std.proofs.Common.{ap, arith, length, inl, inr, refl, sym, ◌∙◌}
 use Rattle.nr_idmap.specs.declared.finds.FoundId.TheVariants as found
 use Rattle.nr_c.proofs.id_pins.nr_pin_id.Goals as goal
 
@@ -33,7 +33,7 @@ returns-in-Rows c = inr (inr (
     was = ap (λ handle. handle.live) (sym c.is_live.ensures.same) ∙ c.side-side.ensures.value;
     is = refl;
     map = refl;
-    made = (found.Rows, refl, c.if-holds.ensures.none, c.in-Rows.ensures.pins, refl);
+    made = (found.Rows, refl, c.if-holds.ensures.none, c.in-Rows.ensures.pins, ap length c.rows.ensures.rows);
   }),
 ))
 

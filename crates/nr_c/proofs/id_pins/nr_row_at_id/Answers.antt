@@ -1,5 +1,7 @@
-use Rattle.std.proofs.Common.{ap, arith, inl, inr, refl, sym, ◌∙◌}
-use Rattle.std.proofs.lemmas.Option.{slice_get_read}
+use Rattle.std.proofs.Common.{List, length, ap, arith, inl, inr, refl, sym, ◌∙◌}
+use Rattle.std.specs.Prelude.{slice_get}
+use Rattle.nr_model.specs.declared.rows.Row.{Row}
+use Rattle.std.proofs.lemmas.Option.{slice_get-get_or}
 use Rattle.nr_c.proofs.id_pins.nr_row_at_id.Goals as goal
 
 pub returns-then-not-holds : goal.returns-then-not-holds
@@ -12,14 +14,14 @@ returns-then-not-holds c = inr (inl (record {
   hand = c.if-not-holds.ensures.none;
 }))
 
-pub returns-then-place-len : goal.returns-then-place-len
-returns-then-place-len c = inr (inr (record {
+pub returns-then-place-held : goal.returns-then-place-held
+returns-then-place-held c = inr (inr (record {
   old = c.side-side.result.now;
   new = _;
   was = ap (λ handle. handle.live) (sym c.is_live.ensures.same) ∙ c.side-side.ensures.value;
   is = refl;
   map = refl;
-  made = (refl, inr (refl, omega (arith, c.if-place-len.true), refl));
+  made = (refl, inr (refl, omega (arith, c.if-place-held.true, ap length c.rows-held.ensures.rows), refl));
 }))
 
 pub returns : goal.returns
@@ -29,5 +31,5 @@ returns c = inr (inr (record {
   was = ap (λ handle. handle.live) (sym c.is_live.ensures.same) ∙ c.side-side.ensures.value;
   is = refl;
   map = refl;
-  made = (refl, inl (refl, slice_get_read _ _ c.args.place _ refl (omega (arith, c.if-place-len.false)) c.index-held-place.ensures));
+  made = (refl, inl (refl, ap (λ (l : List Row). slice_get l c.args.place) (sym c.rows-held.ensures.rows) ∙ slice_get-get_or c.rows-held.result.now c.args.place (record { a = 0; b = 0 }) (omega (arith, c.if-place-held.false))));
 }))

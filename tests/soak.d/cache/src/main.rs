@@ -1,0 +1,291 @@
+//! The cache under load: rounds, each with threads of its own, until SIGTERM.    soak_cache KEYS SEED
+mod model;
+
+use model::*;
+use nr::{Cache, CacheReader, LoadError, Request, Sought, WaitError};
+use std::hash::{BuildHasher, Hasher};
+use std::panic::{catch_unwind, resume_unwind, AssertUnwindSafe};
+use std::sync::atomic::{AtomicBool, Ordering::SeqCst};
+use std::sync::{mpsc, Mutex};
+use std::thread::{Builder, Scope};
+use std::{env, ffi::c_int, time::Duration};
+
+const KEYS: u32 = 512;
+const THREADS: u32 = 8;
+/// The place of the thread that loads for others.
+const POOL: u32 = THREADS;
+const TURNS: u64 = 2000;
+
+/// A version of a key, which the model follows.
+struct Value {
+    key: u32,
+    version: u64,
+    number: u32,
+    bytes: Box<[u8]>,
+}
+
+impl Value {
+    fn new(key: u32, version: u64) -> Value {
+        Value { key, version, number: model_makes(), bytes: vec![key as u8; 64].into() }
+    }
+
+    fn look(&self, key: u32, floor: u64) {
+        model_reads(self.number);
+        model_answers(key, self.key, self.version, floor);
+        if self.bytes.iter().any(|byte| *byte != key as u8) {
+            fails(c"torn");
+        }
+    }
+}
+
+impl Drop for Value {
+    fn drop(&mut self) {
+        model_drops(self.number);
+        self.bytes.fill(!self.key as u8);
+    }
+}
+
+/// Of that many keys each has one hash.
+#[derive(Clone, Copy)]
+struct Sharing(u32);
+
+impl Hasher for Sharing {
+    fn write(&mut self, _: &[u8]) {}
+
+    fn write_u32(&mut self, key: u32) {
+        self.0 = key / self.0 + 1;
+    }
+
+    fn finish(&self) -> u64 {
+        u64::from(self.0).wrapping_mul(0x9e37_79b9_7f4a_7c15)
+    }
+}
+
+impl BuildHasher for Sharing {
+    type Hasher = Sharing;
+
+    fn build_hasher(&self) -> Sharing {
+        *self
+    }
+}
+
+type Values = Cache<u32, Value, Sharing>;
+
+struct Client<'a> {
+    cache: &'a Values,
+    reader: CacheReader<u32, Value, Sharing>,
+    dice: Dice,
+    place: u32,
+    /// A key has one write at a time.
+    writes: &'a [Mutex<()>],
+    pool: mpsc::Sender<Request<u32, Value, Sharing>>,
+}
+
+impl Client<'_> {
+    fn run(mut self) {
+        model_begins(self.place);
+        for turn in 0..TURNS {
+            // A load that panics does so in the thread that gets.
+            _ = catch_unwind(AssertUnwindSafe(|| self.turn()));
+            if turn % 64 == 0 {
+                model_sleeps(self.place, 2);
+            }
+        }
+        model_ends(self.place);
+    }
+
+    fn turn(&mut self) {
+        let key = self.dice.key(KEYS);
+        match self.dice.roll(64) {
+            0..=5 => self.write(key),
+            6..=20 => self.get(key, 0),
+            21..=24 => self.request(key),
+            25..=26 => self.wait(key),
+            27 if self.dice.roll(200) == 0 => {
+                let milliseconds = 1000 + self.dice.roll(2000) as u32;
+                self.get(key, milliseconds);
+            }
+            28 if self.dice.roll(500) == 0 => self.cache.invalidate_all(),
+            29..=36 => {
+                let limit = Duration::from_micros(self.dice.roll(500));
+                self.load(key, Some(limit));
+            }
+            _ => self.load(key, None),
+        }
+    }
+
+    fn write(&mut self, key: u32) {
+        let _alone = self.writes[key as usize].lock().expect("nobody panics with it");
+        let version = model_writes(key);
+        let how = self.dice.roll(3);
+        let is_put = how == 0
+            && self.reader.update(&key, |old| {
+                old.look(key, 0);
+                Value::new(key, version)
+            });
+        match how {
+            1 => _ = self.cache.insert(key, Value::new(key, version)),
+            _ if !is_put => _ = self.cache.invalidate(&key),
+            _ => {}
+        }
+        model_has_written(key, version);
+    }
+
+    /// Gets what the cache has, and holds it so long.
+    fn get(&mut self, key: u32, milliseconds: u32) {
+        let floor = model_floor(key);
+        let Some(found) = self.reader.get(&key) else { return };
+        if milliseconds > 0 {
+            model_sleeps(self.place, milliseconds);
+            counts(c"holder stopped", 1);
+        }
+        found.look(key, floor);
+    }
+
+    fn load(&mut self, key: u32, limit: Option<Duration>) {
+        let (floor, luck, place) = (model_floor(key), self.dice.roll(64), self.place);
+        let load = || loaded(key, luck, place);
+        let found = match limit {
+            Some(limit) => self.reader.try_get_with_timeout(&key, limit, load),
+            None => self.reader.try_get_with(&key, load).map_err(LoadError::Failed),
+        };
+        match found {
+            Ok(found) => found.look(key, floor),
+            Err(LoadError::TimedOut) => counts(c"load timed out", 1),
+            Err(LoadError::Failed(())) => counts(c"load failed", 1),
+        }
+    }
+
+    /// Has another thread load what is missing.
+    fn request(&mut self, key: u32) {
+        let floor = model_floor(key);
+        match self.reader.get_or_request(&key) {
+            Sought::Held(found) => found.look(key, floor),
+            Sought::Missing(request) => _ = self.pool.send(request),
+            Sought::UnderWay => {}
+        }
+    }
+
+    fn wait(&mut self, key: u32) {
+        let floor = model_floor(key);
+        match self.reader.get_waiting(&key, Duration::from_micros(self.dice.roll(1000))) {
+            Ok(found) => found.look(key, floor),
+            Err(WaitError::TimedOut) => counts(c"load timed out", 1),
+            Err(WaitError::Missing | WaitError::Failed(_)) => {}
+        }
+    }
+}
+
+/// A key's load, until it is dropped.
+struct Load(u32);
+
+impl Drop for Load {
+    fn drop(&mut self) {
+        model_has_loaded(self.0);
+    }
+}
+
+/// What a load gives that begins now, unless it fails or panics. Some take long.
+fn loaded(key: u32, luck: u64, place: u32) -> Result<Value, ()> {
+    model_loads(key);
+    let _load = Load(key);
+    let version = model_newest(key);
+    match luck {
+        0 | 1 => return Err(()),
+        2 => {
+            counts(c"load panicked", 1);
+            resume_unwind(Box::new(()));
+        }
+        3..=6 => model_sleeps(place, luck as u32 - 2),
+        _ => {}
+    }
+    Ok(Value::new(key, version))
+}
+
+/// The thread that loads for others, until these have ended.
+fn pool(requests: &mpsc::Receiver<Request<u32, Value, Sharing>>, mut dice: Dice) {
+    model_begins(POOL);
+    for request in requests {
+        let (key, luck) = (*request.key(), dice.roll(64));
+        match catch_unwind(|| loaded(key, luck, POOL)) {
+            Ok(Ok(value)) => _ = request.fill(value),
+            Ok(Err(())) => request.fail("the base is away"),
+            Err(_) => drop(request),
+        }
+    }
+    model_ends(POOL);
+}
+
+/// Makes a thread, or counts that it is refused.
+fn spawn<'s>(scope: &'s Scope<'s, '_>, place: u32, work: impl FnOnce() + Send + 's) {
+    model_spawns(place);
+    if Builder::new().spawn_scoped(scope, work).is_err() {
+        model_ends(place);
+    }
+}
+
+fn round(cache: &Values, writes: &[Mutex<()>], dice: &mut Dice) {
+    let (sender, requests) = mpsc::channel();
+    std::thread::scope(|scope| {
+        let its_dice = Dice(dice.roll(u64::MAX) | 1);
+        spawn(scope, POOL, move || pool(&requests, its_dice));
+        for place in 0..THREADS {
+            let Some(reader) = cache.reader() else { fails(c"slot leaked") };
+            let (dice, pool) = (Dice(dice.roll(u64::MAX) | 1), sender.clone());
+            let client = Client { cache, reader, dice, place, writes, pool };
+            spawn(scope, place, move || client.run());
+        }
+        drop(sender);
+        model_awaits(0, POOL + 1);
+    });
+    // Two writes, so that what the first took out is dropped.
+    [KEYS, KEYS].iter().for_each(|other| _ = cache.invalidate(other));
+    model_lives(cache.len() as u64);
+}
+
+fn open(dice: &mut Dice) -> Values {
+    let capacity = [5, 60, 300][dice.roll(3) as usize];
+    let builder = Cache::builder().capacity(capacity).threads(THREADS).hasher(Sharing(1 + dice.roll(2) as u32));
+    let builder =
+        if dice.roll(2) == 0 { builder.time_to_live(Duration::from_millis(1 + dice.roll(50))) } else { builder };
+    let builder =
+        if dice.roll(2) == 0 { builder.time_to_idle(Duration::from_millis(1 + dice.roll(50))) } else { builder };
+    builder.open().expect("there is memory")
+}
+
+static IS_OVER: AtomicBool = AtomicBool::new(false);
+
+extern "C" {
+    fn signal(number: c_int, handler: extern "C" fn(c_int)) -> usize;
+}
+
+extern "C" fn end(_: c_int) {
+    IS_OVER.store(true, SeqCst);
+}
+
+fn main() {
+    let words: Vec<String> = env::args().skip(1).collect();
+    let [keys, seed] = &words[..] else { panic!("soak_cache KEYS SEED") };
+    opens_keys(keys);
+    // SAFETY: the handler makes nothing but an atomic store.
+    unsafe { signal(15, end) };
+    let mut dice = Dice(2 * seed.parse::<u64>().expect("a number") + 1);
+    let writes: Vec<_> = (0..KEYS).map(|_| Mutex::new(())).collect();
+    // The later caches live longer.
+    for caches in 1.. {
+        let cache = open(&mut dice);
+        for _ in 0..caches {
+            if IS_OVER.load(SeqCst) {
+                return model_tells_counts();
+            }
+            round(&cache, &writes, &mut dice);
+            counts(c"rounds", 1);
+        }
+        let stats = cache.stats();
+        counts(c"no place in the cache", stats.refused);
+        counts(c"late load refused", stats.outdated);
+        counts(c"ticket numbers next to 2^22", 1);
+        drop(cache);
+        model_lives(0);
+    }
+}

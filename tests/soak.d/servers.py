@@ -1,0 +1,244 @@
+"""A server under load, with a base that is locked and restarted: view_server over SQLite, or two edges over PostgreSQL.
+
+  servers.py view_server|edges ROOM PROGRAM SEED    until SIGTERM
+
+Each read is checked by the model in articles.py. Whoever is still without an answer at rest, where another is told
+the article and all threads of the servers sleep, was forgotten.
+"""
+import array
+import collections
+import os
+import pathlib
+import random
+import signal
+import sqlite3
+import subprocess
+import sys
+import threading
+import time
+
+from articles import Article, at_failure, fails
+from clients import Client, Leaver, Reader, Writer
+
+ARTICLES = 60
+LOOKS = 60
+
+
+class Server:
+    """A process that is started again at its port whenever it has ended."""
+
+    def __init__(self, bed, name, words):
+        self.bed, self.name, self.words, self.port, self.process = bed, name, words, 0, None
+        self.start()
+
+    def start(self):
+        """Without memory or a thread it may end at its start, and is started once more."""
+        room, port = self.bed.room, ["--port", str(self.port)] if self.port else []
+        faults = {"LD_PRELOAD": str(room / "faults.so"), "SOAK_CONTROL": str(room / f"{self.bed.name}.control")}
+        # To print one takes more memory than all else.
+        faults["RUST_BACKTRACE"] = "0"
+        while True:
+            with open(room / f"{self.name}.errors", "ab") as errors:
+                self.process = subprocess.Popen(
+                    self.words + port, stdout=subprocess.PIPE, stderr=errors, env={**os.environ, **faults}
+                )
+            line = self.process.stdout.readline().decode()
+            if line.startswith("listening on"):
+                break
+            self.process.wait()
+            self.bed.counts["not started"] += 1
+        self.port = int(line.rsplit(":")[-1])
+        (room / f"{self.name}.pid").write_text(str(self.process.pid))
+
+    def mend(self):
+        """What is refused memory ends, as each program of Rust does."""
+        if self.process.poll() is None:
+            return
+        if self.process.returncode not in (-signal.SIGABRT, -signal.SIGKILL) or not self.bed.may_end(self):
+            fails("ended", f"{self.name} with status {self.process.returncode}: see {self.name}.errors")
+        self.bed.counts["started again"] += 1
+        self.bed.after_kill(self)
+        self.start()
+
+    def kill(self):
+        self.process.kill()
+        self.process.wait()
+
+    def sleeps(self):
+        """Whether all of its threads do, by the system."""
+        try:
+            stats = [place.read_text() for place in pathlib.Path(f"/proc/{self.process.pid}/task").glob("*/stat")]
+        except OSError:
+            return False
+        return all(stat.rpartition(")")[2].split()[0] == "S" for stat in stats)
+
+
+class Bed:
+    def __init__(self, name, room, program, seed):
+        self.name, self.room, self.program, self.dice = name, pathlib.Path(room), program, random.Random(seed)
+        self.keys = array.array("I", (self.room / "keys").read_bytes()[:400000])
+        self.articles = [Article(number) for number in range(ARTICLES)]
+        self.counts, self.rests = collections.Counter(), threading.Event()
+        self.servers = []
+        at_failure.extend([self.explain, self.end])
+        self.begin()
+        kinds = [Reader] * 4 + [Writer] * 2 + [Leaver]
+        self.workers = [kind(self, self.dice.random()) for kind in kinds]
+        for worker in self.workers:
+            worker.start()
+
+    def may_end(self, server):
+        told = (self.room / f"{server.name}.errors").read_bytes()[-2000:]
+        return server.process.returncode == -signal.SIGKILL or b"memory allocation of" in told
+
+    def after_kill(self, server):
+        pass
+
+    def explain(self):
+        pass
+
+    def end(self):
+        for server in self.servers:
+            server.kill()
+
+    def kill(self):
+        """The longer the less often, so that servers live long."""
+        if self.dice.random() * self.counts["server killed"] > 1:
+            return
+        server = self.dice.choice(self.servers)
+        server.kill()
+        self.after_kill(server)
+        self.counts["server killed"] += 1
+        server.start()
+
+    def rest(self):
+        """Has all workers rest, and looks whether one is forgotten."""
+        self.rests.set()
+        looks, last = 0, None
+        while late := [worker for worker in self.workers if not worker.is_at_rest]:
+            for server in self.servers:
+                server.mend()
+            forgotten = [worker for worker in late if worker.awaits and self.is_told(worker.awaits)]
+            state = forgotten, sum(self.counts.values())
+            # Who was woken, or waits for a processor, doesn't sleep for the system: so looks are enough.
+            looks = (looks if state == last else 0) + all(server.sleeps() for server in self.servers)
+            last = state
+            if forgotten and looks >= LOOKS:
+                fails("asleep", f"nobody answers a GET of {forgotten[0].awaits.name}")
+            time.sleep(0.02)
+        for article in self.articles:
+            self.is_told(article)
+        self.rests.clear()
+        self.counts["rests"] += 1
+
+    def is_told(self, article):
+        """Whether somebody else is told the article at each server, and rightly."""
+        before = article.before()
+        try:
+            # Who asks beside one who is forgotten may be so too.
+            clients = [Client(server.port, patience=5) for server in self.servers]
+            replies = [client.ask(self.workers[0].get(article, before)) for client in clients]
+        except OSError:
+            return False
+        for client, reply in zip(clients, replies):
+            client.close()
+            if not reply.startswith("-"):
+                article.check(before, reply)
+        return not any(reply.startswith("-") for reply in replies)
+
+    def run(self, is_over):
+        """Each fault comes once before one comes again."""
+        while not is_over.is_set():
+            for fault in self.dice.sample([self.kill, self.lock, self.lock, self.other, self.rest], 5):
+                if is_over.wait(0.1 + self.dice.random() * self.pause):
+                    break
+                for server in self.servers:
+                    server.mend()
+                fault()
+        self.rest()
+        for name, count in self.counts.items():
+            print(f"{name}: {count}")
+        self.end()
+
+
+class ViewServer(Bed):
+    has_tokens, pause = False, 1.0
+
+    def begin(self):
+        self.path = self.room / "votes.db"
+        for left in self.room.glob("votes.db*"):
+            left.unlink()
+        with sqlite3.connect(self.path) as base:
+            base.executescript(pathlib.Path(self.program).parents[2].joinpath("table.sql").read_text())
+        words = [self.program, str(self.path), "--limit", "24", "--busy", "700", "--half", "300", "--errands", "6"]
+        self.servers.append(Server(self, "view_server", words))
+
+    def lock(self):
+        base = sqlite3.connect(self.path, isolation_level=None, timeout=5)
+        try:
+            base.execute("BEGIN IMMEDIATE")
+            time.sleep(self.dice.choice([0.1, 0.3, 1.0]))
+            base.execute("ROLLBACK")
+            self.counts["base locked"] += 1
+        except sqlite3.OperationalError:
+            self.counts["base not locked"] += 1
+        base.close()
+
+    def other(self):
+        """The log's file is written back and begins anew."""
+        base = sqlite3.connect(self.path, timeout=5)
+        base.execute("PRAGMA wal_checkpoint(TRUNCATE)")
+        base.close()
+
+
+class Edges(Bed):
+    has_tokens, pause = True, 1.5
+
+    def begin(self):
+        script = [str(pathlib.Path(__file__).parent / "postgres"), str(pathlib.Path(self.program).parents[2])]
+        self.base = subprocess.Popen(script, stdin=subprocess.PIPE, stdout=subprocess.PIPE, text=True)
+        self.address = self.base.stdout.readline().strip()
+        sizes = ["--readers", "24", "--keys", "50", "--rows", "15", "--limit", "20", "--slots", "30"]
+        # The second one's ticket numbers begin next to their end.
+        numbers = [0, 4194300]
+        for name, number in zip(["edge_1", "edge_2"], numbers):
+            words = [self.program, f"{self.address} application_name={name}", name, *sizes, "--number", str(number)]
+            self.servers.append(Server(self, name, words))
+
+    def tell(self, line):
+        self.base.stdin.write(line + "\n")
+        self.base.stdin.flush()
+        if self.base.stdout.readline().strip() != "done":
+            fails("setup", f"PostgreSQL: {line}")
+
+    def explain(self):
+        """What the base has, beside an answer that was wrong."""
+        rows = "SELECT article, array_agg(voter ORDER BY voter) FROM votes GROUP BY article ORDER BY article"
+        subprocess.run(["psql", "-X", "-t", "-A", self.address, "-c", rows])
+
+    def lock(self):
+        self.tell("lock")
+        self.counts["base locked"] += 1
+
+    def other(self):
+        self.tell("restart")
+        self.counts["base restarted"] += 1
+
+    def after_kill(self, server):
+        """What its clients wrote may go on for a while."""
+        self.tell(f"forget {server.name}")
+
+    def end(self):
+        super().end()
+        self.base.stdin.close()
+        self.base.wait()
+
+
+def main():
+    name, room, program, seed = sys.argv[1:]
+    is_over = threading.Event()
+    signal.signal(signal.SIGTERM, lambda *_: is_over.set())
+    {"view_server": ViewServer, "edges": Edges}[name](name, room, program, int(seed)).run(is_over)
+
+
+main()
