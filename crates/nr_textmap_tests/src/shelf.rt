@@ -2,10 +2,10 @@
 //! answers, so that a test is a list of calls.
 ghost use Rattle.std.specs.Prelude.{◌≡◌};
 ghost use Rattle.nr_model.specs.Batches.{IsBatch};
-ghost use Rattle.nr_idmap.specs.Keepers.{id_rows};
+ghost use Rattle.nr_idmap.specs.Keepers.{id_rows, id_table_of};
 ghost use Rattle.nr_textmap.specs.Texts.{AreTextDeltas, IsTextSet, Named};
 
-use nr_idmap::{IdHand, IdMap, IdShape, Requested};
+use nr_idmap::{IdHand, IdMap, IdReader, IdShape, IdWriter, Requested};
 use nr_model::{Batch, Delta, Row, RowSet};
 use nr_textmap::{
     EvictedText, FoundText, LookedText, SipKey, Text, TextFault, TextHash, TextMap, TextUpquery,
@@ -24,6 +24,8 @@ const SMALL: IdShape = IdShape {
     rows: 35,
     first_number: 0,
 };
+
+const KEY: SipKey = SipKey { low: 1, high: 2 };
 
 pub(crate) struct Shelf {
     map: TextMap,
@@ -114,18 +116,24 @@ impl Shelf {
     pub(crate) fn open<R: AllocGlobal + Abort>(rt: &R) -> Shelf {
         let (ids, writer, mut readers) = IdMap::open(rt.alloc(), &SMALL).expect(rt, "memory");
         let reader = readers.pop().expect(rt, "a reader");
-        let key = SipKey { low: 1, high: 2 };
-        let shelf = Shelf {
-            map: TextMap { ids, key },
+        let map = TextMap { ids, key: KEY };
+        // The map's own key gives the id that the key alone gives.
+        let text = map.text(b"alice").expect(rt, "a text");
+        let same = Text::of(&KEY, b"alice").expect(rt, "a text");
+        is_same(rt, &text.id(), &same.id());
+        assert!(rt; map.text(b"").is_none());
+        Shelf::of(map, writer, reader)
+    }
+
+    fn of(map: TextMap, writer: IdWriter, reader: IdReader) -> Shelf
+        requires writer { writer.table ≡ map.ids }
+        requires reader { id_table_of reader ≡ map.ids }
+    {
+        Shelf {
+            map,
             writer: TextWriter::of(writer),
             hand: IdHand::of(reader),
-        };
-        // The map's own key gives the id that the key alone gives.
-        let text = shelf.map.text(b"alice").expect(rt, "a text");
-        let same = Text::of(&key, b"alice").expect(rt, "a text");
-        is_same(rt, &text.id(), &same.id());
-        assert!(rt; shelf.map.text(b"").is_none());
-        shelf
+        }
     }
 
     pub(crate) fn close(self) {
@@ -263,7 +271,9 @@ impl Shelf {
         text: &Text,
         deltas: &[Delta],
         why: TextFault<nr_idmap::UpdateFault>,
-    ) {
+    )
+        ensures { self.new ≡ self.old }
+    {
         let batch = batch_of(rt, deltas);
         let updated = self.map.update(&mut self.writer, text, batch.as_slice());
         is_same(rt, &updated, &Err(why));
@@ -287,7 +297,9 @@ impl Shelf {
         is_same(rt, &replaced, &Err(why));
     }
 
-    pub(crate) fn evicts<R: Abort>(&mut self, rt: &R, text: &Text, wanted: EvictedText) {
+    pub(crate) fn evicts<R: Abort>(&mut self, rt: &R, text: &Text, wanted: EvictedText)
+        ensures { self.new ≡ self.old }
+    {
         let evicted = self.map.evict(&mut self.writer, text);
         is_same(rt, &evicted, &wanted);
     }
