@@ -25,7 +25,8 @@ fn one_more<R: Abort>(rt: &R) -> Batch
 // A filled id gets a row, and then another set.
 fn changes<R: Abort + Wait>(rt: &R, client: &mut IdClient<'_>, flow: &mut IdDataflow<'_>)
     requires { 0 < id_rows flow.old.map }
-    ensures { flow.new.map ≡ flow.old.map }
+    ensures client { client.new.map ≡ client.old.map }
+    ensures flow { flow.new.map ≡ flow.old.map }
 {
     gets(rt, client, 1, GotId::GaveUp);
     let upquery = takes(rt, flow);

@@ -97,6 +97,7 @@ impl Opened {
 /// A get of one try ends so.
 pub(crate) fn gets<R: Abort + Wait>(rt: &R, client: &mut IdClient<'_>, id: u64, wanted: GotId)
     requires { 0 < id }
+    ensures { client.new.map ≡ client.old.map }
 {
     let mut rows = RowSet::new();
     assert_eq!(rt; client.get(rt, id, 1, &mut rows), wanted);
@@ -105,6 +106,7 @@ pub(crate) fn gets<R: Abort + Wait>(rt: &R, client: &mut IdClient<'_>, id: u64, 
 /// A get of one try finds just these rows.
 pub(crate) fn finds<R: Abort + Wait>(rt: &R, client: &mut IdClient<'_>, id: u64, wanted: &[Row])
     requires { 0 < id }
+    ensures { client.new.map ≡ client.old.map }
 {
     let mut rows = RowSet::new();
     assert_eq!(rt; client.get(rt, id, 1, &mut rows), GotId::Rows);
@@ -127,6 +129,7 @@ pub(crate) fn take_by<V: Victims, R: Abort + Wait>(
 ) -> Result<Upquery, Without>
     ensures own { IfOk result (λ upquery. upquery.table ≡ flow.old.map) }
     ensures places { flow.new.map ≡ flow.old.map }
+    ensures queue { flow.new.queue ≡ flow.old.queue }
 {
     match flow.take(rt, victims) {
         Taken::Asked(upquery) => Ok(upquery),
@@ -155,6 +158,7 @@ pub(crate) fn takes_none<V: Victims, R: Abort + Wait>(
 pub(crate) fn takes<R: Abort + Wait>(rt: &R, flow: &mut IdDataflow<'_>) -> Upquery
     ensures own { result.table ≡ flow.old.map }
     ensures places { flow.new.map ≡ flow.old.map }
+    ensures queue { flow.new.queue ≡ flow.old.queue }
 {
     match take_by(rt, flow, &mut NoVictims) {
         Ok(upquery) => upquery,
@@ -167,6 +171,7 @@ pub(crate) fn fills<R: Abort + Wait>(rt: &R, flow: &mut IdDataflow<'_>, upquery:
     requires own { upquery.table ≡ flow.old.map }
     requires room { 0 < id_rows flow.old.map }
     ensures places { flow.new.map ≡ flow.old.map }
+    ensures queue { flow.new.queue ≡ flow.old.queue }
 {
     match flow.fill(rt, upquery, &[Row { a: 1, b }]) {
         Ok(spent) => assert_eq!(rt; spent, Spent::Filled),
