@@ -1,4 +1,6 @@
 //! Each call on its happy path, by one thread.
+ghost use Rattle.std.specs.Prelude.{◌<◌};
+
 use crate::view::{SMALL, View, is_same, is_set, plus, row};
 use nr_idmap::{Evict, FoundId, IdShape, Looked, WantedId};
 use nr_model::RowSet;

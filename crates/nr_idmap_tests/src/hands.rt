@@ -62,6 +62,7 @@ impl Holder {
     /// A hand that holds nothing finds as a reader does, after what it loads ahead.
     fn finds<R: Abort>(&mut self, rt: &R, id: u64, why: FoundId, rows: &[Row])
         requires { 0 < id }
+        ensures { self.new ≡ self.old }
     {
         let mut room = RowSet::new();
         self.hand.release(self.view.map());
