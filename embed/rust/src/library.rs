@@ -14,8 +14,9 @@ macro_rules! version {
 /// What is said of any other.
 pub const IS_ANOTHER: &str = concat!("the library that is linked isn't that of version ", version!());
 
-/// What the header's structs take here, in its order: five of them are handles, as are the last two.
-const SIZES: [usize; 16] = [
+/// What the header's structs take here, in its order: five of them are handles, as are the last two but one. The last has an id
+/// and its answer before its rows; no call of this crate takes it.
+const SIZES: [usize; 17] = [
     size_of::<Row>(),
     size_of::<Rows>(),
     size_of::<Wanted>(),
@@ -32,6 +33,7 @@ const SIZES: [usize; 16] = [
     size_of::<Upquery>(),
     size_of::<Handle>(),
     size_of::<Handle>(),
+    size_of::<[u64; 2]>() + size_of::<Rows>(),
 ];
 
 /// Refuses a library of another version, or one whose structs have other sizes.
