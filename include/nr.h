@@ -211,7 +211,7 @@ typedef struct nr_poster {
    readers. An id may have `rows` rows, 1 to 254. `key` decides which group an id has: draw it at random where strangers
    choose ids. Ticket numbers begin at `first_number`: set it to 0. With 8 * groups + readers + 2 slots no fill or
    replacement answers NR_NO_SLOT or NR_ALL_FILLED. A group takes 464 bytes, a slot 16 * rows + 50, and a
-   reader 5,192. */
+   reader 10,640. */
 typedef struct nr_id_shape {
   uint32_t groups;
   uint32_t slots;
