@@ -560,7 +560,8 @@ uint32_t nr_admit(nr_id_writer *writer, uint64_t id, nr_upquery *upquery);
 
 /* Fills an open upquery's id with n rows in ascending order, each `a` above 0. NR_TOO_MANY, NR_NOT_SORTED, NR_BAD_ROW,
    and NR_STALE if no upquery with these numbers is open, without a step; NR_DONE, NR_NO_SLOT or NR_ALL_FILLED after W
-   steps and those of nr_fill for n + 1 rows. After the last two the upquery stays open. */
+   steps and those of nr_fill for n + 1 rows. After the last two the upquery stays open. Owed: use each answer to an
+   upquery once, as of nr_fill; embed/c/ids.c tells a second one by a count. */
 uint32_t nr_fill_id(nr_id_writer *writer, const nr_upquery *upquery, const nr_row *rows, size_t n);
 
 /* Takes an open upquery and its id's way back. NR_CANCELLED after W + 3 steps: wake those who wait for the id.

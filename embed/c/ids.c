@@ -60,6 +60,40 @@ static void test_life(nr_id_writer *writer, nr_id_reader *reader) {
   WANTS(NR_DONE, nr_fill_id(writer, &other, ORDERS, 2));
 }
 
+/* An eviction keeps the ticket number, so an answer that arrives twice would fill a later absence too. Where one may,
+   the thread that writes counts its queries, keeps the count that each way waits for, and takes no other's answer. */
+typedef struct {
+  nr_upquery upquery;
+  uint64_t count;
+} query;
+enum { GROUPS = 2 };
+static uint64_t queries, awaited[8 * GROUPS];
+
+static query begun(nr_id_writer *writer, nr_id_reader *reader, uint64_t id) {
+  query it = {admitted(writer, reader, id), ++queries};
+  awaited[it.upquery.way] = it.count;
+  return it;
+}
+
+static uint32_t answered(nr_id_writer *writer, const query *it, const nr_row *row, size_t n) {
+  if (awaited[it->upquery.way] != it->count) return NR_STALE;
+  uint32_t answer = nr_fill_id(writer, &it->upquery, row, n);
+  if (answer == NR_DONE) awaited[it->upquery.way] = 0;
+  return answer;
+}
+
+static void test_twice(nr_id_writer *writer, nr_id_reader *reader) {
+  query first = begun(writer, reader, 5);
+  WANTS(NR_DONE, answered(writer, &first, ORDERS, 1));
+  WANTS(NR_EVICTED, nr_evict_id(writer, 5));
+  WANTS(NR_STALE, answered(writer, &first, ORDERS, 1));
+  query second = begun(writer, reader, 5);
+  WANTS(NR_STALE, answered(writer, &first, ORDERS, 1));
+  WANTS(NR_ASKED, nr_look_id(writer, 5, &rows));
+  WANTS(NR_DONE, answered(writer, &second, ORDERS, 2));
+  WANTS(NR_EVICTED, nr_evict_id(writer, 5));
+}
+
 static void test_refusals(nr_id_writer *writer, nr_id_reader *reader) {
   const nr_row zero[] = {{0, 1}}, mixed[] = {{2, 1}, {1, 1}}, many[] = {{1, 1}, {2, 1}, {3, 1}, {4, 1}};
   const nr_delta tag[] = {{{0, 1}, true}};
@@ -308,7 +342,8 @@ static void test_slots(void) {
 }
 
 int main(void) {
-  const nr_id_shape shape = {.groups = 2, .slots = 2 * 8 + 1 + 2, .readers = 1, .rows = 3, .key = 0x9e3779b97f4a7c15};
+  const nr_id_shape shape = {
+    .groups = GROUPS, .slots = GROUPS * 8 + 1 + 2, .readers = 1, .rows = 3, .key = 0x9e3779b97f4a7c15};
   const nr_id_shape none = {.groups = 0, .slots = 1, .readers = 1, .rows = 1};
   nr_id_writer writer = {0};
   nr_id_reader reader = {0}, second = {0};
@@ -321,6 +356,7 @@ int main(void) {
   WANTS(NR_LIVE, nr_open_id_reader(&writer, &reader));
   WANTS(NR_NO_READER, nr_open_id_reader(&writer, &second));
   test_life(&writer, &reader);
+  test_twice(&writer, &reader);
   test_refusals(&writer, &reader);
   test_full(&shape, &writer, &reader);
   nr_close_id_reader(&reader);

@@ -47,7 +47,9 @@ impl Upquery {
 pub enum Refused {
     /// Each way of its group is another id's.
     Full,
-    /// It has a way, or nobody claimed it.
+    /// Nobody claimed its group since the last admission there.
+    NotAsked,
+    /// It has a way.
     Other,
 }
 
@@ -116,6 +118,7 @@ impl IdWriter {
         match unsafe { ffi::nr_admit(&mut self.handle, id, &mut upquery) } {
             ffi::NR_SEND => Ok(upquery),
             ffi::NR_FULL => Err(Refused::Full),
+            ffi::NR_NOT_ASKED => Err(Refused::NotAsked),
             _ => Err(Refused::Other),
         }
     }

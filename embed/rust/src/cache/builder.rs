@@ -1,10 +1,11 @@
 //! How a cache is opened.
 use super::expiry::Expiry;
+use super::part::Part;
 use super::seats::Seats;
-use super::shared::Shared;
+use super::shared::{Desk, Shared};
 use super::store::Store;
 use super::Cache;
-use crate::ids::{self, IdShape};
+use crate::ids::{self, IdReader, IdShape};
 use crate::Fault;
 use std::collections::hash_map::RandomState;
 use std::fmt;
@@ -13,8 +14,21 @@ use std::marker::PhantomData;
 use std::sync::Arc;
 use std::time::Duration;
 
+const MAX_CAPACITY: usize = 2_600_000;
+
 /// How many readers a cache may have, one for each thread that reads at a time.
 const MAX_THREADS: u32 = 65_533;
+
+const MAX_PARTS: usize = 16;
+
+/// How many readers the maps of all parts may have where there is more than one: of 10 kB each.
+const MAX_READERS: usize = 512;
+
+/// How many slots a part's map has besides those that it cannot do without, so that a fill rarely looks at all readers.
+const SPARE_SLOTS: u32 = 64;
+
+/// How many entries a part has at least where there is more than one.
+const LEAST_PART: usize = 128;
 
 /// What a cache is opened with.
 pub struct CacheBuilder<K, V, S = RandomState> {
@@ -34,12 +48,14 @@ impl<K, V> CacheBuilder<K, V> {
 }
 
 impl<K, V, S> CacheBuilder<K, V, S> {
-    /// How many entries the cache holds: 1 to 2,600,000; 1,000 where nothing is said.
+    /// How many entries the cache holds: 1 to 2,600,000; 1,000 where nothing is said. They are in parts, of which each
+    /// has a share of at least 128: a full part evicts, also where others have room.
     pub fn capacity(self, capacity: usize) -> CacheBuilder<K, V, S> {
         CacheBuilder { capacity, ..self }
     }
 
-    /// How many readers there can be at a time: 1 to 65,533; 16 where nothing is said.
+    /// How many readers there can be at a time: 1 to 65,533; 16 where nothing is said. There are as many parts, each with
+    /// a lock for misses and writes, but 16 at most, and fewer where readers take 5 MB. A reader takes 11 kB a part.
     pub fn threads(self, threads: u32) -> CacheBuilder<K, V, S> {
         CacheBuilder { threads, ..self }
     }
@@ -65,18 +81,26 @@ impl<K, V, S> CacheBuilder<K, V, S> {
 impl<K: Hash + Eq, V, S: BuildHasher> CacheBuilder<K, V, S> {
     /// Opens the cache. Refused with [`Fault::BadSize`], [`Fault::NoMemory`] or [`Fault::OtherLibrary`].
     pub fn open(self) -> Result<Cache<K, V, S>, Fault> {
-        if self.capacity == 0 || self.threads == 0 || self.threads > MAX_THREADS {
+        let is_right = (1..=MAX_CAPACITY).contains(&self.capacity) && (1..=MAX_THREADS).contains(&self.threads);
+        if !is_right {
             return Err(Fault::BadSize);
         }
-        let shape = shape(self.capacity, self.threads).ok_or(Fault::BadSize)?;
-        let (writer, mut readers) = ids::open(&shape)?;
-        let asker = readers.pop().expect("the store's own reader");
-        let spare: Vec<_> = readers.into_iter().zip(0..).collect();
-        let seats = Seats::new(spare.len());
-        let store = Store::new(writer, asker, shape, self.capacity);
+        let count = parts(self.capacity, self.threads);
         let expiry = Expiry::new(self.to_live, self.to_idle);
-        let shared = Shared::new(self.hasher, expiry, seats, spare, self.capacity, store);
-        Ok(Cache { shared: Arc::new(shared) })
+        let mut spare: Vec<Vec<IdReader>> = (0..self.threads).map(|_| Vec::with_capacity(count)).collect();
+        let mut parts = Vec::with_capacity(count);
+        for number in 0..count {
+            let capacity = (self.capacity + number) / count;
+            let shape = shape(capacity, self.threads);
+            let (writer, mut readers) = ids::open(&shape)?;
+            let asker = readers.pop().expect("the store's own reader");
+            spare.iter_mut().zip(readers).for_each(|(desk, reader)| desk.push(reader));
+            let store = Store::new(writer, asker, shape, capacity);
+            parts.push(Part::new(expiry, Seats::new(spare.len()), store));
+        }
+        let desk = |(ids, seat): (Vec<IdReader>, usize)| Desk { ids: ids.into(), seat };
+        let spare = spare.into_iter().zip(0..).map(desk).collect();
+        Ok(Cache { shared: Arc::new(Shared::new(self.hasher, self.capacity, parts, spare)) })
     }
 }
 
@@ -87,12 +111,19 @@ impl<K, V, S> fmt::Debug for CacheBuilder<K, V, S> {
     }
 }
 
-/// Eight ways for each five entries, so that few groups are full before the cache is; and a slot for each way, each reader
-/// and one more, so that no fill lacks one.
-fn shape(capacity: usize, threads: u32) -> Option<IdShape> {
-    let groups = u32::try_from(capacity.div_ceil(5)).ok()?;
+/// How many parts a cache has: one for each thread, as far as that takes neither much memory nor so small parts that by
+/// chance some would be full long before others.
+fn parts(capacity: usize, threads: u32) -> usize {
+    let threads = threads as usize;
+    threads.min(MAX_PARTS).min(MAX_READERS / (threads + 1)).min(capacity / LEAST_PART).max(1)
+}
+
+/// The map of a part. Eight ways for each five entries, so that few groups are full before the part is; and a slot for
+/// each entry, each reader and more, so that no fill lacks one.
+fn shape(capacity: usize, threads: u32) -> IdShape {
+    let groups = capacity.div_ceil(5) as u32;
     // The store has a reader of its own, and so has the library.
-    let slots = groups.checked_mul(8)?.checked_add(threads + 3)?;
+    let (slots, readers) = (capacity as u32 + SPARE_SLOTS + threads + 3, threads + 1);
     let key = RandomState::new().hash_one(0u8);
-    Some(IdShape { groups, slots, readers: threads + 1, rows: 1, key, first_number: 0 })
+    IdShape { groups, slots, readers, rows: 1, key, first_number: 0 }
 }

@@ -13,7 +13,7 @@ pub(super) struct Entry<K, V> {
     /// When it was last found, as far as the time to idle asks.
     pub touched: AtomicU64,
     /// Whether it was found since the store last looked for something to evict.
-    pub used: AtomicBool,
+    used: AtomicBool,
 }
 
 impl<K, V> Entry<K, V> {
@@ -26,6 +26,15 @@ impl<K, V> Entry<K, V> {
         if !self.used.load(Relaxed) {
             self.used.store(true, Relaxed);
         }
+    }
+
+    /// Whether it was found since the last such call. The store alone calls it.
+    pub fn unmark(&self) -> bool {
+        let was_used = self.used.load(Relaxed);
+        if was_used {
+            self.used.store(false, Relaxed);
+        }
+        was_used
     }
 }
 

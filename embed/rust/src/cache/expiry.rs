@@ -7,6 +7,7 @@ use std::time::{Duration, Instant};
 pub(super) type Moment = u64;
 
 /// How long entries live, and the clock by which they do.
+#[derive(Clone, Copy)]
 pub(super) struct Expiry {
     start: Instant,
     to_live: Option<u64>,
@@ -21,10 +22,15 @@ impl Expiry {
 
     /// The present. Where nothing expires no clock is read.
     pub fn now(&self) -> Moment {
-        if self.to_live.is_none() && self.to_idle.is_none() {
+        if !self.is_set() {
             return 0;
         }
         self.start.elapsed().as_nanos() as u64
+    }
+
+    /// Whether anything expires.
+    pub fn is_set(&self) -> bool {
+        self.to_live.is_some() || self.to_idle.is_some()
     }
 
     pub fn is_over<K, V>(&self, entry: &Entry<K, V>, now: Moment) -> bool {

@@ -3,6 +3,7 @@ mod builder;
 mod entry;
 mod expiry;
 mod flights;
+mod part;
 mod reader;
 mod request;
 mod seats;
@@ -18,12 +19,13 @@ pub use stats::CacheStats;
 pub use view::{Change, View};
 
 use entry::Entry;
+use part::Part;
 use shared::Shared;
 use std::borrow::Borrow;
 use std::collections::hash_map::RandomState;
 use std::fmt;
 use std::hash::{BuildHasher, Hash};
-use std::sync::{Arc, PoisonError};
+use std::sync::Arc;
 
 /// A cache in front of something slow: it holds so many values, of keys from a set of any size, and has each missing
 /// value loaded once, however many threads miss it. A get that finds its key takes no lock, and writes no word that
@@ -65,15 +67,16 @@ impl<K: Hash + Eq, V> Cache<K, V> {
 impl<K: Hash + Eq, V, S: BuildHasher> Cache<K, V, S> {
     /// A reader for the thread that asks, or none where all are out.
     pub fn reader(&self) -> Option<CacheReader<K, V, S>> {
-        let (ids, seat) = self.shared.spare.lock().unwrap_or_else(PoisonError::into_inner).pop()?;
-        Some(CacheReader::of(ids, seat, self.clone()))
+        let desk = self.shared.spare().pop()?;
+        Some(CacheReader::of(desk, self.clone()))
     }
 
     /// Puts a value, whatever its key has. A load that is under way for the key will not be held. Whether the cache holds
     /// the value: it doesn't where another key has its hash, where all of its group is being loaded, or during a [`Change`].
     pub fn insert(&self, key: K, value: V) -> bool {
         let id = self.shared.id_of(&key);
-        self.shared.put(Box::new(Entry::new(id, key, value, self.shared.now())))
+        let part = self.shared.part_of(id);
+        part.put(Box::new(Entry::new(id, key, value, part.expiry.now())))
     }
 
     /// Takes a key's value: whether there was one. No get that begins after this has returned sees it, nor what a load
@@ -82,12 +85,13 @@ impl<K: Hash + Eq, V, S: BuildHasher> Cache<K, V, S> {
     where
         K: Borrow<Q>,
     {
-        self.shared.invalidate(self.shared.id_of(key), key)
+        let id = self.shared.id_of(key);
+        self.shared.part_of(id).invalidate(id, key)
     }
 
     /// Takes each key's value, as [`Cache::invalidate`] does one.
     pub fn invalidate_all(&self) {
-        self.shared.invalidate_all();
+        self.shared.parts().iter().for_each(Part::invalidate_all);
     }
 
     /// How many entries it holds, of which some may have expired.
@@ -107,7 +111,7 @@ impl<K: Hash + Eq, V, S: BuildHasher> Cache<K, V, S> {
 
     /// What it has counted.
     pub fn stats(&self) -> CacheStats {
-        self.shared.counts.stats(self.shared.seats.hits())
+        self.shared.stats()
     }
 }
 

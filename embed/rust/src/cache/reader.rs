@@ -1,10 +1,10 @@
 //! What a thread finds and loads values with.
 use super::entry::{entry_of, Entry};
 use super::flights::End;
+use super::part::{Begun, Failing, Landed, Part};
 use super::request::{Request, Sought};
 use super::seats::Seat;
-use super::shared::{Begun, Landed, Shared};
-use super::stats::count;
+use super::shared::{Desk, Shared};
 use super::store::Place;
 use super::Cache;
 use crate::ids::IdReader;
@@ -16,7 +16,7 @@ use std::fmt;
 use std::hash::{BuildHasher, Hash};
 use std::mem::ManuallyDrop;
 use std::ops::Deref;
-use std::sync::{Arc, PoisonError};
+use std::sync::Arc;
 use std::time::{Duration, Instant};
 
 /// A reader of a cache, for one thread at a time. Dropped, it goes back to its cache by itself.
@@ -24,14 +24,16 @@ use std::time::{Duration, Instant};
 /// A thread that waits for a load while it runs a load of its own, or that loads a key within the load of the same key,
 /// may wait for itself: give a load's inner gets a time limit.
 pub struct CacheReader<K: Hash + Eq, V, S: BuildHasher> {
-    ids: ManuallyDrop<IdReader>,
+    /// One of each part.
+    ids: ManuallyDrop<Box<[IdReader]>>,
     seat: usize,
     rows: Box<Rows>,
     cache: Cache<K, V, S>,
 }
 
 impl<K: Hash + Eq, V, S: BuildHasher> CacheReader<K, V, S> {
-    pub(super) fn of(ids: IdReader, seat: usize, cache: Cache<K, V, S>) -> CacheReader<K, V, S> {
+    pub(super) fn of(desk: Desk, cache: Cache<K, V, S>) -> CacheReader<K, V, S> {
+        let Desk { ids, seat } = desk;
         CacheReader { ids: ManuallyDrop::new(ids), seat, rows: Box::default(), cache }
     }
 
@@ -46,9 +48,9 @@ impl<K: Hash + Eq, V, S: BuildHasher> CacheReader<K, V, S> {
     where
         K: Borrow<Q>,
     {
-        let id = self.shared().id_of(key);
-        let place = self.look(id, key)?;
-        Some(self.borrowed(place))
+        let at = self.at(key);
+        let place = self.look(at, key)?;
+        Some(self.borrowed(at, place))
     }
 
     /// The value of a key. Where the cache doesn't hold it, one caller loads it, by its own thread and without a lock,
@@ -112,16 +114,16 @@ impl<K: Hash + Eq, V, S: BuildHasher> CacheReader<K, V, S> {
         K: Borrow<Q>,
         Q: Hash + Eq + ToOwned<Owned = K> + ?Sized,
     {
-        let id = self.shared().id_of(key);
-        let mut found = self.look(id, key);
+        let at = self.at(key);
+        let mut found = self.look(at, key);
         loop {
             if let Some(place) = found {
-                return Sought::Held(self.borrowed(place));
+                return Sought::Held(self.borrowed(at, place));
             }
-            match self.shared().begin(id, key, key.to_owned()) {
-                Begun::Held => found = self.find(id, key),
+            match self.begin(at, key) {
+                Begun::Held => found = self.find(at, key),
                 Begun::Wait(_) => return Sought::UnderWay,
-                Begun::Load(flight) => return Sought::Missing(Request::of(self.cache.clone(), id, flight)),
+                Begun::Load(flight) => return Sought::Missing(Request::of(self.cache.clone(), flight)),
             }
         }
     }
@@ -132,20 +134,20 @@ impl<K: Hash + Eq, V, S: BuildHasher> CacheReader<K, V, S> {
         K: Borrow<Q>,
         Q: Hash + Eq + ?Sized,
     {
-        let id = self.shared().id_of(key);
-        if let Some(place) = self.look(id, key) {
-            return Ok(self.borrowed(place));
+        let at = self.at(key);
+        if let Some(place) = self.look(at, key) {
+            return Ok(self.borrowed(at, place));
         }
-        if let Some(flight) = self.shared().flight_of(id, key) {
-            count(&self.shared().counts.waits);
+        if let Some(flight) = self.part(at).flight_of(at.id, key) {
+            self.seat(at).count_wait();
             match flight.wait(Instant::now().checked_add(timeout)) {
                 None => return Err(WaitError::TimedOut),
                 Some(End::Failed(why)) => return Err(WaitError::Failed(why)),
                 Some(End::Loaded) => {}
             }
         }
-        let place = self.find(id, key).ok_or(WaitError::Missing)?;
-        Ok(self.borrowed(place))
+        let place = self.find(at, key).ok_or(WaitError::Missing)?;
+        Ok(self.borrowed(at, place))
     }
 
     /// Puts a new value in place of a key's, made of the one that it has; `change` runs again where that was replaced
@@ -155,12 +157,12 @@ impl<K: Hash + Eq, V, S: BuildHasher> CacheReader<K, V, S> {
         K: Borrow<Q>,
         Q: Hash + Eq + ToOwned<Owned = K> + ?Sized,
     {
-        let id = self.shared().id_of(key);
-        while let Some(place) = self.find(id, key) {
-            let old = self.borrowed(place);
+        let at = self.at(key);
+        while let Some(place) = self.find(at, key) {
+            let (part, old) = (self.part(at), self.borrowed(at, place));
             let value = change(&old);
-            let entry = Box::new(Entry::new(id, key.to_owned(), value, self.shared().now()));
-            let is_done = self.shared().swap(place, entry);
+            let entry = Box::new(Entry::new(at.id, key.to_owned(), value, part.expiry.now()));
+            let is_done = part.swap(place, entry);
             // Until here no other entry can have come to lie where the old one lies.
             drop(old);
             if is_done {
@@ -180,72 +182,96 @@ impl<K: Hash + Eq, V, S: BuildHasher> CacheReader<K, V, S> {
         K: Borrow<Q>,
         Q: Hash + Eq + ToOwned<Owned = K> + ?Sized,
     {
-        let id = self.shared().id_of(key);
-        if let Some(place) = self.look(id, key) {
-            return Ok(self.borrowed(place));
+        let at = self.at(key);
+        if let Some(place) = self.look(at, key) {
+            return Ok(self.borrowed(at, place));
         }
         // A limit beyond the end of time is none.
         let until = timeout.and_then(|timeout| Instant::now().checked_add(timeout));
         let flight = loop {
-            match self.shared().begin(id, key, key.to_owned()) {
+            match self.begin(at, key) {
                 Begun::Load(flight) => break flight,
                 Begun::Wait(flight) => {
-                    count(&self.shared().counts.waits);
+                    self.seat(at).count_wait();
                     if flight.wait(until).is_none() {
                         return Err(LoadError::TimedOut);
                     }
                 }
                 Begun::Held => {}
             }
-            if let Some(place) = self.find(id, key) {
-                return Ok(self.borrowed(place));
+            if let Some(place) = self.find(at, key) {
+                return Ok(self.borrowed(at, place));
             }
         };
-        // Where the load ends without a value, by an error or a panic, this is dropped, which wakes those who wait.
-        let request = Request::of(self.cache.clone(), id, flight);
+        let part = self.part(at);
+        // Where the load ends without a value, by an error or a panic, this wakes those who wait.
+        let _failing = Failing { part, flight: &flight };
         let value = load().map_err(LoadError::Failed)?;
-        Ok(match request.land(key.to_owned(), value, Some(self.seat)) {
-            Landed::Held(place) => self.borrowed(place),
+        let entry = Box::new(Entry::new(at.id, key.to_owned(), value, part.expiry.now()));
+        Ok(match part.land(&flight, entry, Some(self.seat)) {
+            Landed::Held(place) => self.borrowed(at, place),
             Landed::Own(entry) => CacheRef(Borrowed::Own(entry)),
         })
     }
 
+    /// Opens a flight of a key, unless it is held or there is one. The id is claimed without the lock.
+    fn begin<Q>(&mut self, at: At, key: &Q) -> Begun<K>
+    where
+        K: Borrow<Q>,
+        Q: Eq + ToOwned<Owned = K> + ?Sized,
+    {
+        self.ids[at.part].request(at.id);
+        self.part(at).begin(at.id, key, key.to_owned())
+    }
+
     /// Where the entry of a key lies, which stays there while the reader has its seat. Without one the seat is left.
-    fn find<Q: Eq + ?Sized>(&mut self, id: u64, key: &Q) -> Option<Place<K, V>>
+    fn find<Q: Eq + ?Sized>(&mut self, at: At, key: &Q) -> Option<Place<K, V>>
     where
         K: Borrow<Q>,
     {
-        let shared = &*self.cache.shared;
-        shared.seats.sit(self.seat);
-        let seat = Leaving(shared.seats.seat(self.seat));
-        let place = entry_of::<K, V>(self.ids.find(id, &mut self.rows)?)?;
+        let part = &self.cache.shared.parts()[at.part];
+        let seat = Leaving(part.seats.sit(self.seat));
+        let place = entry_of::<K, V>(self.ids[at.part].find(at.id, &mut self.rows)?)?;
         // SAFETY: the reader sat down before it found the entry.
         let entry = unsafe { place.as_ref() };
-        let now = shared.now();
-        if entry.key.borrow() != key || shared.expiry.is_over(entry, now) {
+        let now = part.expiry.now();
+        if entry.key.borrow() != key || part.expiry.is_over(entry, now) {
             return None;
         }
         entry.mark();
-        shared.expiry.touch(entry, now);
+        part.expiry.touch(entry, now);
         std::mem::forget(seat);
         Some(place)
     }
 
     /// The same for a get's first look, which is a hit or a miss.
-    fn look<Q: Eq + ?Sized>(&mut self, id: u64, key: &Q) -> Option<Place<K, V>>
+    fn look<Q: Eq + ?Sized>(&mut self, at: At, key: &Q) -> Option<Place<K, V>>
     where
         K: Borrow<Q>,
     {
-        let found = self.find(id, key);
+        let found = self.find(at, key);
         match found {
-            Some(_) => self.shared().seats.seat(self.seat).count_hit(),
-            None => count(&self.shared().counts.misses),
+            Some(_) => self.seat(at).count_hit(),
+            None => self.seat(at).count_miss(),
         }
         found
     }
 
-    fn borrowed(&self, place: Place<K, V>) -> CacheRef<'_, K, V> {
-        CacheRef(Borrowed::Held(place, Leaving(self.shared().seats.seat(self.seat))))
+    fn borrowed(&self, at: At, place: Place<K, V>) -> CacheRef<'_, K, V> {
+        CacheRef(Borrowed::Held(place, Leaving(self.seat(at))))
+    }
+
+    fn at<Q: Hash + ?Sized>(&self, key: &Q) -> At {
+        let id = self.shared().id_of(key);
+        At { id, part: self.shared().number_of(id) }
+    }
+
+    fn part(&self, at: At) -> &Part<K, V> {
+        &self.shared().parts()[at.part]
+    }
+
+    fn seat(&self, at: At) -> &Seat {
+        self.part(at).seats.seat(self.seat)
     }
 
     fn shared(&self) -> &Shared<K, V, S> {
@@ -256,10 +282,10 @@ impl<K: Hash + Eq, V, S: BuildHasher> CacheReader<K, V, S> {
 impl<K: Hash + Eq, V, S: BuildHasher> Drop for CacheReader<K, V, S> {
     fn drop(&mut self) {
         // What was borrowed and forgotten is let go.
-        self.shared().seats.seat(self.seat).leave();
+        self.shared().parts().iter().for_each(|part| part.seats.seat(self.seat).leave());
         // SAFETY: nothing uses it after this.
         let ids = unsafe { ManuallyDrop::take(&mut self.ids) };
-        self.shared().spare.lock().unwrap_or_else(PoisonError::into_inner).push((ids, self.seat));
+        self.shared().spare().push(Desk { ids, seat: self.seat });
     }
 }
 
@@ -267,6 +293,13 @@ impl<K: Hash + Eq, V, S: BuildHasher> fmt::Debug for CacheReader<K, V, S> {
     fn fmt(&self, f: &mut fmt::Formatter<'_>) -> fmt::Result {
         f.debug_struct("CacheReader").field("seat", &self.seat).finish_non_exhaustive()
     }
+}
+
+/// A key's id, and the number of its part.
+#[derive(Clone, Copy)]
+struct At {
+    id: u64,
+    part: usize,
 }
 
 /// A seat that is left with this.

@@ -1,7 +1,7 @@
 //! Loads that are under way, as those have them who make them.
 use super::entry::Entry;
-use super::flights::Flight;
-use super::shared::Landed;
+use super::flights::{Cause, Flight};
+use super::part::{Landed, Part};
 use super::{Cache, CacheRef};
 use std::collections::hash_map::RandomState;
 use std::error::Error;
@@ -14,14 +14,12 @@ use std::sync::Arc;
 #[must_use = "dropped, the load has failed"]
 pub struct Request<K: Hash + Eq, V, S: BuildHasher = RandomState> {
     cache: Cache<K, V, S>,
-    id: u64,
     flight: Arc<Flight<K>>,
-    has_ended: bool,
 }
 
 impl<K: Hash + Eq, V, S: BuildHasher> Request<K, V, S> {
-    pub(super) fn of(cache: Cache<K, V, S>, id: u64, flight: Arc<Flight<K>>) -> Request<K, V, S> {
-        Request { cache, id, flight, has_ended: false }
+    pub(super) fn of(cache: Cache<K, V, S>, flight: Arc<Flight<K>>) -> Request<K, V, S> {
+        Request { cache, flight }
     }
 
     /// The key that is missing.
@@ -35,30 +33,24 @@ impl<K: Hash + Eq, V, S: BuildHasher> Request<K, V, S> {
     where
         K: Clone,
     {
-        let key = self.key().clone();
-        matches!(self.land(key, value, None), Landed::Held(_))
+        let part = self.part();
+        let entry = Box::new(Entry::new(self.flight.id(), self.key().clone(), value, part.expiry.now()));
+        matches!(part.land(&self.flight, entry, None), Landed::Held(_))
     }
 
     /// Ends it without a value. Those who wait without a load of their own are told why; of the others one loads the key.
-    pub fn fail(mut self, why: impl Into<Box<dyn Error + Send + Sync>>) {
-        self.has_ended = true;
-        self.cache.shared.crash(self.id, &self.flight, Some(why.into().into()));
+    pub fn fail(self, why: impl Into<Box<dyn Error + Send + Sync>>) {
+        self.part().crash(&self.flight, Some(Cause::from(why.into())));
     }
 
-    /// Ends it with a value, for the reader of that seat.
-    pub(super) fn land(mut self, key: K, value: V, seat: Option<usize>) -> Landed<K, V> {
-        self.has_ended = true;
-        let shared = &self.cache.shared;
-        let entry = Box::new(Entry::new(self.id, key, value, shared.now()));
-        shared.land(self.id, &self.flight, entry, seat)
+    fn part(&self) -> &Part<K, V> {
+        self.cache.shared.part_of(self.flight.id())
     }
 }
 
 impl<K: Hash + Eq, V, S: BuildHasher> Drop for Request<K, V, S> {
     fn drop(&mut self) {
-        if !self.has_ended {
-            self.cache.shared.crash(self.id, &self.flight, None);
-        }
+        self.part().fail(&self.flight);
     }
 }
 

@@ -1,5 +1,5 @@
 //! What a cache counts.
-use std::sync::atomic::{AtomicU64, Ordering::Relaxed};
+use std::ops::AddAssign;
 
 /// What a cache has counted since it was opened.
 #[derive(Clone, Copy, Debug, Default, PartialEq, Eq)]
@@ -22,33 +22,15 @@ pub struct CacheStats {
     pub outdated: u64,
 }
 
-#[derive(Default)]
-pub(super) struct Counts {
-    pub misses: AtomicU64,
-    pub loads: AtomicU64,
-    pub failures: AtomicU64,
-    pub waits: AtomicU64,
-    pub evictions: AtomicU64,
-    pub refused: AtomicU64,
-    pub outdated: AtomicU64,
-}
-
-impl Counts {
-    pub fn stats(&self, hits: u64) -> CacheStats {
-        CacheStats {
-            hits,
-            misses: self.misses.load(Relaxed),
-            loads: self.loads.load(Relaxed),
-            failures: self.failures.load(Relaxed),
-            waits: self.waits.load(Relaxed),
-            evictions: self.evictions.load(Relaxed),
-            refused: self.refused.load(Relaxed),
-            outdated: self.outdated.load(Relaxed),
-        }
+impl AddAssign for CacheStats {
+    fn add_assign(&mut self, other: CacheStats) {
+        self.hits += other.hits;
+        self.misses += other.misses;
+        self.loads += other.loads;
+        self.failures += other.failures;
+        self.waits += other.waits;
+        self.evictions += other.evictions;
+        self.refused += other.refused;
+        self.outdated += other.outdated;
     }
-}
-
-/// One more.
-pub(super) fn count(counter: &AtomicU64) {
-    counter.fetch_add(1, Relaxed);
 }

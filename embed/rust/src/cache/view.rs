@@ -35,7 +35,7 @@ impl<K: Hash + Eq, S: BuildHasher> Cache<K, Box<[Row]>, S> {
     {
         let id = self.shared.id_of(key);
         let change = Change { view: self, id, key: Some(key.to_owned()) };
-        self.shared.begin_change(id);
+        self.shared.part_of(id).begin_change(id);
         change
     }
 
@@ -68,7 +68,7 @@ impl<K: Hash + Eq, S: BuildHasher> Change<'_, K, S> {
 
     fn end(&mut self, change: impl FnOnce(&[Row]) -> Option<Box<[Row]>>) -> Option<bool> {
         let key = self.key.take()?;
-        self.view.shared.end_change(self.id, key, |rows| change(rows))
+        self.view.shared.part_of(self.id).end_change(self.id, key, |rows| change(rows))
     }
 }
 

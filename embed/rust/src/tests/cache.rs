@@ -283,6 +283,25 @@ fn it_holds_no_more_than_its_capacity() {
 }
 
 #[test]
+fn its_parts_hold_its_capacity_together() {
+    let dropped = AtomicUsize::new(0);
+    let cache = cache(1_003);
+    let mut reader = cache.reader().unwrap();
+    for key in 0..1_000 {
+        assert!(reader.get_with(&key, || Counted(&dropped)).is_held());
+    }
+    assert!(cache.len() > 850, "{} of 1000 keys are held", cache.len());
+    for key in 1_000..20_000 {
+        drop(reader.get_with(&key, || Counted(&dropped)));
+    }
+    assert_eq!((cache.len(), cache.stats().loads, cache.stats().misses), (1_003, 20_000, 20_000));
+    cache.invalidate_all();
+    assert!(cache.is_empty() && (0..20_000).all(|key| reader.get(&key).is_none()));
+    drop((reader, cache));
+    assert_eq!(dropped.into_inner(), 20_000);
+}
+
+#[test]
 fn what_is_found_again_and_again_stays() {
     let cache = cache(50);
     let mut reader = cache.reader().unwrap();
@@ -309,8 +328,20 @@ fn readers_come_back_by_themselves() {
 
 #[test]
 fn sizes_out_of_their_limits_are_refused() {
-    for builder in [Cache::<u64, u64>::builder().capacity(0), Cache::<u64, u64>::builder().threads(0)] {
+    let builder = Cache::<u64, u64>::builder;
+    let [no_entries, many_entries] = [0, 2_600_001].map(|capacity| builder().capacity(capacity));
+    let [no_threads, many_threads] = [0, 65_534].map(|threads| builder().threads(threads));
+    for builder in [no_entries, many_entries, no_threads, many_threads] {
         assert_eq!(builder.open().err(), Some(Fault::BadSize));
+    }
+}
+
+/// Counts its drop.
+struct Counted<'a>(&'a AtomicUsize);
+
+impl Drop for Counted<'_> {
+    fn drop(&mut self) {
+        self.0.fetch_add(1, SeqCst);
     }
 }
 
@@ -345,8 +376,6 @@ fn a_drop_that_panics_within_a_load_leaves_nobody_waiting() {
     let cache = Cache::<u64, Fragile>::builder().capacity(1).open().unwrap();
     let (mut reader, mut other) = (cache.reader().unwrap(), cache.reader().unwrap());
     drop(reader.get_with(&3, || Fragile(3, &drops)));
-    // This one's reader may still see the value whose place it takes, so the next load drops that.
-    drop(reader.get_with(&4, || Fragile(4, &drops)));
     thread::scope(|scope| {
         let (other, drops) = (&mut other, &drops);
         let load = move || {
@@ -490,8 +519,11 @@ fn one_thread<'a, S: BuildHasher>(base: &'a Base, cache: &Cache<u64, Version<'a>
 #[test]
 fn eight_threads_see_no_old_value_and_load_each_key_alone() {
     let base = Base::new();
-    for (to_live, to_idle) in [(LONG, LONG), (Duration::from_millis(2), Duration::from_millis(1))] {
-        let builder = Cache::<u64, Version>::builder().capacity(60).threads(8);
+    // The second has two parts.
+    for (capacity, to_live, to_idle) in
+        [(60, LONG, LONG), (300, LONG, LONG), (60, Duration::from_millis(2), Duration::from_millis(1))]
+    {
+        let builder = Cache::<u64, Version>::builder().capacity(capacity).threads(8);
         let cache = builder.time_to_live(to_live).time_to_idle(to_idle).open().unwrap();
         thread::scope(|scope| {
             for seed in 1..=8u64 {
@@ -501,7 +533,7 @@ fn eight_threads_see_no_old_value_and_load_each_key_alone() {
         });
         let stats = cache.stats();
         assert!(stats.hits > 0 && stats.loads > 0 && stats.failures > 0 && stats.evictions > 0, "{stats:?}");
-        assert!(cache.len() <= 60);
+        assert!(cache.len() <= capacity);
     }
     assert_eq!(base.made.into_inner(), base.dropped.into_inner());
 }

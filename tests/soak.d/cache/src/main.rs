@@ -30,9 +30,13 @@ impl Value {
     }
 
     fn look(&self, key: u32, floor: u64) {
-        model_reads(self.number);
+        let number = self.number;
+        model_reads(number);
         model_answers(key, self.key, self.version, floor);
-        if self.bytes.iter().any(|byte| *byte != key as u8) {
+        let is_torn = self.bytes.iter().any(|byte| *byte != key as u8);
+        // Where it was dropped meanwhile it fails by that.
+        model_reads(number);
+        if is_torn {
             fails(c"torn");
         }
     }
@@ -238,8 +242,8 @@ fn round(cache: &Values, writes: &[Mutex<()>], dice: &mut Dice) {
         drop(sender);
         model_awaits(0, POOL + 1);
     });
-    // Two writes, so that what the first took out is dropped.
-    [KEYS, KEYS].iter().for_each(|other| _ = cache.invalidate(other));
+    // A write to each part, so that what others took out there is dropped.
+    (KEYS..KEYS + 64).for_each(|other| _ = cache.invalidate(&other));
     model_lives(cache.len() as u64);
 }
 
