@@ -3,16 +3,17 @@ import os
 import threading
 
 KEPT = 6  # votes of an article
-at_failure = []  # what is called before the end
+at_failure, ending = [], threading.Lock()  # what is called before the end, by the first who comes to it
 
 
 def fails(check, text):
     print(f"failed {check}: {text}", flush=True)
-    try:
-        for end in at_failure:
-            end()
-    finally:
-        os._exit(1)
+    with ending:
+        try:
+            for end in at_failure:
+                end()
+        finally:
+            os._exit(1)
 
 
 class Article:
@@ -23,13 +24,14 @@ class Article:
         self.guard, self.writing = threading.Lock(), threading.Lock()
         self.last, self.token = 0, ""
         # Votes that were acknowledged; those about which an answer is awaited or was a fault; those about which none came,
-        # so that the base may still be at work; and those of the last that were said to be gone.
-        self.sure, self.open, self.lost, self.doubtful = set(), set(), set(), set()
+        # so that the base may still be at work; those of the last that were said to be gone; and others that were said to
+        # be gone since the last token, so that who reads with it may be told them.
+        self.sure, self.open, self.lost, self.doubtful, self.gone = set(), set(), set(), set(), set()
 
     def before(self):
         """What a read that begins now is checked with."""
         with self.guard:
-            return set(self.sure), self.open | self.doubtful, self.last, self.token
+            return set(self.sure), self.open | self.doubtful | self.gone, self.last, self.token
 
     def check(self, before, reply):
         """A vote that was there throughout is there, once, and none that was gone before is."""
@@ -61,12 +63,13 @@ class Article:
             if reply.startswith("+"):
                 self.open.discard(vote)
                 self.token = reply[1:]
+                self.gone.clear()
                 if adds:
                     self.sure.add(vote)
-            elif not reply:
-                self.lost.add(vote)
             elif "no such vote" in reply:
                 self.open.discard(vote)
-                self.doubtful |= {vote} & self.lost
+                (self.doubtful if vote in self.lost else self.gone).add(vote)
+            elif not reply or "memory" in reply:
+                self.lost.add(vote)
         if was_sure and "no such vote" in reply:
             fails("lost write", f"vote {vote} of {self.name} was acknowledged, and is gone")

@@ -149,7 +149,8 @@ class Bed:
     def run(self, is_over):
         """Each fault comes once before one comes again."""
         while not is_over.is_set():
-            for fault in self.dice.sample([self.kill, self.lock, self.lock, self.other, self.rest], 5):
+            faults = [self.kill, self.lock, self.lock, self.rest, *self.others()]
+            for fault in self.dice.sample(faults, len(faults)):
                 if is_over.wait(0.1 + self.dice.random() * self.pause):
                     break
                 for server in self.servers:
@@ -184,7 +185,10 @@ class ViewServer(Bed):
             self.counts["base not locked"] += 1
         base.close()
 
-    def other(self):
+    def others(self):
+        return [self.checkpoint]
+
+    def checkpoint(self):
         """The log's file is written back and begins anew."""
         base = sqlite3.connect(self.path, timeout=5)
         base.execute("PRAGMA wal_checkpoint(TRUNCATE)")
@@ -198,6 +202,7 @@ class Edges(Bed):
         script = [str(pathlib.Path(__file__).parent / "postgres"), str(pathlib.Path(self.program).parents[2])]
         self.base = subprocess.Popen(script, stdin=subprocess.PIPE, stdout=subprocess.PIPE, text=True)
         self.address = self.base.stdout.readline().strip()
+        self.folder = pathlib.Path(self.address.split()[0].removeprefix("host="))
         sizes = ["--readers", "24", "--keys", "50", "--rows", "15", "--limit", "20", "--slots", "30"]
         # The second one's ticket numbers begin next to their end.
         numbers = [0, 4194300]
@@ -212,17 +217,52 @@ class Edges(Bed):
             fails("setup", f"PostgreSQL: {line}")
 
     def explain(self):
-        """What the base has, beside an answer that was wrong."""
-        rows = "SELECT article, array_agg(voter ORDER BY voter) FROM votes GROUP BY article ORDER BY article"
+        """What the base has, and what each edge holds, beside an answer that was wrong."""
+        rows = "SELECT article, string_agg(voter || ':' || weight, ' ' ORDER BY voter) FROM votes GROUP BY 1 ORDER BY 1"
         subprocess.run(["psql", "-X", "-t", "-A", self.address, "-c", rows])
+        for server in self.servers:
+            try:
+                client = Client(server.port, patience=5)
+                held = [f"{article.name}|{client.ask(f'PEEK {article.name}')}" for article in self.articles]
+                print(server.name, client.ask("STATS"), *held, sep="\n", flush=True)
+            except OSError as fault:
+                print(server.name, fault, flush=True)
 
     def lock(self):
         self.tell("lock")
         self.counts["base locked"] += 1
 
-    def other(self):
+    def others(self):
+        return [self.restart, self.drop, self.drop]
+
+    def restart(self):
         self.tell("restart")
         self.counts["base restarted"] += 1
+
+    def drop(self):
+        """Each edge begins anew with a new slot, while a process stops that answers an upquery of before."""
+        stops = threading.Thread(target=self.stop)
+        stops.start()
+        self.tell("drop")
+        stops.join()
+        self.counts["slots dropped"] += 1
+
+    def stop(self):
+        """The first of PostgreSQL's processes that is seen to answer an upquery, for a while."""
+        server = (self.folder / "data/postmaster.pid").read_text().split()[0]
+        ends = time.monotonic() + 0.3
+        while time.monotonic() < ends:
+            for process in pathlib.Path(f"/proc/{server}/task/{server}/children").read_text().split():
+                try:
+                    if b"EXECUTE" in pathlib.Path(f"/proc/{process}/cmdline").read_bytes():
+                        os.kill(int(process), signal.SIGSTOP)
+                        time.sleep(0.4)
+                        os.kill(int(process), signal.SIGCONT)
+                        self.counts["base's process stopped"] += 1
+                        return
+                except OSError:
+                    continue
+            time.sleep(0.002)
 
     def after_kill(self, server):
         """What its clients wrote may go on for a while."""

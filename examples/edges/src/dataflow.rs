@@ -50,7 +50,7 @@ pub struct Dataflow<'a> {
 pub struct Order {
     log: Log,
     fresh: Fresh,
-    /// What the slot began with, until an answer's snapshot covers it.
+    /// What the slot began with.
     first: Option<Snapshot>,
     /// A slot stands. Without one, answers are told and fill nothing.
     is_following: bool,
@@ -166,7 +166,7 @@ impl Dataflow<'_> {
         };
         // An answer of before the loss tells nothing of a server that was restarted: that may give its numbers anew.
         let is_late = requests.iter().all(|request| request.number <= self.order.emptied_after);
-        if self.lacks_first(&seen, is_late) {
+        if !is_late && self.lacks_first(&seen) {
             return requests.into_iter().for_each(|request| self.request_again(request));
         }
         self.shared.told.fetch_max(seen.place.0, SeqCst);
@@ -178,10 +178,10 @@ impl Dataflow<'_> {
         }
     }
 
-    /// Whether the snapshot may lack what the slot doesn't bring.
-    fn lacks_first(&mut self, seen: &Seen, is_late: bool) -> bool {
-        self.order.first.take_if(|first| !is_late && seen.snapshot.covers(first));
-        parts::FIRST_SNAPSHOT && self.order.first.is_some()
+    /// Whether the snapshot may lack what the slot doesn't bring. One of before the slot may be told after one that covers
+    /// that.
+    fn lacks_first(&self, seen: &Seen) -> bool {
+        parts::FIRST_SNAPSHOT && self.order.first.as_ref().is_some_and(|first| !seen.snapshot.covers(first))
     }
 
     /// The rows of an article as a statement saw them, with the changes that it didn't see.

@@ -16,9 +16,10 @@ struct Case {
 }
 
 /// A name, and what happens.
-const CASES: [(&str, fn(&mut Case)); 10] = [
+const CASES: [(&str, fn(&mut Case)); 11] = [
     ("log", a_commit_that_no_snapshot_sees_yet),
     ("first_snapshot", a_commit_that_the_new_slot_does_not_carry),
+    ("early", an_answer_that_is_older_than_the_slot),
     ("skip", an_answer_that_is_ahead_of_the_stream),
     ("repeats_guard", a_stream_that_is_cut),
     ("emptying", a_slot_that_is_dropped),
@@ -165,6 +166,36 @@ fn a_commit_that_the_new_slot_does_not_carry(case: &mut Case) {
     assert!(told.contains(&row) || !is_following, "the slot began with {row}, and the edge tells {told}");
     edge.follows();
     assert_eq!((edge.ask("GET h"), edge.count("transactions")), (rows_in_table(&mut case.base, "h"), 0));
+}
+
+/// Its statement has its snapshot before it waits for a lock. The answer comes after another one that saw all that the slot
+/// began with.
+fn an_answer_that_is_older_than_the_slot(case: &mut Case) {
+    let (mut open, xid) = case.open_transaction();
+    last(&mut open, "INSERT INTO votes VALUES ('o', 1, 1)");
+    let edge = case.edge(&["--connections", "2"]);
+    case.waits_for(&xid);
+    let connections = "SELECT count(*) FROM pg_stat_activity WHERE query LIKE 'EXECUTE upquery%'";
+    until("each connection was used", || edge.ask("GET p").is_empty() && case.sql(connections) == "2");
+    let address = case.address.clone();
+    let locks = thread::spawn(move || {
+        last(&mut Connection::open(&address).unwrap(), "BEGIN; LOCK TABLE votes; COMMIT");
+    });
+    let waits = |query: &str| {
+        format!("SELECT pid FROM pg_stat_activity WHERE wait_event = 'relation' AND query LIKE '{query}%'")
+    };
+    until("the lock is waited for", || !case.sql(&waits("BEGIN; LOCK")).is_empty());
+    let port = edge.port;
+    let client = thread::spawn(move || edges::Client::connect(port).unwrap().ask("GET o").unwrap());
+    until("the upquery waits behind it", || !case.sql(&waits("EXECUTE upquery")).is_empty());
+    let upquery = case.sql(&waits("EXECUTE upquery"));
+    signal("STOP", &upquery);
+    open.run("COMMIT").unwrap();
+    locks.join().unwrap();
+    edge.follows();
+    assert_eq!((edge.ask("GET p"), edge.ask("PEEK p")), (String::new(), String::new()));
+    signal("CONT", &upquery);
+    assert_eq!((client.join().unwrap(), edge.ask("PEEK o")), ("1:1".into(), "1:1".into()));
 }
 
 fn an_answer_that_is_ahead_of_the_stream(case: &mut Case) {

@@ -158,6 +158,20 @@ fn an_answer_covers_what_the_slot_began_with() {
 }
 
 #[test]
+fn an_answer_of_before_the_slot_covers_what_it_began_with_though_another_did() {
+    let mut trial = Trial::with("");
+    let (early, told) = trial.ask("a");
+    // 12 committed after the snapshot of the answer, and before the slot's first transaction.
+    trial.begin("1:20:");
+    trial.fill("b", "20:20:", &[]);
+    trial.answer(early, "12:12:", &[ONE]);
+    assert_eq!(trial.held("a"), None);
+    let again = trial.sent().expect("PostgreSQL is asked again");
+    trial.answer(again, "20:20:", &[ONE, TWO]);
+    assert_eq!((trial.held("a"), rows(told)), (Some(vec![ONE, TWO]), Some(vec![ONE, TWO])));
+}
+
+#[test]
 fn a_repeat_counts_once() {
     let mut trial = Trial::following();
     trial.fill("a", "10:10:", &[ONE]);
