@@ -47,7 +47,7 @@ use crate::two_seats::take_in;
 use crate::view::View;
 use atomic_table::Table;
 use nr_core::{Retired, Shape};
-use nr_words::{ARRIVE, Layout, hole_word, names, naming, opening_words, parts};
+use nr_words::{ARRIVE, Layout, hole_word, names, naming, opening_words};
 use std::alloc::{AllocError, Global};
 use std::marker::Model;
 
@@ -361,30 +361,16 @@ impl Board {
         words.load::<Nears>(seat, key as usize)
     }
 
-    /// Loads a word of a set that will be read, so that it is near then: the one at that place, or the
-    /// table's last one where it ends before. The load tells nothing.
-    pub fn load_near(&self, seat: &mut Seat, place: u64) -> u64
+    /// Loads a word of a set that will be read, so that it is near then. The load tells nothing.
+    pub fn load_word(&self, seat: &mut Seat, place: u64) -> u64
         requires own { (token seat.old).table ≡ self.now }
+        requires place { place < total_of (layout self.now.shape) }
         ensures step { token seat.new ≡ with_step (token seat.old) }
         ensures role { seat.new.me.0.role ≡ seat.old.me.0.role }
         ensures says { seat.new.me.0.says ≡ seat.old.me.0.says }
     {
         let words = &self.table.shared;
-        let last = self.table.word_count() as u64 - 1;
-        words.load::<Nears>(seat, place.min(last) as usize)
-    }
-
-    /// Where the first content word stands of the slot that a key's word names, and 0 where it names
-    /// none of the map's.
-    pub fn content_named(&self, word: u64) -> u64
-        ensures { result < 2 ^ 40 }
-    {
-        let found = parts(word);
-        if found.filled && found.slot < self.plan.shape.slots {
-            self.content(found.slot)
-        } else {
-            0
-        }
+        words.load::<Nears>(seat, place as usize)
     }
 
     /// The writer looks at the key of a call: its word.
@@ -620,8 +606,11 @@ impl Board {
         words.load::<Sees>(seat, 0);
     }
 
-    fn layout(&self) -> Layout
+    /// The sizes of the map by which places of words are reckoned: some keys, and 1 to 255 rows a key.
+    pub fn layout(&self) -> Layout
         ensures value { result ≡ layout self.now.shape }
+        ensures keys { 0 < self.now.shape.keys }
+        ensures rows { 0 < self.now.shape.rows }
         ensures few { self.now.shape.rows ≤ MAX_ROWS }
     {
         layout_of(self.plan.shape)

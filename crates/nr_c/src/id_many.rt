@@ -80,21 +80,20 @@ fn load_ids_from(map: &IdMap, hand: &mut IdHand, place: usize, left: &[NrWantedI
 {
     if place % GROUP == 0 {
         let group = &left[..left.len().min(GROUP)];
-        let ids = ids_of(group);
+        let mut ids = [0; GROUP];
+        copy_ids(group, &mut ids);
         hand.load_ahead(map, &ids[..group.len()]);
     }
 }
 
-// The ids of a group, and zeros after them.
-fn ids_of(group: &[NrWantedId]) -> [u64; GROUP]
+// Writes the ids of a group over the first ones there.
+fn copy_ids(group: &[NrWantedId], ids: &mut [u64; GROUP])
     requires few { length group.now ≤ 16 }
-    ensures { take (length group.now) result ≡ ids_wanted group.now }
+    ensures { take (length group.now) ids.new ≡ ids_wanted group.now }
 {
-    let mut ids = [0; GROUP];
     for place in 0..group.len() {
         ids[place] = group[place].id;
     }
-    ids
 }
 
 fn find_one_id(map: &IdMap, hand: &mut IdHand, one: &mut NrWantedId)

@@ -1,7 +1,7 @@
 //! Finds of many keys by one call.
 ghost use Rattle.std.specs.Prelude.{◌≡◌, ◌<◌, ◌≤◌, ◌*◌, ℕ, All, length, take};
 ghost use Rattle.std.specs.Bool.{OnFalse, OnTrue};
-ghost use Rattle.nr_map.specs.FindsEach.{loads_at, loads_of_key, with_loads};
+ghost use Rattle.nr_map.specs.FindsEach.{loads_at, with_loads};
 ghost use Rattle.nr_c.specs.Hands.{HoldsNone};
 ghost use Rattle.nr_c.specs.Live.{WhenIdle, WhenLive};
 ghost use Rattle.nr_c.specs.Many.{AreKeysOf, FindsEachByCode, FindsOneByCode, FindsSome, WithKeys};
@@ -10,7 +10,6 @@ use crate::codes::{NR_CLOSED, NR_DONE, NR_HOLDING, NR_NO_KEY, of_found};
 use crate::reader_handle::NrReader;
 use crate::reader_side::ReaderSide;
 use crate::rows::NrRows;
-use core::mem::replace_with;
 use nr_map::{Hand, ReaderMap};
 
 // How many keys' words are loaded ahead at a time.
@@ -89,43 +88,20 @@ fn load_from(map: &ReaderMap, hand: &mut Hand, place: usize, left: &[NrWanted])
 {
     if place % GROUP == 0 {
         let group = &left[..left.len().min(GROUP)];
-        let keys = keys_of(group);
-        replace_with(hand, (map, &keys[..group.len()]), loaded_ahead);
+        let mut keys = [0; GROUP];
+        copy_keys(group, &mut keys);
+        hand.load_ahead(map, &keys[..group.len()]);
     }
 }
 
-// A hand that holds nothing loads what its finds of the keys will need.
-fn loaded_ahead(hand: Hand, near: (&ReaderMap, &[u32])) -> (Hand, ())
-    requires own { hand.reader.table ≡ near.0.now }
-    requires idle { HoldsNone hand }
-    requires keys { All (λ key. key < near.0.now.shape.keys) near.1.now }
-    requires few { length near.1.now ≤ 16 }
-    ensures reader { result.0.reader ≡ with_loads (loads_of_key near.entry.0.now.shape.rows * length near.entry.1.now) hand.reader }
-    ensures idle { HoldsNone result.0 }
-{
-    let (map, keys) = near;
-    match hand.into_pin() {
-        Err(mut reader) => {
-            map.load_ahead(&mut reader, keys);
-            (Hand::of(reader), ())
-        }
-        Ok(pin) => {
-            drop(pin.release(map));
-            unreachable!()
-        }
-    }
-}
-
-// The keys of a group, and zeros after them.
-fn keys_of(group: &[NrWanted]) -> [u32; GROUP]
+// Writes the keys of a group over the first ones there.
+fn copy_keys(group: &[NrWanted], keys: &mut [u32; GROUP])
     requires few { length group.now ≤ 16 }
-    ensures { (bound : ℕ) → All (λ one. one.key < bound) group.now → All (λ key. key < bound) (take (length group.now) result) }
+    ensures { (bound : ℕ) → All (λ one. one.key < bound) group.now → All (λ key. key < bound) (take (length group.now) keys.new) }
 {
-    let mut keys = [0; GROUP];
     for place in 0..group.len() {
         keys[place] = group[place].key;
     }
-    keys
 }
 
 fn find_one(map: &ReaderMap, hand: &mut Hand, one: &mut NrWanted)

@@ -1,6 +1,5 @@
 //! What a hand does that holds nothing: it finds as a reader does, and loads ahead what its finds need.
-ghost use Rattle.std.specs.Prelude.{◌≡◌, ◌<◌, ◌≤◌, ◌*◌, All, None, length, take};
-ghost use Rattle.nr_map.specs.FindsEach.{loads_of_key, with_loads};
+ghost use Rattle.std.specs.Prelude.{◌≡◌, ◌<◌, ◌≤◌, All, None, length, take};
 ghost use Rattle.nr_idmap.specs.IdFinds.{FindsById};
 ghost use Rattle.nr_idmap.specs.IdHands.{hand_table_of, reader_of};
 ghost use Rattle.nr_idmap.specs.IdLoads.{LoadsAheadById, LooksUpEach};
@@ -10,8 +9,7 @@ use crate::hands::IdHand;
 use crate::id_map::IdMap;
 use crate::rows::copy_behind;
 use crate::wanted::{BATCH, key_of};
-use core::mem::replace_with;
-use nr_map::{Found, Hand, ReaderMap};
+use nr_map::Found;
 use nr_model::RowRoom;
 
 impl IdHand {
@@ -53,49 +51,26 @@ impl IdHand {
         ensures loads { LoadsAheadById ids.now (reader_of self.old) (reader_of self.new) }
     {
         map.directory.load_ahead(&mut self.ids, ids);
-        let keys = map.look_up_all(&mut self.ids, ids);
-        replace_with(&mut self.hand, (&map.map, &keys[..ids.len()]), loaded_ahead);
+        let mut keys = [0; BATCH];
+        map.look_up_all(&mut self.ids, ids, &mut keys);
+        self.hand.load_ahead(&map.map, &keys[..ids.len()]);
     }
 }
 
 impl IdMap {
-    // The keys of the ids' ways, with zeros in place of none and after them.
-    fn look_up_all(&self, reader: &mut nr_ids::Reader, ids: &[u64]) -> [u32; BATCH]
+    // Writes the keys of the ids' ways over the first ones there, with zeros in place of none.
+    fn look_up_all(&self, reader: &mut nr_ids::Reader, ids: &[u64], keys: &mut [u32; BATCH])
         requires own { reader.old.directory ≡ self.now.directory }
         requires ids { All (λ id. 0 < id) ids.now }
         requires few { length ids.now ≤ 16 }
         ensures own { reader.new.directory ≡ self.now.directory }
         ensures looks { LooksUpEach ids.now reader.old reader.new }
-        ensures keys { All (λ key. key < self.now.map.shape.keys) (take (length ids.now) result) }
+        ensures keys { All (λ key. key < self.now.map.shape.keys) (take (length ids.now) keys.new) }
     {
         // A directory has ways, so the map has keys.
         self.directory.plan();
-        let mut keys = [0; BATCH];
         for place in 0..ids.len() {
             keys[place] = key_of(self.directory.look_up(reader, ids[place]));
-        }
-        keys
-    }
-}
-
-// A hand that holds nothing loads what its finds of the keys will need.
-fn loaded_ahead(hand: Hand, near: (&ReaderMap, &[u32])) -> (Hand, ())
-    requires own { hand.reader.table ≡ near.0.now }
-    requires idle { hand.key ≡ None }
-    requires keys { All (λ key. key < near.0.now.shape.keys) near.1.now }
-    requires few { length near.1.now ≤ 16 }
-    ensures reader { result.0.reader ≡ with_loads (loads_of_key near.entry.0.now.shape.rows * length near.entry.1.now) hand.reader }
-    ensures idle { result.0.key ≡ None }
-{
-    let (map, keys) = near;
-    match hand.into_pin() {
-        Err(mut reader) => {
-            map.load_ahead(&mut reader, keys);
-            (Hand::of(reader), ())
-        }
-        Ok(pin) => {
-            let _reader = pin.release(map);
-            unreachable!()
         }
     }
 }

@@ -82,7 +82,8 @@ impl IdMap {
         ensures own { ids.new.directory ≡ self.now.directory }
         ensures loads { Grows ids.old (looks (length wanted.now) ids.old.number) ids.new }
     {
-        let all = ids_of(wanted);
+        let mut all = [0; BATCH];
+        copy_ids(wanted, &mut all);
         self.directory.load_ahead(ids, &all[..wanted.len()]);
     }
 
@@ -117,7 +118,8 @@ impl IdMap {
     {
         // A directory has ways, so the map has keys.
         self.directory.plan();
-        let keys = keys_of(wanted);
+        let mut keys = [0; BATCH];
+        copy_keys(wanted, &mut keys);
         self.map.load_ahead(reader, &keys[..wanted.len()]);
     }
 
@@ -145,27 +147,23 @@ impl IdMap {
     }
 }
 
-// The ids, and zeros after them.
-fn ids_of<R>(wanted: &[WantedId<R>]) -> [u64; BATCH]
+// Writes the ids over the first ones there.
+fn copy_ids<R>(wanted: &[WantedId<R>], ids: &mut [u64; BATCH])
     requires few { length wanted.now ≤ 16 }
 {
-    let mut ids = [0; BATCH];
     for place in 0..wanted.len() {
         ids[place] = wanted[place].id;
     }
-    ids
 }
 
-// The ids' ways, a key in place of none, and zeros after them.
-fn keys_of<R>(wanted: &[WantedId<R>]) -> [u32; BATCH]
+// Writes the ids' ways over the first ones there, a key in place of none.
+fn copy_keys<R>(wanted: &[WantedId<R>], keys: &mut [u32; BATCH])
     requires few { length wanted.now ≤ 16 }
-    ensures { (bound : ℕ) → 0 < bound → All (IsInside bound) wanted.now → All (λ key. key < bound) (take (length wanted.now) result) }
+    ensures { (bound : ℕ) → 0 < bound → All (IsInside bound) wanted.now → All (λ key. key < bound) (take (length wanted.now) keys.new) }
 {
-    let mut keys = [0; BATCH];
     for place in 0..wanted.len() {
         keys[place] = key_of(wanted[place].way);
     }
-    keys
 }
 
 /// The key of a way, and 0 in place of none.

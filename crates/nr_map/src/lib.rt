@@ -18,6 +18,7 @@
 //! all callers share, at the step that decides its answer.
 #![tactic(auto)]
 
+mod ahead;
 mod answers;
 mod cancels;
 mod hand;

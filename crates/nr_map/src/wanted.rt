@@ -1,18 +1,12 @@
 //! Finds of many keys by one call.
 ghost use Rattle.std.specs.Prelude.{◌≡◌, ℕ, ◌+◌, ◌*◌, ◌<◌, ◌≤◌, All, length, min, take};
 ghost use Rattle.nr_board.specs.declared.answers.Found.TheVariants.{Hole};
-ghost use Rattle.nr_map.specs.FindsEach.{more_lines};
 
+use crate::ahead::GROUP;
 use crate::reader::Reader;
 use crate::reader_map::ReaderMap;
 use nr_board::Found;
 use nr_model::RowRoom;
-
-// How many keys' words are loaded ahead at a time.
-const GROUP: usize = 16;
-
-// How many words lie in a line of the caches.
-const LINE: u64 = 8;
 
 /// A key to be found, the room for its rows, and what its last find was answered.
 #[derive(Drop)]
@@ -81,128 +75,26 @@ impl ReaderMap {
         one.found = self.find_into(reader, one.key, &mut one.rows);
     }
 
-    /// Loads words that finds of at most sixteen keys will need, so that the lines of memory in which
-    /// they lie are near then: the words of the keys; two words of the set of each, eight apart; and
-    /// one of each further line that its rows need, up to five lines. It tells nothing, and `find_each`
-    /// makes the same loads itself. Takes 3 steps a key, and 1 more for each 4 rows, or part of 4,
-    /// that a key may have above 4 and up to 16, however many it has.
-    pub fn load_ahead(&self, reader: &mut Reader, keys: &[u32])
-        requires own { reader.old.table ≡ self.now }
-        requires keys { All (λ key. key < self.now.shape.keys) keys.now }
-        requires few { length keys.now ≤ 16 }
-        ensures { reader.new ≡ with_loads (loads_of_key self.now.shape.rows * length keys.now) reader.old }
-    {
-        let all = self.load_keys(reader, keys);
-        let words = &all[..keys.len()];
-        let counts = self.load_slots(reader, words);
-        self.load_lines(reader, words, &counts);
-    }
-
-    fn load_keys(&self, reader: &mut Reader, keys: &[u32]) -> [u64; GROUP]
-        requires own { reader.old.table ≡ self.now }
-        requires keys { All (λ key. key < self.now.shape.keys) keys.now }
-        requires few { length keys.now ≤ 16 }
-        ensures { reader.new ≡ with_loads (length keys.now) reader.old }
-    {
-        let mut words = [0; GROUP];
-        for place in 0..keys.len() {
-            words[place] = self.key_ahead(reader, keys[place]);
-        }
-        words
-    }
-
-    // Two lines of each set, however long it is; and how long each is.
-    fn load_slots(&self, reader: &mut Reader, words: &[u64]) -> [u64; GROUP]
-        requires own { reader.old.table ≡ self.now }
-        requires few { length words.now ≤ 16 }
-        ensures { reader.new ≡ with_loads (2 * length words.now) reader.old }
-    {
-        let mut counts = [0; GROUP];
-        for place in 0..words.len() {
-            counts[place] = self.slot_ahead(reader, words[place]);
-        }
-        counts
-    }
-
-    // The other lines of sets of so many rows.
-    fn load_lines(&self, reader: &mut Reader, words: &[u64], counts: &[u64; GROUP])
-        requires own { reader.old.table ≡ self.now }
-        requires few { length words.now ≤ 16 }
-        ensures { reader.new ≡ with_loads (more_lines self.now.shape.rows * length words.now) reader.old }
-    {
-        for place in 0..words.len() {
-            self.lines_ahead(reader, words[place], counts[place]);
-        }
-    }
-
     fn load_group<R>(&self, reader: &mut Reader, group: &[Wanted<R>])
         requires own { reader.old.table ≡ self.now }
         requires keys { All (λ one. one.key < self.now.shape.keys) group.now }
         requires few { length group.now ≤ 16 }
         ensures { reader.new ≡ with_loads (loads_of_key self.now.shape.rows * length group.now) reader.old }
     {
-        let keys = keys_of(group);
+        let mut keys = [0; GROUP];
+        copy_keys(group, &mut keys);
         self.load_ahead(reader, &keys[..group.len()]);
     }
-
-    fn key_ahead(&self, reader: &mut Reader, key: u32) -> u64
-        requires own { reader.old.table ≡ self.now }
-        requires key { key < self.now.shape.keys }
-        ensures { reader.new ≡ with_loads 1 reader.old }
-    {
-        self.board.load_key(&mut reader.caller.seat, key)
-    }
-
-    fn slot_ahead(&self, reader: &mut Reader, word: u64) -> u64
-        requires own { reader.old.table ≡ self.now }
-        ensures { reader.new ≡ with_loads 2 reader.old }
-    {
-        let begin = self.board.content_named(word);
-        let count = self.word_ahead(reader, begin);
-        let last = 2 * u64::from(self.rows());
-        self.word_ahead(reader, begin + LINE.min(last));
-        count
-    }
-
-    // For each line that a shorter set lacks its last word is loaded, so that the steps are as many.
-    fn lines_ahead(&self, reader: &mut Reader, word: u64, count: u64)
-        requires own { reader.old.table ≡ self.now }
-        ensures { reader.new ≡ with_loads (more_lines self.now.shape.rows) reader.old }
-    {
-        let begin = self.board.content_named(word);
-        let last = 2 * count.min(u64::from(self.rows()));
-        for line in 0..u64::from(more_lines(self.rows())) {
-            let index = LINE * (line + 2);
-            self.word_ahead(reader, begin + index.min(last));
-        }
-    }
-
-    fn word_ahead(&self, reader: &mut Reader, place: u64) -> u64
-        requires own { reader.old.table ≡ self.now }
-        ensures { reader.new ≡ with_loads 1 reader.old }
-    {
-        self.board.load_near(&mut reader.caller.seat, place)
-    }
 }
 
-// Of how many lines beyond two a word is loaded, of sets of at most so many rows.
-fn more_lines(rows: u32) -> u32
-    requires { 0 < rows }
-    ensures { result ≡ more_lines rows }
-{
-    ((rows - 1) / 4).min(3)
-}
-
-// The keys of a group, and zeros after them.
-fn keys_of<R>(group: &[Wanted<R>]) -> [u32; GROUP]
+// Writes the keys of a group over the first ones there.
+fn copy_keys<R>(group: &[Wanted<R>], keys: &mut [u32; GROUP])
     requires few { length group.now ≤ 16 }
-    ensures { (bound : ℕ) → All (λ one. one.key < bound) group.now → All (λ key. key < bound) (take (length group.now) result) }
+    ensures { (bound : ℕ) → All (λ one. one.key < bound) group.now → All (λ key. key < bound) (take (length group.now) keys.new) }
 {
-    let mut keys = [0; GROUP];
     for place in 0..group.len() {
         keys[place] = group[place].key;
     }
-    keys
 }
 
 // Where the group ends that begins there, in a list of that many keys.

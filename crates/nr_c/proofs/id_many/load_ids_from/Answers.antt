@@ -12,5 +12,5 @@ each_is_id (one ∷ wanted) all (suc k) d low = let e : suc k < suc (length (ids
     each_is_id wanted (λ at other near. all (suc at) other (let n : at < length wanted = near in let m : suc at < suc (length wanted) = omega (arith, n) in m)) k d (omega (arith, e))
 
 pub load_ahead-requires-clause-ids : goal.load_ahead-requires-clause-ids
-load_ahead-requires-clause-ids c = subst (All (λ (id : ℕ). 0 < id)) (sym c.ids_of-ids.ensures)
+load_ahead-requires-clause-ids c = subst (All (λ (id : ℕ). 0 < id)) (sym c.copy_ids.ensures)
     (each_is_id (take c.min.result c.args.left.now) (All-take (λ (one : NrWantedId). 0 < one.id) c.min.result c.args.left.now c.requires.ids))

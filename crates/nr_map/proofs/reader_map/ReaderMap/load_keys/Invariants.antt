@@ -1,6 +1,6 @@
 use Rattle.std.specs.Prelude.{◌≡◌, length}
-use Rattle.nr_map.specs.FindsEach.{with_loads}
+use Rattle.nr_map.specs.FindsEach.{LoadsNear}
 use Rattle.nr_map.proofs.reader_map.ReaderMap.load_keys.Given as goal
 
 abbrev pub invariant-loop-place : goal.invariant-loop-place
-invariant-loop-place l = (l.reader ≡ with_loads l.place l.fn.reader) × (length l.words ≡ 16)
+invariant-loop-place l = LoadsNear l.place l.fn.seat l.seat × (length l.words ≡ 16)

@@ -2,7 +2,7 @@ use Rattle.std.proofs.Common.{ℕ, ◌<◌, ◌∙◌, take, subst, arith}
 use Rattle.std.specs.List.{All}
 use Rattle.std.proofs.lemmas.List.{length-set}
 use Rattle.nr_idmap.proofs.InTurn.{all_one_more}
-use Rattle.nr_idmap.proofs.wanted.keys_of.Goals as goal
+use Rattle.nr_idmap.proofs.wanted.copy_keys.Goals as goal
 
 pub loop-place-preserved : goal.loop-place-preserved
 loop-place-preserved g c = let place = c.loop-place.place in let keys = c.loop-place.keys in let key = c.key_of.result in (

@@ -2,7 +2,7 @@ use Rattle.std.proofs.Common.{ℕ, zero, suc, ◌<◌, ◌∙◌, [], ◌∷◌,
 use Rattle.std.specs.List.{All}
 use Rattle.std.proofs.lemmas.List.{length-set, take_more_set}
 use Rattle.std.proofs.lemmas.List.Elements.{All-append}
-use Rattle.nr_map.proofs.wanted.keys_of.Goals as goal
+use Rattle.nr_map.proofs.wanted.copy_keys.Goals as goal
 
 of_one : (bound key : ℕ) → key < bound → All (λ (key : ℕ). key < bound) (key ∷ [])
 of_one bound key near zero other low = near

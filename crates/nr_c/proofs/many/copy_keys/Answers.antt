@@ -3,7 +3,7 @@ use Rattle.std.specs.List.{All}
 use Rattle.std.proofs.lemmas.List.{length-set, take_more_set}
 use Rattle.std.proofs.lemmas.List.Elements.{All-append}
 use Rattle.nr_c.specs.declared.many.NrWanted.{NrWanted}
-use Rattle.nr_c.proofs.many.keys_of.Goals as goal
+use Rattle.nr_c.proofs.many.copy_keys.Goals as goal
 
 abbrev blank : NrWanted
 blank = record { key = 0; answer = 0; rows = record { count = 0; row = [] } }
