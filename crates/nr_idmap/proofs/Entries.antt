@@ -32,7 +32,7 @@ tidy_both : (log later : List Entry) (map : PartialMap) → IsTidy map log → I
 tidy_both [] later map a b = b
 tidy_both (e ∷ log) later map a b = (a.0, a.1, tidy_both log later (next map e.call) a.2 b)
 
-legal_end : (log : List Entry) (map : PartialMap) (e : Entry) → IsLegal map (log ++ e ∷ []) → e.reply ≡ reply_to (after map log) e.call
+pub legal_end : (log : List Entry) (map : PartialMap) (e : Entry) → IsLegal map (log ++ e ∷ []) → e.reply ≡ reply_to (after map log) e.call
 legal_end [] map e legal = legal.0
 legal_end (x ∷ log) map e legal = legal_end log (next map x.call) e legal.1
 

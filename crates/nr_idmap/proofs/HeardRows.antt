@@ -15,36 +15,63 @@ use Rattle.nr_model.specs.Maps.{PartialMap, asked, call_key, cancelled, evict_re
 use Rattle.nr_model.proofs.HistoryLemmas.{count_by-cons, one, state_of-next_other, state_of-next_same}
 use Rattle.nr_machine.specs.Story.{entry}
 use Rattle.nr_board.specs.Callers.{Table, map_at_opening}
+use Rattle.nr_board.specs.Rule.{StartsWith}
 use Rattle.nr_map.specs.Written.{LastPut, NonePut, evicts_at, is_evicted}
 use Rattle.nr_idmap.specs.declared.finds.FoundId.{FoundId}
 use Rattle.nr_idmap.specs.declared.finds.FoundId.TheVariants as found
 use Rattle.nr_idmap.specs.IdHeard.{FindsIdHeard, FindsIdPut, FindsItsRows}
-use Rattle.nr_idmap.specs.Keepers.{IdCaller}
+use Rattle.nr_idmap.specs.Keepers.{IdCaller, IsTied, Keeper}
 use Rattle.nr_idmap.specs.Tags.{id_set_of, tag_of}
 use Rattle.nr_idmap.specs.Tidy.{IsTidy, KeepsTags}
 use Rattle.nr_idmap.proofs.Entries.{after_both, bound_after, count_after}
 use Rattle.nr_idmap.proofs.Ties.{update_agrees}
 
 -- a legal history whose writer puts tags
-abbrev Kept : PartialMap → List Entry → Type 0
+abbrev pub Kept : PartialMap → List Entry → Type 0
 Kept map history = IsLegal map history × IsTidy map history
 
-kept_begins : (map : PartialMap) (history later : List Entry) → Kept map (history ++ later) → Kept map history
+pub kept_begins : (map : PartialMap) (history later : List Entry) → Kept map (history ++ later) → Kept map history
 kept_begins map [] later kept = (tt, tt)
 kept_begins map (e ∷ history) later kept =
     let rest = kept_begins (next map e.call) history later (kept.0.1, kept.1.2) in ((kept.0.0, rest.0), (kept.1.0, kept.1.1, rest.1))
 
-kept_ends : (map : PartialMap) (history later : List Entry) → Kept map (history ++ later) → Kept (after map history) later
+pub kept_ends : (map : PartialMap) (history later : List Entry) → Kept map (history ++ later) → Kept (after map history) later
 kept_ends map [] later kept = kept
 kept_ends map (e ∷ history) later kept = kept_ends (next map e.call) history later (kept.0.1, kept.1.2)
 
-count_both : (p : Entry → Bool) (log later : List Entry) → count_by p (log ++ later) ≡ count_by p log + count_by p later
+pub count_both : (p : Entry → Bool) (log later : List Entry) → count_by p (log ++ later) ≡ count_by p log + count_by p later
 count_both p [] later = let none : count_by p [] ≡ 0 = refl in omega (arith, none)
 count_both p (e ∷ log) later = omega (arith, count_by-cons p e (log ++ later), count_by-cons p e log, count_both p log later)
 
+-- the entry evicts nothing, where it counts for nothing and is of that key
+pub none_evicted : (way : ℕ) (e : Entry) → call_key e.call ≡ way → one (evicts_at way e) ≡ 0 → is_evicted e.reply ≡ false
+none_evicted way e same none = ⊎_elim
+    (λ (yes : is_evicted e.reply ≡ true). let b : one (evicts_at way e) ≡ 1 = (λ j. one (yes j && eq-eqb (call_key e.call) way same j)) in absurd (omega (arith, b, none)))
+    (λ (no : is_evicted e.reply ≡ false). no)
+    (cases_Bool (is_evicted e.reply))
+
+-- what a key has that each call of it leaves, it has after them all
+module _ (way : ℕ) (Has : KeyState → Type 0) where
+  abbrev pub AllKeep : PartialMap → List Entry → Type 0
+  AllKeep map [] = Unit {0}
+  AllKeep map (e ∷ later) =
+      (call_key e.call ≡ way → Has (state_of map (call_key e.call)) → Has (state_after map.bound e.call (state_of map (call_key e.call))))
+      × AllKeep (next map e.call) later
+
+  pub all_stay : (later : List Entry) (map : PartialMap) → way < key_count map → AllKeep map later → Has (state_of map way) → Has (state_of (after map later) way)
+  all_stay [] map near keep has = has
+  all_stay (e ∷ later) map near keep has =
+      let size : key_count (next map e.call) ≡ key_count map = length-set map.states (call_key e.call) (state_after map.bound e.call (state_of map (call_key e.call))) in
+      all_stay later (next map e.call) (omega (arith, near, size)) keep.1 (⊎_elim
+      (λ (same : call_key e.call ≡ way). subst (λ (k : ℕ). Has (state_of (next map e.call) k)) same
+      (subst Has (sym (state_of-next_same map e.call (omega (arith, near, same))))
+      (keep.0 same (subst (λ (k : ℕ). Has (state_of map k)) (sym same) has))))
+      (λ (other : call_key e.call ≢ way). subst Has (sym (state_of-next_other map way e.call other)) has)
+      (cases_eq (call_key e.call) way))
+
 module _ (id : ℕ) (real : 0 < id) where
   -- the id's rows
-  abbrev HasIds : KeyState → Type 0
+  abbrev pub HasIds : KeyState → Type 0
   HasIds state = (n : ℕ) × (rows : List Row) × (state ≡ Rows n (tag_of id ∷ rows))
 
   -- a call of the key that evicts nothing leaves it some
@@ -63,26 +90,17 @@ module _ (id : ℕ) (real : 0 < id) where
   call_keeps map (Evict key) answer replied keeps room none has = let e : true ≡ false = sym (ap is_evicted (replied ∙ ap evict_reply has.2)) ∙ none in absurd (cc (e))
   call_keeps map (Cancel key) answer replied keeps room none has = (has.0, has.1, ap cancelled has.2)
 
-  -- the entry evicts nothing, where it counts for nothing and is of that key
-  none_evicted : (way : ℕ) (e : Entry) → call_key e.call ≡ way → one (evicts_at way e) ≡ 0 → is_evicted e.reply ≡ false
-  none_evicted way e same none = ⊎_elim
-      (λ (yes : is_evicted e.reply ≡ true). let b : one (evicts_at way e) ≡ 1 = (λ j. one (yes j && eq-eqb (call_key e.call) way same j)) in absurd (omega (arith, b, none)))
-      (λ (no : is_evicted e.reply ≡ false). no)
-      (cases_Bool (is_evicted e.reply))
+  ids_keep : (way : ℕ) (later : List Entry) (map : PartialMap) → 0 < map.bound → Kept map later → count_by (evicts_at way) later ≡ 0 →
+      AllKeep way HasIds map later
+  ids_keep way [] map room kept none = tt
+  ids_keep way (e ∷ later) map room kept none = let counts = count_by-cons (evicts_at way) e later in (
+    (λ same. call_keeps map e.call e.reply kept.0.0 kept.1.1 room (none_evicted way e same (omega (arith, counts, none)))),
+    ids_keep way later (next map e.call) room (kept.0.1, kept.1.2) (omega (arith, counts, none)),
+  )
 
-  ids_stay : (way : ℕ) (later : List Entry) (map : PartialMap) → way < key_count map → 0 < map.bound → Kept map later → count_by (evicts_at way) later ≡ 0 →
+  pub ids_stay : (way : ℕ) (later : List Entry) (map : PartialMap) → way < key_count map → 0 < map.bound → Kept map later → count_by (evicts_at way) later ≡ 0 →
       HasIds (state_of map way) → HasIds (state_of (after map later) way)
-  ids_stay way [] map near room kept none has = has
-  ids_stay way (e ∷ later) map near room kept none has =
-      let counts = count_by-cons (evicts_at way) e later in
-      let size : key_count (next map e.call) ≡ key_count map = length-set map.states (call_key e.call) (state_after map.bound e.call (state_of map (call_key e.call))) in
-      ids_stay way later (next map e.call) (omega (arith, near, size)) room (kept.0.1, kept.1.2) (omega (arith, counts, none)) (⊎_elim
-      (λ (same : call_key e.call ≡ way). subst (λ (k : ℕ). HasIds (state_of (next map e.call) k)) same
-      (subst HasIds (sym (state_of-next_same map e.call kept.1.0))
-      (call_keeps map e.call e.reply kept.0.0 kept.1.1 room (none_evicted way e same (omega (arith, counts, none)))
-      (subst (λ (k : ℕ). HasIds (state_of map k)) (sym same) has))))
-      (λ (other : call_key e.call ≢ way). subst HasIds (sym (state_of-next_other map way e.call other)) has)
-      (cases_eq (call_key e.call) way))
+  ids_stay way later map near room kept none has = all_stay way HasIds later map near (ids_keep way later map room kept none) has
 
 -- what a key's rows are
 rows_same : (n m : ℕ) (rows others : List Row) → Rows n rows ≡ Rows m others → rows ≡ others
@@ -145,12 +163,18 @@ module _ {Room : Type 0} (shows : Room → List Row → Type 0) (old asking new 
   answered_rows found.Moved finds = let set = set_found found.Moved finds finds.tells.0 finds.tells.1 in absurd (finds.tells.2 set.0 set.1)
   answered_rows found.Absent finds = absurd finds.tells
 
+-- what a reader has seen whom the writer has heard
+pub kept_heard : (keeper : Keeper) (table : Table) (seen : List Entry) → IsTied keeper → table ≡ keeper.table.map → StartsWith keeper.writer.seen seen →
+    Kept (map_at_opening table) seen
+kept_heard keeper table seen tied same heard =
+    let log : List Entry = keeper.writer.seen in
+    let legal : IsLegal (map_at_opening keeper.table.map) log = subst (λ (t : Table). IsLegal (map_at_opening t) log) tied.writes.0 tied.sound.legal in
+    subst (λ (t : Table). Kept (map_at_opening t) seen) (sym same)
+    (kept_begins (map_at_opening keeper.table.map) seen heard.rest (subst (Kept (map_at_opening keeper.table.map)) heard.is (legal, tied.tidy)))
+
 pub finds_its_rows : {Room : Type 0} (shows : Room → List Row → Type 0) → FindsIdHeard shows → FindsItsRows shows
 finds_its_rows shows law keeper old asking new note id way number rows before since put before_it room answer tied table heard near real named told puts put_is none hears finds =
-    let seen : List Entry = keeper.writer.seen in
-    let legal : IsLegal (map_at_opening keeper.table.map) seen = subst (λ (t : Table). IsLegal (map_at_opening t) seen) tied.writes.0 tied.sound.legal in
-    let kept : Kept (map_at_opening old.caller.table) new.caller.seen = subst (λ (t : Table). Kept (map_at_opening t) new.caller.seen) (sym table)
-    (kept_begins (map_at_opening keeper.table.map) new.caller.seen heard.rest (subst (Kept (map_at_opening keeper.table.map)) heard.is (legal, tied.tidy))) in
+    let kept = kept_heard keeper old.caller.table new.caller.seen tied table heard in
     let some : 0 < old.caller.table.shape.rows = subst (λ (t : Table). 0 < t.shape.rows) (sym table) tied.room in ⊎_elim
     (λ gone. inl gone)
     (λ (there : FindsIdPut shows id way old asking new (before ++ put ∷ []) since room answer).

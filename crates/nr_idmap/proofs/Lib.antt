@@ -1,8 +1,8 @@
-mod Tagging
+pub mod Tagging
 mod Found
 mod Readings
-mod Stills
-mod Entries
+pub mod Stills
+pub mod Entries
 mod Ties
 mod LedgerLaws
 mod WayCalls
@@ -19,4 +19,5 @@ mod Opening
 mod Giving
 mod Looking
 mod Heard
-mod HeardRows
+pub mod HeardRows
+pub mod HandRows

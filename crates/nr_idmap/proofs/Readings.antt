@@ -22,7 +22,7 @@ use Rattle.nr_idmap.specs.Tags.{AreIdDeltas, IdSet, set_told, id_set_of, set_at,
 use Rattle.nr_idmap.specs.PartialIds.{IdCall, IdReply, PartialIds, IdEntry, IsIdLegal, applied_told, call_by_id, entry_by_id, id_left, id_next, id_of, id_reply, ids_after, no_ids, read_by_id, reply_told, with_id, find_id, fill_id, update_id, replace_id, evict_id, has_rows, is_done, is_evicted, told_of}
 use Rattle.nr_idmap.specs.Tidy.{IsNowhere, IsTidy, KeepsTags, BringsNewId, BringsSameId}
 use Rattle.nr_idmap.specs.IdLaws.{AllTagged, ReadsAsIds, OneSet, TellsIds, TidyBegins}
-use Rattle.nr_idmap.proofs.Tagging.{applied_behind, tag_all}
+use Rattle.nr_idmap.proofs.Tagging.{applied_behind, put_first}
 
 abbrev Ids : Type 0
 Ids = ℕ → Option (List Row)
@@ -415,12 +415,12 @@ module _ (map : PartialMap) (ids : PartialIds) (caller : ℕ) (shows : TellsIds 
         let s : KeyState = Rows n (tag_of id ∷ old) in
         let was : IdSet = record { id = id; rows = old } in
         let has : ids.rows_of id ≡ Some old = had map ids caller updates shows near s is was refl in
-        let whole : applied map.bound (tag_of id ∷ old) batch ≡ tag_all id r = ap (λ (b : ℕ). applied b (tag_of id ∷ old) batch) shows.bound
-        ∙ applied_behind ids.bound id old batch users ∙ ap (tag_all id) gives in
-        let answer : reply_at map.bound updates s ≡ applied_reply (tag_all id r) = ap applied_reply whole in
-        let left : state_after map.bound updates s ≡ Rows n (rows_or (tag_all id r) (tag_of id ∷ old)) =
+        let whole : applied map.bound (tag_of id ∷ old) batch ≡ put_first (tag_of id) r = ap (λ (b : ℕ). applied b (tag_of id ∷ old) batch) shows.bound
+        ∙ applied_behind ids.bound (tag_of id) old batch users ∙ ap (put_first (tag_of id)) gives in
+        let answer : reply_at map.bound updates s ≡ applied_reply (put_first (tag_of id) r) = ap applied_reply whole in
+        let left : state_after map.bound updates s ≡ Rows n (rows_or (put_first (tag_of id) r) (tag_of id ∷ old)) =
         ap (λ (x : Result (List Row) ApplyFault). Rows n (rows_or x (tag_of id ∷ old))) whole in
-        let rest : rows_or (tag_all id r) (tag_of id ∷ old) ≡ tag_of id ∷ rows_or r old = rows_behind r in
+        let rest : rows_or (put_first (tag_of id) r) (tag_of id ∷ old) ≡ tag_of id ∷ rows_or r old = rows_behind r in
         let set : IdSet = record { id = id; rows = rows_or r old } in
         let e : IdEntry = record { caller = caller; call = update_id id batch; reply = applied_told r } in
         let reads : call_by_id caller updates (reply_at map.bound updates s) (Some was) ≡ e ∷ [] =
@@ -435,11 +435,11 @@ module _ (map : PartialMap) (ids : PartialIds) (caller : ℕ) (shows : TellsIds 
         (λ j t differs there. alone map ids caller updates shows near s is was refl j t differs there)
         (λ t there. ap (λ (x : IdSet). x.id) (sym (some_same was t there))))
       where
-        rows_behind : (r : Result (List Row) ApplyFault) → rows_or (tag_all id r) (tag_of id ∷ old) ≡ tag_of id ∷ rows_or r old
+        rows_behind : (r : Result (List Row) ApplyFault) → rows_or (put_first (tag_of id) r) (tag_of id ∷ old) ≡ tag_of id ∷ rows_or r old
         rows_behind (Ok rows) = refl
         rows_behind (Err f) = refl
 
-        said_so : (r : Result (List Row) ApplyFault) → reply_told (applied_reply (tag_all id r)) ≡ applied_told r
+        said_so : (r : Result (List Row) ApplyFault) → reply_told (applied_reply (put_first (tag_of id) r)) ≡ applied_told r
         said_so (Ok rows) = refl
         said_so (Err fault.NoRow) = refl
         said_so (Err fault.TooMany) = refl

@@ -27,7 +27,7 @@ use Rattle.nr_idmap.specs.Tags.{AreIdDeltas, IdSet, set_at, id_set_of, set_told,
 use Rattle.nr_idmap.specs.Tidy.{KeepsTags}
 use Rattle.nr_idmap.proofs.Entries.{Rested, Stayed, Went}
 use Rattle.nr_idmap.proofs.Stills.{agrees_still, owed_still}
-use Rattle.nr_idmap.proofs.Tagging.{applied_behind, tag_all}
+use Rattle.nr_idmap.proofs.Tagging.{applied_behind, put_first}
 
 -- ONE KEY'S STATE
 some_same : {A : Type 0} (a b : A) → Some a ≡ Some b → a ≡ b
@@ -108,7 +108,7 @@ update_owes way name bound batch (Asked n) = refl
 update_owes way name bound batch (Rows n old) = owed_none way name n (rows_or (applied bound old batch) old)
     ∙ sym (owed_none way name n old)
 
-behind : (id : ℕ) (old : List Row) (r : Result (List Row) ApplyFault) → rows_or (tag_all id r) (tag_of id ∷ old) ≡ tag_of id ∷ rows_or r old
+behind : (id : ℕ) (old : List Row) (r : Result (List Row) ApplyFault) → rows_or (put_first (tag_of id) r) (tag_of id ∷ old) ≡ tag_of id ∷ rows_or r old
 behind id old (Ok rows) = refl
 behind id old (Err why) = refl
 
@@ -122,7 +122,7 @@ update_agrees name (suc bound) batch (Rows n old) room users agrees =
       agrees.0,
       rows_or r agrees.1,
       ap (λ (o : List Row). rows_or (applied (suc bound) o batch) o) agrees.2
-          ∙ ap (λ (x : Result (List Row) ApplyFault). rows_or x (tag_of name ∷ agrees.1)) (applied_behind bound name agrees.1 batch users)
+          ∙ ap (λ (x : Result (List Row) ApplyFault). rows_or x (tag_of name ∷ agrees.1)) (applied_behind bound (tag_of name) agrees.1 batch users)
           ∙ behind name agrees.1 r,
     )
 

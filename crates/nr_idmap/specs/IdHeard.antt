@@ -16,9 +16,11 @@ use Rattle.nr_map.specs.Written.{FindsPut, HeardBefore, evicts_at}
 use Rattle.nr_ids.specs.Events.{Event, name_of, unnamed}
 use Rattle.nr_ids.specs.Laws.{Has}
 use Rattle.nr_ids.specs.Rule.{BeginsWith}
+use Rattle.nr_ids.specs.Tokens.{HasName}
 use Rattle.nr_idmap.specs.declared.finds.FoundId.{FoundId}
 use Rattle.nr_idmap.specs.declared.finds.FoundId.TheVariants as found
 use Rattle.nr_idmap.specs.IdFinds.{FindsById}
+use Rattle.nr_idmap.specs.IdHands.{IdHanded, PinsById, hand_table_of}
 use Rattle.nr_idmap.specs.IdNotes.{IdKnown}
 use Rattle.nr_idmap.specs.Keepers.{IdCaller, IsTied, Keeper}
 use Rattle.nr_idmap.specs.Tags.{tag_of}
@@ -77,3 +79,18 @@ FindsItsRows {Room = Room} shows =
     HeardIdBefore old note asking →
     FindsById shows id asking before_it new room answer →
     IsUnnamedSince note.ids.seen way new.ids.seen ⊎ (answer ≡ found.Rows)
+
+-- a hand had seen the way's name, and that the way had the id's rows; the writer has heard of the find since, and the find's history has no later eviction of the way: the find was answered with rows, unless the name was taken since
+abbrev pub PinsItsRows : Type 0
+PinsItsRows =
+    (keeper : Keeper) (old new : IdHanded) (id way number : ℕ) (rows : List Row) (before since : List Entry) (answer : FoundId) →
+    IsTied keeper →
+    hand_table_of old ≡ keeper.table →
+    StartsWith keeper.writer.seen new.hand.reader.seen →
+    0 < id →
+    HasName old.ids way id →
+    old.hand.reader.seen ≡ before ++ since →
+    state_of (after (map_at_opening old.hand.reader.table) before) way ≡ state.Rows number (tag_of id ∷ rows) →
+    count_by (evicts_at way) new.hand.reader.seen ≡ count_by (evicts_at way) before →
+    PinsById id old new answer →
+    IsUnnamedSince old.ids.seen way new.ids.seen ⊎ (answer ≡ found.Rows)

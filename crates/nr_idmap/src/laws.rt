@@ -1,5 +1,5 @@
 //! Laws over the definitions alone. Nothing runs here: each function's contract is the law.
-ghost use Rattle.nr_idmap.specs.IdHeard.{FindsIdHeard, FindsItsRows};
+ghost use Rattle.nr_idmap.specs.IdHeard.{FindsIdHeard, FindsItsRows, PinsItsRows};
 ghost use Rattle.nr_idmap.specs.IdLaws.{HeardFinds, NamedIsOwedOrResident, OneSet, OneUpquery, OwedIsNamed, ReadsAsIds, TidyBegins, TiedReadsAsIds, UnnamedIsAbsent};
 
 use nr_model::RowRoom;
@@ -48,6 +48,14 @@ pub fn finds_its_rows<R: RowRoom>()
     ensures { FindsItsRows R.shows }
 {
     finds_what_it_heard::<R>();
+}
+
+/// A hand that had seen a way's name, and that the way had the id's rows, is answered with rows, unless
+/// the way was evicted or lost its name since.
+pub fn pins_its_rows()
+    ensures { PinsItsRows }
+{
+    nr_ids::laws::finds_what_it_knew();
 }
 
 /// An open upquery is for the id that is its way's name.

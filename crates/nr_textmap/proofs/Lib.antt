@@ -1,4 +1,6 @@
 mod Spelling
 mod TextRows
-mod Meeting
 mod Moments
+mod Meeting
+mod Behind
+mod Pinning

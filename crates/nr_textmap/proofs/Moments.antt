@@ -1,29 +1,24 @@
 -- A find that holds an id's set is an entry at which the id had it.
-use Rattle.std.proofs.Common.{◌≡◌, ◌≢◌, ◌⊎◌, ⊎_elim, inl, inr, ℕ, false, List, [], ◌∷◌, ◌++◌, refl, sym, ap, ◌∙◌, subst, append-nil, append_assoc, Option, Some, None}
-use Rattle.std.proofs.lemmas.Bool.{cases_eq}
+use Rattle.std.proofs.Common.{◌≡◌, ⊎_elim, ℕ, List, [], ◌∷◌, ◌++◌, sym, ap, ◌∙◌, subst, append_assoc, Option, Some}
 use Rattle.nr_model.specs.declared.rows.Row.{Row}
 use Rattle.nr_model.specs.declared.calls.Call.TheVariants.{Find}
 use Rattle.nr_model.specs.declared.calls.Reply.TheVariants as reply
 use Rattle.nr_model.specs.declared.states.KeyState.{KeyState}
 use Rattle.nr_model.specs.declared.states.KeyState.TheVariants.{Asked, Hole, Rows}
 use Rattle.nr_model.specs.Histories.{Entry, IsLegal, after}
-use Rattle.nr_model.specs.Maps.{PartialMap, find_reply, next, reply_to, state_of}
+use Rattle.nr_model.specs.Maps.{find_reply, state_of}
 use Rattle.nr_machine.specs.Story.{entry}
-use Rattle.nr_board.specs.declared.answers.Found.TheVariants as answer
 use Rattle.nr_board.specs.Callers.{Caller, Gains, Table, map_at_opening}
 use Rattle.nr_map.specs.Hands.{Handed}
 use Rattle.nr_idmap.specs.declared.finds.FoundId.TheVariants as of_id
-use Rattle.nr_idmap.specs.IdHands.{AgainById, HoldsAnew, HoldsById, IdHanded, PinsById, rows_in_hand, rows_of_id}
+use Rattle.nr_idmap.specs.IdHands.{HoldsAnew, HoldsById, IdHanded, PinsById, rows_in_hand, rows_of_id}
 use Rattle.nr_idmap.specs.Tags.{IsResident, rows_behind, tag_of}
+use Rattle.nr_idmap.proofs.Entries.{legal_end}
+use Rattle.nr_idmap.proofs.HandRows.{asked_first, found_rows}
 use Rattle.nr_textmap.specs.declared.finds.FoundText.TheVariants as found
 use Rattle.nr_textmap.specs.TextLaws.{FindsAtMoment, WasResident}
-use Rattle.nr_textmap.specs.Texts.{text_rows}
 
-legal_end : (log : List Entry) (map : PartialMap) (e : Entry) → IsLegal map (log ++ e ∷ []) → e.reply ≡ reply_to (after map log) e.call
-legal_end [] map e legal = legal.0
-legal_end (x ∷ log) map e legal = legal_end log (next map x.call) e legal.1
-
-set_found : (state : KeyState) (set : List Row) → reply.Rows set ≡ find_reply state → (number : ℕ) × (state ≡ Rows number set)
+pub set_found : (state : KeyState) (set : List Row) → reply.Rows set ≡ find_reply state → (number : ℕ) × (state ≡ Rows number set)
 set_found (Hole n) set is = absurd (cc (is))
 set_found (Asked n) set is = absurd (cc (is))
 set_found (Rows n rows) set is = let same : rows ≡ set = cc (is) in (n, ap (Rows n) same)
@@ -58,31 +53,15 @@ begun id set old mid new more table seen was =
 ended : (id : ℕ) (set : List Row) (old mid new : Caller) → new.seen ≡ mid.seen → WasResident id set old mid → WasResident id set old new
 ended id set old mid new seen was = record { since = was.since; later = was.later; known = seen ∙ was.known; resident = was.resident }
 
-held_or_not : (held : Option ℕ) (id : ℕ) → (held ≡ Some id) ⊎ (held ≢ Some id)
-held_or_not None id = inr (λ e. absurd (cc (e)))
-held_or_not (Some other) id = ⊎_elim (λ (same : other ≡ id). inl (ap Some same))
-    (λ (apart : other ≢ id). inr (λ e. let same : other ≡ id = cc (e) in apart same)) (cases_eq other id)
-
 -- the hand shows the rows behind the tag
 shown : (id : ℕ) (rows : List Row) (hand : IdHanded) → hand.id ≡ Some id → hand.hand.rows ≡ tag_of id ∷ rows → rows_in_hand hand ≡ rows
 shown id rows hand is tagged = ap (λ (o : Option ℕ). rows_of_id o hand.hand.rows) is ∙ ap rows_behind tagged
 
 anew : (id : ℕ) (old new : IdHanded) → HoldsAnew id old new of_id.Rows → WasResident id (rows_in_hand new) old.hand.reader new.hand.reader
 anew id old new holds =
+    let once = found_rows holds.0 old.hand new.hand holds.3 in
     subst (λ (l : List Row). WasResident id l old.hand.reader new.hand.reader) (sym (shown id holds.1 new holds.5 holds.4))
-    (⊎_elim
-    (λ again. gained _ id holds.0 old.hand.rows holds.1 old.hand.reader new.hand.reader (sym again.0.rows ∙ holds.4) again.0.gains)
-    (λ found. gained _ id holds.0 new.hand.rows holds.1 old.hand.reader new.hand.reader holds.4 found.3.0.gains)
-    holds.3.2)
-
-asked_first : (id : ℕ) (old asked new : IdHanded) (set : List Row) → AgainById id old asked false →
-    WasResident id set asked.hand.reader new.hand.reader → WasResident id set old.hand.reader new.hand.reader
-asked_first id old asked new set again was = ⊎_elim
-    (λ holds. let vain = again.0 holds in let grows = vain.asks.grows in
-    begun id set old.hand.reader asked.hand.reader new.hand.reader grows.between grows.table
-    (grows.seen ∙ append-nil (old.hand.reader.seen ++ grows.between)) was)
-    (λ other. subst (λ (h : IdHanded). WasResident id set h.hand.reader new.hand.reader) (again.1 other) was)
-    (held_or_not old.id id)
+    (gained once.steps id holds.0 new.hand.rows holds.1 old.hand.reader new.hand.reader holds.4 once.gains)
 
 holds_resident : (id : ℕ) (old new : IdHanded) → HoldsById id old new of_id.Rows → WasResident id (rows_in_hand new) old.hand.reader new.hand.reader
 holds_resident id old new holds = ⊎_elim
@@ -90,7 +69,8 @@ holds_resident id old new holds = ⊎_elim
     subst (λ (l : List Row). WasResident id l old.hand.reader new.hand.reader)
     (sym (shown id it.rows new (it.id_is ∙ it.held) (it.finds.rows ∙ it.tagged)))
     (gained 1 id it.way old.hand.rows it.rows old.hand.reader new.hand.reader it.tagged it.finds.gains))
-    (λ late. asked_first id old late.0 new (rows_in_hand new) late.1 (anew id late.0 new late.2))
+    (λ late. let first = asked_first id old late.0 late.1 in
+    begun id (rows_in_hand new) old.hand.reader late.0.hand.reader new.hand.reader first.more first.table first.seen (anew id late.0 new late.2))
     holds
 
 pins_resident : (id : ℕ) (old new : IdHanded) → PinsById id old new of_id.Rows → WasResident id (rows_in_hand new) old.hand.reader new.hand.reader

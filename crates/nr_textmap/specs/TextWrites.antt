@@ -1,7 +1,8 @@
 -- What a call of the writer for a text says of its tokens, by its answer.
-use Rattle.std.specs.Prelude.{◌≡◌, ◌≢◌, ◌⊎◌, ℕ, List, [], ◌++◌, Result, Ok, Err}
+use Rattle.std.specs.Prelude.{◌≡◌, ◌⊎◌, List, [], ◌++◌, Result, Ok, Err}
 use Rattle.nr_model.specs.declared.rows.Row.{Row}
 use Rattle.nr_board.specs.declared.answers.Evict.TheVariants as evict
+use Rattle.nr_board.specs.declared.answers.Reclaimed.{Reclaimed}
 use Rattle.nr_ids.specs.declared.admissions.Refused.{Refused}
 use Rattle.nr_idmap.specs.declared.looks.Looked.{Looked}
 use Rattle.nr_idmap.specs.declared.looks.Looked.TheVariants as of_id
@@ -10,7 +11,7 @@ use Rattle.nr_idmap.specs.declared.upqueries.Withdrawn.TheVariants as id_withdra
 use Rattle.nr_idmap.specs.declared.writes.IdFault.{IdFault}
 use Rattle.nr_idmap.specs.declared.writes.IdFault.TheVariants as id_fault
 use Rattle.nr_idmap.specs.IdLooks.{LooksById}
-use Rattle.nr_idmap.specs.IdWrites.{AdmitsId, EvictsId, FillsId, RefusesId, WithdrawsId}
+use Rattle.nr_idmap.specs.IdWrites.{AdmitsId, EvictsId, FillsId, FillsIdReclaiming, RefusesId, WithdrawsId}
 use Rattle.nr_idmap.specs.Keepers.{IdTable, Keeper}
 use Rattle.nr_textmap.specs.declared.looks.LookedText.{LookedText}
 use Rattle.nr_textmap.specs.declared.looks.LookedText.TheVariants as looked
@@ -70,7 +71,7 @@ CallsText calls text old new (Err fault.Absent) = LooksAtText text old new looke
 abbrev pub EvictsText : Named → Keeper → Keeper → EvictedText → Type 0
 EvictsText text old new evicted.Evicted = LooksAndCalls text (λ mid end. EvictsId text.id mid end evict.Evicted) old new
 EvictsText text old new evicted.Other = LooksAtText text old new looked.Other
-EvictsText text old new evicted.Nothing = LooksAtText text old new looked.Pending ⊎ LooksAtText text old new looked.Absent ⊎ LooksAndCalls text (λ mid end. EvictsId text.id mid end evict.Nothing) old new
+EvictsText text old new evicted.Nothing = LooksAtText text old new looked.Pending ⊎ LooksAtText text old new looked.Absent
 
 -- UPQUERIES
 -- the upquery of the text's id keeps the text
@@ -85,6 +86,11 @@ abbrev pub FillsText : SentText → List Row → Keeper → Keeper → Result (U
 FillsText upquery rows old new (Ok done) = FillsId upquery.sent.owed (text_rows upquery.text ++ rows) old new (Ok done)
 FillsText upquery rows old new (Err unfilled.Closed) = FillsId upquery.sent.owed (text_rows upquery.text ++ rows) old new (Err id_unfilled.Closed)
 FillsText upquery rows old new (Err (unfilled.NoSlot back counts)) = (back.text ≡ upquery.text) × FillsId upquery.sent.owed (text_rows upquery.text ++ rows) old new (Err (id_unfilled.NoSlot back.sent counts))
+
+-- the same by a call that gives out what its slot had; where nothing was put the room stays
+abbrev pub FillsTextReclaiming : {Room : Type 0} → (Room → List Row → Type 0) → SentText → List Row → Keeper → Room → Keeper → Room → Result Reclaimed UnfilledText → Type 0
+FillsTextReclaiming shows upquery rows old before new after (Ok given) = FillsIdReclaiming shows upquery.sent.owed (text_rows upquery.text ++ rows) old before new after (Ok given)
+FillsTextReclaiming shows upquery rows old before new after (Err why) = FillsText upquery rows old new (Err why) × (after ≡ before)
 
 abbrev pub WithdrawsText : SentText → Keeper → Keeper → WithdrawnText → Type 0
 WithdrawsText upquery old new withdrawn.Done = WithdrawsId upquery.sent.owed old new id_withdrawn.Done

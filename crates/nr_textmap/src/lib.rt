@@ -7,6 +7,7 @@ mod finds;
 mod hashes;
 pub mod laws;
 mod looks;
+mod reclaiming;
 mod rows;
 mod sip;
 mod text_map;

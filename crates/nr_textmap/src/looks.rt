@@ -46,8 +46,9 @@ impl TextMap {
         ensures looks { LooksInto text.now writer.old.ids writer.new.ids writer.new.set result }
         ensures owes { OwesSame writer.old.ids writer.new.ids }
         ensures asker { writer.new.ids.asker ≡ writer.old.ids.asker }
-        ensures tied { IsTied writer.new.ids }
+        ensures tied { IsTied writer.old.ids × IsTied writer.new.ids }
     {
+        writer.ids.is_tied();
         let looked = self.ids.look(&mut writer.ids, text.id(), &mut writer.set);
         writer.ids.is_tied();
         match looked {

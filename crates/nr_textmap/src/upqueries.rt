@@ -13,8 +13,8 @@ use std::marker::Model;
 /// An upquery that is to be sent, for one absence of one text. As that of the text's id it can't be
 /// dropped: it is open until a fill or a withdrawal spends it, or its map is gone.
 pub struct TextUpquery {
-    upquery: Upquery,
-    text: Text,
+    pub(crate) upquery: Upquery,
+    pub(crate) text: Text,
 }
 
 impl Model for TextUpquery {

@@ -1,5 +1,5 @@
 //! Updates, replacements and evictions of texts. Each looks first whose set the text's id has.
-ghost use Rattle.std.specs.Prelude.{◌≡◌, ◌∷◌, ◌++◌};
+ghost use Rattle.std.specs.Prelude.{◌≡◌, ◌≢◌, ◌∷◌, ◌++◌, Err};
 ghost use Rattle.nr_model.specs.Batches.{IsBatch};
 ghost use Rattle.nr_board.specs.WriterAnswers.{ReplacesKey, UpdatesKey};
 ghost use Rattle.nr_idmap.specs.IdWrites.{CallsWay};
@@ -24,7 +24,7 @@ pub enum TextFault<F> {
     Pending,
     /// Its id has no way.
     Absent,
-    /// The map refuses the call on the way of the text's id.
+    /// The map refuses the call on the way of the text's id, never with `Dropped`.
     Refused(F),
 }
 
@@ -35,7 +35,7 @@ pub enum EvictedText {
     Evicted,
     /// Another text has its id, and rows, which stay.
     Other,
-    /// It has no rows.
+    /// It has no rows: its id has no way, or an upquery for it is under way.
     Nothing,
 }
 
@@ -53,6 +53,7 @@ impl TextMap {
         requires batch { IsBatch deltas.now }
         requires deltas { AreTextDeltas deltas.now }
         ensures own { writer.new.ids.table ≡ self.now.ids }
+        ensures filled { result ≢ Err (TextFault.Refused UpdateFault.Dropped) }
         ensures updates { CallsText (CallsWay (λ way. UpdatesKey self.now.ids.map.shape.rows way deltas.now) text.now.id) text.now writer.old.ids writer.new.ids result }
         ensures owes { OwesSame writer.old.ids writer.new.ids }
         ensures asker { writer.new.ids.asker ≡ writer.old.ids.asker }
@@ -81,6 +82,7 @@ impl TextMap {
         requires own { writer.old.ids.table ≡ self.now.ids }
         requires rows { IsTextSet (id_rows self.now.ids) text.now rows.now }
         ensures own { writer.new.ids.table ≡ self.now.ids }
+        ensures filled { result ≢ Err (TextFault.Refused ReplaceFault.Dropped) }
         ensures replaces { CallsText (CallsWay (λ way. ReplacesKey way (tag_of text.now.id ∷ text_rows text.now ++ rows.now)) text.now.id) text.now writer.old.ids writer.new.ids result }
         ensures owes { OwesSame writer.old.ids writer.new.ids }
         ensures asker { writer.new.ids.asker ≡ writer.old.ids.asker }
@@ -118,7 +120,7 @@ impl TextMap {
         }
         match self.ids.evict(&mut writer.ids, text.id()) {
             Evict::Evicted => EvictedText::Evicted,
-            Evict::Nothing => EvictedText::Nothing,
+            Evict::Nothing => unreachable!(),
         }
     }
 }

@@ -6,6 +6,8 @@ mod calls;
 #[cfg(test)]
 mod colliding;
 #[cfg(test)]
+mod reclaiming;
+#[cfg(test)]
 mod shelf;
 #[cfg(test)]
 mod spelling;

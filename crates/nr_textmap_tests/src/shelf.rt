@@ -5,7 +5,7 @@ ghost use Rattle.nr_model.specs.Batches.{IsBatch};
 ghost use Rattle.nr_idmap.specs.Keepers.{id_rows, id_table_of};
 ghost use Rattle.nr_textmap.specs.Texts.{AreTextDeltas, IsTextSet, Named};
 
-use nr_idmap::{IdHand, IdMap, IdReader, IdShape, IdWriter, Requested};
+use nr_idmap::{IdHand, IdMap, IdReader, IdShape, IdWriter, Reclaimed, Requested};
 use nr_model::{Batch, Delta, Row, RowSet};
 use nr_textmap::{
     EvictedText, FoundText, LookedText, SipKey, Text, TextFault, TextHash, TextMap, TextUpquery,
@@ -25,7 +25,7 @@ const SMALL: IdShape = IdShape {
     first_number: 0,
 };
 
-const KEY: SipKey = SipKey { low: 1, high: 2 };
+pub(crate) const KEY: SipKey = SipKey { low: 1, high: 2 };
 
 pub(crate) struct Shelf {
     map: TextMap,
@@ -112,9 +112,25 @@ fn is_done<R: Abort>(rt: &R, filled: Result<(), UnfilledText>) -> bool {
     }
 }
 
+/// That set came out; none where it is empty, and then the room is as it was.
+fn came_out<R: Abort>(rt: &R, given: Reclaimed, had: &RowSet, wanted: &[Row]) {
+    match given {
+        Reclaimed::Set => is_set(rt, had.as_slice(), wanted),
+        Reclaimed::Nothing => {
+            assert!(rt; wanted.is_empty());
+            is_set(rt, had.as_slice(), &[row(1, 1)]);
+        }
+    }
+}
+
 impl Shelf {
     pub(crate) fn open<R: AllocGlobal + Abort>(rt: &R) -> Shelf {
-        let (ids, writer, mut readers) = IdMap::open(rt.alloc(), &SMALL).expect(rt, "memory");
+        Shelf::with_slots(rt, SMALL.slots)
+    }
+
+    pub(crate) fn with_slots<R: AllocGlobal + Abort>(rt: &R, slots: u32) -> Shelf {
+        let shape = IdShape { slots, ..SMALL };
+        let (ids, writer, mut readers) = IdMap::open(rt.alloc(), &shape).expect(rt, "memory");
         let reader = readers.pop().expect(rt, "a reader");
         let map = TextMap { ids, key: KEY };
         // The map's own key gives the id that the key alone gives.
@@ -302,5 +318,64 @@ impl Shelf {
     {
         let evicted = self.map.evict(&mut self.writer, text);
         is_same(rt, &evicted, &wanted);
+    }
+
+    /// A text is claimed, admitted and filled, and that set comes out.
+    pub(crate) fn takes_in_giving<R: Abort>(
+        &mut self,
+        rt: &R,
+        bytes: &[u8],
+        rows: &[Row],
+        wanted: &[Row],
+    )
+        ensures { self.new ≡ self.old }
+    {
+        let upquery = self.admits(rt, &KEY, bytes);
+        let set = set_of(rt, &self.map, upquery.text(), rows);
+        let mut had = RowSet::of(&[row(1, 1)]).expect(rt, "a row");
+        match self
+            .map
+            .fill_reclaiming(&mut self.writer, upquery, set.as_slice(), &mut had)
+        {
+            Ok(given) => came_out(rt, given, &had, wanted),
+            Err(UnfilledText::Closed) => panic!(rt; "the upquery isn't open"),
+            Err(UnfilledText::NoSlot(_upquery, _)) => panic!(rt; "there is no slot"),
+        }
+    }
+
+    pub(crate) fn updates_giving<R: Abort>(
+        &mut self,
+        rt: &R,
+        text: &Text,
+        deltas: &[Delta],
+        wanted: &[Row],
+    )
+        ensures { self.new ≡ self.old }
+    {
+        let batch = batch_of(rt, deltas);
+        let mut had = RowSet::of(&[row(1, 1)]).expect(rt, "a row");
+        let given = self
+            .map
+            .update_reclaiming(&mut self.writer, text, batch.as_slice(), &mut had)
+            .expect(rt, "updated");
+        came_out(rt, given, &had, wanted);
+    }
+
+    pub(crate) fn replaces_giving<R: Abort>(
+        &mut self,
+        rt: &R,
+        text: &Text,
+        rows: &[Row],
+        wanted: &[Row],
+    )
+        ensures { self.new ≡ self.old }
+    {
+        let set = set_of(rt, &self.map, text, rows);
+        let mut had = RowSet::of(&[row(1, 1)]).expect(rt, "a row");
+        let given = self
+            .map
+            .replace_reclaiming(&mut self.writer, text, set.as_slice(), &mut had)
+            .expect(rt, "replaced");
+        came_out(rt, given, &had, wanted);
     }
 }
