@@ -1,21 +1,22 @@
 //! Ids are admitted, found, and lose their ways.
 use crate::office::{Office, Told};
+use crate::view::is_same;
 use nr_ids::{Directory, OpenFault, Plan, Refused};
 use std::process::Abort;
 
 #[test]
 fn an_id_is_claimed_admitted_and_found(rt: HostRuntime) {
     let mut office = Office::open(&rt, 1);
-    assert_eq!(rt; office.finds(5), None);
-    assert_eq!(rt; office.requests(5), Told::Granted(5));
+    is_same(&rt, &office.finds(5), &None);
+    is_same(&rt, &office.requests(5), &Told::Granted(5));
     // Until the clerk answers, the group is busy for every id.
-    assert_eq!(rt; office.requests(5), Told::Busy);
-    assert_eq!(rt; office.requests(6), Told::Busy);
-    assert_eq!(rt; office.finds(5), None);
+    is_same(&rt, &office.requests(5), &Told::Busy);
+    is_same(&rt, &office.requests(6), &Told::Busy);
+    is_same(&rt, &office.finds(5), &None);
     let way = office.admits(5);
-    assert_eq!(rt; office.finds(5), way.ok());
-    assert_eq!(rt; way.map(Told::Named), Ok(office.requests(5)));
-    assert_eq!(rt; office.admits(5), Err(Refused::NoClaim));
+    is_same(&rt, &office.finds(5), &way.ok());
+    is_same(&rt, &way.map(Told::Named), &Ok(office.requests(5)));
+    is_same(&rt, &office.admits(5), &Err(Refused::NoClaim));
 }
 
 #[test]
@@ -25,24 +26,24 @@ fn a_way_is_used_again(rt: HostRuntime) {
         assert!(rt; office.takes_in(id).is_some());
     }
     // The group is full, and its claim stays open until it is cleared.
-    assert_eq!(rt; office.requests(9), Told::Granted(9));
-    assert_eq!(rt; office.admits(9), Err(Refused::Full));
+    is_same(&rt, &office.requests(9), &Told::Granted(9));
+    is_same(&rt, &office.admits(9), &Err(Refused::Full));
     let way = office.finds(4);
-    assert_eq!(rt; office.clerk_finds(4, true), way);
-    assert_eq!(rt; office.clerk_finds(4, false), None);
-    assert_eq!(rt; office.admits(9).ok(), way);
-    assert_eq!(rt; office.finds(9), way);
-    assert_eq!(rt; office.finds(4), None);
+    is_same(&rt, &office.clerk_finds(4, true), &way);
+    is_same(&rt, &office.clerk_finds(4, false), &None);
+    is_same(&rt, &office.admits(9).ok(), &way);
+    is_same(&rt, &office.finds(9), &way);
+    is_same(&rt, &office.finds(4), &None);
 }
 
 #[test]
 fn a_claim_is_closed_without_a_name(rt: HostRuntime) {
     let mut office = Office::open(&rt, 1);
-    assert_eq!(rt; office.clears(3), false);
-    assert_eq!(rt; office.requests(3), Told::Granted(3));
-    assert_eq!(rt; office.clears(3), true);
-    assert_eq!(rt; office.finds(3), None);
-    assert_eq!(rt; office.requests(3), Told::Granted(3));
+    is_same(&rt, &office.clears(3), &false);
+    is_same(&rt, &office.requests(3), &Told::Granted(3));
+    is_same(&rt, &office.clears(3), &true);
+    is_same(&rt, &office.finds(3), &None);
+    is_same(&rt, &office.requests(3), &Told::Granted(3));
 }
 
 #[test]
@@ -50,9 +51,9 @@ fn a_note_tells_of_a_name(rt: HostRuntime) {
     let mut office = Office::open(&rt, 1);
     let way = office.takes_in(3);
     office.tells_reader();
-    assert_eq!(rt; office.finds(3), way);
+    is_same(&rt, &office.finds(3), &way);
     office.tells_clerk();
-    assert_eq!(rt; office.clerk_finds(3, false), way);
+    is_same(&rt, &office.clerk_finds(3, false), &way);
 }
 
 #[test]
@@ -62,15 +63,15 @@ fn what_was_found_is_passed_once(rt: HostRuntime) {
         assert!(rt; office.takes_in(id).is_some());
     }
     // The last id has the first way.
-    assert_eq!(rt; office.chooses(9), Some(8));
+    is_same(&rt, &office.chooses(9), &Some(8));
     office.marks(7);
     office.marks(7);
     office.marks(5);
-    assert_eq!(rt; office.chooses(9), Some(6));
-    assert_eq!(rt; office.chooses(9), Some(4));
+    is_same(&rt, &office.chooses(9), &Some(6));
+    is_same(&rt, &office.chooses(9), &Some(4));
     assert!(rt; !office.takes_mark(7));
     assert!(rt; office.clerk_finds(3, true).is_some());
-    assert_eq!(rt; office.chooses(9), None);
+    is_same(&rt, &office.chooses(9), &None);
 }
 
 #[test]
@@ -83,7 +84,7 @@ fn a_mark_is_taken_once(rt: HostRuntime) {
     }
     assert!(rt; office.takes_mark(3));
     assert!(rt; !office.takes_mark(3));
-    assert_eq!(rt; office.chooses(9), Some(3));
+    is_same(&rt, &office.chooses(9), &Some(3));
 }
 
 // All are passed, and then the first one is chosen.
@@ -94,7 +95,7 @@ fn where_all_were_found_one_is_chosen_yet(rt: HostRuntime) {
         assert!(rt; office.takes_in(id).is_some());
         office.marks(id);
     }
-    assert_eq!(rt; office.chooses(9), Some(8));
+    is_same(&rt, &office.chooses(9), &Some(8));
     for id in 1..9 {
         assert!(rt; !office.takes_mark(id));
     }
@@ -105,7 +106,7 @@ fn loads_ahead_leave_all_as_it_is(rt: HostRuntime) {
     let mut office = Office::open(&rt, 3);
     let way = office.takes_in(3);
     office.loads_ahead(&[3, 4, 5, 3]);
-    assert_eq!(rt; office.finds(3), way);
+    is_same(&rt, &office.finds(3), &way);
 }
 
 #[test]

@@ -1,5 +1,6 @@
 //! The groups of ids. What is expected was computed in Python.
 use crate::office::{KEY, Office};
+use crate::view::is_same;
 use nr_ids::Plan;
 use std::process::Abort;
 
@@ -17,7 +18,7 @@ fn groups_are_those_of_the_hash(rt: HostRuntime) {
     ];
     for (groups, key, id, group) in rows {
         let plan = Plan { groups, key };
-        assert_eq!(rt; plan.group_of(id), group);
+        is_same(&rt, &plan.group_of(id), &group);
     }
 }
 
@@ -31,5 +32,5 @@ fn even_ids_spread(rt: HostRuntime) {
             without += 1;
         }
     }
-    assert_eq!(rt; without, 39);
+    is_same(&rt, &without, &39);
 }

@@ -3,6 +3,7 @@ ghost use Rattle.std.specs.Prelude.{◌≡◌, ◌<◌};
 ghost use Rattle.std.specs.Bool.{OnTrue};
 ghost use Rattle.nr_model.specs.Maps.{SetFits};
 
+use crate::same::{are_same, is_same};
 use nr_model::{
     ApplyFault, Batch, BatchFault, Call, DEFAULT_ROWS, Delta, KeyState, MAX_KEYS, OpenFault, Row,
     RowSet, SeqMap, TooMany,
@@ -33,26 +34,29 @@ fn minus(a: u64, b: u64) -> Delta {
 fn a_set_is_in_order_and_keeps_doubles(rt: HostRuntime) -> Result<(), Fail> {
     let set = RowSet::of(&[row(7, 1), row(3, 9), row(7, 0), row(3, 9)])?;
     let ordered = [row(3, 9), row(3, 9), row(7, 0), row(7, 1)];
-    assert_eq!(rt; set.as_slice(), ordered.as_slice());
-    assert_eq!(rt;
-        (set.len(), set.get(3), set.get(4)),
-        (4, Some(row(7, 1)), None)
+    are_same(&rt, set.as_slice(), ordered.as_slice());
+    is_same(
+        &rt,
+        &(set.len(), set.get(3), set.get(4)),
+        &(4, Some(row(7, 1)), None),
     );
-    assert_eq!(rt; RowSet::of(&[row(1, 1); 256]).err(), Some(TooMany));
+    is_same(&rt, &RowSet::of(&[row(1, 1); 256]).err(), &Some(TooMany));
     Ok(())
 }
 
 #[test]
 fn a_batch_has_one_to_sixty_four_rows(rt: HostRuntime) -> Result<(), Fail> {
     let batch = Batch::of(&[plus(1, 1); 64])?;
-    assert_eq!(rt;
-        (batch.len(), batch.get(63), batch.get(64)),
-        (64, Some(plus(1, 1)), None)
+    is_same(
+        &rt,
+        &(batch.len(), batch.get(63), batch.get(64)),
+        &(64, Some(plus(1, 1)), None),
     );
-    assert_eq!(rt; Batch::of(&[]).err(), Some(BatchFault::Empty));
-    assert_eq!(rt;
-        Batch::of(&[plus(1, 1); 65]).err(),
-        Some(BatchFault::TooLong)
+    is_same(&rt, &Batch::of(&[]).err(), &Some(BatchFault::Empty));
+    is_same(
+        &rt,
+        &Batch::of(&[plus(1, 1); 65]).err(),
+        &Some(BatchFault::TooLong),
     );
     Ok(())
 }
@@ -67,11 +71,16 @@ fn a_batch_applies_whole_or_not_at_all(rt: HostRuntime) -> Result<(), Fail> {
     let left = changed(&[plus(2, 2), minus(7, 7), plus(7, 7), minus(1, 1)])?;
     let rows = left.map_or(RowSet::new(), |rows| rows);
     let ordered = [row(1, 1), row(1, 1), row(1, 1), row(2, 2)];
-    assert_eq!(rt; rows.as_slice(), ordered.as_slice());
-    assert_eq!(rt; changed(&[plus(2, 2)])?.err(), Some(ApplyFault::TooMany));
-    assert_eq!(rt;
-        changed(&[plus(2, 2), minus(3, 3)])?.err(),
-        Some(ApplyFault::NoRow)
+    are_same(&rt, rows.as_slice(), ordered.as_slice());
+    is_same(
+        &rt,
+        &changed(&[plus(2, 2)])?.err(),
+        &Some(ApplyFault::TooMany),
+    );
+    is_same(
+        &rt,
+        &changed(&[plus(2, 2), minus(3, 3)])?.err(),
+        &Some(ApplyFault::NoRow),
     );
     Ok(())
 }
@@ -129,10 +138,11 @@ fn each_call_is_answered(rt: HostRuntime) -> Result<(), Fail> {
     let KeyState::Rows(number, rows) = state_of(&rt, &map, 1) else {
         return Err("the key is not filled".into());
     };
-    assert_eq!(rt; rows.as_slice(), [row(1, 1), row(2, 2)].as_slice());
-    assert_eq!(rt;
-        (number, state_of(&rt, &map, 0).number()),
-        (4_194_303, 4_194_302)
+    are_same(&rt, rows.as_slice(), [row(1, 1), row(2, 2)].as_slice());
+    is_same(
+        &rt,
+        &(number, state_of(&rt, &map, 0).number()),
+        &(4_194_303, 4_194_302),
     );
     assert!(rt; !state_of(&rt, &map, 0).is_filled());
     let calls = [(Call::Evict(1), "Evicted"), (Call::Evict(1), "Nothing")];
@@ -151,7 +161,7 @@ fn opened_at_last(alloc: Global) -> Result<SeqMap, OpenFault> {
 #[test]
 fn a_map_opens_after_refused_memory(rt: HostRuntime) -> Result<(), Fail> {
     let map = opened_at_last(rt.alloc())?;
-    assert_eq!(rt; (map.keys(), map.rows()), (MAX_KEYS, DEFAULT_ROWS));
+    is_same(&rt, &(map.keys(), map.rows()), &(MAX_KEYS, DEFAULT_ROWS));
     assert!(rt; matches!(&state_of(&rt, &map, 65_535), KeyState::Hole(0)));
     Ok(())
 }

@@ -7,4 +7,6 @@ mod calls;
 #[cfg(test)]
 mod names_at_refused_memory;
 #[cfg(test)]
+mod same;
+#[cfg(test)]
 mod words;

@@ -3,6 +3,7 @@
 ghost use Rattle.std.specs.Prelude.{◌≡◌, ◌<◌, ◌≤◌};
 ghost use Rattle.nr_names.specs.declared.table.TheConstants.{MAX_KEYS};
 
+use crate::same::is_same;
 use nr_names::{Keys, NameFault, NameTable, Names};
 use std::marker::Brand;
 use std::process::Abort;
@@ -14,11 +15,11 @@ type Reply = Result<u32, NameFault>;
 
 // Whether a call said what it was to say.
 fn says(rt: &impl Abort, told: Result<(), NameFault>, wanted: Result<(), NameFault>) {
-    assert_eq!(rt; told, wanted);
+    is_same(rt, &told, &wanted);
 }
 
 fn reads(rt: &impl Abort, text: &str, wanted: &str) {
-    assert_eq!(rt; text, wanted);
+    is_same(rt, &text, &wanted);
 }
 
 fn opened(rt: &(impl Abort + AllocGlobal)) -> NameTable {
@@ -84,15 +85,16 @@ fn numbers_come_in_order(rt: HostRuntime) {
         table.intern("a"),
         table.intern("c"),
     ];
-    assert_eq!(rt;
-        replies,
-        [
+    is_same(
+        &rt,
+        &replies,
+        &[
             Ok(0),
             Err(NameFault::Empty),
             Ok(1),
             Ok(0),
-            Err(NameFault::Full)
-        ]
+            Err(NameFault::Full),
+        ],
     );
     let mut text = String::new(rt.alloc());
     reads_both(&rt, &table, &mut text, "a", "b");
@@ -113,7 +115,7 @@ fn names_have_at_most_255_bytes(rt: HostRuntime) {
         intern_new(&rt, &mut table, "a", 0),
         intern_new(&rt, &mut table, longest, 1),
     ];
-    assert_eq!(rt; replies, [Err(NameFault::TooLong), Ok(0), Ok(1)]);
+    is_same(&rt, &replies, &[Err(NameFault::TooLong), Ok(0), Ok(1)]);
     reads_both(&rt, &table, &mut String::new(rt.alloc()), "a", longest);
 }
 
@@ -201,11 +203,12 @@ fn gives_two_numbers<K: Keys, R: Threads + Wait + Abort + AllocGlobal + Sync>(rt
     requires { K.keys ≡ 2 }
 {
     let names: Names<K> = opened_shared(rt, 2);
-    assert_eq!(rt; both_intern(rt, &names), (Ok(0), Ok(0)));
+    is_same(rt, &both_intern(rt, &names), &(Ok(0), Ok(0)));
     names_nothing_shared(rt, &names, 1);
-    assert_eq!(rt;
-        intern_four(rt, &names),
-        [Ok(1), Err(NameFault::Full), Ok(0), Err(NameFault::Empty)]
+    is_same(
+        rt,
+        &intern_four(rt, &names),
+        &[Ok(1), Err(NameFault::Full), Ok(0), Err(NameFault::Empty)],
     );
     let mut text = String::new(rt.alloc());
     reads_both_shared(rt, &names, &mut text);
@@ -271,7 +274,7 @@ fn reads_word<K: Keys>(
 ) {
     read_shared_over(rt, names, number, text, before);
     reads(rt, text, word);
-    assert_eq!(rt; names.intern(rt, word), Ok(number));
+    is_same(rt, &names.intern(rt, word), &Ok(number));
 }
 
 fn reads_words<K: Keys>(
@@ -292,14 +295,14 @@ fn agrees_on_five_words<K: Keys, R: Threads + Wait + Abort + AllocGlobal + Sync>
 {
     let names: Names<K> = opened_shared(rt, 5);
     let (here, there) = both_intern_words(rt, &names);
-    assert_eq!(rt; here, there);
+    is_same(rt, &here, &there);
     reads_words(
         rt,
         &names,
         numbers_of(rt, &here),
         &mut String::new(rt.alloc()),
     );
-    assert_eq!(rt; names.intern(rt, "fox"), Err(NameFault::Full));
+    is_same(rt, &names.intern(rt, "fox"), &Err(NameFault::Full));
     names_nothing_shared(rt, &names, 5);
 }
 

@@ -2,6 +2,7 @@
 ghost use Rattle.std.specs.Prelude.{◌<◌, ◌^◌};
 
 use crate::calls::row;
+use crate::same::{are_same, is_same};
 use nr_model::{MAX_ROWS, Row, RowSet};
 use nr_words::{
     ARRIVE, KeyParts, Layout, MAX_CONTENT_WORDS, decode, encode, hole_word, key_word, names,
@@ -21,8 +22,8 @@ fn assert_packs(rt: &impl Abort, ask: bool, filled: bool, slot: u32, arrivals: u
         slot,
         arrivals,
     };
-    assert_eq!(rt; key_word(given), word);
-    assert_eq!(rt; parts(word), given);
+    is_same(rt, &key_word(given), &word);
+    is_same(rt, &parts(word), &given);
 }
 
 #[test]
@@ -41,24 +42,24 @@ fn key_words_pack_their_parts(rt: HostRuntime) {
 
 #[test]
 fn an_arrival_wraps_the_count_alone(rt: HostRuntime) {
-    assert_eq!(rt; ARRIVE, 16777216);
-    assert_eq!(rt; 18446744073692774402u64.wrapping_add(ARRIVE), 2);
+    is_same(&rt, &ARRIVE, &16777216);
+    is_same(&rt, &18446744073692774402u64.wrapping_add(ARRIVE), &2);
     assert_packs(&rt, false, true, 0, 0, 2);
 }
 
 #[test]
 fn holes_carry_their_numbers(rt: HostRuntime) {
-    assert_eq!(rt; hole_word(0, false), 0);
-    assert_eq!(rt; hole_word(3, true), 13);
-    assert_eq!(rt; hole_word(4194303, false), 16777212);
+    is_same(&rt, &hole_word(0, false), &0);
+    is_same(&rt, &hole_word(3, true), &13);
+    is_same(&rt, &hole_word(4194303, false), &16777212);
     assert_packs(&rt, false, false, 4194303, 0, 16777212);
 }
 
 #[test]
 fn arrivals_begin_at_the_departures(rt: HostRuntime) {
-    assert_eq!(rt; naming(5, 3), 50331670);
-    assert_eq!(rt; naming(5, 1099511627779), 50331670);
-    assert_eq!(rt; naming(0, 1099511627775), 18446744073692774402);
+    is_same(&rt, &naming(5, 3), &50331670);
+    is_same(&rt, &naming(5, 1099511627779), &50331670);
+    is_same(&rt, &naming(0, 1099511627775), &18446744073692774402);
 }
 
 #[test]
@@ -97,7 +98,7 @@ fn assert_lies(rt: &impl Abort, rows: &[Row], ascending: &[Row], expected: &[u64
     let count = expected.len().min(MAX_CONTENT_WORDS);
     assert!(rt; 2 * set.len() < count);
     encode(&set, &mut room[..count]);
-    assert_eq!(rt; &room[..count], expected);
+    are_same(rt, &room[..count], expected);
     assert_spells(rt, expected, ascending);
 }
 
@@ -107,7 +108,7 @@ fn assert_spells(rt: &impl Abort, words: &[u64], ascending: &[Row]) {
     let Some(set) = decode(words) else {
         panic!(rt; "no set")
     };
-    assert_eq!(rt; set.as_slice(), ascending);
+    are_same(rt, set.as_slice(), ascending);
 }
 
 #[test]
@@ -128,11 +129,11 @@ fn each_word_of_a_set_is_found_alone(rt: HostRuntime) {
         panic!(rt; "too many rows")
     };
     for (index, word) in TWO_ROWS.iter().enumerate() {
-        assert_eq!(rt; word_at(&set, index), *word);
+        is_same(&rt, &word_at(&set, index), word);
     }
-    assert_eq!(rt; word_at(&set, 510), 0);
-    assert_eq!(rt; word_at(&RowSet::new(), 0), 0);
-    assert_eq!(rt; word_at(&RowSet::new(), 1), 0);
+    is_same(&rt, &word_at(&set, 510), &0);
+    is_same(&rt, &word_at(&RowSet::new(), 0), &0);
+    is_same(&rt, &word_at(&RowSet::new(), 1), &0);
 }
 
 #[test]
@@ -167,7 +168,7 @@ fn words_of_most_rows() -> [u64; MAX_CONTENT_WORDS] {
 #[test]
 fn the_largest_set_fills_the_largest_slot(rt: HostRuntime) {
     let rows = most_rows();
-    assert_eq!(rt; (rows.len(), MAX_CONTENT_WORDS), (255, 511));
+    is_same(&rt, &(rows.len(), MAX_CONTENT_WORDS), &(255, 511));
     assert_lies(&rt, &rows, &rows, &words_of_most_rows());
 }
 
@@ -177,7 +178,7 @@ fn each_word_of_the_largest_set_is_found_alone(rt: HostRuntime) {
         panic!(rt; "too many rows")
     };
     for (index, word) in words_of_most_rows().iter().enumerate() {
-        assert_eq!(rt; word_at(&set, index), *word);
+        is_same(&rt, &word_at(&set, index), word);
     }
 }
 
@@ -195,19 +196,19 @@ fn layouts_place_each_word(rt: HostRuntime) {
         slots: 3,
         rows: 15,
     };
-    assert_eq!(rt; layout.key(0), 0);
-    assert_eq!(rt; layout.key(1), 1);
-    assert_eq!(rt; layout.departures(1), 34);
-    assert_eq!(rt; layout.content(1, 0), 35);
-    assert_eq!(rt; layout.content(2, 30), 97);
-    assert_eq!(rt; layout.content_words(), 31);
-    assert_eq!(rt; layout.total(), 98);
+    is_same(&rt, &layout.key(0), &0);
+    is_same(&rt, &layout.key(1), &1);
+    is_same(&rt, &layout.departures(1), &34);
+    is_same(&rt, &layout.content(1, 0), &35);
+    is_same(&rt, &layout.content(2, 30), &97);
+    is_same(&rt, &layout.content_words(), &31);
+    is_same(&rt, &layout.total(), &98);
     let largest = Layout {
         keys: 65536,
         slots: 131072,
         rows: 15,
     };
-    assert_eq!(rt; largest.total(), 4259840);
+    is_same(&rt, &largest.total(), &4259840);
 }
 
 #[test]
@@ -217,11 +218,11 @@ fn a_page_is_a_slot_of_255_rows(rt: HostRuntime) {
         slots: 3,
         rows: 255,
     };
-    assert_eq!(rt; layout.departures(1), 514);
-    assert_eq!(rt; layout.content(1, 0), 515);
-    assert_eq!(rt; layout.content(2, 510), 1537);
-    assert_eq!(rt; layout.content_words(), 511);
-    assert_eq!(rt; layout.total(), 1538);
+    is_same(&rt, &layout.departures(1), &514);
+    is_same(&rt, &layout.content(1, 0), &515);
+    is_same(&rt, &layout.content(2, 510), &1537);
+    is_same(&rt, &layout.content_words(), &511);
+    is_same(&rt, &layout.total(), &1538);
 }
 
 /// The words are those of a new map of two keys whose first count is 7 and whose first number is
@@ -233,7 +234,7 @@ fn assert_opened(rt: &impl Abort, words: &[u64], departures: &[usize]) {
             _ if departures.contains(&place) => 7,
             _ => 0,
         };
-        assert_eq!(rt; *word, expected);
+        is_same(rt, word, &expected);
     }
 }
 
@@ -247,11 +248,11 @@ fn a_new_map_has_holes_with_first_numbers_and_slots_with_first_counts(
         rows: 15,
     };
     let words = opening_words(rt.alloc(), layout, 7, 3, 0).map_err(|_| "no memory")?;
-    assert_eq!(rt; words.len(), 98);
+    is_same(&rt, &words.len(), &98);
     assert_opened(&rt, &words, &[2, 34, 66]);
     layout.rows = 255;
     let words = opening_words(rt.alloc(), layout, 7, 3, 2).map_err(|_| "no memory")?;
-    assert_eq!(rt; words.len(), 1540);
+    is_same(&rt, &words.len(), &1540);
     assert_opened(&rt, &words, &[2, 514, 1026]);
     Ok(())
 }

@@ -1,4 +1,5 @@
 //! The program's public calls, and what it tells where a read or a write fails.
+use crate::same::{are_same, is_same};
 use crate::streams::{Dripping, Narrow, Tripping};
 use nr_prog::{main_of, main_with, replies, run_steps};
 use std::alloc::{AllocError, Global};
@@ -136,8 +137,8 @@ fn assert_main<T: Threads + Wait + Sync + AllocGlobal + Abort>(
     let mut reader = TWO_LINES;
     let mut written = Vec::new(rt.alloc());
     let got = main_of(rt, args, &mut reader, &mut written);
-    assert_eq!(rt; written.as_slice(), text.as_bytes());
-    assert_eq!(rt; got, ExitCode::from(status));
+    are_same(rt, written.as_slice(), text.as_bytes());
+    is_same(rt, &got, &ExitCode::from(status));
 }
 
 // A process that was started without even its name runs a script.
@@ -162,6 +163,6 @@ fn bytes_have_replies(rt: HostRuntime) -> Result<(), Fail> {
     let replied = replies(rt.alloc(), b"go\nfind 1 0\n")?;
     let texts = (written.as_slice(), replied.as_slice());
     let wanted: (&[u8], &[u8]) = (b"closed\nbad\n", b"bad\nclosed\n");
-    assert_eq!(rt; (ended, texts), (Ok(()), wanted));
+    is_same(&rt, &(ended, texts), &(Ok(()), wanted));
     Ok(())
 }

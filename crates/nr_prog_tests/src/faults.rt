@@ -1,6 +1,7 @@
 //! Each read and each write of a run fails in turn, and each limit is passed. The script and the
 //! schedule are long enough for a slot to be pinned, or held, while its key goes on.
 use crate::devices::{Kind, Outcome, Trial};
+use crate::same::is_same;
 use nr_lines::RunFault;
 use std::process::Abort;
 
@@ -172,7 +173,7 @@ fn an_input_may_be_as_long_as_its_limit(rt: HostRuntime) {
             write_width: 1,
             ..trial
         };
-        assert_eq!(rt; narrow.run(rt.alloc()), trial.whole());
+        is_same(&rt, &narrow.run(rt.alloc()), &trial.whole());
         each_read_fails(&rt, &narrow, 1);
     }
 }
@@ -184,7 +185,7 @@ fn a_write_that_takes_nothing_is_a_fault(rt: HostRuntime) {
             write_width: 0,
             ..trial
         };
-        assert_eq!(rt; refusing.run(rt.alloc()), ended(RunFault::Write, 0));
+        is_same(&rt, &refusing.run(rt.alloc()), &ended(RunFault::Write, 0));
     }
 }
 
@@ -201,5 +202,5 @@ fn a_line_that_is_cut_is_not_answered(rt: HostRuntime) {
         end: Err(RunFault::Read),
         ..cut.whole()
     };
-    assert_eq!(rt; cut.run(rt.alloc()), wanted);
+    is_same(&rt, &cut.run(rt.alloc()), &wanted);
 }

@@ -14,6 +14,8 @@ mod lines;
 #[cfg(test)]
 mod refused_memory;
 #[cfg(test)]
+mod same;
+#[cfg(test)]
 mod serving;
 #[cfg(test)]
 mod streams;

@@ -1,6 +1,7 @@
 //! What is opened or run is tried once more where it was refused, so these tests pass as well where any
 //! one request for memory is refused (tests/refused_memory refuses each in turn).
 use crate::devices::{Kind, Trial};
+use crate::same::is_same;
 use nr_core::{AskReply, Core};
 use nr_lines::RunFault;
 use nr_map::{Reader, ReaderMap, Writer};
@@ -36,7 +37,7 @@ fn a_reader_map_opens(rt: HostRuntime) {
         Ok((map, _writer, readers)) => Some((map.slots(), readers.len())),
         Err(_fault) => None,
     };
-    assert_eq!(rt; sizes, Some((3, 1)));
+    is_same(&rt, &sizes, &Some((3, 1)));
 }
 
 /// A run to which memory is refused writes a beginning of its text. The next one writes all of it.
@@ -46,7 +47,7 @@ fn runs(rt: &(impl Abort + AllocGlobal), trial: &Trial) {
         assert!(rt; outcome.written.is_some());
         outcome = trial.run(rt.alloc());
     }
-    assert_eq!(rt; outcome, trial.whole());
+    is_same(rt, &outcome, &trial.whole());
 }
 
 #[test]

@@ -1,4 +1,5 @@
 //! What is served, read and written, by a responder with one answer.
+use crate::same::is_same;
 use nr_lines::{Responder, RunFault, serve};
 use std::alloc::Global;
 use std::cell::Cell;
@@ -129,6 +130,6 @@ fn each_line_is_answered_before_the_next_read(rt: HostRuntime) {
         answered: &answered,
     };
     let ended = serve(rt.alloc(), 64, &mut Yes, &mut reader, &mut writer);
-    assert_eq!(rt; ended, Ok(()));
-    assert_eq!(rt; answered.get(), 6);
+    is_same(&rt, &ended, &Ok(()));
+    is_same(&rt, &answered.get(), &6);
 }

@@ -64,7 +64,7 @@ pub(crate) fn minus(a: u64, b: u64) -> Delta {
 }
 
 /// The two are the same. Each `assert_eq!` of a test would be proved anew.
-fn is_same<T: Debug + PartialEq, R: Abort>(rt: &R, got: &T, wanted: &T) {
+pub(crate) fn is_same<T: Debug + PartialEq, R: Abort>(rt: &R, got: &T, wanted: &T) {
     assert_eq!(rt; got, wanted);
 }
 

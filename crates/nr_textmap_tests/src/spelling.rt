@@ -1,6 +1,7 @@
 //! Texts, their ids, and their hash.
 
 use crate::colliding::Same;
+use crate::shelf::is_same;
 use nr_textmap::{SipKey, Text, TextHash};
 use std::process::Abort;
 
@@ -19,11 +20,11 @@ fn words_hash_as_published(rt: HostRuntime) {
         0x1716_1514_1312_1110,
         0x1f1e_1d1c_1b1a_1918,
     ];
-    assert_eq!(rt; COUNTED.hash(&[]), 0x726f_db47_dd0e_0e31);
-    assert_eq!(rt; COUNTED.hash(&message[..1]), 0x93f5_f579_9a93_2462);
-    assert_eq!(rt; COUNTED.hash(&message[..2]), 0x3f2a_cc7f_57c2_9bdb);
-    assert_eq!(rt; COUNTED.hash(&message[..3]), 0xb8ad_50c6_f649_af94);
-    assert_eq!(rt; COUNTED.hash(&message), 0x7127_512f_72f2_7cce);
+    is_same(&rt, &COUNTED.hash(&[]), &0x726f_db47_dd0e_0e31);
+    is_same(&rt, &COUNTED.hash(&message[..1]), &0x93f5_f579_9a93_2462);
+    is_same(&rt, &COUNTED.hash(&message[..2]), &0x3f2a_cc7f_57c2_9bdb);
+    is_same(&rt, &COUNTED.hash(&message[..3]), &0xb8ad_50c6_f649_af94);
+    is_same(&rt, &COUNTED.hash(&message), &0x7127_512f_72f2_7cce);
 }
 
 /// How many rows spell a text of that many bytes, or none.
@@ -40,12 +41,12 @@ fn rows_of(count: usize) -> Option<usize> {
 
 #[test]
 fn texts_have_1_to_255_bytes(rt: HostRuntime) {
-    assert_eq!(rt; rows_of(0), None);
-    assert_eq!(rt; rows_of(1), Some(1));
-    assert_eq!(rt; rows_of(7), Some(1));
-    assert_eq!(rt; rows_of(8), Some(2));
-    assert_eq!(rt; rows_of(255), Some(32));
-    assert_eq!(rt; rows_of(256), None);
+    is_same(&rt, &rows_of(0), &None);
+    is_same(&rt, &rows_of(1), &Some(1));
+    is_same(&rt, &rows_of(7), &Some(1));
+    is_same(&rt, &rows_of(8), &Some(2));
+    is_same(&rt, &rows_of(255), &Some(32));
+    is_same(&rt, &rows_of(256), &None);
 }
 
 /// The id of a text, by a hash.
@@ -59,10 +60,11 @@ fn id_of<H: TextHash>(hash: &H, bytes: &[u8]) -> u64 {
 #[test]
 fn ids_are_hashes_but_0(rt: HostRuntime) {
     // SipHash-2-4 of the eight bytes 5, "alice", 0, 0.
-    assert_eq!(rt;
-        id_of(&COUNTED, b"alice"),
-        COUNTED.hash(&[0x0065_6369_6c61_05])
+    is_same(
+        &rt,
+        &id_of(&COUNTED, b"alice"),
+        &COUNTED.hash(&[0x0065_6369_6c61_05]),
     );
-    assert_eq!(rt; id_of(&Same { hash: 7 }, b"alice"), 7);
-    assert_eq!(rt; id_of(&Same { hash: 0 }, b"alice"), 1);
+    is_same(&rt, &id_of(&Same { hash: 7 }, b"alice"), &7);
+    is_same(&rt, &id_of(&Same { hash: 0 }, b"alice"), &1);
 }
