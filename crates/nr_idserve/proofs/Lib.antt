@@ -3,5 +3,6 @@ pub mod IdTrying
 pub mod IdGetting
 pub mod IdOpen
 pub mod IdMade
+pub mod IdTurning
 pub mod IdLedger
 pub mod IdClaims

@@ -1,5 +1,6 @@
 -- What contracts see of a dataflow by id, and what holds of it between its calls.
 use Rattle.std.specs.Prelude.{◌≡◌, ◌<◌, ℕ, Option, IfSome}
+use Rattle.atomic_table.specs.Seated.{TableId}
 use Rattle.nr_idmap.specs.Keepers.{IdTable, Keeper, Sent}
 use Rattle.nr_ids.specs.Groups.{group_of}
 use Rattle.nr_trigger.specs.Tokens.{Queue, TakerSeen}
@@ -8,6 +9,7 @@ use Rattle.nr_serve.specs.Counts.{GuestSeen}
 pub record IdFlowSeen : Type 0 where
   pub map : IdTable
   pub queue : Queue
+  pub lobby : TableId
   pub writer : Keeper
   pub taker : TakerSeen
   -- the upquery that it keeps

@@ -120,7 +120,7 @@ answered_by None (taken.Full id) = []
 answered_by None taken.Idle = []
 answered_by (Some kept) answer = []
 
--- A call of the dataflow, by what its contract says: with the upqueries in hand before it, which are those that it keeps and those that are under way, as nobody can drop or copy one; the claims that it answered; the upqueries that ended; and those in hand after it.
+-- A call of the dataflow, by what its contract says (a turn makes such calls in a row): with the upqueries in hand before it, which are those that it keeps and those that are under way, as nobody can drop or copy one; the claims that it answered; the upqueries that ended; and those in hand after it.
 pub data DoesById : IdFlowSeen → List Owed → List Answered → List IdEnding → IdFlowSeen → List Owed → Type 0 where
   Takes : (old new : IdFlowSeen) (answer : Taken) (held : List Owed) → TakesById old answer new → DoesById old held (answered_by old.kept answer) [] new (opened_by (answered_by old.kept answer) ++ held)
   Fills : (old new : IdFlowSeen) (sent : Sent) (rows : List Row) (spent : Spent) (before after : List Owed) → FillsOneId old sent rows (Ok spent) new

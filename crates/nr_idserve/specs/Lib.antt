@@ -6,4 +6,5 @@ pub mod IdClaims
 pub mod IdFlows
 pub mod IdTakes
 pub mod IdEnds
+pub mod IdTurns
 pub mod IdLedger

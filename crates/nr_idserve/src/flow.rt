@@ -29,7 +29,7 @@ impl<'a> Model for IdDataflow<'a> {
 
     ghost Value = { IdFlowSeen };
 
-    ghost view = { λ flow. record { map = flow.service.now.map; queue = flow.service.now.queue; writer = flow.writer; taker = flow.taker; kept = flow.kept; refused = flow.refused; guest = flow.raiser } };
+    ghost view = { λ flow. record { map = flow.service.now.map; queue = flow.service.now.queue; lobby = flow.service.now.lobby; writer = flow.writer; taker = flow.taker; kept = flow.kept; refused = flow.refused; guest = flow.raiser } };
 
     ghost invariant = { λ flow. IsPlacedById flow.service.now.map flow.service.now.queue flow.writer flow.taker flow.kept flow.refused };
 }
@@ -39,7 +39,7 @@ impl<'a> IdDataflow<'a> {
     pub fn open(service: &'a IdService, writer: IdWriter, taker: Taker) -> IdDataflow<'a>
         requires map { writer.table ≡ service.now.map }
         requires queue { taker.queue ≡ service.now.queue.id }
-        ensures flow { result ≡ record { map = service.now.map; queue = service.now.queue; writer = writer; taker = taker; kept = None; refused = None; guest = result.guest } }
+        ensures flow { result ≡ record { map = service.now.map; queue = service.now.queue; lobby = service.now.lobby; writer = writer; taker = taker; kept = None; refused = None; guest = result.guest } }
         ensures guest { (result.guest.lobby ≡ service.now.lobby) × IsNew result.guest }
     {
         IdDataflow {

@@ -9,8 +9,10 @@ mod flow;
 mod hands;
 pub mod laws;
 mod service;
+mod source;
 mod taking;
 mod tries;
+mod turns;
 mod victims;
 mod watched;
 
@@ -18,5 +20,7 @@ pub use answers::GotId;
 pub use client::IdClient;
 pub use flow::IdDataflow;
 pub use service::IdService;
+pub use source::IdSource;
 pub use taking::Taken;
+pub use turns::IdTurn;
 pub use victims::{NoVictims, Victims};

@@ -32,7 +32,8 @@ impl<'a> IdDataflow<'a> {
     pub fn take<V: Victims, R: Wait>(&mut self, rt: &R, victims: &mut V) -> Taken
         ensures takes { TakesById self.old result self.new }
         ensures own { IsAskedOf self.old.map result }
-        ensures places { (self.new.map ≡ self.old.map) × (self.new.queue ≡ self.old.queue) }
+        ensures free { self.new.kept ≡ None }
+        ensures places { (self.new.map ≡ self.old.map) × (self.new.queue ≡ self.old.queue) × (self.new.lobby ≡ self.old.lobby) }
     {
         if let Some(upquery) = self.kept.take() {
             return Taken::Asked(upquery);
@@ -49,7 +50,8 @@ impl<'a> IdDataflow<'a> {
     // The id of the claim that is kept, or else of the next one of the queue.
     fn next_id<R: Wait>(&mut self, rt: &R) -> Option<u64>
         ensures nexts { NextsId self.old result self.new }
-        ensures places { (self.new.map ≡ self.old.map) × (self.new.queue ≡ self.old.queue) }
+        ensures kept { self.new.kept ≡ self.old.kept }
+        ensures places { (self.new.map ≡ self.old.map) × (self.new.queue ≡ self.old.queue) × (self.new.lobby ≡ self.old.lobby) }
     {
         if let Some(id) = self.refused.take() {
             return Some(id);
@@ -63,8 +65,9 @@ impl<'a> IdDataflow<'a> {
     fn admit_next<V: Victims, R: Wait>(&mut self, rt: &R, victims: &mut V, id: u64) -> Taken
         requires { 0 < id }
         ensures admits { AdmitsNext self.old id result self.new }
+        ensures kept { self.new.kept ≡ self.old.kept }
         ensures own { IsAskedOf self.old.map result }
-        ensures places { (self.new.map ≡ self.old.map) × (self.new.queue ≡ self.old.queue) }
+        ensures places { (self.new.map ≡ self.old.map) × (self.new.queue ≡ self.old.queue) × (self.new.lobby ≡ self.old.lobby) }
     {
         match self.admit_making_room(rt, victims, id) {
             Ok(upquery) => Taken::Asked(upquery),
@@ -86,8 +89,9 @@ impl<'a> IdDataflow<'a> {
     ) -> Result<Upquery, Refused>
         requires { 0 < id }
         ensures admits { AdmitsMakingRoom self.old id result self.new }
+        ensures kept { self.new.kept ≡ self.old.kept }
         ensures own { IfOk result (λ upquery. upquery.table ≡ self.old.map) }
-        ensures places { (self.new.map ≡ self.old.map) × (self.new.queue ≡ self.old.queue) }
+        ensures places { (self.new.map ≡ self.old.map) × (self.new.queue ≡ self.old.queue) × (self.new.lobby ≡ self.old.lobby) }
     {
         match self.admit(rt, id) {
             Ok(upquery) => return Ok(upquery),
@@ -105,8 +109,9 @@ impl<'a> IdDataflow<'a> {
     fn admit<R: Wait>(&mut self, rt: &R, id: u64) -> Result<Upquery, Refused>
         requires { 0 < id }
         ensures admits { AdmitsOne self.old id result self.new }
+        ensures kept { self.new.kept ≡ self.old.kept }
         ensures own { IfOk result (λ upquery. upquery.table ≡ self.old.map) }
-        ensures places { (self.new.map ≡ self.old.map) × (self.new.queue ≡ self.old.queue) }
+        ensures places { (self.new.map ≡ self.old.map) × (self.new.queue ≡ self.old.queue) × (self.new.lobby ≡ self.old.lobby) }
     {
         let map = self.service.map();
         let upquery = map.admit(&mut self.writer, id)?;
@@ -117,7 +122,8 @@ impl<'a> IdDataflow<'a> {
     // Evicts an id of that one's group: whether it had rows.
     fn make_room<V: Victims, R: Wait>(&mut self, rt: &R, victims: &mut V, id: u64) -> bool
         ensures makes { MakesRoom self.old id result self.new }
-        ensures places { (self.new.map ≡ self.old.map) × (self.new.queue ≡ self.old.queue) }
+        ensures kept { self.new.kept ≡ self.old.kept }
+        ensures places { (self.new.map ≡ self.old.map) × (self.new.queue ≡ self.old.queue) × (self.new.lobby ≡ self.old.lobby) }
     {
         let map = self.service.map();
         let group = map.group_of(id);

@@ -15,3 +15,5 @@ mod rooms;
 mod sleeps;
 #[cfg(test)]
 mod threads;
+#[cfg(test)]
+mod turns;
