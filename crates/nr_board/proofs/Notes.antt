@@ -1,5 +1,5 @@
 -- Notes are split from a token and joined to another.
-use Rattle.std.proofs.Common.{◌≡◌, ◌<◌, ℕ, suc, cond, ◌+◌, ◌≢◌, List, [], ◌∷◌, ◌++◌, map, set, ◌⊎◌, ⊎_elim, inl, inr, refl, sym, ap, ◌∙◌, subst, arith}
+use Rattle.std.proofs.Common.{◌≡◌, ◌<◌, ℕ, suc, cond, ◌+◌, ◌≢◌, List, [], ◌∷◌, ◌++◌, map, get_or, set, ◌⊎◌, ⊎_elim, inl, inr, refl, sym, ap, ◌∙◌, subst, arith}
 use mathlib.Core.List.{map-append}
 use mathlib.Core.Option.{none, some}
 use lib.ListN.{get_elem?}
@@ -15,7 +15,8 @@ use Rattle.nr_machine.specs.Sums.{total}
 use Rattle.nr_machine.specs.declared.roles.Role.{Role}
 use Rattle.nr_machine.specs.declared.roles.Role.TheVariants.{Note, Writer}
 use Rattle.nr_machine.specs.declared.shape.Shape.{Shape}
-use Rattle.nr_board.specs.Ahead.{has_loaded}
+use Rattle.nr_machine.specs.Slots.{name_number}
+use Rattle.nr_board.specs.Ahead.{after_look, ahead, has_loaded, has_looked_ahead}
 use Rattle.nr_board.proofs.Tokens.{MapSeat}
 use Rattle.nr_board.specs.Callers.{caller_of, token}
 use Rattle.nr_board.specs.Meetings.{with_step}
@@ -150,6 +151,17 @@ loads_so shape slots id me place state kept homes at bounded =
     let own : Fits shape kept.log next = record { begins = fits.begins; told = fits.told; own = fits.own; knows_own = fits.knows_own; acts = fits.acts; sized = fits.sized } in
     let rests = replaced shape state id view next kept at refl (inl refl) refl (heard_same state.views id view next at refl refl (λ _. (refl, refl)) kept.hears) (kept.told_of id view at) own (kept.maker id view at) (kept.pasts id view at) (kept.told_pasts id view at) in
     (next, keeps, tt, subst (λ (words : List ℕ). Kept shape (record { words = words; homes = state.homes; views = set state.views id next })) (sym (set-get_or state.words place 0)) rests, refl)
+
+-- so does a look at a key, whose marks tell what it named
+pub looks_ahead_so : (shape : Shape) (slots id : ℕ) (me : Me (Unit {0}) View) (key : ℕ) → Allows (Kept shape) slots id me key (λ word. word) (has_looked_ahead (step slots key 0 0 none) me)
+looks_ahead_so shape slots id me key state kept homes at bounded =
+    let view = me.0 in let next = ahead key (name_number (get_or state.words key 0)) view in let fits = kept.fits id view at in
+    let own : Fits shape kept.log next = record { begins = fits.begins; told = fits.told; own = fits.own; knows_own = fits.knows_own; acts = fits.acts; sized = fits.sized } in
+    let rests = replaced shape state id view next kept at refl (inl refl) refl (heard_same state.views id view next at refl refl (λ _. (refl, refl)) kept.hears) (kept.told_of id view at) own (kept.maker id view at) (kept.pasts id view at) (kept.told_pasts id view at) in
+    (next, keeps, tt, subst (λ (words : List ℕ). Kept shape (record { words = words; homes = state.homes; views = set state.views id next })) (sym (set-get_or state.words key 0)) rests, refl)
+
+pub ahead_token : (seat next : MapSeat) (key named : ℕ) → next.table_id ≡ seat.table_id → next.me.0 ≡ ahead key named seat.me.0 → token next ≡ after_look key named (token seat)
+ahead_token seat next key named same told = λ j. caller_of (same j) (told j)
 
 -- as contracts see the token
 pub loaded_token : (seat next : MapSeat) → next.table_id ≡ seat.table_id → next.me.0 ≡ has_noted seat.me.0 → token next ≡ with_step (token seat)

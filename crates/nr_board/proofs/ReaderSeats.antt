@@ -12,6 +12,7 @@ use Rattle.nr_words.specs.KeyWords.{has_ask, is_filled, slot_of}
 use Rattle.nr_core.proofs.Choices.{by_cases}
 use Rattle.nr_core.proofs.KeyWords.{names_one}
 use Rattle.nr_core.proofs.WordPlaces.{same_content}
+use Rattle.nr_marks.specs.Marks.{with_look}
 use Rattle.nr_machine.specs.Slots.{bound_of, content, name_number, names_slot}
 use Rattle.nr_core.specs.Steps.{ask_word}
 use Rattle.nr_machine.specs.Story.{map_after}
@@ -125,8 +126,8 @@ module _ (table : Table) (before after : MapSeat) (same : after.table_id ≡ bef
   pub again_holds : HoldsAt table begin after
   again_holds = record { own = own_table ∙ holds.own; holds = subst (Holds table.shape) (sym told.role) holds.holds; begin_is = holds.begin_is ∙ ap (λ r. content table.shape (slot_held r) 0) (sym told.role) }
 
-  pub again_marks : after.me.0.marks ≡ found_again answer before.me.0.marks
-  again_marks = told.marks ∙ ap (λ (b : Bool). found_again b before.me.0.marks) names
+  pub again_marks : after.me.0.marks ≡ found_again answer (with_look before.me.0.marks key (name_number found))
+  again_marks = told.marks ∙ ap (λ (b : Bool). found_again b (with_look before.me.0.marks key (name_number found))) names
 
   -- the key has the put number of the hold exactly where the answer is yes
   pub again_exact : (answer ≡ true) ↔ HasPut key before.me.0.marks.put (token after)

@@ -40,7 +40,7 @@ use Rattle.nr_core.proofs.WordPlaces.{content_inside, departures_inside}
 use Rattle.nr_board.proofs.Moves.{ActsGo, learned, learning, names_go, reads_only, waiting}
 use Rattle.nr_board.specs.Entries.{AreCallers, acts_told, is_reading, to_depart}
 use Rattle.nr_marks.specs.Marked.{KnowsMarks}
-use Rattle.nr_marks.specs.Marks.{Marks, gripped}
+use Rattle.nr_marks.specs.Marks.{Marks, gripped, with_look}
 use lib.ListN.{get_elem?}
 use lib.Seq.{set-get_or}
 use Rattle.nr_model.specs.declared.calls.Call.{Call}
@@ -187,7 +187,7 @@ finds_again_so shape slots id me key near is sized = let view = me.0 in let read
     (names_go view marked.now (reads_only view marked.now (ap is_writer is))) (λ next. FoundAgain key found view next) (reader_is view.role _ is) marked.told.1 told is_told tell in
     by_cases (λ _. Choice shape id view (Load key) tells notes state kept step marked (λ next. FoundAgain key found view next)) names
     (λ yes. let is_told : step.entries ≡ e ∷ [] = step.told.1 ∙ ap (λ (b : Bool). cond {A = List Entry} b (e ∷ []) []) yes in
-    let count : marked.now.acts ≡ suc (suc view.marks.acts) = ap (λ (m : Marks). m.acts) marked.told.0 ∙ ap (λ (b : Bool). (found_again b view.marks).acts) yes in
+    let count : marked.now.acts ≡ suc (suc view.marks.acts) = ap (λ (m : Marks). m.acts) marked.told.0 ∙ ap (λ (b : Bool). (found_again b (with_look view.marks key (name_number found))).acts) yes in
     choose (e ∷ []) (reader_entry shape reader (model.Find key) _ step.entries is_told near within refl) is_told (omega arith) (λ advances. record {
       role = role;
       same = λ _. advances;
@@ -199,7 +199,7 @@ finds_again_so shape slots id me key near is sized = let view = me.0 in let read
       says = refl;
     }))
     (λ no. let is_told : step.entries ≡ [] = step.told.1 ∙ ap (λ (b : Bool). cond {A = List Entry} b (e ∷ []) []) no in
-    let count : marked.now.acts ≡ view.marks.acts = ap (λ (m : Marks). m.acts) marked.told.0 ∙ ap (λ (b : Bool). (found_again b view.marks).acts) no in
+    let count : marked.now.acts ≡ view.marks.acts = ap (λ (m : Marks). m.acts) marked.told.0 ∙ ap (λ (b : Bool). (found_again b (with_look view.marks key (name_number found))).acts) no in
     choose [] (subst (AreCallers shape) (sym is_told) tt) is_told (omega arith) (λ advances. record {
       role = role;
       same = λ yes. differ names _ yes no;

@@ -8,9 +8,10 @@ use Rattle.nr_machine.specs.declared.roles.Grip.TheVariants.{Nothing}
 use Rattle.nr_machine.specs.declared.roles.Role.TheVariants.{Reader}
 use Rattle.nr_machine.specs.declared.shape.Shape.{Shape}
 use Rattle.nr_core.proofs.Choices.{by_cases}
+use Rattle.std.proofs.lemmas.Bool.{eqb-true}
 use Rattle.nr_board.proofs.Tokens.{MapSeat, seat_grows, seat_rests}
 use Rattle.nr_board.specs.Callers.{Gains, Grows, Rests, Table, token}
-use Rattle.nr_marks.specs.Marks.{acted}
+use Rattle.nr_marks.specs.Marks.{Marks, acted, with_look}
 use Rattle.nr_marks.specs.Puts.{put_number}
 use Rattle.nr_board.specs.Plays.{Holds, IsIdle}
 use Rattle.nr_board.specs.Seats.{AnnouncesAt, HoldsAt, IdlesAt}
@@ -90,11 +91,14 @@ module _ (table : Table) (before after : MapSeat) (same : after.table_id ≡ bef
         (λ yes. let held = told.same (names_said true yes) in has_still own held.number (seat_grows before after _ same held.gains).table has)
         (λ no. let looked = confirmed_other no in has_still own (ap caller_number looked.role) (own_still key found looked) has)
 
-    pub confirmed_marks : (names_slot slot found ≡ true) ⊎ (is_filled found ≡ false) → after.me.0.marks ≡ acted before.me.0.marks (put_number after.me.0.seen key)
+    abbrev looked : Marks
+    looked = with_look before.me.0.marks key (name_number found)
+
+    pub confirmed_marks : (names_slot slot found ≡ true) ⊎ (is_filled found ≡ false) → after.me.0.marks ≡ acted looked (put_number after.me.0.seen key)
     confirmed_marks answers = ⊎_elim
-        (λ yes. (told.same (names_said true yes)).marks)
-        (λ empty. (confirmed_other (names_empty_not slot found empty)).marks ∙ ap (λ (b : Bool). cond b before.me.0.marks (acted before.me.0.marks (put_number after.me.0.seen key))) empty)
+        (λ yes. (told.same (names_said true yes)).marks ∙ ap (λ (n : ℕ). acted (with_look before.me.0.marks key n) (put_number after.me.0.seen key)) (ap suc slot_is ∙ sym (eqb-true (name_number found) (suc slot) yes)))
+        (λ empty. (confirmed_other (names_empty_not slot found empty)).marks ∙ ap (λ (b : Bool). cond b looked (acted looked (put_number after.me.0.seen key))) empty)
         answers
 
-    pub confirmed_not_yet : names_slot slot found ≡ false → is_filled found ≡ true → after.me.0.marks ≡ before.me.0.marks
-    confirmed_not_yet gone full = (confirmed_other gone).marks ∙ ap (λ (b : Bool). cond b before.me.0.marks (acted before.me.0.marks (put_number after.me.0.seen key))) full
+    pub confirmed_not_yet : names_slot slot found ≡ false → is_filled found ≡ true → after.me.0.marks ≡ looked
+    confirmed_not_yet gone full = (confirmed_other gone).marks ∙ ap (λ (b : Bool). cond b looked (acted looked (put_number after.me.0.seen key))) full

@@ -34,8 +34,8 @@ use Rattle.nr_marks.proofs.LearnMarks.{learns_reader}
 use Rattle.nr_marks.proofs.ListPlaces.{no_places}
 use Rattle.nr_marks.proofs.ReaderMarks.{departs_marked}
 use Rattle.nr_marks.specs.Marked.{KnowsMarks, MarkTelling, Remarked, Since}
-use Rattle.nr_marks.specs.MarkSteps.{ArrivesMarks, DepartsMarks, LooksUpMarks, ReaderLearns}
-use Rattle.nr_marks.specs.Marks.{Marks, acted, gripped}
+use Rattle.nr_marks.specs.MarkSteps.{DepartsMarks, HoldsNamedMarks, LooksUpMarks, ReaderLearns}
+use Rattle.nr_marks.specs.Marks.{Marks, acted, gripped, with_look}
 use Rattle.nr_marks.specs.Puts.{put_number}
 use Rattle.nr_board.proofs.Counting.{counted_same}
 use Rattle.nr_board.proofs.Lift.{Choice, Follows, Makes, allowed, apart, key_inside, key_no_count, keeps_core, knows_pasts, lends_on, lent_small, makes, sees_plain, words_after}
@@ -45,7 +45,7 @@ use Rattle.nr_board.proofs.Saying.{announces_own, counted_behind, counted_lent, 
 use Rattle.nr_board.proofs.Heard.{AllHear, hears_after, no_reader}
 use Rattle.nr_board.specs.Announcing.{Counted, lends, lent, says_at}
 use Rattle.nr_board.specs.Entries.{AreCallers}
-use Rattle.nr_board.specs.Plays.{Advances, IsIdle}
+use Rattle.nr_board.specs.Plays.{Advances, IsIdle, Waits}
 use Rattle.nr_board.specs.Rule.{Kept, marks_of, role_of}
 use Rattle.nr_board.specs.Views.{View, grip_of, is_sized, caller_number, rows_held, slot_held}
 use Rattle.nr_board.specs.WordPlays.{Confirmed, HasWord, HoldsByWord, HoldsSaid, LookedUp, Said, has_confirmed, has_looked_up, has_said, let_go, saying, slot_said}
@@ -55,6 +55,7 @@ use Rattle.nr_board.specs.WordPlays.{Confirmed, HasWord, HoldsByWord, HoldsSaid,
 look_up_makes : (shape : Shape) (id : ℕ) (me : Me (Unit {0}) View) (key : ℕ) → key < shape.keys → IsIdle me.0.role → me.0.shape ≡ shape
     → Makes shape id me.0 (Load key) me.1 (λ found next. LookedUp key found me.0 next)
 look_up_makes shape id me key near idle sized = let view = me.0 in let reader = caller_number view.role in let tells = LooksUp reader key in let notes = LooksUpMarks view.marks key in let e = entry reader (model.Find key) reply.Hole in
+    let looked : ℕ → Marks = λ found. with_look view.marks key (name_number found) in
     makes shape id view (Load key) tells notes me.1 (λ found next. LookedUp key found view next) view.pasts (subst (λ r. CanStep shape id r (Load key) tells) (sym idle) (looks_up shape id reader key near))
     (looks_up_marked role_of marks_of shape id view view.pasts reader key idle) (knows_pasts shape id view)
     (sees_plain shape id view (Load key) tells notes (λ found next. LookedUp key found view next) (key_inside shape key near) (key_no_count shape key near)
@@ -68,7 +69,7 @@ look_up_makes shape id me key near idle sized = let view = me.0 in let reader = 
     let holds_none = ap (λ r. gripped (grip_of r)) idle in let still_none = ap (λ r. gripped (grip_of r)) step.told.0 in
     by_cases (λ (_ : Bool). Choice shape id view (Load key) tells notes state kept step marked (λ next. LookedUp key found view next)) (is_filled found)
     (λ full. let is : step.entries ≡ [] = step.told.1 ∙ ap (λ (b : Bool). cond {A = List Entry} b [] (e ∷ [])) full in
-    let same : marked.now ≡ view.marks = marked.told.0 ∙ ap (λ (b : Bool). cond {A = Marks} b view.marks (acted view.marks (put_number (kept.log ++ step.entries) key))) full in
+    let same : marked.now ≡ looked found = marked.told.0 ∙ ap (λ (b : Bool). cond {A = Marks} b (looked found) (acted (looked found) (put_number (kept.log ++ step.entries) key))) full in
     let same_acts = ap (λ (m : Marks). m.acts) same in
     choose [] (subst (AreCallers shape) (sym is) tt) is (acts_so view step.after step.entries marked.now None None [] holds_none still_none is (omega arith))
     (λ next says role_is marks_are seen advances. record {
@@ -76,10 +77,10 @@ look_up_makes shape id me key near idle sized = let view = me.0 in let reader = 
       says = says;
       hole = λ empty. differ (is_filled found) _ full empty;
       named = λ _. advances;
-      marks = marks_are ∙ marked.told.0 ∙ ap (λ (l : List Entry). cond {A = Marks} (is_filled found) view.marks (acted view.marks (put_number l key))) (sym seen);
+      marks = marks_are ∙ marked.told.0 ∙ ap (λ (l : List Entry). cond {A = Marks} (is_filled found) (looked found) (acted (looked found) (put_number l key))) (sym seen);
     }))
     (λ empty. let is : step.entries ≡ e ∷ [] = step.told.1 ∙ ap (λ (b : Bool). cond {A = List Entry} b [] (e ∷ [])) empty in
-    let one : marked.now ≡ acted view.marks (put_number (kept.log ++ step.entries) key) = marked.told.0 ∙ ap (λ (b : Bool). cond {A = Marks} b view.marks (acted view.marks (put_number (kept.log ++ step.entries) key))) empty in
+    let one : marked.now ≡ acted (looked found) (put_number (kept.log ++ step.entries) key) = marked.told.0 ∙ ap (λ (b : Bool). cond {A = Marks} b (looked found) (acted (looked found) (put_number (kept.log ++ step.entries) key))) empty in
     let one_act = ap (λ (m : Marks). m.acts) one in
     choose (e ∷ []) (reader_entry shape reader (model.Find key) _ step.entries is near (reader_within shape id view Nothing state kept at idle) refl) is
     (acts_so view step.after step.entries marked.now None None (e ∷ []) holds_none still_none is (omega arith))
@@ -88,7 +89,7 @@ look_up_makes shape id me key near idle sized = let view = me.0 in let reader = 
       says = says;
       hole = λ _. advances;
       named = λ full. differ (is_filled found) _ full empty;
-      marks = marks_are ∙ marked.told.0 ∙ ap (λ (l : List Entry). cond {A = Marks} (is_filled found) view.marks (acted view.marks (put_number l key))) (sym seen);
+      marks = marks_are ∙ marked.told.0 ∙ ap (λ (l : List Entry). cond {A = Marks} (is_filled found) (looked found) (acted (looked found) (put_number l key))) (sym seen);
     })))
 
 pub looks_up_so : (shape : Shape) (slots id : ℕ) (me : Me (Unit {0}) View) (key : ℕ) → key < shape.keys → IsIdle me.0.role → me.0.shape ≡ shape → Allows (Kept shape) slots id me key (λ word. word) (has_looked_up (step slots key 0 0 none) me)
@@ -179,6 +180,10 @@ saying_follows shape id view operation tells notes state kept step marked next s
   callers = follows.callers;
 }
 
+-- and what its step told it stands
+saying_waits : (view next : View) (says : ℕ) → Waits view next → Waits view (saying says next)
+saying_waits view next says waits table = let rests = waits table in record { table = rests.table; number = rests.number; seen = rests.seen; mine = rests.mine; steps_made = rests.steps_made; pasts = rests.pasts }
+
 -- THE ANNOUNCEMENT, AND ITS END
 
 module _ (shape : Shape) (slots id own says : ℕ) (me : Me (Unit {0}) View) (has : HasWord own me.0) (sized : me.0.shape ≡ shape) (state : State (Unit {0}) View) (kept : Kept shape state) (at : get_elem? state.views id ≡ some me.0) where
@@ -202,7 +207,7 @@ module _ (shape : Shape) (slots id own says : ℕ) (me : Me (Unit {0}) View) (ha
         says_kept shape id own view has state kept at mine operation tells notes step marked next
             (saying_follows shape id view operation tells notes state kept step marked quiet says (waited_follows shape id view operation tells notes state kept at step marked same sized callers acts no_entries))
             (λ slot _ grips. absurd (omega (arith, holds_none slot))) (λ _ slot _ _ _ _. idle_lends next holds_none slot) (seen next (idle_lends next holds_none)),
-        record { role = after; says_it = refl; waits = waited_rests shape id view operation tells notes state kept at step marked same sized callers acts no_news; marks = lets_go },
+        record { role = after; says_it = refl; waits = saying_waits view quiet says (waited_rests shape id view operation tells notes state kept at step marked same sized callers acts no_news); marks = lets_go },
       )
 
   -- the core sees nothing of it where the reader held nothing
@@ -260,7 +265,7 @@ confirms_named : (shape : Shape) (slots id own : ℕ) (me : Me (Unit {0}) View) 
     → (next : View) × Kept shape (record { words = state.words; homes = state.homes; views = set state.views id next }) × HoldsSaid key me.0 next
 confirms_named shape slots id own me key near has sized idle loud state kept at names =
     let view = me.0 in let reader = caller_number view.role in let slot : ℕ = slot_said view in let place : ℕ = departures shape slot in let operation = Add place (2 ^ 64 - 1) in let tells = HoldsNamed shape reader slot key in
-    let notes = ArrivesMarks view.marks key in let mine = reader_is view.role Nothing idle in
+    let notes = HoldsNamedMarks view.marks key slot in let mine = reader_is view.role Nothing idle in
     let names_seen : name_number (get_or kept.counted key 0) ≡ suc slot = ap name_number (kept.counts_words.same key (key_inside shape key near) (key_no_count shape key near)) ∙ names in
     let step = subst (λ r. CanStepWhere shape id r operation (λ words. name_number (get_or words key 0) ≡ suc slot) tells) (sym idle) (holds_named shape id reader key slot near)
     kept.counted (map role_of state.views) kept.log kept.core names_seen (at_map role_of state.views id view at) in

@@ -1,8 +1,23 @@
 -- A load that tells its token nothing, by which a word is near when it is needed.
-use Rattle.std.specs.Prelude.{◌≡◌}
+use Rattle.std.specs.Prelude.{◌≡◌, ℕ, ◌+◌}
+use Rattle.nr_machine.specs.Slots.{name_number}
+use Rattle.nr_marks.specs.Marks.{with_look}
+use Rattle.nr_board.specs.Callers.{Caller}
 use Rattle.nr_board.specs.Notes.{has_noted}
 use Rattle.nr_board.specs.Plays.{Then}
+use Rattle.nr_board.specs.Views.{View}
 
 -- the token counts the step
 abbrev pub has_loaded : Then
 has_loaded step before found after = after.0 ≡ has_noted before.0
+
+-- and where it is a look at a key, what this named
+abbrev pub ahead : ℕ → ℕ → View → View
+ahead key named view = record view { steps = view.steps + 1; marks = with_look view.marks key named }
+
+abbrev pub has_looked_ahead : Then
+has_looked_ahead step before found after = after.0 ≡ ahead step.word (name_number found) before.0
+
+-- as contracts see the token
+abbrev pub after_look : ℕ → ℕ → Caller → Caller
+after_look key named caller = record caller { steps = caller.steps + 1; marks = with_look caller.marks key named }

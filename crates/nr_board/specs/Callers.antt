@@ -41,6 +41,8 @@ pub record Caller : Type 0 where
   pub marks : Marks
   -- how readers were when the writer learnt it
   pub pasts : List Past
+  -- what a reader's own word says: 0, or one more than the slot that it holds by it
+  pub says : ℕ
   -- of each slot how many readers, the first ones, the writer found not to announce it since a key named it last
   pub heard : List ℕ
 
@@ -57,6 +59,7 @@ caller_of id view = record {
   holds = gripped (grip_of view.role);
   marks = view.marks;
   pasts = view.pasts;
+  says = view.says;
   heard = view.heard;
 }
 

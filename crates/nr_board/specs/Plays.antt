@@ -36,7 +36,7 @@ use Rattle.nr_machine.specs.Story.{call_of, ending, entry, map_after}
 use Rattle.nr_machine.specs.Writer.{looked, moved_to, went}
 use Rattle.nr_machine.specs.Sums.{only, total}
 use Rattle.nr_marks.specs.MarkSteps.{ComparesPuts, GoesMarks, LooksMarks, found_again}
-use Rattle.nr_marks.specs.Marks.{Marks, Past, acted}
+use Rattle.nr_marks.specs.Marks.{Marks, Past, acted, with_look}
 use Rattle.nr_marks.specs.PollNotes.{AllHeld}
 use Rattle.nr_marks.specs.Puts.{put_number}
 use Rattle.nr_board.specs.Announcing.{heard_at}
@@ -109,7 +109,7 @@ pub record FoundAgain (key found : ℕ) (old new : View) : Type 0 where
   pub same : names_slot (slot_held old.role) found ≡ true → Advances old (entry (caller_number old.role) (model.Find key) (reply.Rows (rows_held old.role)) ∷ []) new
   pub other : names_slot (slot_held old.role) found ≡ false → Advances old [] new
   pub inside : (slot : ℕ) → name_number found ≡ suc slot → slot < old.shape.slots
-  pub marks : new.marks ≡ found_again (names_slot (slot_held old.role) found) old.marks
+  pub marks : new.marks ≡ found_again (names_slot (slot_held old.role) found) (with_look old.marks key (name_number found))
   -- whether the key still has the put number of the hold
   pub put : ComparesPuts (names_slot (slot_held old.role) found) found old.marks.put (put_number new.seen key)
   pub kind : kind_shown found ≡ kind_of (state_of (map_after old.shape new.seen) key)

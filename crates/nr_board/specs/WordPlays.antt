@@ -7,9 +7,9 @@ use Rattle.nr_machine.specs.declared.roles.Grip.{Grip}
 use Rattle.nr_machine.specs.declared.roles.Grip.TheVariants.{Nothing, On}
 use Rattle.nr_machine.specs.declared.roles.Role.TheVariants.{Reader}
 use Rattle.nr_machine.specs.declared.shape.Shape.{Shape}
-use Rattle.nr_machine.specs.Slots.{names_slot}
+use Rattle.nr_machine.specs.Slots.{name_number, names_slot}
 use Rattle.nr_machine.specs.Story.{entry}
-use Rattle.nr_marks.specs.Marks.{Marks, acted}
+use Rattle.nr_marks.specs.Marks.{Marks, acted, with_look}
 use Rattle.nr_marks.specs.Puts.{put_number}
 use Rattle.nr_board.specs.declared.board.Own.{Own}
 use Rattle.nr_board.specs.Announcing.{says_at}
@@ -40,7 +40,7 @@ pub record LookedUp (key found : ℕ) (old new : View) : Type 0 where
   pub says : new.says ≡ old.says
   pub hole : is_filled found ≡ false → Advances old (entry (caller_number old.role) (model.Find key) reply.Hole ∷ []) new
   pub named : is_filled found ≡ true → Advances old [] new
-  pub marks : new.marks ≡ (if is_filled found then old.marks else acted old.marks (put_number new.seen key))
+  pub marks : new.marks ≡ (if is_filled found then with_look old.marks key (name_number found) else acted (with_look old.marks key (name_number found)) (put_number new.seen key))
 
 abbrev pub has_looked_up : Then
 has_looked_up step before found after = LookedUp step.word found before.0 after.0
@@ -52,7 +52,7 @@ pub record HoldsSaid (key : ℕ) (old new : View) : Type 0 where
   pub holds : Holds old.shape new.role
   pub slot : slot_held new.role ≡ slot_said old
   pub gains : Advances old (entry (caller_number old.role) (model.Find key) (reply.Rows (rows_held new.role)) ∷ []) new
-  pub marks : new.marks ≡ acted old.marks (put_number new.seen key)
+  pub marks : new.marks ≡ acted (with_look old.marks key (suc (slot_said old))) (put_number new.seen key)
 
 -- a second look, by a reader whose word announces a slot; else it is as the first one
 pub record Confirmed (key found : ℕ) (old new : View) : Type 0 where

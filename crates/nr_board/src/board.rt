@@ -15,13 +15,13 @@ ghost use Rattle.nr_machine.specs.States.{key_of};
 ghost use Rattle.nr_core.specs.Steps.{ask_word};
 ghost use Rattle.nr_machine.specs.Story.{call_of};
 ghost use Rattle.nr_machine.specs.Writer.{looked};
-ghost use Rattle.nr_machine.specs.Slots.{bound_of, content, layout, names_slot, slot_room, words_at_opening};
+ghost use Rattle.nr_machine.specs.Slots.{bound_of, content, layout, name_number, names_slot, slot_room, words_at_opening};
 ghost use Rattle.nr_core.specs.Roles.{is_writer};
 ghost use Rattle.nr_machine.specs.Sizes.{IsShape};
 ghost use Rattle.nr_board.specs.Views.{grip_of, rows_held, with_reader, next_reader, opener};
 ghost use Rattle.nr_board.specs.Callers.{Gains, Grows, Rests, map_seen, token};
 ghost use Rattle.nr_marks.specs.Exact.{Lists};
-ghost use Rattle.nr_marks.specs.Marks.{acted, set_in, with_polls};
+ghost use Rattle.nr_marks.specs.Marks.{acted, set_in, with_loads, with_look, with_polls};
 ghost use Rattle.nr_marks.specs.MarkSteps.{found_again};
 ghost use Rattle.nr_marks.specs.Puts.{put_number};
 ghost use Rattle.nr_board.specs.Seats.{AnnouncesAt, IdlesAt, HoldsAt};
@@ -29,6 +29,7 @@ ghost use Rattle.nr_board.specs.Announcing.{says_at};
 ghost use Rattle.nr_board.specs.Plays.{IsIdle};
 ghost use Rattle.nr_board.specs.WordPlays.{HasWord, HoldsByWord, IsOwn, let_go};
 ghost use Rattle.nr_board.specs.Notes.{IsCaller, IsNote, has_noted, note_of, retold, with_note};
+ghost use Rattle.nr_board.specs.Ahead.{after_look};
 ghost use Rattle.nr_board.specs.Kinds.{kind_of, kind_shown};
 ghost use Rattle.nr_board.specs.Learning.{HearsOf};
 ghost use Rattle.nr_board.specs.Meetings.{HasPut, HearsNote, Learns, known_to, with_step};
@@ -39,9 +40,9 @@ ghost use Rattle.nr_board.specs.WriterSeats.{GoesOn, IsBetween, IsReading, IsPol
 
 use crate::only_proved::only_proved;
 use crate::rule::{
-    Arrives, Asks, BegunCall, Confirms, Departs, FindsAgain, GivesUp, Goes, Hears, Looks, LooksUp,
-    Nears, Notes, Probes, Puts, Reads, Recalls, Retells, Rule, Says, Scans, Searches, Seats, Sees,
-    Tries,
+    Arrives, Asks, BegunCall, Confirms, Departs, FindsAgain, GivesUp, Goes, Hears, Looks,
+    LooksAhead, LooksUp, Nears, Notes, Probes, Puts, Reads, Recalls, Retells, Rule, Says, Scans,
+    Searches, Seats, Sees, Tries,
 };
 use crate::two_seats::take_in;
 use crate::view::View;
@@ -219,7 +220,7 @@ impl Board {
         ensures reader { IdlesAt self.now seat.new }
         ensures hole { is_filled result ≡ false → Gains 1 (token seat.old) (model.Find key) reply.Hole (token seat.new) }
         ensures named { is_filled result ≡ true → Grows 1 (token seat.old) [] (token seat.new) }
-        ensures marks { seat.new.me.0.marks ≡ (if is_filled result then seat.old.me.0.marks else acted seat.old.me.0.marks (put_number seat.new.me.0.seen key)) }
+        ensures marks { seat.new.me.0.marks ≡ (if is_filled result then with_look seat.old.me.0.marks key (name_number result) else acted (with_look seat.old.me.0.marks key (name_number result)) (put_number seat.new.me.0.seen key)) }
     {
         let words = &self.table.shared;
         words.load::<LooksUp>(seat, key as usize)
@@ -251,8 +252,8 @@ impl Board {
         ensures other { names_slot slot result ≡ false → is_filled result ≡ true → AnnouncesAt self.now slot seat.new × Grows 1 (token seat.old) [] (token seat.new) }
         ensures says { seat.new.me.0.says ≡ seat.old.me.0.says }
         ensures word { HasWord own.index seat.new.me.0 }
-        ensures found { (names_slot slot result ≡ true) ⊎ (is_filled result ≡ false) → seat.new.me.0.marks ≡ acted seat.old.me.0.marks (put_number seat.new.me.0.seen key) }
-        ensures not_yet { names_slot slot result ≡ false → is_filled result ≡ true → seat.new.me.0.marks ≡ seat.old.me.0.marks }
+        ensures found { (names_slot slot result ≡ true) ⊎ (is_filled result ≡ false) → seat.new.me.0.marks ≡ acted (with_look seat.old.me.0.marks key (name_number result)) (put_number seat.new.me.0.seen key) }
+        ensures not_yet { names_slot slot result ≡ false → is_filled result ≡ true → seat.new.me.0.marks ≡ with_look seat.old.me.0.marks key (name_number result) }
     {
         only_proved(own.index);
         let words = &self.table.shared;
@@ -310,7 +311,7 @@ impl Board {
         ensures same { names_slot slot result ≡ true → Gains 1 (token seat.old) (model.Find key) (reply.Rows (rows_held seat.old.me.0.role)) (token seat.new) }
         ensures other { names_slot slot result ≡ false → Grows 1 (token seat.old) [] (token seat.new) }
         ensures exact { (names_slot slot result ≡ true) ↔ HasPut key seat.old.me.0.marks.put (token seat.new) }
-        ensures marks { seat.new.me.0.marks ≡ found_again (names_slot slot result) seat.old.me.0.marks }
+        ensures marks { seat.new.me.0.marks ≡ found_again (names_slot slot result) (with_look seat.old.me.0.marks key (name_number result)) }
         ensures says { seat.new.me.0.says ≡ seat.old.me.0.says }
         ensures fits { slot < 2 ^ 22 }
     {
@@ -328,7 +329,7 @@ impl Board {
         ensures same { result ≡ true → Gains 1 (token seat.old) (model.Find key) (reply.Rows (rows_held seat.old.me.0.role)) (token seat.new) }
         ensures other { result ≡ false → Grows 1 (token seat.old) [] (token seat.new) }
         ensures exact { (result ≡ true) ↔ HasPut key seat.old.me.0.marks.put (token seat.new) }
-        ensures marks { seat.new.me.0.marks ≡ found_again result seat.old.me.0.marks }
+        ensures marks { seat.new.me.0.marks ≡ found_again result (with_loads seat.old.me.0.marks seat.new.me.0.marks.loads) }
         ensures says { seat.new.me.0.says ≡ seat.old.me.0.says }
     {
         let word = self.look_again(seat, slot, key);
@@ -359,6 +360,19 @@ impl Board {
     {
         let words = &self.table.shared;
         words.load::<Nears>(seat, key as usize)
+    }
+
+    /// A reader looks at a key that it will find while it holds another's set: the key's word. The look
+    /// tells nothing else.
+    pub fn look_ahead(&self, seat: &mut Seat, key: u32) -> u64
+        requires own { (token seat.old).table ≡ self.now }
+        requires key { key < self.now.shape.keys }
+        ensures step { token seat.new ≡ after_look key (name_number result) (token seat.old) }
+        ensures role { seat.new.me.0.role ≡ seat.old.me.0.role }
+        ensures says { seat.new.me.0.says ≡ seat.old.me.0.says }
+    {
+        let words = &self.table.shared;
+        words.load::<LooksAhead>(seat, key as usize)
     }
 
     /// Loads a word of a set that will be read, so that it is near then. The load tells nothing.

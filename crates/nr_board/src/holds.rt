@@ -1,7 +1,7 @@
 //! How a reader finds a key and holds its set: by its own word where it has one, and else by the
 //! counts.
-ghost use Rattle.std.specs.Prelude.{◌≡◌, ◌<◌, ◌≤◌, ◌⊎◌, suc, false};
-ghost use Rattle.nr_words.specs.KeyWords.{is_filled};
+ghost use Rattle.std.specs.Prelude.{ℕ, ◌≡◌, ◌≢◌, ◌<◌, ◌≤◌, ◌⊎◌, [], ◌∷◌, suc, false};
+ghost use Rattle.nr_words.specs.KeyWords.{is_filled, slot_of};
 ghost use Rattle.nr_machine.specs.Slots.{content};
 ghost use Rattle.nr_marks.specs.Marks.{acted};
 ghost use Rattle.nr_board.specs.Callers.{Rests, token};
@@ -55,7 +55,7 @@ impl Board {
         requires word { HasWord own.index seat.old.me.0 }
         requires holds { HoldsByWord self.now.shape seat.old.me.0 }
         requires key { key < self.now.shape.keys }
-        ensures { MovesTo self.now key seat.old seat.new result }
+        ensures { MovesTo self.now key word seat.old seat.new result }
     {
         if parts(word).filled {
             return self.hold_named(seat, own, key, word);
@@ -89,7 +89,7 @@ impl Board {
         requires word { HasWord own.index seat.old.me.0 }
         requires free { IsIdle seat.old.me.0.role ⊎ HoldsByWord self.now.shape seat.old.me.0 }
         requires key { key < self.now.shape.keys }
-        ensures { HoldsOn 1 self.now key seat.old seat.new result }
+        ensures { HoldsOn 1 (suc (slot_of word) ∷ []) self.now key seat.old seat.new result }
     {
         match self.try_word(seat, own, key, word) {
             Ok(answer) => answer,
@@ -106,7 +106,7 @@ impl Board {
         requires word { HasWord own.index seat.old.me.0 }
         requires idle { IsIdle seat.old.me.0.role }
         requires key { key < self.now.shape.keys }
-        ensures { HoldsOn 3 self.now key seat.old seat.new result }
+        ensures { (first : ℕ) → first ≢ slot_of word → HoldsOn 3 (suc first ∷ suc (slot_of word) ∷ []) self.now key seat.old seat.new result }
     {
         if let Ok(answer) = self.try_word(seat, own, key, word) {
             return answer;
@@ -163,6 +163,7 @@ impl Board {
         requires says { seat.old.me.0.says ≡ says }
         requires worded { 0 < says → caller_number seat.old.me.0.role ≤ self.now.announcers }
         ensures held { HeldAs self.now result seat.new }
+        ensures says { result.says ≡ says }
         ensures rows { rows_held seat.new.me.0.role ≡ rows_held seat.old.me.0.role }
         ensures rests { Rests 1 (token seat.old) (token seat.new) }
         ensures marks { seat.new.me.0.marks ≡ seat.old.me.0.marks }

@@ -152,6 +152,15 @@ impl Play<(), View> for Nears {
     ghost then = { has_loaded };
 }
 
+/// A look at a key by a reader that lets nothing go for it.
+pub struct LooksAhead;
+
+impl Play<(), View> for LooksAhead {
+    ghost use Rattle.nr_board.specs.Ahead.{has_looked_ahead};
+
+    ghost then = { has_looked_ahead };
+}
+
 /// A load of a word of the set that was put into a slot last.
 pub struct Recalls;
 

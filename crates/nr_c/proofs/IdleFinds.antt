@@ -1,6 +1,6 @@
 -- Finds by a hand that holds nothing, as those of its reader.
 use Rattle.std.proofs.Common.{◌≡◌, ℕ, suc, ◌+◌, arith, ap, subst, ◌∙◌}
-use Rattle.nr_marks.specs.Marks.{Marks}
+use Rattle.nr_marks.specs.Marks.{Marks, with_loads}
 use Rattle.nr_marks.specs.Puts.{put_number}
 use Rattle.nr_board.specs.Callers.{Caller}
 use Rattle.nr_board.specs.declared.answers.Found.{Found}
@@ -28,5 +28,5 @@ module _ (key : ℕ) (old new : Handed) (before after : NrRows) (answer : Found)
     is,
     subst (λ (r : Caller). FindsIn ShowsSet key r before new.reader after answer) same finds.finds,
     finds.holds,
-    ap (λ (m : Marks). m.acts) finds.marks ∙ acts_found answer finds.reader.marks (put_number new.reader.seen key) ∙ ap (λ (r : Caller). r.marks.acts + acts_of answer) same,
+    ap (λ (m : Marks). m.acts) finds.marks ∙ acts_found answer (with_loads finds.reader.marks new.reader.marks.loads) (put_number new.reader.seen key) ∙ ap (λ (r : Caller). r.marks.acts + acts_of answer) same,
   )

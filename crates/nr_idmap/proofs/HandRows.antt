@@ -64,7 +64,7 @@ pub record FoundOnce (way : ℕ) (old new : Handed) (told : Reply) : Type 0 wher
 found_hole : (way : ℕ) (old new : Handed) → KeepsWay way old new answer.Hole → FoundOnce way old new reply.Hole
 found_hole way old new keeps = ⊎_elim
     (λ again. let e : answer.Hole ≡ answer.Rows = again.2 in absurd (cc (e)))
-    (λ anew. record { steps = _; gains = anew.3.0.gains })
+    (λ anew. record { steps = _; gains = anew.1.0.2.gains })
     keeps.2
 
 pub found_rows : (way : ℕ) (old new : Handed) → KeepsWay way old new answer.Rows → FoundOnce way old new (reply.Rows new.rows)
@@ -73,7 +73,7 @@ found_rows way old new keeps = ⊎_elim
       steps = 2 * length old.rows + 1;
       gains = subst (λ (l : List Row). Gains (2 * length old.rows + 1) old.reader (Find way) (reply.Rows l) new.reader) (sym held.rows) held.gains;
     })
-    (λ anew. record { steps = _; gains = anew.3.0.gains })
+    (λ anew. record { steps = _; gains = anew.1.0.2.gains })
     keeps.2
 
 module _ (open_map : PartialMap) (id way number : ℕ) (rows : List Row) (before : List Entry) (real : 0 < id) (near : way < key_count open_map)

@@ -16,7 +16,7 @@ KeepsIn way old before new set told = FindsKept (λ (pile : List Row) (rows : Li
 
 -- the pile has what the hand holds
 pub kept_set : (way : ℕ) (old new : Handed) (before set : List Row) → KeepsIn way old before new set answer.Rows → set ≡ new.rows
-kept_set way old new before set keeps = ⊎_elim (λ again. again.1 ∙ sym again.0.rows) (λ anew. anew.3.2) keeps
+kept_set way old new before set keeps = ⊎_elim (λ again. again.1 ∙ sym again.0.rows) (λ anew. anew.1.1) keeps
 
 module _ (id way : ℕ) (old now : IdHanded) (is : old ≡ now) (ids : Token) (looks : LooksUp id old.ids ids (Some way)) (hand : Handed)
     (before set : List Row) where

@@ -1,44 +1,40 @@
 -- How a hand that keeps its hold finds a key, after it asked in vain, or loaded another key's word, or had nothing to go on from.
-use Rattle.std.proofs.Common.{◌≡◌, ℕ, ◌+◌, ◌-◌, ◌<◌, Option, Some, None, cond, eq-eqb, ne_eqb, inr, ⊎_elim, ◌≢◌, refl, ap, ◌∙◌, sym, subst, arith, append_assoc, Bool, true, false, List, [], ◌++◌}
-use Rattle.std.specs.Prelude.{◌↔◌, IsSome, nat_lt}
-use Rattle.std.proofs.lemmas.Bool.{lt-ltb}
+use Rattle.std.proofs.Common.{◌≡◌, ℕ, suc, ◌+◌, ◌-◌, ◌<◌, Option, Some, None, cond, eq-eqb, ne_eqb, inl, inr, ⊎_elim, ◌≢◌, refl, ap, ◌∙◌, sym, subst, arith, append_assoc, Bool, true, false, List, [], ◌∷◌, ◌++◌}
+use Rattle.std.specs.Prelude.{◌↔◌, ◌&&◌, ◌||◌, ◌==◌, IsSome, nat_lt}
+use Rattle.std.proofs.lemmas.Bool.{lt-ltb, ltb-true}
+use Rattle.nr_core.proofs.Choices.{by_cases}
+use Rattle.nr_words.specs.KeyWords.{is_filled, slot_of}
 use Rattle.nr_model.specs.Histories.{Entry}
 use Rattle.nr_model.specs.declared.calls.Call.TheVariants as model
 use Rattle.nr_model.specs.declared.calls.Reply.{Reply}
 use Rattle.nr_model.specs.declared.calls.Reply.TheVariants as reply
 use Rattle.nr_model.specs.Rows.{IsRowSet}
-use Rattle.nr_machine.specs.Slots.{names_slot}
+use Rattle.nr_machine.specs.Slots.{name_number, names_slot}
 use Rattle.nr_machine.specs.declared.roles.Role.{Role}
-use Rattle.nr_marks.specs.Marks.{acted, gripped}
+use Rattle.nr_marks.specs.Marks.{LoggedLoad, Marks, OfKey, acted, gripped, with_loads, with_look}
 use Rattle.nr_marks.specs.MarkSteps.{found_again}
 use Rattle.nr_marks.specs.Puts.{put_number}
 use Rattle.nr_board.proofs.Holding.{grows_gains, rests_gains}
 use Rattle.nr_board.proofs.Tokens.{MapSeat}
+use Rattle.nr_board.specs.Ahead.{after_look}
 use Rattle.nr_board.specs.Callers.{Caller, Gains, Grows, Rests, Table, token}
-use Rattle.nr_board.specs.Holds.{HeldIn, HoleIn, finds_by_word}
+use Rattle.nr_board.specs.Holds.{HeldIn, HoleIn, finds_by_word, looks_at}
 use Rattle.nr_board.specs.declared.board.Own.{Own}
 use Rattle.nr_board.specs.declared.holds.Held.{Held}
-use Rattle.nr_board.specs.Meetings.{HasPut, with_step}
-use Rattle.nr_board.specs.Views.{caller_number, grip_of, rows_held}
+use Rattle.nr_board.specs.Meetings.{HasPut}
+use Rattle.nr_board.specs.Views.{grip_of, rows_held}
 use Rattle.nr_map.specs.declared.hand.Kept.{Kept}
 use Rattle.nr_map.specs.Pins.{Pins}
-use Rattle.nr_map.specs.Hands.{AskedBefore, AsksInVain, BegunIn, Handed, HoldsKey, HoldsNothing, KeepsAnew, KeepsByHand, LateIn, MovesByHand, PinsByHand, PinsIn, departed, handed, steps_to_ask, steps_to_depart}
+use Rattle.nr_map.specs.Hands.{AskedBefore, AsksInVain, FindsNone, Handed, HoldsAnew, HoldsKey, HoldsNothing, KeepsAnew, KeepsByHand, MovesByHand, PinsByHand, departed, goes_on, handed, late_by, looks_first, steps_to_depart}
 
 -- a hold takes a step at least
-some_held : (by_word : Bool) (steps : ℕ) → HeldIn by_word steps → 0 < steps
-some_held false steps is = omega (arith, is)
-some_held true steps takes = ⊎_elim (λ four. omega (arith, four)) (λ more. ⊎_elim (λ six. omega (arith, six)) (λ eight. omega (arith, eight)) more) takes
+some_held : (by_word : Bool) (named : List ℕ) (says steps : ℕ) → HeldIn by_word named says steps → 0 < steps
+some_held false named says steps is = omega (arith, is.2)
+some_held true named says steps takes = ⊎_elim (λ four. omega (arith, four.3)) (λ more. ⊎_elim (λ six. omega (arith, six.5)) (λ eight. omega (arith, eight.7)) more) takes
 
-some_hole : (by_word : Bool) (steps : ℕ) → HoleIn by_word steps → 0 < steps
-some_hole false steps is = omega (arith, is)
-some_hole true steps takes = ⊎_elim (λ one. omega (arith, one)) (λ more. ⊎_elim (λ four. omega (arith, four)) (λ last. ⊎_elim (λ six. omega (arith, six)) (λ seven. omega (arith, seven)) last) more) takes
-
--- the hand asks for its own key alone
-asks_own : (key : ℕ) (held : Option ℕ) → held ≡ Some key → steps_to_ask key held ≡ 1
-asks_own key held is = ap (steps_to_ask key) is ∙ ap (λ (b : Bool). cond b 1 0) (eq-eqb key key refl)
-
-asks_other : (key held : ℕ) → held ≢ key → steps_to_ask key (Some held) ≡ 0
-asks_other key held other = ap (λ (b : Bool). cond b 1 0) (ne_eqb held key other)
+some_hole : (by_word : Bool) (named : List ℕ) (steps : ℕ) → HoleIn by_word named steps → 0 < steps
+some_hole false named steps is = omega (arith, is.1)
+some_hole true named steps takes = ⊎_elim (λ one. omega (arith, one.1)) (λ more. ⊎_elim (λ four. omega (arith, four.2)) (λ last. ⊎_elim (λ six. omega (arith, six.4)) (λ seven. omega (arith, seven.6)) last) more) takes
 
 some_is : (one other : ℕ) → Some one ≡ Some other → one ≡ other
 some_is one other same = ap (λ (o : Option ℕ). value o) same
@@ -47,14 +43,43 @@ some_is one other same = ap (λ (o : Option ℕ). value o) same
     value None = 0
     value (Some n) = n
 
--- what a find tells of the hand that asked in vain, it tells of the hand before
-module _ (key : ℕ) (old asked new : Handed) (vain : AsksInVain key old asked) (held : old.key ≡ Some key) where
+-- the loads before others are of no account
+loads_over : (held : Option ℕ) (marks : Marks) (loads more : List LoggedLoad) (put : ℕ) → acted (with_loads (departed held (with_loads marks loads)) more) put ≡ acted (with_loads (departed held marks) more) put
+loads_over None marks loads more put = refl
+loads_over (Some key) marks loads more put = refl
+
+both_so : (a b : Bool) → (a && b) ≡ true → (a ≡ true) × (b ≡ true)
+both_so true b is = (refl, is)
+both_so false b is = absurd (cc)
+
+or_so : (a b : Bool) → b ≡ true → (a || b) ≡ true
+or_so true b is = refl
+or_so false b is = is
+
+-- whether the hand looks before it lets anything go
+looks_own : (key : ℕ) (held : Option ℕ) (says : ℕ) → held ≡ Some key → looks_first key held says ≡ true
+looks_own key held says is = ap (λ (o : Option ℕ). looks_first key o says) is ∙ ap (λ (b : Bool). b || nat_lt 0 says) (eq-eqb key key refl)
+
+looks_loud : (key other : ℕ) (held : Option ℕ) (says : ℕ) → held ≡ Some other → 0 < says → looks_first key held says ≡ true
+looks_loud key other held says is loud = ap (λ (o : Option ℕ). looks_first key o says) is ∙ or_so (other == key) (nat_lt 0 says) (lt-ltb 0 says loud)
+
+looks_not : (key other : ℕ) (held : Option ℕ) (says : ℕ) → held ≡ Some other → other ≢ key → says ≡ 0 → looks_first key held says ≡ false
+looks_not key other held says is apart silent = ap (λ (o : Option ℕ). looks_first key o says) is ∙ (λ j. ne_eqb other key apart j || nat_lt 0 (silent j))
+
+-- a look by a hand that holds a set, after which it goes on
+module _ (key word : ℕ) (old asked new : Handed) (looks : looks_first key old.key old.reader.says ≡ true) (table : asked.reader.table ≡ old.reader.table) (number : asked.reader.number ≡ old.reader.number) (says : asked.reader.says ≡ old.reader.says)
+    (key_is : asked.key ≡ old.key) (marks : asked.reader.marks ≡ with_look old.reader.marks key (name_number word))
+    (grown : (answer : Reply) (m sum : ℕ) → sum ≡ 1 + m → Gains m asked.reader (model.Find key) answer new.reader → Gains sum old.reader (model.Find key) answer new.reader) where
+  same_words : finds_by_word asked.reader ≡ finds_by_word old.reader
+  same_words = λ j. nat_lt (number j - 1) (table j).announcers
+
   key_still : HoldsKey key asked new → HoldsKey key old new
   key_still so = record {
     key_is = so.key_is;
-    row_set = subst (λ (t : Table). IsRowSet t.shape.rows new.rows) vain.grows.table so.row_set;
+    row_set = subst (λ (t : Table). IsRowSet t.shape.rows new.rows) table so.row_set;
     holds = so.holds;
-    marks = so.marks ∙ (λ j. acted (departed (vain.key_is j) (vain.marks j)) (put_number new.reader.seen key));
+    marks = so.marks ∙ (λ j. acted (with_loads (departed (key_is j) (marks j)) new.reader.marks.loads) (put_number new.reader.seen key))
+        ∙ loads_over old.key old.reader.marks (with_look old.reader.marks key (name_number word)).loads new.reader.marks.loads (put_number new.reader.seen key);
   }
 
   nothing_still : HoldsNothing key asked new → HoldsNothing key old new
@@ -62,146 +87,168 @@ module _ (key : ℕ) (old asked new : Handed) (vain : AsksInVain key old asked) 
     key_is = so.key_is;
     rows = so.rows;
     holds = so.holds;
-    marks = so.marks ∙ (λ j. acted (departed (vain.key_is j) (vain.marks j)) (put_number new.reader.seen key));
+    silent = so.silent;
+    marks = so.marks ∙ (λ j. acted (with_loads (departed (key_is j) (marks j)) new.reader.marks.loads) (put_number new.reader.seen key))
+        ∙ loads_over old.key old.reader.marks (with_look old.reader.marks key (name_number word)).loads new.reader.marks.loads (put_number new.reader.seen key);
   }
 
-  same_words : finds_by_word asked.reader ≡ finds_by_word old.reader
-  same_words = (λ j. nat_lt (vain.grows.number j - 1) (vain.grows.table j).announcers)
+  loads_on : (named : List ℕ) → new.reader.marks.loads ≡ asked.reader.marks.loads ++ looks_at key named → new.reader.marks.loads ≡ old.reader.marks.loads ++ looks_at key (name_number word ∷ named)
+  loads_on named is = is ∙ ap (λ (m : Marks). m.loads ++ looks_at key named) marks ∙ append_assoc old.reader.marks.loads (OfKey key (name_number word) ∷ []) (looks_at key named)
 
-  went_on : (answer : Reply) (steps late : ℕ) → 0 < steps → Gains (steps + late - 1) asked.reader (model.Find key) answer new.reader → Gains (steps + late) old.reader (model.Find key) answer new.reader
-  went_on answer steps late some gains = grows_gains 1 (steps + late - 1) (steps + late) old.reader asked.reader new.reader (model.Find key) answer (omega (arith, some)) vain.grows gains
+  -- the look's word, where the hand goes on to its slot, and where it doesn't
+  goes_so : goes_on asked.reader.says word ≡ true → (0 < old.reader.says) × (name_number word ≡ suc (slot_of word))
+  goes_so goes = let both = both_so (nat_lt 0 asked.reader.says) (is_filled word) goes in let loud = ltb-true 0 asked.reader.says both.0 in
+      let named : name_number word ≡ slot_of word + 1 = ap (λ (b : Bool). cond b (slot_of word + 1) 0) both.1 in (omega (arith, says, loud), omega arith)
 
-  begun_so : (by_word : Bool) (late : ℕ) → LateIn by_word late → BegunIn by_word key old.key late
-  begun_so false late is = omega (arith, is, asks_own key old.key held, ap steps_to_depart held)
-  begun_so true late later = subst (λ (o : Option ℕ). BegunIn true key o late) (sym held) (⊎_elim (λ none. omega (arith, none)) (λ two. omega (arith, two)) later)
+  stays_so : goes_on asked.reader.says word ≡ false → 0 < old.reader.says → name_number word ≡ 0
+  stays_so stays loud = by_cases (λ (b : Bool). is_filled word ≡ b → name_number word ≡ 0) (is_filled word)
+      (λ _ full. let lt = lt-ltb 0 asked.reader.says (omega (arith, says)) in absurd (let goes : goes_on asked.reader.says word ≡ true = (λ j. lt j && full j) in let clash = stays in cc))
+      (λ _ empty. ap (λ (b : Bool). cond b (slot_of word + 1) 0) empty) refl
 
+  pub moved_anew : MovesByHand key word asked new true → HoldsAnew 0 key old new
+  moved_anew (steps, named, takes, gains, holds, loads) = by_cases (λ (b : Bool). goes_on asked.reader.says word ≡ b → HoldsAnew 0 key old new) (goes_on asked.reader.says word)
+      (λ _ goes. let so = goes_so goes in
+      let takes' : HeldIn (finds_by_word old.reader) (name_number word ∷ named) new.reader.says steps = subst (λ (p : Bool × Bool). HeldIn p.0 (cond {A = List ℕ} p.1 (name_number word ∷ []) [] ++ named) new.reader.says steps) (λ j. (same_words j, goes j)) takes in
+      let some = some_held (finds_by_word old.reader) (name_number word ∷ named) new.reader.says steps takes' in
+      let gains' = subst (λ (b : Bool). Gains (steps + cond {A = ℕ} b 0 2 - 1) asked.reader (model.Find key) (reply.Rows new.rows) new.reader) goes gains in (
+        0,
+        [],
+        record { steps = steps; named = name_number word ∷ named; says = new.reader.says; holds_in = takes'; looks = loads_on named loads; gains = grown (reply.Rows new.rows) (steps + 0 - 1) (steps + (0 + 0)) (omega (arith, some)) gains' },
+        inr (inr (looks, so.0, slot_of word, named, ap (λ (n : ℕ). n ∷ named) so.1, refl, refl)),
+        key_still holds,
+        refl,
+      ))
+      (λ _ stays.
+      let takes' : HeldIn (finds_by_word old.reader) named new.reader.says steps = subst (λ (p : Bool × Bool). HeldIn p.0 (cond {A = List ℕ} p.1 (name_number word ∷ []) [] ++ named) new.reader.says steps) (λ j. (same_words j, stays j)) takes in
+      let gains' = subst (λ (b : Bool). Gains (steps + cond {A = ℕ} b 0 2 - 1) asked.reader (model.Find key) (reply.Rows new.rows) new.reader) stays gains in (
+        2,
+        name_number word ∷ [],
+        record { steps = steps; named = named; says = new.reader.says; holds_in = takes'; looks = loads_on named loads; gains = grown (reply.Rows new.rows) (steps + 2 - 1) (steps + (2 + 0)) (omega arith) gains' },
+        inr (inl (looks, name_number word, stays_so stays, refl, refl)),
+        key_still holds,
+        refl,
+      )) refl
+
+  pub moved_none : MovesByHand key word asked new false → FindsNone key old new
+  moved_none (steps, named, takes, gains, holds, loads) = by_cases (λ (b : Bool). goes_on asked.reader.says word ≡ b → FindsNone key old new) (goes_on asked.reader.says word)
+      (λ _ goes. let so = goes_so goes in
+      let takes' : HoleIn (finds_by_word old.reader) (name_number word ∷ named) steps = subst (λ (p : Bool × Bool). HoleIn p.0 (cond {A = List ℕ} p.1 (name_number word ∷ []) [] ++ named) steps) (λ j. (same_words j, goes j)) takes in
+      let some = some_hole (finds_by_word old.reader) (name_number word ∷ named) steps takes' in
+      let gains' = subst (λ (b : Bool). Gains (steps + cond {A = ℕ} b 0 2 - 1) asked.reader (model.Find key) reply.Hole new.reader) goes gains in (
+        0,
+        [],
+        record { steps = steps; named = name_number word ∷ named; finds_in = takes'; looks = loads_on named loads; gains = grown reply.Hole (steps + 0 - 1) (steps + 0) (omega (arith, some)) gains' },
+        inr (inr (looks, so.0, slot_of word, named, ap (λ (n : ℕ). n ∷ named) so.1, refl, refl)),
+        nothing_still holds,
+      ))
+      (λ _ stays.
+      let takes' : HoleIn (finds_by_word old.reader) named steps = subst (λ (p : Bool × Bool). HoleIn p.0 (cond {A = List ℕ} p.1 (name_number word ∷ []) [] ++ named) steps) (λ j. (same_words j, stays j)) takes in
+      let gains' = subst (λ (b : Bool). Gains (steps + cond {A = ℕ} b 0 2 - 1) asked.reader (model.Find key) reply.Hole new.reader) stays gains in (
+        2,
+        name_number word ∷ [],
+        record { steps = steps; named = named; finds_in = takes'; looks = loads_on named loads; gains = grown reply.Hole (steps + 2 - 1) (steps + 2) (omega arith) gains' },
+        inr (inl (looks, name_number word, stays_so stays, refl, refl)),
+        nothing_still holds,
+      )) refl
+
+-- a hand that asked in vain goes on
+module _ (key word : ℕ) (old asked new : Handed) (vain : AsksInVain key old asked) (held : old.key ≡ Some key) (marks : asked.reader.marks ≡ with_look old.reader.marks key (name_number word)) where
   asked_before : (more : ℕ) (entries : List Entry) → Grows more asked.reader entries new.reader → AskedBefore key old new
   asked_before more entries grows = (asked, vain, record { rest = grows.between ++ entries; is = grows.seen ∙ append_assoc asked.reader.seen grows.between entries })
 
-  pub asked_anew : (answer : Bool) → MovesByHand key asked new answer → KeepsAnew key old new answer
-  asked_anew true (late, steps, later, takes, gains, holds) = (
-    (λ _. asked_before (steps + late - 1) _ gains),
-    late,
-    begun_so (finds_by_word old.reader) late (subst (λ (b : Bool). LateIn b late) same_words later),
-    (record { steps = steps; holds_in = subst (λ (b : Bool). HeldIn b steps) same_words takes; gains = went_on (reply.Rows new.rows) steps late (some_held (finds_by_word asked.reader) steps takes) gains }, key_still holds),
+  went_on : (answer : Reply) (m sum : ℕ) → sum ≡ 1 + m → Gains m asked.reader (model.Find key) answer new.reader → Gains sum old.reader (model.Find key) answer new.reader
+  went_on answer m sum is gains = grows_gains 1 m sum old.reader asked.reader new.reader (model.Find key) answer is vain.grows gains
+
+  pub asked_anew : (answer : Bool) → MovesByHand key word asked new answer → KeepsAnew key old new answer
+  asked_anew true moves = ((λ _. asked_before _ _ moves.3), moved_anew key word old asked new (looks_own key old.key old.reader.says held) vain.grows.table vain.grows.number vain.says vain.key_is marks went_on moves)
+  asked_anew false moves = ((λ _. asked_before _ _ moves.3), moved_none key word old asked new (looks_own key old.key old.reader.says held) vain.grows.table vain.grows.number vain.says vain.key_is marks went_on moves)
+
+-- so does one that holds by its word another key's set, and looked ahead
+module _ (key word other : ℕ) (old ahead new : Handed) (held : old.key ≡ Some other) (apart : other ≢ key) (loud : 0 < old.reader.says) (look : ahead.reader ≡ after_look key (name_number word) old.reader) (key_is : ahead.key ≡ old.key) where
+  rests : Rests 1 old.reader ahead.reader
+  rests = subst (Rests 1 old.reader) (sym look) (record { table = refl; number = refl; seen = refl; mine = refl; steps_made = refl; pasts = refl })
+
+  gains_on : (answer : Reply) (m sum : ℕ) → sum ≡ 1 + m → Gains m ahead.reader (model.Find key) answer new.reader → Gains sum old.reader (model.Find key) answer new.reader
+  gains_on answer m sum is gains = rests_gains 1 m sum old.reader ahead.reader new.reader (model.Find key) answer is rests gains
+
+  pub looked_anew : (answer : Bool) → MovesByHand key word ahead new answer → KeepsAnew key old new answer
+  looked_anew true moves = ((λ own. absurd (apart (some_is other key (sym held ∙ own)))), moved_anew key word old ahead new (looks_loud key other old.key old.reader.says held loud) rests.table rests.number (ap (λ (c : Caller). c.says) look) key_is (ap (λ (c : Caller). c.marks) look) gains_on moves)
+  looked_anew false moves = ((λ own. absurd (apart (some_is other key (sym held ∙ own)))), moved_none key word old ahead new (looks_loud key other old.key old.reader.says held loud) rests.table rests.number (ap (λ (c : Caller). c.says) look) key_is (ap (λ (c : Caller). c.marks) look) gains_on moves)
+
+-- a hand that holds nothing, or another key's set by the count, pins the key without a look
+module _ (key : ℕ) (old new : Handed) (apart : old.key ≢ Some key) (looks : looks_first key old.key old.reader.says ≡ false) where
+  no_more : (n : ℕ) → n ≡ n + 0
+  no_more n = omega arith
+
+  pub pinned_anew : (answer : Bool) → PinsByHand key old new answer → KeepsAnew key old new answer
+  pinned_anew true (finds, holds, says) = (
+    (λ own. absurd (apart own)),
+    (steps_to_depart old.key, [], record { steps = finds.steps; named = finds.named; says = finds.says; holds_in = finds.holds_in; looks = finds.looks; gains = subst (λ (n : ℕ). Gains (finds.steps + n) old.reader (model.Find key) (reply.Rows new.rows) new.reader) (no_more (steps_to_depart old.key)) finds.gains }, inl (looks, refl, refl), holds, says),
   )
-  asked_anew false (late, steps, later, takes, gains, holds) = (
-    (λ _. asked_before (steps + late - 1) _ gains),
-    late,
-    begun_so (finds_by_word old.reader) late (subst (λ (b : Bool). LateIn b late) same_words later),
-    (record { steps = steps; finds_in = subst (λ (b : Bool). HoleIn b steps) same_words takes; gains = went_on reply.Hole steps late (some_hole (finds_by_word asked.reader) steps takes) gains }, nothing_still holds),
-  )
+  pinned_anew false (finds, holds) = ((λ own. absurd (apart own)), (steps_to_depart old.key, [], finds, inl (looks, refl, refl), holds))
 
--- a hand that holds by its word another key's set loaded the key's word
-module _ (key other : ℕ) (old loaded new : Handed) (held : old.key ≡ Some other) (apart : other ≢ key) (rests : Rests 1 old.reader loaded.reader)
-    (key_is : loaded.key ≡ old.key) (marks : loaded.reader.marks ≡ old.reader.marks) (by_word : finds_by_word old.reader ≡ true) where
-  words_still : finds_by_word loaded.reader ≡ true
-  words_still = (λ j. nat_lt (rests.number j - 1) (rests.table j).announcers) ∙ by_word
-
-  begun_few : (late : ℕ) → LateIn true late → BegunIn (finds_by_word old.reader) key old.key late
-  begun_few late later = subst (λ (b : Bool). BegunIn b key old.key late) (sym by_word) (subst (λ (o : Option ℕ). BegunIn true key o late) (sym held) (⊎_elim (λ none. omega (arith, none)) (λ two. omega (arith, two)) later))
-
-  gains_on : (answer : Reply) (steps late : ℕ) → 0 < steps → Gains (steps + late - 1) loaded.reader (model.Find key) answer new.reader → Gains (steps + late) old.reader (model.Find key) answer new.reader
-  gains_on answer steps late some gains = rests_gains 1 (steps + late - 1) (steps + late) old.reader loaded.reader new.reader (model.Find key) answer (omega (arith, some)) rests gains
-
-  pub loaded_anew : (answer : Bool) → MovesByHand key loaded new answer → KeepsAnew key old new answer
-  loaded_anew true (late, steps, later, takes, gains, holds) = (
-    (λ own. absurd (apart (some_is other key (sym held ∙ own)))),
-    late,
-    begun_few late (subst (λ (b : Bool). LateIn b late) words_still later),
-    (
-      record { steps = steps; holds_in = subst (λ (b : Bool). HeldIn b steps) (words_still ∙ sym by_word) takes; gains = gains_on (reply.Rows new.rows) steps late (some_held (finds_by_word loaded.reader) steps takes) gains },
-      record {
-        key_is = holds.key_is;
-        row_set = subst (λ (t : Table). IsRowSet t.shape.rows new.rows) rests.table holds.row_set;
-        holds = holds.holds;
-        marks = holds.marks ∙ (λ j. acted (departed (key_is j) (marks j)) (put_number new.reader.seen key));
-      },
-    ),
-  )
-  loaded_anew false (late, steps, later, takes, gains, holds) = (
-    (λ own. absurd (apart (some_is other key (sym held ∙ own)))),
-    late,
-    begun_few late (subst (λ (b : Bool). LateIn b late) words_still later),
-    (
-      record { steps = steps; finds_in = subst (λ (b : Bool). HoleIn b steps) (words_still ∙ sym by_word) takes; gains = gains_on reply.Hole steps late (some_hole (finds_by_word loaded.reader) steps takes) gains },
-      record {
-        key_is = holds.key_is;
-        rows = holds.rows;
-        holds = holds.holds;
-        marks = holds.marks ∙ (λ j. acted (departed (key_is j) (marks j)) (put_number new.reader.seen key));
-      },
-    ),
-  )
-
--- a hand that holds nothing, or another key's set, pins the key
 pub pinned_none : (key : ℕ) (old new : Handed) (answer : Bool) → old.key ≡ None → PinsByHand key old new answer → KeepsAnew key old new answer
-pinned_none key old new answer none pins = (
-  (λ own. absurd (let here = sym none ∙ own in cc)),
-  0,
-  subst (λ (o : Option ℕ). BegunIn (finds_by_word old.reader) key o 0) (sym none) (begun_none (finds_by_word old.reader)),
-  subst (λ (o : Option ℕ). PinsIn (steps_to_depart o) key old new answer) none pins,
-)
-  where
-    begun_none : (by_word : Bool) → BegunIn by_word key None 0
-    begun_none false = refl
-    begun_none true = refl
+pinned_none key old new answer none = pinned_anew key old new (λ own. absurd (let here = sym none ∙ own in cc)) (ap (λ (o : Option ℕ). looks_first key o old.reader.says) none) answer
 
-pub pinned_other : (key other : ℕ) (old new : Handed) (answer : Bool) → old.key ≡ Some other → other ≢ key → PinsByHand key old new answer → KeepsAnew key old new answer
-pinned_other key other old new answer held apart pins = (
-  (λ own. absurd (apart (some_is other key (sym held ∙ own)))),
-  1,
-  subst (λ (o : Option ℕ). BegunIn (finds_by_word old.reader) key o 1) (sym held) (begun_other (finds_by_word old.reader)),
-  subst (λ (o : Option ℕ). PinsIn (steps_to_depart o) key old new answer) held pins,
-)
-  where
-    begun_other : (by_word : Bool) → BegunIn by_word key (Some other) 1
-    begun_other false = omega (arith, asks_other key other apart)
-    begun_other true = omega arith
+pub pinned_other : (key other : ℕ) (old new : Handed) (answer : Bool) → old.key ≡ Some other → other ≢ key → old.reader.says ≡ 0 → PinsByHand key old new answer → KeepsAnew key old new answer
+pinned_other key other old new answer held apart silent = pinned_anew key old new (λ own. absurd (apart (some_is other key (sym held ∙ own)))) (looks_not key other old.key old.reader.says held apart silent) answer
 
--- what it held by the count it lets go, after the load of the key's word
-pub pinned_late : (key : ℕ) (old new : Handed) (answer : Bool) → IsSome old.key → PinsByHand key old new answer → MovesByHand key old new answer
-pinned_late key old new answer held pins = late answer (subst (λ (n : ℕ). PinsIn n key old new answer) (one_step old.key held) pins)
+-- what it held by the count it lets go, after the look
+pub pinned_late : (key word : ℕ) (old new : Handed) (answer : Bool) → IsSome old.key → old.reader.says ≡ 0 → PinsByHand key old new answer → MovesByHand key word old new answer
+pinned_late key word old new answer held silent pins = late answer pins
   where
     one_step : (o : Option ℕ) → IsSome o → steps_to_depart o ≡ 1
     one_step None none = absurd (cc)
     one_step (Some other) some = refl
 
-    late_in : (by_word : Bool) → LateIn by_word 2
-    late_in false = refl
-    late_in true = inr refl
+    stays : goes_on old.reader.says word ≡ false
+    stays = ap (λ (n : ℕ). goes_on n word) silent
 
-    late : (answer : Bool) → PinsIn 1 key old new answer → MovesByHand key old new answer
-    late true (finds, holds) = (2, finds.steps, late_in (finds_by_word old.reader), finds.holds_in, subst (λ (n : ℕ). Gains n old.reader (model.Find key) (reply.Rows new.rows) new.reader) (omega arith) finds.gains, holds)
-    late false (finds, holds) = (2, finds.steps, late_in (finds_by_word old.reader), finds.finds_in, subst (λ (n : ℕ). Gains n old.reader (model.Find key) reply.Hole new.reader) (omega arith) finds.gains, holds)
+    steps_so : (steps : ℕ) → steps + steps_to_depart old.key ≡ steps + late_by old.reader.says word - 1
+    steps_so steps = let two : late_by old.reader.says word ≡ 2 = ap (λ (b : Bool). cond {A = ℕ} b 0 2) stays in omega (arith, one_step old.key held)
+
+    late : (answer : Bool) → PinsByHand key old new answer → MovesByHand key word old new answer
+    late true (finds, holds, says) = (
+      finds.steps,
+      finds.named,
+      subst (λ (p : Bool × ℕ). HeldIn (finds_by_word old.reader) (cond {A = List ℕ} p.0 (name_number word ∷ []) [] ++ finds.named) p.1 finds.steps) (λ j. (sym stays j, sym says j)) finds.holds_in,
+      subst (λ (n : ℕ). Gains n old.reader (model.Find key) (reply.Rows new.rows) new.reader) (steps_so finds.steps) finds.gains,
+      holds,
+      finds.looks,
+    )
+    late false (finds, holds) = (
+      finds.steps,
+      finds.named,
+      subst (λ (b : Bool). HoleIn (finds_by_word old.reader) (cond {A = List ℕ} b (name_number word ∷ []) [] ++ finds.named) finds.steps) (sym stays) finds.finds_in,
+      subst (λ (n : ℕ). Gains n old.reader (model.Find key) reply.Hole new.reader) (steps_so finds.steps) finds.gains,
+      holds,
+      finds.looks,
+    )
 
 pub anew_keeps : (key : ℕ) (old new : Handed) (answer : Bool) → KeepsAnew key old new answer → KeepsByHand key old new answer
 anew_keeps key old new true anew = inr anew
 anew_keeps key old new false anew = anew
 
 -- what a look and a load tell of the hand, whose seat they are made by
-module _ (key : ℕ) (before after : MapSeat) (held : Option Kept) (role : after.me.0.role ≡ before.me.0.role) where
+module _ (key : ℕ) (before after : MapSeat) (held : Option Kept) (role : after.me.0.role ≡ before.me.0.role) (says : after.me.0.says ≡ before.me.0.says) where
   pub looked_in_vain : (slot word : ℕ) → names_slot slot word ≡ false → Grows 1 (token before) [] (token after) → (names_slot slot word ≡ true) ↔ HasPut key before.me.0.marks.put (token after)
-      → after.me.0.marks ≡ found_again (names_slot slot word) before.me.0.marks → AsksInVain key (handed before held) (handed after held)
-  looked_in_vain slot word gone grows exact marks = record {
-    grows = grows;
-    other = λ has. absurd (let yes = exact.1 has in let is_not = gone in cc);
-    key_is = refl;
-    rows = ap rows_held role;
-    holds = ap (λ (r : Role). gripped (grip_of r)) role;
-    marks = marks ∙ ap (λ (b : Bool). found_again b before.me.0.marks) gone;
-  }
+      → after.me.0.marks ≡ found_again (names_slot slot word) (with_look before.me.0.marks key (name_number word)) → AsksInVain key (handed before held) (handed after held) × (after.me.0.marks ≡ with_look before.me.0.marks key (name_number word))
+  looked_in_vain slot word gone grows exact marks = let is = marks ∙ ap (λ (b : Bool). found_again b (with_look before.me.0.marks key (name_number word))) gone in (
+    record {
+      grows = grows;
+      other = λ has. absurd (let yes = exact.1 has in let is_not = gone in cc);
+      key_is = refl;
+      rows = ap rows_held role;
+      holds = ap (λ (r : Role). gripped (grip_of r)) role;
+      says = says;
+      marks = is ∙ ap (with_loads before.me.0.marks) (sym (ap (λ (m : Marks). m.loads) is));
+    },
+    is,
+  )
 
-pub step_rests : (before after : Caller) → after ≡ with_step before → Rests 1 before after
-step_rests before after is = record {
-  table = ap (λ (c : Caller). c.table) is;
-  number = ap (λ (c : Caller). c.number) is;
-  seen = ap (λ (c : Caller). c.seen) is;
-  mine = ap (λ (c : Caller). c.mine) is;
-  steps_made = ap (λ (c : Caller). c.steps) is;
-  pasts = ap (λ (c : Caller). c.pasts) is;
-}
+-- who holds by its word says so
+pub loud_by_word : (own : Own) (held : Held) (seat : MapSeat) → Pins seat own held → 0 < held.says → 0 < seat.me.0.says
+loud_by_word own held seat pins loud = omega (arith, pins.holds.says, loud)
 
--- who holds by its word has one
-pub finds_so : (own : Own) (held : Held) (seat : MapSeat) → Pins seat own held → 0 < held.says → finds_by_word (token seat) ≡ true
-finds_so own held seat pins says = lt-ltb (caller_number seat.me.0.role - 1) (token seat).table.announcers (omega (arith, pins.reader.number, pins.holds.worded says))
+pub silent_by_count : (own : Own) (held : Held) (seat : MapSeat) → Pins seat own held → held.says ≡ 0 → seat.me.0.says ≡ 0
+silent_by_count own held seat pins silent = pins.holds.says ∙ silent

@@ -6,6 +6,7 @@ pub mod SetRooms
 pub mod NoSlots
 pub mod SlotBounds
 pub mod HandSteps
+pub mod Pinning
 pub mod CountedFinds
 pub mod FindsEach
 pub mod FindsGroups

@@ -1,17 +1,17 @@
 -- A reader that is idle or holds the set of a key.
-use Rattle.std.specs.Prelude.{◌≡◌, ◌≢◌, ℕ, ◌+◌, ◌-◌, ◌*◌, ◌==◌, ◌≤◌, ◌⊎◌, Bool, true, false, if◌then◌else◌, List, [], length, Option, Some, None, IsSome, Result, Ok, Err}
+use Rattle.std.specs.Prelude.{◌≡◌, ◌≢◌, ℕ, suc, ◌+◌, ◌-◌, ◌*◌, ◌<◌, ◌==◌, ◌⊎◌, ◌&&◌, ◌||◌, nat_lt, Bool, true, false, if◌then◌else◌, List, [], ◌∷◌, ◌++◌, length, Option, Some, None, IsSome, Result, Ok, Err}
 use Rattle.atomic_table.specs.declared.shared.Seat.{Seat}
 use Rattle.nr_model.specs.declared.rows.Row.{Row}
 use Rattle.nr_model.specs.Rows.{IsRowSet}
 use Rattle.nr_model.specs.declared.calls.Call.TheVariants as model
 use Rattle.nr_model.specs.declared.calls.Reply.TheVariants as reply
-use Rattle.nr_marks.specs.Marks.{Marks, acted}
+use Rattle.nr_marks.specs.Marks.{Marks, acted, with_loads}
 use Rattle.nr_marks.specs.MarkSteps.{found_again}
 use Rattle.nr_marks.specs.Puts.{put_number}
 use Rattle.nr_board.specs.declared.answers.Found.{Found}
 use Rattle.nr_board.specs.declared.answers.Found.TheVariants as found
 use Rattle.nr_board.specs.Callers.{Caller, Gains, Grows, Rests, token}
-use Rattle.nr_board.specs.Holds.{FindsHole, FindsRows, HeldIn, HoleIn, finds_by_word}
+use Rattle.nr_board.specs.Holds.{FindsHole, FindsHoleAfter, FindsRows, FindsRowsAfter, HeldIn, HoleIn, finds_by_word, looks_at}
 use Rattle.nr_board.specs.Meetings.{HasPut}
 use Rattle.nr_board.specs.Rule.{StartsWith}
 use Rattle.nr_board.specs.Seats.{IdlesAt}
@@ -20,6 +20,8 @@ use Rattle.nr_board.specs.Views.{View, rows_held}
 use Rattle.nr_map.specs.declared.hand.Kept.{Kept}
 use Rattle.nr_map.specs.Answers.{FindsIn, marks_found}
 use Rattle.nr_map.specs.Pins.{Pinned, Pins}
+use Rattle.nr_machine.specs.Slots.{name_number}
+use Rattle.nr_words.specs.KeyWords.{is_filled}
 use Rattle.nr_map.specs.Tokens.{IsReader}
 
 -- the reader, the key whose set it holds, and the rows of that set; none where it holds nothing
@@ -74,6 +76,7 @@ pub record LetsGo (old new : Handed) : Type 0 where
   pub key_is : new.key ≡ None
   pub rows : new.rows ≡ []
   pub holds : new.reader.holds ≡ None
+  pub silent : new.reader.says ≡ 0
   pub rests : Rests (steps_to_depart old.key) old.reader new.reader
   pub marks : new.reader.marks ≡ departed old.key old.reader.marks
 
@@ -83,6 +86,7 @@ pub record CopiesHeld (steps : ℕ) (old new : Handed) : Type 0 where
   pub rows : new.rows ≡ old.rows
   pub rests : Rests steps old.reader new.reader
   pub holds : new.reader.holds ≡ old.reader.holds
+  pub says : new.reader.says ≡ old.reader.says
   pub marks : new.reader.marks ≡ old.reader.marks
 
 -- after a find it holds the key's set, or it holds nothing at a hole; what it held before is let go
@@ -90,27 +94,19 @@ pub record HoldsKey (key : ℕ) (old new : Handed) : Type 0 where
   pub key_is : new.key ≡ Some key
   pub row_set : IsRowSet old.reader.table.shape.rows new.rows
   pub holds : IsSome new.reader.holds
-  pub marks : new.reader.marks ≡ acted (departed old.key old.reader.marks) (put_number new.reader.seen key)
+  pub marks : new.reader.marks ≡ acted (with_loads (departed old.key old.reader.marks) new.reader.marks.loads) (put_number new.reader.seen key)
 
 pub record HoldsNothing (key : ℕ) (old new : Handed) : Type 0 where
   pub key_is : new.key ≡ None
   pub rows : new.rows ≡ []
   pub holds : new.reader.holds ≡ None
-  pub marks : new.reader.marks ≡ acted (departed old.key old.reader.marks) (put_number new.reader.seen key)
-
--- a find that holds the key's set, in the steps of a hold and so many more
-abbrev pub PinsIn : ℕ → ℕ → Handed → Handed → Bool → Type 0
-PinsIn more key old new true = FindsRows more key new.rows old.reader new.reader × HoldsKey key old new
-PinsIn more key old new false = FindsHole more key old.reader new.reader × HoldsNothing key old new
+  pub silent : new.reader.says ≡ 0
+  pub marks : new.reader.marks ≡ acted (with_loads (departed old.key old.reader.marks) new.reader.marks.loads) (put_number new.reader.seen key)
 
 -- a pin by a hand lets go what it held before it finds
 abbrev pub PinsByHand : ℕ → Handed → Handed → Bool → Type 0
-PinsByHand key old new answer = PinsIn (steps_to_depart old.key) key old new answer
-
--- the hand asks whether the key has its set still by one step, where it holds a set of that key
-abbrev pub steps_to_ask : ℕ → Option ℕ → ℕ
-steps_to_ask key None = 0
-steps_to_ask key (Some held) = (if held == key then 1 else 0)
+PinsByHand key old new true = (finds : FindsRows (steps_to_depart old.key) key new.rows old.reader new.reader) × HoldsKey key old new × (new.reader.says ≡ finds.says)
+PinsByHand key old new false = FindsHole (steps_to_depart old.key) key old.reader new.reader × HoldsNothing key old new
 
 -- the key has the set still that the hand holds, and the find is answered with its rows in that many steps; nothing is let go
 pub record FindsHeld (steps key : ℕ) (old new : Handed) : Type 0 where
@@ -120,7 +116,8 @@ pub record FindsHeld (steps key : ℕ) (old new : Handed) : Type 0 where
   pub key_is : new.key ≡ old.key
   pub rows : new.rows ≡ old.rows
   pub holds : new.reader.holds ≡ old.reader.holds
-  pub marks : new.reader.marks ≡ found_again true old.reader.marks
+  pub says : new.reader.says ≡ old.reader.says
+  pub marks : new.reader.marks ≡ found_again true (with_loads old.reader.marks new.reader.marks.loads)
 
 -- the hand asked, in 1 step that is no entry, and the key had another set or none
 pub record AsksInVain (key : ℕ) (old new : Handed) : Type 0 where
@@ -129,17 +126,13 @@ pub record AsksInVain (key : ℕ) (old new : Handed) : Type 0 where
   pub key_is : new.key ≡ old.key
   pub rows : new.rows ≡ old.rows
   pub holds : new.reader.holds ≡ old.reader.holds
-  pub marks : new.reader.marks ≡ old.reader.marks
+  pub says : new.reader.says ≡ old.reader.says
+  pub marks : new.reader.marks ≡ with_loads old.reader.marks new.reader.marks.loads
 
 -- a hand finds a key again, or asked in vain, or holds no set of the key and makes no step
 abbrev pub AgainByHand : ℕ → Handed → Handed → Bool → Type 0
 AgainByHand key old new true = FindsHeld 1 key old new
 AgainByHand key old new false = (old.key ≡ Some key → AsksInVain key old new) × (old.key ≢ Some key → new ≡ old)
-
--- a find into any room, after that many steps, which keeps what it holds; a hole leaves the room as it was
-abbrev pub FindsAnew : {Room : Type 0} → (Room → List Row → Type 0) → ℕ → ℕ → Handed → Room → Handed → Room → Found → Type 0
-FindsAnew shows begun key old before new room found.Rows = FindsRows (begun + 2 * length new.rows) key new.rows old.reader new.reader × HoldsKey key old new × shows room new.rows
-FindsAnew shows begun key old before new room found.Hole = FindsHole begun key old.reader new.reader × HoldsNothing key old new × (room ≡ before)
 
 -- what is held is let go, and then a find is made after which nothing is held
 pub record FindsAndLetsGo {Room : Type 0} (shows : Room → List Row → Type 0) (key : ℕ) (old : Handed) (before : Room) (new : Handed) (room : Room) (answer : Found) : Type 0 where
@@ -149,39 +142,67 @@ pub record FindsAndLetsGo {Room : Type 0} (shows : Room → List Row → Type 0)
   pub finds : FindsIn shows key reader before new.reader room answer
   pub rests : new ≡ idle new.reader
   pub holds : new.reader.holds ≡ None
-  pub marks : new.reader.marks ≡ marks_found answer reader.marks (put_number new.reader.seen key)
+  pub marks : new.reader.marks ≡ marks_found answer (with_loads reader.marks new.reader.marks.loads) (put_number new.reader.seen key)
 
 -- the hand asked in vain before it came to where it is
 abbrev pub AskedBefore : ℕ → Handed → Handed → Type 0
 AskedBefore key old new = (asked : Handed) × AsksInVain key old asked × StartsWith new.reader.seen asked.reader.seen
 
--- a hand goes on from what it holds to a key, in these steps but for the load of the key's word before
-abbrev pub LateIn : Bool → ℕ → Type 0
-LateIn false late = late ≡ 2
-LateIn true late = (late ≡ 0) ⊎ (late ≡ 2)
+-- a hand goes on from what it holds to the slot that a look at the key named, where it holds by its reader's word: that look is the find's first. Else it lets go, in one step, and finds anew
+abbrev pub goes_on : ℕ → ℕ → Bool
+goes_on says word = nat_lt 0 says && is_filled word
 
-abbrev pub MovesByHand : ℕ → Handed → Handed → Bool → Type 0
-MovesByHand key old new true =
-    (late steps : ℕ) × LateIn (finds_by_word old.reader) late × HeldIn (finds_by_word old.reader) steps × Gains (steps + late - 1) old.reader (model.Find key) (reply.Rows new.rows) new.reader × HoldsKey key old new
-MovesByHand key old new false =
-    (late steps : ℕ) × LateIn (finds_by_word old.reader) late × HoleIn (finds_by_word old.reader) steps × Gains (steps + late - 1) old.reader (model.Find key) reply.Hole new.reader × HoldsNothing key old new
+abbrev pub first_by : ℕ → ℕ → List ℕ
+first_by says word = (if goes_on says word then name_number word ∷ [] else [])
 
--- what such a hand does before it finds anew: by the count it asks, and lets go what it held. By a word what it held is let go by the next announcement, and its look is the find's; a hand that held by the count departs, and one whose look found a hole clears its word and looks once more
-abbrev pub BegunIn : Bool → ℕ → Option ℕ → ℕ → Type 0
-BegunIn false key held begun = begun ≡ steps_to_ask key held + steps_to_depart held
-BegunIn true key None begun = begun ≡ 0
-BegunIn true key (Some held) begun = begun ≤ 2
+abbrev pub late_by : ℕ → ℕ → ℕ
+late_by says word = (if goes_on says word then 0 else 2)
+
+-- so after that look
+abbrev pub MovesByHand : ℕ → ℕ → Handed → Handed → Bool → Type 0
+MovesByHand key word old new true =
+    (steps : ℕ) × (named : List ℕ) × HeldIn (finds_by_word old.reader) (first_by old.reader.says word ++ named) new.reader.says steps × Gains (steps + late_by old.reader.says word - 1) old.reader (model.Find key) (reply.Rows new.rows) new.reader
+    × HoldsKey key old new × (new.reader.marks.loads ≡ old.reader.marks.loads ++ looks_at key named)
+MovesByHand key word old new false =
+    (steps : ℕ) × (named : List ℕ) × HoleIn (finds_by_word old.reader) (first_by old.reader.says word ++ named) steps × Gains (steps + late_by old.reader.says word - 1) old.reader (model.Find key) reply.Hole new.reader
+    × HoldsNothing key old new × (new.reader.marks.loads ≡ old.reader.marks.loads ++ looks_at key named)
+
+-- whether a hand that keeps its hold, and whose reader's word says that, looks at the key before it lets anything go: it holds a set of the key, or another one by the word
+abbrev pub looks_first : ℕ → Option ℕ → ℕ → Bool
+looks_first key None says = false
+looks_first key (Some held) says = (held == key) || nat_lt 0 says
+
+-- What such a hand does before a find whose looks named this: so many steps, with looks that named that. It lets go what it holds, without a look. Or it looks, and by the count it departs; by its word it clears that at a hole. Else its look is the find's, and the next announcement lets go what it held.
+abbrev pub BegunIn : ℕ → Handed → List ℕ → ℕ → List ℕ → Type 0
+BegunIn key old named begun before =
+    ((looks_first key old.key old.reader.says ≡ false) × (begun ≡ steps_to_depart old.key) × (before ≡ []))
+    ⊎ ((looks_first key old.key old.reader.says ≡ true) × (name : ℕ) × (0 < old.reader.says → name ≡ 0) × (begun ≡ 2) × (before ≡ name ∷ []))
+    ⊎ ((looks_first key old.key old.reader.says ≡ true) × (0 < old.reader.says) × (slot : ℕ) × (others : List ℕ) × (named ≡ suc slot ∷ others) × (begun ≡ 0) × (before ≡ []))
+
+-- it holds the key's set then, in the steps of a hold, those, and so many more
+abbrev pub HoldsAnew : ℕ → ℕ → Handed → Handed → Type 0
+HoldsAnew more key old new = (begun : ℕ) × (before : List ℕ) × (finds : FindsRowsAfter before (begun + more) key new.rows old.reader new.reader) × BegunIn key old finds.named begun before × HoldsKey key old new × (new.reader.says ≡ finds.says)
+
+-- or nothing, at a hole
+abbrev pub FindsNone : ℕ → Handed → Handed → Type 0
+FindsNone key old new = (begun : ℕ) × (before : List ℕ) × (finds : FindsHoleAfter before begun key old.reader new.reader) × BegunIn key old finds.named begun before × HoldsNothing key old new
 
 -- a hand that keeps its hold: it finds the set that it holds again, or it finds anew
 abbrev pub KeepsAnew : ℕ → Handed → Handed → Bool → Type 0
-KeepsAnew key old new answer = (old.key ≡ Some key → AskedBefore key old new) × (begun : ℕ) × BegunIn (finds_by_word old.reader) key old.key begun × PinsIn begun key old new answer
+KeepsAnew key old new true = (old.key ≡ Some key → AskedBefore key old new) × HoldsAnew 0 key old new
+KeepsAnew key old new false = (old.key ≡ Some key → AskedBefore key old new) × FindsNone key old new
 
 abbrev pub KeepsByHand : ℕ → Handed → Handed → Bool → Type 0
 KeepsByHand key old new true = FindsHeld 1 key old new ⊎ KeepsAnew key old new true
 KeepsByHand key old new false = KeepsAnew key old new false
 
+-- a find anew into any room; a hole leaves it as it was
+abbrev pub FindsAnew : {Room : Type 0} → (Room → List Row → Type 0) → ℕ → Handed → Room → Handed → Room → Found → Type 0
+FindsAnew shows key old before new room found.Rows = HoldsAnew (2 * length new.rows) key old new × shows room new.rows
+FindsAnew shows key old before new room found.Hole = FindsNone key old new × (room ≡ before)
+
 -- a find by a hand that keeps its hold: it reads the rows that it holds where the key has them still, and else finds anew
 abbrev pub FindsKept : {Room : Type 0} → (Room → List Row → Type 0) → ℕ → Handed → Room → Handed → Room → Found → Type 0
 FindsKept shows key old before new room answer =
     (FindsHeld (2 * length old.rows + 1) key old new × shows room old.rows × (answer ≡ found.Rows))
-    ⊎ ((old.key ≡ Some key → AskedBefore key old new) × (begun : ℕ) × BegunIn (finds_by_word old.reader) key old.key begun × FindsAnew shows begun key old before new room answer)
+    ⊎ ((old.key ≡ Some key → AskedBefore key old new) × FindsAnew shows key old before new room answer)

@@ -8,7 +8,7 @@ use Rattle.nr_board.specs.Views.{View, opener}
 
 -- a token that has made no step and seen nothing
 abbrev pub newcomer : Table → ℕ → Marks → Caller
-newcomer table number marks = record { table = table; number = number; seen = []; mine = []; steps = 0; fresh = 0; retired = []; numbers = []; holds = None; marks = marks; pasts = []; heard = [] }
+newcomer table number marks = record { table = table; number = number; seen = []; mine = []; steps = 0; fresh = 0; retired = []; numbers = []; holds = None; marks = marks; pasts = []; says = 0; heard = [] }
 
 -- the writer's view after it made that many readers
 abbrev pub made_so : Table → ℕ → View

@@ -9,7 +9,7 @@ use Rattle.nr_marks.specs.Puts.{put_number}
 use Rattle.nr_board.specs.Callers.{Caller, Gains, Grows, token}
 use Rattle.nr_board.specs.declared.board.Own.{Own}
 use Rattle.nr_board.specs.declared.holds.Held.{Held}
-use Rattle.nr_board.specs.Holds.{FindsHole, FindsRows, HeldAs}
+use Rattle.nr_board.specs.Holds.{FindsHole, FindsRows, HeldAs, looked}
 use Rattle.nr_board.specs.Views.{View, rows_held}
 use Rattle.nr_map.specs.Tokens.{IsReader}
 
@@ -28,8 +28,8 @@ pub record Pins (seat : Seat (Unit {0}) View) (own : Own) (held : Held) : Type 0
 
 -- a pin is a find, in the steps of a hold: of a filled key it holds the rows of the reply, whose put number is the key's, and a hole gives the reader back
 abbrev pub PinsKey : ℕ → Caller → Result Pinned Caller → Type 0
-PinsKey key old (Ok pin) = FindsRows 0 key pin.rows old pin.reader × (pin.reader.marks ≡ acted old.marks (put_number pin.reader.seen key)) × IsSome pin.reader.holds
-PinsKey key old (Err reader) = FindsHole 0 key old reader × (reader.marks.acts ≡ old.marks.acts + 1) × (reader.holds ≡ None)
+PinsKey key old (Ok pin) = (finds : FindsRows 0 key pin.rows old pin.reader) × (pin.reader.marks ≡ acted (looked old.marks key finds.named) (put_number pin.reader.seen key)) × IsSome pin.reader.holds × (pin.reader.says ≡ finds.says)
+PinsKey key old (Err reader) = FindsHole 0 key old reader × (reader.marks.acts ≡ old.marks.acts + 1) × (reader.holds ≡ None) × (reader.says ≡ 0)
 
 -- a find by a pin: where the key has the set that the pin holds, it is answered with its rows; else it is no entry, and the pin learns the history so far
 abbrev pub FindsByPin : ℕ → Caller → List Row → Caller → Bool → Type 0

@@ -235,7 +235,7 @@ impl Hand {
         if kept.set.says == 0 {
             return self.pin(map, key);
         }
-        let word = map.board.load_key(&mut self.caller.seat, key);
+        let word = map.board.look_ahead(&mut self.caller.seat, key);
         self.move_to(map, key, word)
     }
 
@@ -246,7 +246,7 @@ impl Hand {
         requires key { key < map.now.shape.keys }
         requires holds { IsSome self.old.key }
         ensures own { self.new.reader.table ≡ map.now }
-        ensures moves { MovesByHand key self.old self.new result }
+        ensures moves { MovesByHand key word self.old self.new result }
     {
         match self.held {
             Some(kept) if kept.set.says > 0 => {

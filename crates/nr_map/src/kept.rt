@@ -24,8 +24,10 @@ impl Hand {
     /// finds it again, it takes 2n + 1 steps for n rows, which write no word. Else it finds and holds
     /// anew. By the counts it lets go what it held first: 2n + 2 steps, 1 for a hole, and 1 more where
     /// something was held, and yet 1 where that was another set of the key. A reader that has a word
-    /// takes 2n + 4, 2n + 6 or 2n + 8 steps, 1, 4, 6 or 7 for a hole, and at most 2 more where
-    /// something was held: what it held by the word the next announcement lets go.
+    /// takes 2n + 4, 2n + 6 or 2n + 8 steps, and 1, 4, 6 or 7 for a hole. Where it holds a set by the
+    /// word, the announcement of the slot that its look named lets that go; where the look named none
+    /// it takes 2 more, to clear its word and look once more. Where it holds a set by the counts it
+    /// takes 1 more, and 2 if that was another set of the key.
     #[inline(always)]
     pub fn find_kept<R: RowRoom>(&mut self, map: &ReaderMap, key: u32, rows: &mut R) -> Found
         requires own { self.old.reader.table ≡ map.now }

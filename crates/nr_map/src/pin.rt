@@ -1,7 +1,7 @@
 //! A reader that holds a set, and reads it as often as it likes.
 ghost use Rattle.std.specs.Prelude.{◌≡◌, ◌↔◌, ◌<◌, ◌≤◌, ◌*◌, length, slice_get, true, IsSome, None, Some};
 ghost use Rattle.nr_model.specs.Rows.{IsRowSet};
-ghost use Rattle.nr_marks.specs.Marks.{acted};
+ghost use Rattle.nr_marks.specs.Marks.{acted, with_loads};
 ghost use Rattle.nr_marks.specs.MarkSteps.{found_again};
 ghost use Rattle.nr_board.specs.Meetings.{HasPut};
 ghost use Rattle.nr_board.specs.Callers.{Rests};
@@ -77,6 +77,7 @@ impl Pin {
         ensures rows { self.new.rows ≡ self.old.rows }
         ensures rests { Rests 2 self.old.reader self.new.reader }
         ensures holds { self.new.reader.holds ≡ self.old.reader.holds }
+        ensures says { self.new.reader.says ≡ self.old.reader.says }
         ensures marks { self.new.reader.marks ≡ self.old.reader.marks }
     {
         self.caller.row(map, self.held, i)
@@ -89,6 +90,7 @@ impl Pin {
         ensures rows { self.new.rows ≡ self.old.rows }
         ensures rests { Rests (2 * length self.old.rows) self.old.reader self.new.reader }
         ensures holds { self.new.reader.holds ≡ self.old.reader.holds }
+        ensures says { self.new.reader.says ≡ self.old.reader.says }
         ensures marks { self.new.reader.marks ≡ self.old.reader.marks }
     {
         self.caller.copy(map, self.held, rows);
@@ -105,7 +107,8 @@ impl Pin {
         ensures exact { (result ≡ true) ↔ HasPut key self.old.reader.marks.put self.new.reader }
         ensures rows { self.new.rows ≡ self.old.rows }
         ensures holds { self.new.reader.holds ≡ self.old.reader.holds }
-        ensures marks { self.new.reader.marks ≡ found_again result self.old.reader.marks }
+        ensures says { self.new.reader.says ≡ self.old.reader.says }
+        ensures marks { self.new.reader.marks ≡ found_again result (with_loads self.old.reader.marks self.new.reader.marks.loads) }
     {
         self.caller.again(map, self.held, key)
     }

@@ -1,6 +1,6 @@
 //! What a reader, a pin and a hand have in common: the token of a reader, whatever it holds.
 ghost use Rattle.std.specs.Prelude.{◌≡◌, ◌↔◌, ◌<◌, ◌*◌, ◌^◌, suc, length, slice_get, true, Some};
-ghost use Rattle.nr_marks.specs.Marks.{acted};
+ghost use Rattle.nr_marks.specs.Marks.{acted, with_loads};
 ghost use Rattle.nr_marks.specs.MarkSteps.{found_again};
 ghost use Rattle.nr_marks.specs.Puts.{put_number};
 ghost use Rattle.nr_board.specs.Callers.{KnowsOwn, Rests, token};
@@ -86,7 +86,7 @@ impl Token {
         ensures role { self.new.seat.me.0.role ≡ self.old.seat.me.0.role }
         ensures finds { FindsByPin key (token self.old.seat) (rows_held self.old.seat.me.0.role) (token self.new.seat) result }
         ensures exact { (result ≡ true) ↔ HasPut key self.old.seat.me.0.marks.put (token self.new.seat) }
-        ensures marks { self.new.seat.me.0.marks ≡ found_again result self.old.seat.me.0.marks }
+        ensures marks { self.new.seat.me.0.marks ≡ found_again result (with_loads self.old.seat.me.0.marks self.new.seat.me.0.marks.loads) }
     {
         map.board.find_again(&mut self.seat, held.slot, key)
     }
@@ -113,7 +113,7 @@ impl Token {
         ensures reader { IsReader self.new.seat self.new.own }
         ensures idle { IdlesAt map.now self.new.seat }
         ensures finds { FindsIn R.shows key (token self.old.seat) rows.old (token self.new.seat) rows.new result }
-        ensures marks { self.new.seat.me.0.marks ≡ marks_found result self.old.seat.me.0.marks (put_number self.new.seat.me.0.seen key) }
+        ensures marks { self.new.seat.me.0.marks ≡ marks_found result (with_loads self.old.seat.me.0.marks self.new.seat.me.0.marks.loads) (put_number self.new.seat.me.0.seen key) }
     {
         let Some(held) = self.hold(map, key) else {
             return Found::Hole;

@@ -26,7 +26,7 @@ use Rattle.nr_machine.specs.declared.roles.Role.{Role}
 use Rattle.nr_machine.specs.declared.roles.Role.TheVariants.{Reader, Writer}
 use Rattle.nr_machine.specs.declared.shape.Shape.{Shape}
 use Rattle.nr_marks.specs.Puts.{put_count, put_number}
-use Rattle.nr_marks.specs.Marks.{Marks, Past}
+use Rattle.nr_marks.specs.Marks.{Marks, Past, with_look}
 use Rattle.nr_marks.specs.Marked.{CanMark, Remarked, lives}
 use Rattle.nr_marks.specs.MarkSteps.{ComparesPuts, FindsAgainMarks, found_again}
 use Rattle.nr_marks.proofs.DeskMarks.{desk_of}
@@ -56,16 +56,17 @@ module _ {A : Type 0} (role : A → Role) (marks : A → Marks) where
         let names : (k : ℕ) → name_number (get_or (set words key word) k 0) ≡ name_number (get_or words k 0) = λ k. ap (λ l. name_number (get_or l k 0)) (set-get_or words key 0) in
         let w = m.writer in let own = desk_of role marks shape words callers log w.place w.who w.desk m w.there w.is in
         let held_put : get_or (marks w.who).puts slot 0 ≡ (marks me).put = (own.held id reader slot me grip at was refl).0 in
+        let looked : Marks = with_look (marks me) key (name_number word) in
         let finish : (b : Bool) (told : List Entry) → names_slot slot word ≡ b → entries ≡ told → ((k : ℕ) → put_number (log ++ told) k ≡ put_number log k) → put_count (log ++ told) ≡ put_count log
-        → (((marks me).acts < (found_again b (marks me)).acts) × (b ≡ true)) ⊎ ((found_again b (marks me) ≡ marks me) × (b ≡ false)) → ((found_again b (marks me)).put ≡ (marks me).put) → ((found_again b (marks me)).polls ≡ (marks me).polls)
+        → (((marks me).acts < (found_again b looked).acts) × (b ≡ true)) ⊎ ((found_again b looked ≡ looked) × (b ≡ false)) → ((found_again b looked).put ≡ (marks me).put) → ((found_again b looked).polls ≡ (marks me).polls)
         → ComparesPuts b word (marks me).put (put_number log key) → Remarked role marks shape words callers log id me (Load key) after entries tells
-        = λ b told b_is is_entries numbers many moves same_put same_polls compares. let now = found_again b (marks me) in
+        = λ b told b_is is_entries numbers many moves same_put same_polls compares. let now = found_again b looked in
         let kept : (k : ℕ) → put_number (log ++ entries) k ≡ put_number log k = λ k. ap (λ l. put_number (log ++ l) k) is_entries ∙ numbers k in
         reader_step role marks shape id me known (Load key) (FindsAgain shape reader slot rows sized key) tells words callers log m at reader grip
         grip was after entries ans.0 (λ k _. names k) kept (ap (λ l. put_count (log ++ l)) is_entries ∙ many) now same_polls
-        (⊎_elim (λ (t : ((marks me).acts < now.acts) × (b ≡ true)). inr t.0) (λ (t : (now ≡ marks me) × (b ≡ false)). inl (refl, ap (λ (k : Marks). k.acts) t.0, ap (λ (k : Marks). k.put) t.0)) moves)
+        (⊎_elim (λ (t : ((marks me).acts < now.acts) × (b ≡ true)). inr t.0) (λ (t : (now ≡ looked) × (b ≡ false)). inl (refl, ap (λ (k : Marks). k.acts) t.0, ap (λ (k : Marks). k.put) t.0)) moves)
         (λ j held u desk there writes t on. let kept = t.held id reader held me grip at was on in ((kept.0 ∙ sym same_put, kept.1), λ _. on)) (contents_loaded shape words key)
-        (ap (λ (c : Bool). found_again c (marks me)) (sym b_is), refl, subst (λ (p : Bool × ℕ). ComparesPuts p.0 word (marks me).put p.1) (λ i. (sym b_is i, sym (kept key) i)) compares) in
+        (ap (λ (c : Bool). found_again c looked) (sym b_is), refl, subst (λ (p : Bool × ℕ). ComparesPuts p.0 word (marks me).put p.1) (λ i. (sym b_is i, sym (kept key) i)) compares) in
         by_cases (λ _. Remarked role marks shape words callers log id me (Load key) after entries tells) (names_slot slot word)
         (λ yes. let same : name_number word ≡ suc slot = eqb-true (name_number word) (suc slot) yes in
         finish true (e ∷ []) yes (ans.1 ∙ ap (λ (b : Bool). cond {A = List Entry} b (e ∷ []) []) yes) (λ k. quiet_number log e k refl)

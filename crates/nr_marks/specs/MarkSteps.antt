@@ -20,7 +20,7 @@ use Rattle.nr_machine.specs.States.{retired_at, key_of}
 use Rattle.nr_machine.specs.Writer.{looked, read_on}
 use Rattle.nr_machine.specs.declared.calls.WReply.TheVariants as writer
 use Rattle.nr_marks.specs.Puts.{put_count, put_number}
-use Rattle.nr_marks.specs.Marks.{Past, Marks, acted, with_poll, with_polls, with_name, with_reaped, without_name}
+use Rattle.nr_marks.specs.Marks.{Past, Marks, acted, with_look, with_poll, with_polls, with_name, with_reaped, without_name}
 use Rattle.nr_marks.specs.PollNotes.{NoRoom, Missed}
 use Rattle.nr_marks.specs.Pasts.{Refreshed, Compared}
 use Rattle.nr_marks.specs.Marked.{MarkTelling}
@@ -40,7 +40,11 @@ ArrivesMarks marks at word after log now news = (now ≡ acted marks (put_number
 
 -- a look-up that finds a hole is one act; one that finds a slot named is none yet
 abbrev pub LooksUpMarks : Marks → ℕ → MarkTelling
-LooksUpMarks marks at word after log now news = (now ≡ (if is_filled word then marks else acted marks (put_number log at))) × (news ≡ [])
+LooksUpMarks marks at word after log now news = (now ≡ (if is_filled word then with_look marks at (name_number word) else acted (with_look marks at (name_number word)) (put_number log at))) × (news ≡ [])
+
+-- a hold of the slot that a look at the key named
+abbrev pub HoldsNamedMarks : Marks → ℕ → ℕ → MarkTelling
+HoldsNamedMarks marks at slot word after log now news = (now ≡ acted (with_look marks at (suc slot)) (put_number log at)) × (news ≡ [])
 
 -- a find by a reader that holds the set counts as a departure and an arrive at the same slot
 abbrev pub found_again : Bool → Marks → Marks
@@ -53,7 +57,7 @@ ComparesPuts true word put number = number ≡ put
 ComparesPuts false word put number = 0 < name_number word → number ≢ put
 
 abbrev pub FindsAgainMarks : Marks → ℕ → ℕ → MarkTelling
-FindsAgainMarks marks slot at word after log now news = (now ≡ found_again (names_slot slot word) marks) × (news ≡ []) × ComparesPuts (names_slot slot word) word marks.put (put_number log at)
+FindsAgainMarks marks slot at word after log now news = (now ≡ found_again (names_slot slot word) (with_look marks at (name_number word))) × (news ≡ []) × ComparesPuts (names_slot slot word) word marks.put (put_number log at)
 
 abbrev pub DepartsMarks : Marks → MarkTelling
 DepartsMarks marks word after log now news = (now ≡ acted marks marks.put) × (news ≡ [])

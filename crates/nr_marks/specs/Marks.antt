@@ -14,12 +14,13 @@ pub record Past : Type 0 where
   pub slot : Option ℕ
   pub put : ℕ
 
--- a load that is told apart: of that reader's own word, and what it found; or a poll of that retired slot, and whether nobody held it
+-- a load that is told apart: of that reader's own word, and what it found; a poll of that retired slot, and whether nobody held it; or a reader's look at that key, and what it named: 0, or one more than a slot
 pub data LoggedLoad : Type 0 where
   OfWord : (reader word : ℕ) → LoggedLoad
   OfSlot : (slot : ℕ) (free : Bool) → LoggedLoad
+  OfKey : (key named : ℕ) → LoggedLoad
 
--- a reader has the first two, the writer the others
+-- a reader has the first two and its loads, the writer the others
 pub record Marks : Type 0 where
   -- its arrives and departs, and the put number of the set that it holds
   pub acts : ℕ
@@ -76,6 +77,10 @@ with_scan marks polls loads = record marks { polls = polls; loads = loads }
 -- after a poll of that slot
 abbrev pub with_poll : Marks → ℕ → Bool → Marks
 with_poll marks slot free = with_loads marks (marks.loads ++ OfSlot slot free ∷ [])
+
+-- after a look at that key
+abbrev pub with_look : Marks → ℕ → ℕ → Marks
+with_look marks key named = with_loads marks (marks.loads ++ OfKey key named ∷ [])
 
 -- the set that was put into the slot last
 abbrev pub set_in : Marks → ℕ → List Row

@@ -52,7 +52,7 @@ missed_more key n a b c before rows request missed once =
       count_is = omega (arith, missed.count_is, length-append missed.requests (request ∷ []));
       missed = misses_then key a b c missed.requests request missed.missed once.0;
       steps = missed.steps + (once.0.steps + length (requested by key request));
-      counted = λ no_word. let one : once.0.steps ≡ 1 = subst (λ (w : Bool). HoleIn w once.0.steps) (same_words missed.steps a old b missed.moves ∙ no_word) once.0.finds_in in
+      counted = λ no_word. let one : once.0.steps ≡ 1 = (subst (λ (w : Bool). HoleIn w once.0.named once.0.steps) (same_words missed.steps a old b missed.moves ∙ no_word) once.0.finds_in).1 in
           omega (arith, one, missed.counted no_word, length-append old (miss by key request), ap (λ (l : List Entry). length l) all);
       moves = subst (λ (l : List Entry). Moves (missed.steps + (once.0.steps + length (requested by key request))) a l c) all
           (moves_both missed.steps (once.0.steps + length (requested by key request)) _ a old b (miss by key request) c refl missed.moves moves);
@@ -71,8 +71,8 @@ found_last key misses_in steps a b c rows requests missed last =
     moves_both misses_in steps _ a (misses a.reader.number key requests) b (found a.reader.number key (reply.Rows rows) ∷ []) c refl missed
     (found_by key misses_in steps a b c rows requests missed last)
 
-held_still : (key n : ℕ) (a b : Hands) (steps : ℕ) → Missed key n a b → HeldIn (finds_by_word b.reader) steps → HeldIn (finds_by_word a.reader) steps
-held_still key n a b steps missed takes = subst (λ (w : Bool). HeldIn w steps) (same_words missed.steps a (misses a.reader.number key missed.requests) b missed.moves) takes
+held_still : (key n : ℕ) (a b : Hands) (named : List ℕ) (says steps : ℕ) → Missed key n a b → HeldIn (finds_by_word b.reader) named says steps → HeldIn (finds_by_word a.reader) named says steps
+held_still key n a b named says steps missed takes = subst (λ (w : Bool). HeldIn w named says steps) (same_words missed.steps a (misses a.reader.number key missed.requests) b missed.moves) takes
 
 pub gets_by_end : (key n tries : ℕ) (a b c : Hands) (before rows : List Row) (answer : Got) → n < tries → Missed key n a b → TriesOnce key b before (tried.Ended answer) c rows → Gets key tries a before answer c rows
 gets_by_end key n tries a b c before rows got.Rows low missed once = record {
@@ -83,7 +83,7 @@ gets_by_end key n tries a b c before rows got.Rows low missed once = record {
   missed_steps = missed.steps;
   counted = missed.counted;
   last_steps = once.steps + (2 * length rows + 1);
-  ends = (omega (arith, low, missed.count_is), refl, (once.steps, held_still key n a b once.steps missed once.holds_in, refl));
+  ends = (omega (arith, low, missed.count_is), refl, (once.steps, once.named, once.says, held_still key n a b once.named once.says once.steps missed once.holds_in, refl));
   ended = found_by key missed.steps (once.steps + (2 * length rows + 1)) a b c rows missed.requests missed.moves once.moves;
   attempts = once.attempts;
   moves = found_last key missed.steps (once.steps + (2 * length rows + 1)) a b c rows missed.requests missed.moves once.moves;
@@ -97,7 +97,7 @@ gets_by_end key n tries a b c before rows got.Barred low missed once = record {
   missed_steps = missed.steps;
   counted = missed.counted;
   last_steps = once.1.steps + 1;
-  ends = (omega (arith, low, missed.count_is), (once.0, refl), (once.1.steps, held_still key n a b once.1.steps missed once.1.holds_in, refl), once.2);
+  ends = (omega (arith, low, missed.count_is), (once.0, refl), (once.1.steps, once.1.named, once.1.says, held_still key n a b once.1.named once.1.says once.1.steps missed once.1.holds_in, refl), once.2);
   ended = found_by key missed.steps (once.1.steps + 1) a b c once.0 missed.requests missed.moves once.1.moves;
   attempts = once.1.attempts;
   moves = found_last key missed.steps (once.1.steps + 1) a b c once.0 missed.requests missed.moves once.1.moves;

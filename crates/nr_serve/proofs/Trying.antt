@@ -43,7 +43,8 @@ pub tries_hole : (key : ℕ) (a b from c : Hands) (reader : Caller) (request : R
 tries_hole key a b from c reader request rows posted first hole is asked leaves then = (
   record {
     steps = hole.steps;
-    finds_in = subst (λ (w : Bool). HoleIn w hole.steps) (same_words 0 a [] b posted) hole.finds_in;
+    named = hole.named;
+    finds_in = subst (λ (w : Bool). HoleIn w hole.named hole.steps) (same_words 0 a [] b posted) hole.finds_in;
     moves = misses_once key hole.steps a b c reader request posted hole.gains (subst (λ (hands : Hands). Moves (length (requested hands.reader.number key request)) hands (requested hands.reader.number key request) c) is asked);
     leaves = leaves;
     attempts = omega (arith, first, then, ap (λ (hands : Hands). hands.poster.tries) is);
@@ -68,7 +69,9 @@ tries_pin key a b c pin got.Rows reader before rows posted first pinned answers 
     let told = subst (λ (set : List Row). Moves (pinned.steps + (2 * length set + 1)) a (found a.reader.number key (reply.Rows set) ∷ []) (record b { reader = reader })) (sym answers.1) moved in
     record {
       steps = pinned.steps;
-      holds_in = subst (λ (w : Bool). HeldIn w pinned.steps) (same_words 0 a [] b posted) pinned.holds_in;
+      named = pinned.named;
+      says = pinned.says;
+      holds_in = subst (λ (w : Bool). HeldIn w pinned.named pinned.says pinned.steps) (same_words 0 a [] b posted) pinned.holds_in;
       moves = subst (λ (hands : Hands). Moves (pinned.steps + (2 * length rows + 1)) a (found a.reader.number key (reply.Rows rows) ∷ []) hands) (sym is) told;
       attempts = ap (λ (hands : Hands). hands.poster.tries) is ∙ first;
     }
@@ -77,7 +80,9 @@ tries_pin key a b c pin got.Barred reader before rows posted first pinned answer
   pin.rows,
   record {
     steps = pinned.steps;
-    holds_in = subst (λ (w : Bool). HeldIn w pinned.steps) (same_words 0 a [] b posted) pinned.holds_in;
+    named = pinned.named;
+    says = pinned.says;
+    holds_in = subst (λ (w : Bool). HeldIn w pinned.named pinned.says pinned.steps) (same_words 0 a [] b posted) pinned.holds_in;
     moves = subst (λ (hands : Hands). Moves (pinned.steps + 1) a (found a.reader.number key (reply.Rows pin.rows) ∷ []) hands) (sym is) (pinned_through 1 key a b pin reader posted pinned answers.0);
     attempts = ap (λ (hands : Hands). hands.poster.tries) is ∙ first;
   },

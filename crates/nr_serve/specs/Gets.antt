@@ -57,7 +57,8 @@ LeavesKept Filled kept = kept ≡ None
 -- one try that found a hole: the ticket that was kept is posted or kept still, and where none is kept a request is made, whose ticket is posted or kept
 pub record MissesOnce (key : ℕ) (old : Hands) (request : Requested) (new : Hands) : Type 0 where
   pub steps : ℕ
-  pub finds_in : HoleIn (finds_by_word old.reader) steps
+  pub named : List ℕ
+  pub finds_in : HoleIn (finds_by_word old.reader) named steps
   pub moves : Moves (steps + length (requested old.reader.number key request)) old (miss old.reader.number key request) new
   pub leaves : LeavesKept request new.kept
   pub attempts : new.poster.tries ≡ old.poster.tries + (kept_attempts old.kept + sent_attempts request)
@@ -89,7 +90,9 @@ AnswersPin pin before got.Barred reader rows = Rests 1 pin.reader reader × (row
 -- one try that found rows, in the steps of a hold and so many more: the ticket that was kept is posted or kept still, and no other call is made
 pub record FindsOnce (key more : ℕ) (old : Hands) (set : List Row) (new : Hands) : Type 0 where
   pub steps : ℕ
-  pub holds_in : HeldIn (finds_by_word old.reader) steps
+  pub named : List ℕ
+  pub says : ℕ
+  pub holds_in : HeldIn (finds_by_word old.reader) named says steps
   pub moves : Moves (steps + more) old (found old.reader.number key (reply.Rows set) ∷ []) new
   pub attempts : new.poster.tries ≡ old.poster.tries + kept_attempts old.kept
 
@@ -102,7 +105,7 @@ TriesOnce key old before (tried.Ended got.Barred) new rows = (set : List Row) ×
 
 -- the steps of a hold, and so many more
 abbrev pub IsHoldAnd : Bool → ℕ → ℕ → Type 0
-IsHoldAnd by_word more steps = (hold : ℕ) × HeldIn by_word hold × (steps ≡ hold + more)
+IsHoldAnd by_word more steps = (hold : ℕ) × (named : List ℕ) × (says : ℕ) × HeldIn by_word named says hold × (steps ≡ hold + more)
 
 -- how a get ends after that many tries that found a hole: by one find more, or by none after as many as it may make
 abbrev pub Ends : Bool → ℕ → ℕ → ℕ → Got → ℕ → List Entry → ℕ → List Row → List Row → Type 0

@@ -2,7 +2,7 @@ use Rattle.std.proofs.Common.{ℕ, List, ◌∙◌, arith, refl, subst}
 use Rattle.nr_model.specs.declared.rows.Row.{Row}
 use Rattle.nr_serve.specs.declared.answers.Tried.{Tried}
 use Rattle.nr_serve.specs.Gets.{AwaitsFill, Gets, TriesOnce}
-use Rattle.nr_serve.proofs.Getting.{ends_late, gets_by_end, missed_more, missed_none}
+use Rattle.nr_serve.proofs.Getting.{ends_late, gets_by_end, gets_by_none, missed_more, missed_none}
 use Rattle.nr_serve.proofs.Ringing.{rings_both, rings_looks, rings_same}
 use Rattle.nr_serve.proofs.tries.get_by_tries.Goals as goal
 
@@ -46,3 +46,7 @@ pub returns-in-Err-clause-rings : goal.returns-in-Err-clause-rings
 returns-in-Err-clause-rings g c =
     rings_both _ _ _ _ _ _ c.loop-i.invariant.rings (rings_both _ _ _ _ _ _ (rings_looks _ _ _ c.count_for-counted.ensures.looks)
     (rings_both _ _ _ _ _ _ c.try_once-tried.ensures.rings (rings_looks _ _ _ c.sleep_if.ensures.looks)))
+
+pub returns-clause-gets : goal.returns-clause-gets
+returns-clause-gets g c =
+    gets_by_none c.args.key c.loop-i.i c.args.tries c.args.hands c.loop-i.hands c.args.rows.now c.loop-i.rows (omega (arith, c.loop-i-test.false, c.loop-i.auto.i-end)) c.loop-i.invariant.missed c.loop-i.invariant.rows

@@ -1,0 +1,126 @@
+-- What a hold comes to: for a reader that held nothing, for a hand that let go what it held, and for one that reads the rows then.
+use Rattle.std.proofs.Common.{◌≡◌, ℕ, ◌+◌, ◌-◌, ◌*◌, Option, Some, None, ⊎_elim, inl, inr, refl, ap, ◌∙◌, sym, subst, arith, Bool, true, List, [], ◌∷◌, ◌++◌, length}
+use Rattle.std.specs.Prelude.{IsSome, Ok, is_some, nat_lt}
+use Rattle.nr_model.specs.Histories.{Entry, after}
+use Rattle.nr_model.specs.Maps.{state_of}
+use Rattle.nr_model.specs.declared.calls.Call.TheVariants as model
+use Rattle.nr_model.specs.declared.calls.Reply.TheVariants as reply
+use Rattle.nr_model.specs.declared.rows.Row.{Row}
+use Rattle.nr_model.specs.Rows.{IsRowSet}
+use Rattle.nr_machine.specs.Story.{entry}
+use Rattle.nr_machine.specs.declared.roles.Role.{Role}
+use Rattle.nr_marks.specs.Marks.{LoggedLoad, Marks, acted, gripped, with_loads}
+use Rattle.nr_marks.specs.MarkSteps.{found_again}
+use Rattle.nr_marks.specs.Puts.{put_number}
+use Rattle.nr_board.proofs.Holding.{rests_gains}
+use Rattle.nr_board.proofs.Tokens.{MapSeat, grows_rests}
+use Rattle.nr_board.specs.Callers.{Caller, Gains, Rests, Table, map_at_opening, token}
+use Rattle.nr_board.specs.Holds.{FindsRows, HeldIn, HoldsAfter, finds_by_word, looks_at}
+use Rattle.nr_board.specs.Kinds.{kind_of}
+use Rattle.nr_board.specs.Views.{grip_of, rows_held}
+use Rattle.nr_board.specs.declared.answers.Found.TheVariants as found
+use Rattle.nr_board.specs.declared.answers.KeyKind.TheVariants as kind
+use Rattle.nr_board.specs.declared.holds.Held.{Held}
+use Rattle.nr_map.specs.declared.hand.Kept.{Kept}
+use Rattle.nr_map.specs.Pins.{PinsKey}
+use Rattle.nr_map.specs.Hands.{CopiesHeld, FindsKept, Handed, HoldsKey, KeepsByHand, LetsGo, PinsByHand, departed, handed, steps_to_depart}
+
+-- a hold of a key's set, by the seats before and after it
+module _ (table : Table) (key : ℕ) (old new : MapSeat) (held : Held) (holds : HoldsAfter 0 (finds_by_word (token old)) table key old.me.0.marks old new (Some held)) where
+  some_held : IsSome (token new).holds
+  some_held = ap (λ (r : Role). is_some (gripped (grip_of r))) holds.answered.held_as.holds.holds.is
+
+  -- a reader's pin
+  pub pins_key : (reader : Caller) → token old ≡ reader → PinsKey key reader (Ok (record { reader = token new; rows = rows_held new.me.0.role }))
+  pins_key reader is = subst (λ (r : Caller). PinsKey key r (Ok (record { reader = token new; rows = rows_held new.me.0.role }))) is (
+    record { steps = holds.steps; named = holds.named; says = held.says; holds_in = holds.takes; looks = ap (λ (m : Marks). m.loads) holds.answered.marks_are; gains = holds.answered.gains },
+    holds.answered.marks_are,
+    some_held,
+    holds.answered.held_as.says,
+  )
+
+  -- a hand's, which let go what it held
+  module _ (first between : Handed) (lets : LetsGo first between) (is : between.reader ≡ token old) where
+    departed_loads : (held : Option ℕ) (marks : Marks) → (departed held marks).loads ≡ marks.loads
+    departed_loads None marks = refl
+    departed_loads (Some key) marks = refl
+
+    rests : Rests (steps_to_depart first.key) first.reader (token old)
+    rests = subst (Rests (steps_to_depart first.key) first.reader) is lets.rests
+
+    marks_between : old.me.0.marks ≡ departed first.key first.reader.marks
+    marks_between = ap (λ (c : Caller). c.marks) (sym is) ∙ lets.marks
+
+    finds : FindsRows (steps_to_depart first.key) key (rows_held new.me.0.role) first.reader (token new)
+    finds = record {
+      steps = holds.steps;
+      named = holds.named;
+      says = held.says;
+      holds_in = subst (λ (b : Bool). HeldIn b holds.named held.says holds.steps) (λ j. nat_lt (rests.number j - 1) (rests.table j).announcers) holds.takes;
+      looks = ap (λ (m : Marks). m.loads) holds.answered.marks_are ∙ ap (λ (l : List LoggedLoad). l ++ looks_at key holds.named) (ap (λ (m : Marks). m.loads) marks_between ∙ departed_loads first.key first.reader.marks);
+      gains = rests_gains (steps_to_depart first.key) (holds.steps + 0) (holds.steps + steps_to_depart first.key) first.reader (token old) (token new) (model.Find key) (reply.Rows (rows_held new.me.0.role)) (omega arith) rests holds.answered.gains;
+    }
+
+    pub pins_by_hand : (kept : Kept) → kept.key ≡ key → PinsByHand key first (handed new (Some kept)) true
+    unfolding finds
+    pins_by_hand kept same = (
+      finds,
+      record {
+        key_is = ap Some same;
+        row_set = subst (λ (t : Table). IsRowSet t.shape.rows (rows_held new.me.0.role)) (sym holds.answered.held_as.holds.own ∙ finds.gains.table) holds.answered.held_as.holds.holds.row_set;
+        holds = some_held;
+        marks = holds.answered.marks_are ∙ (λ j. acted (with_loads (marks_between j) (sym (ap (λ (m : Marks). m.loads) holds.answered.marks_are) j)) (put_number new.me.0.seen key));
+      },
+      holds.answered.held_as.says,
+    )
+
+-- a hand that keeps its hold read the rows that it holds
+module _ {Room : Type 0} (shows : Room → List Row → Type 0) (key : ℕ) (old mid new : Handed) (before room : Room) (copies : CopiesHeld (2 * length mid.rows) mid new) (shown : shows room mid.rows) where
+  still_holds : HoldsKey key old mid → HoldsKey key old new
+  still_holds so = record {
+    key_is = copies.key_is ∙ so.key_is;
+    row_set = subst (IsRowSet old.reader.table.shape.rows) (sym copies.rows) so.row_set;
+    holds = ap (λ (o : Option ℕ). is_some o) copies.holds ∙ so.holds;
+    marks = copies.marks ∙ so.marks ∙ (λ j. acted (with_loads (departed old.key old.reader.marks) (sym copies.marks j).loads) (put_number (sym copies.rests.seen j) key));
+  }
+
+  pub finds_kept : KeepsByHand key old mid true → FindsKept shows key old before new room found.Rows
+  finds_kept keeps = ⊎_elim
+      (λ again. inl (
+        record {
+          held = again.held;
+          gains = grows_rests 1 (2 * length mid.rows) (2 * length old.rows + 1) old.reader (entry old.reader.number (model.Find key) (reply.Rows old.rows) ∷ []) mid.reader new.reader (omega (arith, ap (λ (l : List Row). length l) again.rows)) again.gains copies.rests;
+          put = subst (λ (p : Table × List Entry). (kind_of (state_of (after (map_at_opening p.0) p.1) key) ≡ kind.Rows) × (put_number p.1 key ≡ old.reader.marks.put)) (λ j. (sym copies.rests.table j, sym copies.rests.seen j)) again.put;
+          key_is = copies.key_is ∙ again.key_is;
+          rows = copies.rows ∙ again.rows;
+          holds = copies.holds ∙ again.holds;
+          says = copies.says ∙ again.says;
+          marks = copies.marks ∙ again.marks ∙ ap (λ (m : Marks). found_again true (with_loads old.reader.marks m.loads)) (sym copies.marks);
+        },
+        subst (shows room) again.rows shown,
+        refl,
+      ))
+      (λ anew. let so = anew.1 in let f = so.2 in inr (
+        (λ own. let asked = anew.0 own in (asked.0, asked.1, record { rest = asked.2.rest; is = copies.rests.seen ∙ asked.2.is })),
+        (
+          (
+            so.0,
+            so.1,
+            record {
+              steps = f.steps;
+              named = f.named;
+              says = f.says;
+              holds_in = f.holds_in;
+              looks = ap (λ (m : Marks). m.loads) copies.marks ∙ f.looks;
+              gains = subst (λ (rows : List Row). Gains (f.steps + (so.0 + 2 * length new.rows)) old.reader (model.Find key) (reply.Rows rows) new.reader) (sym copies.rows)
+                  (grows_rests (f.steps + (so.0 + 0)) (2 * length mid.rows) (f.steps + (so.0 + 2 * length new.rows)) old.reader (entry old.reader.number (model.Find key) (reply.Rows mid.rows) ∷ []) mid.reader new.reader
+                  (omega (arith, ap (λ (l : List Row). length l) copies.rows)) f.gains copies.rests);
+            },
+            so.3,
+            still_holds so.4,
+            copies.says ∙ so.5,
+          ),
+          subst (shows room) (sym copies.rows) shown,
+        ),
+      ))
+      keeps
