@@ -220,15 +220,16 @@ def try_all(rt, crate, edits, kept):
     """Tries the wrong bodies of a crate in turn, says what comes of each, and counts them: those that are refused, those that
     aren't, and those that had a check of the whole crate."""
     found, left = {}, [it for number, edit in enumerate(edits) if (it := read(rt, crate, edit, number))]
-    tried = None
-    # A function's goals wait for those that it calls, so where one of these has a wrong body too, it is tried again after it.
-    while left and len(left) != tried:
-        tried = len(left)
+    is_waiting = True
+    # A function's goals wait for those that it calls, so where one of these had a wrong body in its place, it is tried again
+    # after it. No function calls a copy.
+    while left and is_waiting:
         for group in groups(left):
             refused = try_group(rt, crate, group, kept)
             for edit, line in refused.items():
                 kit.say(f"must-fail {crate.name}/{pathlib.Path(edit).name}: refused: {line[:160]}")
             found.update(refused)
+        is_waiting = any(it.edit in found and not it.copy for it in left)
         left = [it for it in left if it.edit not in found]
     # What is no edit is told as one that can't be read.
     alone = [rt.must_fail(crate, edit, ["--jobs", "1"], kept) for edit in edits if edit not in found]

@@ -240,29 +240,30 @@ class Edges(Bed):
         self.counts["base restarted"] += 1
 
     def drop(self):
-        """Each edge begins anew with a new slot, while a process stops that answers an upquery of before."""
-        stops = threading.Thread(target=self.stop)
+        """Each edge begins anew with a new slot, while processes stop that answer upqueries of before."""
+        is_over = threading.Event()
+        stops = threading.Thread(target=self.stop, args=[is_over])
         stops.start()
-        self.tell("drop")
+        for _ in range(3):
+            self.tell("drop")
+            self.counts["slots dropped"] += 1
+        is_over.set()
         stops.join()
-        self.counts["slots dropped"] += 1
 
-    def stop(self):
-        """The first of PostgreSQL's processes that is seen to answer an upquery, for a while."""
+    def stop(self, is_over):
+        """Those of PostgreSQL's processes that are seen to answer an upquery, one at a time, for a while."""
         server = (self.folder / "data/postmaster.pid").read_text().split()[0]
-        ends = time.monotonic() + 0.3
-        while time.monotonic() < ends:
+        while not is_over.wait(0.002):
             for process in pathlib.Path(f"/proc/{server}/task/{server}/children").read_text().split():
                 try:
                     if b"EXECUTE" in pathlib.Path(f"/proc/{process}/cmdline").read_bytes():
                         os.kill(int(process), signal.SIGSTOP)
-                        time.sleep(0.4)
+                        time.sleep(0.15)
                         os.kill(int(process), signal.SIGCONT)
                         self.counts["base's process stopped"] += 1
-                        return
+                        break
                 except OSError:
                     continue
-            time.sleep(0.002)
 
     def after_kill(self, server):
         """What its clients wrote may go on for a while."""
