@@ -68,8 +68,8 @@ impl<'a> Raiser<'a> {
         self.lobby.fail_for(rt, &mut self.guest, key);
     }
 
-    /// Wakes those who wait until more was applied.
-    pub(crate) fn tell<R: Wait>(&mut self, rt: &R)
+    /// Wakes those who wait until more was applied, once that was told.
+    pub fn tell<R: Wait>(&mut self, rt: &R)
         ensures { Raises self.old (told_at ∷ []) self.new }
     {
         self.lobby.tell(rt, &mut self.guest);

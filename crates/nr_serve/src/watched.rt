@@ -118,15 +118,16 @@ impl<'a> Watched<'a> {
     }
 
     /// How often the dataflow told how much it has applied.
-    pub(crate) fn tellings(&mut self) -> u64
+    pub fn tellings(&mut self) -> u64
         ensures looks { OnlyLooks self.old self.new }
         ensures found { slice_index self.new.seen told_at ≡ result }
     {
         self.lobby.tellings(&mut self.guest)
     }
 
-    /// Sleeps while it told so at most that often and the lobby isn't closed.
-    pub(crate) fn wait_for_telling<R: Wait>(&mut self, rt: &R, tellings: u64)
+    /// Sleeps while it told so at most that often and the lobby isn't closed. Who sleeps reads the number
+    /// before it looks for what was told.
+    pub fn wait_for_telling<R: Wait>(&mut self, rt: &R, tellings: u64)
         ensures looks { OnlyLooks self.old self.new }
         ensures past { (tellings < slice_index self.new.seen told_at) ⊎ (0 < slice_index self.new.seen closed_at) }
     {
@@ -134,7 +135,7 @@ impl<'a> Watched<'a> {
     }
 
     /// Whether the lobby is closed.
-    pub(crate) fn is_closed(&mut self) -> bool
+    pub fn is_closed(&mut self) -> bool
         ensures looks { OnlyLooks self.old self.new }
         ensures closed { IsTrue result ↔ (0 < slice_index self.new.seen closed_at) }
     {

@@ -71,6 +71,9 @@ fn serves_another_crate<R: Abort + Wait>(rt: &R, opened: Opened) {
     raiser.fail_for(rt, 67);
     assert_eq!(rt; (watched.group_count(3), watched.failures_for(3)), (2, 1));
     assert!(rt; watched.wait_within(rt, 3, 1, &NoLimit).is_ok());
+    raiser.tell(rt);
+    watched.wait_for_telling(rt, 0);
+    assert_eq!(rt; (watched.tellings(), watched.is_closed()), (1, false));
     let rung = raiser.rings(&taker);
     watched.ring(rt);
     match service.triggers().take(rt, &mut taker) {
